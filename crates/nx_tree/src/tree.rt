@@ -1,0 +1,97 @@
+// A tree and a list of trees, which hold each other.
+ghost use Rattle.std.specs.Prelude.{◌≡◌, length, OnOk, OnErr, ◌==◌, List};
+ghost use Rattle.nx_tree.specs.Forest.{OrderedTree, Forest, forest_of, planted, trees_of};
+
+use crate::{NoMemory, Node};
+use std::alloc::Global;
+use std::marker::Model;
+
+/// A node and its children in order. Contracts see the node and the forest below it.
+#[cycle(tree)]
+#[derive(Drop)]
+pub struct Tree {
+    pub node: Node,
+    pub children: Trees,
+}
+
+/// A growing list of trees: the children of a node. Contracts see a forest. It keeps its
+/// allocator, and only `push` takes memory.
+#[cycle(tree)]
+#[derive(Drop)]
+pub struct Trees {
+    trees: Vec<Tree>,
+}
+
+impl Model for Tree {
+    ghost use Rattle.std.specs.Prelude.{◌+◌, ◌*◌};
+    ghost use Rattle.nx_tree.specs.Forest.{OrderedTree, tree_code, nodes};
+    ghost use Rattle.std.proofs.Common.{arith};
+
+    ghost Value = { OrderedTree };
+
+    ghost coded = { tree_code };
+
+    ghost view = { λ a. record { node = a.node; below = a.children } };
+
+    ghost size = { λ t. 2 * (1 + nodes t.below) };
+
+    ghost size_decreases = { λ a h. Prim.omega arith };
+}
+
+impl Model for Trees {
+    ghost use Rattle.std.specs.Prelude.{◌+◌, ◌*◌};
+    ghost use Rattle.nx_tree.specs.Forest.{Forest, forest_code, forest_of, nodes, most_le_nodes};
+    ghost use Rattle.std.proofs.Common.{arith};
+
+    ghost Value = { Forest };
+
+    ghost coded = { forest_code };
+
+    ghost view = { λ a. forest_of a.trees.items };
+
+    ghost size = { λ f. 2 * nodes f + 1 };
+
+    ghost size_decreases = { λ a h. Prim.omega (arith, most_le_nodes a.trees.items) };
+}
+
+impl Trees {
+    /// No trees. It takes no memory.
+    pub fn new(alloc: Global) -> Trees
+        ensures { result ≡ Forest.Empty }
+    {
+        Trees {
+            trees: Vec::new(alloc),
+        }
+    }
+
+    /// Adds one tree at the end. Want of memory leaves the list as it was, and drops the tree.
+    pub fn push(&mut self, item: Tree) -> Result<(), NoMemory>
+        ensures ok { OnOk result (self.new ≡ planted self.old item) }
+        ensures err { OnErr result (self.new ≡ self.old) }
+    {
+        self.trees.push(item)?;
+        Ok(())
+    }
+
+    /// The number of trees.
+    pub fn len(&self) -> usize
+        ensures { result ≡ length (trees_of self.now) }
+    {
+        self.trees.as_slice().len()
+    }
+
+    /// Whether there is no tree.
+    pub fn is_empty(&self) -> bool
+        ensures { result ≡ (length (trees_of self.now) == 0) }
+    {
+        self.trees.as_slice().is_empty()
+    }
+
+    /// The trees as a slice.
+    pub fn as_slice(&self) -> &[Tree]
+        ensures forest { forest_of result.now ≡ self.now }
+        ensures trees { result.now ≡ trees_of self.now }
+    {
+        self.trees.as_slice()
+    }
+}
