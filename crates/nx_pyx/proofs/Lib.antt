@@ -1,0 +1,13 @@
+pub mod LineLemmas
+pub mod EventLemmas
+pub mod BuilderLemmas
+pub mod Running
+pub mod Laws
+pub mod Shown
+pub mod Reading
+pub mod StreamLemmas
+pub mod DoneLemmas
+pub mod EscapeLemmas
+pub mod FrontLemmas
+pub mod WriterLemmas
+pub mod ScanLemmas

@@ -1,0 +1,7 @@
+use Rattle.std.proofs.Common.{sym, refl, ◌∙◌}
+use Rattle.nx_pyx.proofs.BuilderLemmas.{finished}
+use Rattle.nx_pyx.proofs.builder.Builder.finish.Goals as goal
+
+pub returns-clause-ok : goal.returns-clause-ok
+returns-clause-ok c =
+    λ ls taken. finished c.args.self ls _ taken (sym c.is_outside.ensures ∙ c.if-not-is_outside.false) c.if-not-self.false refl c.new.ensures c.new-2.ensures c.replace.ensures.value

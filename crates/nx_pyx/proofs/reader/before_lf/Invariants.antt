@@ -1,0 +1,20 @@
+use Rattle.std.proofs.Common.{◌≡◌, ℕ, ◌-◌, ◌≤◌, List, false, length, take}
+use Rattle.nx_pyx.specs.Lines.{has_lf}
+use Rattle.nx_pyx.proofs.reader.before_lf.Given as goal
+
+-- no LF is among so many bytes from the first one on
+pub record HasNone (bytes : List ℕ) (len : ℕ) : Type 0 where
+  pub within : len ≤ length bytes
+  pub none : has_lf (take len bytes) ≡ false
+
+abbrev pub invariant-loop-len : goal.invariant-loop-len
+invariant-loop-len l = HasNone l.bytes l.len
+
+abbrev pub decreases-loop-len : goal.decreases-loop-len
+decreases-loop-len l = length l.bytes - l.len
+
+abbrev pub invariant-loop-len-2 : goal.invariant-loop-len-2
+invariant-loop-len-2 l = HasNone l.bytes l.len
+
+abbrev pub decreases-loop-len-2 : goal.decreases-loop-len-2
+decreases-loop-len-2 l = length l.bytes - l.len

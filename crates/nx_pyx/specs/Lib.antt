@@ -1,0 +1,11 @@
+pub mod Lines
+pub mod Event
+pub mod Line
+pub mod Fault
+pub mod Word
+pub mod Reading
+pub mod Text
+pub mod Builder
+pub mod Reader
+pub mod Escape
+pub mod Writer

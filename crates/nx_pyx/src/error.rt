@@ -1,0 +1,110 @@
+// The faults of a text, and the errors of reading one.
+ghost use Rattle.std.specs.Prelude.{◌≡◌};
+ghost use Rattle.nx_pyx.specs.Word.{word_of};
+ghost use Rattle.nx_pyx.specs.declared.error.ReadError.TheVariants.{Memory};
+
+use nx_tree::NoMemory;
+use std::alloc::{AllocError, AllocFailed};
+use thiserror::Error;
+
+/// What is wrong with a text in PYX lines.
+#[derive(Clone, Copy, Debug, PartialEq, Eq, Error)]
+#[error("{}", self.word())]
+pub enum PyxFault {
+    /// The line has none of the forms that are read.
+    BadCode,
+    /// The line's node has no place there, or another element ends than the one that is open.
+    BadNesting,
+    /// The text ends within an element.
+    Unclosed,
+    /// The text ends without an element.
+    Empty,
+}
+
+impl PyxFault {
+    /// The word that names the fault where it is printed.
+    pub fn word(self) -> &'static str
+        ensures { result.now ≡ word_of self }
+    {
+        match self {
+            PyxFault::BadCode => "bad-code",
+            PyxFault::BadNesting => "bad-nesting",
+            PyxFault::Unclosed => "unclosed",
+            PyxFault::Empty => "empty",
+        }
+    }
+}
+
+/// A fault and the number of its line, counted from 1. A fault of the end has the number of lines.
+#[derive(Clone, Copy, Debug, PartialEq, Eq, Error)]
+#[error("{line} {fault}")]
+pub struct PyxError {
+    pub line: u64,
+    pub fault: PyxFault,
+}
+
+/// Why a document could not be read.
+#[derive(Clone, Copy, Debug, PartialEq, Eq, Error)]
+pub enum ReadError {
+    /// The text is faulty.
+    #[error("{0}")]
+    Pyx(PyxError),
+    /// There was no memory for what the call had to keep.
+    #[error("out of memory")]
+    Memory,
+}
+
+impl From<NoMemory> for ReadError {
+    ghost from_gives = { λ _ e. e ≡ Memory };
+
+    fn from(_: NoMemory) -> ReadError {
+        ReadError::Memory
+    }
+}
+
+impl From<AllocError> for ReadError {
+    ghost from_gives = { λ _ e. e ≡ Memory };
+
+    fn from(_: AllocError) -> ReadError {
+        ReadError::Memory
+    }
+}
+
+impl<T: Drop> From<AllocFailed<T>> for ReadError {
+    ghost from_gives = { λ _ e. e ≡ Memory };
+
+    fn from(_: AllocFailed<T>) -> ReadError {
+        ReadError::Memory
+    }
+}
+
+#[cfg(test)]
+mod tests {
+    use super::*;
+    use std::test::Fail;
+
+    #[test]
+    fn printed(rt: HostRuntime) -> Result<(), Fail> {
+        let alloc = rt.alloc();
+        for (line, fault, want) in [
+            (2, PyxFault::BadCode, "2 bad-code"),
+            (1, PyxFault::BadNesting, "1 bad-nesting"),
+            (
+                u64::MAX,
+                PyxFault::Unclosed,
+                "18446744073709551615 unclosed",
+            ),
+            (0, PyxFault::Empty, "0 empty"),
+        ] {
+            let error = ReadError::Pyx(PyxError { line, fault });
+            assert_eq!(rt; format!(in alloc; "{error}")?.as_str(), want);
+            assert_eq!(rt;
+                format!(in alloc; "{line} {}", fault.word())?.as_str(),
+                want
+            );
+        }
+        let error = ReadError::Memory;
+        assert_eq!(rt; format!(in alloc; "{error}")?.as_str(), "out of memory");
+        Ok(())
+    }
+}

@@ -1,0 +1,185 @@
+// From pieces of a stream to lines.
+ghost use Rattle.std.specs.Prelude.{false, ◌∷◌, ◌<◌, ◌≤◌, length, take, slice_index, MatchOption, MatchResult, ◌≡◌, ℕ, List, [], ◌++◌, Some, IfOk, OnOk, IfErr, IsOkAnd, Err};
+ghost use Rattle.nx_pyx.specs.declared.error.ReadError.{ReadError};
+ghost use Rattle.nx_tree.specs.Forest.{OrderedTree};
+ghost use Rattle.nx_pyx.specs.Fault.{shown_fault, fault_of};
+ghost use Rattle.nx_pyx.specs.Reading.{Reads};
+ghost use Rattle.nx_pyx.specs.Builder.{HasTaken, Fails};
+ghost use Rattle.nx_pyx.specs.Lines.{has_lf, EndsLine, lines};
+ghost use Rattle.nx_pyx.specs.Reader.{HasRead, HasFailed};
+
+use crate::ReadError;
+use crate::builder::Builder;
+use nx_tree::{Bytes, Tree};
+use std::alloc::Global;
+
+// As many bytes of a line as tell that it is too long, with a CR at its end and without.
+const MOST_HELD: usize = 1_048_576 + 3;
+
+// As many bytes as are looked at together for an LF.
+const CHUNK: usize = 32;
+
+/// Reads a document from its PYX lines, which come in pieces of any length.
+///
+/// After an error the reader has failed, and every later call answers that same error.
+#[derive(Drop)]
+pub struct Reader {
+    builder: Builder,
+    // The first bytes of the line that no LF has ended yet.
+    held: Bytes,
+    failed: Option<ReadError>,
+}
+
+impl Reader {
+    /// A reader of a stream that is about to come. It takes no memory and doesn't fail.
+    pub fn new(alloc: Global) -> Result<Reader, ReadError>
+        ensures { IsOkAnd result (λ reader. HasRead reader []) }
+    {
+        Ok(Reader {
+            builder: Builder::new(alloc),
+            held: Bytes::new(alloc),
+            failed: None,
+        })
+    }
+
+    /// Takes the next piece of the stream.
+    ///
+    /// Errors: `Pyx` exactly where the stream so far has a faulty line that an LF ends, with the
+    /// first such line, however the stream was cut; `Memory`.
+    pub fn feed(&mut self, piece: &[u8]) -> Result<(), ReadError>
+        ensures ok { OnOk result ((s : List ℕ) → HasRead self.old s → HasRead self.new (s ++ piece.now)) }
+        ensures fault { IfErr result (λ e. (s : List ℕ) → HasRead self.old s → Fails e (shown_fault (s ++ piece.now))) }
+        ensures failed { IfErr result (HasFailed self.new) }
+        ensures again { (e : ReadError) → HasFailed self.old e → (result ≡ Err e) × HasFailed self.new e }
+    {
+        if let Some(error) = self.failed {
+            return Err(error);
+        }
+        let taken = self.take(piece);
+        if let Err(error) = taken {
+            self.failed = Some(error);
+        }
+        taken
+    }
+
+    /// The document that the whole stream says.
+    ///
+    /// Errors: `Pyx` exactly where the stream has a fault; `Memory`.
+    pub fn finish(self) -> Result<Tree, ReadError>
+        ensures ok { IfOk result (λ tree. (s : List ℕ) → HasRead self s → Reads s tree) }
+        ensures fault { IfErr result (λ e. (s : List ℕ) → HasRead self s → Fails e (fault_of s)) }
+        ensures again { (e : ReadError) → HasFailed self e → result ≡ Err e }
+
+        // A stream that has a reading is read, unless memory runs out, and has no other.
+        ensures only { (s : List ℕ) (tree : OrderedTree) → HasRead self s → Reads s tree → MatchResult result (λ t. t ≡ tree) (λ e. e ≡ ReadError.Memory) }
+    {
+        self.end()
+    }
+
+    // The document or the fault of the whole stream.
+    fn end(mut self) -> Result<Tree, ReadError>
+        ensures ok { IfOk result (λ tree. (s : List ℕ) → HasRead self s → Reads s tree) }
+        ensures fault { IfErr result (λ e. (s : List ℕ) → HasRead self s → Fails e (fault_of s)) }
+        ensures again { (e : ReadError) → HasFailed self e → result ≡ Err e }
+    {
+        if let Some(error) = self.failed {
+            return Err(error);
+        }
+        self.take_rest()?;
+        let Reader {
+            builder,
+            held: _,
+            failed: _,
+        } = self;
+        builder.finish()
+    }
+
+    // Takes the lines that the piece ends, and holds what stands behind them.
+    fn take(&mut self, piece: &[u8]) -> Result<(), ReadError>
+        ensures ok { OnOk result ((s : List ℕ) → HasRead self.old s → HasRead self.new (s ++ piece.now)) }
+        ensures err { IfErr result (λ e. (s : List ℕ) → HasRead self.old s → Fails e (shown_fault (s ++ piece.now))) }
+    {
+        let mut rest = piece;
+        while let Some(end) = line_end(rest) {
+            self.end_line(&rest[..end])?;
+            rest = &rest[end + 1..];
+        }
+        self.hold(rest)
+    }
+
+    // Takes the line that is held and goes on with these bytes, and that an LF ends then.
+    fn end_line(&mut self, bytes: &[u8]) -> Result<(), ReadError>
+        requires { has_lf bytes.now ≡ false }
+        ensures ok { OnOk result ((s : List ℕ) → HasRead self.old s → HasRead self.new (s ++ (bytes.now ++ 10 ∷ []))) }
+        ensures err { IfErr result (λ e. (s : List ℕ) → HasRead self.old s → Fails e (shown_fault (s ++ (bytes.now ++ 10 ∷ [])))) }
+    {
+        if self.held.is_empty() {
+            return self.builder.take(bytes);
+        }
+        self.hold(bytes)?;
+        self.builder.take(self.held.as_slice())?;
+        self.held.clear();
+        Ok(())
+    }
+
+    // Takes the last line, which no LF ends, where there is one.
+    fn take_rest(&mut self) -> Result<(), ReadError>
+        ensures ok { OnOk result ((s : List ℕ) → HasRead self.old s → HasTaken self.new.builder (lines s)) }
+        ensures err { IfErr result (λ e. (s : List ℕ) → HasRead self.old s → Fails e (fault_of s)) }
+    {
+        if self.held.is_empty() {
+            return Ok(());
+        }
+        self.builder.take(self.held.as_slice())
+    }
+
+    // Holds more bytes of the line, as far as they can matter.
+    fn hold(&mut self, bytes: &[u8]) -> Result<(), ReadError>
+        requires { has_lf bytes.now ≡ false }
+        ensures ok { OnOk result ((s : List ℕ) → HasRead self.old s → HasRead self.new (s ++ bytes.now)) }
+        ensures err { IfErr result (λ e. e ≡ ReadError.Memory) }
+    {
+        let room = MOST_HELD.saturating_sub(self.held.len()).min(bytes.len());
+        self.held.extend_from_slice(&bytes[..room])?;
+        Ok(())
+    }
+}
+
+// Where the first LF stands, if there is one.
+fn line_end(bytes: &[u8]) -> Option<usize>
+    ensures { MatchOption result (has_lf bytes.now ≡ false) (EndsLine bytes.now) }
+{
+    let end = before_lf(bytes);
+    if end < bytes.len() { Some(end) } else { None }
+}
+
+// The number of bytes before the first LF, or of all where there is none.
+fn before_lf(bytes: &[u8]) -> usize
+    ensures within { result ≤ length bytes.now }
+    ensures none { has_lf (take result bytes.now) ≡ false }
+    ensures end { result < length bytes.now → slice_index bytes.now result ≡ 10 }
+{
+    let mut len = 0;
+    while bytes.len() - len >= CHUNK && !has_lf(&bytes[len..len + CHUNK]) {
+        len += CHUNK;
+    }
+    while len < bytes.len() && bytes[len] != b'\n' {
+        len += 1;
+    }
+    len
+}
+
+// Whether an LF is among the bytes. It looks at all of them, so that a processor may look at many
+// of them at once.
+fn has_lf(bytes: &[u8]) -> bool
+    ensures { result ≡ has_lf bytes.now }
+{
+    let mut found = false;
+    for b in bytes {
+        found |= *b == b'\n';
+    }
+    found
+}
+
+#[cfg(test)]
+mod tests;

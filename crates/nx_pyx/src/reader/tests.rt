@@ -1,0 +1,239 @@
+// Streams and what comes of them, however they are cut.
+use super::Reader;
+use crate::{PyxError, PyxFault, ReadError, write};
+use std::alloc::Global;
+use std::process::Abort;
+use std::test::Fail;
+
+// Streams, and the texts of their documents.
+const DOCUMENTS: [(&[u8], &[u8]); 8] = [
+    (b"(a\n-hi\n)a\n", b"(a\n-hi\n)a\n"),
+    // The last line may lack its LF, and a CR before an LF or the end is dropped.
+    (b"(a\n)a", b"(a\n)a\n"),
+    (b"(a\r\n-hi\r\n)a\r\n", b"(a\n-hi\n)a\n"),
+    (b"(a\r\n)a\r", b"(a\n)a\n"),
+    (b"(a\n-\r\n)a\n", b"(a\n-\n)a\n"),
+    // Neighbouring texts stay apart, the empty ones too.
+    (b"(a\n-x\n-\n-\n-y\n)a\n", b"(a\n-x\n-\n-\n-y\n)a\n"),
+    (
+        b"(a\n(b\n(a\n)a\n-x\n)b\n-y\n(b\n)b\n)a\n",
+        b"(a\n(b\n(a\n)a\n-x\n)b\n-y\n(b\n)b\n)a\n",
+    ),
+    (
+        b"(!$-.(AZ\x7f\x80\xff\n- \0\x0b#*/?@-\xff\n)!$-.(AZ\x7f\x80\xff\n",
+        b"(!$-.(AZ\x7f\x80\xff\n- \0\x0b#*/?@-\xff\n)!$-.(AZ\x7f\x80\xff\n",
+    ),
+];
+
+// Faulty streams in two parts, and the line and the fault of each. The fault is told with the first
+// byte of the second part, and at the end where that part is empty.
+const FAULTS: [(&[u8], &[u8], u64, PyxFault); 42] = [
+    (b"", b"\n", 1, PyxFault::BadCode),
+    (b"\r", b"\n(a\n)a\n", 1, PyxFault::BadCode),
+    (b"\r", b"", 1, PyxFault::BadCode),
+    (b"(a\n)a\n\r", b"", 3, PyxFault::BadCode),
+    (b"(a\nAx 1", b"\n)a\n", 2, PyxFault::BadCode),
+    (b"?x", b"\n(a\n)a\n", 1, PyxFault::BadCode),
+    (b"x", b"\n", 1, PyxFault::BadCode),
+    (b"x", b"", 1, PyxFault::BadCode),
+    (b"(a\n-x\ty", b"\n)a\n", 2, PyxFault::BadCode),
+    (b"(a\n-\\n", b"\n)a\n", 2, PyxFault::BadCode),
+    (b"(a\n-x\ry", b"\n)a\n", 2, PyxFault::BadCode),
+    (b"(a\n-x\r\r", b"\n)a\n", 2, PyxFault::BadCode),
+    (b"(a\n)a\t", b"\n", 2, PyxFault::BadCode),
+    (b"(", b"\n)\n", 1, PyxFault::BadCode),
+    (b"(a b", b"\n)a b\n", 1, PyxFault::BadCode),
+    (b"(a\0", b"\n)a\0\n", 1, PyxFault::BadCode),
+    (b"(a\x1f", b"\n)a\x1f\n", 1, PyxFault::BadCode),
+    (b"(#", b"\n)#\n", 1, PyxFault::BadCode),
+    (b"(*", b"\n)*\n", 1, PyxFault::BadCode),
+    (b"(/", b"\n)/\n", 1, PyxFault::BadCode),
+    (b"(?", b"\n)?\n", 1, PyxFault::BadCode),
+    (b"(@", b"\n)@\n", 1, PyxFault::BadCode),
+    (b"(a\\", b"\n)a\\\n", 1, PyxFault::BadCode),
+    (b"(a\n)a\n(b\t", b"\n)b\t\n", 3, PyxFault::BadCode),
+    (b")a", b"\n", 1, PyxFault::BadNesting),
+    (b"-x", b"\n(a\n)a\n", 1, PyxFault::BadNesting),
+    (b"-x", b"", 1, PyxFault::BadNesting),
+    (b"(a\n)b", b"\n)a\n", 2, PyxFault::BadNesting),
+    (b"(a\n)b", b"\nx\n", 2, PyxFault::BadNesting),
+    (b"(a\n)aa", b"\n)a\n", 2, PyxFault::BadNesting),
+    (b"(aa\n)a", b"\n)aa\n", 2, PyxFault::BadNesting),
+    (b"(a\n)", b"\n)a\n", 2, PyxFault::BadNesting),
+    (b"(a\n(b\n)a", b"\n)b\n", 3, PyxFault::BadNesting),
+    (b"(a\n)a\n(b", b"\n)b\n", 3, PyxFault::BadNesting),
+    (b"(a\n)a\n(b", b"", 3, PyxFault::BadNesting),
+    (b"(a\n)a\n-x", b"\n", 3, PyxFault::BadNesting),
+    (b"(a\n)a\n)a", b"\n", 3, PyxFault::BadNesting),
+    (b"(a\n", b"", 1, PyxFault::Unclosed),
+    (b"(a", b"", 1, PyxFault::Unclosed),
+    (b"(a\n-x\n)a\r\n)a", b"\n", 4, PyxFault::BadNesting),
+    (b"(a\n(b\n)b\n-", b"", 4, PyxFault::Unclosed),
+    (b"", b"", 0, PyxFault::Empty),
+];
+
+// A stream at a limit or past it: a front, what comes behind it so many times, an end, and the number
+// of end lines behind that. The last LF of the end tells the fault, which is in that line.
+type Long = (
+    &'static [u8],
+    &'static [u8],
+    usize,
+    &'static [u8],
+    usize,
+    Option<u64>,
+);
+
+const LINES: [Long; 5] = [
+    (b"(a\n-", b"x", 1_048_576, b"\n", 1, None),
+    (b"(a\n-", b"x", 1_048_576, b"\r\n", 1, None),
+    (b"(a\n-", b"x", 1_048_577, b"\n", 1, Some(2)),
+    (b"(a\n-", b"x", 1_048_577, b"\r\n", 1, Some(2)),
+    (b"(a\n-", b"x", 1_048_599, b"\r\n", 1, Some(2)),
+];
+
+const NODES: [Long; 5] = [
+    (b"", b"(a\n", 256, b"", 256, None),
+    (b"", b"(a\n", 256, b"(a\n", 257, Some(257)),
+    (b"", b"(a\n", 256, b"-x\n", 256, Some(257)),
+    (b"(a\n", b"-\n", 524_286, b"", 1, None),
+    (b"(a\n", b"-\n", 524_286, b"-\n", 1, Some(524_288)),
+];
+
+// The stream in pieces of that size.
+fn pieces(alloc: Global, stream: &[u8], size: usize) -> Result<Vec<&[u8]>, Fail> {
+    let size = size.max(1);
+    let mut cut = Vec::new(alloc);
+    let mut rest = stream;
+    for _ in 0..stream.len().div_ceil(size) {
+        let (piece, others) = rest.split_at(size.min(rest.len()));
+        cut.push(piece)?;
+        rest = others;
+    }
+    Ok(cut)
+}
+
+// A stream in these pieces has that outcome, the text of its document or its fault. A fault is told
+// by the piece of that number, or at the end, and from then on. Want of memory may come instead.
+fn check(
+    rt: &impl Abort,
+    alloc: Global,
+    pieces: &[&[u8]],
+    told: usize,
+    want: Result<&[u8], PyxError>,
+) -> Result<(), Fail> {
+    let mut reader = Reader::new(alloc)?;
+    for (number, piece) in pieces.iter().enumerate() {
+        let fed = reader.feed(piece);
+        if let Err(error) = fed {
+            assert_eq!(rt; reader.feed(b"(a\n)a\n"), fed);
+            assert_eq!(rt; reader.finish().err(), Some(error));
+            if error == ReadError::Memory {
+                return Err(error.into());
+            }
+            assert_eq!(rt; number, told, "{error:?}");
+            assert_eq!(rt; Some(error), want.err().map(|e| ReadError::Pyx(e)));
+            return Ok(());
+        }
+    }
+    match reader.finish() {
+        Ok(tree) => {
+            let text = write(alloc, &tree)?;
+            assert_eq!(rt; Ok(text.as_slice()), want);
+        }
+        Err(ReadError::Pyx(error)) => {
+            assert_eq!(rt; pieces.len(), told, "{error:?}");
+            assert_eq!(rt; Some(error), want.err());
+        }
+        Err(ReadError::Memory) => return Err(ReadError::Memory.into()),
+    }
+    Ok(())
+}
+
+// The stream has that outcome cut in two at each place, in one piece among them, and byte by byte.
+// A fault is told with the byte of that number, or at the end.
+fn check_cuts(
+    rt: &impl Abort,
+    alloc: Global,
+    stream: &[u8],
+    told: usize,
+    want: Result<&[u8], PyxError>,
+) -> Result<(), Fail> {
+    for cut in 0..=stream.len() {
+        let (front, back) = stream.split_at(cut);
+        let told_by = if told == stream.len() {
+            2
+        } else {
+            usize::from(told >= cut)
+        };
+        check(rt, alloc, &[front, back], told_by, want)?;
+    }
+    let bytes = pieces(alloc, stream, 1)?;
+    check(rt, alloc, &bytes, told, want)
+}
+
+#[test]
+fn documents(rt: HostRuntime) -> Result<(), Fail> {
+    for (stream, text) in DOCUMENTS {
+        check_cuts(&rt, rt.alloc(), stream, stream.len(), Ok(text))?;
+    }
+    Ok(())
+}
+
+#[test]
+fn faults(rt: HostRuntime) -> Result<(), Fail> {
+    for (before, after, line, fault) in FAULTS {
+        let stream = [before, after].concat(rt.alloc())?;
+        let want = Err(PyxError { line, fault });
+        check_cuts(&rt, rt.alloc(), &stream, before.len(), want)?;
+    }
+    Ok(())
+}
+
+// The bytes of a stream at a limit.
+fn bytes_of(alloc: Global, long: Long) -> Result<Vec<u8>, Fail> {
+    let (front, unit, count, end, closed, _) = long;
+    let mut bytes = Vec::from_slice(alloc, front)?;
+    for _ in 0..count {
+        bytes.extend_from_slice(unit)?;
+    }
+    bytes.extend_from_slice(end)?;
+    for _ in 0..closed {
+        bytes.extend_from_slice(b")a\n")?;
+    }
+    Ok(bytes)
+}
+
+// The stream in pieces of that size is read up to the limit, and refused past it.
+fn check_long(rt: &impl Abort, alloc: Global, long: Long, size: usize) -> Result<(), Fail> {
+    let (front, unit, count, end, closed, line) = long;
+    let size = size.max(1);
+    let stream = bytes_of(alloc, long)?;
+    let cut = pieces(alloc, &stream, size)?;
+    if let Some(line) = line {
+        let shown = bytes_of(alloc, (front, unit, count, end, 0, None))?;
+        let fault = PyxFault::BadCode;
+        let told = shown.len().saturating_sub(1) / size;
+        return check(rt, alloc, &cut, told, Err(PyxError { line, fault }));
+    }
+    let end = end.strip_prefix(b"\r").unwrap_or(end);
+    let text = bytes_of(alloc, (front, unit, count, end, closed, None))?;
+    check(rt, alloc, &cut, cut.len(), Ok(&text))
+}
+
+#[test]
+fn long_lines(rt: HostRuntime) -> Result<(), Fail> {
+    for line in LINES {
+        for size in [65_536, usize::MAX] {
+            check_long(&rt, rt.alloc(), line, size)?;
+        }
+    }
+    Ok(())
+}
+
+#[test]
+fn many_nodes(rt: HostRuntime) -> Result<(), Fail> {
+    for nodes in NODES {
+        check_long(&rt, rt.alloc(), nodes, 65_536)?;
+    }
+    Ok(())
+}

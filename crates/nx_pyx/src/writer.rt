@@ -1,0 +1,359 @@
+// From a tree to its canonical text, line by line.
+ghost use Rattle.std.specs.Prelude.{◌≡◌, ◌≢◌, ◌<◌, ◌≤◌, ℕ, List, [], ◌∷◌, ◌++◌, length, take, true, false, IsTrue, ◌↔◌, Ok, IfOk, IsOkAnd, OnOk, OnErr};
+ghost use Rattle.std.specs.List.{list_any};
+ghost use Rattle.nx_pyx.specs.Text.{text, escape, escaped, node_line};
+ghost use Rattle.nx_pyx.specs.Escape.{needs_escape};
+
+use nx_tree::{Bytes, Kind, NoMemory, Node, Tree};
+use std::alloc::Global;
+use std::marker::Model;
+
+// As many bytes of a content as are looked at together.
+const CHUNK: usize = 16;
+
+// An open element: its name, and the trees that stand after it under the same parent.
+#[derive(Clone, Copy)]
+struct OpenElement<'a> {
+    name: &'a [u8],
+    after: &'a [Tree],
+}
+
+/// Writes a tree's canonical text in blocks, without a copy of it as a whole. Contracts see the
+/// bytes that are still to come.
+#[derive(Drop)]
+pub struct Writer<'a> {
+    // The open elements, the outermost first.
+    elements: Vec<OpenElement<'a>>,
+    // The trees that are left in the innermost one, or under the root where none is open.
+    rest: &'a [Tree],
+}
+
+impl<'a> Model for Writer<'a> {
+    ghost use Rattle.std.specs.Prelude.{ℕ, List};
+
+    ghost Value = { List ℕ };
+
+    ghost use Rattle.nx_pyx.specs.Writer.{text_left};
+
+    ghost view = { text_left };
+}
+
+impl<'a> Writer<'a> {
+    /// A writer of the whole text. It takes no memory and doesn't fail.
+    pub fn new(alloc: Global, tree: &'a Tree) -> Result<Writer<'a>, NoMemory>
+        ensures { IsOkAnd result (λ writer. writer ≡ text tree.now) }
+    {
+        Ok(Writer {
+            elements: Vec::new(alloc),
+            rest: tree.children.as_slice(),
+        })
+    }
+
+    /// Adds lines to the block until it has at least `enough` bytes or the text has ended, and says
+    /// whether there is more.
+    ///
+    /// Errors: `NoMemory`. What was added by then is whole lines, and a later call goes on behind them.
+    pub fn fill(&mut self, block: &mut Bytes, enough: usize) -> Result<bool, NoMemory>
+        ensures text { block.new ++ self.new ≡ block.old ++ self.old }
+        ensures front { (n : ℕ) × (block.new ≡ block.old ++ take n self.old) }
+        ensures more { result ≡ Ok true → (enough ≤ length block.new) × (self.new ≢ []) }
+        ensures end { result ≡ Ok false → self.new ≡ [] }
+    {
+        while block.len() < enough {
+            if !self.step(block)? {
+                return Ok(false);
+            }
+        }
+        Ok(!self.is_done())
+    }
+
+    // Whether no line is left.
+    fn is_done(&self) -> bool
+        ensures { IsTrue result ↔ (self.now ≡ []) }
+    {
+        self.rest.is_empty() && self.elements.is_empty()
+    }
+
+    // Adds the next line, if there is one. Want of memory leaves the block and the writer as they were.
+    fn step(&mut self, block: &mut Bytes) -> Result<bool, NoMemory>
+        ensures text { block.new ++ self.new ≡ block.old ++ self.old }
+        ensures front { (bytes : List ℕ) × (block.new ≡ block.old ++ bytes) }
+        ensures more { result ≡ Ok true → length block.old < length block.new }
+        ensures end { result ≡ Ok false → self.new ≡ [] }
+    {
+        let len = block.len();
+        let wrote = self.write_line(block);
+        if wrote.is_err() {
+            block.truncate(len);
+        }
+        wrote
+    }
+
+    // Adds the next line, if there is one. Want of memory leaves the writer as it was.
+    fn write_line(&mut self, block: &mut Bytes) -> Result<bool, NoMemory>
+        ensures ok { OnOk result (block.new ++ self.new ≡ block.old ++ self.old) }
+        ensures err { OnErr result (self.new ≡ self.old) }
+        ensures front { (bytes : List ℕ) × (block.new ≡ block.old ++ bytes) }
+        ensures more { result ≡ Ok true → length block.old < length block.new }
+        ensures end { result ≡ Ok false → self.new ≡ [] }
+    {
+        if let Some((tree, others)) = self.rest.split_first() {
+            push_node_line(block, &tree.node)?;
+            block.push(b'\n')?;
+            match tree.node.kind {
+                Kind::Element => {
+                    self.elements.push(OpenElement {
+                        name: tree.node.name.as_slice(),
+                        after: others,
+                    })?;
+                    self.rest = tree.children.as_slice();
+                }
+                _ => self.rest = others,
+            }
+            return Ok(true);
+        }
+        let Some(element) = self.elements.last().copied() else {
+            return Ok(false);
+        };
+        push_name(block, b')', element.name)?;
+        block.push(b'\n')?;
+        let _ = self.elements.pop();
+        self.rest = element.after;
+        Ok(true)
+    }
+}
+
+/// The canonical text of a document.
+///
+/// Errors: `NoMemory`.
+pub fn write(alloc: Global, tree: &Tree) -> Result<Bytes, NoMemory>
+    ensures { IfOk result (λ bytes. bytes ≡ text tree.now) }
+{
+    let mut bytes = Bytes::new(alloc);
+    let mut writer = Writer::new(alloc, tree)?;
+    while writer.step(&mut bytes)? {}
+    Ok(bytes)
+}
+
+/// The canonical line of one node, without a line end; `#doc` for the root of a document.
+///
+/// Errors: `NoMemory`.
+pub fn node_line(alloc: Global, node: &Node) -> Result<Bytes, NoMemory>
+    ensures { IfOk result (λ line. line ≡ node_line node.now.kind node.now.name node.now.content) }
+{
+    let mut line = Bytes::new(alloc);
+    push_node_line(&mut line, node)?;
+    Ok(line)
+}
+
+// Adds the line of a node, without a line end.
+fn push_node_line(block: &mut Bytes, node: &Node) -> Result<(), NoMemory>
+    ensures ok { OnOk result (block.new ≡ block.old ++ node_line node.now.kind node.now.name node.now.content) }
+    ensures front { (bytes : List ℕ) × (block.new ≡ block.old ++ bytes) }
+{
+    let name = node.name.as_slice();
+    let content = node.content.as_slice();
+    match node.kind {
+        Kind::Doc => block.extend_from_slice(b"#doc"),
+        Kind::Element => push_name(block, b'(', name),
+        Kind::Attribute => {
+            push_name(block, b'A', name)?;
+            push_content(block, b' ', content)
+        }
+        Kind::Text => push_content(block, b'-', content),
+        Kind::Instruction => {
+            push_name(block, b'?', name)?;
+            if content.is_empty() {
+                return Ok(());
+            }
+            push_content(block, b' ', content)
+        }
+    }
+}
+
+// Adds a byte and a name behind it.
+fn push_name(block: &mut Bytes, before: u8, name: &[u8]) -> Result<(), NoMemory>
+    ensures ok { OnOk result (block.new ≡ block.old ++ before ∷ name.now) }
+    ensures front { (bytes : List ℕ) × (block.new ≡ block.old ++ bytes) }
+{
+    block.push(before)?;
+    block.extend_from_slice(name)
+}
+
+// Adds a byte and a content behind it, with its escapes.
+fn push_content(block: &mut Bytes, before: u8, content: &[u8]) -> Result<(), NoMemory>
+    ensures ok { OnOk result (block.new ≡ block.old ++ before ∷ escaped content.now) }
+    ensures front { (bytes : List ℕ) × (block.new ≡ block.old ++ bytes) }
+{
+    block.push(before)?;
+    push_escaped(block, content)
+}
+
+// Adds a content with its escapes.
+fn push_escaped(block: &mut Bytes, content: &[u8]) -> Result<(), NoMemory>
+    ensures ok { OnOk result (block.new ≡ block.old ++ escaped content.now) }
+    ensures front { (bytes : List ℕ) × (block.new ≡ block.old ++ bytes) }
+{
+    let mut rest = content;
+    loop {
+        let (run, others) = rest.split_at(plain_len(rest));
+        block.extend_from_slice(run)?;
+        let Some((first, after)) = others.split_first() else {
+            return Ok(());
+        };
+        push_escape(block, *first)?;
+        rest = after;
+    }
+}
+
+// The number of bytes before the first one that is written as two.
+fn plain_len(content: &[u8]) -> usize
+    ensures within { result ≤ length content.now }
+    ensures plain { list_any needs_escape (take result content.now) ≡ false }
+{
+    let mut len = 0;
+    while content.len() - len >= CHUNK && !has_escape(&content[len..len + CHUNK]) {
+        len += CHUNK;
+    }
+    while len < content.len() && !needs_escape(content[len]) {
+        len += 1;
+    }
+    len
+}
+
+// Whether one of the bytes is written as two. It looks at all of them, so that a processor may look
+// at many of them at once.
+fn has_escape(bytes: &[u8]) -> bool
+    ensures { result ≡ list_any needs_escape bytes.now }
+{
+    let mut found = false;
+    for b in bytes {
+        found |= needs_escape(*b);
+    }
+    found
+}
+
+// Whether the byte is written as two.
+fn needs_escape(b: u8) -> bool
+    ensures { result ≡ needs_escape b }
+{
+    b == b'\n' || b == b'\t' || b == b'\r' || b == b'\\'
+}
+
+// Adds one byte of a content.
+fn push_escape(block: &mut Bytes, byte: u8) -> Result<(), NoMemory>
+    ensures ok { OnOk result (block.new ≡ block.old ++ escape byte) }
+    ensures err { OnErr result (block.new ≡ block.old) }
+{
+    match byte {
+        b'\n' => block.extend_from_slice(b"\\n"),
+        b'\t' => block.extend_from_slice(b"\\t"),
+        b'\r' => block.extend_from_slice(b"\\r"),
+        b'\\' => block.extend_from_slice(b"\\\\"),
+        _ => block.push(byte),
+    }
+}
+
+#[cfg(test)]
+mod tests {
+    use super::*;
+    use nx_tree::Trees;
+    use std::test::Fail;
+
+    // A kind, a name, a content and the line of them.
+    const LINES: [(Kind, &[u8], &[u8], &[u8]); 10] = [
+        (Kind::Doc, b"", b"", b"#doc"),
+        (Kind::Element, b"a", b"", b"(a"),
+        (Kind::Attribute, b"k", b"", b"Ak "),
+        (Kind::Attribute, b"k", b"v w\\", b"Ak v w\\\\"),
+        (Kind::Text, b"", b"", b"-"),
+        (Kind::Text, b"", b"\n\n x\ty\rz\\", b"-\\n\\n x\\ty\\rz\\\\"),
+        (Kind::Text, b"", b"\x0b\xff n", b"-\x0b\xff n"),
+        (
+            Kind::Text,
+            b"",
+            b"more bytes than are looked at together\nand an end",
+            b"-more bytes than are looked at together\\nand an end",
+        ),
+        (Kind::Instruction, b"p", b"", b"?p"),
+        (Kind::Instruction, b"p", b"\tq", b"?p \\tq"),
+    ];
+
+    const TEXT: &[u8] = b"?p\n(a\nAk v\\\\\n(b\n)b\n-x\\ny\n(c\n-\n(d\n)d\n)c\n)a\n?q r\n";
+
+    fn node(alloc: Global, kind: Kind, name: &[u8], content: &[u8]) -> Result<Node, NoMemory> {
+        Ok(Node {
+            kind,
+            name: Bytes::from_slice(alloc, name)?,
+            content: Bytes::from_slice(alloc, content)?,
+        })
+    }
+
+    fn add(
+        trees: &mut Trees,
+        alloc: Global,
+        kind: Kind,
+        name: &[u8],
+        content: &[u8],
+        children: Trees,
+    ) -> Result<(), NoMemory> {
+        let node = node(alloc, kind, name, content)?;
+        trees.push(Tree { node, children })
+    }
+
+    // The tree of `TEXT`. It has parts that no document has and that have no line: a content of an
+    // element, and a child of a text.
+    fn document(alloc: Global) -> Result<Tree, NoMemory> {
+        let none = || Trees::new(alloc);
+        let mut inner = none();
+        add(&mut inner, alloc, Kind::Text, b"", b"", none())?;
+        add(&mut inner, alloc, Kind::Element, b"d", b"x", none())?;
+        let mut below_text = none();
+        add(&mut below_text, alloc, Kind::Element, b"x", b"", none())?;
+        let mut outer = none();
+        add(&mut outer, alloc, Kind::Attribute, b"k", b"v\\", none())?;
+        add(&mut outer, alloc, Kind::Element, b"b", b"", none())?;
+        add(&mut outer, alloc, Kind::Text, b"", b"x\ny", below_text)?;
+        add(&mut outer, alloc, Kind::Element, b"c", b"", inner)?;
+        let mut children = none();
+        add(&mut children, alloc, Kind::Instruction, b"p", b"", none())?;
+        add(&mut children, alloc, Kind::Element, b"a", b"", outer)?;
+        add(&mut children, alloc, Kind::Instruction, b"q", b"r", none())?;
+        Ok(Tree {
+            node: node(alloc, Kind::Doc, b"", b"")?,
+            children,
+        })
+    }
+
+    #[test]
+    fn lines(rt: HostRuntime) -> Result<(), Fail> {
+        let alloc = rt.alloc();
+        for (kind, name, content, expected) in LINES {
+            let line = node_line(alloc, &node(alloc, kind, name, content)?)?;
+            assert_eq!(rt; line.as_slice(), expected);
+        }
+        Ok(())
+    }
+
+    #[test]
+    fn blocks(rt: HostRuntime) -> Result<(), Fail> {
+        let alloc = rt.alloc();
+        let tree = document(alloc)?;
+        assert_eq!(rt; write(alloc, &tree)?.as_slice(), TEXT);
+        for enough in [1usize, 2, 3, 10, 20, 50, 1000] {
+            let mut writer = Writer::new(alloc, &tree)?;
+            let mut block = Bytes::new(alloc);
+            let mut whole = Bytes::new(alloc);
+            for _ in 0..TEXT.len() {
+                block.clear();
+                let more = writer.fill(&mut block, enough)?;
+                whole.extend_from_slice(block.as_slice())?;
+                if !more {
+                    break;
+                }
+            }
+            assert_eq!(rt; whole.as_slice(), TEXT, "{enough}");
+        }
+        Ok(())
+    }
+}
