@@ -1,0 +1,63 @@
+use Rattle.std.proofs.Common.{◌∙◌, Err, ap, subst}
+use Rattle.nx_pyx.specs.Text.{text}
+use Rattle.nx_front.specs.Answer.{refusal_line}
+use Rattle.nx_front.specs.declared.status.Status.TheVariants.{ReadFault, TooMuch, NoMemory}
+use Rattle.nx_front.specs.Outcome.{StopsBy}
+use Rattle.nx_front.proofs.AnswerLemmas.{read_answers, refused_answers}
+use Rattle.nx_front.proofs.RunLemmas.{gave_read, gave_refused, tidied_stopped, tidied_given}
+use Rattle.nx_front.proofs.top.tidy.Goals as goal
+
+pub returns-in-Ok : goal.returns-in-Ok
+returns-in-Ok g c = λ words command.
+    let h = g.H.Disk in
+    let read = c.in-Ok.ensures.ok in
+    let before = h.beside c.args.host.now in
+    let middle = h.beside c.read.new.host in
+    let after = h.beside c.give_text.new.host in
+    let took = c.read.ensures.alone in
+    let gave = c.give_text.ensures.alone in
+    tidied_given h.contents h.may_leave h.beside h.moment h.stood_since h.faults h.reads words c.status_of.result (text c.in-Ok.tree) c.args.host.now c.read.new.host
+    c.give_text.new.host
+    (rw c.status_of.ensures
+    (gave_read words c.in-Ok.tree read.0 before middle after c.give_text.result command read.1 took.output took.out_faults gave.input
+    c.give_text.ensures.ok c.give_text.ensures.cause))
+    (read_answers c.in-Ok.tree read.0 before.input middle.input read.1) took gave
+
+pub returns-in-Err-Refused : goal.returns-in-Err-Refused
+returns-in-Err-Refused g c = λ words command.
+    let h = g.H.Disk in
+    let before = h.beside c.args.host.now in
+    let middle = h.beside c.read.new.host in
+    let after = h.beside c.give_refusal.new.host in
+    let took = c.read.ensures.alone in
+    let gave = c.give_refusal.ensures.alone in
+    let error = c.in-Err-Refused.error in
+    let refused = subst (λ stop. StopsBy stop before.input middle.input) c.in-Err-Refused.field-0-is c.in-Err-Refused.ensures.err in
+    tidied_given h.contents h.may_leave h.beside h.moment h.stood_since h.faults h.reads words c.status_of-in-Err-Refused.result (refusal_line error) c.args.host.now
+    c.read.new.host c.give_refusal.new.host
+    (rw c.status_of-in-Err-Refused.ensures
+    (gave_refused words error refused.0 before middle after c.give_refusal.result command refused.1 took.output took.out_faults gave.input
+    c.give_refusal.ensures.ok c.give_refusal.ensures.cause))
+    (refused_answers error refused.0 before.input middle.input refused.1) took gave
+
+pub returns-in-Err-ReadFault : goal.returns-in-Err-ReadFault
+returns-in-Err-ReadFault g c = λ words command.
+    let h = g.H.Disk in
+    tidied_stopped h.contents h.may_leave h.beside h.moment h.stood_since h.faults h.reads words ReadFault c.args.host.now c.read.new.host
+    (let stopped = subst (λ stop. StopsBy stop (h.beside c.args.host.now).input (h.beside c.read.new.host).input) c.in-Err-ReadFault.field-0-is c.in-Err-ReadFault.ensures.err in
+    (command, c.read.ensures.cause (c.in-Err-ReadFault.is ∙ ap Err c.in-Err-ReadFault.field-0-is), c.read.ensures.alone.output, stopped.0, stopped.1, stopped.2))
+    c.read.ensures.alone
+
+pub returns-in-Err-TooMuch : goal.returns-in-Err-TooMuch
+returns-in-Err-TooMuch g c = λ words command.
+    let h = g.H.Disk in
+    tidied_stopped h.contents h.may_leave h.beside h.moment h.stood_since h.faults h.reads words TooMuch c.args.host.now c.read.new.host
+    (let stopped = subst (λ stop. StopsBy stop (h.beside c.args.host.now).input (h.beside c.read.new.host).input) c.in-Err-TooMuch.field-0-is c.in-Err-TooMuch.ensures.err in
+    (command, c.read.ensures.alone.output, stopped.0, stopped.1, stopped.2))
+    c.read.ensures.alone
+
+pub returns-in-Err-NoMemory : goal.returns-in-Err-NoMemory
+returns-in-Err-NoMemory g c = λ words command.
+    let h = g.H.Disk in
+    tidied_stopped h.contents h.may_leave h.beside h.moment h.stood_since h.faults h.reads words NoMemory c.args.host.now c.read.new.host
+    command c.read.ensures.alone

@@ -1,0 +1,69 @@
+-- What a run is: why it ends with its status, and what stood at each of its moments.
+use Rattle.std.specs.Prelude.{◌≡◌, ◌↔◌, ℕ, ◌<◌, List, length, Option, IfSome, IsSome, Some, Result, Ok, Err, true, false}
+use Rattle.nx_host.specs.Disk.{Image, Beside, Keeps, Rose}
+use Rattle.nx_host.specs.Host.{Appends}
+use Rattle.nx_host.specs.Time.{Stood, Elapses}
+use Rattle.nx_tree.specs.Forest.{OrderedTree}
+use Rattle.nx_pyx.specs.declared.error.PyxError.{PyxError}
+use Rattle.nx_pyx.specs.Text.{text}
+use Rattle.nx_front.specs.declared.status.Status.{Status}
+use Rattle.nx_front.specs.declared.status.Status.TheVariants.{Done, Usage, Refused, ReadFault, WriteFault, NoMemory, TooMuch}
+use Rattle.nx_front.specs.declared.give.Halt.{Halt}
+use Rattle.nx_front.specs.declared.give.Halt.TheVariants as halt
+use Rattle.nx_front.specs.Command.{is_command_line}
+use Rattle.nx_front.specs.Answer.{Answers, refusal_line}
+use Rattle.nx_front.specs.Outcome.{most_input, EndsRead, EndsRefused, EndsSound}
+use Rattle.nx_front.specs.Phase.{StandsWithin}
+
+-- why a run ends with this status, what it has taken of the input by then and what it has given
+abbrev pub EndsWith : List (List ℕ) → Status → Beside → Beside → Type 0
+EndsWith words Done old new =
+    (is_command_line words ≡ true) × (tree : OrderedTree) × (taken : List ℕ) × EndsRead tree taken old.input new.input × Appends (text tree) old.output new.output
+EndsWith words Usage old new = is_command_line words ≡ false
+EndsWith words Refused old new =
+    (is_command_line words ≡ true) × (error : PyxError) × (taken : List ℕ) × EndsRefused error taken old.input new.input × Appends (refusal_line error) old.output new.output
+EndsWith words ReadFault old new =
+    (is_command_line words ≡ true) × Rose old.in_faults new.in_faults × (new.output ≡ old.output)
+    × (taken : List ℕ) × (length taken < most_input) × EndsSound taken old.input new.input
+EndsWith words WriteFault old new = (is_command_line words ≡ true) × Rose old.out_faults new.out_faults
+EndsWith words TooMuch old new =
+    (is_command_line words ≡ true) × (new.output ≡ old.output) × (taken : List ℕ) × (length taken ≡ most_input) × EndsSound taken old.input new.input
+EndsWith words NoMemory old new = is_command_line words ≡ true
+
+-- Where the input is told to the end, this is the answer to it.
+abbrev pub AnswersTold : Option (List ℕ) → Option (List ℕ) → List ℕ → Type 0
+AnswersTold old new answer = IfSome new (λ left. IfSome old (λ input. Answers input answer))
+
+-- At every moment from old to new the output had grown by a front of one text, the answer to the input, and the images were those of old.
+pub record GrowsToAnswer {D : Type 0} (may_leave : D → Image → Type 0) (beside : D → Beside) (moment : D → ℕ) (stood_since : D → ℕ → Stood → Type 0) (old new : D) : Type 0 where
+  pub answer : List ℕ
+  pub answers : AnswersTold (beside old).input (beside new).input answer
+  pub time : Elapses moment stood_since old new (StandsWithin may_leave beside answer old)
+
+-- The disk is as it was.
+pub record LeavesDisk {D : Type 0} (contents : D → Option Image) (may_leave : D → Image → Type 0) (faults reads : D → ℕ) (old new : D) : Type 0 where
+  pub contents_stay : Keeps (contents old) (contents new)
+  pub images : (i : Image) → may_leave new i ↔ may_leave old i
+  pub faults_stay : faults new ≡ faults old
+  pub reads_stay : reads new ≡ reads old
+
+-- This input of fewer bytes than a run takes was told to the end, and neither reading nor writing failed.
+pub record IsUndisturbed (input : List ℕ) (old new : Beside) : Type 0 where
+  pub told : old.input ≡ Some input
+  pub still_told : IsSome new.input
+  pub few : length input < most_input
+  pub read : ¬ Rose old.in_faults new.in_faults
+  pub written : ¬ Rose old.out_faults new.out_faults
+
+-- the status where the output was given so far, of a run that ends with `whole` where it is whole
+abbrev pub status_after : Status → Result (Unit {0}) Halt → Status
+status_after whole (Ok _) = whole
+status_after whole (Err halt.WriteFault) = WriteFault
+status_after whole (Err halt.NoMemory) = NoMemory
+
+-- What `tidy` does, in whole.
+pub record IsTidied {D : Type 0} (contents : D → Option Image) (may_leave : D → Image → Type 0) (beside : D → Beside) (moment : D → ℕ)
+    (stood_since : D → ℕ → Stood → Type 0) (faults reads : D → ℕ) (words : List (List ℕ)) (status : Status) (old new : D) : Type 0 where
+  pub ends : EndsWith words status (beside old) (beside new)
+  pub grows : GrowsToAnswer may_leave beside moment stood_since old new
+  pub disk : LeavesDisk contents may_leave faults reads old new

@@ -1,0 +1,103 @@
+// The second phase: the output is given.
+ghost use Rattle.std.specs.Prelude.{◌≡◌, ◌<◌, ℕ, List, [], ◌++◌, length, true, false, OnOk, IfOk, Err, string_bytes};
+ghost use Rattle.nx_host.specs.Disk.{Rose};
+ghost use Rattle.nx_host.specs.Host.{Appends};
+ghost use Rattle.nx_pyx.specs.Text.{text};
+ghost use Rattle.nx_front.specs.Answer.{refusal_line};
+ghost use Rattle.nx_front.specs.Phase.{GivesAlone};
+ghost use Rattle.nx_front.specs.Outcome.{GivesBlock};
+ghost use Rattle.nx_front.specs.declared.give.Halt.TheVariants.{NoMemory, WriteFault};
+
+use nx_host::{Failed, Host};
+use nx_pyx::{PyxError, Writer};
+use nx_tree::{Bytes, Tree};
+use std::alloc::{AllocError, Global};
+
+// As many bytes as are given at once, but for the last ones.
+const BLOCK: usize = 65_536;
+
+// Why the output isn't whole.
+#[derive(Clone, Copy)]
+pub enum Halt {
+    WriteFault,
+    NoMemory,
+}
+
+impl From<nx_tree::NoMemory> for Halt {
+    ghost from_gives = { λ _ halt. halt ≡ NoMemory };
+
+    fn from(_: nx_tree::NoMemory) -> Halt {
+        Halt::NoMemory
+    }
+}
+
+impl From<AllocError> for Halt {
+    ghost from_gives = { λ _ halt. halt ≡ NoMemory };
+
+    fn from(_: AllocError) -> Halt {
+        Halt::NoMemory
+    }
+}
+
+impl From<Failed> for Halt {
+    ghost from_gives = { λ _ halt. halt ≡ WriteFault };
+
+    fn from(_: Failed) -> Halt {
+        Halt::WriteFault
+    }
+}
+
+// Gives the canonical text of the document.
+pub fn give_text<H: Host>(alloc: Global, host: &mut H, tree: &Tree) -> Result<(), Halt>
+    ensures ok { OnOk result (Appends (text tree.now) (H.beside host.old).output (H.beside host.new).output) }
+    ensures cause { result ≡ Err Halt.WriteFault → Rose (H.beside host.old).out_faults (H.beside host.new).out_faults }
+    ensures alone { GivesAlone H.contents H.may_leave H.beside H.moment H.stood_since H.faults H.reads (text tree.now) host.old host.new }
+{
+    let mut writer = Writer::new(alloc, tree)?;
+    let mut block = Bytes::new(alloc);
+    let mut more = true;
+    while more {
+        more = give_block(host, &mut writer, &mut block)?;
+    }
+    Ok(())
+}
+
+// Gives the next block of the text, and says whether there is more.
+fn give_block<H: Host>(
+    host: &mut H,
+    writer: &mut Writer<'_>,
+    block: &mut Bytes,
+) -> Result<bool, Halt>
+    ensures ok { IfOk result (λ more. GivesBlock more writer.old writer.new (H.beside host.old).output (H.beside host.new).output) }
+    ensures cause { result ≡ Err Halt.WriteFault → Rose (H.beside host.old).out_faults (H.beside host.new).out_faults }
+    ensures alone { GivesAlone H.contents H.may_leave H.beside H.moment H.stood_since H.faults H.reads writer.old host.old host.new }
+{
+    block.clear();
+    let more = writer.fill(block, BLOCK)?;
+    host.emit(block.as_slice())?;
+    Ok(more)
+}
+
+// Gives the line that refuses the input.
+pub fn give_refusal<H: Host>(alloc: Global, host: &mut H, error: PyxError) -> Result<(), Halt>
+    ensures ok { OnOk result (Appends (refusal_line error) (H.beside host.old).output (H.beside host.new).output) }
+    ensures cause { result ≡ Err Halt.WriteFault → Rose (H.beside host.old).out_faults (H.beside host.new).out_faults }
+    ensures alone { GivesAlone H.contents H.may_leave H.beside H.moment H.stood_since H.faults H.reads (refusal_line error) host.old host.new }
+{
+    let line = refusal(alloc, error)?;
+    host.emit(line.as_bytes())?;
+    Ok(())
+}
+
+// The line that refuses the input.
+fn refusal(alloc: Global, error: PyxError) -> Result<String, AllocError>
+    ensures { IfOk result (λ line. string_bytes line ≡ refusal_line error) }
+{
+    let number = error.line.to_string(alloc)?;
+    let mut line = String::from_str(alloc, "refused pyx ")?;
+    line.push_str(number.as_str())?;
+    line.push_str(" ")?;
+    line.push_str(error.fault.word())?;
+    line.push_str("\n")?;
+    Ok(line)
+}
