@@ -8,7 +8,7 @@ use Rattle.nx_pyx.specs.Event.{events}
 use Rattle.nx_pyx.specs.Fault.{shown_fault, fault_of, events_of}
 use Rattle.nx_pyx.specs.Reading.{Reads}
 use Rattle.nx_pyx.specs.Text.{text, text_of}
-use Rattle.nx_pyx.proofs.Laws.{no_fault, said_events}
+use Rattle.nx_pyx.proofs.Said.{no_fault, said_events}
 use Rattle.nx_pyx.proofs.Shown.{fault_shown}
 use Rattle.nx_pyx.proofs.Reading.{one_reading}
 use Rattle.nx_front.specs.Answer.{Answers, refusal_line}

@@ -8,7 +8,7 @@ use Rattle.nx_pyx.specs.declared.error.PyxError.{PyxError}
 use Rattle.nx_pyx.specs.Fault.{fault_of}
 use Rattle.nx_pyx.specs.Reading.{Reads}
 use Rattle.nx_pyx.specs.Text.{text}
-use Rattle.nx_pyx.proofs.Laws.{no_fault}
+use Rattle.nx_pyx.proofs.Said.{no_fault}
 use Rattle.nx_front.specs.declared.status.Status.{Status}
 use Rattle.nx_front.specs.declared.status.Status.TheVariants.{Done, Usage, Refused, ReadFault, WriteFault, NoMemory, TooMuch}
 use Rattle.nx_front.specs.declared.give.Halt.{Halt}

@@ -25,13 +25,14 @@ fn an_input_has_its_answer(rt: HostRuntime) -> Result<(), Fail> {
     let words = words_of(alloc, &["_", "tidy"])?;
     for (input, status, output) in [
         ("(a\n-hi\n)a\n", Status::Done, "(a\n-hi\n)a\n"),
+        ("(a\nAx 1\n-hi\n)a\n", Status::Done, "(a\nAx 1\n-hi\n)a\n"),
         ("(a\r\n-hi\r\n)a", Status::Done, "(a\n-hi\n)a\n"),
         ("", Status::Refused, "refused pyx 0 empty\n"),
         ("\n", Status::Refused, "refused pyx 1 bad-code\n"),
         (
-            "(a\nAx 1\n)a\n",
-            Status::Refused,
-            "refused pyx 2 bad-code\n",
+            "?p\n(a\nAx 1\n-\\qy\n)a\n",
+            Status::Done,
+            "?p\n(a\nAx 1\n-\\\\qy\n)a\n",
         ),
         ("(a\n)b\n", Status::Refused, "refused pyx 2 bad-nesting\n"),
         ("(a\n-hi\n", Status::Refused, "refused pyx 2 unclosed\n"),
@@ -95,8 +96,8 @@ fn a_failing_call_ends_the_run(rt: HostRuntime) -> Result<(), Fail> {
     let alloc = rt.alloc();
     let words = words_of(alloc, &["_", "tidy"])?;
     let short = b"(a\n-hi\n)a\n".as_slice();
-    let faulty = b"(a\nAx 1\n)a\n".as_slice();
-    let refusal = b"refused pyx 2 bad-code\n".as_slice();
+    let faulty = b"(a\nA/ 1\n)a\n".as_slice();
+    let refusal = b"refused pyx 2 bad-name\n".as_slice();
     let long_text = long_document(alloc)?;
     let long = long_text.as_slice();
     // The whole answer to the input, and how much of it is given where that call fails.
@@ -129,13 +130,14 @@ fn a_failing_call_ends_the_run(rt: HostRuntime) -> Result<(), Fail> {
 }
 
 #[test]
-fn input_without_end_is_too_much(rt: HostRuntime) -> Result<(), Fail> {
+fn a_line_without_end_is_refused(rt: HostRuntime) -> Result<(), Fail> {
     let alloc = rt.alloc();
     let words = words_of(alloc, &["_", "tidy"])?;
     let mut host = EndlessHost::default();
-    assert_eq!(rt; run(alloc, &words, &mut host), Status::TooMuch);
-    assert_eq!(rt; host.taken, 4_294_967_296);
-    assert_eq!(rt; host.given, 0);
+    assert_eq!(rt; run(alloc, &words, &mut host), Status::Refused);
+    // Seventeen blocks, and `refused pyx 1 long-line` with its LF.
+    assert_eq!(rt; host.taken, 1_114_112);
+    assert_eq!(rt; host.given, 24);
     Ok(())
 }
 

@@ -1,28 +1,27 @@
 -- Events of forests that grow, standings after one event more, and faults of lines that follow others.
-use Rattle.std.proofs.Common.{if◌then◌else◌, ◌≡◌, ℕ, ◌+◌, false, List, [], ◌∷◌, ◌++◌, length, Option, None, Some, refl, ap, sym, ◌∙◌, append_assoc}
-use Rattle.std.specs.List.{fold, cons_option}
+use Rattle.std.proofs.Common.{if◌then◌else◌, ◌≡◌, ℕ, ◌+◌, Bool, true, false, List, [], ◌∷◌, ◌++◌, length, Option, None, Some, refl, ap, sym, ◌∙◌, append_assoc}
+use Rattle.std.specs.Prelude.{fold}
+use Rattle.std.specs.List.{cons_option}
 use Rattle.std.specs.Option.{option_map, option_map_or}
-use Rattle.nx_tree.specs.Forest.{OrderedTree, Forest, Empty, Plant, planted}
-use Rattle.nx_tree.specs.Document.{IsForest, HasNoAttribute, is_attribute, is_element}
+use Rattle.nx_tree.specs.Forest as forest
+use Rattle.nx_tree.specs.Forest.{OrderedTree, Forest, Plant, planted}
+use Rattle.nx_tree.specs.Document.{is_element}
 use Rattle.nx_pyx.specs.declared.error.PyxFault.{PyxFault}
-use Rattle.nx_pyx.specs.declared.error.PyxError.{PyxError}
+use Rattle.nx_pyx.specs.declared.error.PyxFault.TheVariants.{LongLine, BadName, BadNesting, BadAttribute, Twice, TooDeep, TooMany}
 use Rattle.nx_pyx.specs.Event.{Event, Start, End, Single, events, event_of}
-use Rattle.nx_pyx.specs.Fault.{Standing, at_first, after, standing, events_of, line_fault, first_fault, fault_at}
+use Rattle.nx_pyx.specs.Fault.{Standing, at_first, after, standing, events_of, line_fault, first_fault, fault_at, refusal, is_long, is_misnamed, is_misplaced, is_late, is_repeated, is_deep, is_surplus}
+use Rattle.nx_pyx.specs.Builder.{IsBuilt}
 
 -- the events of a forest with one more tree
-pub events-planted : (f : Forest) (t : OrderedTree) → events (planted f t) ≡ events f ++ events (Plant t.node t.below Empty)
-events-planted Empty t = refl
+pub events-planted : (f : Forest) (t : OrderedTree) → events (planted f t) ≡ events f ++ events (Plant t.node t.below forest.Empty)
+events-planted forest.Empty t = refl
 events-planted (Plant node below beside) t =
     let first : List Event = if is_element node.kind then Start node.name ∷ events below ++ End node.name ∷ [] else Single node ∷ [] in
-    ap (λ r. first ++ r) (events-planted beside t) ∙ sym (append_assoc first (events beside) (events (Plant t.node t.below Empty)))
+    ap (λ r. first ++ r) (events-planted beside t) ∙ sym (append_assoc first (events beside) (events (Plant t.node t.below forest.Empty)))
 
-pub IsForest-planted : (f : Forest) (t : OrderedTree) → IsForest f → IsForest (Plant t.node t.below Empty) → IsForest (planted f t)
-IsForest-planted Empty t h one = one
-IsForest-planted (Plant node below beside) t h one = (h.0, h.1, h.2, IsForest-planted beside t h.3 one)
-
-pub HasNoAttribute-planted : (f : Forest) (t : OrderedTree) → HasNoAttribute f → is_attribute t.node.kind ≡ false → HasNoAttribute (planted f t)
-HasNoAttribute-planted Empty t h one = (one, tt)
-HasNoAttribute-planted (Plant node below beside) t h one = (h.0, HasNoAttribute-planted beside t h.1 one)
+pub IsBuilt-planted : (f : Forest) (t : OrderedTree) → IsBuilt f → IsBuilt (Plant t.node t.below forest.Empty) → IsBuilt (planted f t)
+IsBuilt-planted forest.Empty t h one = one
+IsBuilt-planted (Plant node below beside) t h one = (h.0, h.1, h.2, IsBuilt-planted beside t h.3 one)
 
 fold-after : (s : Standing) (es : List Event) (e : Event) → fold after s (es ++ e ∷ []) ≡ after (fold after s es) e
 fold-after s [] e = refl
@@ -41,15 +40,6 @@ events_of-append [] ms = refl
 events_of-append (l ∷ ls) ms =
     ap (cons_option (event_of l)) (events_of-append ls ms) ∙ cons_option-append (event_of l) (events_of ls) (events_of ms)
 
-no_fault_in : (n : ℕ) (o : Option PyxFault) (x : Option PyxError) → option_map_or (λ fault. Some (fault_at n fault)) o x ≡ None → (o ≡ None) × (x ≡ None)
-no_fault_in n None x h = (refl, h)
-no_fault_in n (Some fault) x h = cc
-
--- a line without a fault, and no fault after it
-pub first_fault-none : (before : List (List ℕ)) (l : List ℕ) (ls : List (List ℕ)) → first_fault before (l ∷ ls) ≡ None →
-    (line_fault before l ≡ None) × (first_fault (before ++ l ∷ []) ls ≡ None)
-first_fault-none before l ls h = no_fault_in (length before + 1) (line_fault before l) (first_fault (before ++ l ∷ []) ls) h
-
 -- where a line has no fault, the first one is among those after it
 pub first_fault-next : (before : List (List ℕ)) (l : List ℕ) (ls : List (List ℕ)) → line_fault before l ≡ None →
     first_fault before (l ∷ ls) ≡ first_fault (before ++ l ∷ []) ls
@@ -63,3 +53,53 @@ first_fault-one before l = one_fault (length before + 1) (line_fault before l)
     one_fault : (n : ℕ) (o : Option PyxFault) → option_map_or (λ fault. Some (fault_at n fault)) o None ≡ option_map (fault_at n) o
     one_fault n None = refl
     one_fault n (Some fault) = refl
+
+-- the first of the seven faults of an event that applies
+chain : Bool → Bool → Bool → Bool → Bool → Bool → Bool → Option PyxFault
+chain long misnamed misplaced late repeated deep surplus =
+    if long then Some LongLine
+    else if misnamed then Some BadName
+    else if misplaced then Some BadNesting
+    else if late then Some BadAttribute
+    else if repeated then Some Twice
+    else if deep then Some TooDeep
+    else if surplus then Some TooMany
+    else None
+
+module _ (s : Standing) (e : Event) where
+  by_chain : (long misnamed misplaced late repeated deep surplus : Bool) → is_long e ≡ long → is_misnamed e ≡ misnamed → is_misplaced s e ≡ misplaced → is_late s e ≡ late →
+      is_repeated s e ≡ repeated → is_deep s e ≡ deep → is_surplus s e ≡ surplus → refusal s e ≡ chain long misnamed misplaced late repeated deep surplus
+  unfolding chain
+  by_chain long misnamed misplaced late repeated deep surplus a b c d f g h =
+      ap (λ t. chain t (is_misnamed e) (is_misplaced s e) (is_late s e) (is_repeated s e) (is_deep s e) (is_surplus s e)) a
+      ∙ ap (λ t. chain long t (is_misplaced s e) (is_late s e) (is_repeated s e) (is_deep s e) (is_surplus s e)) b
+      ∙ ap (λ t. chain long misnamed t (is_late s e) (is_repeated s e) (is_deep s e) (is_surplus s e)) c
+      ∙ ap (λ t. chain long misnamed misplaced t (is_repeated s e) (is_deep s e) (is_surplus s e)) d
+      ∙ ap (λ t. chain long misnamed misplaced late t (is_deep s e) (is_surplus s e)) f
+      ∙ ap (λ t. chain long misnamed misplaced late repeated t (is_surplus s e)) g
+      ∙ ap (λ t. chain long misnamed misplaced late repeated deep t) h
+
+  pub refused_long : is_long e ≡ true → refusal s e ≡ Some LongLine
+  unfolding chain
+  refused_long a = by_chain true _ _ _ _ _ _ a refl refl refl refl refl refl
+
+  pub refused_name : is_long e ≡ false → is_misnamed e ≡ true → refusal s e ≡ Some BadName
+  unfolding chain
+  refused_name a b = by_chain false true _ _ _ _ _ a b refl refl refl refl refl
+
+  pub refused_place : is_long e ≡ false → is_misnamed e ≡ false → is_misplaced s e ≡ true → refusal s e ≡ Some BadNesting
+  unfolding chain
+  refused_place a b c = by_chain false false true _ _ _ _ a b c refl refl refl refl
+
+  pub refused_late : is_long e ≡ false → is_misnamed e ≡ false → is_misplaced s e ≡ false → is_late s e ≡ true → refusal s e ≡ Some BadAttribute
+  unfolding chain
+  refused_late a b c d = by_chain false false false true _ _ _ a b c d refl refl refl
+
+  pub refused_twice : is_long e ≡ false → is_misnamed e ≡ false → is_misplaced s e ≡ false → is_late s e ≡ false → is_repeated s e ≡ true → refusal s e ≡ Some Twice
+  unfolding chain
+  refused_twice a b c d f = by_chain false false false false true _ _ a b c d f refl refl
+
+  pub refused_room : is_long e ≡ false → is_misnamed e ≡ false → is_misplaced s e ≡ false → is_late s e ≡ false → is_repeated s e ≡ false →
+      refusal s e ≡ (if is_deep s e then Some TooDeep else if is_surplus s e then Some TooMany else None)
+  unfolding chain
+  refused_room a b c d f = by_chain false false false false false _ _ a b c d f refl refl

@@ -1,15 +1,67 @@
 -- What stands while lines are taken that have no fault.
-use Rattle.std.proofs.Common.{◌≡◌, ℕ, ◌+◌, List, [], ◌∷◌, ◌++◌, length, Option, None, Some, map, refl, ap, sym, ◌∙◌, subst}
-use Rattle.std.specs.Prelude.{fold}
+use Rattle.std.proofs.Common.{◌≡◌, ℕ, ◌+◌, Bool, true, false, List, [], ◌∷◌, ◌++◌, length, Option, None, Some, map, refl, ap, sym, ◌∙◌, subst}
+use Rattle.std.specs.Prelude.{fold, if◌then◌else◌}
 use Rattle.std.specs.List.{cons_option}
 use Rattle.std.specs.Option.{option_map_or}
 use Rattle.std.proofs.lemmas.List.Elements.{filter_map-append}
 use Rattle.std.proofs.lemmas.List.Sums.{fold_push}
 use Rattle.nx_pyx.specs.declared.error.PyxFault.{PyxFault}
-use Rattle.nx_pyx.specs.declared.error.PyxFault.TheVariants.{BadCode}
+use Rattle.nx_pyx.specs.declared.error.PyxFault.TheVariants.{BadCode, BadName, BadNesting, BadAttribute, Twice, LongLine, TooDeep, TooMany}
 use Rattle.nx_pyx.specs.declared.error.PyxError.{PyxError}
 use Rattle.nx_pyx.specs.Event.{Event, event_of}
-use Rattle.nx_pyx.specs.Fault.{Standing, at_first, after, standing, refusal, events_of, line_fault, fault_at, first_fault}
+use Rattle.nx_pyx.specs.Fault.{Standing, at_first, after, standing, is_long, is_misnamed, is_misplaced, is_late, is_repeated, is_deep, is_surplus, refusal, events_of, line_fault, fault_at, first_fault}
+
+-- no test refuses the event
+pub record Passes (s : Standing) (e : Event) : Type 0 where
+  pub short : is_long e ≡ false
+  pub named : is_misnamed e ≡ false
+  pub placed : is_misplaced s e ≡ false
+  pub timely : is_late s e ≡ false
+  pub fresh : is_repeated s e ≡ false
+  pub shallow : is_deep s e ≡ false
+  pub few : is_surplus s e ≡ false
+
+-- the fault by the tests
+abbrev refusal_by : Bool → Bool → Bool → Bool → Bool → Bool → Bool → Option PyxFault
+refusal_by long misnamed misplaced late repeated deep surplus =
+    if long then Some LongLine
+    else if misnamed then Some BadName
+    else if misplaced then Some BadNesting
+    else if late then Some BadAttribute
+    else if repeated then Some Twice
+    else if deep then Some TooDeep
+    else if surplus then Some TooMany
+    else None
+
+-- without a fault each test fails
+all_false : (long misnamed misplaced late repeated deep surplus : Bool) → refusal_by long misnamed misplaced late repeated deep surplus ≡ None
+    → (long ≡ false) × (misnamed ≡ false) × (misplaced ≡ false) × (late ≡ false) × (repeated ≡ false) × (deep ≡ false) × (surplus ≡ false)
+all_false true misnamed misplaced late repeated deep surplus h = absurd (cc)
+all_false false true misplaced late repeated deep surplus h = absurd (cc)
+all_false false false true late repeated deep surplus h = absurd (cc)
+all_false false false false true repeated deep surplus h = absurd (cc)
+all_false false false false false true deep surplus h = absurd (cc)
+all_false false false false false false true surplus h = absurd (cc)
+all_false false false false false false false true h = absurd (cc)
+all_false false false false false false false false h = (refl, refl, refl, refl, refl, refl, refl)
+
+-- an event that is not refused passes each test
+pub unrefused : (s : Standing) (e : Event) → refusal s e ≡ None → Passes s e
+unrefused s e h =
+    let p = all_false (is_long e) (is_misnamed e) (is_misplaced s e) (is_late s e) (is_repeated s e) (is_deep s e) (is_surplus s e) h in
+    record { short = p.0; named = p.1; placed = p.2; timely = p.3; fresh = p.4; shallow = p.5; few = p.6 }
+
+-- where each test fails there is no fault
+none_by : (long misnamed misplaced late repeated deep surplus : Bool)
+    → long ≡ false → misnamed ≡ false → misplaced ≡ false → late ≡ false → repeated ≡ false → deep ≡ false → surplus ≡ false
+    → refusal_by long misnamed misplaced late repeated deep surplus ≡ None
+none_by long misnamed misplaced late repeated deep surplus a b c d e f g = simp (a, b, c, d, e, f, g)
+
+-- an event that passes each test is not refused
+pub not_refused : (s : Standing) (e : Event) → Passes s e → refusal s e ≡ None
+not_refused s e p =
+    none_by (is_long e) (is_misnamed e) (is_misplaced s e) (is_late s e) (is_repeated s e) (is_deep s e) (is_surplus s e)
+    p.short p.named p.placed p.timely p.fresh p.shallow p.few
 
 -- these events, none of which is refused, lead from the first standing to the second
 abbrev pub Goes : Standing → List Event → Standing → Type 0
@@ -21,6 +73,7 @@ pub Goes_to : (s : Standing) (es : List Event) (t : Standing) → Goes s es t �
 Goes_to s [] t h = h
 Goes_to s (e ∷ es) t h = Goes_to (after s e) es t h.1
 
+-- one way of events after another
 pub Goes-append : (s : Standing) (es : List Event) (t : Standing) (more : List Event) (u : Standing) → Goes s es t → Goes t more u → Goes s (es ++ more) u
 Goes-append s [] t more u h k = subst (λ (v : Standing). Goes v more u) (sym h) k
 Goes-append s (e ∷ es) t more u h k = (h.0, Goes-append (after s e) es t more u h.1 k)
@@ -60,9 +113,11 @@ sound_goes_from before (line ∷ ls) s at h =
     (o ∷ map event_of ls ≡ map (λ e. Some e) (cons_option o (events_of ls))) × Goes s (cons_option o (events_of ls)) (fold after s (cons_option o (events_of ls))))
     (sym a.1) (ap (λ (os : List (Option Event)). Some a.0 ∷ os) r.0, (ok, r.1))
 
+-- lines without a fault have events that are refused nowhere
 pub sound_goes : (ls : List (List ℕ)) → first_fault [] ls ≡ None → (map event_of ls ≡ map (λ e. Some e) (events_of ls)) × Goes at_first (events_of ls) (standing (events_of ls))
 sound_goes ls h = sound_goes_from [] ls at_first refl h
 
+-- lines that come after these and say events that are refused nowhere have no fault
 goes_sound_from : (before ls : List (List ℕ)) (es : List Event) (s t : Standing) → standing (events_of before) ≡ s → map event_of ls ≡ map (λ e. Some e) es → Goes s es t
     → (first_fault before ls ≡ None) × (events_of ls ≡ es) × (fold after s es ≡ t)
 goes_sound_from before [] [] s t at says h = (refl, refl, h)
@@ -81,6 +136,7 @@ goes_sound_from before (line ∷ ls) (e ∷ es) s t at says h =
       r.2,
     )
 
+-- lines that say events which are refused nowhere have no fault
 pub goes_sound : (ls : List (List ℕ)) (es : List Event) (s : Standing) → map event_of ls ≡ map (λ e. Some e) es → Goes at_first es s
     → (first_fault [] ls ≡ None) × (events_of ls ≡ es) × (standing es ≡ s)
 goes_sound ls es s says h = goes_sound_from [] ls es at_first s refl says h

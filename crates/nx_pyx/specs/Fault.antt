@@ -1,37 +1,41 @@
 -- The fault of a stream: that of its first faulty line, or that of its end.
-use Rattle.std.specs.Prelude.{ℕ, ◌+◌, Bool, true, false, ◌&&◌, ◌||◌, ◌==◌, nat_le, if◌then◌else◌, List, [], ◌∷◌, ◌++◌, length, drop, fold, Option, None, Some}
-use Rattle.std.specs.List.{filter_map}
-use Rattle.std.specs.Option.{option_map_or, option_map}
+use Rattle.std.specs.Prelude.{ℕ, ◌+◌, Bool, true, false, not, ◌&&◌, ◌==◌, nat_le, nat_lt, if◌then◌else◌, List, [], ◌∷◌, ◌++◌, length, drop, fold, Option, None, Some, unwrap_or}
+use Rattle.std.specs.List.{filter_map, list_any}
+use Rattle.std.specs.Option.{option_map_or, option_map, is_none}
 use Rattle.std.specs.Str.{bytes_eq}
-use Rattle.nx_tree.specs.Document.{deepest, most_nodes}
+use Rattle.nx_tree.specs.Document.{deepest, most_nodes, longest_node, is_name, is_attribute}
+use Rattle.nx_tree.specs.declared.node.Kind.{Kind}
+use Rattle.nx_tree.specs.declared.node.Kind.TheVariants.{Text}
+use Rattle.nx_tree.specs.declared.node.Node.{Node}
 use Rattle.nx_pyx.specs.declared.error.PyxFault.{PyxFault}
-use Rattle.nx_pyx.specs.declared.error.PyxFault.TheVariants.{BadCode, BadNesting, Unclosed, Empty}
+use Rattle.nx_pyx.specs.declared.error.PyxFault.TheVariants.{BadCode, BadName, BadNesting, BadAttribute, Twice, Unclosed, Empty, LongLine, TooDeep, TooMany}
 use Rattle.nx_pyx.specs.declared.error.PyxError.{PyxError}
-use Rattle.nx_pyx.specs.Lines.{lines, ended_lines}
-use Rattle.nx_pyx.specs.Event.{Event, Start, End, Single, event_of}
+use Rattle.nx_pyx.specs.Lines.{lines, ended_lines, cut, without_cr}
+use Rattle.nx_pyx.specs.Event.{Event, Start, End, Single, event_by, event_of}
 
--- what stands after some events: the names of the elements that are open, the innermost first, whether an element has come, and how many nodes there are, the document's root counted
+-- What stands after some events: the names of the elements that are open, the innermost first, whether an element has come, how many nodes there are, the document's root counted, and, where an attribute of the innermost element may come next, the names of those that it has.
 pub record Standing : Type 0 where
   pub open_names : List (List ℕ)
   pub rooted : Bool
   pub nodes : ℕ
+  pub attributes : Option (List (List ℕ))
 
 -- before the first event
 abbrev pub at_first : Standing
-at_first = record { open_names = []; rooted = false; nodes = 1 }
+at_first = record { open_names = []; rooted = false; nodes = 1; attributes = None }
+
+-- the names of attributes after one node more
+abbrev pub attributes_after : Node → Option (List (List ℕ)) → Option (List (List ℕ))
+attributes_after node names = if is_attribute node.kind then option_map (λ ns. node.name ∷ ns) names else None
 
 abbrev pub after : Standing → Event → Standing
-after s (Start name) = record { open_names = name ∷ s.open_names; rooted = true; nodes = s.nodes + 1 }
-after s (End name) = record { open_names = drop 1 s.open_names; rooted = s.rooted; nodes = s.nodes }
-after s (Single node) = record { open_names = s.open_names; rooted = s.rooted; nodes = s.nodes + 1 }
+after s (Start name) = record { open_names = name ∷ s.open_names; rooted = true; nodes = s.nodes + 1; attributes = Some [] }
+after s (End name) = record { open_names = drop 1 s.open_names; rooted = s.rooted; nodes = s.nodes; attributes = None }
+after s (Single node) = record { open_names = s.open_names; rooted = s.rooted; nodes = s.nodes + 1; attributes = attributes_after node s.attributes }
 
 -- what stands after these events
 abbrev pub standing : List Event → Standing
 standing es = fold after at_first es
-
--- the next node would lie too deep or be one too many
-abbrev pub is_full : Standing → Bool
-is_full s = nat_le deepest (length s.open_names) || nat_le most_nodes s.nodes
 
 -- nothing is open
 abbrev pub is_outside : Standing → Bool
@@ -42,11 +46,70 @@ abbrev pub is_innermost : List ℕ → List (List ℕ) → Bool
 is_innermost name [] = false
 is_innermost name (open_name ∷ names) = bytes_eq name open_name
 
--- the fault of an event that comes where this stands
+abbrev pub is_text : Kind → Bool
+is_text Text = true
+is_text _ = false
+
+-- the bytes of name and content
+abbrev pub event_size : Event → ℕ
+event_size (Start name) = length name
+event_size (End name) = length name
+event_size (Single node) = length node.name + length node.content
+
+-- more than are allowed
+abbrev pub is_long : Event → Bool
+is_long e = nat_lt longest_node (event_size e)
+
+-- the name that a start, an attribute or an instruction has isn't one
+abbrev pub is_misnamed : Event → Bool
+is_misnamed (Start name) = not (is_name name)
+is_misnamed (End name) = false
+is_misnamed (Single node) = not (is_text node.kind) && not (is_name node.name)
+
+-- a start beside the root element, an end of no open element, or a text outside
+abbrev pub is_misplaced : Standing → Event → Bool
+is_misplaced s (Start name) = is_outside s && s.rooted
+is_misplaced s (End name) = not (is_innermost name s.open_names)
+is_misplaced s (Single node) = is_text node.kind && is_outside s
+
+-- an attribute where none may come
+abbrev pub is_late : Standing → Event → Bool
+is_late s (Single node) = is_attribute node.kind && is_none s.attributes
+is_late s _ = false
+
+-- one of the names is this one
+abbrev pub is_among : List ℕ → List (List ℕ) → Bool
+is_among name names = list_any (bytes_eq name) names
+
+-- an attribute of a name that the element has
+abbrev pub is_repeated : Standing → Event → Bool
+is_repeated s (Single node) = is_attribute node.kind && is_among node.name (unwrap_or s.attributes [])
+is_repeated s _ = false
+
+-- it makes a node
+abbrev pub makes_node : Event → Bool
+makes_node (End name) = false
+makes_node _ = true
+
+-- a node that would lie too deep
+abbrev pub is_deep : Standing → Event → Bool
+is_deep s e = makes_node e && nat_le deepest (length s.open_names)
+
+-- a node that would be one too many
+abbrev pub is_surplus : Standing → Event → Bool
+is_surplus s e = makes_node e && nat_le most_nodes s.nodes
+
+-- the fault of an event that comes where this stands: the first that applies
 abbrev pub refusal : Standing → Event → Option PyxFault
-refusal s (Start name) = if is_full s then Some BadCode else if is_outside s && s.rooted then Some BadNesting else None
-refusal s (Single node) = if is_full s then Some BadCode else if is_outside s then Some BadNesting else None
-refusal s (End name) = if is_innermost name s.open_names then None else Some BadNesting
+refusal s e =
+    if is_long e then Some LongLine
+    else if is_misnamed e then Some BadName
+    else if is_misplaced s e then Some BadNesting
+    else if is_late s e then Some BadAttribute
+    else if is_repeated s e then Some Twice
+    else if is_deep s e then Some TooDeep
+    else if is_surplus s e then Some TooMany
+    else None
 
 -- the events of the lines that have one
 abbrev pub events_of : List (List ℕ) → List Event
@@ -69,9 +132,16 @@ first_fault before (line ∷ rest) =
 abbrev pub end_fault : Standing → Option PyxFault
 end_fault s = if is_outside s then (if s.rooted then None else Some Empty) else Some Unclosed
 
--- the fault that the bytes so far show: that of the first faulty line that an LF ends
+-- the fault that a line shows before it has ended: no code in front, or too many bytes already
+abbrev pub early_fault : List ℕ → Option PyxFault
+early_fault [] = None
+early_fault (b ∷ bytes) =
+    option_map_or (λ _. option_map_or (λ e. if is_long e then Some LongLine else None) (event_of (without_cr (b ∷ bytes))) None) (event_by b []) (Some BadCode)
+
+-- The fault that the bytes so far show: that of the first faulty line that an LF ends, or else that of the line that hasn't ended.
 abbrev pub shown_fault : List ℕ → Option PyxError
-shown_fault bytes = first_fault [] (ended_lines bytes)
+shown_fault bytes =
+    option_map_or (λ e. Some e) (first_fault [] (ended_lines bytes)) (option_map (fault_at (length (ended_lines bytes) + 1)) (early_fault (cut bytes).rest))
 
 -- the fault of the end of a stream of these lines, none of which is faulty
 abbrev pub fault_at_end : List (List ℕ) → Option PyxError

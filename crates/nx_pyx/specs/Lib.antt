@@ -1,11 +1,13 @@
 pub mod Lines
 pub mod Event
-pub mod Line
 pub mod Fault
 pub mod Word
 pub mod Reading
 pub mod Text
+pub mod Line
+pub mod Names
 pub mod Builder
 pub mod Reader
+pub mod Outcome
 pub mod Escape
 pub mod Writer

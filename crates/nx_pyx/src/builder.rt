@@ -1,12 +1,15 @@
 // From lines to a tree: the trees that are whole, and the elements that are open.
-ghost use Rattle.std.specs.Prelude.{◌≡◌, ◌+◌, List, ℕ, [], ◌∷◌, ◌++◌, length, map, Some, IfOk, OnOk, IfErr, IsTrue, ◌≤◌, ◌&&◌, option_map};
-ghost use Rattle.nx_tree.specs.Document.{IsDocument, is_name, longest_node};
+ghost use Rattle.std.specs.Prelude.{◌≡◌, ◌+◌, ◌&&◌, ◌≤◌, List, ℕ, [], ◌∷◌, ◌++◌, length, map, Some, IfOk, OnOk, IfErr, IsTrue, option_map, nat_le, false, ◌==◌, ◌<◌};
+ghost use Rattle.nx_tree.specs.declared.node.Kind.TheVariants as kind;
+ghost use Rattle.nx_tree.specs.Document.{IsDocument, deepest, most_nodes};
 ghost use Rattle.nx_pyx.specs.Lines.{without_cr};
-ghost use Rattle.nx_pyx.specs.Event.{Start, End, Single, text_node, event_of, events};
-ghost use Rattle.nx_pyx.specs.Fault.{refusal, is_full, is_outside, fault_at, first_fault, fault_at_end};
-ghost use Rattle.nx_pyx.specs.Builder.{HasTaken, Makes, standing_of, Fails};
+ghost use Rattle.nx_pyx.specs.Event.{Start, End, Single, event_of, events};
+ghost use Rattle.nx_pyx.specs.Fault.{is_long, fault_at, first_fault, fault_at_end};
+ghost use Rattle.nx_pyx.specs.Line.{node_in, event_in};
+ghost use Rattle.nx_pyx.specs.Builder.{HasTaken, Makes, Refuses, Pushes, HasNoRoom, Fails};
 
 use crate::line::{self, Line};
+use crate::names::Names;
 use crate::{PyxError, PyxFault, ReadError};
 use nx_tree::{Bytes, Kind, Node, Tree, Trees};
 use std::alloc::Global;
@@ -34,6 +37,10 @@ pub struct Builder {
     pub rooted: bool,
     // The nodes so far, the document's root counted.
     pub nodes: u32,
+    // Whether an attribute of the innermost element may come next, and then the names of those that
+    // it has.
+    pub may_have: bool,
+    pub attributes: Names,
     pub lines: u64,
 }
 
@@ -47,6 +54,8 @@ impl Builder {
             children: Trees::new(alloc),
             rooted: false,
             nodes: 1,
+            may_have: false,
+            attributes: Names::new(alloc),
             lines: 0,
         }
     }
@@ -58,9 +67,7 @@ impl Builder {
     {
         self.lines = self.lines.saturating_add(1);
         match line::parse(line::without_cr(line)) {
-            Some(Line::Start(name)) => self.start(name),
-            Some(Line::End(name)) => self.end(name),
-            Some(Line::Text(content)) => self.text(content),
+            Some(line) => self.add(line),
             None => Err(self.fault(PyxFault::BadCode)),
         }
     }
@@ -87,22 +94,51 @@ impl Builder {
         })
     }
 
+    // The fault at the line that comes next.
+    pub fn next_fault(&self, fault: PyxFault) -> ReadError
+        ensures { (ls : List (List ℕ)) → HasTaken self.now ls → result ≡ ReadError.Pyx (fault_at (length ls + 1) fault) }
+    {
+        ReadError::Pyx(PyxError {
+            line: self.lines.saturating_add(1),
+            fault,
+        })
+    }
+
+    // Adds what a line says.
+    fn add(&mut self, line: Line<'_>) -> Result<(), ReadError>
+        ensures ok { OnOk result (Makes self.old self.new (event_in line.entry)) }
+        ensures err { IfErr result (Refuses self.old self.old.lines (event_in line.entry)) }
+    {
+        if line.is_long() {
+            return Err(self.fault(PyxFault::LongLine));
+        }
+        match line {
+            Line::Start(name) => self.start(name),
+            Line::End(name) => self.end(name),
+            Line::Attribute(name, content) => self.attribute(name, content),
+            Line::Text(content) => self.text(content),
+            Line::Instruction(name, content) => self.instruction(name, content),
+        }
+    }
+
     // An element starts.
     fn start(&mut self, name: &[u8]) -> Result<(), ReadError>
-        requires name { IsTrue (is_name name.now) }
-        requires short { length name.now ≤ longest_node }
+        requires { is_long (Start name.now) ≡ false }
         ensures ok { OnOk result (Makes self.old self.new (Start name.now)) }
-        ensures err { IfErr result (λ e. Fails e (option_map (fault_at self.old.lines) (refusal (standing_of self.old) (Start name.now)))) }
+        ensures err { IfErr result (Refuses self.old self.old.lines (Start name.now)) }
     {
-        if self.is_full() {
-            return Err(self.fault(PyxFault::BadCode));
+        if !line::is_name(name) {
+            return Err(self.fault(PyxFault::BadName));
         }
         if self.is_beside() {
             return Err(self.fault(PyxFault::BadNesting));
         }
+        self.has_room()?;
         let name = Bytes::from_slice(self.alloc, name)?;
         let before = mem::replace(&mut self.children, Trees::new(self.alloc));
         self.levels.push(Level { before, name })?;
+        self.attributes.clear();
+        self.may_have = true;
         self.rooted = true;
         self.nodes += 1;
         Ok(())
@@ -110,8 +146,9 @@ impl Builder {
 
     // The innermost open element ends.
     fn end(&mut self, name: &[u8]) -> Result<(), ReadError>
+        requires { is_long (End name.now) ≡ false }
         ensures ok { OnOk result (Makes self.old self.new (End name.now)) }
-        ensures err { IfErr result (λ e. Fails e (option_map (fault_at self.old.lines) (refusal (standing_of self.old) (End name.now)))) }
+        ensures err { IfErr result (Refuses self.old self.old.lines (End name.now)) }
     {
         let Some(level) = self.levels.pop() else {
             return Err(self.fault(PyxFault::BadNesting));
@@ -130,51 +167,100 @@ impl Builder {
             },
             children: below,
         })?;
+        self.may_have = false;
         Ok(())
     }
 
-    // A text without children.
-    fn text(&mut self, content: &[u8]) -> Result<(), ReadError>
-        requires { length content.now ≤ longest_node }
-        ensures ok { OnOk result (Makes self.old self.new (Single (text_node content.now))) }
-        ensures err { IfErr result (λ e. Fails e (option_map (fault_at self.old.lines) (refusal (standing_of self.old) (Single (text_node content.now))))) }
+    // An attribute of the innermost open element.
+    fn attribute(&mut self, name: &[u8], content: &[u8]) -> Result<(), ReadError>
+        requires { is_long (Single (node_in kind.Attribute name.now content.now)) ≡ false }
+        ensures ok { OnOk result (Makes self.old self.new (Single (node_in kind.Attribute name.now content.now))) }
+        ensures err { IfErr result (Refuses self.old self.old.lines (Single (node_in kind.Attribute name.now content.now))) }
     {
-        if self.is_full() {
-            return Err(self.fault(PyxFault::BadCode));
+        if !line::is_name(name) {
+            return Err(self.fault(PyxFault::BadName));
         }
+        if !self.may_have {
+            return Err(self.fault(PyxFault::BadAttribute));
+        }
+        if !self.attributes.insert(name)? {
+            return Err(self.fault(PyxFault::Twice));
+        }
+        self.has_room()?;
+        self.push(Kind::Attribute, name, content)
+    }
+
+    // A text.
+    fn text(&mut self, content: &[u8]) -> Result<(), ReadError>
+        requires { is_long (Single (node_in kind.Text [] content.now)) ≡ false }
+        ensures ok { OnOk result (Makes self.old self.new (Single (node_in kind.Text [] content.now))) }
+        ensures err { IfErr result (Refuses self.old self.old.lines (Single (node_in kind.Text [] content.now))) }
+    {
         if self.is_outside() {
             return Err(self.fault(PyxFault::BadNesting));
         }
-        let content = Bytes::from_slice(self.alloc, content)?;
+        self.has_room()?;
+        self.may_have = false;
+        self.push(Kind::Text, &[], content)
+    }
+
+    // An instruction.
+    fn instruction(&mut self, name: &[u8], content: &[u8]) -> Result<(), ReadError>
+        requires { is_long (Single (node_in kind.Instruction name.now content.now)) ≡ false }
+        ensures ok { OnOk result (Makes self.old self.new (Single (node_in kind.Instruction name.now content.now))) }
+        ensures err { IfErr result (Refuses self.old self.old.lines (Single (node_in kind.Instruction name.now content.now))) }
+    {
+        if !line::is_name(name) {
+            return Err(self.fault(PyxFault::BadName));
+        }
+        self.has_room()?;
+        self.may_have = false;
+        self.push(Kind::Instruction, name, content)
+    }
+
+    // Adds a node without children to those of the innermost element.
+    fn push(&mut self, kind: Kind, name: &[u8], content: &[u8]) -> Result<(), ReadError>
+        requires { self.old.nodes < most_nodes }
+        ensures ok { OnOk result (Pushes self.old self.new (node_in kind name.now content.now)) }
+        ensures err { IfErr result (λ e. e ≡ ReadError.Memory) }
+    {
+        let node = Node {
+            kind,
+            name: Bytes::from_slice(self.alloc, name)?,
+            content: line::unescaped(self.alloc, content)?,
+        };
         self.children.push(Tree {
-            node: Node {
-                kind: Kind::Text,
-                name: Bytes::new(self.alloc),
-                content,
-            },
+            node,
             children: Trees::new(self.alloc),
         })?;
         self.nodes += 1;
         Ok(())
     }
 
-    // Whether the next node would lie too deep or be one too many.
-    fn is_full(&self) -> bool
-        ensures { result ≡ is_full (standing_of self.now) }
+    // That the next node would neither lie too deep nor be one too many.
+    fn has_room(&self) -> Result<(), ReadError>
+        ensures ok { OnOk result ((nat_le deepest (length self.now.levels.items) ≡ false) × (self.now.nodes < most_nodes)) }
+        ensures err { IfErr result (HasNoRoom self.now) }
     {
-        self.levels.as_slice().len() >= DEEPEST || self.nodes >= MOST_NODES
+        if self.levels.as_slice().len() >= DEEPEST {
+            return Err(self.fault(PyxFault::TooDeep));
+        }
+        if self.nodes >= MOST_NODES {
+            return Err(self.fault(PyxFault::TooMany));
+        }
+        Ok(())
     }
 
     // Whether no element is open.
     fn is_outside(&self) -> bool
-        ensures { result ≡ is_outside (standing_of self.now) }
+        ensures { result ≡ (length self.now.levels.items == 0) }
     {
         self.levels.as_slice().is_empty()
     }
 
     // Whether an element that starts would stand beside the root element.
     fn is_beside(&self) -> bool
-        ensures { result ≡ (is_outside (standing_of self.now) && self.now.rooted) }
+        ensures { result ≡ ((length self.now.levels.items == 0) && self.now.rooted) }
     {
         self.is_outside() && self.rooted
     }

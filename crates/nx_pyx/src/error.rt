@@ -11,14 +11,26 @@ use thiserror::Error;
 #[derive(Clone, Copy, Debug, PartialEq, Eq, Error)]
 #[error("{}", self.word())]
 pub enum PyxFault {
-    /// The line has none of the forms that are read.
+    /// The line is empty, or its first byte is none of the five codes.
     BadCode,
+    /// The name isn't one.
+    BadName,
     /// The line's node has no place there, or another element ends than the one that is open.
     BadNesting,
+    /// An attribute stands elsewhere than directly after its element's start or an attribute of it.
+    BadAttribute,
+    /// The element has an attribute of that name.
+    Twice,
     /// The text ends within an element.
     Unclosed,
     /// The text ends without an element.
     Empty,
+    /// The line's name and content have more bytes together than are allowed.
+    LongLine,
+    /// The line's node would lie too deep.
+    TooDeep,
+    /// The line's node would be one too many.
+    TooMany,
 }
 
 impl PyxFault {
@@ -28,9 +40,15 @@ impl PyxFault {
     {
         match self {
             PyxFault::BadCode => "bad-code",
+            PyxFault::BadName => "bad-name",
             PyxFault::BadNesting => "bad-nesting",
+            PyxFault::BadAttribute => "bad-attribute",
+            PyxFault::Twice => "twice",
             PyxFault::Unclosed => "unclosed",
             PyxFault::Empty => "empty",
+            PyxFault::LongLine => "long-line",
+            PyxFault::TooDeep => "too-deep",
+            PyxFault::TooMany => "too-many",
         }
     }
 }
@@ -88,7 +106,13 @@ mod tests {
         let alloc = rt.alloc();
         for (line, fault, want) in [
             (2, PyxFault::BadCode, "2 bad-code"),
+            (3, PyxFault::BadName, "3 bad-name"),
             (1, PyxFault::BadNesting, "1 bad-nesting"),
+            (4, PyxFault::BadAttribute, "4 bad-attribute"),
+            (5, PyxFault::Twice, "5 twice"),
+            (6, PyxFault::LongLine, "6 long-line"),
+            (7, PyxFault::TooDeep, "7 too-deep"),
+            (8, PyxFault::TooMany, "8 too-many"),
             (
                 u64::MAX,
                 PyxFault::Unclosed,

@@ -1,17 +1,22 @@
 //! PYX, a notation of XML with one event a line: read as it comes in pieces, and written.
 //!
 //! `Reader` takes the stream in any pieces and gives the document that its lines say, or the fault
-//! of its first faulty line. `write` gives a document's canonical text, and `Writer` the same in
-//! blocks. What a line is, what it says and which fault it has stands in `specs/`, apart from the
-//! code.
+//! of its first faulty line; `line_node` does so for one line. `write` gives a document's canonical
+//! text, and `Writer` the same in blocks; `node_line` gives one node's line. What a line is, what it
+//! says and which fault it has stands in `specs/`, apart from the code, and `laws` says what holds
+//! of that.
 #![tactic(auto)]
 
 mod builder;
 mod error;
+pub mod laws;
 mod line;
+mod names;
+mod one_line;
 mod reader;
 mod writer;
 
 pub use error::{PyxError, PyxFault, ReadError};
+pub use one_line::line_node;
 pub use reader::Reader;
 pub use writer::{Writer, node_line, write};

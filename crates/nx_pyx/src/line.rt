@@ -1,24 +1,144 @@
 // What one line says.
-ghost use Rattle.std.specs.Prelude.{◌≡◌, ◌==◌, MatchOption, None, Some};
-ghost use Rattle.std.specs.List.{list_all, list_any};
+ghost use Rattle.std.specs.Prelude.{◌≡◌, ◌+◌, ◌<◌, ◌≤◌, ◌∷◌, false, nat_lt, MatchOption, None, Some, IfOk, IfSome, is_some, [], length, take, slice_index};
+ghost use Rattle.std.specs.List.{list_all, list_any, position, before_first, after_first};
 ghost use Rattle.nx_tree.specs.Document.{is_name, is_name_byte};
 ghost use Rattle.nx_pyx.specs.Lines.{without_cr};
-ghost use Rattle.nx_pyx.specs.Event.{event_of, is_escaped, plain_event};
-ghost use Rattle.nx_pyx.specs.Line.{event_in};
+ghost use Rattle.nx_pyx.specs.Event.{event_by, event_of, is_space, unescape, unescaped_byte};
+ghost use Rattle.nx_pyx.specs.Fault.{early_fault, is_long, is_misnamed};
+ghost use Rattle.nx_pyx.specs.Line.{event_in, is_backslash};
 
-// As many bytes as a line has at most: its first one, and the longest name or content.
-const LONGEST_LINE: usize = 1 + 1_048_576;
+use crate::PyxFault;
+use nx_tree::{Bytes, NoMemory};
+use std::alloc::Global;
 
-// A line that has one of the forms that are read.
+// As many bytes as a name and a content have at most together.
+const LONGEST_NODE: usize = 1_048_576;
+
+// As many bytes as are looked at together for a backslash.
+const CHUNK: usize = 32;
+
+// A line that begins with one of the five codes. Contents are as they stand in the line.
 #[derive(Clone, Copy)]
 pub enum Line<'a> {
     Start(&'a [u8]),
     End(&'a [u8]),
+    Attribute(&'a [u8], &'a [u8]),
     Text(&'a [u8]),
+    Instruction(&'a [u8], &'a [u8]),
 }
 
-// Whether the bytes are a name of an element.
-fn is_name(name: &[u8]) -> bool
+impl Line<'_> {
+    // Whether its name and its content have more bytes together than are allowed.
+    pub fn is_long(&self) -> bool
+        ensures { result ≡ is_long (event_in self.now) }
+    {
+        match self {
+            Line::Start(name) | Line::End(name) => name.len() > LONGEST_NODE,
+            Line::Text(content) => is_long_with(&[], content),
+            Line::Attribute(name, content) | Line::Instruction(name, content) => {
+                is_long_with(name, content)
+            }
+        }
+    }
+
+    // Whether the name that it needs isn't one.
+    pub fn is_misnamed(&self) -> bool
+        ensures { result ≡ is_misnamed (event_in self.now) }
+    {
+        match self {
+            Line::Start(name) | Line::Attribute(name, _) | Line::Instruction(name, _) => {
+                !is_name(name)
+            }
+            Line::End(_) | Line::Text(_) => false,
+        }
+    }
+}
+
+// What the line says, where it begins with one of the five codes.
+pub fn parse(line: &[u8]) -> Option<Line<'_>>
+    ensures { MatchOption result (event_of line.now ≡ None) (λ found. event_of line.now ≡ Some (event_in found)) }
+{
+    let (code, rest) = line.split_first()?;
+    match *code {
+        b'(' => Some(Line::Start(rest)),
+        b')' => Some(Line::End(rest)),
+        b'A' => {
+            let (name, content) = split_name(rest);
+            Some(Line::Attribute(name, content))
+        }
+        b'-' => Some(Line::Text(rest)),
+        b'?' => {
+            let (name, content) = split_name(rest);
+            Some(Line::Instruction(name, content))
+        }
+        _ => None,
+    }
+}
+
+// The fault that a line shows before it has ended, by the bytes that have come.
+pub fn early_fault(bytes: &[u8]) -> Option<PyxFault>
+    ensures { result ≡ early_fault bytes.now }
+{
+    let Some((code, _)) = bytes.split_first() else {
+        return None;
+    };
+    if !is_code(*code) {
+        return Some(PyxFault::BadCode);
+    }
+    // So few bytes are never too many.
+    if bytes.len() <= LONGEST_NODE {
+        return None;
+    }
+    match parse(without_cr(bytes)) {
+        Some(line) => {
+            if line.is_long() {
+                Some(PyxFault::LongLine)
+            } else {
+                None
+            }
+        }
+        None => None,
+    }
+}
+
+// Whether the byte is one of the five codes.
+fn is_code(b: u8) -> bool
+    ensures { result ≡ is_some (event_by b []) }
+{
+    matches!(b, b'(' | b')' | b'A' | b'-' | b'?')
+}
+
+// The bytes up to the first space, and those behind it.
+fn split_name(rest: &[u8]) -> (&[u8], &[u8])
+    ensures name { result.0.now ≡ before_first is_space rest.now }
+    ensures content { result.1.now ≡ after_first is_space rest.now }
+{
+    match first_space(rest) {
+        Some(end) => (&rest[..end], &rest[end + 1..]),
+        None => (rest, &[]),
+    }
+}
+
+// Where the first space stands, if there is one.
+fn first_space(bytes: &[u8]) -> Option<usize>
+    ensures at { result ≡ position is_space bytes.now }
+    ensures inside { IfSome result (λ end. end < length bytes.now) }
+{
+    bytes.iter().position(|b| *b == b' ')
+}
+
+// The line without one CR at its end, where there is one.
+pub fn without_cr(line: &[u8]) -> &[u8]
+    ensures { result.now ≡ without_cr line.now }
+{
+    match line.split_last() {
+        None => line,
+        Some((last, front)) => { if *last == b'\r' { front } else { line } }
+    }
+}
+
+// Whether the bytes are a name.
+pub fn is_name(name: &[u8]) -> bool
     ensures { result ≡ is_name name.now }
 {
     match name.split_first() {
@@ -41,60 +161,105 @@ fn is_name_byte(b: u8) -> bool
     b > b' ' && !matches!(b, b'#' | b'*' | b'/' | b'?' | b'@' | b'\\')
 }
 
-// Whether one of the bytes would be escaped. It looks at all of them, so that a processor may look
-// at many of them at once.
-fn has_escaped(bytes: &[u8]) -> bool
-    ensures { result ≡ list_any is_escaped bytes.now }
+// The content that the bytes of a line stand for.
+pub fn unescaped(alloc: Global, content: &[u8]) -> Result<Bytes, NoMemory>
+    ensures { IfOk result (λ bytes. bytes ≡ unescape content.now) }
+{
+    // It has no more bytes than the line: this is its one call for memory.
+    let mut bytes = Bytes::with_capacity(alloc, content.len())?;
+    let mut rest = content;
+    loop {
+        let (run, others) = rest.split_at(before_backslash(rest));
+        bytes.extend_from_slice(run)?;
+        let Some((_, after)) = others.split_first() else {
+            return Ok(bytes);
+        };
+        let (byte, left) = behind_backslash(after);
+        bytes.push(byte)?;
+        rest = left;
+    }
+}
+
+// Whether a name and a content, as it stands in its line, have more bytes together than are allowed.
+// Its pairs only make a content shorter, so most are not counted.
+fn is_long_with(name: &[u8], content: &[u8]) -> bool
+    ensures { result ≡ nat_lt 1048576 (length name.now + length (unescape content.now)) }
+{
+    if name.len() > LONGEST_NODE {
+        return true;
+    }
+    let room = LONGEST_NODE - name.len();
+    content.len() > room && unescaped_len(content) > room
+}
+
+// The number of bytes of the content that the bytes of a line stand for.
+fn unescaped_len(content: &[u8]) -> usize
+    ensures { result ≡ length (unescape content.now) }
+{
+    let mut len = 0;
+    let mut rest = content;
+    loop {
+        let (run, others) = rest.split_at(before_backslash(rest));
+        len += run.len();
+        let Some((_, after)) = others.split_first() else {
+            return len;
+        };
+        let (_, left) = behind_backslash(after);
+        len += 1;
+        rest = left;
+    }
+}
+
+// The byte that a backslash stands for before these bytes, and what is left of them.
+fn behind_backslash(after: &[u8]) -> (u8, &[u8])
+    ensures value { unescape (92 ∷ after.now) ≡ result.0 ∷ unescape result.1.now }
+    ensures shorter { length result.1.now ≤ length after.now }
+{
+    if let Some((second, left)) = after.split_first()
+        && let Some(byte) = unescaped_byte(*second)
+    {
+        return (byte, left);
+    }
+    (b'\\', after)
+}
+
+// The byte that a backslash and this byte stand for, where they stand for one.
+fn unescaped_byte(b: u8) -> Option<u8>
+    ensures { result ≡ unescaped_byte b }
+{
+    match b {
+        b'n' => Some(b'\n'),
+        b't' => Some(b'\t'),
+        b'r' => Some(b'\r'),
+        b'\\' => Some(b'\\'),
+        _ => None,
+    }
+}
+
+// The number of bytes before the first backslash, or of all where there is none.
+fn before_backslash(bytes: &[u8]) -> usize
+    ensures within { result ≤ length bytes.now }
+    ensures none { list_any is_backslash (take result bytes.now) ≡ false }
+    ensures end { result < length bytes.now → slice_index bytes.now result ≡ 92 }
+{
+    let mut len = 0;
+    while bytes.len() - len >= CHUNK && !has_backslash(&bytes[len..len + CHUNK]) {
+        len += CHUNK;
+    }
+    while len < bytes.len() && bytes[len] != b'\\' {
+        len += 1;
+    }
+    len
+}
+
+// Whether a backslash is among the bytes. It looks at all of them, so that a processor may look at
+// many of them at once.
+fn has_backslash(bytes: &[u8]) -> bool
+    ensures { result ≡ list_any is_backslash bytes.now }
 {
     let mut found = false;
     for b in bytes {
-        found |= is_escaped(*b);
+        found |= *b == b'\\';
     }
     found
-}
-
-// Whether the byte would be escaped.
-fn is_escaped(b: u8) -> bool
-    ensures { result ≡ is_escaped b }
-{
-    b == b'\t' || b == b'\r' || b == b'\\'
-}
-
-// The line without one CR at its end, where there is one.
-pub fn without_cr(line: &[u8]) -> &[u8]
-    ensures { result.now ≡ without_cr line.now }
-{
-    match line.split_last() {
-        None => line,
-        Some((last, front)) => { if *last == b'\r' { front } else { line } }
-    }
-}
-
-// What the line says, if it has one of the forms that are read.
-pub fn parse(line: &[u8]) -> Option<Line<'_>>
-    ensures { MatchOption result (event_of line.now ≡ None) (λ found. event_of line.now ≡ Some (event_in found)) }
-{
-    if line.len() > LONGEST_LINE || has_escaped(line) {
-        return None;
-    }
-    plain(line)
-}
-
-// What the line says by its first byte.
-fn plain(line: &[u8]) -> Option<Line<'_>>
-    ensures { MatchOption result (plain_event line.now ≡ None) (λ found. plain_event line.now ≡ Some (event_in found)) }
-{
-    let (code, rest) = line.split_first()?;
-    match *code {
-        b'(' => {
-            if is_name(rest) {
-                Some(Line::Start(rest))
-            } else {
-                None
-            }
-        }
-        b')' => Some(Line::End(rest)),
-        b'-' => Some(Line::Text(rest)),
-        _ => None,
-    }
 }

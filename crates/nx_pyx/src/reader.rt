@@ -8,13 +8,10 @@ ghost use Rattle.nx_pyx.specs.Builder.{HasTaken, Fails};
 ghost use Rattle.nx_pyx.specs.Lines.{has_lf, EndsLine, lines};
 ghost use Rattle.nx_pyx.specs.Reader.{HasRead, HasFailed};
 
-use crate::ReadError;
 use crate::builder::Builder;
+use crate::{ReadError, line};
 use nx_tree::{Bytes, Tree};
 use std::alloc::Global;
-
-// As many bytes of a line as tell that it is too long, with a CR at its end and without.
-const MOST_HELD: usize = 1_048_576 + 3;
 
 // As many bytes as are looked at together for an LF.
 const CHUNK: usize = 32;
@@ -25,7 +22,7 @@ const CHUNK: usize = 32;
 #[derive(Drop)]
 pub struct Reader {
     builder: Builder,
-    // The first bytes of the line that no LF has ended yet.
+    // The line that no LF has ended yet.
     held: Bytes,
     failed: Option<ReadError>,
 }
@@ -44,8 +41,10 @@ impl Reader {
 
     /// Takes the next piece of the stream.
     ///
-    /// Errors: `Pyx` exactly where the stream so far has a faulty line that an LF ends, with the
-    /// first such line, however the stream was cut; `Memory`.
+    /// Errors: `Pyx` exactly where the stream so far shows a fault, however it was cut: that of the
+    /// first faulty line that an LF ends, or else that of the line that comes, `BadCode` by its
+    /// first byte and `LongLine` as soon as no bytes could follow with which it were short enough;
+    /// `Memory`.
     pub fn feed(&mut self, piece: &[u8]) -> Result<(), ReadError>
         ensures ok { OnOk result ((s : List ℕ) → HasRead self.old s → HasRead self.new (s ++ piece.now)) }
         ensures fault { IfErr result (λ e. (s : List ℕ) → HasRead self.old s → Fails e (shown_fault (s ++ piece.now))) }
@@ -116,7 +115,7 @@ impl Reader {
         if self.held.is_empty() {
             return self.builder.take(bytes);
         }
-        self.hold(bytes)?;
+        self.held.extend_from_slice(bytes)?;
         self.builder.take(self.held.as_slice())?;
         self.held.clear();
         Ok(())
@@ -133,15 +132,17 @@ impl Reader {
         self.builder.take(self.held.as_slice())
     }
 
-    // Holds more bytes of the line, as far as they can matter.
+    // Holds more bytes of the line, and tells the fault that it shows already.
     fn hold(&mut self, bytes: &[u8]) -> Result<(), ReadError>
         requires { has_lf bytes.now ≡ false }
         ensures ok { OnOk result ((s : List ℕ) → HasRead self.old s → HasRead self.new (s ++ bytes.now)) }
-        ensures err { IfErr result (λ e. e ≡ ReadError.Memory) }
+        ensures err { IfErr result (λ e. (s : List ℕ) → HasRead self.old s → Fails e (shown_fault (s ++ bytes.now))) }
     {
-        let room = MOST_HELD.saturating_sub(self.held.len()).min(bytes.len());
-        self.held.extend_from_slice(&bytes[..room])?;
-        Ok(())
+        self.held.extend_from_slice(bytes)?;
+        match line::early_fault(self.held.as_slice()) {
+            Some(fault) => Err(self.builder.next_fault(fault)),
+            None => Ok(()),
+        }
     }
 }
 

@@ -281,6 +281,37 @@ mod tests {
 
     const TEXT: &[u8] = b"?p\n(a\nAk v\\\\\n(b\n)b\n-x\\ny\n(c\n-\n(d\n)d\n)c\n)a\n?q r\n";
 
+    // A kind of a node of the name `k` that stands in an element, its content, and its line.
+    const WRITTEN: [(Kind, &[u8], &[u8]); 19] = [
+        (Kind::Attribute, b"", b"Ak "),
+        (Kind::Attribute, b" ", b"Ak  "),
+        (Kind::Attribute, b"v w", b"Ak v w"),
+        (Kind::Attribute, b"\n", b"Ak \\n"),
+        (Kind::Attribute, b"\t", b"Ak \\t"),
+        (Kind::Attribute, b"\r", b"Ak \\r"),
+        (Kind::Attribute, b"\\", b"Ak \\\\"),
+        (Kind::Attribute, b"\\n\n\t\r\\x", b"Ak \\\\n\\n\\t\\r\\\\x"),
+        (
+            Kind::Attribute,
+            b"sixteen bytes...\\and one behind",
+            b"Ak sixteen bytes...\\\\and one behind",
+        ),
+        (Kind::Instruction, b"", b"?k"),
+        (Kind::Instruction, b" ", b"?k  "),
+        (Kind::Instruction, b"q r", b"?k q r"),
+        (Kind::Instruction, b"\n", b"?k \\n"),
+        (Kind::Instruction, b"\t", b"?k \\t"),
+        (Kind::Instruction, b"\r", b"?k \\r"),
+        (Kind::Instruction, b"\\", b"?k \\\\"),
+        (
+            Kind::Instruction,
+            b"\\n\n\t\r\\x",
+            b"?k \\\\n\\n\\t\\r\\\\x",
+        ),
+        (Kind::Text, b"\\n\n\t\r\\x", b"-\\\\n\\n\\t\\r\\\\x"),
+        (Kind::Text, b"\x0b\x0c\x00/[]", b"-\x0b\x0c\x00/[]"),
+    ];
+
     fn node(alloc: Global, kind: Kind, name: &[u8], content: &[u8]) -> Result<Node, NoMemory> {
         Ok(Node {
             kind,
@@ -331,6 +362,26 @@ mod tests {
         for (kind, name, content, expected) in LINES {
             let line = node_line(alloc, &node(alloc, kind, name, content)?)?;
             assert_eq!(rt; line.as_slice(), expected);
+        }
+        Ok(())
+    }
+
+    #[test]
+    fn written(rt: HostRuntime) -> Result<(), Fail> {
+        let alloc = rt.alloc();
+        for (kind, content, line) in WRITTEN {
+            let mut inner = Trees::new(alloc);
+            add(&mut inner, alloc, kind, b"k", content, Trees::new(alloc))?;
+            let mut children = Trees::new(alloc);
+            add(&mut children, alloc, Kind::Element, b"a", b"", inner)?;
+            let tree = Tree {
+                node: node(alloc, Kind::Doc, b"", b"")?,
+                children,
+            };
+            let mut expected = Bytes::from_slice(alloc, b"(a\n")?;
+            expected.extend_from_slice(line)?;
+            expected.extend_from_slice(b"\n)a\n")?;
+            assert_eq!(rt; write(alloc, &tree)?.as_slice(), expected.as_slice());
         }
         Ok(())
     }

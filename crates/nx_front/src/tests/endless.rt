@@ -1,10 +1,10 @@
-// A host of tests whose input doesn't end.
+// A host of tests whose input is one line without end.
 ghost use Rattle.std.specs.Prelude.{◌≡◌, None, IsSome, refl};
 ghost use Rattle.std.proofs.Common.{subst, sym};
 
 use nx_host::{Area, Disk, Failed, Host};
 
-/// Makes bytes `x` as they are read, and keeps none. It tells nothing but that no call fails.
+/// Makes the bytes of a text as they are read, and keeps none. It tells nothing but that no call fails.
 #[derive(Drop, Default)]
 pub struct EndlessHost {
     /// How many bytes were read.
@@ -55,7 +55,7 @@ impl Disk for EndlessHost {
 
 impl Host for EndlessHost {
     fn read_in(&mut self, into: &mut [u8]) -> Result<usize, Failed> {
-        into.fill(b'x');
+        into.fill(b'-');
         self.taken = self.taken.saturating_add(into.len() as u64);
         Ok(into.len())
     }

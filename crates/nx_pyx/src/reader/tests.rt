@@ -6,13 +6,39 @@ use std::process::Abort;
 use std::test::Fail;
 
 // Streams, and the texts of their documents.
-const DOCUMENTS: [(&[u8], &[u8]); 8] = [
+const DOCUMENTS: [(&[u8], &[u8]); 18] = [
     (b"(a\n-hi\n)a\n", b"(a\n-hi\n)a\n"),
+    (b"(a\nAx 1\n-hi\n)a\n", b"(a\nAx 1\n-hi\n)a\n"),
+    (b"?p 1\n(a\n)a\n?q\n", b"?p 1\n(a\n)a\n?q\n"),
     // The last line may lack its LF, and a CR before an LF or the end is dropped.
+    (b"(a\n-a\\\\b\\qc\r\n)a", b"(a\n-a\\\\b\\\\qc\n)a\n"),
     (b"(a\n)a", b"(a\n)a\n"),
     (b"(a\r\n-hi\r\n)a\r\n", b"(a\n-hi\n)a\n"),
     (b"(a\r\n)a\r", b"(a\n)a\n"),
     (b"(a\n-\r\n)a\n", b"(a\n-\n)a\n"),
+    // Only one CR is, and none elsewhere.
+    (b"(a\n-x\ry\r\r\n)a\n", b"(a\n-x\\ry\\r\n)a\n"),
+    // Escapes, and a backslash that begins none.
+    (
+        b"(a\nAx \\n\\t\\r\\\\\n-\\n\\t\\r\\\\\\x\\\n?p \\n \\N\n)a\n",
+        b"(a\nAx \\n\\t\\r\\\\\n-\\n\\t\\r\\\\\\\\x\\\\\n?p \\n \\\\N\n)a\n",
+    ),
+    // A name ends at the first space, and what is behind it may be empty.
+    (
+        b"(a\nAx\nAy \nAz  1 2\n?p\n?q \n?r  1 2\n)a\n",
+        b"(a\nAx \nAy \nAz  1 2\n?p\n?q\n?r  1 2\n)a\n",
+    ),
+    // Elements may have the same attributes, and names differ by one byte.
+    (
+        b"(a\nAx 1\nAX 1\nAxx 1\n(b\nAx 1\n)b\n(b\nAx 1\n)b\n)a\n",
+        b"(a\nAx 1\nAX 1\nAxx 1\n(b\nAx 1\n)b\n(b\nAx 1\n)b\n)a\n",
+    ),
+    // Instructions stand anywhere.
+    (
+        b"?p\n?p\n(a\nAx 1\n?p\n-y\n?p\n)a\n?p\n",
+        b"?p\n?p\n(a\nAx 1\n?p\n-y\n?p\n)a\n?p\n",
+    ),
+    (b"(a\n-x\ty\n)a\n", b"(a\n-x\\ty\n)a\n"),
     // Neighbouring texts stay apart, the empty ones too.
     (b"(a\n-x\n-\n-\n-y\n)a\n", b"(a\n-x\n-\n-\n-y\n)a\n"),
     (
@@ -23,52 +49,77 @@ const DOCUMENTS: [(&[u8], &[u8]); 8] = [
         b"(!$-.(AZ\x7f\x80\xff\n- \0\x0b#*/?@-\xff\n)!$-.(AZ\x7f\x80\xff\n",
         b"(!$-.(AZ\x7f\x80\xff\n- \0\x0b#*/?@-\xff\n)!$-.(AZ\x7f\x80\xff\n",
     ),
+    (
+        b"(a\nA\xff \0\n?\x80 \x0b\n)a\n",
+        b"(a\nA\xff \0\n?\x80 \x0b\n)a\n",
+    ),
 ];
 
 // Faulty streams in two parts, and the line and the fault of each. The fault is told with the first
 // byte of the second part, and at the end where that part is empty.
-const FAULTS: [(&[u8], &[u8], u64, PyxFault); 42] = [
+const FAULTS: [(&[u8], &[u8], u64, PyxFault); 58] = [
+    // A line is empty, or its first byte is no code.
     (b"", b"\n", 1, PyxFault::BadCode),
-    (b"\r", b"\n(a\n)a\n", 1, PyxFault::BadCode),
-    (b"\r", b"", 1, PyxFault::BadCode),
-    (b"(a\n)a\n\r", b"", 3, PyxFault::BadCode),
-    (b"(a\nAx 1", b"\n)a\n", 2, PyxFault::BadCode),
-    (b"?x", b"\n(a\n)a\n", 1, PyxFault::BadCode),
-    (b"x", b"\n", 1, PyxFault::BadCode),
-    (b"x", b"", 1, PyxFault::BadCode),
-    (b"(a\n-x\ty", b"\n)a\n", 2, PyxFault::BadCode),
-    (b"(a\n-\\n", b"\n)a\n", 2, PyxFault::BadCode),
-    (b"(a\n-x\ry", b"\n)a\n", 2, PyxFault::BadCode),
-    (b"(a\n-x\r\r", b"\n)a\n", 2, PyxFault::BadCode),
-    (b"(a\n)a\t", b"\n", 2, PyxFault::BadCode),
-    (b"(", b"\n)\n", 1, PyxFault::BadCode),
-    (b"(a b", b"\n)a b\n", 1, PyxFault::BadCode),
-    (b"(a\0", b"\n)a\0\n", 1, PyxFault::BadCode),
-    (b"(a\x1f", b"\n)a\x1f\n", 1, PyxFault::BadCode),
-    (b"(#", b"\n)#\n", 1, PyxFault::BadCode),
-    (b"(*", b"\n)*\n", 1, PyxFault::BadCode),
-    (b"(/", b"\n)/\n", 1, PyxFault::BadCode),
-    (b"(?", b"\n)?\n", 1, PyxFault::BadCode),
-    (b"(@", b"\n)@\n", 1, PyxFault::BadCode),
-    (b"(a\\", b"\n)a\\\n", 1, PyxFault::BadCode),
-    (b"(a\n)a\n(b\t", b"\n)b\t\n", 3, PyxFault::BadCode),
+    (b"", b"\r\n(a\n)a\n", 1, PyxFault::BadCode),
+    (b"", b"\r", 1, PyxFault::BadCode),
+    (b"(a\n)a\n", b"\r", 3, PyxFault::BadCode),
+    (b"(a\n)a\n", b"\n", 3, PyxFault::BadCode),
+    (b"", b"x\n", 1, PyxFault::BadCode),
+    (b"", b"x", 1, PyxFault::BadCode),
+    (b"(a\n", b" -x\n)a\n", 2, PyxFault::BadCode),
+    (b"(a\n-x\n", b"\\n\n)a\n", 3, PyxFault::BadCode),
+    (b"(a\n", b"ax 1\n)a\n", 2, PyxFault::BadCode),
+    // No name.
+    (b"(", b"\n)\n", 1, PyxFault::BadName),
+    (b"(a b", b"\n)a b\n", 1, PyxFault::BadName),
+    (b"(a ", b"\n)a \n", 1, PyxFault::BadName),
+    (b"(a\0", b"\n)a\0\n", 1, PyxFault::BadName),
+    (b"(a\x1f", b"\n)a\x1f\n", 1, PyxFault::BadName),
+    (b"(#", b"\n)#\n", 1, PyxFault::BadName),
+    (b"(*", b"\n)*\n", 1, PyxFault::BadName),
+    (b"(/", b"\n)/\n", 1, PyxFault::BadName),
+    (b"(?", b"\n)?\n", 1, PyxFault::BadName),
+    (b"(@", b"\n)@\n", 1, PyxFault::BadName),
+    (b"(a\\", b"\n)a\\\n", 1, PyxFault::BadName),
+    (b"(a\r\r", b"\n)a\r\n", 1, PyxFault::BadName),
+    (b"(a\n)a\n(b\t", b"\n)b\t\n", 3, PyxFault::BadName),
+    (b"(a\nA", b"\n)a\n", 2, PyxFault::BadName),
+    (b"(a\nA 1", b"\n)a\n", 2, PyxFault::BadName),
+    (b"(a\n-x\nAx/ 1", b"\n)a\n", 3, PyxFault::BadName),
+    (b"?", b"\n(a\n)a\n", 1, PyxFault::BadName),
+    (b"? p", b"\n(a\n)a\n", 1, PyxFault::BadName),
+    (b"(a\n)a\n?p\t1", b"", 3, PyxFault::BadName),
+    // No place, or another end.
     (b")a", b"\n", 1, PyxFault::BadNesting),
     (b"-x", b"\n(a\n)a\n", 1, PyxFault::BadNesting),
     (b"-x", b"", 1, PyxFault::BadNesting),
+    (b"?p\n-", b"\n(a\n)a\n", 2, PyxFault::BadNesting),
     (b"(a\n)b", b"\n)a\n", 2, PyxFault::BadNesting),
     (b"(a\n)b", b"\nx\n", 2, PyxFault::BadNesting),
     (b"(a\n)aa", b"\n)a\n", 2, PyxFault::BadNesting),
     (b"(aa\n)a", b"\n)aa\n", 2, PyxFault::BadNesting),
     (b"(a\n)", b"\n)a\n", 2, PyxFault::BadNesting),
+    (b"(a\n)a\t", b"\n", 2, PyxFault::BadNesting),
     (b"(a\n(b\n)a", b"\n)b\n", 3, PyxFault::BadNesting),
     (b"(a\n)a\n(b", b"\n)b\n", 3, PyxFault::BadNesting),
     (b"(a\n)a\n(b", b"", 3, PyxFault::BadNesting),
     (b"(a\n)a\n-x", b"\n", 3, PyxFault::BadNesting),
     (b"(a\n)a\n)a", b"\n", 3, PyxFault::BadNesting),
+    (b"(a\n-x\n)a\r\n)a", b"\n", 4, PyxFault::BadNesting),
+    // An attribute that comes too late, or again.
+    (b"Ax 1", b"\n(a\n)a\n", 1, PyxFault::BadAttribute),
+    (b"(a\n-x\nAb c", b"\n)a\n", 3, PyxFault::BadAttribute),
+    (b"(a\n?p\nAb c", b"\n)a\n", 3, PyxFault::BadAttribute),
+    (b"(a\n(b\n)b\nAb c", b"\n)a\n", 4, PyxFault::BadAttribute),
+    (b"(a\nAx 1\n-y\nAx 1", b"\n)a\n", 4, PyxFault::BadAttribute),
+    (b"(a\n)a\nAb c", b"", 3, PyxFault::BadAttribute),
+    (b"(a\nAx 1\nAy 1\nAx 2", b"\n)a\n", 4, PyxFault::Twice),
+    (b"(a\nAx\nAx ", b"", 3, PyxFault::Twice),
+    // The end.
     (b"(a\n", b"", 1, PyxFault::Unclosed),
     (b"(a", b"", 1, PyxFault::Unclosed),
-    (b"(a\n-x\n)a\r\n)a", b"\n", 4, PyxFault::BadNesting),
     (b"(a\n(b\n)b\n-", b"", 4, PyxFault::Unclosed),
+    (b"?p\n?q", b"", 2, PyxFault::Empty),
     (b"", b"", 0, PyxFault::Empty),
 ];
 
@@ -80,23 +131,75 @@ type Long = (
     usize,
     &'static [u8],
     usize,
-    Option<u64>,
+    Option<(u64, PyxFault)>,
 );
 
-const LINES: [Long; 5] = [
+const LINES: [Long; 4] = [
     (b"(a\n-", b"x", 1_048_576, b"\n", 1, None),
-    (b"(a\n-", b"x", 1_048_576, b"\r\n", 1, None),
-    (b"(a\n-", b"x", 1_048_577, b"\n", 1, Some(2)),
-    (b"(a\n-", b"x", 1_048_577, b"\r\n", 1, Some(2)),
-    (b"(a\n-", b"x", 1_048_599, b"\r\n", 1, Some(2)),
+    (
+        b"(a\n-",
+        b"x",
+        1_048_577,
+        b"",
+        0,
+        Some((2, PyxFault::LongLine)),
+    ),
+    (b"(a\nAy ", b"\\n", 1_048_575, b"\r\n", 1, None),
+    (
+        b"?y ",
+        b"\\n",
+        1_048_576,
+        b"\r\n",
+        0,
+        Some((1, PyxFault::LongLine)),
+    ),
 ];
 
-const NODES: [Long; 5] = [
+const NODES: [Long; 6] = [
     (b"", b"(a\n", 256, b"", 256, None),
-    (b"", b"(a\n", 256, b"(a\n", 257, Some(257)),
-    (b"", b"(a\n", 256, b"-x\n", 256, Some(257)),
+    (
+        b"",
+        b"(a\n",
+        256,
+        b"(a\n",
+        257,
+        Some((257, PyxFault::TooDeep)),
+    ),
+    (
+        b"",
+        b"(a\n",
+        256,
+        b"-x\n",
+        256,
+        Some((257, PyxFault::TooDeep)),
+    ),
+    (
+        b"",
+        b"(a\n",
+        256,
+        b"Ax 1\n",
+        256,
+        Some((257, PyxFault::TooDeep)),
+    ),
     (b"(a\n", b"-\n", 524_286, b"", 1, None),
-    (b"(a\n", b"-\n", 524_286, b"-\n", 1, Some(524_288)),
+    (
+        b"(a\n",
+        b"-\n",
+        524_286,
+        b"-\n",
+        1,
+        Some((524_288, PyxFault::TooMany)),
+    ),
+];
+
+// A front, as many x behind it as are allowed, and pieces behind those of which the last tells that
+// they are too many.
+const MOMENTS: [(&[u8], usize, &[&[u8]]); 5] = [
+    (b"(a\n-", 1_048_576, &[b"x"]),
+    (b"(a\n-", 1_048_576, &[b"\r", b"x"]),
+    (b"(a\n-", 1_048_575, &[b"\\", b"n", b"x"]),
+    (b"(", 1_048_576, &[b"x"]),
+    (b"(a\nAy ", 1_048_573, &[b"\\", b"q", b"\r", b"\r"]),
 ];
 
 // The stream in pieces of that size.
@@ -205,13 +308,12 @@ fn bytes_of(alloc: Global, long: Long) -> Result<Vec<u8>, Fail> {
 
 // The stream in pieces of that size is read up to the limit, and refused past it.
 fn check_long(rt: &impl Abort, alloc: Global, long: Long, size: usize) -> Result<(), Fail> {
-    let (front, unit, count, end, closed, line) = long;
+    let (front, unit, count, end, closed, fault) = long;
     let size = size.max(1);
     let stream = bytes_of(alloc, long)?;
     let cut = pieces(alloc, &stream, size)?;
-    if let Some(line) = line {
+    if let Some((line, fault)) = fault {
         let shown = bytes_of(alloc, (front, unit, count, end, 0, None))?;
-        let fault = PyxFault::BadCode;
         let told = shown.len().saturating_sub(1) / size;
         return check(rt, alloc, &cut, told, Err(PyxError { line, fault }));
     }
@@ -223,9 +325,30 @@ fn check_long(rt: &impl Abort, alloc: Global, long: Long, size: usize) -> Result
 #[test]
 fn long_lines(rt: HostRuntime) -> Result<(), Fail> {
     for line in LINES {
-        for size in [65_536, usize::MAX] {
-            check_long(&rt, rt.alloc(), line, size)?;
-        }
+        check_long(&rt, rt.alloc(), line, usize::MAX)?;
+    }
+    // Byte by byte, and in the blocks of a run.
+    check_long(&rt, rt.alloc(), LINES[1], 1)?;
+    check_long(&rt, rt.alloc(), LINES[0], 65_536)
+}
+
+#[test]
+fn long_line_is_told_at_once(rt: HostRuntime) -> Result<(), Fail> {
+    let alloc = rt.alloc();
+    for (front, count, behind) in MOMENTS {
+        let stream = bytes_of(alloc, (front, b"x", count, b"", 0, None))?;
+        let mut cut = Vec::new(alloc);
+        cut.push(stream.as_slice())?;
+        cut.extend_from_slice(behind)?;
+        let line = if front.len() == 1 { 1 } else { 2 };
+        let fault = PyxFault::LongLine;
+        check(
+            &rt,
+            alloc,
+            &cut,
+            behind.len(),
+            Err(PyxError { line, fault }),
+        )?;
     }
     Ok(())
 }
@@ -235,5 +358,14 @@ fn many_nodes(rt: HostRuntime) -> Result<(), Fail> {
     for nodes in NODES {
         check_long(&rt, rt.alloc(), nodes, 65_536)?;
     }
-    Ok(())
+    check_long(&rt, rt.alloc(), NODES[5], 1)?;
+    let deep = bytes_of(rt.alloc(), (b"", b"(a\n", 257, b"", 0, None))?;
+    let fault = PyxFault::TooDeep;
+    check_cuts(
+        &rt,
+        rt.alloc(),
+        &deep,
+        770,
+        Err(PyxError { line: 257, fault }),
+    )
 }

@@ -1,9 +1,23 @@
-use Rattle.std.proofs.Common.{refl, sym, ◌∙◌}
-use Rattle.nx_pyx.proofs.BuilderLemmas.{texts}
+use Rattle.std.proofs.Common.{refl, sym, ◌∙◌, []}
+use Rattle.std.proofs.lemmas.Result.{on_ok_weaker, err_from_is_err_and}
+use Rattle.nx_tree.specs.declared.node.Kind.TheVariants as kind
+use Rattle.nx_pyx.specs.Event.{Single}
+use Rattle.nx_pyx.specs.Line.{node_in}
+use Rattle.nx_pyx.proofs.MakeLemmas.{roomless, text_fit, adds_text}
 use Rattle.nx_pyx.proofs.builder.Builder.text.Goals as goal
+
+pub returns-in_err-has_room-clause-err : goal.returns-in_err-has_room-clause-err
+returns-in_err-has_room-clause-err c =
+    let p = err_from_is_err_and c.from_residual.result c.from_residual.ensures.1 in
+    let short = c.requires in
+    rw (p.1, p.2)
+    (roomless c.args.self.now c.args.self.now (Single (node_in kind.Text [] c.args.content.now)) c.in_err-has_room.field-0.0 refl refl refl
+    (λ a known. text_fit c.args.self.now a c.args.content.now short (sym c.is_outside.ensures ∙ c.if-is_outside.false)) refl
+    c.in_err-has_room.ensures.err)
 
 pub returns-clause-ok : goal.returns-clause-ok
 returns-clause-ok c =
-    texts c.args.self.now _ c.new.result c.in_ok-content.content c.args.content.now c.new-2.result c.requires c.in_ok-content.ensures
-    (sym c.is_full.ensures ∙ c.if-is_full.false) (sym c.is_outside.ensures ∙ c.if-is_outside.false)
-    c.new.ensures c.new-2.ensures c.in_ok-push.ensures.ok refl refl refl refl
+    on_ok_weaker c.push.result
+    (λ pushed. adds_text c.args.self.now _ c.push.new.self c.args.content.now c.requires (sym c.is_outside.ensures ∙ c.if-is_outside.false)
+    c.in_ok-has_room.ensures.ok pushed refl refl refl refl refl refl)
+    c.push.ensures.ok

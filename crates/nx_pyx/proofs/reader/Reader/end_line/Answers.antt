@@ -1,24 +1,29 @@
-use Rattle.std.proofs.Common.{refl, sym}
+use Rattle.std.proofs.Common.{refl, sym, ap, ◌∙◌, ◌++◌}
 use Rattle.std.proofs.lemmas.Result.{on_ok_weaker, IfErr-weaker, err_from_is_err_and}
-use Rattle.nx_pyx.proofs.StreamLemmas.{takes_whole, fails_whole, takes_long, fails_long}
+use Rattle.nx_pyx.proofs.StreamLemmas.{takes_line, fails_line, line_alone, still_none}
 use Rattle.nx_pyx.proofs.reader.Reader.end_line.Goals as goal
 
 pub returns-then-is_empty-clause-ok : goal.returns-then-is_empty-clause-ok
 returns-then-is_empty-clause-ok c =
-    on_ok_weaker c.take.result (takes_whole c.args.self.now _ c.args.bytes.now c.requires (sym c.if-is_empty.ensures) refl refl) c.take.ensures.ok
+    on_ok_weaker c.take.result
+    (λ takes s read. takes_line c.args.self.now _ c.args.bytes.now c.args.bytes.now c.requires (still_none c.args.self.now.held c.args.self.now.held (sym c.if-is_empty.ensures) refl) refl takes s
+    (line_alone c.args.self.now c.args.bytes.now s (sym c.if-is_empty.ensures) read) read)
+    c.take.ensures.ok
 
 pub returns-then-is_empty-clause-err : goal.returns-then-is_empty-clause-err
 returns-then-is_empty-clause-err c =
-    IfErr-weaker c.take.result _ _ (λ e. fails_whole c.args.self.now c.args.bytes.now e c.requires (sym c.if-is_empty.ensures)) c.take.ensures.err
+    IfErr-weaker c.take.result _ _
+    (λ e fails s read. fails_line c.args.self.now c.args.bytes.now c.args.bytes.now e c.requires fails s (line_alone c.args.self.now c.args.bytes.now s (sym c.if-is_empty.ensures) read) read)
+    c.take.ensures.err
 
 pub returns-in_err-take-clause-err : goal.returns-in_err-take-clause-err
 returns-in_err-take-clause-err c =
     let p = err_from_is_err_and c.from_residual-in_err-take.result c.from_residual-in_err-take.ensures.1 in
     rw (p.1, p.2)
-    (λ s read. fails_long c.hold.new.self c.args.bytes.now c.as_slice.result.now c.in_err-take.field-0.0 s (c.in_ok-hold.ensures.ok s read) c.as_slice.ensures
-    c.in_err-take.ensures.err)
+    (λ s read. fails_line c.args.self.now c.args.bytes.now c.as_slice.result.now c.in_err-take.field-0.0 c.requires c.in_err-take.ensures.err s
+    (c.as_slice.ensures ∙ c.in_ok-extend_from_slice.ensures.ok ∙ ap (λ h. h ++ c.args.bytes.now) read.held) read)
 
 pub returns-clause-ok : goal.returns-clause-ok
 returns-clause-ok c =
-    λ s read. takes_long c.hold.new.self _ c.args.bytes.now c.as_slice.result.now s (c.in_ok-hold.ensures.ok s read) c.as_slice.ensures c.clear.ensures refl
-    c.in_ok-take.ensures.ok
+    λ s read. takes_line c.args.self.now _ c.args.bytes.now c.as_slice.result.now c.requires c.clear.ensures refl c.in_ok-take.ensures.ok s
+    (c.as_slice.ensures ∙ c.in_ok-extend_from_slice.ensures.ok ∙ ap (λ h. h ++ c.args.bytes.now) read.held) read

@@ -1,8 +1,12 @@
-use Rattle.std.proofs.Common.{refl, ap, ◌∙◌, ◌-◌, min, length}
-use Rattle.nx_pyx.proofs.StreamLemmas.{holds}
+use Rattle.std.proofs.Common.{refl, sym, ◌∙◌}
+use Rattle.nx_pyx.proofs.StreamLemmas.{holds, shows}
 use Rattle.nx_pyx.proofs.reader.Reader.hold.Goals as goal
 
-pub returns-clause-ok : goal.returns-clause-ok
-returns-clause-ok c =
-    let room = c.min-room.ensures ∙ ap (λ n. min n (length c.args.bytes.now)) (c.saturating_sub.ensures ∙ ap (λ n. 1048579 - n) c.len.ensures) in
-    holds c.args.self.now _ c.args.bytes.now c.min-room.result c.requires refl refl room c.in_ok-extend_from_slice.ensures.ok
+pub returns-in-Some-clause-err : goal.returns-in-Some-clause-err
+returns-in-Some-clause-err c =
+    shows c.args.self.now c.args.bytes.now c.as_slice.result.now c.in-Some.fault c.next_fault.result c.requires (c.as_slice.ensures ∙ c.in_ok-extend_from_slice.ensures.ok)
+    (sym c.early_fault.ensures ∙ c.in-Some.is) c.next_fault.ensures
+
+pub returns-in-None-clause-ok : goal.returns-in-None-clause-ok
+returns-in-None-clause-ok c =
+    holds c.args.self.now _ c.args.bytes.now c.as_slice.result.now c.requires refl refl c.in_ok-extend_from_slice.ensures.ok c.as_slice.ensures (sym c.early_fault.ensures ∙ c.in-None.is)
