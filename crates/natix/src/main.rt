@@ -1,8 +1,9 @@
 //! The program: it runs one command of a store over standard input and output.
 #![tactic(auto)]
 
-ghost use Rattle.std.specs.Prelude.{◌≡◌, ◌↔◌, ◌⊎◌, IsNone};
+ghost use Rattle.std.specs.Prelude.{◌≡◌, ◌↔◌, ◌⊎◌, drop, map, string_bytes, IfOk, IfErr, IsNone};
 ghost use Rattle.std.specs.IoError.{error_kind};
+ghost use Rattle.std.specs.Vec.Iter.{into_iter_items};
 
 use nx_front::{Status, Word, Words, run};
 use nx_tree::NoMemory;
@@ -33,16 +34,22 @@ fn main(rt: HostRuntime) -> ExitCode {
 /// The words of the command line, without the program's own name.
 ///
 /// An argument that is no UTF-8 is no command and no word of one, so it ends as a usage error.
-fn words<R: Env + AllocGlobal>(rt: &R) -> Result<Words, Status> {
+fn words<R: Env + AllocGlobal>(rt: &R) -> Result<Words, Status>
+    ensures { IfErr result (λ status. (status ≡ Status.NoMemory) ⊎ (status ≡ Status.Usage)) }
+{
     match env::args(rt) {
         Ok(arguments) => words_of(rt.alloc(), arguments).map_err(|_| Status::NoMemory),
         Err(error) => Err(status_of(&error)),
     }
 }
 
-fn words_of(alloc: Global, arguments: Args) -> Result<Words, NoMemory> {
+/// The words of these arguments, of which the first is the program's own name.
+fn words_of(alloc: Global, mut arguments: Args) -> Result<Words, NoMemory>
+    ensures { IfOk result (λ words. words ≡ map string_bytes (drop 1 (into_iter_items arguments))) }
+{
     let mut words = Words::new(alloc);
-    for argument in arguments.skip(1) {
+    let _ = arguments.next();
+    while let Some(argument) = arguments.next() {
         words.push(Word::new(alloc, argument.as_str())?)?;
     }
     Ok(words)
@@ -74,7 +81,13 @@ fn message(status: Status) -> Option<&'static str>
 }
 
 fn exit_status(status: Status) -> u8
-    ensures { (result ≡ 0) ↔ (status ≡ Status.Done) }
+    ensures done { (result ≡ 0) ↔ (status ≡ Status.Done) }
+    ensures usage { (result ≡ 1) ↔ (status ≡ Status.Usage) }
+    ensures refused { (result ≡ 2) ↔ (status ≡ Status.Refused) }
+    ensures read_fault { (result ≡ 4) ↔ (status ≡ Status.ReadFault) }
+    ensures write_fault { (result ≡ 5) ↔ (status ≡ Status.WriteFault) }
+    ensures no_memory { (result ≡ 6) ↔ (status ≡ Status.NoMemory) }
+    ensures too_much { (result ≡ 9) ↔ (status ≡ Status.TooMuch) }
 {
     match status {
         Status::Done => 0,
