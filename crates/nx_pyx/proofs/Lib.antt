@@ -16,6 +16,7 @@ pub mod NamesLemmas
 pub mod StreamLemmas
 pub mod EarlyLemmas
 pub mod Outcome
+pub mod Open
 pub mod DoneLemmas
 pub mod EscapeLemmas
 pub mod FrontLemmas

@@ -27,13 +27,13 @@ use Rattle.nx_pyx.proofs.EventLemmas.{standing-more}
 use Rattle.nx_pyx.proofs.BuilderLemmas.{made_start, made_single, made_end, is_innermost-more, is_outside-standing_at}
 
 -- Something is made of the events: open levels, and children of the innermost element.
-record IsForm (es : List Event) : Type 0 where
-  levels : List Level
-  children : Forest
-  rooted : Bool
-  nodes : ℕ
-  attributes : Option (List (List ℕ))
-  made : IsMade levels children rooted nodes attributes es
+pub record IsForm (es : List Event) : Type 0 where
+  pub levels : List Level
+  pub children : Forest
+  pub rooted : Bool
+  pub nodes : ℕ
+  pub attributes : Option (List (List ℕ))
+  pub made : IsMade levels children rooted nodes attributes es
 
 -- nothing is made of no event
 no_form : IsForm []
@@ -177,7 +177,7 @@ form_from (line ∷ ls) (e ∷ es) before t form says goes =
     (subst (λ (s : Standing). Goes s es t) (sym (standing-more before e)) goes.1))
 
 -- something is made of lines without a fault
-form_of : (ls : List (List ℕ)) → first_fault [] ls ≡ None → IsForm (events_of ls)
+pub form_of : (ls : List (List ℕ)) → first_fault [] ls ≡ None → IsForm (events_of ls)
 form_of ls sound =
     let g = sound_goes ls sound in
     form_from ls (events_of ls) [] (standing (events_of ls)) no_form g.0 g.1

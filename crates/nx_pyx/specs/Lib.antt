@@ -1,6 +1,7 @@
 pub mod Lines
 pub mod Event
 pub mod Fault
+pub mod Open
 pub mod Word
 pub mod Reading
 pub mod Text

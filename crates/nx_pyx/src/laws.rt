@@ -1,9 +1,11 @@
 //! What holds of the notation itself, apart from the code that reads and writes it.
-ghost use Rattle.std.specs.Prelude.{ℕ, List, ◌⊎◌, ◌≡◌, ◌↔◌, ◌∷◌, [], true, Some, is_some};
+ghost use Rattle.std.specs.Prelude.{ℕ, ◌+◌, List, ◌⊎◌, ◌≡◌, ◌↔◌, ◌∷◌, [], true, None, Some, is_some};
+ghost use Rattle.std.specs.List.{list_any, count_by};
 ghost use Rattle.nx_tree.specs.Document.{IsDocument};
 ghost use Rattle.nx_tree.specs.Forest.{OrderedTree};
-ghost use Rattle.nx_pyx.specs.Event.{event_by};
-ghost use Rattle.nx_pyx.specs.Fault.{early_fault};
+ghost use Rattle.nx_pyx.specs.Event.{Event, event_by};
+ghost use Rattle.nx_pyx.specs.Fault.{early_fault, events_of, first_fault, makes_node, standing};
+ghost use Rattle.nx_pyx.specs.Open.{OpenAre, is_start, EndWithAttributes};
 ghost use Rattle.nx_pyx.specs.Outcome.{HasOneReading, HasOneFault, StaysTooLong};
 ghost use Rattle.nx_pyx.specs.declared.error.PyxFault.TheVariants.{LongLine};
 ghost use Rattle.nx_pyx.specs.Reading.{Reads};
@@ -23,4 +25,15 @@ pub fn reading()
 /// comes behind, and not before.
 pub fn early()
     ensures { (code : ℕ) (bytes : List ℕ) → is_some (event_by code []) ≡ true → (early_fault (code ∷ bytes) ≡ Some LongLine) ↔ StaysTooLong (code ∷ bytes) }
+{}
+
+/// What stands after lines, told of the whole list of their events. Which elements are open after
+/// lines without a fault, the innermost first; whether an element has come; how many nodes there
+/// are, the document's own root counted; and, where an attribute may come next, the names of those
+/// that the innermost element has, the last one first.
+pub fn standing()
+    ensures opened { (ls : List (List ℕ)) → first_fault [] ls ≡ None → (names : List (List ℕ)) → OpenAre names (events_of ls) ↔ ((standing (events_of ls)).open_names ≡ names) }
+    ensures rooted { (es : List Event) → (standing es).rooted ≡ list_any is_start es }
+    ensures nodes { (es : List Event) → (standing es).nodes ≡ 1 + count_by makes_node es }
+    ensures attributes { (es : List Event) (names : List (List ℕ)) → EndWithAttributes es names ↔ ((standing es).attributes ≡ Some names) }
 {}
