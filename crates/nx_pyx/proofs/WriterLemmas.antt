@@ -8,7 +8,7 @@ use Rattle.nx_tree.specs.declared.node.Kind.TheVariants.{Element}
 use Rattle.nx_tree.specs.declared.node.Node.{Node}
 use Rattle.nx_tree.specs.Forest.{OrderedTree, Forest, Plant, forest_of}
 use Rattle.nx_pyx.specs.Event.{Event, Start, End, events}
-use Rattle.nx_pyx.specs.Text.{text_of, node_line}
+use Rattle.nx_pyx.specs.Text.{text_of, node_line, canonical_line}
 use Rattle.nx_pyx.specs.Writer.{forest_text, end_line, text_after}
 use Rattle.nx_pyx.specs.declared.writer.OpenElement.{OpenElement}
 
@@ -63,3 +63,19 @@ written-end old named ended left rest elements fewer element r s f n e l =
     ap (λ x. x ++ (forest_text (forest_of element.after.now) ++ text_after fewer)) (e ∙ ap (λ x. x ++ 10 ∷ []) n)
     ∙ regroup_end old (41 ∷ element.name.now) (10 ∷ []) (forest_text (forest_of element.after.now)) (text_after fewer)
     ∙ ap (λ x. old ++ x) (sym (text_after-push fewer element) ∙ ap text_after (sym whole) ∙ ap (λ x. forest_text (forest_of x) ++ text_after elements) (sym (nil_from_length rest r)) ∙ l)
+
+-- the line of an event is added
+pub one_line : (old said ended line : List ℕ) (e : Event) → canonical_line e ≡ line → said ≡ old ++ line → ended ≡ said ++ 10 ∷ [] → (es : List Event) × (ended ≡ old ++ text_of es)
+one_line old said ended line e is s n = (
+  e ∷ [],
+  n ∙ ap (λ x. x ++ 10 ∷ []) (s ∙ ap (λ x. old ++ x) (sym is))
+      ∙ append_assoc old (canonical_line e) (10 ∷ [])
+      ∙ ap (λ x. old ++ x) (sym (append-nil (canonical_line e ++ 10 ∷ []))),
+)
+
+-- lines are added behind others
+pub more_lines : (old mid new : List ℕ) → (es : List Event) × (mid ≡ old ++ text_of es) → (es : List Event) × (new ≡ mid ++ text_of es) → (es : List Event) × (new ≡ old ++ text_of es)
+more_lines old mid new some more = (
+  some.0 ++ more.0,
+  more.1 ∙ ap (λ x. x ++ text_of more.0) some.1 ∙ append_assoc old (text_of some.0) (text_of more.0) ∙ ap (λ x. old ++ x) (sym (flat_map-append _ some.0 more.0)),
+)

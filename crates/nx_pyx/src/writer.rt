@@ -1,7 +1,8 @@
 // From a tree to its canonical text, line by line.
 ghost use Rattle.std.specs.Prelude.{◌≡◌, ◌≢◌, ◌<◌, ◌≤◌, ℕ, List, [], ◌∷◌, ◌++◌, length, take, true, false, IsTrue, ◌↔◌, Ok, IfOk, IsOkAnd, OnOk, OnErr};
 ghost use Rattle.std.specs.List.{list_any};
-ghost use Rattle.nx_pyx.specs.Text.{text, escape, escaped, node_line};
+ghost use Rattle.nx_pyx.specs.Event.{Event};
+ghost use Rattle.nx_pyx.specs.Text.{text, text_of, escape, escaped, node_line};
 ghost use Rattle.nx_pyx.specs.Escape.{needs_escape};
 
 use nx_tree::{Bytes, Kind, NoMemory, Node, Tree};
@@ -56,6 +57,7 @@ impl<'a> Writer<'a> {
     pub fn fill(&mut self, block: &mut Bytes, enough: usize) -> Result<bool, NoMemory>
         ensures text { block.new ++ self.new ≡ block.old ++ self.old }
         ensures front { (n : ℕ) × (block.new ≡ block.old ++ take n self.old) }
+        ensures lines { (es : List Event) × (block.new ≡ block.old ++ text_of es) }
         ensures more { result ≡ Ok true → (enough ≤ length block.new) × (self.new ≢ []) }
         ensures end { result ≡ Ok false → self.new ≡ [] }
     {
@@ -77,7 +79,7 @@ impl<'a> Writer<'a> {
     // Adds the next line, if there is one. Want of memory leaves the block and the writer as they were.
     fn step(&mut self, block: &mut Bytes) -> Result<bool, NoMemory>
         ensures text { block.new ++ self.new ≡ block.old ++ self.old }
-        ensures front { (bytes : List ℕ) × (block.new ≡ block.old ++ bytes) }
+        ensures lines { (es : List Event) × (block.new ≡ block.old ++ text_of es) }
         ensures more { result ≡ Ok true → length block.old < length block.new }
         ensures end { result ≡ Ok false → self.new ≡ [] }
     {
@@ -93,6 +95,7 @@ impl<'a> Writer<'a> {
     fn write_line(&mut self, block: &mut Bytes) -> Result<bool, NoMemory>
         ensures ok { OnOk result (block.new ++ self.new ≡ block.old ++ self.old) }
         ensures err { OnErr result (self.new ≡ self.old) }
+        ensures lines { OnOk result ((es : List Event) × (block.new ≡ block.old ++ text_of es)) }
         ensures front { (bytes : List ℕ) × (block.new ≡ block.old ++ bytes) }
         ensures more { result ≡ Ok true → length block.old < length block.new }
         ensures end { result ≡ Ok false → self.new ≡ [] }

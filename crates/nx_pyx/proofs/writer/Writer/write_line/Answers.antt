@@ -1,6 +1,7 @@
-use Rattle.std.proofs.Common.{◌≡◌, ◌-◌, ◌∙◌, ap, sym, take, length, vec_len, arith, rules}
+use Rattle.std.proofs.Common.{◌≡◌, ◌-◌, ◌∙◌, refl, ap, sym, take, length, vec_len, arith, rules}
 use Rattle.std.specs.List.{slice_get}
-use Rattle.nx_pyx.proofs.WriterLemmas.{written-element, written-end}
+use Rattle.nx_pyx.specs.Event.{End, Single}
+use Rattle.nx_pyx.proofs.WriterLemmas.{written-element, written-end, one_line}
 use Rattle.nx_pyx.proofs.writer.Writer.write_line.Goals as goal
 
 pub returns-in_ok-push-in-Element-clause-ok : goal.returns-in_ok-push-in-Element-clause-ok
@@ -18,3 +19,9 @@ returns-clause-ok c =
     (ap (λ es. slice_get es (length es - 1)) (sym c.deref.ensures.value) ∙ sym c.last.ensures.value ∙ sym c.in-Some-copied.ensures)
     (c.pop.ensures.rest ∙ ap (λ n. take (n - 1) elements.items) len)
     c.in_ok-push_name.ensures.ok c.in_ok-push-2.ensures.ok c.self.view_is
+
+pub returns-in_ok-push-in-Element-clause-lines : goal.returns-in_ok-push-in-Element-clause-lines
+returns-in_ok-push-in-Element-clause-lines c = one_line _ _ _ _ (Single c.tree.inside.node) refl c.in_ok-push_node_line.ensures.ok c.in_ok-push.ensures.ok
+
+pub returns-clause-lines : goal.returns-clause-lines
+returns-clause-lines c = one_line _ _ _ _ (End c.in-Some-copied.element.name.now) refl c.in_ok-push_name.ensures.ok c.in_ok-push-2.ensures.ok
