@@ -369,22 +369,25 @@ mod tests {
         Ok(())
     }
 
+    // An element over one node of the name `k`.
+    fn element_over(alloc: Global, kind: Kind, content: &[u8]) -> Result<Tree, NoMemory> {
+        let mut inner = Trees::new(alloc);
+        add(&mut inner, alloc, kind, b"k", content, Trees::new(alloc))?;
+        let mut children = Trees::new(alloc);
+        add(&mut children, alloc, Kind::Element, b"a", b"", inner)?;
+        Ok(Tree {
+            node: node(alloc, Kind::Doc, b"", b"")?,
+            children,
+        })
+    }
+
     #[test]
     fn written(rt: HostRuntime) -> Result<(), Fail> {
         let alloc = rt.alloc();
         for (kind, content, line) in WRITTEN {
-            let mut inner = Trees::new(alloc);
-            add(&mut inner, alloc, kind, b"k", content, Trees::new(alloc))?;
-            let mut children = Trees::new(alloc);
-            add(&mut children, alloc, Kind::Element, b"a", b"", inner)?;
-            let tree = Tree {
-                node: node(alloc, Kind::Doc, b"", b"")?,
-                children,
-            };
-            let mut expected = Bytes::from_slice(alloc, b"(a\n")?;
-            expected.extend_from_slice(line)?;
-            expected.extend_from_slice(b"\n)a\n")?;
-            assert_eq!(rt; write(alloc, &tree)?.as_slice(), expected.as_slice());
+            let text = write(alloc, &element_over(alloc, kind, content)?)?;
+            let expected: [&[u8]; 3] = [b"(a\n", line, b"\n)a\n"];
+            assert_eq!(rt; text.as_slice(), expected.concat(alloc)?.as_slice());
         }
         Ok(())
     }

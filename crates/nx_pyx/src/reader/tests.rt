@@ -134,7 +134,7 @@ type Long = (
     Option<(u64, PyxFault)>,
 );
 
-const LINES: [Long; 4] = [
+const LINES: [Long; 2] = [
     (b"(a\n-", b"x", 1_048_576, b"\n", 1, None),
     (
         b"(a\n-",
@@ -144,6 +144,10 @@ const LINES: [Long; 4] = [
         0,
         Some((2, PyxFault::LongLine)),
     ),
+];
+
+// The same with two bytes for each of the content.
+const ESCAPED: [Long; 2] = [
     (b"(a\nAy ", b"\\n", 1_048_575, b"\r\n", 1, None),
     (
         b"?y ",
@@ -155,7 +159,7 @@ const LINES: [Long; 4] = [
     ),
 ];
 
-const NODES: [Long; 6] = [
+const DEEP: [Long; 5] = [
     (b"", b"(a\n", 256, b"", 256, None),
     (
         b"",
@@ -165,6 +169,7 @@ const NODES: [Long; 6] = [
         257,
         Some((257, PyxFault::TooDeep)),
     ),
+    (b"", b"(a\n", 257, b"", 0, Some((257, PyxFault::TooDeep))),
     (
         b"",
         b"(a\n",
@@ -181,6 +186,9 @@ const NODES: [Long; 6] = [
         256,
         Some((257, PyxFault::TooDeep)),
     ),
+];
+
+const MANY: [Long; 2] = [
     (b"(a\n", b"-\n", 524_286, b"", 1, None),
     (
         b"(a\n",
@@ -252,8 +260,26 @@ fn check(
     Ok(())
 }
 
-// The stream has that outcome cut in two at each place, in one piece among them, and byte by byte.
-// A fault is told with the byte of that number, or at the end.
+// The stream has that outcome cut in two at that place. A fault is told with the byte of that number,
+// or at the end.
+fn check_cut(
+    rt: &impl Abort,
+    alloc: Global,
+    stream: &[u8],
+    cut: usize,
+    told: usize,
+    want: Result<&[u8], PyxError>,
+) -> Result<(), Fail> {
+    let (front, back) = stream.split_at(cut.min(stream.len()));
+    let told_by = if told == stream.len() {
+        2
+    } else {
+        usize::from(told >= cut)
+    };
+    check(rt, alloc, &[front, back], told_by, want)
+}
+
+// The same at each place, in one piece among them, and byte by byte.
 fn check_cuts(
     rt: &impl Abort,
     alloc: Global,
@@ -262,13 +288,7 @@ fn check_cuts(
     want: Result<&[u8], PyxError>,
 ) -> Result<(), Fail> {
     for cut in 0..=stream.len() {
-        let (front, back) = stream.split_at(cut);
-        let told_by = if told == stream.len() {
-            2
-        } else {
-            usize::from(told >= cut)
-        };
-        check(rt, alloc, &[front, back], told_by, want)?;
+        check_cut(rt, alloc, stream, cut, told, want)?;
     }
     let bytes = pieces(alloc, stream, 1)?;
     check(rt, alloc, &bytes, told, want)
@@ -306,30 +326,66 @@ fn bytes_of(alloc: Global, long: Long) -> Result<Vec<u8>, Fail> {
     Ok(bytes)
 }
 
-// The stream in pieces of that size is read up to the limit, and refused past it.
-fn check_long(rt: &impl Abort, alloc: Global, long: Long, size: usize) -> Result<(), Fail> {
+// How a stream at a limit is cut.
+#[derive(Clone, Copy)]
+enum Cutting {
+    // In pieces of that size.
+    Pieces(usize),
+    // In two, at each place so near to either end or to the byte that tells the fault.
+    Near(usize),
+}
+
+// The stream cut in that way is read up to the limit, and refused past it.
+fn check_long(rt: &impl Abort, alloc: Global, long: Long, cutting: Cutting) -> Result<(), Fail> {
     let (front, unit, count, end, closed, fault) = long;
-    let size = size.max(1);
     let stream = bytes_of(alloc, long)?;
-    let cut = pieces(alloc, &stream, size)?;
-    if let Some((line, fault)) = fault {
-        let shown = bytes_of(alloc, (front, unit, count, end, 0, None))?;
-        let told = shown.len().saturating_sub(1) / size;
-        return check(rt, alloc, &cut, told, Err(PyxError { line, fault }));
+    let shown = bytes_of(alloc, (front, unit, count, end, 0, None))?;
+    let read = end.strip_prefix(b"\r").unwrap_or(end);
+    let text = bytes_of(alloc, (front, unit, count, read, closed, None))?;
+    let (told, want) = match fault {
+        Some((line, fault)) => (shown.len().saturating_sub(1), Err(PyxError { line, fault })),
+        None => (stream.len(), Ok(text.as_slice())),
+    };
+    match cutting {
+        Cutting::Pieces(size) => {
+            let cut = pieces(alloc, &stream, size)?;
+            let told = if fault.is_some() {
+                told / size.max(1)
+            } else {
+                cut.len()
+            };
+            check(rt, alloc, &cut, told, want)
+        }
+        Cutting::Near(distance) => {
+            for cut in 0..=stream.len() {
+                let place = cut.abs_diff(told).min(stream.len() - cut);
+                if place.min(cut) <= distance {
+                    check_cut(rt, alloc, &stream, cut, told, want)?;
+                }
+            }
+            Ok(())
+        }
     }
-    let end = end.strip_prefix(b"\r").unwrap_or(end);
-    let text = bytes_of(alloc, (front, unit, count, end, closed, None))?;
-    check(rt, alloc, &cut, cut.len(), Ok(&text))
+}
+
+// The stream in one piece, in the blocks of a run, byte by byte, and cut near its ends and its limit.
+fn check_each_way(rt: &impl Abort, alloc: Global, long: Long, distance: usize) -> Result<(), Fail> {
+    check_long(rt, alloc, long, Cutting::Pieces(usize::MAX))?;
+    check_long(rt, alloc, long, Cutting::Pieces(65_536))?;
+    check_long(rt, alloc, long, Cutting::Pieces(1))?;
+    check_long(rt, alloc, long, Cutting::Near(distance))
 }
 
 #[test]
-fn long_lines(rt: HostRuntime) -> Result<(), Fail> {
-    for line in LINES {
-        check_long(&rt, rt.alloc(), line, usize::MAX)?;
-    }
-    // Byte by byte, and in the blocks of a run.
-    check_long(&rt, rt.alloc(), LINES[1], 1)?;
-    check_long(&rt, rt.alloc(), LINES[0], 65_536)
+fn long_line(rt: HostRuntime) -> Result<(), Fail> {
+    check_long(&rt, rt.alloc(), ESCAPED[0], Cutting::Pieces(usize::MAX))?;
+    check_each_way(&rt, rt.alloc(), LINES[0], 64)
+}
+
+#[test]
+fn too_long_line(rt: HostRuntime) -> Result<(), Fail> {
+    check_long(&rt, rt.alloc(), ESCAPED[1], Cutting::Pieces(usize::MAX))?;
+    check_each_way(&rt, rt.alloc(), LINES[1], 64)
 }
 
 #[test]
@@ -354,18 +410,20 @@ fn long_line_is_told_at_once(rt: HostRuntime) -> Result<(), Fail> {
 }
 
 #[test]
-fn many_nodes(rt: HostRuntime) -> Result<(), Fail> {
-    for nodes in NODES {
-        check_long(&rt, rt.alloc(), nodes, 65_536)?;
+fn deep(rt: HostRuntime) -> Result<(), Fail> {
+    for stream in DEEP {
+        check_each_way(&rt, rt.alloc(), stream, 64)?;
     }
-    check_long(&rt, rt.alloc(), NODES[5], 1)?;
-    let deep = bytes_of(rt.alloc(), (b"", b"(a\n", 257, b"", 0, None))?;
-    let fault = PyxFault::TooDeep;
-    check_cuts(
-        &rt,
-        rt.alloc(),
-        &deep,
-        770,
-        Err(PyxError { line: 257, fault }),
-    )
+    Ok(())
+}
+
+// Each run takes half a million lines, so few places are tried.
+#[test]
+fn many_nodes(rt: HostRuntime) -> Result<(), Fail> {
+    check_each_way(&rt, rt.alloc(), MANY[0], 4)
+}
+
+#[test]
+fn too_many_nodes(rt: HostRuntime) -> Result<(), Fail> {
+    check_each_way(&rt, rt.alloc(), MANY[1], 4)
 }
