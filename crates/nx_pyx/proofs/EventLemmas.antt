@@ -11,6 +11,7 @@ use Rattle.nx_pyx.specs.declared.error.PyxFault.TheVariants.{LongLine, BadName, 
 use Rattle.nx_pyx.specs.Event.{Event, Start, End, Single, events, event_of}
 use Rattle.nx_pyx.specs.Fault.{Standing, at_first, after, standing, events_of, line_fault, first_fault, fault_at, refusal, is_long, is_misnamed, is_misplaced, is_late, is_repeated, is_deep, is_surplus}
 use Rattle.nx_pyx.specs.Builder.{IsBuilt}
+use Rattle.nx_pyx.proofs.Running.{refusal_by}
 
 -- the events of a forest with one more tree
 pub events-planted : (f : Forest) (t : OrderedTree) → events (planted f t) ≡ events f ++ events (Plant t.node t.below forest.Empty)
@@ -54,52 +55,33 @@ first_fault-one before l = one_fault (length before + 1) (line_fault before l)
     one_fault n None = refl
     one_fault n (Some fault) = refl
 
--- the first of the seven faults of an event that applies
-chain : Bool → Bool → Bool → Bool → Bool → Bool → Bool → Option PyxFault
-chain long misnamed misplaced late repeated deep surplus =
-    if long then Some LongLine
-    else if misnamed then Some BadName
-    else if misplaced then Some BadNesting
-    else if late then Some BadAttribute
-    else if repeated then Some Twice
-    else if deep then Some TooDeep
-    else if surplus then Some TooMany
-    else None
-
 module _ (s : Standing) (e : Event) where
   by_chain : (long misnamed misplaced late repeated deep surplus : Bool) → is_long e ≡ long → is_misnamed e ≡ misnamed → is_misplaced s e ≡ misplaced → is_late s e ≡ late →
-      is_repeated s e ≡ repeated → is_deep s e ≡ deep → is_surplus s e ≡ surplus → refusal s e ≡ chain long misnamed misplaced late repeated deep surplus
-  unfolding chain
+      is_repeated s e ≡ repeated → is_deep s e ≡ deep → is_surplus s e ≡ surplus → refusal s e ≡ refusal_by long misnamed misplaced late repeated deep surplus
   by_chain long misnamed misplaced late repeated deep surplus a b c d f g h =
-      ap (λ t. chain t (is_misnamed e) (is_misplaced s e) (is_late s e) (is_repeated s e) (is_deep s e) (is_surplus s e)) a
-      ∙ ap (λ t. chain long t (is_misplaced s e) (is_late s e) (is_repeated s e) (is_deep s e) (is_surplus s e)) b
-      ∙ ap (λ t. chain long misnamed t (is_late s e) (is_repeated s e) (is_deep s e) (is_surplus s e)) c
-      ∙ ap (λ t. chain long misnamed misplaced t (is_repeated s e) (is_deep s e) (is_surplus s e)) d
-      ∙ ap (λ t. chain long misnamed misplaced late t (is_deep s e) (is_surplus s e)) f
-      ∙ ap (λ t. chain long misnamed misplaced late repeated t (is_surplus s e)) g
-      ∙ ap (λ t. chain long misnamed misplaced late repeated deep t) h
+      ap (λ t. refusal_by t (is_misnamed e) (is_misplaced s e) (is_late s e) (is_repeated s e) (is_deep s e) (is_surplus s e)) a
+      ∙ ap (λ t. refusal_by long t (is_misplaced s e) (is_late s e) (is_repeated s e) (is_deep s e) (is_surplus s e)) b
+      ∙ ap (λ t. refusal_by long misnamed t (is_late s e) (is_repeated s e) (is_deep s e) (is_surplus s e)) c
+      ∙ ap (λ t. refusal_by long misnamed misplaced t (is_repeated s e) (is_deep s e) (is_surplus s e)) d
+      ∙ ap (λ t. refusal_by long misnamed misplaced late t (is_deep s e) (is_surplus s e)) f
+      ∙ ap (λ t. refusal_by long misnamed misplaced late repeated t (is_surplus s e)) g
+      ∙ ap (λ t. refusal_by long misnamed misplaced late repeated deep t) h
 
   pub refused_long : is_long e ≡ true → refusal s e ≡ Some LongLine
-  unfolding chain
   refused_long a = by_chain true _ _ _ _ _ _ a refl refl refl refl refl refl
 
   pub refused_name : is_long e ≡ false → is_misnamed e ≡ true → refusal s e ≡ Some BadName
-  unfolding chain
   refused_name a b = by_chain false true _ _ _ _ _ a b refl refl refl refl refl
 
   pub refused_place : is_long e ≡ false → is_misnamed e ≡ false → is_misplaced s e ≡ true → refusal s e ≡ Some BadNesting
-  unfolding chain
   refused_place a b c = by_chain false false true _ _ _ _ a b c refl refl refl refl
 
   pub refused_late : is_long e ≡ false → is_misnamed e ≡ false → is_misplaced s e ≡ false → is_late s e ≡ true → refusal s e ≡ Some BadAttribute
-  unfolding chain
   refused_late a b c d = by_chain false false false true _ _ _ a b c d refl refl refl
 
   pub refused_twice : is_long e ≡ false → is_misnamed e ≡ false → is_misplaced s e ≡ false → is_late s e ≡ false → is_repeated s e ≡ true → refusal s e ≡ Some Twice
-  unfolding chain
   refused_twice a b c d f = by_chain false false false false true _ _ a b c d f refl refl
 
   pub refused_room : is_long e ≡ false → is_misnamed e ≡ false → is_misplaced s e ≡ false → is_late s e ≡ false → is_repeated s e ≡ false →
       refusal s e ≡ (if is_deep s e then Some TooDeep else if is_surplus s e then Some TooMany else None)
-  unfolding chain
   refused_room a b c d f = by_chain false false false false false _ _ a b c d f refl refl

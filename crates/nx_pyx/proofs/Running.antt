@@ -21,8 +21,8 @@ pub record Passes (s : Standing) (e : Event) : Type 0 where
   pub shallow : is_deep s e ≡ false
   pub few : is_surplus s e ≡ false
 
--- the fault by the tests
-abbrev refusal_by : Bool → Bool → Bool → Bool → Bool → Bool → Bool → Option PyxFault
+-- the first of the seven faults of an event that applies, by the tests
+abbrev pub refusal_by : Bool → Bool → Bool → Bool → Bool → Bool → Bool → Option PyxFault
 refusal_by long misnamed misplaced late repeated deep surplus =
     if long then Some LongLine
     else if misnamed then Some BadName
