@@ -39,9 +39,12 @@ last_line (b ∷ bytes) = without_cr (b ∷ bytes) ∷ []
 abbrev pub lines : List ℕ → List (List ℕ)
 lines stream = ended_lines stream ++ last_line (cut stream).rest
 
+abbrev pub is_lf : ℕ → Bool
+is_lf b = b == 10
+
 -- an LF is among the bytes
 abbrev pub has_lf : List ℕ → Bool
-has_lf bytes = list_any (λ b. b == 10) bytes
+has_lf bytes = list_any is_lf bytes
 
 -- the first LF of the bytes stands there
 pub record EndsLine (bytes : List ℕ) (end : ℕ) : Type 0 where

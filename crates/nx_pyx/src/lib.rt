@@ -14,6 +14,7 @@ mod line;
 mod names;
 mod one_line;
 mod reader;
+mod scan;
 mod writer;
 
 pub use error::{PyxError, PyxFault, ReadError};

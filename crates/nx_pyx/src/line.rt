@@ -8,14 +8,12 @@ ghost use Rattle.nx_pyx.specs.Fault.{early_fault, is_long, is_misnamed};
 ghost use Rattle.nx_pyx.specs.Line.{event_in, is_backslash};
 
 use crate::PyxFault;
+use crate::scan::{self, Backslash};
 use nx_tree::{Bytes, NoMemory};
 use std::alloc::Global;
 
 // As many bytes as a name and a content have at most together.
 const LONGEST_NODE: usize = 1_048_576;
-
-// As many bytes as are looked at together for a backslash.
-const CHUNK: usize = 32;
 
 // A line that begins with one of the five codes. Contents are as they stand in the line.
 #[derive(Clone, Copy)]
@@ -169,7 +167,7 @@ pub fn unescaped(alloc: Global, content: &[u8]) -> Result<Bytes, NoMemory>
     let mut bytes = Bytes::with_capacity(alloc, content.len())?;
     let mut rest = content;
     loop {
-        let (run, others) = rest.split_at(before_backslash(rest));
+        let (run, others) = rest.split_at(scan::unmarked_len::<Backslash>(rest));
         bytes.extend_from_slice(run)?;
         let Some((_, after)) = others.split_first() else {
             return Ok(bytes);
@@ -199,7 +197,7 @@ fn unescaped_len(content: &[u8]) -> usize
     let mut len = 0;
     let mut rest = content;
     loop {
-        let (run, others) = rest.split_at(before_backslash(rest));
+        let (run, others) = rest.split_at(scan::unmarked_len::<Backslash>(rest));
         len += run.len();
         let Some((_, after)) = others.split_first() else {
             return len;
@@ -234,32 +232,4 @@ fn unescaped_byte(b: u8) -> Option<u8>
         b'\\' => Some(b'\\'),
         _ => None,
     }
-}
-
-// The number of bytes before the first backslash, or of all where there is none.
-fn before_backslash(bytes: &[u8]) -> usize
-    ensures within { result ≤ length bytes.now }
-    ensures none { list_any is_backslash (take result bytes.now) ≡ false }
-    ensures end { result < length bytes.now → slice_index bytes.now result ≡ 92 }
-{
-    let mut len = 0;
-    while bytes.len() - len >= CHUNK && !has_backslash(&bytes[len..len + CHUNK]) {
-        len += CHUNK;
-    }
-    while len < bytes.len() && bytes[len] != b'\\' {
-        len += 1;
-    }
-    len
-}
-
-// Whether a backslash is among the bytes. It looks at all of them, so that a processor may look at
-// many of them at once.
-fn has_backslash(bytes: &[u8]) -> bool
-    ensures { result ≡ list_any is_backslash bytes.now }
-{
-    let mut found = false;
-    for b in bytes {
-        found |= *b == b'\\';
-    }
-    found
 }

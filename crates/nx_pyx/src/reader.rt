@@ -9,12 +9,10 @@ ghost use Rattle.nx_pyx.specs.Lines.{has_lf, EndsLine, lines};
 ghost use Rattle.nx_pyx.specs.Reader.{HasRead, HasFailed};
 
 use crate::builder::Builder;
+use crate::scan::{self, LineEnd};
 use crate::{ReadError, line};
 use nx_tree::{Bytes, Tree};
 use std::alloc::Global;
-
-// As many bytes as are looked at together for an LF.
-const CHUNK: usize = 32;
 
 /// Reads a document from its PYX lines, which come in pieces of any length.
 ///
@@ -150,36 +148,8 @@ impl Reader {
 fn line_end(bytes: &[u8]) -> Option<usize>
     ensures { MatchOption result (has_lf bytes.now ≡ false) (EndsLine bytes.now) }
 {
-    let end = before_lf(bytes);
+    let end = scan::unmarked_len::<LineEnd>(bytes);
     if end < bytes.len() { Some(end) } else { None }
-}
-
-// The number of bytes before the first LF, or of all where there is none.
-fn before_lf(bytes: &[u8]) -> usize
-    ensures within { result ≤ length bytes.now }
-    ensures none { has_lf (take result bytes.now) ≡ false }
-    ensures end { result < length bytes.now → slice_index bytes.now result ≡ 10 }
-{
-    let mut len = 0;
-    while bytes.len() - len >= CHUNK && !has_lf(&bytes[len..len + CHUNK]) {
-        len += CHUNK;
-    }
-    while len < bytes.len() && bytes[len] != b'\n' {
-        len += 1;
-    }
-    len
-}
-
-// Whether an LF is among the bytes. It looks at all of them, so that a processor may look at many
-// of them at once.
-fn has_lf(bytes: &[u8]) -> bool
-    ensures { result ≡ has_lf bytes.now }
-{
-    let mut found = false;
-    for b in bytes {
-        found |= *b == b'\n';
-    }
-    found
 }
 
 #[cfg(test)]

@@ -5,12 +5,10 @@ ghost use Rattle.nx_pyx.specs.Event.{Event};
 ghost use Rattle.nx_pyx.specs.Text.{text, text_of, escape, escaped, node_line};
 ghost use Rattle.nx_pyx.specs.Escape.{needs_escape};
 
+use crate::scan::{self, Escaped};
 use nx_tree::{Bytes, Kind, NoMemory, Node, Tree};
 use std::alloc::Global;
 use std::marker::Model;
-
-// As many bytes of a content as are looked at together.
-const CHUNK: usize = 16;
 
 // An open element: its name, and the trees that stand after it under the same parent.
 #[derive(Clone, Copy)]
@@ -199,7 +197,7 @@ fn push_escaped(block: &mut Bytes, content: &[u8]) -> Result<(), NoMemory>
 {
     let mut rest = content;
     loop {
-        let (run, others) = rest.split_at(plain_len(rest));
+        let (run, others) = rest.split_at(scan::unmarked_len::<Escaped>(rest));
         block.extend_from_slice(run)?;
         let Some((first, after)) = others.split_first() else {
             return Ok(());
@@ -207,40 +205,6 @@ fn push_escaped(block: &mut Bytes, content: &[u8]) -> Result<(), NoMemory>
         push_escape(block, *first)?;
         rest = after;
     }
-}
-
-// The number of bytes before the first one that is written as two.
-fn plain_len(content: &[u8]) -> usize
-    ensures within { result ≤ length content.now }
-    ensures plain { list_any needs_escape (take result content.now) ≡ false }
-{
-    let mut len = 0;
-    while content.len() - len >= CHUNK && !has_escape(&content[len..len + CHUNK]) {
-        len += CHUNK;
-    }
-    while len < content.len() && !needs_escape(content[len]) {
-        len += 1;
-    }
-    len
-}
-
-// Whether one of the bytes is written as two. It looks at all of them, so that a processor may look
-// at many of them at once.
-fn has_escape(bytes: &[u8]) -> bool
-    ensures { result ≡ list_any needs_escape bytes.now }
-{
-    let mut found = false;
-    for b in bytes {
-        found |= needs_escape(*b);
-    }
-    found
-}
-
-// Whether the byte is written as two.
-fn needs_escape(b: u8) -> bool
-    ensures { result ≡ needs_escape b }
-{
-    b == b'\n' || b == b'\t' || b == b'\r' || b == b'\\'
 }
 
 // Adds one byte of a content.

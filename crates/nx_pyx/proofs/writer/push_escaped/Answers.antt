@@ -8,12 +8,12 @@ pub returns-in_default-clause-ok : goal.returns-in_default-clause-ok
 returns-in_default-clause-ok c =
     let bs = c.loop-first.rest.now in
     c.in_ok-extend_from_slice.ensures.ok
-    ∙ written-last _ _ _ _ bs c.loop-first.invariant.text (escaped-run bs _ _ _ c.plain_len.ensures.plain c.split_at.ensures.front c.split_at.ensures.back) c.in_default.ensures.cases
+    ∙ written-last _ _ _ _ bs c.loop-first.invariant.text (escaped-run bs _ _ _ c.unmarked_len.ensures.none c.split_at.ensures.front c.split_at.ensures.back) c.in_default.ensures.cases
 
 pub loop-first-preserved : goal.loop-first-preserved
 loop-first-preserved c =
     let bs = c.loop-first.rest.now in
-    let cut = escaped-run bs _ _ _ c.plain_len.ensures.plain c.split_at.ensures.front c.split_at.ensures.back in
+    let cut = escaped-run bs _ _ _ c.unmarked_len.ensures.none c.split_at.ensures.front c.split_at.ensures.back in
     let run = front-more _ _ _ _ c.loop-first.invariant.front c.in_ok-extend_from_slice.ensures.ok in
     record {
       text = ap (λ r. r ++ escaped c.in-Some.after.now) (c.in_ok-push_escape.ensures.ok ∙ ap (λ r. r ++ escape c.in-Some.first.now) c.in_ok-extend_from_slice.ensures.ok)
