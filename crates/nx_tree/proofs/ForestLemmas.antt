@@ -1,6 +1,6 @@
 -- A forest and the list of its trees.
-use Rattle.std.proofs.Common.{◌≡◌, List, [], ◌∷◌, ◌++◌, refl, ap}
-use Rattle.nx_tree.specs.Forest.{OrderedTree, Forest, Empty, Plant, forest_of, trees_of, planted}
+use Rattle.std.proofs.Common.{◌≡◌, ◌+◌, arith, List, [], ◌∷◌, ◌++◌, refl, ap}
+use Rattle.nx_tree.specs.Forest.{OrderedTree, Forest, Empty, Plant, forest_of, trees_of, planted, nodes}
 
 pub trees_of-forest_of : (ts : List OrderedTree) → trees_of (forest_of ts) ≡ ts
 trees_of-forest_of [] = refl
@@ -13,3 +13,7 @@ forest_of-trees_of (Plant n b s) = ap (λ r. Plant n b r) (forest_of-trees_of s)
 pub forest_of-planted : (ts : List OrderedTree) (t : OrderedTree) → forest_of (ts ++ t ∷ []) ≡ planted (forest_of ts) t
 forest_of-planted [] t = refl
 forest_of-planted (x ∷ ts) t = ap (λ r. Plant x.node x.below r) (forest_of-planted ts t)
+
+pub nodes-planted : (f : Forest) (t : OrderedTree) → nodes (planted f t) ≡ nodes f + 1 + nodes t.below
+nodes-planted Empty t = omega arith
+nodes-planted (Plant n b s) t = omega (arith, nodes-planted s t)

@@ -1,1 +1,8 @@
 pub mod ForestLemmas
+pub mod PlaceLemmas
+pub mod EditLemmas
+pub mod OrderLemmas
+pub mod SoundLemmas
+pub mod KeptLemmas
+pub mod TestLemmas
+pub mod PutLemmas

@@ -39,6 +39,14 @@ abbrev pub is_attribute : Kind → Bool
 is_attribute Attribute = true
 is_attribute _ = false
 
+abbrev pub is_instruction : Kind → Bool
+is_instruction Instruction = true
+is_instruction _ = false
+
+abbrev pub is_doc : Kind → Bool
+is_doc Doc = true
+is_doc _ = false
+
 -- which parts a node of this kind has, below the root of a document
 abbrev pub HasParts : Kind → List ℕ → List ℕ → Type 0
 HasParts Doc name content = ⊥
@@ -86,10 +94,6 @@ IsForest (Plant node below beside) = IsNode node × MayHave node.kind below × I
 abbrev pub IsTop : Forest → Type 0
 IsTop Empty = Unit {0}
 IsTop (Plant node below beside) = IsTrue (is_element node.kind || is_instruction node.kind) × IsTop beside
-  where
-    is_instruction : Kind → Bool
-    is_instruction Instruction = true
-    is_instruction _ = false
 
 -- how many of these trees are elements
 abbrev pub element_count : Forest → ℕ

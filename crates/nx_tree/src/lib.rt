@@ -6,6 +6,7 @@
 #![tactic(auto)]
 
 mod bytes;
+mod error;
 mod memory;
 mod node;
 mod path;
@@ -14,7 +15,8 @@ mod tests;
 mod tree;
 
 pub use bytes::Bytes;
+pub use error::TreeError;
 pub use memory::NoMemory;
 pub use node::{Kind, Node};
 pub use path::Path;
-pub use tree::{Tree, Trees};
+pub use tree::{Tree, Trees, copy, count, delete_at, depth, insert_at, node_at, retext_at};

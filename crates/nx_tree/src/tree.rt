@@ -1,8 +1,18 @@
 // A tree and a list of trees, which hold each other.
-ghost use Rattle.std.specs.Prelude.{◌≡◌, length, OnOk, OnErr, ◌==◌, List};
-ghost use Rattle.nx_tree.specs.Forest.{OrderedTree, Forest, forest_of, planted, trees_of};
+ghost use Rattle.std.specs.Prelude.{◌≡◌, ◌+◌, length, OnOk, OnErr, IfSome, ◌==◌, List};
+ghost use Rattle.nx_tree.specs.Forest.{OrderedTree, Forest, forest_of, planted, trees_of, nodes};
+
+mod copying;
+mod edit;
+mod kinds;
+mod measure;
+#[cfg(test)]
+mod tests;
 
 use crate::{NoMemory, Node};
+pub use copying::copy;
+pub use edit::{delete_at, insert_at, retext_at};
+pub use measure::{count, depth, node_at};
 use std::alloc::Global;
 use std::marker::Model;
 
@@ -20,6 +30,8 @@ pub struct Tree {
 #[derive(Drop)]
 pub struct Trees {
     trees: Vec<Tree>,
+    // The nodes of the trees, at every depth.
+    node_count: u32,
 }
 
 impl Model for Tree {
@@ -39,7 +51,7 @@ impl Model for Tree {
 }
 
 impl Model for Trees {
-    ghost use Rattle.std.specs.Prelude.{◌+◌, ◌*◌};
+    ghost use Rattle.std.specs.Prelude.{◌≡◌, ◌+◌, ◌*◌};
     ghost use Rattle.nx_tree.specs.Forest.{Forest, forest_code, forest_of, nodes, most_le_nodes};
     ghost use Rattle.std.proofs.Common.{arith};
 
@@ -48,6 +60,8 @@ impl Model for Trees {
     ghost coded = { forest_code };
 
     ghost view = { λ a. forest_of a.trees.items };
+
+    ghost invariant = { λ a. a.node_count ≡ nodes (forest_of a.trees.items) };
 
     ghost size = { λ f. 2 * nodes f + 1 };
 
@@ -61,6 +75,7 @@ impl Trees {
     {
         Trees {
             trees: Vec::new(alloc),
+            node_count: 0,
         }
     }
 
@@ -69,8 +84,25 @@ impl Trees {
         ensures ok { OnOk result (self.new ≡ planted self.old item) }
         ensures err { OnErr result (self.new ≡ self.old) }
     {
+        let node_count = self.count_with(&item).ok_or(NoMemory)?;
         self.trees.push(item)?;
+        self.node_count = node_count;
         Ok(())
+    }
+
+    // The number of nodes with those of one more tree, where it fits.
+    fn count_with(&self, item: &Tree) -> Option<u32>
+        ensures { IfSome result (λ n. n ≡ nodes self.now + 1 + nodes item.now.below) }
+    {
+        let below = item.children.node_count();
+        self.node_count.checked_add(1)?.checked_add(below)
+    }
+
+    // The number of nodes of the trees, at every depth.
+    fn node_count(&self) -> u32
+        ensures { result ≡ nodes self.now }
+    {
+        self.node_count
     }
 
     /// The number of trees.

@@ -1,0 +1,6 @@
+use Rattle.std.proofs.Common.{◌≡◌, length}
+use Rattle.nx_tree.specs.Document.{IsDocument}
+use Rattle.nx_tree.proofs.tree.tests.check_deepest.Given as goal
+
+abbrev pub invariant-loop-len : goal.invariant-loop-len
+invariant-loop-len g l = IsDocument l.tree
