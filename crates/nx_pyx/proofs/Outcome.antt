@@ -196,7 +196,7 @@ abbrev document_over : Forest → OrderedTree
 document_over f = record { node = record { kind = Doc; name = []; content = [] }; below = f }
 
 -- lines without a fault, whose end has none, say a document
-document_of : (ls : List (List ℕ)) → first_fault [] ls ≡ None → end_fault (standing (events_of ls)) ≡ None
+pub document_of : (ls : List (List ℕ)) → first_fault [] ls ≡ None → end_fault (standing (events_of ls)) ≡ None
     → (tree : OrderedTree) × IsDocument tree × (map event_of ls ≡ map (λ e. Some e) (events tree.below))
 document_of ls sound ended =
     let form = form_of ls sound in
@@ -208,7 +208,7 @@ document_of ls sound ended =
     (tree, document_from_goes ls form.children (forest_from_goes ls form.children form.made.children_formed all sound) all sound end tree refl refl refl refl, all)
 
 -- where there is no fault, neither the lines nor their end have one
-neither : (found : Option PyxError) (n : ℕ) (at_end : Option PyxFault) → option_map_or (λ e. Some e) found (option_map (fault_at n) at_end) ≡ None → (found ≡ None) × (at_end ≡ None)
+pub neither : (found : Option PyxError) (n : ℕ) (at_end : Option PyxFault) → option_map_or (λ e. Some e) found (option_map (fault_at n) at_end) ≡ None → (found ≡ None) × (at_end ≡ None)
 neither None n None h = (refl, refl)
 neither None n (Some fault) h = absurd (cc)
 neither (Some error) n at_end h = absurd (cc)

@@ -1,11 +1,11 @@
 -- A stream stands for one document at most.
-use Rattle.std.proofs.Common.{◌≡◌, ℕ, false, List, [], ◌∷◌, ◌++◌, refl, ap, sym, ◌∙◌, subst, ⊎_elim, append_assoc}
+use Rattle.std.proofs.Common.{◌≡◌, ℕ, false, List, [], ◌∷◌, ◌++◌, map, Some, refl, ap, sym, ◌∙◌, subst, ⊎_elim, append_assoc}
 use Rattle.nx_tree.specs.declared.node.Kind.{Kind}
 use Rattle.nx_tree.specs.declared.node.Kind.TheVariants.{Doc, Element, Attribute, Text, Instruction}
 use Rattle.nx_tree.specs.declared.node.Node.{Node}
 use Rattle.nx_tree.specs.Forest as forest
 use Rattle.nx_tree.specs.Forest.{OrderedTree, Forest, Plant}
-use Rattle.nx_tree.specs.Document.{is_element, HasParts, IsForest}
+use Rattle.nx_tree.specs.Document.{IsDocument, is_element, HasParts, IsForest}
 use Rattle.nx_pyx.specs.Event.{Event, Start, End, Single, events}
 use Rattle.nx_pyx.specs.Reading.{Reads}
 use Rattle.nx_pyx.proofs.Said.{kind_cases, events_element, events_single, nothing_below, same_events}
@@ -97,11 +97,14 @@ one_forest (Plant n b s) (Plant m c r) is js x y cx cy h =
     (kind_cases m.kind))
     (kind_cases n.kind)
 
+-- the events of a document determine it
+pub one_document : (t u : OrderedTree) → IsDocument t → IsDocument u → map (λ e. Some e) (events t.below) ≡ map (λ e. Some e) (events u.below) → t ≡ u
+one_document t u a b says =
+    let same : events t.below ≡ events u.below = same_events (events t.below) (events u.below) says in
+    let p = one_forest t.below u.below a.forest b.forest [] [] tt tt (ap (λ (es : List Event). es ++ []) same) in
+    let node : t.node ≡ u.node = same_node t.node u.node (a.root ∙ sym b.root) (a.unnamed ∙ sym b.unnamed) (a.bare ∙ sym b.bare) in
+    ap (λ (n : Node). tree_of n t.below) node ∙ ap (tree_of u.node) p.0
+
 -- a stream stands for one document at most
 pub one_reading : (stream : List ℕ) (t u : OrderedTree) → Reads stream t → Reads stream u → t ≡ u
-one_reading stream t u a b =
-    let same : events t.below ≡ events u.below = same_events (events t.below) (events u.below) (sym a.lines_say ∙ b.lines_say) in
-    let p = one_forest t.below u.below a.document.forest b.document.forest [] [] tt tt (ap (λ (es : List Event). es ++ []) same) in
-    let node : t.node ≡ u.node =
-    same_node t.node u.node (a.document.root ∙ sym b.document.root) (a.document.unnamed ∙ sym b.document.unnamed) (a.document.bare ∙ sym b.document.bare) in
-    ap (λ (n : Node). tree_of n t.below) node ∙ ap (tree_of u.node) p.0
+one_reading stream t u a b = one_document t u a.document b.document (sym a.lines_say ∙ b.lines_say)

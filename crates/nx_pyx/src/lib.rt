@@ -18,6 +18,7 @@ mod scan;
 mod writer;
 
 pub use error::{PyxError, PyxFault, ReadError};
+pub use line::{unescaped, unescaped_len, without_cr};
 pub use one_line::line_node;
-pub use reader::Reader;
-pub use writer::{Writer, node_line, write};
+pub use reader::{Reader, line_end};
+pub use writer::{Writer, node_line, push_node_line, write};

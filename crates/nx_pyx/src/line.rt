@@ -125,7 +125,7 @@ fn first_space(bytes: &[u8]) -> Option<usize>
     bytes.iter().position(|b| *b == b' ')
 }
 
-// The line without one CR at its end, where there is one.
+/// The line without one CR at its end, where there is one.
 pub fn without_cr(line: &[u8]) -> &[u8]
     ensures { result.now ≡ without_cr line.now }
 {
@@ -159,7 +159,10 @@ fn is_name_byte(b: u8) -> bool
     b > b' ' && !matches!(b, b'#' | b'*' | b'/' | b'?' | b'@' | b'\\')
 }
 
-// The content that the bytes of a line stand for.
+/// The content that bytes of a line stand for: LF, TAB, CR and a backslash for each pair of a
+/// backslash and `n`, `t`, `r` or a backslash, and every other byte for itself.
+///
+/// Errors: `NoMemory`.
 pub fn unescaped(alloc: Global, content: &[u8]) -> Result<Bytes, NoMemory>
     ensures { IfOk result (λ bytes. bytes ≡ unescape content.now) }
 {
@@ -190,8 +193,8 @@ fn is_long_with(name: &[u8], content: &[u8]) -> bool
     content.len() > room && unescaped_len(content) > room
 }
 
-// The number of bytes of the content that the bytes of a line stand for.
-fn unescaped_len(content: &[u8]) -> usize
+/// The number of bytes of the content that bytes of a line stand for. It takes no memory.
+pub fn unescaped_len(content: &[u8]) -> usize
     ensures { result ≡ length (unescape content.now) }
 {
     let mut len = 0;

@@ -144,8 +144,8 @@ impl Reader {
     }
 }
 
-// Where the first LF stands, if there is one.
-fn line_end(bytes: &[u8]) -> Option<usize>
+/// Where the first LF stands, if there is one.
+pub fn line_end(bytes: &[u8]) -> Option<usize>
     ensures { MatchOption result (has_lf bytes.now ≡ false) (EndsLine bytes.now) }
 {
     let end = scan::unmarked_len::<LineEnd>(bytes);

@@ -147,8 +147,11 @@ pub fn node_line(alloc: Global, node: &Node) -> Result<Bytes, NoMemory>
     Ok(line)
 }
 
-// Adds the line of a node, without a line end.
-fn push_node_line(block: &mut Bytes, node: &Node) -> Result<(), NoMemory>
+/// Adds the canonical line of one node to the block, without a line end; `#doc` for the root of a
+/// document.
+///
+/// Errors: `NoMemory`. A part of the line may then stand behind what the block had.
+pub fn push_node_line(block: &mut Bytes, node: &Node) -> Result<(), NoMemory>
     ensures ok { OnOk result (block.new ≡ block.old ++ node_line node.now.kind node.now.name node.now.content) }
     ensures front { (bytes : List ℕ) × (block.new ≡ block.old ++ bytes) }
 {
