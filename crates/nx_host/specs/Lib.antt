@@ -1,3 +1,4 @@
 pub mod Disk
 pub mod Host
 pub mod Time
+pub mod Phase

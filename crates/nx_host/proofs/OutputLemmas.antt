@@ -1,0 +1,54 @@
+-- An output that grows, and what is told of it.
+use Rattle.std.proofs.Common.{◌≡◌, ℕ, ◌+◌, List, [], ◌++◌, take, length, min, Option, None, Some, refl, sym, ap, ◌∙◌, arith, append_assoc, append-nil}
+use Rattle.std.proofs.lemmas.List.{take_min, take-append-le}
+use Rattle.std.proofs.Math.Seq.{take-append-add}
+use Rattle.nx_host.specs.Disk.{Keeps}
+use Rattle.nx_host.specs.Host.{Appends, AppendsFront, Takes}
+
+-- nothing is given
+pub appends_nothing : (output : Option (List ℕ)) → Appends [] output output
+appends_nothing None = tt
+appends_nothing (Some was) = (was, refl, sym (append-nil was))
+
+pub appends_then : (x y : List ℕ) (a b c : Option (List ℕ)) → Appends x a b → Appends y b c → Appends (x ++ y) a c
+appends_then x y a b None first second = tt
+appends_then x y a None (Some now) first (was, is, grew) = cc
+appends_then x y a (Some mid) (Some now) (was, is, grew) (was', is', grew') =
+    let same : mid ≡ was' = cc is' in
+    (was, is, grew' ∙ ap (λ (w : List ℕ). w ++ y) (sym same ∙ grew) ∙ append_assoc was x y)
+
+take-within : (n : ℕ) (x y : List ℕ) → take n x ≡ take (min n (length x)) (x ++ y)
+take-within n x y = sym (take_min n x) ∙ sym (take-append-le (min n (length x)) x y (omega arith))
+
+-- a front of a front
+pub front_more : (x y : List ℕ) (a b : Option (List ℕ)) → AppendsFront x a b → AppendsFront (x ++ y) a b
+front_more x y a None front = tt
+front_more x y a (Some now) (was, n, is, grew) = (was, min n (length x), is, grew ∙ ap (λ (t : List ℕ). was ++ t) (take-within n x y))
+
+-- a front behind what was given
+pub front_then : (x y : List ℕ) (a b c : Option (List ℕ)) → Appends x a b → AppendsFront y b c → AppendsFront (x ++ y) a c
+front_then x y a b None first second = tt
+front_then x y a None (Some now) first (was, n, is, grew) = cc
+front_then x y a (Some mid) (Some now) (was, is, grew) (was', n, is', grew') =
+    let same : mid ≡ was' = cc is' in (
+      was,
+      length x + n,
+      is,
+      grew' ∙ ap (λ (w : List ℕ). w ++ take n y) (sym same ∙ grew) ∙ append_assoc was x (take n y)
+          ∙ ap (λ (t : List ℕ). was ++ t) (sym (take-append-add x y n)),
+    )
+
+pub keeps_then : {T : Type 0} (a b c : Option T) → Keeps a b → Keeps b c → Keeps a c
+keeps_then a b None first second = tt
+keeps_then a None (Some x) first second = cc second
+keeps_then a (Some y) (Some x) first second = first ∙ second
+
+-- nothing more is a front of anything
+pub keeps_front : (bytes : List ℕ) (old now : Option (List ℕ)) → Keeps old now → AppendsFront bytes old now
+keeps_front bytes old None keeps = tt
+keeps_front bytes old (Some was) keeps = (was, 0, keeps, sym (append-nil was))
+
+-- nothing was taken
+pub takes_nothing : (input : Option (List ℕ)) → Takes [] input input
+takes_nothing None = tt
+takes_nothing (Some left) = refl
