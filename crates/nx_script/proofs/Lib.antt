@@ -1,0 +1,12 @@
+pub mod Matches
+pub mod Fronts
+pub mod Groups
+pub mod Cuts
+pub mod DocumentLines
+pub mod ParserLemmas
+pub mod ScriptLemmas
+pub mod Coming
+pub mod FieldLemmas
+pub mod BodyLemmas
+pub mod PathLemmas
+pub mod OneList

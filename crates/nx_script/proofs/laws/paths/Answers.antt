@@ -1,0 +1,8 @@
+use Rattle.nx_script.proofs.PathLemmas.{path-text, path_text-positions_of}
+use Rattle.nx_script.proofs.laws.paths.Goals as goal
+
+pub returns-clause-read : goal.returns-clause-read
+returns-clause-read c = path-text
+
+pub returns-clause-written : goal.returns-clause-written
+returns-clause-written c = path_text-positions_of

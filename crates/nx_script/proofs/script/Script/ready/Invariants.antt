@@ -1,0 +1,16 @@
+use Rattle.std.proofs.Common.{◌≡◌, ◌≤◌, ℕ, ◌-◌, List}
+use Rattle.nx_script.specs.declared.command.Command.{Command}
+use Rattle.nx_script.specs.Script.{HasGiven, work_left}
+use Rattle.nx_script.proofs.script.Script.ready.Given as goal
+
+-- the same commands were given, and no byte was taken
+abbrev pub invariant-loop-self : goal.invariant-loop-self
+invariant-loop-self l = record {
+  given : (taken : List ℕ) (commands : List Command) → HasGiven l.initial.self taken commands → HasGiven l.self taken commands;
+  taken : l.self.taken ≡ l.initial.self.taken;
+  ended : l.self.ended ≡ l.initial.self.ended;
+  work : work_left l.self ≤ work_left l.initial.self;
+}
+
+abbrev pub decreases-loop-self : goal.decreases-loop-self
+decreases-loop-self l = l.self.end - l.self.start

@@ -1,0 +1,58 @@
+-- What has been read of a document's lines in a script.
+use Rattle.std.specs.List.{list_any}
+use Rattle.std.specs.Prelude.{◌<◌, ◌≤◌, ◌-◌, length, drop, ◌≡◌, ◌⊎◌, ℕ, Bool, true, false, List, [], ◌∷◌, ◌++◌, take, Some, codes}
+use Rattle.std.specs.Bool.{MatchBool}
+use Rattle.nx_pyx.specs.declared.error.PyxError.{PyxError}
+use Rattle.nx_pyx.specs.declared.error.ReadError.TheVariants.{Pyx}
+use Rattle.nx_pyx.specs.declared.reader.Reader.{Reader}
+use Rattle.nx_pyx.specs.Lines.{cut, ended_lines}
+use Rattle.nx_pyx.specs.Fault.{shown_fault}
+use Rattle.nx_pyx.specs.Reader.{HasRead, HasFailed}
+use Rattle.nx_script.specs.declared.body.Body.{Body}
+use Rattle.nx_script.specs.Field.{begins_with}
+use Rattle.nx_script.specs.Commands.{has_dot}
+
+-- The reader has read this stream, or has failed by a fault that the stream shows.
+abbrev pub HasReadOrFailed : Reader → List ℕ → Type 0
+HasReadOrFailed reader stream =
+    HasRead reader stream ⊎ ((error : PyxError) × HasFailed reader (Pyx error) × (shown_fault stream ≡ Some error))
+
+-- The reader has read this stream, all of whose lines have ended.
+pub record HasReadLines (reader : Reader) (stream : List ℕ) : Type 0 where
+  pub read : HasReadOrFailed reader stream
+  pub ended : (cut stream).rest ≡ []
+
+-- The reader has read the stream but for a line that has begun with a dot.
+abbrev pub HasReadUpToDot : Reader → List ℕ → Type 0
+HasReadUpToDot reader stream =
+    MatchBool (begins_with 46 (cut stream).rest)
+    ((front : List ℕ) × (stream ≡ front ++ (cut stream).rest) × HasReadLines reader front)
+    (HasReadOrFailed reader stream)
+
+-- These bytes of the document's lines have come, and no dot has ended them yet.
+pub record IsWithin (body : Body) (stream : List ℕ) : Type 0 where
+  pub undotted : has_dot (ended_lines stream) ≡ false
+  pub held : body.held ≡ take 3 (cut stream).rest
+  pub read : HasReadUpToDot body.reader stream
+
+-- A dot has ended the document's lines: these bytes, and the dot's line.
+pub record IsEndedBy (body : Body) (stream : List ℕ) : Type 0 where
+  pub front : List ℕ
+  pub lines_are : ended_lines stream ≡ ended_lines front ++ codes "." ∷ []
+  pub undotted : has_dot (ended_lines front) ≡ false
+  pub read : HasReadLines body.reader front
+  pub ended : (cut stream).rest ≡ []
+
+-- where the document's lines stand after these bytes
+abbrev pub Stands : Bool → Body → List ℕ → Type 0
+Stands true body stream = IsEndedBy body stream
+Stands false body stream = IsWithin body stream
+
+-- Of the first n bytes no line begins with a dot, and at the place `last` begins what stands behind their last LF.
+pub record IsBeforeDot (bytes : List ℕ) (n last : ℕ) : Type 0 where
+  pub within : n ≤ length bytes
+  pub here : last ≤ n
+  pub undotted : list_any (begins_with 46) (cut (take n bytes)).ended ≡ false
+  pub rest : (cut (take n bytes)).rest ≡ take (n - last) (drop last bytes)
+  pub rest_undotted : begins_with 46 (take (n - last) (drop last bytes)) ≡ false
+  pub some : begins_with 46 bytes ≡ false → 0 < length bytes → 0 < n

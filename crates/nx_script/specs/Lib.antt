@@ -1,0 +1,9 @@
+pub mod Field
+pub mod Line
+pub mod Commands
+pub mod Body
+pub mod Parser
+pub mod Script
+pub mod Reply
+pub mod Path
+pub mod Law

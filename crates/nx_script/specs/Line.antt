@@ -1,0 +1,75 @@
+-- What a line of a script says that no other lines belong to.
+use Rattle.std.specs.Prelude.{ℕ, ◌&&◌, nat_lt, if◌then◌else◌, List, [], Option, None, Some, length, codes}
+use Rattle.std.specs.Option.{option_map, option_map_or, unwrap_or, is_none}
+use Rattle.std.specs.Str.{bytes_eq}
+use Rattle.nx_tree.specs.Document.{longest_node}
+use Rattle.nx_pyx.specs.declared.error.PyxFault.TheVariants.{BadCode, LongLine}
+use Rattle.nx_pyx.specs.Event.{event_of, unescape}
+use Rattle.nx_pyx.specs.Fault.{fault_at}
+use Rattle.nx_pyx.specs.Line.{node_of, event_fault}
+use Rattle.nx_script.specs.declared.command.LineBody.{LineBody}
+use Rattle.nx_script.specs.declared.command.LineBody.TheVariants as in_line
+use Rattle.nx_script.specs.declared.command.TextBody.{TextBody}
+use Rattle.nx_script.specs.declared.command.TextBody.TheVariants as in_text
+use Rattle.nx_script.specs.declared.command.Command.{Command}
+use Rattle.nx_script.specs.declared.command.Command.TheVariants.{Discard, Names, Export, Insert, Delete, Retext, Get, Bad}
+use Rattle.nx_script.specs.declared.line.Place as code
+use Rattle.nx_script.specs.Field.{field, behind, is_document_name, is_path, positions_of}
+
+-- the greatest number of bytes of a line that isn't part of a document
+abbrev pub longest_line : ℕ
+longest_line = 4194304
+
+-- the node that a line of a document says, or its fault
+abbrev pub line_body : List ℕ → LineBody
+line_body line = option_map_or (λ e. option_map_or (λ fault. in_line.Wrong (fault_at 1 fault)) (event_fault e) (in_line.Read (node_of e))) (event_of line)
+    (in_line.Wrong (fault_at 1 BadCode))
+
+-- the content that the bytes stand for, where a node may have as many
+abbrev pub text_body : List ℕ → TextBody
+text_body bytes =
+    if nat_lt longest_node (length (unescape bytes)) then in_text.Wrong (fault_at 1 LongLine) else in_text.Read (unescape bytes)
+
+-- a place in a document: its name, a path, and what stands behind the path and a space, where there is one
+pub record Place : Type 0 where
+  pub name : List ℕ
+  pub path : List ℕ
+  pub last : Option (List ℕ)
+
+-- the place that the fields behind a word say
+abbrev pub place_of : List ℕ → Option Place
+place_of bytes = option_map_or (λ more.
+    if is_document_name (field bytes) && is_path (field more)
+    then Some (record { name = field bytes; path = positions_of (field more); last = behind more })
+    else None) (behind bytes) None
+
+-- a place as the code has it
+abbrev pub place_in : code.Place → Place
+place_in place = record { name = place.name; path = place.path; last = option_map (λ bytes. bytes.now) place.last }
+
+-- a command at a place behind which nothing stands
+abbrev pub ends_there : (List ℕ → List ℕ → Command) → Place → Command
+ends_there command place = if is_none place.last then command place.name place.path else Bad
+
+abbrev pub insert_at : Place → Command
+insert_at place = option_map_or (λ line. Insert place.name place.path (line_body line)) place.last Bad
+
+abbrev pub retext_at : Place → Command
+retext_at place = Retext place.name place.path (text_body (unwrap_or place.last []))
+
+-- what a word and the bytes behind its space say
+abbrev pub command_by : List ℕ → List ℕ → Command
+command_by word rest =
+    if bytes_eq word (codes "drop") then (if is_document_name rest then Discard rest else Bad)
+    else if bytes_eq word (codes "export") then (if is_document_name rest then Export rest else Bad)
+    else if bytes_eq word (codes "insert") then option_map_or insert_at (place_of rest) Bad
+    else if bytes_eq word (codes "delete") then option_map_or (ends_there Delete) (place_of rest) Bad
+    else if bytes_eq word (codes "retext") then option_map_or retext_at (place_of rest) Bad
+    else if bytes_eq word (codes "get") then option_map_or (ends_there Get) (place_of rest) Bad
+    else Bad
+
+-- what a line says
+abbrev pub command_of : List ℕ → Command
+command_of line =
+    if nat_lt longest_line (length line) then Bad
+    else option_map_or (command_by (field line)) (behind line) (if bytes_eq line (codes "names") then Names else Bad)

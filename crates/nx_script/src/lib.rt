@@ -1,0 +1,24 @@
+//! Scripts: commands that come line by line, and the replies to them.
+//!
+//! `Script` takes the bytes of a script from a host and gives its commands, each as soon as it is
+//! whole; a document's lines are read as they come and never kept as text. `write_reply` gives a
+//! reply's text. Which lines are which command, and what a reply's text is, stands in `specs/`,
+//! apart from the code.
+#![tactic(auto)]
+
+mod body;
+mod command;
+mod error;
+mod field;
+pub mod laws;
+mod line;
+mod parser;
+mod reply;
+mod script;
+mod write;
+
+pub use command::{Command, LineBody, LoadBody, TextBody};
+pub use error::ScriptError;
+pub use reply::{DocLine, DocLines, Reply, ReplyError};
+pub use script::Script;
+pub use write::{push_reply, write_reply};

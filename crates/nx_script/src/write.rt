@@ -1,0 +1,239 @@
+// The text of a reply.
+ghost use Rattle.std.specs.Prelude.{◌≡◌, ℕ, List, ◌++◌, OnOk, OnErr, IfOk, decimal};
+ghost use Rattle.std.specs.List.{flat_map};
+ghost use Rattle.nx_script.specs.Reply.{cause, doc_line, reply_text};
+
+use crate::{DocLine, DocLines, Reply, ReplyError};
+use itoa::Buffer;
+use nx_pyx::{PyxError, push_node_line};
+use nx_tree::{Bytes, NoMemory};
+use std::alloc::Global;
+
+/// The text of a reply: its lines, each with its LF.
+///
+/// Errors: `NoMemory`.
+pub fn write_reply(alloc: Global, reply: &Reply) -> Result<Bytes, NoMemory>
+    ensures { IfOk result (λ text. text ≡ reply_text reply.now) }
+{
+    let mut text = Bytes::new(alloc);
+    push_text(&mut text, reply)?;
+    Ok(text)
+}
+
+/// Adds the text of a reply to the block. Want of memory leaves the block as it was.
+///
+/// Errors: `NoMemory`.
+pub fn push_reply(block: &mut Bytes, reply: &Reply) -> Result<(), NoMemory>
+    ensures ok { OnOk result (block.new ≡ block.old ++ reply_text reply.now) }
+    ensures err { OnErr result (block.new ≡ block.old) }
+{
+    let len = block.len();
+    let pushed = push_text(block, reply);
+    if pushed.is_err() {
+        block.truncate(len);
+    }
+    pushed
+}
+
+// Adds the text of a reply. Want of memory may leave a part of it behind what the block had.
+fn push_text(block: &mut Bytes, reply: &Reply) -> Result<(), NoMemory>
+    ensures ok { OnOk result (block.new ≡ block.old ++ reply_text reply.now) }
+    ensures front { (bytes : List ℕ) × (block.new ≡ block.old ++ bytes) }
+{
+    match reply {
+        Reply::Done => block.extend_from_slice(b"ok\n"),
+        Reply::Loaded { nodes, intervals } => {
+            push_number(block, b"ok ", u64::from(*nodes))?;
+            push_number(block, b" ", u64::from(*intervals))?;
+            block.push(b'\n')
+        }
+        Reply::Shown { node, children } => {
+            push_number(block, b"node ", u64::from(*children))?;
+            block.push(b' ')?;
+            push_node_line(block, node)?;
+            block.push(b'\n')
+        }
+        Reply::Names(docs) => {
+            push_docs(block, docs)?;
+            block.extend_from_slice(b".\n")
+        }
+        Reply::Exported(text) => {
+            block.extend_from_slice(text.as_slice())?;
+            block.extend_from_slice(b".\n")
+        }
+        Reply::Refused(error) => {
+            block.extend_from_slice(b"error ")?;
+            push_cause(block, *error)?;
+            block.push(b'\n')
+        }
+    }
+}
+
+// Adds the lines of documents.
+fn push_docs(block: &mut Bytes, docs: &DocLines) -> Result<(), NoMemory>
+    ensures ok { OnOk result (block.new ≡ block.old ++ flat_map doc_line docs.now) }
+    ensures front { (bytes : List ℕ) × (block.new ≡ block.old ++ bytes) }
+{
+    for line in docs.as_slice() {
+        push_doc(block, line)?;
+    }
+    Ok(())
+}
+
+// Adds the line of a document.
+fn push_doc(block: &mut Bytes, line: &DocLine) -> Result<(), NoMemory>
+    ensures ok { OnOk result (block.new ≡ block.old ++ doc_line line.now) }
+    ensures front { (bytes : List ℕ) × (block.new ≡ block.old ++ bytes) }
+{
+    block.extend_from_slice(b"doc ")?;
+    block.extend_from_slice(line.name.as_slice())?;
+    push_number(block, b" ", u64::from(line.nodes))?;
+    block.push(b'\n')
+}
+
+// Adds why a command is refused, in words.
+fn push_cause(block: &mut Bytes, error: ReplyError) -> Result<(), NoMemory>
+    ensures ok { OnOk result (block.new ≡ block.old ++ cause error) }
+    ensures front { (bytes : List ℕ) × (block.new ≡ block.old ++ bytes) }
+{
+    match error {
+        ReplyError::Syntax => block.extend_from_slice(b"syntax"),
+        ReplyError::NoDocument => block.extend_from_slice(b"no-document"),
+        ReplyError::Exists => block.extend_from_slice(b"exists"),
+        ReplyError::Pyx(PyxError { line, fault }) => {
+            push_number(block, b"pyx ", line)?;
+            block.push(b' ')?;
+            block.extend_from_slice(fault.word().as_bytes())
+        }
+        ReplyError::NoNode => block.extend_from_slice(b"no-node"),
+        ReplyError::BadPlace => block.extend_from_slice(b"bad-place"),
+        ReplyError::Twice => block.extend_from_slice(b"twice"),
+        ReplyError::NoContent => block.extend_from_slice(b"no-content"),
+        ReplyError::TooDeep => block.extend_from_slice(b"too-deep"),
+        ReplyError::TooMany => block.extend_from_slice(b"too-many"),
+    }
+}
+
+// Adds bytes and a number behind them.
+fn push_number(block: &mut Bytes, before: &[u8], number: u64) -> Result<(), NoMemory>
+    ensures ok { OnOk result (block.new ≡ block.old ++ before.now ++ decimal number) }
+    ensures front { (bytes : List ℕ) × (block.new ≡ block.old ++ bytes) }
+{
+    let mut digits = Buffer::new();
+    block.extend_from_slice(before)?;
+    block.extend_from_slice(digits.format(number).as_bytes())
+}
+
+#[cfg(test)]
+mod tests {
+    use super::*;
+    use nx_pyx::PyxFault;
+    use nx_tree::{Kind, Node};
+    use std::test::Fail;
+
+    // A refusal, and its text.
+    const REFUSALS: [(ReplyError, &[u8]); 12] = [
+        (ReplyError::Syntax, b"error syntax\n"),
+        (ReplyError::NoDocument, b"error no-document\n"),
+        (ReplyError::Exists, b"error exists\n"),
+        (
+            ReplyError::Pyx(PyxError {
+                line: 1,
+                fault: PyxFault::BadCode,
+            }),
+            b"error pyx 1 bad-code\n",
+        ),
+        (
+            ReplyError::Pyx(PyxError {
+                line: 12,
+                fault: PyxFault::Unclosed,
+            }),
+            b"error pyx 12 unclosed\n",
+        ),
+        (
+            ReplyError::Pyx(PyxError {
+                line: u64::MAX,
+                fault: PyxFault::LongLine,
+            }),
+            b"error pyx 18446744073709551615 long-line\n",
+        ),
+        (ReplyError::NoNode, b"error no-node\n"),
+        (ReplyError::BadPlace, b"error bad-place\n"),
+        (ReplyError::Twice, b"error twice\n"),
+        (ReplyError::NoContent, b"error no-content\n"),
+        (ReplyError::TooDeep, b"error too-deep\n"),
+        (ReplyError::TooMany, b"error too-many\n"),
+    ];
+
+    // A kind, a name, a content and a number of children, and the text.
+    const SHOWN: [(Kind, &[u8], &[u8], u32, &[u8]); 4] = [
+        (Kind::Doc, b"", b"", 1, b"node 1 #doc\n"),
+        (Kind::Element, b"a", b"", u32::MAX, b"node 4294967295 (a\n"),
+        (Kind::Text, b"", b"x\ny", 0, b"node 0 -x\\ny\n"),
+        (Kind::Attribute, b"k", b"", 0, b"node 0 Ak \n"),
+    ];
+
+    fn docs(alloc: Global, count: u32) -> Result<DocLines, NoMemory> {
+        let mut docs = DocLines::new(alloc);
+        for nodes in 0..count {
+            let name = Bytes::from_slice(alloc, b"!d")?;
+            docs.push(DocLine { name, nodes })?;
+        }
+        Ok(docs)
+    }
+
+    fn check(
+        rt: &impl std::process::Abort,
+        alloc: Global,
+        reply: &Reply,
+        expected: &[u8],
+    ) -> Result<(), NoMemory> {
+        assert_eq!(rt; write_reply(alloc, reply)?.as_slice(), expected);
+        let mut block = Bytes::from_slice(alloc, b"before")?;
+        push_reply(&mut block, reply)?;
+        assert!(rt; block.as_slice().strip_prefix(b"before") == Some(expected));
+        Ok(())
+    }
+
+    #[test]
+    fn replies(rt: HostRuntime) -> Result<(), Fail> {
+        let alloc = rt.alloc();
+        check(&rt, alloc, &Reply::Done, b"ok\n")?;
+        let loaded = Reply::Loaded {
+            nodes: 8,
+            intervals: u32::MAX,
+        };
+        check(&rt, alloc, &loaded, b"ok 8 4294967295\n")?;
+        check(&rt, alloc, &Reply::Names(docs(alloc, 0)?), b".\n")?;
+        let names = Reply::Names(docs(alloc, 2)?);
+        check(&rt, alloc, &names, b"doc !d 0\ndoc !d 1\n.\n")?;
+        let text = Bytes::from_slice(alloc, b"(a\n)a\n")?;
+        check(&rt, alloc, &Reply::Exported(text), b"(a\n)a\n.\n")?;
+        Ok(())
+    }
+
+    #[test]
+    fn nodes(rt: HostRuntime) -> Result<(), Fail> {
+        let alloc = rt.alloc();
+        for (kind, name, content, children, expected) in SHOWN {
+            let name = Bytes::from_slice(alloc, name)?;
+            let content = Bytes::from_slice(alloc, content)?;
+            let node = Node {
+                kind,
+                name,
+                content,
+            };
+            check(&rt, alloc, &Reply::Shown { node, children }, expected)?;
+        }
+        Ok(())
+    }
+
+    #[test]
+    fn refusals(rt: HostRuntime) -> Result<(), Fail> {
+        let alloc = rt.alloc();
+        for (error, expected) in REFUSALS {
+            check(&rt, alloc, &Reply::Refused(error), expected)?;
+        }
+        Ok(())
+    }
+}
