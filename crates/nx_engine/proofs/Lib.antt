@@ -1,0 +1,5 @@
+pub mod MapLemmas
+pub mod StepLemmas
+pub mod SizeLemmas
+pub mod ListedLemmas
+pub mod EditedLemmas

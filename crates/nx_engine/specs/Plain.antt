@@ -1,0 +1,29 @@
+-- The documents that a map of trees keeps.
+use Rattle.std.specs.declared.cmp.Ordering.{Ordering}
+use Rattle.std.specs.Prelude.{ℕ, List, map, All}
+use Rattle.std.specs.Global.{Vec}
+use Rattle.std.specs.Coded.{Coded, coded_list, coded_ℕ}
+use Rattle.std.specs.BTreeMap.{BTreeMap, IsOrdered, values}
+use Rattle.std.specs.FinMap.{from_sorted, code}
+use Rattle.nx_tree.specs.Forest.{OrderedTree, tree_code}
+use Rattle.nx_tree.specs.Document.{IsDocument}
+use Rattle.nx_engine.specs.Documents.{Documents, name_order}
+
+-- the order of names that are vectors
+abbrev pub vector_order : Vec ℕ → Vec ℕ → Ordering
+vector_order x y = name_order x.items y.items
+
+-- the entries, by the names' bytes
+abbrev pub by_bytes : List (Vec ℕ × OrderedTree) → List (List ℕ × OrderedTree)
+by_bytes es = map (λ e. (e.0.items, e.1)) es
+
+abbrev pub documents_in : BTreeMap (Vec ℕ) OrderedTree → Documents
+documents_in trees = from_sorted {R = name_order} (by_bytes trees.entries)
+
+-- the names are in order, and each tree is a document
+pub record AreDocuments (trees : BTreeMap (Vec ℕ) OrderedTree) : Type 0 where
+  pub ordered : IsOrdered vector_order trees
+  pub documents : All IsDocument (values trees)
+
+abbrev pub documents_code : Coded Documents
+documents_code = code (coded_list coded_ℕ) tree_code

@@ -1,0 +1,114 @@
+-- What a command is answered, and what it leaves.
+use Rattle.std.specs.Prelude.{ℕ, ◌+◌, ◌≤◌, nat_lt, if◌then◌else◌, List, [], ◌∷◌, length, map, fold, Option, None, Some, option_and_then}
+use Rattle.std.specs.Option.{option_map_or, option_or, is_none}
+use Rattle.std.specs.FinMap.{get, contains_key, insert, remove, entries}
+use Rattle.nx_tree.specs.declared.error.TreeError.{TreeError}
+use Rattle.nx_tree.specs.declared.error.TreeError.TheVariants as tree_error
+use Rattle.nx_tree.specs.Forest.{OrderedTree, nodes, trees_of}
+use Rattle.nx_tree.specs.Document.{IsDocument, IsNode, longest_node}
+use Rattle.nx_tree.specs.Edit.{at, put, cut_at, retext, insert_refusal, delete_refusal, retext_refusal}
+use Rattle.nx_pyx.specs.declared.error.PyxFault.TheVariants.{LongLine}
+use Rattle.nx_pyx.specs.Fault.{fault_at}
+use Rattle.nx_pyx.specs.Text.{text}
+use Rattle.nx_script.specs.declared.command.LoadBody.{LoadBody}
+use Rattle.nx_script.specs.declared.command.LoadBody.TheVariants as load
+use Rattle.nx_script.specs.declared.command.LineBody.{LineBody}
+use Rattle.nx_script.specs.declared.command.LineBody.TheVariants as line
+use Rattle.nx_script.specs.declared.command.TextBody.{TextBody}
+use Rattle.nx_script.specs.declared.command.TextBody.TheVariants as content
+use Rattle.nx_script.specs.declared.command.Command.{Command}
+use Rattle.nx_script.specs.declared.command.Command.TheVariants.{Load, Discard, Names, Export, Insert, Delete, Retext, Get, Bad}
+use Rattle.nx_script.specs.declared.reply.DocLine.{DocLine}
+use Rattle.nx_script.specs.declared.reply.Reply.{Reply}
+use Rattle.nx_script.specs.declared.reply.Reply.TheVariants as reply
+use Rattle.nx_script.specs.declared.reply.ReplyError.{ReplyError}
+use Rattle.nx_script.specs.declared.reply.ReplyError.TheVariants.{Syntax, NoDocument, Exists, Pyx, NoNode, BadPlace, Twice, NoContent, TooDeep, TooMany}
+use Rattle.nx_engine.specs.Documents.{Documents}
+
+-- a refusal of an edit, as a script words it; want of memory is none
+abbrev pub worded : TreeError → Option ReplyError
+worded tree_error.NoNode = Some NoNode
+worded tree_error.BadPlace = Some BadPlace
+worded tree_error.Twice = Some Twice
+worded tree_error.NoContent = Some NoContent
+worded tree_error.TooDeep = Some TooDeep
+worded tree_error.TooMany = Some TooMany
+worded tree_error.Memory = None
+
+-- why a line can't be put at a path: it is no node, or the place refuses it
+abbrev pub insert_fault : List ℕ → LineBody → OrderedTree → Option ReplyError
+insert_fault path (line.Wrong error) tree = Some (Pyx error)
+insert_fault path (line.Read node) tree = option_and_then worded (insert_refusal node path tree)
+
+abbrev pub delete_fault : List ℕ → OrderedTree → Option ReplyError
+delete_fault path tree = option_and_then worded (delete_refusal path tree)
+
+-- the name of the node at a path, and no bytes where there is no node
+abbrev pub name_at : List ℕ → OrderedTree → List ℕ
+name_at path tree = option_map_or (λ t. t.node.name) (at tree path) []
+
+-- a content with which the node at a path would have too many bytes
+abbrev pub long_fault : List ℕ → List ℕ → OrderedTree → Option ReplyError
+long_fault path bytes tree = if nat_lt longest_node (length (name_at path tree) + length bytes) then Some (Pyx (fault_at 1 LongLine)) else None
+
+-- why a node's content can't become this one
+abbrev pub retext_fault : List ℕ → TextBody → OrderedTree → Option ReplyError
+retext_fault path (content.Wrong error) tree = Some (Pyx error)
+retext_fault path (content.Read bytes) tree = option_or (long_fault path bytes tree) (option_and_then worded (retext_refusal path tree))
+
+-- an edit is done, or refused for this reason
+abbrev pub done_unless : Option ReplyError → Reply
+done_unless fault = option_map_or (λ error. reply.Refused error) fault reply.Done
+
+-- the answer of the document of that name, where there is one
+abbrev pub by_document : Documents → List ℕ → (OrderedTree → Reply) → Reply
+by_document documents name answer_of = option_map_or answer_of (get documents name) (reply.Refused NoDocument)
+
+abbrev pub loaded : LoadBody → Reply
+loaded (load.Read tree) = reply.Loaded (1 + nodes tree.below) 0
+loaded (load.Wrong error) = reply.Refused (Pyx error)
+
+abbrev pub shown : OrderedTree → Reply
+shown tree = reply.Shown tree.node (length (trees_of tree.below))
+
+-- a document's name and its number of nodes
+abbrev pub listed : List ℕ × OrderedTree → DocLine
+listed entry = record { name = entry.0; nodes = 1 + nodes entry.1.below }
+
+-- what a command is answered
+abbrev pub answer : Documents → Command → Reply
+answer documents (Load name body) = if contains_key documents name then reply.Refused Exists else loaded body
+answer documents (Discard name) = by_document documents name (λ _. reply.Done)
+answer documents Names = reply.Names (map listed (entries documents))
+answer documents (Export name) = by_document documents name (λ tree. reply.Exported (text tree))
+answer documents (Insert name path body) = by_document documents name (λ tree. done_unless (insert_fault path body tree))
+answer documents (Delete name path) = by_document documents name (λ tree. done_unless (delete_fault path tree))
+answer documents (Retext name path body) = by_document documents name (λ tree. done_unless (retext_fault path body tree))
+answer documents (Get name path) = by_document documents name (λ tree. option_map_or shown (at tree path) (reply.Refused NoNode))
+answer documents Bad = reply.Refused Syntax
+
+-- the documents after an edit of one, unless there is none of that name or it is refused
+abbrev pub edited : Documents → List ℕ → (OrderedTree → Option ReplyError) → (OrderedTree → OrderedTree) → Documents
+edited documents name fault change =
+    option_map_or (λ tree. if is_none (fault tree) then insert documents name (change tree) else documents) (get documents name) documents
+
+-- the documents after a command
+abbrev pub after : Documents → Command → Documents
+after documents (Load name (load.Read tree)) = if contains_key documents name then documents else insert documents name tree
+after documents (Load name (load.Wrong error)) = documents
+after documents (Discard name) = remove documents name
+after documents (Insert name path (line.Read node)) = edited documents name (insert_fault path (line.Read node)) (put node path)
+after documents (Insert name path (line.Wrong error)) = documents
+after documents (Delete name path) = edited documents name (delete_fault path) (cut_at path)
+after documents (Retext name path (content.Read bytes)) = edited documents name (retext_fault path (content.Read bytes)) (retext bytes path)
+after documents (Retext name path (content.Wrong error)) = documents
+after documents _ = documents
+
+-- the replies to commands, one after the other
+abbrev pub replies : Documents → List Command → List Reply
+replies documents [] = []
+replies documents (command ∷ commands) = answer documents command ∷ replies (after documents command) commands
+
+-- the documents after commands
+abbrev pub after_all : Documents → List Command → Documents
+after_all documents commands = fold after documents commands
