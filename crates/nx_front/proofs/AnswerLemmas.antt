@@ -11,6 +11,7 @@ use Rattle.nx_pyx.specs.Text.{text, text_of}
 use Rattle.nx_pyx.proofs.Said.{no_fault, said_events}
 use Rattle.nx_pyx.proofs.Shown.{fault_shown}
 use Rattle.nx_pyx.proofs.Reading.{one_reading}
+use Rattle.nx_front.specs.declared.words.CommandLine.TheVariants.{Tidy}
 use Rattle.nx_front.specs.Answer.{Answers, refusal_line}
 use Rattle.nx_front.specs.Outcome.{most_input, EndsRead, EndsRefused}
 use Rattle.nx_front.specs.Run.{AnswersTold}
@@ -28,8 +29,8 @@ answers_to input = record {
   refusal = λ error is. ap (λ o. option_map_or refusal_line o (text_of (events_of (lines input)))) is;
 }
 
--- some answer, where nothing was given
-pub an_answer : (old new : Option (List ℕ)) → (answer : List ℕ) × AnswersTold old new answer
+-- some answer of `tidy`, where nothing was given
+pub an_answer : (old new : Option (List ℕ)) → (answer : List ℕ) × AnswersTold (Some Tidy) old new answer
 an_answer old None = ([], tt)
 an_answer None (Some left) = ([], tt)
 an_answer (Some input) (Some left) = (answer_to input, answers_to input)
@@ -47,7 +48,7 @@ answers_fault input error is = record {
 }
 
 -- the text of the document that was read answers the input
-pub read_answers : (tree : OrderedTree) (taken : List ℕ) (old new : Option (List ℕ)) → EndsRead tree taken old new → AnswersTold old new (text tree)
+pub read_answers : (tree : OrderedTree) (taken : List ℕ) (old new : Option (List ℕ)) → EndsRead tree taken old new → AnswersTold (Some Tidy) old new (text tree)
 read_answers tree taken old None ends = tt
 read_answers tree taken old (Some left) ends =
     let is : old ≡ Some taken = ends.takes ∙ ap (λ (l : List ℕ). Some (taken ++ l)) ends.end ∙ ap (λ (l : List ℕ). Some l) (append-nil taken) in
@@ -60,7 +61,7 @@ fault_of_all error taken left (inl shown) = fault_shown taken left error shown
 fault_of_all error taken left (inr (none, few, is)) = ap (λ (l : List ℕ). fault_of (taken ++ l)) none ∙ ap fault_of (append-nil taken) ∙ is
 
 -- the line that refuses the input answers it
-pub refused_answers : (error : PyxError) (taken : List ℕ) (old new : Option (List ℕ)) → EndsRefused error taken old new → AnswersTold old new (refusal_line error)
+pub refused_answers : (error : PyxError) (taken : List ℕ) (old new : Option (List ℕ)) → EndsRefused error taken old new → AnswersTold (Some Tidy) old new (refusal_line error)
 refused_answers error taken old None ends = tt
 refused_answers error taken old (Some left) ends =
     subst (λ (o : Option (List ℕ)). IfSome o (λ input. Answers input (refusal_line error))) (sym ends.takes)

@@ -2,16 +2,13 @@
 use Rattle.std.proofs.Common.{◌≡◌, inr, ℕ, ◌+◌, ◌-◌, ◌≤◌, ◌<◌, List, [], ◌++◌, length, take, drop, min, Option, None, Some, Result, Ok, Err, IfOk, IfErr, refl, ap, arith, length-append, length-drop}
 use Rattle.std.proofs.lemmas.List.{length-take}
 use Rattle.nx_host.specs.Host.{Takes, IsAtEnd}
+use Rattle.nx_host.proofs.OutputLemmas.{takes_nothing}
 use Rattle.nx_tree.specs.Forest.{OrderedTree}
 use Rattle.nx_pyx.specs.declared.reader.Reader.{Reader}
 use Rattle.nx_pyx.specs.Reader.{HasRead}
 use Rattle.nx_front.specs.declared.read.Stop.{Stop}
 use Rattle.nx_front.specs.declared.read.Stop.TheVariants.{Refused, ReadFault, TooMuch, NoMemory}
 use Rattle.nx_front.specs.Outcome.{most_input, HasTakenIn, EndsRead, StopsBy, Finishes}
-
-takes_nothing : (input : Option (List ℕ)) → Takes [] input input
-takes_nothing None = tt
-takes_nothing (Some left) = refl
 
 -- before the first block
 pub took_none : (reader : Reader) (input : Option (List ℕ)) → HasRead reader [] →

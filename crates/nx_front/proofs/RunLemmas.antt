@@ -1,8 +1,9 @@
 -- Whole runs, from their phases.
-use Rattle.std.proofs.Common.{◌≡◌, ◌⊎◌, inl, inr, ℕ, ◌+◌, ◌<◌, true, false, List, ◌++◌, length, Option, None, Some, IsSome, Result, Ok, Err, OnOk, refl, sym, ap, ◌∙◌, subst, arith, append-nil, length-append}
+use Rattle.std.proofs.Common.{◌≡◌, ◌⊎◌, inl, inr, ℕ, ◌+◌, ◌<◌, List, [], ◌++◌, length, Option, None, Some, IsSome, Result, Ok, Err, OnOk, refl, sym, ap, ◌∙◌, subst, arith, append-nil, length-append}
 use Rattle.nx_host.specs.Disk.{Image, Beside, Keeps, Rose}
 use Rattle.nx_host.specs.Host.{Takes, Appends, AppendsFront}
 use Rattle.nx_host.specs.Time.{Stood, none_elapsed, elapsed_then, elapsed_weaker}
+use Rattle.nx_host.proofs.OutputLemmas.{keeps_front}
 use Rattle.nx_tree.specs.Forest.{OrderedTree}
 use Rattle.nx_pyx.specs.declared.error.PyxError.{PyxError}
 use Rattle.nx_pyx.specs.Fault.{fault_of}
@@ -13,41 +14,34 @@ use Rattle.nx_front.specs.declared.status.Status.{Status}
 use Rattle.nx_front.specs.declared.status.Status.TheVariants.{Done, Usage, Refused, ReadFault, WriteFault, NoMemory, TooMuch}
 use Rattle.nx_front.specs.declared.give.Halt.{Halt}
 use Rattle.nx_front.specs.declared.give.Halt.TheVariants as halt
-use Rattle.nx_front.specs.Command.{is_command_line}
+use Rattle.nx_front.specs.declared.words.CommandLine.{CommandLine}
+use Rattle.nx_front.specs.declared.words.CommandLine.TheVariants.{Tidy, Run}
 use Rattle.nx_front.specs.Answer.{refusal_line}
 use Rattle.nx_front.specs.Outcome.{most_input, EndsRead, EndsRefused}
-use Rattle.nx_front.specs.Phase.{TakesAlone, StandsBeside, GivesAlone, StandsWithin}
-use Rattle.nx_front.specs.Run.{EndsWith, AnswersTold, GrowsToAnswer, LeavesDisk, IsUndisturbed, status_after, IsTidied}
+use Rattle.nx_host.specs.Phase.{TakesAlone, StandsBeside, GivesAlone, StandsWithin}
+use Rattle.nx_front.specs.Run.{TidyEnds, EndsWith, AnswersTold, GrowsToAnswer, LeavesDisk, IsUndisturbed, status_after, IsCarriedOut}
 use Rattle.nx_front.proofs.AnswerLemmas.{an_answer, fault_of_all}
 
--- nothing more is a front of anything
-keeps_front : (bytes : List ℕ) (old now : Option (List ℕ)) → Keeps old now → AppendsFront bytes old now
-keeps_front bytes old None keeps = tt
-keeps_front bytes old (Some was) keeps = (was, 0, keeps, sym (append-nil was))
-
 -- the status where all or a part of the output was given
-pub gave_read : (words : List (List ℕ)) (tree : OrderedTree) (taken : List ℕ) (a b c : Beside) (given : Result (Unit {0}) Halt) → is_command_line words ≡ true →
+pub gave_read : (tree : OrderedTree) (taken : List ℕ) (a b c : Beside) (given : Result (Unit {0}) Halt) →
     EndsRead tree taken a.input b.input → b.output ≡ a.output → b.out_faults ≡ a.out_faults → c.input ≡ b.input →
-    OnOk given (Appends (text tree) b.output c.output) → (given ≡ Err halt.WriteFault → Rose b.out_faults c.out_faults) → EndsWith words (status_after Done given) a c
-gave_read words tree taken a b c (Ok _) command ends output faults input appends rose =
-    (command, tree, taken, subst (λ (i : Option (List ℕ)). EndsRead tree taken a.input i) (sym input) ends, subst (λ (o : Option (List ℕ)). Appends (text tree) o c.output) output appends)
-gave_read words tree taken a b c (Err halt.WriteFault) command ends output faults input appends rose =
-    (command, subst (λ (n : ℕ). Rose n c.out_faults) faults (rose refl))
-gave_read words tree taken a b c (Err halt.NoMemory) command ends output faults input appends rose = command
+    OnOk given (Appends (text tree) b.output c.output) → (given ≡ Err halt.WriteFault → Rose b.out_faults c.out_faults) → TidyEnds (status_after Done given) a c
+gave_read tree taken a b c (Ok _) ends output faults input appends rose =
+    (tree, taken, subst (λ (i : Option (List ℕ)). EndsRead tree taken a.input i) (sym input) ends, subst (λ (o : Option (List ℕ)). Appends (text tree) o c.output) output appends)
+gave_read tree taken a b c (Err halt.WriteFault) ends output faults input appends rose = subst (λ (n : ℕ). Rose n c.out_faults) faults (rose refl)
+gave_read tree taken a b c (Err halt.NoMemory) ends output faults input appends rose = tt
 
-pub gave_refused : (words : List (List ℕ)) (error : PyxError) (taken : List ℕ) (a b c : Beside) (given : Result (Unit {0}) Halt) → is_command_line words ≡ true →
+pub gave_refused : (error : PyxError) (taken : List ℕ) (a b c : Beside) (given : Result (Unit {0}) Halt) →
     EndsRefused error taken a.input b.input → b.output ≡ a.output → b.out_faults ≡ a.out_faults → c.input ≡ b.input →
-    OnOk given (Appends (refusal_line error) b.output c.output) → (given ≡ Err halt.WriteFault → Rose b.out_faults c.out_faults) → EndsWith words (status_after Refused given) a c
-gave_refused words error taken a b c (Ok _) command ends output faults input appends rose = (
-  command,
+    OnOk given (Appends (refusal_line error) b.output c.output) → (given ≡ Err halt.WriteFault → Rose b.out_faults c.out_faults) → TidyEnds (status_after Refused given) a c
+gave_refused error taken a b c (Ok _) ends output faults input appends rose = (
   error,
   taken,
   subst (λ (i : Option (List ℕ)). EndsRefused error taken a.input i) (sym input) ends,
   subst (λ (o : Option (List ℕ)). Appends (refusal_line error) o c.output) output appends,
 )
-gave_refused words error taken a b c (Err halt.WriteFault) command ends output faults input appends rose =
-    (command, subst (λ (n : ℕ). Rose n c.out_faults) faults (rose refl))
-gave_refused words error taken a b c (Err halt.NoMemory) command ends output faults input appends rose = command
+gave_refused error taken a b c (Err halt.WriteFault) ends output faults input appends rose = subst (λ (n : ℕ). Rose n c.out_faults) faults (rose refl)
+gave_refused error taken a b c (Err halt.NoMemory) ends output faults input appends rose = tt
 
 module _ {D : Type 0} (contents : D → Option Image) (may_leave : D → Image → Type 0) (beside : D → Beside) (moment : D → ℕ)
     (stood_since : D → ℕ → Stood → Type 0) (faults reads : D → ℕ) where
@@ -59,9 +53,9 @@ module _ {D : Type 0} (contents : D → Option Image) (may_leave : D → Image �
   keeps_after a b c is keeps = subst (λ o. Keeps o c) is keeps
 
   -- a run that stops before it gives anything
-  pub tidied_stopped : (words : List (List ℕ)) (status : Status) (a b : D) → EndsWith words status (beside a) (beside b) →
-      TakesAlone contents may_leave beside moment stood_since faults reads a b → IsTidied contents may_leave beside moment stood_since faults reads words status a b
-  tidied_stopped words status a b ends took =
+  pub tidied_stopped : (status : Status) (a b : D) → TidyEnds status (beside a) (beside b) →
+      TakesAlone contents may_leave beside moment stood_since faults reads a b → IsCarriedOut contents may_leave beside moment stood_since faults reads (Some Tidy) status a b
+  tidied_stopped status a b ends took =
       let some = an_answer (beside a).input (beside b).input in
       record {
         ends = ends;
@@ -79,16 +73,16 @@ module _ {D : Type 0} (contents : D → Option Image) (may_leave : D → Image �
       }
 
   -- a run that gives a part of the answer, or all of it
-  pub tidied_given : (words : List (List ℕ)) (status : Status) (bytes : List ℕ) (a b c : D) → EndsWith words status (beside a) (beside c) →
-      AnswersTold (beside a).input (beside b).input bytes →
+  pub tidied_given : (status : Status) (bytes : List ℕ) (a b c : D) → TidyEnds status (beside a) (beside c) →
+      AnswersTold (Some Tidy) (beside a).input (beside b).input bytes →
       TakesAlone contents may_leave beside moment stood_since faults reads a b → GivesAlone contents may_leave beside moment stood_since faults reads bytes b c →
-      IsTidied contents may_leave beside moment stood_since faults reads words status a c
-  tidied_given words status bytes a b c ends answers took gave =
+      IsCarriedOut contents may_leave beside moment stood_since faults reads (Some Tidy) status a c
+  tidied_given status bytes a b c ends answers took gave =
       record {
         ends = ends;
         grows = record {
           answer = bytes;
-          answers = subst (λ (i : Option (List ℕ)). AnswersTold (beside a).input i bytes) (sym gave.input) answers;
+          answers = subst (λ (i : Option (List ℕ)). AnswersTold (Some Tidy) (beside a).input i bytes) (sym gave.input) answers;
           time = elapsed_then
               (elapsed_weaker {P = StandsWithin may_leave beside bytes a} {Q = StandsBeside may_leave beside a} took.time (λ s h. (keeps_front bytes (beside a).output s.output h.0, h.1)))
               gave.time
@@ -103,10 +97,17 @@ module _ {D : Type 0} (contents : D → Option Image) (may_leave : D → Image �
       }
 
   -- a run that does nothing
-  pub grows_not : (d : D) → GrowsToAnswer may_leave beside moment stood_since d d
-  grows_not d =
-      let some = an_answer (beside d).input (beside d).input in
-      record { answer = some.0; answers = some.1; time = none_elapsed moment stood_since (StandsWithin may_leave beside some.0 d) d }
+  pub grows_not : (d : D) → GrowsToAnswer may_leave beside moment stood_since None d d
+  grows_not d = record {
+    answer = [];
+    answers = no_answer (beside d).input (beside d).input;
+    time = none_elapsed moment stood_since (StandsWithin may_leave beside [] d) d;
+  }
+    where
+      no_answer : (old new : Option (List ℕ)) → AnswersTold None old new []
+      no_answer old None = tt
+      no_answer None (Some left) = tt
+      no_answer (Some input) (Some left) = refl
 
   pub leaves_not : (d : D) → LeavesDisk contents may_leave faults reads d d
   leaves_not d = record {
@@ -146,34 +147,50 @@ read_whole input tree taken old (Some left) told still ends =
     subst (λ (i : List ℕ). Reads i tree) (sym (is ∙ ap (λ (l : List ℕ). taken ++ l) ends.end ∙ append-nil taken)) ends.reads
 
 -- an undisturbed run over a text with a reading is done, unless memory runs out
-pub done_reading : (words : List (List ℕ)) (status : Status) (old new : Beside) → EndsWith words status old new →
-    (input : List ℕ) (tree : OrderedTree) → IsUndisturbed input old new → is_command_line words ≡ true → Reads input tree → (status ≡ Done) ⊎ (status ≡ NoMemory)
-done_reading words Done old new ends input tree calm command reads = inl refl
-done_reading words NoMemory old new ends input tree calm command reads = inr refl
-done_reading words Usage old new ends input tree calm command reads = absurd (let no : false ≡ true = sym ends ∙ command in cc)
-done_reading words Refused old new (command', error, taken, ends, appends) input tree calm command reads =
+pub done_reading : (line : Option CommandLine) (status : Status) (old new : Beside) → EndsWith line status old new →
+    (input : List ℕ) (tree : OrderedTree) → IsUndisturbed input old new → line ≡ Some Tidy → Reads input tree → (status ≡ Done) ⊎ (status ≡ NoMemory)
+done_reading None status old new ends input tree calm command reads = cc command
+done_reading (Some Run) status old new ends input tree calm command reads = absurd (let same : Run ≡ Tidy = cc command in cc same)
+done_reading (Some Tidy) Done old new ends input tree calm command reads = inl refl
+done_reading (Some Tidy) NoMemory old new ends input tree calm command reads = inr refl
+done_reading (Some Tidy) Usage old new ends input tree calm command reads = absurd ends
+done_reading (Some Tidy) Refused old new (error, taken, ends, appends) input tree calm command reads =
     absurd (let none : None ≡ Some error = sym (no_fault input tree reads) ∙ refused_fault input error taken old.input new.input calm.told calm.still_told ends in cc)
-done_reading words ReadFault old new ends input tree calm command reads = absurd (calm.read ends.1)
-done_reading words WriteFault old new ends input tree calm command reads = absurd (calm.written ends.1)
-done_reading words TooMuch old new (command', output, taken, long, ends) input tree calm command reads =
+done_reading (Some Tidy) ReadFault old new ends input tree calm command reads = absurd (calm.read ends.0)
+done_reading (Some Tidy) WriteFault old new ends input tree calm command reads = absurd (calm.written ends)
+done_reading (Some Tidy) TooMuch old new (output, taken, long, ends) input tree calm command reads =
     absurd (not_too_much input taken old.input new.input calm.told calm.still_told calm.few long ends.takes)
 
 -- an undisturbed run over a text with a fault refuses it, unless memory runs out
-pub refuses_fault : (words : List (List ℕ)) (status : Status) (old new : Beside) → EndsWith words status old new →
-    (input : List ℕ) (error : PyxError) → IsUndisturbed input old new → is_command_line words ≡ true → fault_of input ≡ Some error → (status ≡ Refused) ⊎ (status ≡ NoMemory)
-refuses_fault words Refused old new ends input error calm command fault = inl refl
-refuses_fault words NoMemory old new ends input error calm command fault = inr refl
-refuses_fault words Usage old new ends input error calm command fault = absurd (let no : false ≡ true = sym ends ∙ command in cc)
-refuses_fault words Done old new (command', tree, taken, ends, appends) input error calm command fault =
+pub refuses_fault : (line : Option CommandLine) (status : Status) (old new : Beside) → EndsWith line status old new →
+    (input : List ℕ) (error : PyxError) → IsUndisturbed input old new → line ≡ Some Tidy → fault_of input ≡ Some error → (status ≡ Refused) ⊎ (status ≡ NoMemory)
+refuses_fault None status old new ends input error calm command fault = cc command
+refuses_fault (Some Run) status old new ends input error calm command fault = absurd (let same : Run ≡ Tidy = cc command in cc same)
+refuses_fault (Some Tidy) Refused old new ends input error calm command fault = inl refl
+refuses_fault (Some Tidy) NoMemory old new ends input error calm command fault = inr refl
+refuses_fault (Some Tidy) Usage old new ends input error calm command fault = absurd ends
+refuses_fault (Some Tidy) Done old new (tree, taken, ends, appends) input error calm command fault =
     absurd (let none : None ≡ Some error = sym (no_fault input tree (read_whole input tree taken old.input new.input calm.told calm.still_told ends)) ∙ fault in cc)
-refuses_fault words ReadFault old new ends input error calm command fault = absurd (calm.read ends.1)
-refuses_fault words WriteFault old new ends input error calm command fault = absurd (calm.written ends.1)
-refuses_fault words TooMuch old new (command', output, taken, long, ends) input error calm command fault =
+refuses_fault (Some Tidy) ReadFault old new ends input error calm command fault = absurd (calm.read ends.0)
+refuses_fault (Some Tidy) WriteFault old new ends input error calm command fault = absurd (calm.written ends)
+refuses_fault (Some Tidy) TooMuch old new (output, taken, long, ends) input error calm command fault =
+    absurd (not_too_much input taken old.input new.input calm.told calm.still_told calm.few long ends.takes)
+
+-- an undisturbed run of a script is done, unless memory runs out
+pub done_script : (line : Option CommandLine) (status : Status) (old new : Beside) → EndsWith line status old new →
+    (input : List ℕ) → IsUndisturbed input old new → line ≡ Some Run → (status ≡ Done) ⊎ (status ≡ NoMemory)
+done_script None status old new ends input calm command = cc command
+done_script (Some Tidy) status old new ends input calm command = absurd (let same : Tidy ≡ Run = cc command in cc same)
+done_script (Some Run) Done old new ends input calm command = inl refl
+done_script (Some Run) NoMemory old new ends input calm command = inr refl
+done_script (Some Run) Usage old new ends input calm command = absurd ends
+done_script (Some Run) Refused old new ends input calm command = absurd ends
+done_script (Some Run) ReadFault old new ends input calm command = absurd (calm.read ends.0)
+done_script (Some Run) WriteFault old new ends input calm command = absurd (calm.written ends)
+done_script (Some Run) TooMuch old new (taken, commands, long, ends, appends) input calm command =
     absurd (not_too_much input taken old.input new.input calm.told calm.still_told calm.few long ends.takes)
 
 -- a run over a command line doesn't end as if it were none
-pub never_usage : (words : List (List ℕ)) (status : Status) (old new : Beside) → EndsWith words status old new → is_command_line words ≡ true → status ≡ Usage → ⊥
-never_usage words status old new ends command is =
-    let none : is_command_line words ≡ false = subst (λ (s : Status). EndsWith words s old new) is ends in
-    let no : false ≡ true = sym none ∙ command in
-    cc
+pub never_usage : (line : CommandLine) (old new : Beside) → ¬ EndsWith (Some line) Usage old new
+never_usage Tidy old new ends = ends
+never_usage Run old new ends = ends

@@ -1,7 +1,7 @@
-pub mod Command
+pub mod CommandLine
 pub mod Answer
-pub mod Phase
 pub mod Outcome
 pub mod Stop
+pub mod Session
 pub mod Run
 pub mod TestHost

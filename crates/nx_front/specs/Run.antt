@@ -1,5 +1,5 @@
 -- What a run is: why it ends with its status, and what stood at each of its moments.
-use Rattle.std.specs.Prelude.{◌≡◌, ◌↔◌, ℕ, ◌<◌, List, length, Option, IfSome, IsSome, Some, Result, Ok, Err, true, false}
+use Rattle.std.specs.Prelude.{◌≡◌, ◌↔◌, ℕ, ◌<◌, List, [], length, Option, IfSome, IsSome, None, Some, Result, Ok, Err}
 use Rattle.nx_host.specs.Disk.{Image, Beside, Keeps, Rose}
 use Rattle.nx_host.specs.Host.{Appends}
 use Rattle.nx_host.specs.Time.{Stood, Elapses}
@@ -10,34 +10,45 @@ use Rattle.nx_front.specs.declared.status.Status.{Status}
 use Rattle.nx_front.specs.declared.status.Status.TheVariants.{Done, Usage, Refused, ReadFault, WriteFault, NoMemory, TooMuch}
 use Rattle.nx_front.specs.declared.give.Halt.{Halt}
 use Rattle.nx_front.specs.declared.give.Halt.TheVariants as halt
-use Rattle.nx_front.specs.Command.{is_command_line}
+use Rattle.nx_front.specs.declared.words.CommandLine.{CommandLine}
+use Rattle.nx_front.specs.declared.words.CommandLine.TheVariants.{Tidy, Run}
 use Rattle.nx_front.specs.Answer.{Answers, refusal_line}
 use Rattle.nx_front.specs.Outcome.{most_input, EndsRead, EndsRefused, EndsSound}
-use Rattle.nx_front.specs.Phase.{StandsWithin}
+use Rattle.nx_host.specs.Phase.{StandsWithin}
+use Rattle.nx_front.specs.Session.{ScriptEnds, AnswersScript}
 
--- why a run ends with this status, what it has taken of the input by then and what it has given
-abbrev pub EndsWith : List (List ℕ) → Status → Beside → Beside → Type 0
-EndsWith words Done old new =
-    (is_command_line words ≡ true) × (tree : OrderedTree) × (taken : List ℕ) × EndsRead tree taken old.input new.input × Appends (text tree) old.output new.output
-EndsWith words Usage old new = is_command_line words ≡ false
-EndsWith words Refused old new =
-    (is_command_line words ≡ true) × (error : PyxError) × (taken : List ℕ) × EndsRefused error taken old.input new.input × Appends (refusal_line error) old.output new.output
-EndsWith words ReadFault old new =
-    (is_command_line words ≡ true) × Rose old.in_faults new.in_faults × (new.output ≡ old.output)
-    × (taken : List ℕ) × (length taken < most_input) × EndsSound taken old.input new.input
-EndsWith words WriteFault old new = (is_command_line words ≡ true) × Rose old.out_faults new.out_faults
-EndsWith words TooMuch old new =
-    (is_command_line words ≡ true) × (new.output ≡ old.output) × (taken : List ℕ) × (length taken ≡ most_input) × EndsSound taken old.input new.input
-EndsWith words NoMemory old new = is_command_line words ≡ true
+-- why a run of `tidy` ends with this status, what it has taken of the input by then and what it has given
+abbrev pub TidyEnds : Status → Beside → Beside → Type 0
+TidyEnds Done old new = (tree : OrderedTree) × (taken : List ℕ) × EndsRead tree taken old.input new.input × Appends (text tree) old.output new.output
+TidyEnds Refused old new = (error : PyxError) × (taken : List ℕ) × EndsRefused error taken old.input new.input × Appends (refusal_line error) old.output new.output
+TidyEnds ReadFault old new =
+    Rose old.in_faults new.in_faults × (new.output ≡ old.output) × (taken : List ℕ) × (length taken < most_input) × EndsSound taken old.input new.input
+TidyEnds WriteFault old new = Rose old.out_faults new.out_faults
+TidyEnds TooMuch old new = (new.output ≡ old.output) × (taken : List ℕ) × (length taken ≡ most_input) × EndsSound taken old.input new.input
+TidyEnds NoMemory old new = Unit {0}
+TidyEnds Usage old new = ⊥
+
+-- why a run of a command line ends with this status
+abbrev pub EndsWith : Option CommandLine → Status → Beside → Beside → Type 0
+EndsWith None status old new = status ≡ Usage
+EndsWith (Some Tidy) status old new = TidyEnds status old new
+EndsWith (Some Run) status old new = ScriptEnds status old new
+
+-- the text that a command line gives to an input
+abbrev pub AnswersTo : Option CommandLine → List ℕ → List ℕ → Type 0
+AnswersTo None input answer = answer ≡ []
+AnswersTo (Some Tidy) input answer = Answers input answer
+AnswersTo (Some Run) input answer = AnswersScript input answer
 
 -- Where the input is told to the end, this is the answer to it.
-abbrev pub AnswersTold : Option (List ℕ) → Option (List ℕ) → List ℕ → Type 0
-AnswersTold old new answer = IfSome new (λ left. IfSome old (λ input. Answers input answer))
+abbrev pub AnswersTold : Option CommandLine → Option (List ℕ) → Option (List ℕ) → List ℕ → Type 0
+AnswersTold line old new answer = IfSome new (λ left. IfSome old (λ input. AnswersTo line input answer))
 
 -- At every moment from old to new the output had grown by a front of one text, the answer to the input, and the images were those of old.
-pub record GrowsToAnswer {D : Type 0} (may_leave : D → Image → Type 0) (beside : D → Beside) (moment : D → ℕ) (stood_since : D → ℕ → Stood → Type 0) (old new : D) : Type 0 where
+pub record GrowsToAnswer {D : Type 0} (may_leave : D → Image → Type 0) (beside : D → Beside) (moment : D → ℕ) (stood_since : D → ℕ → Stood → Type 0)
+    (line : Option CommandLine) (old new : D) : Type 0 where
   pub answer : List ℕ
-  pub answers : AnswersTold (beside old).input (beside new).input answer
+  pub answers : AnswersTold line (beside old).input (beside new).input answer
   pub time : Elapses moment stood_since old new (StandsWithin may_leave beside answer old)
 
 -- The disk is as it was.
@@ -61,9 +72,9 @@ status_after whole (Ok _) = whole
 status_after whole (Err halt.WriteFault) = WriteFault
 status_after whole (Err halt.NoMemory) = NoMemory
 
--- What `tidy` does, in whole.
-pub record IsTidied {D : Type 0} (contents : D → Option Image) (may_leave : D → Image → Type 0) (beside : D → Beside) (moment : D → ℕ)
-    (stood_since : D → ℕ → Stood → Type 0) (faults reads : D → ℕ) (words : List (List ℕ)) (status : Status) (old new : D) : Type 0 where
-  pub ends : EndsWith words status (beside old) (beside new)
-  pub grows : GrowsToAnswer may_leave beside moment stood_since old new
+-- A command line is carried out: why it ends so, what stood at each moment, and that the disk is as it was.
+pub record IsCarriedOut {D : Type 0} (contents : D → Option Image) (may_leave : D → Image → Type 0) (beside : D → Beside) (moment : D → ℕ)
+    (stood_since : D → ℕ → Stood → Type 0) (faults reads : D → ℕ) (line : Option CommandLine) (status : Status) (old new : D) : Type 0 where
+  pub ends : EndsWith line status (beside old) (beside new)
+  pub grows : GrowsToAnswer may_leave beside moment stood_since line old new
   pub disk : LeavesDisk contents may_leave faults reads old new

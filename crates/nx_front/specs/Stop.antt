@@ -1,9 +1,24 @@
--- Why reading stops where the reader fails.
+-- Why a run stops, where something that it uses fails.
 use Rattle.nx_pyx.specs.declared.error.ReadError.{ReadError}
 use Rattle.nx_pyx.specs.declared.error.ReadError.TheVariants.{Pyx, Memory}
+use Rattle.nx_script.specs.declared.error.ScriptError.{ScriptError}
+use Rattle.nx_script.specs.declared.error.ScriptError.TheVariants as script
+use Rattle.nx_front.specs.declared.status.Status.{Status}
+use Rattle.nx_front.specs.declared.status.Status.TheVariants as status
+use Rattle.nx_front.specs.declared.give.Halt.{Halt}
+use Rattle.nx_front.specs.declared.give.Halt.TheVariants as halt
 use Rattle.nx_front.specs.declared.read.Stop.{Stop}
 use Rattle.nx_front.specs.declared.read.Stop.TheVariants.{Refused, NoMemory}
 
 abbrev pub stop_of : ReadError → Stop
 stop_of (Pyx error) = Refused error
 stop_of Memory = NoMemory
+
+abbrev pub status_of_script : ScriptError → Status
+status_of_script script.Read = status.ReadFault
+status_of_script script.TooMuch = status.TooMuch
+status_of_script script.Memory = status.NoMemory
+
+abbrev pub status_of_halt : Halt → Status
+status_of_halt halt.WriteFault = status.WriteFault
+status_of_halt halt.NoMemory = status.NoMemory

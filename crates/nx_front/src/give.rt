@@ -4,7 +4,7 @@ ghost use Rattle.nx_host.specs.Disk.{Rose};
 ghost use Rattle.nx_host.specs.Host.{Appends};
 ghost use Rattle.nx_pyx.specs.Text.{text};
 ghost use Rattle.nx_front.specs.Answer.{refusal_line};
-ghost use Rattle.nx_front.specs.Phase.{GivesAlone};
+ghost use Rattle.nx_host.specs.Phase.{GivesAlone};
 ghost use Rattle.nx_front.specs.Outcome.{GivesBlock};
 ghost use Rattle.nx_front.specs.declared.give.Halt.TheVariants.{NoMemory, WriteFault};
 
@@ -14,7 +14,7 @@ use nx_tree::{Bytes, Tree};
 use std::alloc::{AllocError, Global};
 
 // As many bytes as are given at once, but for the last ones.
-const BLOCK: usize = 65_536;
+pub const BLOCK: usize = 65_536;
 
 // Why the output isn't whole.
 #[derive(Clone, Copy)]

@@ -3,6 +3,7 @@
 
 mod give;
 mod read;
+mod session;
 mod status;
 #[cfg(test)]
 mod tests;

@@ -2,7 +2,7 @@
 ghost use Rattle.std.specs.Prelude.{◌≡◌, ◌↔◌, ℕ, ◌+◌, ◌<◌, ◌≤◌, List, length, Option, min, IfOk, IfErr, Err};
 ghost use Rattle.nx_host.specs.Disk.{Rose};
 ghost use Rattle.nx_host.specs.Host.{IsAtEnd};
-ghost use Rattle.nx_front.specs.Phase.{TakesAlone};
+ghost use Rattle.nx_host.specs.Phase.{TakesAlone};
 ghost use Rattle.nx_pyx.specs.Reader.{HasRead};
 ghost use Rattle.nx_front.specs.Outcome.{HasTakenIn, EndsRead, StopsBy, Finishes, most_input};
 ghost use Rattle.nx_front.specs.Stop.{stop_of};

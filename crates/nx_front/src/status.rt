@@ -1,4 +1,9 @@
 // How a run ends.
+ghost use Rattle.std.specs.Prelude.{◌≡◌};
+ghost use Rattle.nx_front.specs.Stop.{status_of_script, status_of_halt};
+
+use crate::give::Halt;
+use nx_script::ScriptError;
 
 /// The status that a run ends with.
 #[derive(Clone, Copy, Debug, PartialEq, Eq)]
@@ -17,4 +22,27 @@ pub enum Status {
     NoMemory,
     /// As many bytes of input were taken as a run takes at most, and it ended there.
     TooMuch,
+}
+
+impl From<ScriptError> for Status {
+    ghost from_gives = { λ error status. status ≡ status_of_script error };
+
+    fn from(error: ScriptError) -> Status {
+        match error {
+            ScriptError::Read => Status::ReadFault,
+            ScriptError::TooMuch => Status::TooMuch,
+            ScriptError::Memory => Status::NoMemory,
+        }
+    }
+}
+
+impl From<Halt> for Status {
+    ghost from_gives = { λ halt status. status ≡ status_of_halt halt };
+
+    fn from(halt: Halt) -> Status {
+        match halt {
+            Halt::WriteFault => Status::WriteFault,
+            Halt::NoMemory => Status::NoMemory,
+        }
+    }
 }

@@ -1,6 +1,8 @@
 // Tests, and the hosts that they run on.
+mod commands;
 mod endless;
 mod host;
+mod session;
 
 use crate::{Status, Word, Words, run};
 use endless::EndlessHost;
@@ -51,7 +53,10 @@ fn an_input_has_its_answer(rt: HostRuntime) -> Result<(), Fail> {
 #[test]
 fn other_words_are_misuse(rt: HostRuntime) -> Result<(), Fail> {
     let alloc = rt.alloc();
-    let others: [&[&str]; 8] = [
+    let others: [&[&str]; 11] = [
+        &["run"],
+        &["s", "run"],
+        &["_", "run", "_"],
         &[],
         &["_"],
         &["tidy"],

@@ -1,15 +1,17 @@
 // The top call.
-ghost use Rattle.std.specs.Prelude.{◌≡◌, ◌⊎◌, ◌↔◌, ℕ, List, Some, true, false};
+ghost use Rattle.std.specs.Prelude.{◌≡◌, ◌⊎◌, ◌↔◌, ℕ, List, None, Some};
 ghost use Rattle.nx_tree.specs.Forest.{OrderedTree};
 ghost use Rattle.nx_pyx.specs.declared.error.PyxError.{PyxError};
 ghost use Rattle.nx_pyx.specs.Fault.{fault_of};
 ghost use Rattle.nx_pyx.specs.Reading.{Reads};
-ghost use Rattle.nx_front.specs.Command.{is_command_line};
-ghost use Rattle.nx_front.specs.Run.{EndsWith, GrowsToAnswer, LeavesDisk, IsUndisturbed, IsTidied, status_after};
+ghost use Rattle.nx_front.specs.CommandLine.{command_line};
+ghost use Rattle.nx_front.specs.Run.{EndsWith, GrowsToAnswer, LeavesDisk, IsUndisturbed, IsCarriedOut, status_after};
+ghost use Rattle.nx_front.specs.declared.words.CommandLine.TheVariants.{Tidy, Run};
 
 use crate::give::{Halt, give_refusal, give_text};
 use crate::read::{Stop, read};
-use crate::words::is_tidy;
+use crate::session::session;
+use crate::words::{CommandLine, command_line};
 use crate::{Status, Words};
 use nx_host::Host;
 use std::alloc::Global;
@@ -18,35 +20,38 @@ use std::alloc::Global;
 /// the host, and answers how it ended.
 ///
 /// `STORE tidy` reads a document in PYX lines and gives its canonical text, or one line that
-/// refuses it, and nothing else. An input of 4,294,967,296 bytes or more is too much.
+/// refuses it, and nothing else. `_ run` reads the commands of a script and gives their replies,
+/// each before more input is asked for than its command needed. An input of 4,294,967,296 bytes or
+/// more is too much.
 pub fn run<H: Host>(alloc: Global, words: &Words, host: &mut H) -> Status
     // Why it ends so, and what was taken and given.
-    ensures ends { EndsWith words.now result (H.beside host.old) (H.beside host.new) }
+    ensures ends { EndsWith (command_line words.now) result (H.beside host.old) (H.beside host.new) }
 
     // At every moment, also within the call.
-    ensures grows { GrowsToAnswer H.may_leave H.beside H.moment H.stood_since host.old host.new }
+    ensures grows { GrowsToAnswer H.may_leave H.beside H.moment H.stood_since (command_line words.now) host.old host.new }
     ensures disk { LeavesDisk H.contents H.may_leave H.faults H.reads host.old host.new }
 
-    ensures usage { (result ≡ Status.Usage) ↔ (is_command_line words.now ≡ false) }
+    ensures usage { (result ≡ Status.Usage) ↔ (command_line words.now ≡ None) }
     ensures untouched { result ≡ Status.Usage → host.new ≡ host.old }
 
     // It doesn't give up by itself, unless memory runs out.
-    ensures reading { (input : List ℕ) (tree : OrderedTree) → IsUndisturbed input (H.beside host.old) (H.beside host.new) → is_command_line words.now ≡ true →
+    ensures reading { (input : List ℕ) (tree : OrderedTree) → IsUndisturbed input (H.beside host.old) (H.beside host.new) → command_line words.now ≡ Some Tidy →
         Reads input tree → (result ≡ Status.Done) ⊎ (result ≡ Status.NoMemory) }
-    ensures refusal { (input : List ℕ) (error : PyxError) → IsUndisturbed input (H.beside host.old) (H.beside host.new) → is_command_line words.now ≡ true →
+    ensures refusal { (input : List ℕ) (error : PyxError) → IsUndisturbed input (H.beside host.old) (H.beside host.new) → command_line words.now ≡ Some Tidy →
         fault_of input ≡ Some error → (result ≡ Status.Refused) ⊎ (result ≡ Status.NoMemory) }
+    ensures script { (input : List ℕ) → IsUndisturbed input (H.beside host.old) (H.beside host.new) → command_line words.now ≡ Some Run →
+        (result ≡ Status.Done) ⊎ (result ≡ Status.NoMemory) }
 {
-    if is_tidy(words) {
-        tidy(alloc, host)
-    } else {
-        Status::Usage
+    match command_line(words) {
+        Some(CommandLine::Tidy) => tidy(alloc, host),
+        Some(CommandLine::Run) => session(alloc, host),
+        None => Status::Usage,
     }
 }
 
 // Reads the document and gives its canonical text.
 fn tidy<H: Host>(alloc: Global, host: &mut H) -> Status
-    ensures { (words : List (List ℕ)) → is_command_line words ≡ true →
-        IsTidied H.contents H.may_leave H.beside H.moment H.stood_since H.faults H.reads words result host.old host.new }
+    ensures { IsCarriedOut H.contents H.may_leave H.beside H.moment H.stood_since H.faults H.reads (Some Tidy) result host.old host.new }
 {
     match read(alloc, host) {
         Ok(tree) => status_of(give_text(alloc, host, &tree), Status::Done),

@@ -1,6 +1,6 @@
 // The words of a command line.
 ghost use Rattle.std.specs.Prelude.{◌≡◌, ◌==◌, List, ℕ, [], ◌∷◌, ◌++◌, length, IfOk, OnOk, OnErr};
-ghost use Rattle.nx_front.specs.Command.{is_store, is_command_line};
+ghost use Rattle.nx_front.specs.CommandLine.{is_store, command_line};
 
 use nx_tree::NoMemory;
 use std::alloc::Global;
@@ -95,13 +95,30 @@ impl Words {
     }
 }
 
-// Whether the words are a store and the command `tidy`.
-pub fn is_tidy(words: &Words) -> bool
-    ensures { result ≡ is_command_line words.now }
+// A command line.
+#[derive(Clone, Copy)]
+pub enum CommandLine {
+    // A document is read, and its canonical text given.
+    Tidy,
+    // A script is carried out over documents in memory.
+    Run,
+}
+
+// The command line that the words are, if they are one.
+pub fn command_line(words: &Words) -> Option<CommandLine>
+    ensures { result ≡ command_line words.now }
 {
-    match words.as_slice() {
-        [store, command] => is_store(store.as_str()) && command.as_str() == "tidy",
-        _ => false,
+    let [store, command] = words.as_slice() else {
+        return None;
+    };
+    let store = store.as_str();
+    let command = command.as_str();
+    if is_store(store) && command == "tidy" {
+        Some(CommandLine::Tidy)
+    } else if store == "_" && command == "run" {
+        Some(CommandLine::Run)
+    } else {
+        None
     }
 }
 

@@ -1,5 +1,5 @@
 use Rattle.std.proofs.Common.{◌≡◌, ◌++◌, ◌≤◌, length, Ok, ap, ◌∙◌, arith}
-use Rattle.nx_front.proofs.GiveLemmas.{gives_front}
+use Rattle.nx_host.proofs.PhaseLemmas.{gives_front}
 use Rattle.nx_front.proofs.give.give_block.Goals as goal
 
 pub returns-clause-alone : goal.returns-clause-alone

@@ -1,7 +1,8 @@
 use Rattle.std.proofs.Common.{[], sym, subst, ◌<◌, ◌+◌, length, if◌then◌else◌, Bool}
 use Rattle.nx_pyx.specs.Text.{text}
-use Rattle.nx_front.proofs.PhaseLemmas.{gives_alone_none}
-use Rattle.nx_front.proofs.GiveLemmas.{appends_nothing, gave_more, gave_all, gives_less, gives_on}
+use Rattle.nx_host.proofs.OutputLemmas.{appends_nothing}
+use Rattle.nx_host.proofs.PhaseLemmas.{gives_alone_none, gives_on}
+use Rattle.nx_front.proofs.GiveLemmas.{gave_more, gave_all, gives_less}
 use Rattle.nx_front.proofs.give.give_text.Goals as goal
 
 pub loop-more-init : goal.loop-more-init

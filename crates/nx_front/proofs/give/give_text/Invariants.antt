@@ -1,7 +1,7 @@
 use Rattle.std.proofs.Common.{◌≡◌, ℕ, ◌+◌, ◌++◌, List, length, [], false, if◌then◌else◌}
 use Rattle.nx_host.specs.Host.{Appends}
 use Rattle.nx_pyx.specs.Text.{text}
-use Rattle.nx_front.specs.Phase.{GivesAlone}
+use Rattle.nx_host.specs.Phase.{GivesAlone}
 use Rattle.nx_front.proofs.give.give_text.Given as goal
 
 -- a front of the text was given, and the rest is left

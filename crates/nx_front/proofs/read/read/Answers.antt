@@ -1,6 +1,6 @@
 use Rattle.std.proofs.Common.{arith}
 use Rattle.std.proofs.lemmas.Result.{err_from_is_err_and}
-use Rattle.nx_front.proofs.PhaseLemmas.{takes_alone_none, takes_alone_then}
+use Rattle.nx_host.proofs.PhaseLemmas.{takes_alone_none, takes_alone_then}
 use Rattle.nx_front.proofs.ReadLemmas.{took_none, took_more, stops, at_end, ends_read, ends_stopped, block_stays}
 use Rattle.nx_front.proofs.read.read.Goals as goal
 

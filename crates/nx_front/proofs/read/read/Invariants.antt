@@ -1,5 +1,5 @@
 use Rattle.std.proofs.Common.{◌≡◌, ℕ, ◌+◌, ◌<◌, List, length}
-use Rattle.nx_front.specs.Phase.{TakesAlone}
+use Rattle.nx_host.specs.Phase.{TakesAlone}
 use Rattle.nx_front.specs.Outcome.{HasTakenIn, most_input}
 use Rattle.nx_front.proofs.read.read.Given as goal
 

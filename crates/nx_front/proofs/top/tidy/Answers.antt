@@ -8,7 +8,7 @@ use Rattle.nx_front.proofs.RunLemmas.{gave_read, gave_refused, tidied_stopped, t
 use Rattle.nx_front.proofs.top.tidy.Goals as goal
 
 pub returns-in-Ok : goal.returns-in-Ok
-returns-in-Ok g c = λ words command.
+returns-in-Ok g c =
     let h = g.H.Disk in
     let read = c.in-Ok.ensures.ok in
     let before = h.beside c.args.host.now in
@@ -16,15 +16,15 @@ returns-in-Ok g c = λ words command.
     let after = h.beside c.give_text.new.host in
     let took = c.read.ensures.alone in
     let gave = c.give_text.ensures.alone in
-    tidied_given h.contents h.may_leave h.beside h.moment h.stood_since h.faults h.reads words c.status_of.result (text c.in-Ok.tree) c.args.host.now c.read.new.host
+    tidied_given h.contents h.may_leave h.beside h.moment h.stood_since h.faults h.reads c.status_of.result (text c.in-Ok.tree) c.args.host.now c.read.new.host
     c.give_text.new.host
     (rw c.status_of.ensures
-    (gave_read words c.in-Ok.tree read.0 before middle after c.give_text.result command read.1 took.output took.out_faults gave.input
+    (gave_read c.in-Ok.tree read.0 before middle after c.give_text.result read.1 took.output took.out_faults gave.input
     c.give_text.ensures.ok c.give_text.ensures.cause))
     (read_answers c.in-Ok.tree read.0 before.input middle.input read.1) took gave
 
 pub returns-in-Err-Refused : goal.returns-in-Err-Refused
-returns-in-Err-Refused g c = λ words command.
+returns-in-Err-Refused g c =
     let h = g.H.Disk in
     let before = h.beside c.args.host.now in
     let middle = h.beside c.read.new.host in
@@ -33,31 +33,31 @@ returns-in-Err-Refused g c = λ words command.
     let gave = c.give_refusal.ensures.alone in
     let error = c.in-Err-Refused.error in
     let refused = subst (λ stop. StopsBy stop before.input middle.input) c.in-Err-Refused.field-0-is c.in-Err-Refused.ensures.err in
-    tidied_given h.contents h.may_leave h.beside h.moment h.stood_since h.faults h.reads words c.status_of-in-Err-Refused.result (refusal_line error) c.args.host.now
+    tidied_given h.contents h.may_leave h.beside h.moment h.stood_since h.faults h.reads c.status_of-in-Err-Refused.result (refusal_line error) c.args.host.now
     c.read.new.host c.give_refusal.new.host
     (rw c.status_of-in-Err-Refused.ensures
-    (gave_refused words error refused.0 before middle after c.give_refusal.result command refused.1 took.output took.out_faults gave.input
+    (gave_refused error refused.0 before middle after c.give_refusal.result refused.1 took.output took.out_faults gave.input
     c.give_refusal.ensures.ok c.give_refusal.ensures.cause))
     (refused_answers error refused.0 before.input middle.input refused.1) took gave
 
 pub returns-in-Err-ReadFault : goal.returns-in-Err-ReadFault
-returns-in-Err-ReadFault g c = λ words command.
+returns-in-Err-ReadFault g c =
     let h = g.H.Disk in
-    tidied_stopped h.contents h.may_leave h.beside h.moment h.stood_since h.faults h.reads words ReadFault c.args.host.now c.read.new.host
+    tidied_stopped h.contents h.may_leave h.beside h.moment h.stood_since h.faults h.reads ReadFault c.args.host.now c.read.new.host
     (let stopped = subst (λ stop. StopsBy stop (h.beside c.args.host.now).input (h.beside c.read.new.host).input) c.in-Err-ReadFault.field-0-is c.in-Err-ReadFault.ensures.err in
-    (command, c.read.ensures.cause (c.in-Err-ReadFault.is ∙ ap Err c.in-Err-ReadFault.field-0-is), c.read.ensures.alone.output, stopped.0, stopped.1, stopped.2))
+    (c.read.ensures.cause (c.in-Err-ReadFault.is ∙ ap Err c.in-Err-ReadFault.field-0-is), c.read.ensures.alone.output, stopped.0, stopped.1, stopped.2))
     c.read.ensures.alone
 
 pub returns-in-Err-TooMuch : goal.returns-in-Err-TooMuch
-returns-in-Err-TooMuch g c = λ words command.
+returns-in-Err-TooMuch g c =
     let h = g.H.Disk in
-    tidied_stopped h.contents h.may_leave h.beside h.moment h.stood_since h.faults h.reads words TooMuch c.args.host.now c.read.new.host
+    tidied_stopped h.contents h.may_leave h.beside h.moment h.stood_since h.faults h.reads TooMuch c.args.host.now c.read.new.host
     (let stopped = subst (λ stop. StopsBy stop (h.beside c.args.host.now).input (h.beside c.read.new.host).input) c.in-Err-TooMuch.field-0-is c.in-Err-TooMuch.ensures.err in
-    (command, c.read.ensures.alone.output, stopped.0, stopped.1, stopped.2))
+    (c.read.ensures.alone.output, stopped.0, stopped.1, stopped.2))
     c.read.ensures.alone
 
 pub returns-in-Err-NoMemory : goal.returns-in-Err-NoMemory
-returns-in-Err-NoMemory g c = λ words command.
+returns-in-Err-NoMemory g c =
     let h = g.H.Disk in
-    tidied_stopped h.contents h.may_leave h.beside h.moment h.stood_since h.faults h.reads words NoMemory c.args.host.now c.read.new.host
-    command c.read.ensures.alone
+    tidied_stopped h.contents h.may_leave h.beside h.moment h.stood_since h.faults h.reads NoMemory c.args.host.now c.read.new.host
+    tt c.read.ensures.alone
