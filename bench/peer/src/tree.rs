@@ -1,0 +1,69 @@
+//! Nodes and trees.
+
+#[derive(Clone, Copy, Default, PartialEq, Eq)]
+pub enum Kind {
+    #[default]
+    Doc,
+    Element,
+    Attribute,
+    Text,
+    Instruction,
+}
+
+#[derive(Clone, Default)]
+pub struct Node {
+    pub kind: Kind,
+    pub name: Vec<u8>,
+    pub content: Vec<u8>,
+}
+
+impl Node {
+    /// In slots of 8 bytes.
+    pub fn weight(&self) -> u32 {
+        1 + (self.name.len() + self.content.len()).div_ceil(8) as u32
+    }
+}
+
+#[derive(Default)]
+pub struct Tree {
+    pub node: Node,
+    pub children: Vec<Tree>,
+}
+
+impl Tree {
+    pub fn new(kind: Kind, name: &[u8], content: Vec<u8>) -> Tree {
+        Tree {
+            node: Node {
+                kind,
+                name: name.to_vec(),
+                content,
+            },
+            children: Vec::new(),
+        }
+    }
+
+    pub fn is_element(&self) -> bool {
+        matches!(self.node.kind, Kind::Element)
+    }
+
+    pub fn is_attribute(&self) -> bool {
+        matches!(self.node.kind, Kind::Attribute)
+    }
+
+    /// The tree at the end of the path.
+    pub fn at(&self, path: &[u32]) -> Option<&Tree> {
+        path.iter()
+            .try_fold(self, |tree, &position| tree.children.get(position as usize))
+    }
+
+    pub fn at_mut(&mut self, path: &[u32]) -> Option<&mut Tree> {
+        path.iter().try_fold(self, |tree, &position| {
+            tree.children.get_mut(position as usize)
+        })
+    }
+
+    /// The recursion ends at the depth limit of documents.
+    pub fn count(&self) -> usize {
+        1 + self.children.iter().map(Tree::count).sum::<usize>()
+    }
+}
