@@ -2,3 +2,4 @@ pub mod Disk
 pub mod Host
 pub mod Time
 pub mod Phase
+pub mod Input

@@ -9,6 +9,8 @@
 
 mod disk;
 mod host;
+mod input;
 
 pub use disk::{Area, Disk, Failed};
 pub use host::Host;
+pub use input::{Input, InputError};

@@ -1,0 +1,17 @@
+-- What was taken of a host's input.
+use Rattle.std.specs.Prelude.{◌≡◌, ℕ, ◌^◌, List, length, take, Option}
+use Rattle.nx_host.specs.declared.input.Input.{Input}
+use Rattle.nx_host.specs.Host.{Takes}
+
+-- as many bytes of an input as are taken at most
+abbrev pub most_input : ℕ
+most_input = 2 ^ 32
+
+-- the bytes that were taken last
+abbrev pub block_of : Input → List ℕ
+block_of input = take input.len input.buffer.items
+
+-- These are all bytes that were taken, of an input that the host told at first and tells now.
+pub record HasTaken (input : Input) (taken : List ℕ) (first now : Option (List ℕ)) : Type 0 where
+  pub counted : input.taken ≡ length taken
+  pub takes : Takes taken first now
