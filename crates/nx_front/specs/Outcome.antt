@@ -1,6 +1,8 @@
 -- How the reading of an input ends, and how a run of `tidy` does.
 use Rattle.std.specs.Prelude.{◌≡◌, ◌⊎◌, ℕ, ◌^◌, ◌<◌, List, length, Option, None, Some, Result, Ok, Err, Bool, true, false, [], ◌++◌}
+use Rattle.nx_host.specs.declared.input.Input.{Input}
 use Rattle.nx_host.specs.Host.{Takes, IsAtEnd, Appends}
+use Rattle.nx_host.specs.Input.{HasTaken}
 use Rattle.nx_tree.specs.Forest.{OrderedTree}
 use Rattle.nx_pyx.specs.declared.error.PyxError.{PyxError}
 use Rattle.nx_pyx.specs.declared.reader.Reader.{Reader}
@@ -14,10 +16,10 @@ use Rattle.nx_front.specs.declared.read.Stop.TheVariants.{Refused, ReadFault, To
 abbrev pub most_input : ℕ
 most_input = 2 ^ 32
 
--- The reader has read the bytes that were taken of the input.
-pub record HasTakenIn (reader : Reader) (taken : List ℕ) (first now : Option (List ℕ)) : Type 0 where
+-- The reader has read all bytes that were taken of the input.
+pub record HasTakenIn (reader : Reader) (input : Input) (taken : List ℕ) (first now : Option (List ℕ)) : Type 0 where
   pub read : HasRead reader taken
-  pub takes : Takes taken first now
+  pub took : HasTaken input taken first now
 
 -- The bytes were taken to the input's end, and say this tree.
 pub record EndsRead (tree : OrderedTree) (taken : List ℕ) (first now : Option (List ℕ)) : Type 0 where

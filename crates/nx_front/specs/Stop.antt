@@ -1,4 +1,6 @@
 -- Why a run stops, where something that it uses fails.
+use Rattle.nx_host.specs.declared.input.InputError.{InputError}
+use Rattle.nx_host.specs.declared.input.InputError.TheVariants as input
 use Rattle.nx_pyx.specs.declared.error.ReadError.{ReadError}
 use Rattle.nx_pyx.specs.declared.error.ReadError.TheVariants.{Pyx, Memory}
 use Rattle.nx_script.specs.declared.error.ScriptError.{ScriptError}
@@ -8,11 +10,15 @@ use Rattle.nx_front.specs.declared.status.Status.TheVariants as status
 use Rattle.nx_front.specs.declared.give.Halt.{Halt}
 use Rattle.nx_front.specs.declared.give.Halt.TheVariants as halt
 use Rattle.nx_front.specs.declared.read.Stop.{Stop}
-use Rattle.nx_front.specs.declared.read.Stop.TheVariants.{Refused, NoMemory}
+use Rattle.nx_front.specs.declared.read.Stop.TheVariants.{Refused, ReadFault, TooMuch, NoMemory}
 
 abbrev pub stop_of : ReadError → Stop
 stop_of (Pyx error) = Refused error
 stop_of Memory = NoMemory
+
+abbrev pub stop_of_input : InputError → Stop
+stop_of_input input.Read = ReadFault
+stop_of_input input.TooMuch = TooMuch
 
 abbrev pub status_of_script : ScriptError → Status
 status_of_script script.Read = status.ReadFault
