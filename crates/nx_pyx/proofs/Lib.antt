@@ -21,3 +21,5 @@ pub mod DoneLemmas
 pub mod EscapeLemmas
 pub mod FrontLemmas
 pub mod WriterLemmas
+pub mod FieldLemmas
+pub mod PathLemmas

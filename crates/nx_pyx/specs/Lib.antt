@@ -12,3 +12,5 @@ pub mod Reader
 pub mod Outcome
 pub mod Escape
 pub mod Writer
+pub mod Field
+pub mod Path

@@ -1,5 +1,5 @@
 //! What holds of the notation itself, apart from the code that reads and writes it.
-ghost use Rattle.std.specs.Prelude.{ℕ, ◌+◌, List, ◌⊎◌, ◌≡◌, ◌↔◌, ◌∷◌, [], true, None, Some, is_some};
+ghost use Rattle.std.specs.Prelude.{ℕ, ◌+◌, ◌≤◌, All, List, ◌⊎◌, ◌≡◌, ◌↔◌, ◌∷◌, [], true, None, Some, is_some};
 ghost use Rattle.std.specs.List.{list_any, count_by};
 ghost use Rattle.nx_tree.specs.Document.{IsDocument};
 ghost use Rattle.nx_tree.specs.Forest.{OrderedTree};
@@ -10,6 +10,8 @@ ghost use Rattle.nx_pyx.specs.Outcome.{HasOneReading, HasOneFault, StaysTooLong}
 ghost use Rattle.nx_pyx.specs.declared.error.PyxFault.TheVariants.{LongLine};
 ghost use Rattle.nx_pyx.specs.Reading.{Reads};
 ghost use Rattle.nx_pyx.specs.Text.{text};
+ghost use Rattle.nx_pyx.specs.Field.{greatest_position, is_path, positions_of};
+ghost use Rattle.nx_pyx.specs.Path.{path_text};
 
 /// The canonical text of a document reads as that document.
 pub fn writing()
@@ -36,4 +38,10 @@ pub fn standing()
     ensures rooted { (es : List Event) → (standing es).rooted ≡ list_any is_start es }
     ensures nodes { (es : List Event) → (standing es).nodes ≡ 1 + count_by makes_node es }
     ensures attributes { (es : List Event) (names : List (List ℕ)) → EndWithAttributes es names ↔ ((standing es).attributes ≡ Some names) }
+{}
+
+/// Each path has one text, and what is read as a path is the text of its positions.
+pub fn paths()
+    ensures read { (positions : List ℕ) → All (λ p. p ≤ greatest_position) positions → (is_path (path_text positions) ≡ true) × (positions_of (path_text positions) ≡ positions) }
+    ensures written { (text : List ℕ) → is_path text ≡ true → All (λ p. p ≤ greatest_position) (positions_of text) × (path_text (positions_of text) ≡ text) }
 {}

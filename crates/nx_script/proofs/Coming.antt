@@ -26,7 +26,8 @@ use Rattle.nx_script.specs.declared.command.Command.TheVariants.{Load, Discard, 
 use Rattle.nx_script.specs.declared.script.Script.{Script}
 use Rattle.nx_script.specs.Script.{HasGiven}
 use Rattle.nx_script.proofs.ScriptLemmas.{HasLooked, looked}
-use Rattle.nx_script.specs.Field.{field, behind, is_document_name}
+use Rattle.nx_pyx.specs.Field.{field, behind}
+use Rattle.nx_script.specs.Field.{is_document_name}
 use Rattle.nx_script.specs.Line.{Place, longest_line, line_body, text_body, place_of, ends_there, insert_at, retext_at, command_by, command_of}
 use Rattle.nx_script.specs.Commands.{begins_load, has_dot, Loads, IsWhole, Gives, IsUnended, cut_off, AreCommands, CanCome}
 

@@ -20,7 +20,7 @@ use Rattle.nx_pyx.specs.Reader.{HasRead, HasFailed}
 use Rattle.nx_pyx.proofs.Shown.{onto, cut-append, fault_shows}
 use Rattle.nx_pyx.proofs.StreamLemmas.{cut-held, cut-ended, cut-rest, shown_early}
 use Rattle.nx_script.specs.declared.body.Body.{Body}
-use Rattle.nx_script.specs.Field.{begins_with}
+use Rattle.nx_pyx.specs.Field.{begins_with}
 use Rattle.nx_script.specs.Commands.{is_dot, has_dot}
 use Rattle.nx_script.specs.Body.{HasReadOrFailed, HasReadLines, HasReadUpToDot, IsWithin, Stands, IsBeforeDot}
 use Rattle.nx_script.proofs.Matches.{match_true, match_false}

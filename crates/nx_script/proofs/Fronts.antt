@@ -8,7 +8,7 @@ use Rattle.std.proofs.lemmas.List.{length-take, take-append-le, take_min}
 use Rattle.std.proofs.lemmas.Slice.Eq.{bytes_eq-Decides}
 use Rattle.nx_pyx.specs.Lines.{without_cr}
 use Rattle.nx_script.specs.declared.command.Command.TheVariants.{Bad}
-use Rattle.nx_script.specs.Field.{begins_with}
+use Rattle.nx_pyx.specs.Field.{begins_with}
 use Rattle.nx_script.specs.Line.{longest_line, command_of}
 use Rattle.nx_script.specs.Commands.{begins_load, loaded_name, is_dot}
 use Rattle.nx_script.specs.Parser.{MeansSame}

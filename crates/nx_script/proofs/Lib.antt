@@ -6,7 +6,5 @@ pub mod DocumentLines
 pub mod ParserLemmas
 pub mod ScriptLemmas
 pub mod Coming
-pub mod FieldLemmas
 pub mod BodyLemmas
-pub mod PathLemmas
 pub mod OneList

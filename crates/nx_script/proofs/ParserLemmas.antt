@@ -12,7 +12,7 @@ use Rattle.nx_script.specs.declared.command.Command.{Command}
 use Rattle.nx_script.specs.declared.command.Command.TheVariants.{Bad}
 use Rattle.nx_script.specs.declared.parser.Load.{Load}
 use Rattle.nx_script.specs.declared.parser.Parser.{Parser}
-use Rattle.nx_script.specs.Field.{begins_with}
+use Rattle.nx_pyx.specs.Field.{begins_with}
 use Rattle.nx_script.specs.Line.{command_of}
 use Rattle.nx_script.specs.Commands.{begins_load, is_dot, has_dot, loaded_name, Loads, IsWhole, Gives, AreCommands}
 use Rattle.nx_script.specs.Body.{HasReadLines, IsWithin, IsEndedBy}

@@ -9,7 +9,7 @@ use Rattle.nx_pyx.specs.Lines.{cut, ended_lines}
 use Rattle.nx_pyx.specs.Fault.{shown_fault}
 use Rattle.nx_pyx.specs.Reader.{HasRead, HasFailed}
 use Rattle.nx_script.specs.declared.body.Body.{Body}
-use Rattle.nx_script.specs.Field.{begins_with}
+use Rattle.nx_pyx.specs.Field.{begins_with}
 use Rattle.nx_script.specs.Commands.{has_dot}
 
 -- The reader has read this stream, or has failed by a fault that the stream shows.

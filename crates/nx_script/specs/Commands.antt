@@ -14,7 +14,8 @@ use Rattle.nx_script.specs.declared.command.LineBody.TheVariants as line
 use Rattle.nx_script.specs.declared.command.TextBody.TheVariants as content
 use Rattle.nx_script.specs.declared.command.Command.{Command}
 use Rattle.nx_script.specs.declared.command.Command.TheVariants.{Load, Insert, Retext, Bad}
-use Rattle.nx_script.specs.Field.{behind, is_document_name}
+use Rattle.nx_pyx.specs.Field.{behind}
+use Rattle.nx_script.specs.Field.{is_document_name}
 use Rattle.nx_script.specs.Line.{longest_line, command_of}
 
 -- a line that begins a document, whatever else it says: `load`, and then its end or a space

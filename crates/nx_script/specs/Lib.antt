@@ -5,5 +5,4 @@ pub mod Body
 pub mod Parser
 pub mod Script
 pub mod Reply
-pub mod Path
 pub mod Law

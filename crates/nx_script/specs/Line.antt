@@ -14,7 +14,8 @@ use Rattle.nx_script.specs.declared.command.TextBody.TheVariants as in_text
 use Rattle.nx_script.specs.declared.command.Command.{Command}
 use Rattle.nx_script.specs.declared.command.Command.TheVariants.{Discard, Names, Export, Insert, Delete, Retext, Get, Bad}
 use Rattle.nx_script.specs.declared.line.Place as code
-use Rattle.nx_script.specs.Field.{field, behind, is_document_name, is_path, positions_of}
+use Rattle.nx_pyx.specs.Field.{field, behind, is_path, positions_of}
+use Rattle.nx_script.specs.Field.{is_document_name}
 
 -- the greatest number of bytes of a line that isn't part of a document
 abbrev pub longest_line : ℕ

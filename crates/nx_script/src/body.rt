@@ -2,7 +2,7 @@
 ghost use Rattle.std.specs.Prelude.{◌≡◌, ◌⊎◌, ◌<◌, ◌≤◌, ◌≢◌, ℕ, List, [], ◌∷◌, ◌++◌, length, take, drop, min, slice_index, true, false, IfOk, OnOk, IsTrue, ◌↔◌};
 ghost use Rattle.std.specs.List.{list_any};
 ghost use Rattle.nx_pyx.specs.Lines.{ended_lines, has_lf, without_cr};
-ghost use Rattle.nx_script.specs.Field.{begins_with};
+ghost use Rattle.nx_pyx.specs.Field.{begins_with};
 ghost use Rattle.nx_script.specs.Commands.{SaysBody, is_dot};
 ghost use Rattle.nx_script.specs.Body.{HasReadOrFailed, HasReadLines, IsWithin, Stands, IsBeforeDot};
 

@@ -5,9 +5,11 @@ ghost use Rattle.nx_script.specs.Field.{is_document_name};
 ghost use Rattle.nx_script.specs.Line.{line_body, text_body, place_of, place_in, insert_at, retext_at, ends_there, command_by, command_of};
 ghost use Rattle.nx_script.specs.Commands.{begins_load, is_dot, loaded_name};
 
-use crate::field::{is_document_name, path, split_field};
+use crate::field::is_document_name;
 use crate::{Command, LineBody, TextBody};
-use nx_pyx::{PyxError, PyxFault, ReadError, line_node, unescaped, unescaped_len};
+use nx_pyx::{
+    PyxError, PyxFault, ReadError, line_node, path, split_field, unescaped, unescaped_len,
+};
 use nx_tree::{Bytes, NoMemory, Path};
 use std::alloc::Global;
 

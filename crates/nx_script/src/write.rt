@@ -1,11 +1,10 @@
 // The text of a reply.
-ghost use Rattle.std.specs.Prelude.{◌≡◌, ℕ, List, ◌++◌, OnOk, OnErr, IfOk, decimal};
+ghost use Rattle.std.specs.Prelude.{◌≡◌, ℕ, List, ◌++◌, OnOk, OnErr, IfOk};
 ghost use Rattle.std.specs.List.{flat_map};
 ghost use Rattle.nx_script.specs.Reply.{cause, doc_line, reply_text};
 
 use crate::{DocLine, DocLines, Reply, ReplyError};
-use itoa::Buffer;
-use nx_pyx::{PyxError, push_node_line};
+use nx_pyx::{PyxError, push_node_line, push_number};
 use nx_tree::{Bytes, NoMemory};
 use std::alloc::Global;
 
@@ -112,16 +111,6 @@ fn push_cause(block: &mut Bytes, error: ReplyError) -> Result<(), NoMemory>
         ReplyError::TooDeep => block.extend_from_slice(b"too-deep"),
         ReplyError::TooMany => block.extend_from_slice(b"too-many"),
     }
-}
-
-// Adds bytes and a number behind them.
-fn push_number(block: &mut Bytes, before: &[u8], number: u64) -> Result<(), NoMemory>
-    ensures ok { OnOk result (block.new ≡ block.old ++ before.now ++ decimal number) }
-    ensures front { (bytes : List ℕ) × (block.new ≡ block.old ++ bytes) }
-{
-    let mut digits = Buffer::new();
-    block.extend_from_slice(before)?;
-    block.extend_from_slice(digits.format(number).as_bytes())
 }
 
 #[cfg(test)]

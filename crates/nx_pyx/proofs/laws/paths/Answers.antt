@@ -1,5 +1,5 @@
-use Rattle.nx_script.proofs.PathLemmas.{path-text, path_text-positions_of}
-use Rattle.nx_script.proofs.laws.paths.Goals as goal
+use Rattle.nx_pyx.proofs.PathLemmas.{path-text, path_text-positions_of}
+use Rattle.nx_pyx.proofs.laws.paths.Goals as goal
 
 pub returns-clause-read : goal.returns-clause-read
 returns-clause-read c = path-text

@@ -7,7 +7,7 @@ use Rattle.std.proofs.lemmas.List.{take-append-drop, take_all, take_more, map-ap
 use Rattle.std.proofs.lemmas.List.Folds.{list_all_more, list_all_at}
 use Rattle.std.proofs.lemmas.List.Sums.{fold-append, fold_more}
 use Rattle.nx_pyx.specs.Event.{is_space}
-use Rattle.nx_script.specs.Field.{behind, is_digit, is_number, is_position, steps, is_path, positions_of, value_of, greatest_position}
+use Rattle.nx_pyx.specs.Field.{behind, is_digit, is_number, is_position, steps, is_path, positions_of, value_of, greatest_position}
 
 -- an element passes where the first that does stands before the end
 pub any_first : {X : Type 0} (p : X → Bool) (xs : List X) → list_any p xs ≡ nat_lt (position_or_len p xs) (length xs)

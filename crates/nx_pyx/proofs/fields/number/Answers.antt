@@ -1,6 +1,6 @@
 use Rattle.std.proofs.Common.{refl, get_or, arith}
-use Rattle.nx_script.proofs.FieldLemmas.{is_number-stopped, is_number-read}
-use Rattle.nx_script.proofs.field.number.Goals as goal
+use Rattle.nx_pyx.proofs.FieldLemmas.{is_number-stopped, is_number-read}
+use Rattle.nx_pyx.proofs.fields.number.Goals as goal
 
 pub returns-in_err-number : goal.returns-in_err-number
 returns-in_err-number c =

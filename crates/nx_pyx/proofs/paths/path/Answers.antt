@@ -3,9 +3,9 @@ use borrow.Author.Tests.{tests}
 use Rattle.std.proofs.lemmas.List.{length_push}
 use Rattle.std.proofs.lemmas.Iterator.Splits.{YieldsList-from_slice_split}
 use Rattle.std.proofs.lemmas.Iterator.Consumers.{YieldsList-turn, YieldsList-end}
-use Rattle.nx_script.specs.Field.{is_slash}
-use Rattle.nx_script.proofs.FieldLemmas.{walked_more, walked_all, walked_wrong}
-use Rattle.nx_script.proofs.field.path.Goals as goal
+use Rattle.nx_pyx.specs.Field.{is_slash}
+use Rattle.nx_pyx.proofs.FieldLemmas.{walked_more, walked_all, walked_wrong}
+use Rattle.nx_pyx.proofs.paths.path.Goals as goal
 
 pub returns-in_default-position : goal.returns-in_default-position
 returns-in_default-position c =

@@ -1,7 +1,7 @@
 use Rattle.std.proofs.Common.{length}
-use Rattle.nx_script.specs.Field.{steps}
-use Rattle.nx_script.proofs.FieldLemmas.{IsWalked}
-use Rattle.nx_script.proofs.field.path.Given as goal
+use Rattle.nx_pyx.specs.Field.{steps}
+use Rattle.nx_pyx.proofs.FieldLemmas.{IsWalked}
+use Rattle.nx_pyx.proofs.paths.path.Given as goal
 
 abbrev pub invariant-loop-step : goal.invariant-loop-step
 invariant-loop-step l =

@@ -1,6 +1,6 @@
 use Rattle.std.proofs.Common.{◌+◌, ◌-◌, Some, length, drop, arith, sym, ap, ◌∙◌, length-drop, take_all}
-use Rattle.nx_script.proofs.FieldLemmas.{behind-Some, behind-None}
-use Rattle.nx_script.proofs.field.split_field.Goals as goal
+use Rattle.nx_pyx.proofs.FieldLemmas.{behind-Some, behind-None}
+use Rattle.nx_pyx.proofs.fields.split_field.Goals as goal
 
 pub returns-in-Some-clause-behind : goal.returns-in-Some-clause-behind
 returns-in-Some-clause-behind c =

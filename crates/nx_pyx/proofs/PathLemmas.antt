@@ -10,9 +10,9 @@ use Rattle.std.proofs.lemmas.List.Elements.{All-nil, All-cons, All-head, All-tai
 use Rattle.std.proofs.lemmas.List.Folds.{list_all-append}
 use Rattle.std.proofs.lemmas.List.Sums.{fold_push}
 use Rattle.std.proofs.lemmas.List.Splits.{slice_split_at, slice_split_none, length-slice_split, join_with_byte-slice_split}
-use Rattle.nx_script.specs.Field.{begins_with, greatest_position, is_digit, is_number, is_path, is_position, is_slash, positions_of, value_of}
-use Rattle.nx_script.specs.Path.{path_text, step_text}
-use Rattle.nx_script.proofs.FieldLemmas.{more, grows, steps_path}
+use Rattle.nx_pyx.specs.Field.{begins_with, greatest_position, is_digit, is_number, is_path, is_position, is_slash, positions_of, value_of}
+use Rattle.nx_pyx.specs.Path.{path_text, step_text}
+use Rattle.nx_pyx.proofs.FieldLemmas.{more, grows, steps_path}
 
 -- these digits are the decimal of this number
 pub record Spells (n : ℕ) (digits : List ℕ) : Type 0 where
