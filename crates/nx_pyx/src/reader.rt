@@ -59,6 +59,13 @@ impl Reader {
         taken
     }
 
+    /// The error with which the reader has failed, if it has.
+    pub fn error(&self) -> Option<ReadError>
+        ensures { result ≡ self.now.failed }
+    {
+        self.failed
+    }
+
     /// The document that the whole stream says.
     ///
     /// Errors: `Pyx` exactly where the stream has a fault; `Memory`.

@@ -1,31 +1,37 @@
 -- What has been read of a document's lines as bytes come.
-use Rattle.std.proofs.Common.{◌≡◌, ℕ, zero, suc, ◌+◌, ◌-◌, ◌<◌, ◌≤◌, Bool, true, false, List, [], ◌∷◌, ◌++◌, length, map, take, drop, get_or, None, Some, Result, Ok, Err, refl, sym, ap, ◌∙◌, subst, inl, inr, arith, append_assoc, append-nil, take_all, drop-cons, length-append}
-use Rattle.std.specs.Prelude.{codes}
+use Rattle.std.proofs.Common.{◌≡◌, ℕ, zero, suc, ◌+◌, ◌-◌, ◌<◌, ◌≤◌, Bool, true, false, List, [], ◌∷◌, ◌++◌, length, map, take, drop, get_or, None, Some, Result, Ok, Err, refl, sym, ap, ◌∙◌, subst, ◌⊎◌, inl, inr, arith, append_assoc, append-nil, take_all, drop-cons, length-append}
+use Rattle.std.specs.Prelude.{codes, if◌then◌else◌}
 use Rattle.std.specs.List.{list_any}
-use Rattle.std.specs.Option.{option_map}
+use Rattle.std.specs.Option.{option_map_or}
 use Rattle.std.proofs.Math.Seq.{take-add}
 use Rattle.std.proofs.lemmas.Bool.{MatchBool-at_true, MatchBool-at_false, or_from, or_parts, ne_eqb, eq-eqb, eqb-true}
 use Rattle.std.proofs.lemmas.List.{length-drop, length-take, take-append-drop, take_at, map-append}
 use Rattle.std.proofs.lemmas.List.Folds.{list_any-append}
 use Rattle.std.proofs.lemmas.Slice.Eq.{bytes_eq-Decides}
+use Rattle.nx_tree.specs.Forest.{OrderedTree}
 use Rattle.nx_pyx.specs.declared.error.PyxError.{PyxError}
-use Rattle.nx_pyx.specs.declared.error.PyxFault.TheVariants.{BadCode}
 use Rattle.nx_pyx.specs.declared.error.ReadError.{ReadError}
 use Rattle.nx_pyx.specs.declared.error.ReadError.TheVariants.{Pyx}
 use Rattle.nx_pyx.specs.declared.reader.Reader.{Reader}
-use Rattle.nx_pyx.specs.Fault.{shown_fault, early_fault, fault_at}
+use Rattle.nx_pyx.specs.Event.{event_of}
+use Rattle.nx_pyx.specs.Fault.{shown_fault, fault_of, first_fault, fault_at_end}
+use Rattle.nx_pyx.specs.Reading.{Reads}
 use Rattle.nx_pyx.specs.Lines.{Pieces, cut, without_cr, ended_lines, has_lf, EndsLine}
 use Rattle.nx_pyx.specs.Builder.{Fails}
 use Rattle.nx_pyx.specs.Reader.{HasRead, HasFailed}
-use Rattle.nx_pyx.proofs.Shown.{onto, cut-append, fault_shows}
-use Rattle.nx_pyx.proofs.StreamLemmas.{cut-held, cut-ended, cut-rest, shown_early}
+use Rattle.nx_pyx.proofs.Shown.{onto, cut-append, fault_shows, fault_shown}
+use Rattle.nx_pyx.proofs.StreamLemmas.{cut-held, cut-ended, cut-rest}
 use Rattle.nx_script.specs.declared.body.Body.{Body}
 use Rattle.nx_pyx.specs.Field.{begins_with}
-use Rattle.nx_script.specs.Commands.{is_dot, has_dot}
-use Rattle.nx_script.specs.Body.{HasReadOrFailed, HasReadLines, HasReadUpToDot, IsWithin, Stands, IsBeforeDot}
+use Rattle.nx_script.specs.declared.command.LoadBody.{LoadBody}
+use Rattle.nx_script.specs.declared.command.LoadBody.TheVariants.{Read, Wrong}
+use Rattle.nx_script.specs.Commands.{is_dot, has_dot, SaysBody}
+use Rattle.nx_script.specs.BeforeDot.{before_dot}
+use Rattle.nx_script.specs.Body.{HasReadOrFailed, HasReadLines, HasReadUpToDot, IsWithin, Stands, IsBeforeDot, Says, fault_in, unread}
 use Rattle.nx_script.proofs.Matches.{match_true, match_false}
-use Rattle.nx_script.proofs.Fronts.{dot_front, begins_front, undotted_front, undotted_before, undotted_line}
-use Rattle.nx_script.proofs.Cuts.{ended_lines-held, rest-held, ended_lines-ended, rest-ended}
+use Rattle.nx_script.proofs.Fronts.{dot_front, dot_before, dot_short, undotted_front, undotted_line}
+use Rattle.nx_script.proofs.Cuts.{ended_lines-held, rest-held, ended_lines-ended, rest-ended, lines-whole}
+use Rattle.nx_script.proofs.BeforeDot.{joined-cut, joined-front, before_in-none, before_in-last, before_dot-ended, after_dot-ended}
 
 -- The lines before the first that begins with a dot.
 
@@ -114,62 +120,47 @@ before_dot_none bytes n undotted inside other unbroken' =
 
 -- What the reader has read.
 
--- no dot in front
-up_to_none : (reader : Reader) (stream : List ℕ) → begins_with 46 (cut stream).rest ≡ false → HasReadOrFailed reader stream → HasReadUpToDot reader stream
-up_to_none reader stream undotted read =
-    match_false ((front : List ℕ) × (stream ≡ front ++ (cut stream).rest) × HasReadLines reader front) (HasReadOrFailed reader stream) (begins_with 46 (cut stream).rest) undotted read
+-- What has been read where the line that comes may be the dot: all before it.
+abbrev UpToDot : Reader → List ℕ → Type 0
+UpToDot reader stream = (front : List ℕ) × (stream ≡ front ++ (cut stream).rest) × HasReadLines reader front
 
-from_none : (reader : Reader) (stream : List ℕ) → begins_with 46 (cut stream).rest ≡ false → HasReadUpToDot reader stream → HasReadOrFailed reader stream
-from_none reader stream undotted read =
-    MatchBool-at_false ((front : List ℕ) × (stream ≡ front ++ (cut stream).rest) × HasReadLines reader front) (HasReadOrFailed reader stream) undotted read
+-- the line that comes can't be the dot
+pub up_to_none : (reader : Reader) (stream : List ℕ) → is_dot (without_cr (cut stream).rest) ≡ false → HasReadOrFailed reader stream → HasReadUpToDot reader stream
+up_to_none reader stream other read = match_false (UpToDot reader stream) (HasReadOrFailed reader stream) (is_dot (without_cr (cut stream).rest)) other read
 
--- The lines before one that begins with a dot have been read.
+pub from_none : (reader : Reader) (stream : List ℕ) → is_dot (without_cr (cut stream).rest) ≡ false → HasReadUpToDot reader stream → HasReadOrFailed reader stream
+from_none reader stream other read = MatchBool-at_false (UpToDot reader stream) (HasReadOrFailed reader stream) other read
+
+-- The lines before one that may be the dot have been read.
 pub record HasReadFront (reader : Reader) (stream : List ℕ) : Type 0 where
   pub front : List ℕ
   pub parts : stream ≡ front ++ (cut stream).rest
   pub read : HasReadLines reader front
 
--- where the line that comes begins with a dot
-pub read_front : (reader : Reader) (stream bytes : List ℕ) → begins_with 46 ((cut stream).rest ++ bytes) ≡ true → HasReadUpToDot reader stream → HasReadFront reader stream
-read_front reader stream bytes dotted read = by_rest (cut stream).rest refl dotted
+-- where the line that comes goes on to be the dot
+pub read_front : (reader : Reader) (stream bytes : List ℕ) → is_dot (without_cr ((cut stream).rest ++ bytes)) ≡ true → HasReadUpToDot reader stream → HasReadFront reader stream
+read_front reader stream bytes dot read = by_rest (dot_before (cut stream).rest bytes dot)
   where
-    by_rest : (rest : List ℕ) → (cut stream).rest ≡ rest → begins_with 46 (rest ++ bytes) ≡ true → HasReadFront reader stream
-    by_rest [] is _ = record {
+    by_rest : ((cut stream).rest ≡ []) ⊎ (is_dot (without_cr (cut stream).rest) ≡ true) → HasReadFront reader stream
+    by_rest (inl none) = record {
       front = stream;
-      parts = sym (append-nil stream) ∙ ap (λ (r : List ℕ). stream ++ r) (sym is);
-      read = record { read = from_none reader stream (ap (begins_with 46) is) read; ended = is };
+      parts = sym (append-nil stream) ∙ ap (λ (r : List ℕ). stream ++ r) (sym none);
+      read = record { read = from_none reader stream (ap (λ (r : List ℕ). is_dot (without_cr r)) none) read; ended = none };
     }
-    by_rest (b ∷ rest) is h =
-        let (front, parts, lines_read) =
-        MatchBool-at_true ((front : List ℕ) × (stream ≡ front ++ (cut stream).rest) × HasReadLines reader front) (HasReadOrFailed reader stream) (ap (begins_with 46) is ∙ h) read in
+    by_rest (inr is) =
+        let (front, parts, lines_read) = MatchBool-at_true (UpToDot reader stream) (HasReadOrFailed reader stream) is read in
         record { front = front; parts = parts; read = lines_read }
 
-up_to_dot : (reader : Reader) (stream front : List ℕ) → begins_with 46 (cut stream).rest ≡ true → stream ≡ front ++ (cut stream).rest → HasReadLines reader front →
+up_to_dot : (reader : Reader) (stream front : List ℕ) → is_dot (without_cr (cut stream).rest) ≡ true → stream ≡ front ++ (cut stream).rest → HasReadLines reader front →
     HasReadUpToDot reader stream
-up_to_dot reader stream front dotted parts read =
-    match_true ((front : List ℕ) × (stream ≡ front ++ (cut stream).rest) × HasReadLines reader front) (HasReadOrFailed reader stream) (begins_with 46 (cut stream).rest) dotted (front, parts, read)
+up_to_dot reader stream front dot parts read =
+    match_true (UpToDot reader stream) (HasReadOrFailed reader stream) (is_dot (without_cr (cut stream).rest)) dot (front, parts, read)
 
 -- the reader stays the same
 same_reader : (old new : Reader) (stream : List ℕ) → new ≡ old → HasReadLines old stream → HasReadLines new stream
 same_reader old new stream is read = subst (λ (r : Reader). HasReadLines r stream) (sym is) read
 
--- the dot of a line that is none of a document's
-bad_dot : (reader : Reader) (front : List ℕ) → (cut front).rest ≡ [] → HasReadOrFailed reader (front ++ 46 ∷ []) →
-    (error : PyxError) × HasFailed reader (Pyx error) × (shown_fault (front ++ 46 ∷ []) ≡ Some error)
-bad_dot reader front ended (inl read) =
-    let rest : (cut (front ++ 46 ∷ [])).rest ≡ 46 ∷ [] = rest-held front (46 ∷ []) refl ∙ ap (λ (r : List ℕ). r ++ 46 ∷ []) ended in
-    let n : ℕ = length (ended_lines (front ++ 46 ∷ [])) + 1 in
-    let shown : shown_fault (front ++ 46 ∷ []) ≡ Some (fault_at n BadCode) =
-    shown_early (front ++ 46 ∷ []) read.taken.sound ∙ ap (λ (r : List ℕ). option_map (fault_at n) (early_fault r)) rest in
-    absurd (let none : None ≡ Some (fault_at n BadCode) = sym read.shows_none ∙ shown in cc)
-bad_dot reader front ended (inr failed) = failed
-
 -- As bytes come.
-
--- what begins with a dot
-dot_first : (line : List ℕ) → begins_with 46 line ≡ true → (behind : List ℕ) × (line ≡ 46 ∷ behind)
-dot_first [] h = absurd (let no_byte : false ≡ true = h in cc)
-dot_first (b ∷ line) h = (line, ap (λ (first : ℕ). first ∷ line) (eqb-true b 46 h))
 
 -- nothing is held: no line goes on
 none_held : (held rest : List ℕ) → held ≡ take 3 rest → held ≡ [] → rest ≡ []
@@ -202,9 +193,30 @@ takes_lines old new mid bytes n last none before reads same held s within =
           ∙ list_any-append is_dot (ended_lines s) (ended_lines front)
           ∙ or_from _ _ within.undotted (undotted_lines (cut front).ended before.undotted);
       held = held ∙ ap (take 3) (sym behind);
-      read = up_to_none new.reader (s ++ front) (ap (begins_with 46) behind ∙ before.rest_undotted)
-          (subst (λ (r : Reader). HasReadOrFailed r (s ++ front)) (sym same) (reads s (from_none old.reader s (ap (begins_with 46) rest) within.read)));
+      read = up_to_none new.reader (s ++ front) (ap (λ (l : List ℕ). is_dot (without_cr l)) behind ∙ undotted_line (take (n - last) (drop last bytes)) before.rest_undotted)
+          (subst (λ (r : Reader). HasReadOrFailed r (s ++ front)) (sym same) (reads s (from_none old.reader s (ap (λ (l : List ℕ). is_dot (without_cr l)) rest) within.read)));
     }
+
+-- what isn't read of the bytes that are held stands in their front, as they go on
+unread_kept : (line more : List ℕ) → take (length (unread (take 3 line))) (take 3 (line ++ more)) ≡ unread (take 3 line)
+unread_kept line more = by_dot (is_dot (without_cr (take 3 line)))
+  where
+    front_kept : (l : List ℕ) → take (length (take 3 l)) (take 3 (l ++ more)) ≡ take 3 l
+    front_kept [] = refl
+    front_kept (a ∷ []) = refl
+    front_kept (a ∷ b ∷ []) = refl
+    front_kept (a ∷ b ∷ c ∷ l) = refl
+
+    by_dot : (t : Bool) → take (length (if t then take 3 line else [])) (take 3 (line ++ more)) ≡ (if t then take 3 line else [])
+    by_dot true = front_kept line
+    by_dot false = refl
+
+-- where the line may be the dot nothing of it is read, and else all
+unread_dot : (line : List ℕ) → is_dot (without_cr line) ≡ true → unread (take 3 line) ≡ line
+unread_dot line is = ap (λ (t : Bool). if t then take 3 line else []) (dot_front line ∙ is) ∙ dot_short line is
+
+unread_other : (line : List ℕ) → is_dot (without_cr line) ≡ false → unread (take 3 line) ≡ []
+unread_other line other = ap (λ (t : Bool). if t then take 3 line else []) (dot_front line ∙ other)
 
 module _ (old mid new : Body) (bytes : List ℕ) (unbroken : has_lf bytes ≡ false)
     (holds : (line : List ℕ) → old.held ≡ take 3 line → mid.held ≡ take 3 (line ++ bytes)) (reader_stays : mid.reader ≡ old.reader) where
@@ -212,101 +224,86 @@ module _ (old mid new : Body) (bytes : List ℕ) (unbroken : has_lf bytes ≡ fa
   held_line : (s : List ℕ) → IsWithin old s → mid.held ≡ take 3 ((cut s).rest ++ bytes)
   held_line s within = holds (cut s).rest within.held
 
-  held_begins : (s : List ℕ) (b : Bool) → IsWithin old s → b ≡ begins_with 46 mid.held → begins_with 46 ((cut s).rest ++ bytes) ≡ b
-  held_begins s b within is = sym (is ∙ ap (begins_with 46) (held_line s within) ∙ begins_front ((cut s).rest ++ bytes))
-
   held_is_dot : (s : List ℕ) (b : Bool) → IsWithin old s → b ≡ is_dot (without_cr mid.held) → is_dot (without_cr ((cut s).rest ++ bytes)) ≡ b
   held_is_dot s b within is = sym (is ∙ ap (λ (l : List ℕ). is_dot (without_cr l)) (held_line s within) ∙ dot_front ((cut s).rest ++ bytes))
 
-  -- the reader before these bytes, where the line doesn't begin with a dot
-  read_before : (s : List ℕ) → IsWithin old s → begins_with 46 ((cut s).rest ++ bytes) ≡ false → HasReadOrFailed mid.reader s
-  read_before s within undotted =
-      subst (λ (r : Reader). HasReadOrFailed r s) (sym reader_stays)
-      (from_none old.reader s (undotted_before (cut s).rest bytes undotted) within.read)
+  -- bytes that go on are read, behind those that were held alone
+  reads_all : (n : ℕ) (more : List ℕ) → n ≡ length (unread old.held) →
+      ((s : List ℕ) → HasReadOrFailed mid.reader s → HasReadOrFailed new.reader (s ++ (take n mid.held ++ more))) →
+      (s : List ℕ) → IsWithin old s → HasReadOrFailed new.reader (s ++ more)
+  reads_all n more count reads s within = by_dot (is_dot (without_cr (cut s).rest)) refl
+    where
+      kept : take n mid.held ≡ unread (take 3 (cut s).rest)
+      kept =
+          ap (λ (k : ℕ). take k mid.held) (count ∙ ap (λ (l : List ℕ). length (unread l)) within.held)
+          ∙ ap (take (length (unread (take 3 (cut s).rest)))) (held_line s within)
+          ∙ unread_kept (cut s).rest bytes
 
-  -- a line goes on that doesn't begin with a dot
-  pub goes_on_read : new.held ≡ mid.held → (dotted : Bool) → dotted ≡ begins_with 46 mid.held → dotted ≡ false →
-      ((s : List ℕ) → HasReadOrFailed mid.reader s → HasReadOrFailed new.reader (s ++ bytes)) → (s : List ℕ) → IsWithin old s → IsWithin new (s ++ bytes)
-  goes_on_read held dotted is none reads s within =
+      by_dot : (t : Bool) → is_dot (without_cr (cut s).rest) ≡ t → HasReadOrFailed new.reader (s ++ more)
+      by_dot true is =
+          let f = read_front old.reader s [] (ap (λ (l : List ℕ). is_dot (without_cr l)) (append-nil (cut s).rest) ∙ is) within.read in
+          subst (HasReadOrFailed new.reader)
+          (ap (λ (l : List ℕ). f.front ++ (l ++ more)) (kept ∙ unread_dot (cut s).rest is)
+          ∙ sym (append_assoc f.front (cut s).rest more)
+          ∙ ap (λ (l : List ℕ). l ++ more) (sym f.parts))
+          (reads f.front (same_reader old.reader mid.reader f.front reader_stays f.read).read)
+      by_dot false other =
+          subst (HasReadOrFailed new.reader) (ap (λ (l : List ℕ). s ++ (l ++ more)) (kept ∙ unread_other (cut s).rest other))
+          (reads s (subst (λ (r : Reader). HasReadOrFailed r s) (sym reader_stays) (from_none old.reader s other within.read)))
+
+  -- a line goes on that can't be the dot
+  pub goes_on_read : new.held ≡ mid.held → (dot : Bool) → dot ≡ is_dot (without_cr mid.held) → dot ≡ false → (n : ℕ) → n ≡ length (unread old.held) →
+      ((s : List ℕ) → HasReadOrFailed mid.reader s → HasReadOrFailed new.reader (s ++ (take n mid.held ++ bytes))) → (s : List ℕ) → IsWithin old s → IsWithin new (s ++ bytes)
+  goes_on_read held dot is none n count reads s within =
       let rest : (cut (s ++ bytes)).rest ≡ (cut s).rest ++ bytes = rest-held s bytes unbroken in
-      let undotted : begins_with 46 ((cut s).rest ++ bytes) ≡ false = held_begins s dotted within is ∙ none in
       record {
         undotted = ap has_dot (ended_lines-held s bytes unbroken) ∙ within.undotted;
         held = held ∙ held_line s within ∙ ap (take 3) (sym rest);
-        read = up_to_none new.reader (s ++ bytes) (ap (begins_with 46) rest ∙ undotted) (reads s (read_before s within undotted));
+        read = up_to_none new.reader (s ++ bytes) (ap (λ (l : List ℕ). is_dot (without_cr l)) rest ∙ held_is_dot s dot within is ∙ none) (reads_all n bytes count reads s within);
       }
 
-  -- a line goes on that begins with a dot
-  pub goes_on_dotted : (dotted : Bool) → dotted ≡ begins_with 46 mid.held → dotted ≡ true → (s : List ℕ) → IsWithin old s → IsWithin mid (s ++ bytes)
-  goes_on_dotted dotted is some s within =
+  -- a line goes on that may be the dot
+  pub goes_on_dotted : (dot : Bool) → dot ≡ is_dot (without_cr mid.held) → dot ≡ true → (s : List ℕ) → IsWithin old s → IsWithin mid (s ++ bytes)
+  goes_on_dotted dot is some s within =
       let rest : (cut (s ++ bytes)).rest ≡ (cut s).rest ++ bytes = rest-held s bytes unbroken in
-      let begins : begins_with 46 ((cut s).rest ++ bytes) ≡ true = held_begins s dotted within is ∙ some in
-      let f = read_front old.reader s bytes begins within.read in
+      let may : is_dot (without_cr ((cut s).rest ++ bytes)) ≡ true = held_is_dot s dot within is ∙ some in
+      let f = read_front old.reader s bytes may within.read in
       record {
         undotted = ap has_dot (ended_lines-held s bytes unbroken) ∙ within.undotted;
         held = held_line s within ∙ ap (take 3) (sym rest);
-        read = up_to_dot mid.reader (s ++ bytes) f.front (ap (begins_with 46) rest ∙ begins)
+        read = up_to_dot mid.reader (s ++ bytes) f.front (ap (λ (l : List ℕ). is_dot (without_cr l)) rest ∙ may)
             (ap (λ (l : List ℕ). l ++ bytes) f.parts ∙ append_assoc f.front (cut s).rest bytes ∙ ap (λ (l : List ℕ). f.front ++ l) (sym rest))
             (same_reader old.reader mid.reader f.front reader_stays f.read);
       }
 
-  -- one line more, which isn't the dot
-  undotted_ended : (s : List ℕ) → IsWithin old s → is_dot (without_cr ((cut s).rest ++ bytes)) ≡ false → has_dot (ended_lines (s ++ (bytes ++ 10 ∷ []))) ≡ false
-  undotted_ended s within other =
-      ap has_dot (ended_lines-ended s bytes unbroken)
-      ∙ list_any-append is_dot (ended_lines s) (without_cr ((cut s).rest ++ bytes) ∷ [])
-      ∙ or_from _ _ within.undotted (or_from _ _ other refl)
-
-  -- an LF ends a line that doesn't begin with a dot
-  pub ends_read : new.held ≡ [] → (dotted ended : Bool) → dotted ≡ begins_with 46 mid.held → ended ≡ is_dot (without_cr mid.held) → dotted ≡ false →
-      ((s : List ℕ) → HasReadOrFailed mid.reader s → HasReadOrFailed new.reader (s ++ (bytes ++ 10 ∷ []))) →
+  -- an LF ends a line that isn't the dot
+  pub ends_read : new.held ≡ [] → (ended : Bool) → ended ≡ is_dot (without_cr mid.held) → ended ≡ false → (n : ℕ) → n ≡ length (unread old.held) →
+      ((s : List ℕ) → HasReadOrFailed mid.reader s → HasReadOrFailed new.reader (s ++ (take n mid.held ++ (bytes ++ 10 ∷ [])))) →
       (s : List ℕ) → IsWithin old s → Stands ended new (s ++ (bytes ++ 10 ∷ []))
-  ends_read held dotted ended is is_ended none reads s within =
-      let undotted : begins_with 46 ((cut s).rest ++ bytes) ≡ false = held_begins s dotted within is ∙ none in
-      let other : is_dot (without_cr ((cut s).rest ++ bytes)) ≡ false = undotted_line ((cut s).rest ++ bytes) undotted in
+  ends_read held ended is none n count reads s within =
+      let other : is_dot (without_cr ((cut s).rest ++ bytes)) ≡ false = held_is_dot s ended within is ∙ none in
       let rest : (cut (s ++ (bytes ++ 10 ∷ []))).rest ≡ [] = rest-ended s bytes unbroken in
-      subst (λ (b : Bool). Stands b new (s ++ (bytes ++ 10 ∷ []))) (sym other ∙ held_is_dot s ended within is_ended)
-      (record {
-        undotted = undotted_ended s within other;
-        held = held ∙ ap (take 3) (sym rest);
-        read = up_to_none new.reader (s ++ (bytes ++ 10 ∷ [])) (ap (begins_with 46) rest) (reads s (read_before s within undotted));
-      })
-
-  -- an LF ends a line that begins with a dot and isn't the dot
-  pub ends_faulty : new.held ≡ [] → (dotted ended : Bool) → dotted ≡ begins_with 46 mid.held → ended ≡ is_dot (without_cr mid.held) → dotted ≡ true → ended ≡ false →
-      ((s : List ℕ) → HasReadOrFailed mid.reader s → HasReadOrFailed new.reader (s ++ 46 ∷ [])) →
-      (s : List ℕ) → IsWithin old s → Stands ended new (s ++ (bytes ++ 10 ∷ []))
-  ends_faulty held dotted ended is is_ended some none reads s within =
-      let begins : begins_with 46 ((cut s).rest ++ bytes) ≡ true = held_begins s dotted within is ∙ some in
-      let other : is_dot (without_cr ((cut s).rest ++ bytes)) ≡ false = held_is_dot s ended within is_ended ∙ none in
-      let rest : (cut (s ++ (bytes ++ 10 ∷ []))).rest ≡ [] = rest-ended s bytes unbroken in
-      let f = read_front old.reader s bytes begins within.read in
-      let (behind, line_is) = dot_first ((cut s).rest ++ bytes) begins in
-      let parts : s ++ (bytes ++ 10 ∷ []) ≡ (f.front ++ 46 ∷ []) ++ (behind ++ 10 ∷ []) =
-      ap (λ (l : List ℕ). l ++ (bytes ++ 10 ∷ [])) f.parts
-      ∙ append_assoc f.front (cut s).rest (bytes ++ 10 ∷ [])
-      ∙ ap (λ (l : List ℕ). f.front ++ l) (sym (append_assoc (cut s).rest bytes (10 ∷ [])) ∙ ap (λ (l : List ℕ). l ++ 10 ∷ []) line_is)
-      ∙ sym (append_assoc f.front (46 ∷ []) (behind ++ 10 ∷ [])) in
-      let (error, failed, shown) = bad_dot new.reader f.front f.read.ended (reads f.front (same_reader old.reader mid.reader f.front reader_stays f.read).read) in
       subst (λ (b : Bool). Stands b new (s ++ (bytes ++ 10 ∷ []))) (sym none)
       (record {
-        undotted = undotted_ended s within other;
+        undotted = ap has_dot (ended_lines-ended s bytes unbroken)
+            ∙ list_any-append is_dot (ended_lines s) (without_cr ((cut s).rest ++ bytes) ∷ [])
+            ∙ or_from _ _ within.undotted (or_from _ _ other refl);
         held = held ∙ ap (take 3) (sym rest);
-        read = up_to_none new.reader (s ++ (bytes ++ 10 ∷ [])) (ap (begins_with 46) rest)
-            (inr (error, failed, ap shown_fault parts ∙ fault_shows (f.front ++ 46 ∷ []) (behind ++ 10 ∷ []) error shown));
+        read = up_to_none new.reader (s ++ (bytes ++ 10 ∷ [])) (ap (λ (l : List ℕ). is_dot (without_cr l)) rest) (reads_all n (bytes ++ 10 ∷ []) count reads s within);
       })
 
   -- an LF ends the dot
-  pub ends_dot : new.reader ≡ mid.reader → (dotted ended : Bool) → dotted ≡ begins_with 46 mid.held → ended ≡ is_dot (without_cr mid.held) → dotted ≡ true → ended ≡ true →
+  pub ends_dot : new.reader ≡ mid.reader → (ended : Bool) → ended ≡ is_dot (without_cr mid.held) → ended ≡ true →
       (s : List ℕ) → IsWithin old s → Stands ended new (s ++ (bytes ++ 10 ∷ []))
-  ends_dot same dotted ended is is_ended some dot s within =
-      let begins : begins_with 46 ((cut s).rest ++ bytes) ≡ true = held_begins s dotted within is ∙ some in
-      let last : is_dot (without_cr ((cut s).rest ++ bytes)) ≡ true = held_is_dot s ended within is_ended ∙ dot in
-      let f = read_front old.reader s bytes begins within.read in
+  ends_dot same ended is dot s within =
+      let last : is_dot (without_cr ((cut s).rest ++ bytes)) ≡ true = held_is_dot s ended within is ∙ dot in
+      let f = read_front old.reader s bytes last within.read in
       let before : ended_lines s ≡ ended_lines f.front = ap ended_lines f.parts ∙ ended_lines-held f.front (cut s).rest (cut-rest s) in
       subst (λ (b : Bool). Stands b new (s ++ (bytes ++ 10 ∷ []))) (sym dot)
       (record {
         front = f.front;
+        before = λ more. before_dot-ended s bytes more unbroken within.undotted last ∙ joined-front f.front s f.parts f.read.ended;
+        after = λ more. after_dot-ended s bytes more unbroken within.undotted last;
         lines_are = ended_lines-ended s bytes unbroken
             ∙ ap (λ (l : List ℕ). ended_lines s ++ l ∷ []) ((bytes_eq-Decides (without_cr ((cut s).rest ++ bytes)) (codes ".")).0 last)
             ∙ ap (λ (ls : List (List ℕ)). ls ++ codes "." ∷ []) before;
@@ -314,6 +311,45 @@ module _ (old mid new : Body) (bytes : List ℕ) (unbroken : has_lf bytes ≡ fa
         read = same_reader mid.reader new.reader f.front same (same_reader old.reader mid.reader f.front reader_stays f.read);
         ended = rest-ended s bytes unbroken;
       })
+
+-- What the lines say before the dot.
+
+-- what the reader has read is what stands before the dot, as far as it has come
+pub read_before : (body : Body) (s : List ℕ) → IsWithin body s → HasReadOrFailed body.reader (before_dot s)
+read_before body s within = by_dot (is_dot (without_cr (cut s).rest)) refl
+  where
+    by_dot : (t : Bool) → is_dot (without_cr (cut s).rest) ≡ t → HasReadOrFailed body.reader (before_dot s)
+    by_dot true is =
+        let f = read_front body.reader s [] (ap (λ (l : List ℕ). is_dot (without_cr l)) (append-nil (cut s).rest) ∙ is) within.read in
+        subst (HasReadOrFailed body.reader) (sym (before_in-last (cut s).ended (cut s).rest within.undotted is ∙ joined-front f.front s f.parts f.read.ended)) f.read.read
+    by_dot false other =
+        subst (HasReadOrFailed body.reader) (sym (before_in-none (cut s).ended (cut s).rest within.undotted other ∙ joined-cut s)) (from_none body.reader s other within.read)
+
+-- the fault that the reader has is told
+pub told : (reader : Reader) (s : List ℕ) → HasReadOrFailed reader s → fault_in reader.failed ≡ shown_fault s
+told reader s (inl read) = ap fault_in read.works ∙ sym read.shows_none
+told reader s (inr (error, failed, shown)) = ap fault_in failed ∙ sym shown
+
+-- a reader gives the document that it has read
+pub said_read : (reader : Reader) (tree : OrderedTree) (result : Result OrderedTree ReadError) → result ≡ Ok tree → ((s : List ℕ) → HasRead reader s → Reads s tree) →
+    ((e : ReadError) → HasFailed reader e → result ≡ Err e) → (s : List ℕ) → HasReadOrFailed reader s → Reads s tree
+said_read reader tree result is ok again s (inl read) = ok s read
+said_read reader tree result is ok again s (inr (error, failed, shown)) = absurd (let no_error : Ok tree ≡ Err (Pyx error) = sym is ∙ again (Pyx error) failed in cc)
+
+-- or its fault
+pub said_wrong : (reader : Reader) (e : PyxError) (fault : ReadError) (result : Result OrderedTree ReadError) → result ≡ Err fault → fault ≡ Pyx e →
+    ((s : List ℕ) → HasRead reader s → Fails fault (fault_of s)) → ((e : ReadError) → HasFailed reader e → result ≡ Err e) → (s : List ℕ) → HasReadOrFailed reader s → fault_of s ≡ Some e
+said_wrong reader e fault result is fault_is fails again s (inl read) = subst (λ (f : ReadError). Fails f (fault_of s)) fault_is (fails s read)
+said_wrong reader e fault result is fault_is fails again s (inr (error, failed, shown)) =
+    let same : ◌≡◌ {A = Result OrderedTree ReadError} (Err (Pyx e)) (Err (Pyx error)) = ap (λ f. Err f) (sym fault_is) ∙ sym is ∙ again (Pyx error) failed in
+    let same_error : e ≡ error = cc in
+    ap fault_of (sym (append-nil s)) ∙ fault_shown s [] error shown ∙ ap (λ (x : PyxError). Some x) (sym same_error)
+
+-- a reader that has read whole lines
+pub says_lines : (s : List ℕ) (said : LoadBody) → (cut s).rest ≡ [] → Says s said → SaysBody (ended_lines s) said
+says_lines s (Read tree) ended reads = (reads.document, ap (map event_of) (sym (lines-whole s ended)) ∙ reads.lines_say)
+says_lines s (Wrong error) ended fault =
+    ap (λ (ls : List (List ℕ)). option_map_or (λ e. Some e) (first_fault [] ls) (fault_at_end ls)) (sym (lines-whole s ended)) ∙ fault
 
 -- a piece that the reader takes
 pub feeds : (old new : Reader) (bytes : List ℕ) (result : Result (Unit {0}) ReadError) → result ≡ Ok tt →
@@ -343,9 +379,20 @@ pub stands_ended : (old new : Body) (ended : Bool) (line rest : List ℕ) → re
     (s : List ℕ) → IsWithin old s → Stands ended new (s ++ rest)
 stands_ended old new ended line rest is stands s within = subst (λ (l : List ℕ). Stands ended new (s ++ l)) (sym is) (stands s within)
 
-pub reads_ended : (old new : Reader) (line rest : List ℕ) → rest ≡ line ++ 10 ∷ [] → ((s : List ℕ) → HasReadOrFailed old s → HasReadOrFailed new (s ++ rest)) →
-    (s : List ℕ) → HasReadOrFailed old s → HasReadOrFailed new (s ++ (line ++ 10 ∷ []))
-reads_ended old new line rest is reads s read = subst (λ (l : List ℕ). HasReadOrFailed new (s ++ l)) is (reads s read)
+pub reads_ended : (old : Reader) (mid new : Body) (unread line rest : List ℕ) → new ≡ mid → rest ≡ line ++ 10 ∷ [] →
+    ((s : List ℕ) → HasReadOrFailed old s → HasReadOrFailed mid.reader (s ++ (unread ++ rest))) →
+    (s : List ℕ) → HasReadOrFailed old s → HasReadOrFailed new.reader (s ++ (unread ++ (line ++ 10 ∷ [])))
+reads_ended old mid new unread line rest same is reads s read =
+    subst (λ (b : Body). HasReadOrFailed b.reader (s ++ (unread ++ (line ++ 10 ∷ [])))) (sym same)
+    (subst (λ (l : List ℕ). HasReadOrFailed mid.reader (s ++ (unread ++ l))) is (reads s read))
+
+-- bytes behind those that were held
+pub reads_both : (old mid new : Reader) (held unread bytes : List ℕ) (n : ℕ) → unread ≡ take n held →
+    ((s : List ℕ) → HasReadOrFailed old s → HasReadOrFailed mid (s ++ unread)) →
+    ((s : List ℕ) → HasReadOrFailed mid s → HasReadOrFailed new (s ++ bytes)) →
+    (s : List ℕ) → HasReadOrFailed old s → HasReadOrFailed new (s ++ (take n held ++ bytes))
+reads_both old mid new held unread bytes n is first second s read =
+    subst (HasReadOrFailed new) (append_assoc s unread bytes ∙ ap (λ (l : List ℕ). s ++ (l ++ bytes)) is) (second (s ++ unread) (first s read))
 
 -- a line that goes on with what stands before an LF
 pub holds_ended : (old new : List ℕ) (line rest : List ℕ) (n : ℕ) → n ≡ length rest - 1 → rest ≡ line ++ 10 ∷ [] →

@@ -1,9 +1,9 @@
 -- The first bytes of a line, which tell as much as the whole line.
-use Rattle.std.proofs.Common.{◌≡◌, ℕ, zero, suc, ◌+◌, ◌-◌, ◌<◌, ◌≤◌, ◌||◌, Bool, true, false, List, [], ◌∷◌, ◌++◌, length, take, min, refl, sym, ap, ◌∙◌, subst, ⊎_elim, arith, append-nil, take_all}
+use Rattle.std.proofs.Common.{◌≡◌, ℕ, zero, suc, ◌+◌, ◌-◌, ◌<◌, ◌≤◌, ◌||◌, Bool, true, false, List, [], ◌∷◌, ◌++◌, length, take, min, refl, sym, ap, ◌∙◌, subst, ◌⊎◌, inl, inr, ⊎_elim, arith, append-nil, take_all}
 use Rattle.std.specs.Prelude.{codes, ◌==◌, if◌then◌else◌, None}
 use Rattle.std.specs.Str.{bytes_eq}
 use Rattle.std.proofs.Math.Seq.{take-take, take-append-add}
-use Rattle.std.proofs.lemmas.Bool.{cases_lt, and_parts, lt-ltb, false_from_ne_true}
+use Rattle.std.proofs.lemmas.Bool.{cases_lt, and_parts, eqb-true, lt-ltb, false_from_ne_true}
 use Rattle.std.proofs.lemmas.List.{length-take, take-append-le, take_min}
 use Rattle.std.proofs.lemmas.Slice.Eq.{bytes_eq-Decides}
 use Rattle.nx_pyx.specs.Lines.{without_cr}
@@ -123,3 +123,22 @@ means_same n line enough =
     subst (λ (l : List ℕ). MeansSame (without_cr l) (without_cr line)) (sym (take_all n line all))
     (record { begins = refl; name = refl; command = refl }))
     (cases_lt n (length line))
+
+-- where a line that goes on is the dot, it was before, or hadn't begun
+pub dot_before : (line more : List ℕ) → is_dot (without_cr (line ++ more)) ≡ true → (line ≡ []) ⊎ (is_dot (without_cr line) ≡ true)
+dot_before [] more h = inl refl
+dot_before (a ∷ []) [] h = inr h
+dot_before (a ∷ []) (b ∷ more) h = inr (alone a ((and_parts (a == 46) (bytes_eq (without_cr (b ∷ more)) []) h).0))
+  where
+    alone : (x : ℕ) → (x == 46) ≡ true → is_dot (without_cr (x ∷ [])) ≡ true
+    alone x is = ap (λ (y : ℕ). is_dot (without_cr (y ∷ []))) (eqb-true x 46 is)
+dot_before (a ∷ b ∷ []) [] h = inr h
+dot_before (a ∷ b ∷ []) (c ∷ more) h = absurd (let no_end : false ≡ true = (and_parts (a == 46) (bytes_eq (without_cr (b ∷ c ∷ more)) []) h).1 in cc)
+dot_before (a ∷ b ∷ c ∷ line) more h = absurd (let no_end : false ≡ true = (and_parts (a == 46) (bytes_eq (without_cr (b ∷ c ∷ line ++ more)) []) h).1 in cc)
+
+-- the dot is short
+pub dot_short : (line : List ℕ) → is_dot (without_cr line) ≡ true → take 3 line ≡ line
+dot_short [] h = refl
+dot_short (a ∷ []) h = refl
+dot_short (a ∷ b ∷ []) h = refl
+dot_short (a ∷ b ∷ c ∷ line) h = absurd (let no_end : false ≡ true = (and_parts (a == 46) (bytes_eq (without_cr (b ∷ c ∷ line)) []) h).1 in cc)

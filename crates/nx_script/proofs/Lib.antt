@@ -2,6 +2,7 @@ pub mod Matches
 pub mod Fronts
 pub mod Groups
 pub mod Cuts
+pub mod BeforeDot
 pub mod DocumentLines
 pub mod ParserLemmas
 pub mod ScriptLemmas

@@ -250,7 +250,7 @@ module _ (parser : Parser) (load : Load) (inside : parser.load ≡ Some load) (e
       by_rest (head ∷ ls) gives (none, loading) =
           let last : List ℕ = (cut loading.stream).rest in
           let is_last : is_dot (without_cr last) ≡ true = last_is seen head ls loading ∙ dot in
-          let f = read_front load.body.reader loading.stream [] (ap (begins_with 46) (append-nil last) ∙ dot_begins last is_last) loading.within.read in
+          let f = read_front load.body.reader loading.stream [] (ap (λ (l : List ℕ). is_dot (without_cr l)) (append-nil last) ∙ is_last) loading.within.read in
           let before : ls ≡ ended_lines f.front = sym loading.lines_are ∙ ap ended_lines f.parts ∙ ended_lines-held f.front last (cut-rest loading.stream) in
           let own : (head ∷ ls) ++ last_line (cut seen).rest ≡ head ∷ (ended_lines f.front ++ codes "." ∷ []) =
           ap (λ (r : List ℕ). head ∷ (ls ++ last_line r)) (sym loading.same_rest)

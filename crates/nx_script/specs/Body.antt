@@ -1,16 +1,21 @@
 -- What has been read of a document's lines in a script.
 use Rattle.std.specs.List.{list_any}
-use Rattle.std.specs.Prelude.{◌<◌, ◌≤◌, ◌-◌, length, drop, ◌≡◌, ◌⊎◌, ℕ, Bool, true, false, List, [], ◌∷◌, ◌++◌, take, Some, codes}
+use Rattle.std.specs.Prelude.{◌<◌, ◌≤◌, ◌-◌, length, drop, ◌≡◌, ◌⊎◌, ℕ, Bool, true, false, if◌then◌else◌, List, [], ◌∷◌, ◌++◌, take, Option, None, Some, codes}
 use Rattle.std.specs.Bool.{MatchBool}
 use Rattle.nx_pyx.specs.declared.error.PyxError.{PyxError}
+use Rattle.nx_pyx.specs.declared.error.ReadError.{ReadError}
 use Rattle.nx_pyx.specs.declared.error.ReadError.TheVariants.{Pyx}
 use Rattle.nx_pyx.specs.declared.reader.Reader.{Reader}
-use Rattle.nx_pyx.specs.Lines.{cut, ended_lines}
-use Rattle.nx_pyx.specs.Fault.{shown_fault}
+use Rattle.nx_pyx.specs.Lines.{cut, ended_lines, without_cr}
+use Rattle.nx_pyx.specs.Fault.{shown_fault, fault_of}
+use Rattle.nx_pyx.specs.Reading.{Reads}
 use Rattle.nx_pyx.specs.Reader.{HasRead, HasFailed}
 use Rattle.nx_script.specs.declared.body.Body.{Body}
 use Rattle.nx_pyx.specs.Field.{begins_with}
-use Rattle.nx_script.specs.Commands.{has_dot}
+use Rattle.nx_script.specs.declared.command.LoadBody.{LoadBody}
+use Rattle.nx_script.specs.declared.command.LoadBody.TheVariants.{Read, Wrong}
+use Rattle.nx_script.specs.Commands.{is_dot, has_dot}
+use Rattle.nx_script.specs.BeforeDot.{before_dot, after_dot}
 
 -- The reader has read this stream, or has failed by a fault that the stream shows.
 abbrev pub HasReadOrFailed : Reader → List ℕ → Type 0
@@ -22,10 +27,10 @@ pub record HasReadLines (reader : Reader) (stream : List ℕ) : Type 0 where
   pub read : HasReadOrFailed reader stream
   pub ended : (cut stream).rest ≡ []
 
--- The reader has read the stream but for a line that has begun with a dot.
+-- The reader has read the stream but for a line that may still be the dot.
 abbrev pub HasReadUpToDot : Reader → List ℕ → Type 0
 HasReadUpToDot reader stream =
-    MatchBool (begins_with 46 (cut stream).rest)
+    MatchBool (is_dot (without_cr (cut stream).rest))
     ((front : List ℕ) × (stream ≡ front ++ (cut stream).rest) × HasReadLines reader front)
     (HasReadOrFailed reader stream)
 
@@ -35,13 +40,29 @@ pub record IsWithin (body : Body) (stream : List ℕ) : Type 0 where
   pub held : body.held ≡ take 3 (cut stream).rest
   pub read : HasReadUpToDot body.reader stream
 
--- A dot has ended the document's lines: these bytes, and the dot's line.
+-- A dot has ended the document's lines: these bytes, and the dot's line. Whatever comes stands behind it.
 pub record IsEndedBy (body : Body) (stream : List ℕ) : Type 0 where
   pub front : List ℕ
+  pub before : (more : List ℕ) → before_dot (stream ++ more) ≡ front
+  pub after : (more : List ℕ) → after_dot (stream ++ more) ≡ more
   pub lines_are : ended_lines stream ≡ ended_lines front ++ codes "." ∷ []
   pub undotted : has_dot (ended_lines front) ≡ false
   pub read : HasReadLines body.reader front
   pub ended : (cut stream).rest ≡ []
+
+-- the bytes that are held and that the reader hasn't read: those of a line that may still be the dot
+abbrev pub unread : List ℕ → List ℕ
+unread held = if is_dot (without_cr held) then held else []
+
+-- these bytes say this document, or have this fault
+abbrev pub Says : List ℕ → LoadBody → Type 0
+Says bytes (Read tree) = Reads bytes tree
+Says bytes (Wrong error) = fault_of bytes ≡ Some error
+
+-- the fault among a reader's errors
+abbrev pub fault_in : Option ReadError → Option PyxError
+fault_in (Some (Pyx error)) = Some error
+fault_in _ = None
 
 -- where the document's lines stand after these bytes
 abbrev pub Stands : Bool → Body → List ℕ → Type 0

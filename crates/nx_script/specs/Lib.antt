@@ -1,6 +1,7 @@
 pub mod Field
 pub mod Line
 pub mod Commands
+pub mod BeforeDot
 pub mod Body
 pub mod Parser
 pub mod Script

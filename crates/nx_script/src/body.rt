@@ -1,30 +1,36 @@
-// The lines of a document in a script, which a line of one dot ends.
-ghost use Rattle.std.specs.Prelude.{◌≡◌, ◌⊎◌, ◌<◌, ◌≤◌, ◌≢◌, ℕ, List, [], ◌∷◌, ◌++◌, length, take, drop, min, slice_index, true, false, IfOk, OnOk, IsTrue, ◌↔◌};
+// The lines of a document, which a line of one dot ends.
+ghost use Rattle.std.specs.Prelude.{◌≡◌, ◌⊎◌, ◌<◌, ◌≤◌, ◌≢◌, ℕ, List, [], ◌∷◌, ◌++◌, length, take, drop, min, slice_index, true, false, Option, IfOk, OnOk, IsTrue, ◌↔◌};
 ghost use Rattle.std.specs.List.{list_any};
-ghost use Rattle.nx_pyx.specs.Lines.{ended_lines, has_lf, without_cr};
+ghost use Rattle.nx_pyx.specs.Lines.{cut, ended_lines, has_lf, without_cr};
 ghost use Rattle.nx_pyx.specs.Field.{begins_with};
 ghost use Rattle.nx_script.specs.Commands.{SaysBody, is_dot};
-ghost use Rattle.nx_script.specs.Body.{HasReadOrFailed, HasReadLines, IsWithin, Stands, IsBeforeDot};
+ghost use Rattle.nx_script.specs.BeforeDot.{before_dot, shown_before_dot};
+ghost use Rattle.nx_script.specs.Body.{HasReadOrFailed, HasReadLines, IsWithin, IsEndedBy, Stands, IsBeforeDot, Says, fault_in, unread};
 
 use crate::LoadBody;
 use crate::line::is_dot;
-use nx_pyx::{ReadError, Reader, line_end, without_cr};
+use nx_pyx::{PyxError, ReadError, Reader, line_end, without_cr};
 use nx_tree::{Bytes, NoMemory};
 use std::alloc::Global;
 
 // As many bytes of a line as tell whether it is a dot, with a CR behind it or not.
 const FRONT: usize = 3;
 
-// The lines of a document so far. They are read as they come, but for a line that begins with a
-// dot, since it may be the one that ends them.
+/// The lines of a document so far, up to a line that is a dot, with a CR behind it or not. They come
+/// in pieces of any length, and are read as they come, but for a line that may still be the dot.
+///
+/// After `NoMemory` it is of no further use.
 #[derive(Drop)]
 pub struct Body {
-    pub reader: Reader,
+    reader: Reader,
     // The first bytes of the line that no LF has ended yet.
-    pub held: Bytes,
+    held: Bytes,
 }
 
 impl Body {
+    /// A document of which no line has come.
+    ///
+    /// Errors: `NoMemory`.
     pub fn new(alloc: Global) -> Result<Body, NoMemory>
         ensures { IfOk result (λ body. IsWithin body []) }
     {
@@ -37,8 +43,11 @@ impl Body {
         })
     }
 
-    // Takes a front of the bytes that come, and gives how many they were and whether they end the
-    // document's lines.
+    /// Takes a front of the bytes that come, and gives how many they were, at least one, and whether
+    /// the dot has ended the document's lines with them. The bytes behind are then no longer the
+    /// document's.
+    ///
+    /// Errors: `NoMemory`.
     pub fn take(&mut self, bytes: &[u8]) -> Result<(usize, bool), NoMemory>
         requires { 0 < length bytes.now }
         ensures some { IfOk result (λ r. 0 < r.0) }
@@ -57,23 +66,34 @@ impl Body {
         }
     }
 
-    // Whether the bytes that no LF has ended yet are the dot.
+    /// The fault that the bytes show which have come so far, if they show one. Of a line that may
+    /// still be the dot nothing is told.
+    pub fn fault(&self) -> Option<PyxError>
+        ensures { (s : List ℕ) → IsWithin self.now s → result ≡ shown_before_dot s }
+    {
+        fault_in(self.reader.error())
+    }
+
+    /// Whether the bytes that no LF has ended yet are the dot. At the end of all bytes it ends the
+    /// document's lines.
     pub fn is_at_dot(&self) -> bool
-        ensures { result ≡ is_dot (without_cr self.now.held) }
+        ensures held { result ≡ is_dot (without_cr self.now.held) }
+        ensures within { (s : List ℕ) → IsWithin self.now s → result ≡ is_dot (without_cr (cut s).rest) }
     {
         is_dot(without_cr(self.held.as_slice()))
     }
 
-    // The document that the lines say, once a dot has ended them.
+    /// The document that the lines before the dot say, or their fault, once the dot or the end of all
+    /// bytes has ended them.
+    ///
+    /// Errors: `NoMemory`.
     pub fn finish(self) -> Result<LoadBody, NoMemory>
-        ensures { IfOk result (λ said. (s : List ℕ) → HasReadLines self.reader s → SaysBody (ended_lines s) said) }
+        ensures lines { IfOk result (λ said. (s : List ℕ) → HasReadLines self.reader s → SaysBody (ended_lines s) said) }
+        ensures within { IfOk result (λ said. (s : List ℕ) → IsWithin self s → Says (before_dot s) said) }
+        ensures ended { IfOk result (λ said. (s : List ℕ) → IsEndedBy self s → (more : List ℕ) → Says (before_dot (s ++ more)) said) }
     {
         let Body { reader, held: _ } = self;
-        match reader.finish() {
-            Ok(tree) => Ok(LoadBody::Read(tree)),
-            Err(ReadError::Pyx(error)) => Ok(LoadBody::Wrong(error)),
-            Err(ReadError::Memory) => Err(NoMemory),
-        }
+        said(reader)
     }
 
     // Takes the bytes before the first line that begins with a dot, and gives how many they were.
@@ -98,11 +118,12 @@ impl Body {
         requires unbroken { has_lf bytes.now ≡ false }
         ensures { OnOk result ((s : List ℕ) → IsWithin self.old s → IsWithin self.new (s ++ bytes.now)) }
     {
+        let unread = self.unread_len();
         self.hold(bytes)?;
-        if self.is_dotted() {
+        if self.is_at_dot() {
             return Ok(());
         }
-        feed(&mut self.reader, bytes)
+        self.read_on(unread, bytes)
     }
 
     // Takes the rest of a line, with its LF, and says whether the line ends the document.
@@ -110,22 +131,39 @@ impl Body {
         requires { (line : List ℕ) × (rest.now ≡ line ++ 10 ∷ []) × (has_lf line ≡ false) }
         ensures { IfOk result (λ ended. (s : List ℕ) → IsWithin self.old s → Stands ended self.new (s ++ rest.now)) }
     {
+        let unread = self.unread_len();
         self.hold(&rest[..rest.len() - 1])?;
-        let dotted = self.is_dotted();
         let ended = self.is_at_dot();
-        self.held.clear();
-        if !dotted {
-            feed(&mut self.reader, rest)?;
-        } else if !ended {
-            // No line of a document begins with a dot, so its first byte is enough.
-            feed(&mut self.reader, b".")?;
+        if !ended {
+            self.read_on(unread, rest)?;
         }
+        self.held.clear();
         Ok(ended)
+    }
+
+    // How many of the bytes that are held the reader hasn't read: those of a line that may be the
+    // dot.
+    fn unread_len(&self) -> usize
+        ensures len { result ≡ length (unread self.now.held) }
+        ensures within { result ≤ length self.now.held }
+    {
+        if self.is_at_dot() { self.held.len() } else { 0 }
+    }
+
+    // Reads so many of the bytes that are held, and then these.
+    fn read_on(&mut self, unread: usize, bytes: &[u8]) -> Result<(), NoMemory>
+        requires { unread ≤ length self.old.held }
+        ensures read { OnOk result ((s : List ℕ) → HasReadOrFailed self.old.reader s → HasReadOrFailed self.new.reader (s ++ (take unread self.old.held ++ bytes.now))) }
+        ensures held { self.new.held ≡ self.old.held }
+    {
+        feed(&mut self.reader, &self.held.as_slice()[..unread])?;
+        feed(&mut self.reader, bytes)
     }
 
     // Holds as many of the bytes as are needed of the line's front.
     fn hold(&mut self, bytes: &[u8]) -> Result<(), NoMemory>
         ensures held { OnOk result ((line : List ℕ) → self.old.held ≡ take 3 line → self.new.held ≡ take 3 (line ++ bytes.now)) }
+        ensures longer { OnOk result (length self.old.held ≤ length self.new.held) }
         ensures reader { self.new.reader ≡ self.old.reader }
     {
         let room = FRONT.saturating_sub(self.held.len());
@@ -133,15 +171,26 @@ impl Body {
             .extend_from_slice(&bytes[..room.min(bytes.len())])?;
         Ok(())
     }
+}
 
-    // Whether the line that is held begins with a dot.
-    fn is_dotted(&self) -> bool
-        ensures { result ≡ begins_with 46 self.now.held }
-    {
-        match self.held.as_slice() {
-            [first, ..] => *first == b'.',
-            [] => false,
-        }
+// The document that a reader has read, or its fault.
+fn said(reader: Reader) -> Result<LoadBody, NoMemory>
+    ensures { IfOk result (λ said. (s : List ℕ) → HasReadOrFailed reader s → Says s said) }
+{
+    match reader.finish() {
+        Ok(tree) => Ok(LoadBody::Read(tree)),
+        Err(ReadError::Pyx(error)) => Ok(LoadBody::Wrong(error)),
+        Err(ReadError::Memory) => Err(NoMemory),
+    }
+}
+
+// The fault among a reader's errors.
+fn fault_in(error: Option<ReadError>) -> Option<PyxError>
+    ensures { result ≡ fault_in error }
+{
+    match error {
+        Some(ReadError::Pyx(error)) => Some(error),
+        Some(ReadError::Memory) | None => None,
     }
 }
 

@@ -17,6 +17,7 @@ mod reply;
 mod script;
 mod write;
 
+pub use body::Body;
 pub use command::{Command, LineBody, LoadBody, TextBody};
 pub use error::ScriptError;
 pub use reply::{DocLine, DocLines, Reply, ReplyError};
