@@ -2,7 +2,7 @@
 ghost use Rattle.std.specs.Prelude.{◌≡◌, ◌≤◌, ◌+◌, None, Some, IfOk, IfErr};
 ghost use Rattle.nx_tree.specs.declared.error.TreeError.TheVariants.{NoNode};
 ghost use Rattle.nx_tree.specs.Forest.{nodes, forest_of};
-ghost use Rattle.nx_tree.specs.Document.{IsDocument, depth, deepest};
+ghost use Rattle.nx_tree.specs.Document.{IsDocument, depth, deepest, most_nodes};
 ghost use Rattle.nx_tree.specs.Edit.{at};
 
 use super::Tree;
@@ -24,9 +24,10 @@ pub fn node_at<'a>(tree: &'a Tree, path: &[u32]) -> Result<&'a Tree, TreeError>
     Ok(found)
 }
 
-/// The number of nodes of the document, its root counted. It takes no memory.
+/// The number of nodes of a document, or of a tree in one, its root counted. It takes no memory and
+/// looks at no node.
 pub fn count(tree: &Tree) -> u32
-    requires { IsDocument tree.now }
+    requires { 1 + nodes tree.now.below ≤ most_nodes }
     ensures { result ≡ 1 + nodes tree.now.below }
 {
     1 + tree.children.node_count()
