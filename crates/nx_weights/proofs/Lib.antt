@@ -1,0 +1,3 @@
+pub mod LimitLemmas
+pub mod SumLemmas
+pub mod HeavyLemmas

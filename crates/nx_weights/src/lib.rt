@@ -1,0 +1,17 @@
+//! How much room the nodes and subtrees of a document take, in slots of 8 bytes.
+//!
+//! What a node weighs, what a subtree weighs and what document order is stands in
+//! `specs/Weight.antt`.
+#![tactic(auto)]
+
+mod heavy;
+mod node;
+mod sums;
+#[cfg(test)]
+mod tests;
+mod weights;
+
+pub use heavy::{HeavyNode, first_heavy};
+pub use node::weight;
+pub use sums::subtree_weights;
+pub use weights::Weights;
