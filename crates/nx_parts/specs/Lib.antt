@@ -1,0 +1,4 @@
+pub mod Light
+pub mod Marks
+pub mod Partitioning
+pub mod Refusal

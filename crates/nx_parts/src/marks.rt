@@ -1,0 +1,143 @@
+// Marks on the nodes of a tree: which interval each is a member of.
+ghost use Rattle.std.specs.Prelude.{◌≡◌, ◌≤◌, ◌<◌, ◌^◌, [], ◌∷◌, List, ℕ, length, None, OnOk, IfOk, IfErr};
+ghost use Rattle.nx_tree.specs.Document.{is_empty};
+ghost use Rattle.nx_parts.specs.Partitioning.{is_child_path, has_member, holder};
+ghost use Rattle.nx_parts.specs.Refusal.{Overlaps};
+ghost use Rattle.nx_parts.specs.Marks.{marked, marked_in, Holds, IsClash, IsOverlap};
+
+use crate::{Interval, PartsError};
+use std::alloc::Global;
+
+/// The mark of a node: the interval that it is a member of, as its place in the list, and the marks
+/// of its first children. Behind them no node is a member at all.
+#[derive(Drop)]
+pub(crate) struct Mark {
+    pub(crate) holder: Option<u32>,
+    pub(crate) below: Vec<Mark>,
+}
+
+impl Mark {
+    // No interval, at the node and below it. It takes no memory.
+    fn new(alloc: Global) -> Mark
+        ensures { (path : List ℕ) → marked result path ≡ None }
+    {
+        Mark {
+            holder: None,
+            below: Vec::new(alloc),
+        }
+    }
+
+    // Makes the members of the interval such.
+    fn hold_members(
+        &mut self,
+        alloc: Global,
+        interval: &Interval,
+        index: u32,
+    ) -> Result<(), PartsError>
+        ensures ok { OnOk result (Holds (has_member interval.now) index self.old self.new) }
+        ensures err { IfErr result (IsClash (has_member interval.now) index self.old) }
+    {
+        match interval {
+            Interval::Root => self.hold(index),
+            Interval::Run {
+                parent,
+                first,
+                last,
+            } => self.hold_run(alloc, parent.as_slice(), *first, *last, index),
+        }
+    }
+
+    // Makes the node itself a member of the interval.
+    fn hold(&mut self, index: u32) -> Result<(), PartsError>
+        ensures ok { OnOk result (Holds is_empty index self.old self.new) }
+        ensures err { IfErr result (IsClash is_empty index self.old) }
+    {
+        if self.holder.is_some() {
+            return Err(PartsError::Overlap { index });
+        }
+        self.holder = Some(index);
+        Ok(())
+    }
+
+    // Makes the children from the first to the last members of the interval.
+    fn hold_children(
+        &mut self,
+        alloc: Global,
+        first: u32,
+        last: u32,
+        index: u32,
+    ) -> Result<(), PartsError>
+        ensures ok { OnOk result (Holds (is_child_path [] first last) index self.old self.new) }
+        ensures err { IfErr result (IsClash (is_child_path [] first last) index self.old) }
+    {
+        let end = last as usize + 1;
+        grow(alloc, &mut self.below, end)?;
+        for position in first as usize..end {
+            self.below[position].hold(index)?;
+        }
+        Ok(())
+    }
+
+    // Makes the children from the first to the last of the node at the path members of the interval.
+    fn hold_run(
+        &mut self,
+        alloc: Global,
+        parent: &[u32],
+        first: u32,
+        last: u32,
+        index: u32,
+    ) -> Result<(), PartsError>
+        ensures ok { OnOk result (Holds (is_child_path parent.now first last) index self.old self.new) }
+        ensures err { IfErr result (IsClash (is_child_path parent.now first last) index self.old) }
+    {
+        let Some((position, path)) = parent.split_first() else {
+            return self.hold_children(alloc, first, last, index);
+        };
+        let position = *position as usize;
+        grow(alloc, &mut self.below, position + 1)?;
+        self.below[position].hold_run(alloc, path, first, last, index)
+    }
+}
+
+// Makes sure that there are so many marks, by empty ones at the end.
+fn grow(alloc: Global, marks: &mut Vec<Mark>, count: usize) -> Result<(), PartsError>
+    ensures len { OnOk result (count ≤ length marks.new.items) }
+    ensures same { (position : ℕ) (path : List ℕ) → marked_in marks.new.items position path ≡ marked_in marks.old.items position path }
+    ensures err { IfErr result (λ error. error ≡ PartsError.Memory) }
+{
+    while marks.len() < count {
+        marks.push(Mark::new(alloc))?;
+    }
+    Ok(())
+}
+
+// Marks all members of the intervals, where the mark that is given is the root's.
+pub(crate) fn mark_members(alloc: Global, intervals: &[Interval]) -> Result<Mark, PartsError>
+    requires { length intervals.now < 2 ^ 32 }
+    ensures marked { IfOk result (λ root. (path : List ℕ) → marked root path ≡ holder intervals.now path) }
+    ensures apart { OnOk result ((index : ℕ) → ¬ Overlaps intervals.now index) }
+    ensures err { IfErr result (IsOverlap intervals.now) }
+{
+    let mut root = Mark::new(alloc);
+    for (index, interval) in intervals.iter().enumerate() {
+        root.hold_members(alloc, interval, index as u32)?;
+    }
+    Ok(root)
+}
+
+// The interval that holds the node at the position; `None` where it is no member.
+pub(crate) fn holder_in(marks: &[Mark], position: usize) -> Option<u32>
+    ensures { result ≡ marked_in marks.now position [] }
+{
+    marks.get(position)?.holder
+}
+
+// The marks below the node at the position; none where no members are marked there.
+pub(crate) fn below_in(marks: &[Mark], position: usize) -> &[Mark]
+    ensures { (next : ℕ) (path : List ℕ) → marked_in result.now next path ≡ marked_in marks.now position (next ∷ path) }
+{
+    match marks.get(position) {
+        Some(mark) => mark.below.as_slice(),
+        None => &[],
+    }
+}
