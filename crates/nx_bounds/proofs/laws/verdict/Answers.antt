@@ -1,0 +1,8 @@
+use Rattle.nx_bounds.proofs.VerdictLemmas.{spared, one_refusal}
+use Rattle.nx_bounds.proofs.laws.verdict.Goals as goal
+
+pub returns-clause-spared : goal.returns-clause-spared
+returns-clause-spared c = spared
+
+pub returns-clause-one : goal.returns-clause-one
+returns-clause-one c = one_refusal

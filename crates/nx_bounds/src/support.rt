@@ -1,0 +1,198 @@
+// The check that the bounds of all nodes support each other.
+ghost use Rattle.std.specs.Prelude.{◌≡◌, ◌+◌, ◌^◌, ◌<◌, ◌≤◌, [], length, drop, slice_get, IfOk, OnOk, IfErr};
+ghost use Rattle.std.specs.List.{AllByRecursion};
+ghost use Rattle.nx_tree.specs.Forest.{nodes};
+ghost use Rattle.nx_tree.specs.Document.{IsDocument, most_nodes};
+ghost use Rattle.nx_weights.specs.Weight.{IsShort, IsWithinLimits};
+ghost use Rattle.nx_bounds.specs.Claim.{child, children, claimed, claim, IsSupported, AreSupported};
+ghost use Rattle.nx_bounds.specs.Profile.{IsFound};
+ghost use Rattle.nx_bounds.specs.Refusal.{IsNotSupported};
+ghost use Rattle.nx_bounds.specs.Walk.{claim_at, NodeFails, WalkFails};
+
+use crate::choices::{Choices, ClaimedChild};
+use crate::{BoundsError, Field};
+use nx_parts::{Bound, Bounds};
+use nx_tree::{NoMemory, Node, Tree, count};
+use nx_weights::weight;
+use std::alloc::Global;
+
+// What the check of one node needs, and the next one again.
+#[derive(Drop)]
+struct Scratch {
+    choices: Choices,
+    // What is claimed of the children of the node.
+    children: Vec<ClaimedChild>,
+}
+
+/// Whether there is one bound for each node of the document, and each is supported: no number of a
+/// bound is more than what any choice over the claims of the node's children gives, where no part may
+/// weigh more than `k` slots.
+///
+/// Errors: `Length` where there isn't one bound for each node. Else `Unsupported` for the first node in
+/// document order whose bound isn't supported, and the first of its numbers. `Memory` where there is
+/// none for what the check has to keep.
+pub fn supported(alloc: Global, tree: &Tree, k: u32, bounds: &Bounds) -> Result<(), BoundsError>
+    requires document { IsDocument tree.now }
+    requires some { 1 ≤ k }
+    requires bound { k ≤ 256 }
+    requires few { length bounds.now < 2 ^ 32 }
+    ensures ok { OnOk result (AreSupported k tree.now bounds.now) }
+    ensures err { IfErr result (λ error. IsNotSupported k tree.now bounds.now error) }
+{
+    let bounds = bounds.as_slice();
+    let nodes = count(tree);
+    if bounds.len() != nodes as usize {
+        return Err(BoundsError::Length {
+            bounds: bounds.len() as u32,
+            nodes,
+        });
+    }
+    let mut scratch = Scratch {
+        choices: Choices::new(alloc),
+        children: Vec::new(alloc),
+    };
+    check_tree(tree, k, bounds, 0, &mut scratch)
+}
+
+// Checks the bounds of the tree's nodes in document order, where that of its root stands at the place.
+fn check_tree(
+    tree: &Tree,
+    k: u32,
+    bounds: &[Bound],
+    place: u32,
+    scratch: &mut Scratch,
+) -> Result<(), BoundsError>
+    requires some { 1 ≤ k }
+    requires bound { k ≤ 256 }
+    requires limits { IsWithinLimits tree.now }
+    requires few { length bounds.now ≤ most_nodes }
+    requires enough { place + 1 + nodes tree.now.below ≤ length bounds.now }
+    ensures ok { OnOk result (AllByRecursion (IsSupported k) (claimed k tree.now (drop place bounds.now))) }
+    ensures err { IfErr result (λ error. WalkFails k (claimed k tree.now (drop place bounds.now)) place error) }
+{
+    check_node(tree, k, bounds, place, scratch)?;
+    let mut next = place + 1;
+    for child in tree.children.as_slice() {
+        check_tree(child, k, bounds, next, scratch)?;
+        next += count(child);
+    }
+    Ok(())
+}
+
+// Checks the bound of the tree's root, which stands at the place.
+fn check_node(
+    tree: &Tree,
+    k: u32,
+    bounds: &[Bound],
+    place: u32,
+    scratch: &mut Scratch,
+) -> Result<(), BoundsError>
+    requires some { 1 ≤ k }
+    requires bound { k ≤ 256 }
+    requires limits { IsWithinLimits tree.now }
+    requires few { length bounds.now ≤ most_nodes }
+    requires enough { place + 1 + nodes tree.now.below ≤ length bounds.now }
+    ensures ok { OnOk result ((bound : Bound) → slice_get bounds.now place ≡ Some bound → IsSupported k (claim_at k tree.now (drop (place + 1) bounds.now) bound)) }
+    ensures err { IfErr result (λ error. (bound : Bound) → slice_get bounds.now place ≡ Some bound → NodeFails k (claim_at k tree.now (drop (place + 1) bounds.now) bound) place error) }
+{
+    let bound = bounds[place as usize];
+    match exceeded(tree, k, bounds, place, scratch)? {
+        Some((field, found)) => Err(BoundsError::Unsupported {
+            node: place,
+            field,
+            claimed: number(bound, field),
+            found,
+        }),
+        None => Ok(()),
+    }
+}
+
+// The first number of the bound of the tree's root that isn't supported, and what a choice gives.
+fn exceeded(
+    tree: &Tree,
+    k: u32,
+    bounds: &[Bound],
+    place: u32,
+    scratch: &mut Scratch,
+) -> Result<Option<(Field, u32)>, NoMemory>
+    requires some { 1 ≤ k }
+    requires bound { k ≤ 256 }
+    requires limits { IsWithinLimits tree.now }
+    requires few { length bounds.now ≤ most_nodes }
+    requires enough { place + 1 + nodes tree.now.below ≤ length bounds.now }
+    ensures { IfOk result (λ found. (bound : Bound) → slice_get bounds.now place ≡ Some bound → IsFound k (claim_at k tree.now (drop (place + 1) bounds.now) bound) found) }
+{
+    let bound = bounds[place as usize];
+    let own = weight(&tree.node);
+    if tree.children.is_empty() {
+        return Ok(exceeded_at_leaf(k, own, bound));
+    }
+    let Scratch { choices, children } = scratch;
+    claim_children(tree, k, bounds, place, children)?;
+    choices.exceeded(k, own, children.as_slice(), bound)
+}
+
+// The same of a node without children. It has one choice, which counts one interval and leaves
+// nothing with the node, and none where the node itself is too heavy.
+fn exceeded_at_leaf(k: u32, own: u32, bound: Bound) -> Option<(Field, u32)>
+    ensures { IsFound k (record { own = own; children = []; bound = bound }) result }
+{
+    if own > k {
+        None
+    } else if bound.least > 1 {
+        Some((Field::Least, 1))
+    } else if bound.least == 1 && bound.lean > own {
+        Some((Field::Lean, own))
+    } else if bound.nearly > own {
+        Some((Field::Nearly, own))
+    } else {
+        None
+    }
+}
+
+// Makes the list one of what is claimed of the children of the tree's root, whose bound stands at the
+// place.
+fn claim_children(
+    tree: &Tree,
+    k: u32,
+    bounds: &[Bound],
+    place: u32,
+    list: &mut Vec<ClaimedChild>,
+) -> Result<(), NoMemory>
+    requires limits { IsWithinLimits tree.now }
+    requires few { length bounds.now ≤ most_nodes }
+    requires enough { place + 1 + nodes tree.now.below ≤ length bounds.now }
+    ensures { OnOk result (list.new.items ≡ children k tree.now.below (drop (place + 1) bounds.now)) }
+{
+    list.clear();
+    let mut next = place + 1;
+    for child in tree.children.as_slice() {
+        list.push(claimed_child(&child.node, k, bounds[next as usize]))?;
+        next += count(child);
+    }
+    Ok(())
+}
+
+// A child as the choices at its parent see it.
+fn claimed_child(node: &Node, k: u32, bound: Bound) -> ClaimedChild
+    requires { IsShort node.now }
+    ensures { result ≡ child k node.now bound }
+{
+    let own = weight(node);
+    ClaimedChild {
+        least: bound.least,
+        lean: own.max(bound.lean).min(k),
+        nearly: own.max(bound.nearly).min(k),
+    }
+}
+
+// The number of the bound.
+fn number(bound: Bound, field: Field) -> u32
+    ensures { result ≡ claim field bound }
+{
+    match field {
+        Field::Least => bound.least,
+        Field::Lean => bound.lean,
+        Field::Nearly => bound.nearly,
+    }
+}
