@@ -12,21 +12,27 @@ use Rattle.nx_pyx.proofs.Said.{no_fault, said_events}
 use Rattle.nx_pyx.proofs.Shown.{fault_shown}
 use Rattle.nx_pyx.proofs.Reading.{one_reading}
 use Rattle.nx_front.specs.declared.words.CommandLine.TheVariants.{Tidy}
-use Rattle.nx_front.specs.Answer.{Answers, refusal_line}
+use Rattle.nx_front.specs.declared.refusal.Refusal.TheVariants.{Pyx}
+use Rattle.nx_front.specs.Refusal.{refusal_line}
+use Rattle.nx_front.specs.Answer.{Answers}
 use Rattle.nx_front.specs.Outcome.{most_input, EndsRead, EndsRefused}
 use Rattle.nx_front.specs.Run.{AnswersTold}
 
+-- the line that refuses a text with this fault
+abbrev pyx_line : PyxError → List ℕ
+pyx_line error = refusal_line (Pyx error)
+
 -- the answer to an input
 answer_to : List ℕ → List ℕ
-answer_to input = option_map_or refusal_line (fault_of input) (text_of (events_of (lines input)))
+answer_to input = option_map_or pyx_line (fault_of input) (text_of (events_of (lines input)))
 
 answers_to : (input : List ℕ) → Answers input (answer_to input)
 unfolding answer_to
 answers_to input = record {
   reading = λ tree reads.
-      ap (λ o. option_map_or refusal_line o (text_of (events_of (lines input)))) (no_fault input tree reads)
+      ap (λ o. option_map_or pyx_line o (text_of (events_of (lines input)))) (no_fault input tree reads)
       ∙ ap text_of (said_events (lines input) (events tree.below) reads.lines_say);
-  refusal = λ error is. ap (λ o. option_map_or refusal_line o (text_of (events_of (lines input)))) is;
+  refusal = λ error is. ap (λ o. option_map_or pyx_line o (text_of (events_of (lines input)))) is;
 }
 
 -- some answer of `tidy`, where nothing was given
@@ -41,10 +47,10 @@ answers_reading input tree reads = record {
   refusal = λ error is. absurd (let none : None ≡ Some error = sym (no_fault input tree reads) ∙ is in cc);
 }
 
-answers_fault : (input : List ℕ) (error : PyxError) → fault_of input ≡ Some error → Answers input (refusal_line error)
+answers_fault : (input : List ℕ) (error : PyxError) → fault_of input ≡ Some error → Answers input (refusal_line (Pyx error))
 answers_fault input error is = record {
   reading = λ tree reads. absurd (let none : None ≡ Some error = sym (no_fault input tree reads) ∙ is in cc);
-  refusal = λ other is'. let same : Some error ≡ Some other = sym is ∙ is' in ap refusal_line (cc same);
+  refusal = λ other is'. let same : Some error ≡ Some other = sym is ∙ is' in ap pyx_line (cc same);
 }
 
 -- the text of the document that was read answers the input
@@ -61,8 +67,8 @@ fault_of_all error taken left (inl shown) = fault_shown taken left error shown
 fault_of_all error taken left (inr (none, few, is)) = ap (λ (l : List ℕ). fault_of (taken ++ l)) none ∙ ap fault_of (append-nil taken) ∙ is
 
 -- the line that refuses the input answers it
-pub refused_answers : (error : PyxError) (taken : List ℕ) (old new : Option (List ℕ)) → EndsRefused error taken old new → AnswersTold (Some Tidy) old new (refusal_line error)
+pub refused_answers : (error : PyxError) (taken : List ℕ) (old new : Option (List ℕ)) → EndsRefused error taken old new → AnswersTold (Some Tidy) old new (refusal_line (Pyx error))
 refused_answers error taken old None ends = tt
 refused_answers error taken old (Some left) ends =
-    subst (λ (o : Option (List ℕ)). IfSome o (λ input. Answers input (refusal_line error))) (sym ends.takes)
+    subst (λ (o : Option (List ℕ)). IfSome o (λ input. Answers input (refusal_line (Pyx error)))) (sym ends.takes)
     (answers_fault (taken ++ left) error (fault_of_all error taken left ends.fault))

@@ -1,6 +1,8 @@
 pub mod ReadLemmas
+pub mod ClaimedLemmas
 pub mod GiveLemmas
 pub mod AnswerLemmas
 pub mod RunLemmas
+pub mod VerifyLemmas
 pub mod SessionLemmas
 mod TestHost

@@ -15,12 +15,13 @@ use Rattle.nx_front.specs.declared.status.Status.TheVariants.{Done, Usage, Refus
 use Rattle.nx_front.specs.declared.give.Halt.{Halt}
 use Rattle.nx_front.specs.declared.give.Halt.TheVariants as halt
 use Rattle.nx_front.specs.declared.words.CommandLine.{CommandLine}
-use Rattle.nx_front.specs.declared.words.CommandLine.TheVariants.{Tidy, Run}
-use Rattle.nx_front.specs.Answer.{refusal_line}
+use Rattle.nx_front.specs.declared.words.CommandLine.TheVariants.{Tidy, Run, Verify}
+use Rattle.nx_front.specs.declared.refusal.Refusal.TheVariants.{Pyx}
+use Rattle.nx_front.specs.Refusal.{refusal_line}
 use Rattle.nx_front.specs.Outcome.{most_input, EndsRead, EndsRefused}
 use Rattle.nx_host.specs.Phase.{TakesAlone, StandsBeside, GivesAlone, StandsWithin}
 use Rattle.nx_front.specs.Run.{TidyEnds, EndsWith, AnswersTold, GrowsToAnswer, LeavesDisk, IsUndisturbed, status_after, IsCarriedOut}
-use Rattle.nx_front.proofs.AnswerLemmas.{an_answer, fault_of_all}
+use Rattle.nx_front.proofs.AnswerLemmas.{fault_of_all}
 
 -- the status where all or a part of the output was given
 pub gave_read : (tree : OrderedTree) (taken : List ℕ) (a b c : Beside) (given : Result (Unit {0}) Halt) →
@@ -33,12 +34,12 @@ gave_read tree taken a b c (Err halt.NoMemory) ends output faults input appends 
 
 pub gave_refused : (error : PyxError) (taken : List ℕ) (a b c : Beside) (given : Result (Unit {0}) Halt) →
     EndsRefused error taken a.input b.input → b.output ≡ a.output → b.out_faults ≡ a.out_faults → c.input ≡ b.input →
-    OnOk given (Appends (refusal_line error) b.output c.output) → (given ≡ Err halt.WriteFault → Rose b.out_faults c.out_faults) → TidyEnds (status_after Refused given) a c
+    OnOk given (Appends (refusal_line (Pyx error)) b.output c.output) → (given ≡ Err halt.WriteFault → Rose b.out_faults c.out_faults) → TidyEnds (status_after Refused given) a c
 gave_refused error taken a b c (Ok _) ends output faults input appends rose = (
   error,
   taken,
   subst (λ (i : Option (List ℕ)). EndsRefused error taken a.input i) (sym input) ends,
-  subst (λ (o : Option (List ℕ)). Appends (refusal_line error) o c.output) output appends,
+  subst (λ (o : Option (List ℕ)). Appends (refusal_line (Pyx error)) o c.output) output appends,
 )
 gave_refused error taken a b c (Err halt.WriteFault) ends output faults input appends rose = subst (λ (n : ℕ). Rose n c.out_faults) faults (rose refl)
 gave_refused error taken a b c (Err halt.NoMemory) ends output faults input appends rose = tt
@@ -53,10 +54,10 @@ module _ {D : Type 0} (contents : D → Option Image) (may_leave : D → Image �
   keeps_after a b c is keeps = subst (λ o. Keeps o c) is keeps
 
   -- a run that stops before it gives anything
-  pub tidied_stopped : (status : Status) (a b : D) → TidyEnds status (beside a) (beside b) →
-      TakesAlone contents may_leave beside moment stood_since faults reads a b → IsCarriedOut contents may_leave beside moment stood_since faults reads (Some Tidy) status a b
-  tidied_stopped status a b ends took =
-      let some = an_answer (beside a).input (beside b).input in
+  pub carried_stopped : (line : Option CommandLine) (status : Status) (a b : D) → (answer : List ℕ) × AnswersTold line (beside a).input (beside b).input answer →
+      EndsWith line status (beside a) (beside b) →
+      TakesAlone contents may_leave beside moment stood_since faults reads a b → IsCarriedOut contents may_leave beside moment stood_since faults reads line status a b
+  carried_stopped line status a b some ends took =
       record {
         ends = ends;
         grows = record {
@@ -73,16 +74,16 @@ module _ {D : Type 0} (contents : D → Option Image) (may_leave : D → Image �
       }
 
   -- a run that gives a part of the answer, or all of it
-  pub tidied_given : (status : Status) (bytes : List ℕ) (a b c : D) → TidyEnds status (beside a) (beside c) →
-      AnswersTold (Some Tidy) (beside a).input (beside b).input bytes →
+  pub carried_given : (line : Option CommandLine) (status : Status) (bytes : List ℕ) (a b c : D) → EndsWith line status (beside a) (beside c) →
+      AnswersTold line (beside a).input (beside b).input bytes →
       TakesAlone contents may_leave beside moment stood_since faults reads a b → GivesAlone contents may_leave beside moment stood_since faults reads bytes b c →
-      IsCarriedOut contents may_leave beside moment stood_since faults reads (Some Tidy) status a c
-  tidied_given status bytes a b c ends answers took gave =
+      IsCarriedOut contents may_leave beside moment stood_since faults reads line status a c
+  carried_given line status bytes a b c ends answers took gave =
       record {
         ends = ends;
         grows = record {
           answer = bytes;
-          answers = subst (λ (i : Option (List ℕ)). AnswersTold (Some Tidy) (beside a).input i bytes) (sym gave.input) answers;
+          answers = subst (λ (i : Option (List ℕ)). AnswersTold line (beside a).input i bytes) (sym gave.input) answers;
           time = elapsed_then
               (elapsed_weaker {P = StandsWithin may_leave beside bytes a} {Q = StandsBeside may_leave beside a} took.time (λ s h. (keeps_front bytes (beside a).output s.output h.0, h.1)))
               gave.time
@@ -118,11 +119,11 @@ module _ {D : Type 0} (contents : D → Option Image) (may_leave : D → Image �
   }
 
 -- the bytes that were taken of an input that is told to the end
-taken_of : (input taken : List ℕ) (old new : Option (List ℕ)) → old ≡ Some input → IsSome new → Takes taken old new → (left : List ℕ) × (new ≡ Some left) × (input ≡ taken ++ left)
+pub taken_of : (input taken : List ℕ) (old new : Option (List ℕ)) → old ≡ Some input → IsSome new → Takes taken old new → (left : List ℕ) × (new ≡ Some left) × (input ≡ taken ++ left)
 taken_of input taken old None told still takes = cc still
 taken_of input taken old (Some left) told still takes = (left, refl, let same : Some input ≡ Some (taken ++ left) = sym told ∙ takes in cc same)
 
-not_too_much : (input taken : List ℕ) (old new : Option (List ℕ)) → old ≡ Some input → IsSome new → length input < most_input → length taken ≡ most_input → Takes taken old new → ⊥
+pub not_too_much : (input taken : List ℕ) (old new : Option (List ℕ)) → old ≡ Some input → IsSome new → length input < most_input → length taken ≡ most_input → Takes taken old new → ⊥
 not_too_much input taken old new told still few long takes =
     let (left, now, is) = taken_of input taken old new told still takes in
     let all : length input ≡ length taken + length left = ap length is ∙ length-append taken left in
@@ -151,6 +152,7 @@ pub done_reading : (line : Option CommandLine) (status : Status) (old new : Besi
     (input : List ℕ) (tree : OrderedTree) → IsUndisturbed input old new → line ≡ Some Tidy → Reads input tree → (status ≡ Done) ⊎ (status ≡ NoMemory)
 done_reading None status old new ends input tree calm command reads = cc command
 done_reading (Some Run) status old new ends input tree calm command reads = absurd (let same : Run ≡ Tidy = cc command in cc same)
+done_reading (Some (Verify k)) status old new ends input tree calm command reads = absurd (let same : Verify k ≡ Tidy = cc command in cc same)
 done_reading (Some Tidy) Done old new ends input tree calm command reads = inl refl
 done_reading (Some Tidy) NoMemory old new ends input tree calm command reads = inr refl
 done_reading (Some Tidy) Usage old new ends input tree calm command reads = absurd ends
@@ -166,6 +168,7 @@ pub refuses_fault : (line : Option CommandLine) (status : Status) (old new : Bes
     (input : List ℕ) (error : PyxError) → IsUndisturbed input old new → line ≡ Some Tidy → fault_of input ≡ Some error → (status ≡ Refused) ⊎ (status ≡ NoMemory)
 refuses_fault None status old new ends input error calm command fault = cc command
 refuses_fault (Some Run) status old new ends input error calm command fault = absurd (let same : Run ≡ Tidy = cc command in cc same)
+refuses_fault (Some (Verify k)) status old new ends input error calm command fault = absurd (let same : Verify k ≡ Tidy = cc command in cc same)
 refuses_fault (Some Tidy) Refused old new ends input error calm command fault = inl refl
 refuses_fault (Some Tidy) NoMemory old new ends input error calm command fault = inr refl
 refuses_fault (Some Tidy) Usage old new ends input error calm command fault = absurd ends
@@ -181,6 +184,7 @@ pub done_script : (line : Option CommandLine) (status : Status) (old new : Besid
     (input : List ℕ) → IsUndisturbed input old new → line ≡ Some Run → (status ≡ Done) ⊎ (status ≡ NoMemory)
 done_script None status old new ends input calm command = cc command
 done_script (Some Tidy) status old new ends input calm command = absurd (let same : Tidy ≡ Run = cc command in cc same)
+done_script (Some (Verify k)) status old new ends input calm command = absurd (let same : Verify k ≡ Run = cc command in cc same)
 done_script (Some Run) Done old new ends input calm command = inl refl
 done_script (Some Run) NoMemory old new ends input calm command = inr refl
 done_script (Some Run) Usage old new ends input calm command = absurd ends
@@ -194,3 +198,4 @@ done_script (Some Run) TooMuch old new (taken, commands, long, ends, appends) in
 pub never_usage : (line : CommandLine) (old new : Beside) → ¬ EndsWith (Some line) Usage old new
 never_usage Tidy old new ends = ends
 never_usage Run old new ends = ends
+never_usage (Verify k) old new ends = ends

@@ -1,7 +1,10 @@
 pub mod CommandLine
+pub mod Refusal
 pub mod Answer
 pub mod Outcome
 pub mod Stop
 pub mod Session
+pub mod Claimed
+pub mod Verify
 pub mod Run
 pub mod TestHost

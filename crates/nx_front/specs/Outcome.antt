@@ -21,6 +21,12 @@ pub record HasTakenIn (reader : Reader) (input : Input) (taken : List ℕ) (firs
   pub read : HasRead reader taken
   pub took : HasTaken input taken first now
 
+-- The bytes were taken to the input's end.
+pub record EndsWhole (taken : List ℕ) (first now : Option (List ℕ)) : Type 0 where
+  pub takes : Takes taken first now
+  pub end : IsAtEnd now
+  pub few : length taken < most_input
+
 -- The bytes were taken to the input's end, and say this tree.
 pub record EndsRead (tree : OrderedTree) (taken : List ℕ) (first now : Option (List ℕ)) : Type 0 where
   pub takes : Takes taken first now

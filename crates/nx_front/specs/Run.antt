@@ -11,16 +11,19 @@ use Rattle.nx_front.specs.declared.status.Status.TheVariants.{Done, Usage, Refus
 use Rattle.nx_front.specs.declared.give.Halt.{Halt}
 use Rattle.nx_front.specs.declared.give.Halt.TheVariants as halt
 use Rattle.nx_front.specs.declared.words.CommandLine.{CommandLine}
-use Rattle.nx_front.specs.declared.words.CommandLine.TheVariants.{Tidy, Run}
-use Rattle.nx_front.specs.Answer.{Answers, refusal_line}
+use Rattle.nx_front.specs.declared.words.CommandLine.TheVariants.{Tidy, Run, Verify}
+use Rattle.nx_front.specs.declared.refusal.Refusal.TheVariants.{Pyx}
+use Rattle.nx_front.specs.Refusal.{refusal_line}
+use Rattle.nx_front.specs.Answer.{Answers}
 use Rattle.nx_front.specs.Outcome.{most_input, EndsRead, EndsRefused, EndsSound}
 use Rattle.nx_host.specs.Phase.{StandsWithin}
 use Rattle.nx_front.specs.Session.{ScriptEnds, AnswersScript}
+use Rattle.nx_front.specs.Verify.{VerifyEnds, AnswersClaim}
 
 -- why a run of `tidy` ends with this status, what it has taken of the input by then and what it has given
 abbrev pub TidyEnds : Status → Beside → Beside → Type 0
 TidyEnds Done old new = (tree : OrderedTree) × (taken : List ℕ) × EndsRead tree taken old.input new.input × Appends (text tree) old.output new.output
-TidyEnds Refused old new = (error : PyxError) × (taken : List ℕ) × EndsRefused error taken old.input new.input × Appends (refusal_line error) old.output new.output
+TidyEnds Refused old new = (error : PyxError) × (taken : List ℕ) × EndsRefused error taken old.input new.input × Appends (refusal_line (Pyx error)) old.output new.output
 TidyEnds ReadFault old new =
     Rose old.in_faults new.in_faults × (new.output ≡ old.output) × (taken : List ℕ) × (length taken < most_input) × EndsSound taken old.input new.input
 TidyEnds WriteFault old new = Rose old.out_faults new.out_faults
@@ -33,12 +36,14 @@ abbrev pub EndsWith : Option CommandLine → Status → Beside → Beside → Ty
 EndsWith None status old new = status ≡ Usage
 EndsWith (Some Tidy) status old new = TidyEnds status old new
 EndsWith (Some Run) status old new = ScriptEnds status old new
+EndsWith (Some (Verify k)) status old new = VerifyEnds k status old new
 
 -- the text that a command line gives to an input
 abbrev pub AnswersTo : Option CommandLine → List ℕ → List ℕ → Type 0
 AnswersTo None input answer = answer ≡ []
 AnswersTo (Some Tidy) input answer = Answers input answer
 AnswersTo (Some Run) input answer = AnswersScript input answer
+AnswersTo (Some (Verify k)) input answer = AnswersClaim k input answer
 
 -- Where the input is told to the end, this is the answer to it.
 abbrev pub AnswersTold : Option CommandLine → Option (List ℕ) → Option (List ℕ) → List ℕ → Type 0

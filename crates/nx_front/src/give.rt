@@ -3,13 +3,17 @@ ghost use Rattle.std.specs.Prelude.{◌≡◌, ◌<◌, ℕ, List, [], ◌++◌,
 ghost use Rattle.nx_host.specs.Disk.{Rose};
 ghost use Rattle.nx_host.specs.Host.{Appends};
 ghost use Rattle.nx_pyx.specs.Text.{text};
-ghost use Rattle.nx_front.specs.Answer.{refusal_line};
+ghost use Rattle.nx_front.specs.Refusal.{refusal_line};
+ghost use Rattle.nx_front.specs.Verify.{certified_line};
+ghost use Rattle.nx_front.specs.Run.{status_after};
 ghost use Rattle.nx_host.specs.Phase.{GivesAlone};
 ghost use Rattle.nx_front.specs.Outcome.{GivesBlock};
 ghost use Rattle.nx_front.specs.declared.give.Halt.TheVariants.{NoMemory, WriteFault};
 
+use crate::Status;
+use crate::refusal::{Refusal, refusal_line};
 use nx_host::{Failed, Host};
-use nx_pyx::{PyxError, Writer};
+use nx_pyx::Writer;
 use nx_tree::{Bytes, Tree};
 use std::alloc::{AllocError, Global};
 
@@ -79,25 +83,41 @@ fn give_block<H: Host>(
 }
 
 // Gives the line that refuses the input.
-pub fn give_refusal<H: Host>(alloc: Global, host: &mut H, error: PyxError) -> Result<(), Halt>
-    ensures ok { OnOk result (Appends (refusal_line error) (H.beside host.old).output (H.beside host.new).output) }
+pub fn give_refusal<H: Host>(alloc: Global, host: &mut H, refusal: Refusal) -> Result<(), Halt>
+    ensures ok { OnOk result (Appends (refusal_line refusal) (H.beside host.old).output (H.beside host.new).output) }
     ensures cause { result ≡ Err Halt.WriteFault → Rose (H.beside host.old).out_faults (H.beside host.new).out_faults }
-    ensures alone { GivesAlone H.contents H.may_leave H.beside H.moment H.stood_since H.faults H.reads (refusal_line error) host.old host.new }
+    ensures alone { GivesAlone H.contents H.may_leave H.beside H.moment H.stood_since H.faults H.reads (refusal_line refusal) host.old host.new }
 {
-    let line = refusal(alloc, error)?;
+    let line = refusal_line(alloc, refusal)?;
     host.emit(line.as_bytes())?;
     Ok(())
 }
 
-// The line that refuses the input.
-fn refusal(alloc: Global, error: PyxError) -> Result<String, AllocError>
-    ensures { IfOk result (λ line. string_bytes line ≡ refusal_line error) }
+// Gives the line for a plan of so many intervals that is certified.
+pub fn give_count<H: Host>(alloc: Global, host: &mut H, intervals: usize) -> Result<(), Halt>
+    ensures ok { OnOk result (Appends (certified_line intervals) (H.beside host.old).output (H.beside host.new).output) }
+    ensures cause { result ≡ Err Halt.WriteFault → Rose (H.beside host.old).out_faults (H.beside host.new).out_faults }
+    ensures alone { GivesAlone H.contents H.may_leave H.beside H.moment H.stood_since H.faults H.reads (certified_line intervals) host.old host.new }
 {
-    let number = error.line.to_string(alloc)?;
-    let mut line = String::from_str(alloc, "refused pyx ")?;
-    line.push_str(number.as_str())?;
-    line.push_str(" ")?;
-    line.push_str(error.fault.word())?;
-    line.push_str("\n")?;
-    Ok(line)
+    let line = certified_line(alloc, intervals)?;
+    host.emit(line.as_bytes())?;
+    Ok(())
+}
+
+// The line for a plan of so many intervals that is certified.
+fn certified_line(alloc: Global, intervals: usize) -> Result<String, AllocError>
+    ensures { IfOk result (λ line. string_bytes line ≡ certified_line intervals) }
+{
+    format!(in alloc; "certified {intervals}\n")
+}
+
+// The status of a run that ends with `whole` where its output is whole.
+pub fn status_of(given: Result<(), Halt>, whole: Status) -> Status
+    ensures { result ≡ status_after whole given }
+{
+    match given {
+        Ok(()) => whole,
+        Err(Halt::WriteFault) => Status::WriteFault,
+        Err(Halt::NoMemory) => Status::NoMemory,
+    }
 }

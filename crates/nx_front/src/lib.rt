@@ -1,13 +1,16 @@
 //! The top call: from the words of a command line, the input and a disk to the output and a status.
 #![tactic(auto)]
 
+mod claimed;
 mod give;
 mod read;
+mod refusal;
 mod session;
 mod status;
 #[cfg(test)]
 mod tests;
 mod top;
+mod verify;
 mod words;
 
 pub use status::Status;

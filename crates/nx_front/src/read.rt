@@ -32,6 +32,14 @@ impl From<ReadError> for Stop {
     }
 }
 
+impl From<nx_tree::NoMemory> for Stop {
+    ghost from_gives = { λ _ stop. stop ≡ NoMemory };
+
+    fn from(_: nx_tree::NoMemory) -> Stop {
+        Stop::NoMemory
+    }
+}
+
 impl From<AllocError> for Stop {
     ghost from_gives = { λ _ stop. stop ≡ NoMemory };
 

@@ -3,6 +3,7 @@ mod commands;
 mod endless;
 mod host;
 mod session;
+mod verify;
 
 use crate::{Status, Word, Words, run};
 use endless::EndlessHost;
@@ -53,7 +54,7 @@ fn an_input_has_its_answer(rt: HostRuntime) -> Result<(), Fail> {
 #[test]
 fn other_words_are_misuse(rt: HostRuntime) -> Result<(), Fail> {
     let alloc = rt.alloc();
-    let others: [&[&str]; 11] = [
+    let others: [&[&str]; 20] = [
         &["run"],
         &["s", "run"],
         &["_", "run", "_"],
@@ -65,6 +66,15 @@ fn other_words_are_misuse(rt: HostRuntime) -> Result<(), Fail> {
         &["-x", "tidy"],
         &["_", ""],
         &["_", "tidy", "_"],
+        &["_", "verify"],
+        &["_", "verify", "0"],
+        &["_", "verify", "257"],
+        &["_", "verify", "04"],
+        &["_", "verify", ""],
+        &["_", "verify", "+4"],
+        &["_", "verify", "4294967297"],
+        &["", "verify", "4"],
+        &["_", "verify", "4", "4"],
     ];
     for texts in others {
         let words = words_of(alloc, texts)?;

@@ -5,12 +5,16 @@ ghost use Rattle.nx_pyx.specs.declared.error.PyxError.{PyxError};
 ghost use Rattle.nx_pyx.specs.Fault.{fault_of};
 ghost use Rattle.nx_pyx.specs.Reading.{Reads};
 ghost use Rattle.nx_front.specs.CommandLine.{command_line};
-ghost use Rattle.nx_front.specs.Run.{EndsWith, GrowsToAnswer, LeavesDisk, IsUndisturbed, IsCarriedOut, status_after};
-ghost use Rattle.nx_front.specs.declared.words.CommandLine.TheVariants.{Tidy, Run};
+ghost use Rattle.nx_front.specs.Run.{EndsWith, GrowsToAnswer, LeavesDisk, IsUndisturbed, IsCarriedOut};
+ghost use Rattle.nx_front.specs.declared.words.CommandLine.TheVariants.{Tidy, Run, Verify};
+ghost use Rattle.nx_front.specs.declared.refusal.Refusal.{Refusal};
+ghost use Rattle.nx_front.specs.Verify.{IsSoundInput, IsRefusedInput};
 
-use crate::give::{Halt, give_refusal, give_text};
+use crate::give::{give_refusal, give_text, status_of};
 use crate::read::{Stop, read};
+use crate::refusal::Refusal;
 use crate::session::session;
+use crate::verify::verify;
 use crate::words::{CommandLine, command_line};
 use crate::{Status, Words};
 use nx_host::Host;
@@ -21,8 +25,10 @@ use std::alloc::Global;
 ///
 /// `STORE tidy` reads a document in PYX lines and gives its canonical text, or one line that
 /// refuses it, and nothing else. `_ run` reads the commands of a script and gives their replies,
-/// each before more input is asked for than its command needed. An input of 4,294,967,296 bytes or
-/// more is too much.
+/// each before more input is asked for than its command needed. `STORE verify K` reads a document in
+/// PYX lines, a line of one dot and the lines of a plan, and gives the plan's number of intervals
+/// where no partitioning of the document with parts of at most K slots has fewer, by the plan's own
+/// bounds, or one line that says what is wrong. An input of 4,294,967,296 bytes or more is too much.
 pub fn run<H: Host>(alloc: Global, words: &Words, host: &mut H) -> Status
     // Why it ends so, and what was taken and given.
     ensures ends { EndsWith (command_line words.now) result (H.beside host.old) (H.beside host.new) }
@@ -41,10 +47,15 @@ pub fn run<H: Host>(alloc: Global, words: &Words, host: &mut H) -> Status
         fault_of input ≡ Some error → (result ≡ Status.Refused) ⊎ (result ≡ Status.NoMemory) }
     ensures script { (input : List ℕ) → IsUndisturbed input (H.beside host.old) (H.beside host.new) → command_line words.now ≡ Some Run →
         (result ≡ Status.Done) ⊎ (result ≡ Status.NoMemory) }
+    ensures certified { (input : List ℕ) (k : ℕ) → IsUndisturbed input (H.beside host.old) (H.beside host.new) → command_line words.now ≡ Some (Verify k) →
+        IsSoundInput k input → (result ≡ Status.Done) ⊎ (result ≡ Status.NoMemory) }
+    ensures uncertified { (input : List ℕ) (k : ℕ) (refusal : Refusal) → IsUndisturbed input (H.beside host.old) (H.beside host.new) → command_line words.now ≡ Some (Verify k) →
+        IsRefusedInput k input refusal → (result ≡ Status.Refused) ⊎ (result ≡ Status.NoMemory) }
 {
     match command_line(words) {
         Some(CommandLine::Tidy) => tidy(alloc, host),
         Some(CommandLine::Run) => session(alloc, host),
+        Some(CommandLine::Verify(k)) => verify(alloc, host, k),
         None => Status::Usage,
     }
 }
@@ -55,20 +66,12 @@ fn tidy<H: Host>(alloc: Global, host: &mut H) -> Status
 {
     match read(alloc, host) {
         Ok(tree) => status_of(give_text(alloc, host, &tree), Status::Done),
-        Err(Stop::Refused(error)) => status_of(give_refusal(alloc, host, error), Status::Refused),
+        Err(Stop::Refused(error)) => status_of(
+            give_refusal(alloc, host, Refusal::Pyx(error)),
+            Status::Refused,
+        ),
         Err(Stop::ReadFault) => Status::ReadFault,
         Err(Stop::TooMuch) => Status::TooMuch,
         Err(Stop::NoMemory) => Status::NoMemory,
-    }
-}
-
-// The status of a run that ends with `whole` where its output is whole.
-fn status_of(given: Result<(), Halt>, whole: Status) -> Status
-    ensures { result ≡ status_after whole given }
-{
-    match given {
-        Ok(()) => whole,
-        Err(Halt::WriteFault) => Status::WriteFault,
-        Err(Halt::NoMemory) => Status::NoMemory,
     }
 }

@@ -1,7 +1,9 @@
 // The words of a command line.
-ghost use Rattle.std.specs.Prelude.{◌≡◌, ◌==◌, List, ℕ, [], ◌∷◌, ◌++◌, length, IfOk, OnOk, OnErr};
-ghost use Rattle.nx_front.specs.CommandLine.{is_store, command_line};
+ghost use Rattle.std.specs.Prelude.{◌≡◌, ◌≤◌, ◌==◌, true, false, List, ℕ, [], ◌∷◌, ◌++◌, length, IfOk, IfSome, MatchOption, OnOk, OnErr};
+ghost use Rattle.nx_pyx.specs.Field.{value_of};
+ghost use Rattle.nx_front.specs.CommandLine.{is_store, is_weight_limit, command_of_two, command_of_three, command_line, IsLimited};
 
+use nx_pyx::position;
 use nx_tree::NoMemory;
 use std::alloc::Global;
 use std::marker::Model;
@@ -102,21 +104,59 @@ pub enum CommandLine {
     Tidy,
     // A script is carried out over documents in memory.
     Run,
+    // A partitioning of a document is checked, whose parts weigh at most so much.
+    Verify(u32),
 }
 
 // The command line that the words are, if they are one.
 pub fn command_line(words: &Words) -> Option<CommandLine>
-    ensures { result ≡ command_line words.now }
+    ensures line { result ≡ command_line words.now }
+    ensures limit { IfSome result IsLimited }
 {
-    let [store, command] = words.as_slice() else {
-        return None;
-    };
-    let store = store.as_str();
-    let command = command.as_str();
+    match words.as_slice() {
+        [store, command] => command_of_two(store.as_str(), command.as_str()),
+        [store, command, limit] => {
+            command_of_three(store.as_str(), command.as_str(), limit.as_str())
+        }
+        _ => None,
+    }
+}
+
+// The command line of two words.
+fn command_of_two(store: &str, command: &str) -> Option<CommandLine>
+    ensures line { result ≡ command_of_two store.now command.now }
+    ensures limit { IfSome result IsLimited }
+{
     if is_store(store) && command == "tidy" {
         Some(CommandLine::Tidy)
     } else if store == "_" && command == "run" {
         Some(CommandLine::Run)
+    } else {
+        None
+    }
+}
+
+// The command line of three words.
+fn command_of_three(store: &str, command: &str, limit: &str) -> Option<CommandLine>
+    ensures line { result ≡ command_of_three store.now command.now limit.now }
+    ensures limit { IfSome result IsLimited }
+{
+    let limit = weight_limit(limit)?;
+    if is_store(store) && command == "verify" {
+        Some(CommandLine::Verify(limit))
+    } else {
+        None
+    }
+}
+
+// What a part weighs at most, if the word says it.
+fn weight_limit(word: &str) -> Option<u32>
+    ensures said { MatchOption result (is_weight_limit word.now ≡ false) (λ k. (is_weight_limit word.now ≡ true) × (k ≡ value_of word.now)) }
+    ensures limit { IfSome result (λ k. (1 ≤ k) × (k ≤ 256)) }
+{
+    let limit = position(word.as_bytes())?;
+    if 1 <= limit && limit <= 256 {
+        Some(limit)
     } else {
         None
     }
