@@ -1,7 +1,7 @@
 //! Whether a plan has the fewest intervals that are possible.
 
-use crate::fronts::{Child, Fronts, Point};
 use crate::parts::{Bound, Plan, part_weights};
+use crate::profiles::{Child, Profile, Profiles};
 use crate::shape::Shape;
 use crate::tree::Tree;
 
@@ -33,7 +33,8 @@ fn supported(document: &Tree, k: u32, bounds: &[Bound]) -> Result<(), String> {
     if bounds.len() != shape.count() {
         return Err(format!("length {} {}", bounds.len(), shape.count()));
     }
-    let mut fronts = Fronts::default();
+    let mut profiles = Profiles::default();
+    let mut children = Vec::new();
     for node in 0..shape.count() {
         // Over a node that is too heavy itself there is no choice.
         let Some(room) = k.checked_sub(shape.weights[node]) else {
@@ -42,8 +43,10 @@ fn supported(document: &Tree, k: u32, bounds: &[Bound]) -> Result<(), String> {
         let least = |child: usize| i64::from(bounds[child].least);
         let base = shape.children(node).map(|child| least(child) - 1).sum();
         let child = |child: usize| Child::new(k, shape.weights[child], bounds[child]);
-        fronts.build(k, room, shape.children(node).map(child));
-        check_claim(node, shape.weights[node], base, &fronts, bounds[node])?;
+        children.clear();
+        children.extend(shape.children(node).map(child));
+        let profile = profiles.build(k, room, &children);
+        check_claim(node, shape.weights[node], base, profile, bounds[node])?;
     }
     Ok(())
 }
@@ -52,22 +55,21 @@ fn check_claim(
     node: usize,
     weight: u32,
     base: i64,
-    fronts: &Fronts,
+    profile: &Profile,
     claim: Bound,
 ) -> Result<(), String> {
     let refuse = |field: &str, claimed: u32, found: i64| {
         Err(format!("unsupported {node} {field} {claimed} {found}"))
     };
-    let front = fronts.front();
-    let count = |extra: u32| (1 + base + i64::from(extra)).max(1);
-    let least = count(front[0].extra);
+    let least = (1 + base + i64::from(profile.base)).max(1);
     if i64::from(claim.least) > least {
         return refuse("least", claim.least, least);
     }
     for (field, claimed, more) in [("lean", claim.lean, 0), ("nearly", claim.nearly, 1)] {
-        let within = |point: &&Point| count(point.extra) <= i64::from(claim.least) + more;
-        if let Some(point) = front.iter().take_while(within).last() {
-            let found = weight + u32::from(point.weight);
+        let most = i64::from(claim.least) + more;
+        let cost = most - 1 - base;
+        if most > 0 && cost >= i64::from(profile.base) {
+            let found = weight + profile.left(cost.min(u32::MAX.into()) as u32);
             if claimed > found {
                 return refuse(field, claimed, found.into());
             }

@@ -7,6 +7,7 @@ mod fronts;
 mod partition;
 mod parts;
 mod plan_text;
+mod profiles;
 mod pyx;
 mod script;
 mod shape;
