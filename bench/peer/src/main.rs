@@ -1,5 +1,5 @@
-//! natix's commands over plain trees, without proofs: they do what `natix _ tidy`, `run`,
-//! `plan` and `verify` do, and refuse what those refuse.
+//! natix's commands over plain trees, without proofs: `tidy`, `run` and `verify` do what natix's do,
+//! and refuse what those refuse. `plan`, which natix doesn't have, makes the plans for `verify`.
 
 mod certificate;
 mod fields;
