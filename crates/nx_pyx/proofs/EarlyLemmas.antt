@@ -1,5 +1,5 @@
 -- The fault that a line shows before it has ended, as the code finds it.
-use Rattle.std.proofs.Common.{if◌then◌else◌, ◌≡◌, ℕ, ◌≤◌, Bool, true, false, List, [], ◌∷◌, length, Option, None, Some, refl, ap, sym, ◌∙◌, subst, ⊎_elim, arith, cond}
+use Rattle.std.proofs.Common.{if◌then◌else◌, ◌≡◌, ℕ, ◌≤◌, Bool, true, false, List, [], ◌∷◌, length, Option, None, Some, refl, ap, ◌∙◌, ⊎_elim, arith, cond}
 use Rattle.std.specs.Prelude.{◌==◌}
 use Rattle.std.specs.Option.{option_map_or, is_some}
 use Rattle.std.proofs.lemmas.Bool.{cases_Bool, le-ltb}
@@ -16,14 +16,6 @@ use Rattle.nx_pyx.proofs.UnescapeLemmas.{length-unescape}
 by_code : Option Event → Option Event → Option PyxFault
 by_code code line = option_map_or (λ _. option_map_or (λ e. if is_long e then Some LongLine else None) line None) code (Some BadCode)
 
-pub early_uncoded : (code : ℕ) (bytes : List ℕ) → is_some (event_by code []) ≡ false → early_fault (code ∷ bytes) ≡ Some BadCode
-unfolding by_code
-early_uncoded code bytes un = at (event_by code []) (event_of (without_cr (code ∷ bytes))) un
-  where
-    at : (o line : Option Event) → is_some o ≡ false → by_code o line ≡ Some BadCode
-    at None line un = refl
-    at (Some e) line un = cc
-
 pub early_coded : (code : ℕ) (bytes : List ℕ) → is_some (event_by code []) ≡ true →
     early_fault (code ∷ bytes) ≡ option_map_or (λ e. if is_long e then Some LongLine else None) (event_of (without_cr (code ∷ bytes))) None
 unfolding by_code
@@ -34,7 +26,7 @@ early_coded code bytes coded = at (event_by code []) (event_of (without_cr (code
     at (Some e) line coded = refl
 
 -- name and content have no more bytes than stand for them
-named_size-within : (rest : List ℕ) → named_size rest ≤ length rest
+pub named_size-within : (rest : List ℕ) → named_size rest ≤ length rest
 named_size-within [] = omega arith
 named_size-within (b ∷ rest) =
     ⊎_elim
@@ -56,7 +48,8 @@ size_within [] = omega arith
 size_within (code ∷ rest) =
     let h : size_of (event_by code rest) ≤ length rest = size_by_tests (code == 40) (code == 41) (code == 65) (code == 45) (code == 63) rest in omega arith
 
-length-without_cr : (line : List ℕ) → length (without_cr line) ≤ length line
+-- CR at the end may be dropped
+pub length-without_cr : (line : List ℕ) → length (without_cr line) ≤ length line
 length-without_cr [] = omega arith
 length-without_cr (b ∷ []) = one (b == 13)
   where
@@ -65,18 +58,15 @@ length-without_cr (b ∷ []) = one (b == 13)
     one false = omega arith
 length-without_cr (b ∷ c ∷ bytes) = let h : length (without_cr (c ∷ bytes)) ≤ length (c ∷ bytes) = length-without_cr (c ∷ bytes) in omega arith
 
+-- what has at most as many bytes as are allowed isn't too long
+pub none_from_size : (o : Option Event) → size_of o ≤ longest_node → option_map_or (λ e. if is_long e then Some LongLine else None) o None ≡ None
+none_from_size None h = refl
+none_from_size (Some e) h = ap (λ (t : Bool). if t then Some LongLine else None) (le-ltb longest_node (event_size e) h)
+
 -- a line of few bytes isn't too long
 pub early_short : (code : ℕ) (bytes : List ℕ) → is_some (event_by code []) ≡ true → length (code ∷ bytes) ≤ longest_node → early_fault (code ∷ bytes) ≡ None
 early_short code bytes coded few =
     let line : List ℕ = without_cr (code ∷ bytes) in
     let size : size_of (event_of line) ≤ length line = size_within line in
     let shorter : length line ≤ length (code ∷ bytes) = length-without_cr (code ∷ bytes) in
-    early_coded code bytes coded ∙ at (event_of line) (omega arith)
-  where
-    at : (o : Option Event) → size_of o ≤ longest_node → option_map_or (λ e. if is_long e then Some LongLine else None) o None ≡ None
-    at None h = refl
-    at (Some e) h = ap (λ (t : Bool). if t then Some LongLine else None) (le-ltb longest_node (event_size e) h)
-
-pub early_few : (bytes : List ℕ) (code : ℕ) (rest : List ℕ) → bytes ≡ code ∷ rest → is_some (event_by code []) ≡ true → length bytes ≤ longest_node → None ≡ early_fault bytes
-early_few bytes code rest is coded few =
-    sym (ap early_fault is ∙ early_short code rest coded (subst (λ (l : List ℕ). length l ≤ longest_node) is few))
+    early_coded code bytes coded ∙ none_from_size (event_of line) (omega arith)

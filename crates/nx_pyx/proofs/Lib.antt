@@ -15,6 +15,7 @@ pub mod UnescapeLemmas
 pub mod NamesLemmas
 pub mod StreamLemmas
 pub mod EarlyLemmas
+pub mod Room
 pub mod Outcome
 pub mod Open
 pub mod DoneLemmas

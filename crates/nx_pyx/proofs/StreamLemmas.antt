@@ -10,7 +10,7 @@ use Rattle.nx_pyx.specs.declared.builder.Builder.{Builder}
 use Rattle.nx_pyx.specs.declared.reader.Reader.{Reader}
 use Rattle.nx_pyx.specs.Fault.{first_fault, shown_fault, early_fault, fault_at, fault_at_end, fault_of}
 use Rattle.nx_pyx.specs.Builder.{HasTaken, Fails}
-use Rattle.nx_pyx.specs.Reader.{HasRead}
+use Rattle.nx_pyx.specs.Reader.{HasRead, HasRoom}
 use Rattle.nx_pyx.specs.Lines.{Pieces, prepend_to, prepend, cut, without_cr, last_line, ended_lines, lines, has_lf, EndsLine}
 use Rattle.nx_pyx.proofs.Shown.{onto, cut-append, first_fault-append, fault_shows}
 use Rattle.nx_pyx.proofs.Said.{no_fault}
@@ -101,18 +101,20 @@ ended_lines-held : (s bytes : List ℕ) → has_lf bytes ≡ false → ended_lin
 ended_lines-held s bytes none = ap (λ (p : Pieces). map without_cr p.ended) (cut-held s bytes none)
 
 -- a reader holds more of a line
-pub holds : (old new : Reader) (bytes held : List ℕ) → has_lf bytes ≡ false → new.builder ≡ old.builder → new.failed ≡ old.failed →
-    new.held ≡ old.held ++ bytes → held ≡ new.held → early_fault held ≡ None →
+pub holds : (old new : Reader) (bytes : List ℕ) → has_lf bytes ≡ false → new.builder ≡ old.builder → new.failed ≡ old.failed →
+    new.held ≡ old.held ++ bytes → (HasRoom old.held old.room → HasRoom new.held new.room) →
     (s : List ℕ) → HasRead old s → HasRead new (s ++ bytes)
-holds old new bytes slice none builder failed held is early s read =
+holds old new bytes none builder failed held room s read =
     let rest : new.held ≡ (cut (s ++ bytes)).rest = held ∙ ap (λ h. h ++ bytes) read.held ∙ ap (λ (p : Pieces). p.rest) (sym (cut-held s bytes none)) in
     let same : ended_lines (s ++ bytes) ≡ ended_lines s = ended_lines-held s bytes none in
+    let has : HasRoom new.held new.room = room read.room in
     record {
       works = failed ∙ read.works;
       taken = rw (builder, same) read.taken;
       held = rest;
+      room = has;
       shows_none = shown_early (s ++ bytes) (ap (first_fault []) same ∙ read.taken.sound)
-          ∙ ap (option_map (fault_at (length (ended_lines (s ++ bytes)) + 1))) (ap early_fault (sym (is ∙ rest)) ∙ early);
+          ∙ ap (option_map (fault_at (length (ended_lines (s ++ bytes)) + 1))) (ap early_fault (sym rest ∙ sym (append-nil new.held)) ∙ has [] (omega arith));
     }
 
 -- the line that comes shows a fault
@@ -152,10 +154,10 @@ ended_fault s bytes line sound none is =
     ∙ ap (λ (l : List ℕ). first_fault (ended_lines s) (without_cr l ∷ [])) (sym is)
 
 -- an LF ends the line that these bytes are
-pub takes_line : (old new : Reader) (bytes line : List ℕ) → has_lf bytes ≡ false → new.held ≡ [] → new.failed ≡ old.failed →
+pub takes_line : (old new : Reader) (bytes line : List ℕ) → has_lf bytes ≡ false → new.held ≡ [] → (HasRoom old.held old.room → HasRoom new.held new.room) → new.failed ≡ old.failed →
     ((ls : List (List ℕ)) → HasTaken old.builder ls → HasTaken new.builder (ls ++ without_cr line ∷ [])) →
     (s : List ℕ) → line ≡ (cut s).rest ++ bytes → HasRead old s → HasRead new (s ++ (bytes ++ 10 ∷ []))
-takes_line old new bytes line none held failed takes s is read =
+takes_line old new bytes line none held room failed takes s is read =
     let taken : HasTaken new.builder (ended_lines (s ++ (bytes ++ 10 ∷ []))) =
     rw (ended_lines-ended s bytes none ∙ ap (λ (l : List ℕ). ended_lines s ++ without_cr l ∷ []) (sym is)) (takes (ended_lines s) read.taken) in
     let rest : (cut (s ++ (bytes ++ 10 ∷ []))).rest ≡ [] = ap (λ (p : Pieces). p.rest) (cut-ended s bytes none) in
@@ -163,6 +165,7 @@ takes_line old new bytes line none held failed takes s is read =
       works = failed ∙ read.works;
       taken = taken;
       held = held ∙ sym rest;
+      room = room read.room;
       shows_none = ended_shows_none (s ++ (bytes ++ 10 ∷ [])) taken.sound rest;
     }
 
@@ -231,6 +234,10 @@ goes_on done rest piece end is parts =
     append_assoc done (take end rest ++ 10 ∷ []) (drop (end + 1) rest)
     ∙ ap (λ (r : List ℕ). done ++ r) (append_assoc (take end rest) (10 ∷ []) (drop (end + 1) rest) ∙ sym parts)
     ∙ is
+
+-- a piece behind a stream is what is done of it there, and its rest
+pub piece_whole : (s done rest piece : List ℕ) → done ++ rest ≡ piece → (s ++ done) ++ rest ≡ s ++ piece
+piece_whole s done rest piece is = append_assoc s done rest ∙ ap (λ (r : List ℕ). s ++ r) is
 
 -- what is done of a piece after one line more
 pub line_done : (old mid new : Reader) (rest piece : List ℕ) (end : ℕ) → EndsLine rest end →

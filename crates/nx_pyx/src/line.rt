@@ -1,10 +1,11 @@
 // What one line says.
-ghost use Rattle.std.specs.Prelude.{◌≡◌, ◌+◌, ◌<◌, ◌≤◌, ◌∷◌, false, nat_lt, MatchOption, None, Some, IfOk, IfSome, is_some, [], length, take, slice_index};
+ghost use Rattle.std.specs.Prelude.{◌≡◌, ◌+◌, ◌<◌, ◌≤◌, ◌∷◌, false, nat_lt, MatchOption, None, Some, IfOk, IfErr, IfSome, true, [], length, take, slice_index};
 ghost use Rattle.std.specs.List.{list_all, list_any, position, before_first, after_first};
 ghost use Rattle.nx_tree.specs.Document.{is_name, is_name_byte};
 ghost use Rattle.nx_pyx.specs.Lines.{without_cr};
-ghost use Rattle.nx_pyx.specs.Event.{event_by, event_of, is_space, unescape, unescaped_byte};
-ghost use Rattle.nx_pyx.specs.Fault.{early_fault, is_long, is_misnamed};
+ghost use Rattle.nx_pyx.specs.Event.{event_of, is_space, unescape, unescaped_byte};
+ghost use Rattle.nx_pyx.specs.Fault.{early_fault, event_size, is_long, is_misnamed};
+ghost use Rattle.nx_pyx.specs.Reader.{HasRoom};
 ghost use Rattle.nx_pyx.specs.Line.{event_in, is_backslash};
 
 use crate::PyxFault;
@@ -35,6 +36,20 @@ impl Line<'_> {
             Line::Text(content) => is_long_with(&[], content),
             Line::Attribute(name, content) | Line::Instruction(name, content) => {
                 is_long_with(name, content)
+            }
+        }
+    }
+
+    // How many bytes more its name and its content may have together, unless they have too many.
+    fn left(&self) -> Option<usize>
+        ensures { MatchOption result (is_long (event_in self.now) ≡ true) (λ left. event_size (event_in self.now) + left ≡ 1048576) }
+    {
+        match self {
+            Line::Start(name) | Line::End(name) => LONGEST_NODE.checked_sub(name.len()),
+            Line::Text(content) => LONGEST_NODE.checked_sub(unescaped_len(content)),
+            Line::Attribute(name, content) | Line::Instruction(name, content) => {
+                let left = LONGEST_NODE.checked_sub(name.len())?;
+                left.checked_sub(unescaped_len(content))
             }
         }
     }
@@ -73,37 +88,27 @@ pub fn parse(line: &[u8]) -> Option<Line<'_>>
     }
 }
 
-// The fault that a line shows before it has ended, by the bytes that have come.
-pub fn early_fault(bytes: &[u8]) -> Option<PyxFault>
-    ensures { result ≡ early_fault bytes.now }
+// How many bytes may come behind these before their line could show a fault, or the fault that it
+// shows already.
+pub fn room(bytes: &[u8]) -> Result<usize, PyxFault>
+    ensures ok { IfOk result (HasRoom bytes.now) }
+    ensures fault { IfErr result (λ fault. early_fault bytes.now ≡ Some fault) }
 {
-    let Some((code, _)) = bytes.split_first() else {
-        return None;
-    };
-    if !is_code(*code) {
-        return Some(PyxFault::BadCode);
+    if bytes.is_empty() {
+        return Ok(0);
     }
+    let Some(line) = parse(without_cr(bytes)) else {
+        return Err(PyxFault::BadCode);
+    };
     // So few bytes are never too many.
     if bytes.len() <= LONGEST_NODE {
-        return None;
+        return Ok(LONGEST_NODE - bytes.len());
     }
-    match parse(without_cr(bytes)) {
-        Some(line) => {
-            if line.is_long() {
-                Some(PyxFault::LongLine)
-            } else {
-                None
-            }
-        }
-        None => None,
+    match line.left() {
+        // A CR at the end may turn out to be a byte of the content.
+        Some(left) => Ok(left.saturating_sub(1)),
+        None => Err(PyxFault::LongLine),
     }
-}
-
-// Whether the byte is one of the five codes.
-fn is_code(b: u8) -> bool
-    ensures { result ≡ is_some (event_by b []) }
-{
-    matches!(b, b'(' | b')' | b'A' | b'-' | b'?')
 }
 
 // The bytes up to the first space, and those behind it.

@@ -22,6 +22,8 @@ pub struct Reader {
     builder: Builder,
     // The line that no LF has ended yet.
     held: Bytes,
+    // As many bytes may come before the line that is held could show a fault.
+    room: usize,
     failed: Option<ReadError>,
 }
 
@@ -33,6 +35,7 @@ impl Reader {
         Ok(Reader {
             builder: Builder::new(alloc),
             held: Bytes::new(alloc),
+            room: 0,
             failed: None,
         })
     }
@@ -93,6 +96,7 @@ impl Reader {
         let Reader {
             builder,
             held: _,
+            room: _,
             failed: _,
         } = self;
         builder.finish()
@@ -123,6 +127,7 @@ impl Reader {
         self.held.extend_from_slice(bytes)?;
         self.builder.take(self.held.as_slice())?;
         self.held.clear();
+        self.room = 0;
         Ok(())
     }
 
@@ -138,15 +143,26 @@ impl Reader {
     }
 
     // Holds more bytes of the line, and tells the fault that it shows already.
+    //
+    // The line is measured again only once more bytes have come than there was room for. Two bytes of
+    // a line stand for at least one, so this about halves the room that is left: a line is measured
+    // some twenty times, however small its pieces are.
     fn hold(&mut self, bytes: &[u8]) -> Result<(), ReadError>
         requires { has_lf bytes.now ≡ false }
         ensures ok { OnOk result ((s : List ℕ) → HasRead self.old s → HasRead self.new (s ++ bytes.now)) }
         ensures err { IfErr result (λ e. (s : List ℕ) → HasRead self.old s → Fails e (shown_fault (s ++ bytes.now))) }
     {
         self.held.extend_from_slice(bytes)?;
-        match line::early_fault(self.held.as_slice()) {
-            Some(fault) => Err(self.builder.next_fault(fault)),
-            None => Ok(()),
+        if bytes.len() <= self.room {
+            self.room -= bytes.len();
+            return Ok(());
+        }
+        match line::room(self.held.as_slice()) {
+            Ok(room) => {
+                self.room = room;
+                Ok(())
+            }
+            Err(fault) => Err(self.builder.next_fault(fault)),
         }
     }
 }

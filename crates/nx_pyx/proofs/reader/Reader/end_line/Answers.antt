@@ -1,12 +1,13 @@
 use Rattle.std.proofs.Common.{refl, sym, ap, ◌∙◌, ◌++◌}
 use Rattle.std.proofs.lemmas.Result.{on_ok_weaker, IfErr-weaker, err_from_is_err_and}
 use Rattle.nx_pyx.proofs.StreamLemmas.{takes_line, fails_line, line_alone, still_none}
+use Rattle.nx_pyx.proofs.Room.{room_empty}
 use Rattle.nx_pyx.proofs.reader.Reader.end_line.Goals as goal
 
 pub returns-then-is_empty-clause-ok : goal.returns-then-is_empty-clause-ok
 returns-then-is_empty-clause-ok c =
     on_ok_weaker c.take.result
-    (λ takes s read. takes_line c.args.self.now _ c.args.bytes.now c.args.bytes.now c.requires (still_none c.args.self.now.held c.args.self.now.held (sym c.if-is_empty.ensures) refl) refl takes s
+    (λ takes s read. takes_line c.args.self.now _ c.args.bytes.now c.args.bytes.now c.requires (still_none c.args.self.now.held c.args.self.now.held (sym c.if-is_empty.ensures) refl) (λ room. room) refl takes s
     (line_alone c.args.self.now c.args.bytes.now s (sym c.if-is_empty.ensures) read) read)
     c.take.ensures.ok
 
@@ -25,5 +26,5 @@ returns-in_err-take-clause-err c =
 
 pub returns-clause-ok : goal.returns-clause-ok
 returns-clause-ok c =
-    λ s read. takes_line c.args.self.now _ c.args.bytes.now c.as_slice.result.now c.requires c.clear.ensures refl c.in_ok-take.ensures.ok s
+    λ s read. takes_line c.args.self.now _ c.args.bytes.now c.as_slice.result.now c.requires c.clear.ensures (λ _. room_empty _ c.clear.ensures) refl c.in_ok-take.ensures.ok s
     (c.as_slice.ensures ∙ c.in_ok-extend_from_slice.ensures.ok ∙ ap (λ h. h ++ c.args.bytes.now) read.held) read
