@@ -113,16 +113,13 @@ came_more old new input block first now is came reads none = record {
 }
 
 -- it shows a fault
-pub came_fault : (old new : Body) (input : Input) (block : List ℕ) (first now : Option (List ℕ)) (error : PyxError) → input.taken ≤ most_input → block ≡ block_of input →
+pub came_fault : (old new : Body) (input : Input) (block : List ℕ) (first now : Option (List ℕ)) (error : PyxError) → block ≡ block_of input →
     CameBlock old input first now →
     ((s : List ℕ) → IsWithin old s → IsWithin new (s ++ block)) → ((s : List ℕ) → IsWithin new s → Some error ≡ shown_before_dot s) → StopsClaim (Refused error) first now
-came_fault old new input block first now error few is came reads shows =
-    let took : HasTaken input (came.taken ++ block) first now = subst (λ (l : List ℕ). HasTaken input (came.taken ++ l) first now) (sym is) came.took in
-    let counted : input.taken ≡ length (came.taken ++ block) = took.counted in (
+came_fault old new input block first now error is came reads shows = (
       came.taken ++ block,
       record {
-        takes = took.takes;
-        bounded = omega arith;
+        takes = subst (λ (l : List ℕ). Takes (came.taken ++ l) first now) (sym is) came.took.takes;
         fault = inl (λ more. shown_before (came.taken ++ block) more error (sym (shows (came.taken ++ block) (reads came.taken came.within))));
       },
     )
@@ -154,24 +151,21 @@ came_dot old new input block start first now tree is came ends reads =
     )
 
 -- or they don't
-pub came_dot_stops : (old new : Body) (input : Input) (block : List ℕ) (start : ℕ) (first now : Option (List ℕ)) (stop : Stop) → input.taken ≤ most_input → block ≡ block_of input →
+pub came_dot_stops : (old new : Body) (input : Input) (block : List ℕ) (start : ℕ) (first now : Option (List ℕ)) (stop : Stop) → block ≡ block_of input →
     CameBlock old input first now → ((s : List ℕ) → IsWithin old s → (start ≤ length block) × IsEndedBy new (s ++ take start block)) →
     ((s : List ℕ) → IsEndedBy new s → (more : List ℕ) → Finishes (before_dot (s ++ more)) (Err stop)) → StopsClaim stop first now
-came_dot_stops old new input block start first now (Refused error) few is came ends faulty =
-    let done = (ends came.taken came.within).1 in
-    let took : HasTaken input (came.taken ++ block) first now = subst (λ (l : List ℕ). HasTaken input (came.taken ++ l) first now) (sym is) came.took in
-    let counted : input.taken ≡ length (came.taken ++ block) = took.counted in (
+came_dot_stops old new input block start first now (Refused error) is came ends faulty =
+    let done = (ends came.taken came.within).1 in (
       came.taken ++ block,
       record {
-        takes = took.takes;
-        bounded = omega arith;
+        takes = subst (λ (l : List ℕ). Takes (came.taken ++ l) first now) (sym is) came.took.takes;
         fault = inl (λ more. ap (λ (l : List ℕ). fault_of (before_dot l)) (behind_dot came.taken block more start)
             ∙ faulty (came.taken ++ take start block) done (drop start block ++ more));
       },
     )
-came_dot_stops old new input block start first now ReadFault few is came ends faulty = absurd (faulty (came.taken ++ take start block) (ends came.taken came.within).1 [])
-came_dot_stops old new input block start first now TooMuch few is came ends faulty = absurd (faulty (came.taken ++ take start block) (ends came.taken came.within).1 [])
-came_dot_stops old new input block start first now NoMemory few is came ends faulty = tt
+came_dot_stops old new input block start first now ReadFault is came ends faulty = absurd (faulty (came.taken ++ take start block) (ends came.taken came.within).1 [])
+came_dot_stops old new input block start first now TooMuch is came ends faulty = absurd (faulty (came.taken ++ take start block) (ends came.taken came.within).1 [])
+came_dot_stops old new input block start first now NoMemory is came ends faulty = tt
 
 -- The lines of a document were taken to the input's end, without a dot or up to it.
 pub record CameEnd (body : Body) (first now : Option (List ℕ)) : Type 0 where
@@ -201,8 +195,7 @@ came_whole body first now tree came reads = (
 pub came_end_stops : (body : Body) (first now : Option (List ℕ)) (stop : Stop) → CameEnd body first now → ((s : List ℕ) → IsWithin body s → Finishes (before_dot s) (Err stop)) →
     StopsClaim stop first now
 came_end_stops body first now (Refused error) came faulty =
-    let few : length came.taken < most_input = came.whole.few in
-    (came.taken, record { takes = came.whole.takes; bounded = omega arith; fault = inr (came.whole.end, came.whole.few, faulty came.taken came.within) })
+    (came.taken, record { takes = came.whole.takes; fault = inr (came.whole.end, came.whole.few, faulty came.taken came.within) })
 came_end_stops body first now ReadFault came faulty = absurd (faulty came.taken came.within)
 came_end_stops body first now TooMuch came faulty = absurd (faulty came.taken came.within)
 came_end_stops body first now NoMemory came faulty = tt

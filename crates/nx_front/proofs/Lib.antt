@@ -5,4 +5,5 @@ pub mod AnswerLemmas
 pub mod RunLemmas
 pub mod VerifyLemmas
 pub mod SessionLemmas
+pub mod TakenLemmas
 mod TestHost

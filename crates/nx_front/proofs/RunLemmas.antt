@@ -1,5 +1,5 @@
 -- Whole runs, from their phases.
-use Rattle.std.proofs.Common.{◌≡◌, ◌⊎◌, inl, inr, ℕ, ◌+◌, ◌<◌, List, [], ◌++◌, length, Option, None, Some, IsSome, Result, Ok, Err, OnOk, refl, sym, ap, ◌∙◌, subst, arith, append-nil, length-append}
+use Rattle.std.proofs.Common.{◌≡◌, ◌⊎◌, inl, inr, ℕ, ◌+◌, ◌<◌, ◌≤◌, List, [], ◌++◌, length, Option, None, Some, IsSome, Result, Ok, Err, OnOk, refl, sym, ap, ◌∙◌, subst, arith, append-nil, length-append}
 use Rattle.nx_host.specs.Disk.{Image, Beside, Keeps, Rose}
 use Rattle.nx_host.specs.Host.{Takes, Appends, AppendsFront}
 use Rattle.nx_host.specs.Time.{Stood, none_elapsed, elapsed_then, elapsed_weaker}
@@ -18,10 +18,11 @@ use Rattle.nx_front.specs.declared.words.CommandLine.{CommandLine}
 use Rattle.nx_front.specs.declared.words.CommandLine.TheVariants.{Tidy, Run, Verify}
 use Rattle.nx_front.specs.declared.refusal.Refusal.TheVariants.{Pyx}
 use Rattle.nx_front.specs.Refusal.{refusal_line}
-use Rattle.nx_front.specs.Outcome.{most_input, EndsRead, EndsRefused}
+use Rattle.nx_front.specs.Outcome.{most_input, TakesFew, EndsRead, EndsRefused}
 use Rattle.nx_host.specs.Phase.{TakesAlone, StandsBeside, GivesAlone, StandsWithin}
 use Rattle.nx_front.specs.Run.{TidyEnds, EndsWith, AnswersTold, GrowsToAnswer, LeavesDisk, IsUndisturbed, status_after, IsCarriedOut}
 use Rattle.nx_front.proofs.AnswerLemmas.{fault_of_all}
+use Rattle.nx_front.proofs.TakenLemmas.{takes_same}
 
 -- the status where all or a part of the output was given
 pub gave_read : (tree : OrderedTree) (taken : List ℕ) (a b c : Beside) (given : Result (Unit {0}) Halt) →
@@ -55,11 +56,15 @@ module _ {D : Type 0} (contents : D → Option Image) (may_leave : D → Image �
 
   -- a run that stops before it gives anything
   pub carried_stopped : (line : Option CommandLine) (status : Status) (a b : D) → (answer : List ℕ) × AnswersTold line (beside a).input (beside b).input answer →
-      EndsWith line status (beside a) (beside b) →
+      EndsWith line status (beside a) (beside b) → TakesFew (beside a).input (beside b).input →
       TakesAlone contents may_leave beside moment stood_since faults reads a b → IsCarriedOut contents may_leave beside moment stood_since faults reads line status a b
-  carried_stopped line status a b some ends took =
+  carried_stopped line status a b some ends few took =
+      let counted : (beside a).in_faults ≤ (beside b).in_faults = took.in_faults in
+      let still : (beside b).out_faults ≡ (beside a).out_faults = took.out_faults in
       record {
         ends = ends;
+        bounded = few;
+        counts = record { read = counted; written = (let e : (beside a).out_faults ≤ (beside b).out_faults = omega arith in e) };
         grows = record {
           answer = some.0;
           answers = some.1;
@@ -75,12 +80,21 @@ module _ {D : Type 0} (contents : D → Option Image) (may_leave : D → Image �
 
   -- a run that gives a part of the answer, or all of it
   pub carried_given : (line : Option CommandLine) (status : Status) (bytes : List ℕ) (a b c : D) → EndsWith line status (beside a) (beside c) →
-      AnswersTold line (beside a).input (beside b).input bytes →
+      AnswersTold line (beside a).input (beside b).input bytes → TakesFew (beside a).input (beside b).input →
       TakesAlone contents may_leave beside moment stood_since faults reads a b → GivesAlone contents may_leave beside moment stood_since faults reads bytes b c →
       IsCarriedOut contents may_leave beside moment stood_since faults reads line status a c
-  carried_given line status bytes a b c ends answers took gave =
+  carried_given line status bytes a b c ends answers few took gave =
+      let read_first : (beside a).in_faults ≤ (beside b).in_faults = took.in_faults in
+      let read_then : (beside c).in_faults ≡ (beside b).in_faults = gave.in_faults in
+      let written_first : (beside b).out_faults ≡ (beside a).out_faults = took.out_faults in
+      let written_then : (beside b).out_faults ≤ (beside c).out_faults = gave.out_faults in
       record {
         ends = ends;
+        bounded = takes_same (beside a).input (beside b).input (beside c).input gave.input few;
+        counts = record {
+          read = (let e : (beside a).in_faults ≤ (beside c).in_faults = omega arith in e);
+          written = (let e : (beside a).out_faults ≤ (beside c).out_faults = omega arith in e);
+        };
         grows = record {
           answer = bytes;
           answers = subst (λ (i : Option (List ℕ)). AnswersTold line (beside a).input i bytes) (sym gave.input) answers;

@@ -23,6 +23,7 @@ use Rattle.nx_script.specs.declared.error.ScriptError.{ScriptError}
 use Rattle.nx_script.specs.declared.error.ScriptError.TheVariants as scripts
 use Rattle.nx_front.specs.Stop.{status_of_script, status_of_halt}
 use Rattle.nx_front.specs.declared.words.CommandLine.TheVariants.{Run}
+use Rattle.nx_front.specs.Outcome.{most_input}
 use Rattle.nx_front.specs.Session.{texts_from, texts, AreFirst, ScriptEnds, AnswersScript, HasAnswered, HasStopped, IsAnswered}
 use Rattle.nx_front.specs.Run.{AnswersTold, GrowsToAnswer, LeavesDisk, IsCarriedOut}
 
@@ -72,6 +73,10 @@ still_given old new taken commands more first now same before given =
 pub rose_since : (a b c : ℕ) → a ≤ b → Rose b c → Rose a c
 rose_since a b c earlier rose = omega (arith, rose, earlier)
 
+-- no more bytes were taken than a run takes
+pub few_given : (script : Script) (taken : List ℕ) (commands : List Command) → script.taken ≤ most_input → HasGiven script taken commands → length taken ≤ most_input
+few_given script taken commands few given = let counted : script.taken ≡ length taken = given.counted in let e : length taken ≤ most_input = omega arith in e
+
 -- before anything was taken
 first_none : (now : Option (List ℕ)) → AreFirst [] [] now
 first_none None = tt
@@ -93,15 +98,17 @@ stop_ends scripts.Memory commands a b c earlier rose stops appends = tt
 module _ {D : Type 0} (contents : D → Option Image) (may_leave : D → Image → Type 0) (beside : D → Beside) (moment : D → ℕ)
     (stood_since : D → ℕ → Stood → Type 0) (faults reads : D → ℕ) where
   -- a session that ends, where the replies to these commands, or a front of them, were given
-  pub carried_out : (status : Status) (taken : List ℕ) (commands : List Command) (a b : D) → ScriptEnds status (beside a) (beside b) →
+  pub carried_out : (status : Status) (taken : List ℕ) (commands : List Command) (a b : D) → ScriptEnds status (beside a) (beside b) → length taken ≤ most_input →
       Takes taken (beside a).input (beside b).input → AreFirst taken commands (beside b).input → TalksAlone contents may_leave beside moment stood_since faults reads (texts commands) a b →
       IsCarriedOut contents may_leave beside moment stood_since faults reads (Some Run) status a b
-  carried_out status taken commands a b ends takes begins talks =
+  carried_out status taken commands a b ends few takes begins talks =
       let (rest, told) = answer_told taken commands (beside a).input (beside b).input takes begins in
       let more = texts_from (after_all empty commands) rest in
       let all : texts commands ++ more ≡ texts (commands ++ rest) = sym (texts_from-append empty commands rest) in
       record {
         ends = ends;
+        bounded = record { taken = taken; few = few; takes = takes };
+        counts = record { read = talks.in_faults; written = talks.out_faults };
         grows = record {
           answer = texts commands ++ more;
           answers = subst (λ (t : List ℕ). AnswersTold (Some Run) (beside a).input (beside b).input t) (sym all) told;
@@ -183,24 +190,24 @@ module _ {D : Type 0} (contents : D → Option Image) (may_leave : D → Image �
   pub stopped_between : (status : Status) (taken : List ℕ) (commands more : List Command) (script : Script) (plain : Documents) (block : List ℕ) (first now last : D) →
       IsAnswered contents may_leave beside moment stood_since faults reads taken commands script plain block first now →
       HasStopped contents may_leave beside moment stood_since faults reads taken commands more plain block now last →
-      ScriptEnds status (beside first) (beside last) →
+      ScriptEnds status (beside first) (beside last) → length taken ≤ most_input →
       IsCarriedOut contents may_leave beside moment stood_since faults reads (Some Run) status first last
-  stopped_between status taken commands more script plain block first now last answered stopped ends =
-      carried_out status taken (commands ++ more) first last ends
+  stopped_between status taken commands more script plain block first now last answered stopped ends few =
+      carried_out status taken (commands ++ more) first last ends few
       (subst (λ (i : Option (List ℕ)). Takes taken (beside first).input i) (sym stopped.alone.input) answered.given.takes)
       stopped.first (answered_then taken commands more script plain block first now last answered stopped.alone)
 
   -- a session whose commands are all answered
   pub carried_answered : (status : Status) (taken : List ℕ) (commands : List Command) (script : Script) (plain : Documents) (block : List ℕ) (a b : D) →
       IsAnswered contents may_leave beside moment stood_since faults reads taken commands script plain block a b → ScriptEnds status (beside a) (beside b) →
-      IsCarriedOut contents may_leave beside moment stood_since faults reads (Some Run) status a b
-  carried_answered status taken commands script plain block a b answered ends =
-      carried_out status taken commands a b ends answered.given.takes (first_given script taken commands (beside a).input (beside b).input answered.given) answered.alone
+      length taken ≤ most_input → IsCarriedOut contents may_leave beside moment stood_since faults reads (Some Run) status a b
+  carried_answered status taken commands script plain block a b answered ends few =
+      carried_out status taken commands a b ends few answered.given.takes (first_given script taken commands (beside a).input (beside b).input answered.given) answered.alone
 
   -- a session that doesn't begin
   pub carried_nothing : (status : Status) (d : D) → ScriptEnds status (beside d) (beside d) → IsCarriedOut contents may_leave beside moment stood_since faults reads (Some Run) status d d
   carried_nothing status d ends =
-      carried_out status [] [] d d ends (takes_nothing (beside d).input) (first_none (beside d).input) (talks_alone_none contents may_leave beside moment stood_since faults reads [] d)
+      carried_out status [] [] d d ends (let e : 0 ≤ most_input = omega arith in e) (takes_nothing (beside d).input) (first_none (beside d).input) (talks_alone_none contents may_leave beside moment stood_since faults reads [] d)
 
   -- commands of a script before the first
   pub has_answered_none : (script : Script) (taken : List ℕ) (commands : List Command) (first : Option (List ℕ)) (plain : Documents) (block : List ℕ) (d : D) →

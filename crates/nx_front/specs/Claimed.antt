@@ -1,5 +1,5 @@
 -- How the reading of a document's lines and of what stands behind their dot ends.
-use Rattle.std.specs.Prelude.{◌≡◌, ◌⊎◌, ℕ, ◌<◌, ◌≤◌, List, ◌++◌, length, Option, None, Some}
+use Rattle.std.specs.Prelude.{◌≡◌, ◌⊎◌, ℕ, ◌<◌, List, ◌++◌, length, Option, None, Some}
 use Rattle.nx_host.specs.Host.{Takes, IsAtEnd}
 use Rattle.nx_tree.specs.Forest.{OrderedTree}
 use Rattle.nx_pyx.specs.declared.error.PyxError.{PyxError}
@@ -24,7 +24,6 @@ pub record HasDocument (tree : OrderedTree) (taken behind : List ℕ) : Type 0 w
 -- The lines before the dot have this fault in the bytes that were taken, whatever comes behind them, or in the whole input.
 pub record EndsFaulty (error : PyxError) (taken : List ℕ) (first now : Option (List ℕ)) : Type 0 where
   pub takes : Takes taken first now
-  pub bounded : length taken ≤ most_input
   pub fault :
       ((more : List ℕ) → fault_of (before_dot (taken ++ more)) ≡ Some error)
       ⊎ (IsAtEnd now × (length taken < most_input) × (fault_of (before_dot taken) ≡ Some error))

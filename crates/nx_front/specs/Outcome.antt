@@ -1,5 +1,5 @@
 -- How the reading of an input ends, and how a run of `tidy` does.
-use Rattle.std.specs.Prelude.{◌≡◌, ◌⊎◌, ℕ, ◌^◌, ◌<◌, List, length, Option, None, Some, Result, Ok, Err, Bool, true, false, [], ◌++◌}
+use Rattle.std.specs.Prelude.{◌≡◌, ◌⊎◌, ℕ, ◌^◌, ◌<◌, ◌≤◌, List, length, Option, None, Some, Result, Ok, Err, Bool, true, false, [], ◌++◌}
 use Rattle.nx_host.specs.declared.input.Input.{Input}
 use Rattle.nx_host.specs.Host.{Takes, IsAtEnd, Appends}
 use Rattle.nx_host.specs.Input.{HasTaken}
@@ -15,6 +15,12 @@ use Rattle.nx_front.specs.declared.read.Stop.TheVariants.{Refused, ReadFault, To
 -- as many bytes of input as a run takes at most
 abbrev pub most_input : ℕ
 most_input = 2 ^ 32
+
+-- No more bytes were taken of the input than a run takes.
+pub record TakesFew (first now : Option (List ℕ)) : Type 0 where
+  pub taken : List ℕ
+  pub few : length taken ≤ most_input
+  pub takes : Takes taken first now
 
 -- The reader has read all bytes that were taken of the input.
 pub record HasTakenIn (reader : Reader) (input : Input) (taken : List ℕ) (first now : Option (List ℕ)) : Type 0 where

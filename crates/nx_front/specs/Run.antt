@@ -1,5 +1,5 @@
 -- What a run is: why it ends with its status, and what stood at each of its moments.
-use Rattle.std.specs.Prelude.{◌≡◌, ◌↔◌, ℕ, ◌<◌, List, [], length, Option, IfSome, IsSome, None, Some, Result, Ok, Err}
+use Rattle.std.specs.Prelude.{◌≡◌, ◌↔◌, ℕ, ◌<◌, ◌≤◌, List, [], length, Option, IfSome, IsSome, None, Some, Result, Ok, Err}
 use Rattle.nx_host.specs.Disk.{Image, Beside, Keeps, Rose}
 use Rattle.nx_host.specs.Host.{Appends}
 use Rattle.nx_host.specs.Time.{Stood, Elapses}
@@ -15,7 +15,7 @@ use Rattle.nx_front.specs.declared.words.CommandLine.TheVariants.{Tidy, Run, Ver
 use Rattle.nx_front.specs.declared.refusal.Refusal.TheVariants.{Pyx}
 use Rattle.nx_front.specs.Refusal.{refusal_line}
 use Rattle.nx_front.specs.Answer.{Answers}
-use Rattle.nx_front.specs.Outcome.{most_input, EndsRead, EndsRefused, EndsSound}
+use Rattle.nx_front.specs.Outcome.{most_input, TakesFew, EndsRead, EndsRefused, EndsSound}
 use Rattle.nx_host.specs.Phase.{StandsWithin}
 use Rattle.nx_front.specs.Session.{ScriptEnds, AnswersScript}
 use Rattle.nx_front.specs.Verify.{VerifyEnds, AnswersClaim}
@@ -56,6 +56,11 @@ pub record GrowsToAnswer {D : Type 0} (may_leave : D → Image → Type 0) (besi
   pub answers : AnswersTold line (beside old).input (beside new).input answer
   pub time : Elapses moment stood_since old new (StandsWithin may_leave beside answer old)
 
+-- Neither count of faults fell.
+pub record CountsGrow (old new : Beside) : Type 0 where
+  pub read : old.in_faults ≤ new.in_faults
+  pub written : old.out_faults ≤ new.out_faults
+
 -- The disk is as it was.
 pub record LeavesDisk {D : Type 0} (contents : D → Option Image) (may_leave : D → Image → Type 0) (faults reads : D → ℕ) (old new : D) : Type 0 where
   pub contents_stay : Keeps (contents old) (contents new)
@@ -77,9 +82,11 @@ status_after whole (Ok _) = whole
 status_after whole (Err halt.WriteFault) = WriteFault
 status_after whole (Err halt.NoMemory) = NoMemory
 
--- A command line is carried out: why it ends so, what stood at each moment, and that the disk is as it was.
+-- A command line is carried out: why it ends so, how much was taken, what stood at each moment, and that the disk is as it was.
 pub record IsCarriedOut {D : Type 0} (contents : D → Option Image) (may_leave : D → Image → Type 0) (beside : D → Beside) (moment : D → ℕ)
     (stood_since : D → ℕ → Stood → Type 0) (faults reads : D → ℕ) (line : Option CommandLine) (status : Status) (old new : D) : Type 0 where
   pub ends : EndsWith line status (beside old) (beside new)
+  pub bounded : TakesFew (beside old).input (beside new).input
+  pub counts : CountsGrow (beside old) (beside new)
   pub grows : GrowsToAnswer may_leave beside moment stood_since line old new
   pub disk : LeavesDisk contents may_leave faults reads old new

@@ -7,7 +7,7 @@ ghost use Rattle.nx_host.specs.Phase.{TakesAlone};
 ghost use Rattle.nx_script.specs.BeforeDot.{before_dot};
 ghost use Rattle.nx_script.specs.Body.{IsWithin, IsEndedBy};
 ghost use Rattle.nx_front.specs.Claimed.{EndsClaimed, HasDocument, StopsClaim, StopsBehind};
-ghost use Rattle.nx_front.specs.Outcome.{EndsWhole, Finishes};
+ghost use Rattle.nx_front.specs.Outcome.{EndsWhole, Finishes, TakesFew};
 
 use crate::read::Stop;
 use nx_host::{Host, Input};
@@ -26,16 +26,18 @@ pub struct Claimed {
 pub fn read_claimed<H: Host>(alloc: Global, host: &mut H) -> Result<Claimed, Stop>
     ensures ok { IfOk result (λ claimed. (taken : List ℕ) × EndsClaimed claimed.tree claimed.plan taken (H.beside host.old).input (H.beside host.new).input) }
     ensures err { IfErr result (λ stop. StopsClaim stop (H.beside host.old).input (H.beside host.new).input) }
+    ensures bounded { TakesFew (H.beside host.old).input (H.beside host.new).input }
     ensures cause { result ≡ Err Stop.ReadFault → Rose (H.beside host.old).in_faults (H.beside host.new).in_faults }
     ensures alone { TakesAlone H.contents H.may_leave H.beside H.moment H.stood_since H.faults H.reads host.old host.new }
 {
     let mut input = Input::new(alloc)?;
     let (tree, start) = read_document(alloc, host, &mut input)?;
     let mut plan = Bytes::new(alloc);
-    if let Some(start) = start {
-        plan.extend_from_slice(&input.block()[start..])?;
-        read_behind(host, &mut input, &mut plan)?;
-    }
+    let Some(start) = start else {
+        return Ok(Claimed { tree, plan });
+    };
+    plan.extend_from_slice(&input.block()[start..])?;
+    read_behind(host, &mut input, &mut plan)?;
     Ok(Claimed { tree, plan })
 }
 
@@ -52,6 +54,7 @@ fn read_document<H: Host>(
         (λ start. (start ≤ length (block_of input.new)) × (taken : List ℕ) × HasTaken input.new taken (H.beside host.old).input (H.beside host.new).input
         × HasDocument r.0 taken (drop start (block_of input.new)))) }
     ensures err { IfErr result (λ stop. StopsClaim stop (H.beside host.old).input (H.beside host.new).input) }
+    ensures taken { (taken : List ℕ) × HasTaken input.new taken (H.beside host.old).input (H.beside host.new).input }
     ensures cause { result ≡ Err Stop.ReadFault → Rose (H.beside host.old).in_faults (H.beside host.new).in_faults }
     ensures alone { TakesAlone H.contents H.may_leave H.beside H.moment H.stood_since H.faults H.reads host.old host.new }
 {
@@ -100,6 +103,8 @@ fn read_behind<H: Host>(host: &mut H, input: &mut Input, plan: &mut Bytes) -> Re
         (more : List ℕ) × (plan.new ≡ plan.old ++ more) × EndsWhole (taken ++ more) first (H.beside host.new).input) }
     ensures err { IfErr result (λ stop. (taken : List ℕ) (first : Option (List ℕ)) → HasTaken input.old taken first (H.beside host.old).input →
         (more : List ℕ) × Takes (taken ++ more) first (H.beside host.new).input × StopsBehind stop (taken ++ more)) }
+    ensures taken { (taken : List ℕ) (first : Option (List ℕ)) → HasTaken input.old taken first (H.beside host.old).input →
+        (more : List ℕ) × HasTaken input.new (taken ++ more) first (H.beside host.new).input }
     ensures cause { result ≡ Err Stop.ReadFault → Rose (H.beside host.old).in_faults (H.beside host.new).in_faults }
     ensures alone { TakesAlone H.contents H.may_leave H.beside H.moment H.stood_since H.faults H.reads host.old host.new }
 {

@@ -3,7 +3,7 @@ ghost use Rattle.std.specs.Prelude.{◌≡◌, ℕ, List, IfOk, IfErr, Err};
 ghost use Rattle.nx_host.specs.Disk.{Rose};
 ghost use Rattle.nx_host.specs.Phase.{TakesAlone};
 ghost use Rattle.nx_pyx.specs.Reader.{HasRead};
-ghost use Rattle.nx_front.specs.Outcome.{EndsRead, StopsBy, Finishes};
+ghost use Rattle.nx_front.specs.Outcome.{EndsRead, StopsBy, Finishes, TakesFew};
 ghost use Rattle.nx_front.specs.Stop.{stop_of, stop_of_input};
 ghost use Rattle.nx_front.specs.declared.read.Stop.TheVariants.{NoMemory};
 
@@ -63,6 +63,7 @@ impl From<InputError> for Stop {
 pub fn read<H: Host>(alloc: Global, host: &mut H) -> Result<Tree, Stop>
     ensures ok { IfOk result (λ tree. (taken : List ℕ) × EndsRead tree taken (H.beside host.old).input (H.beside host.new).input) }
     ensures err { IfErr result (λ stop. StopsBy stop (H.beside host.old).input (H.beside host.new).input) }
+    ensures bounded { TakesFew (H.beside host.old).input (H.beside host.new).input }
     ensures cause { result ≡ Err Stop.ReadFault → Rose (H.beside host.old).in_faults (H.beside host.new).in_faults }
     ensures alone { TakesAlone H.contents H.may_leave H.beside H.moment H.stood_since H.faults H.reads host.old host.new }
 {

@@ -157,6 +157,17 @@ fn a_line_without_end_is_refused(rt: HostRuntime) -> Result<(), Fail> {
 }
 
 #[test]
+fn a_script_without_end_is_too_much(rt: HostRuntime) -> Result<(), Fail> {
+    let alloc = rt.alloc();
+    let words = words_of(alloc, &["_", "run"])?;
+    let mut host = EndlessHost::default();
+    assert_eq!(rt; run(alloc, &words, &mut host), Status::TooMuch);
+    assert_eq!(rt; host.taken, 4_294_967_296);
+    assert_eq!(rt; host.given, 0);
+    Ok(())
+}
+
+#[test]
 fn a_host_answers_each_call(rt: HostRuntime) -> Result<(), Fail> {
     let alloc = rt.alloc();
     let mut host = DisklessHost::new(alloc, b"abcde".to_vec(alloc)?, 3);

@@ -5,7 +5,8 @@ ghost use Rattle.nx_pyx.specs.declared.error.PyxError.{PyxError};
 ghost use Rattle.nx_pyx.specs.Fault.{fault_of};
 ghost use Rattle.nx_pyx.specs.Reading.{Reads};
 ghost use Rattle.nx_front.specs.CommandLine.{command_line};
-ghost use Rattle.nx_front.specs.Run.{EndsWith, GrowsToAnswer, LeavesDisk, IsUndisturbed, IsCarriedOut};
+ghost use Rattle.nx_front.specs.Outcome.{TakesFew};
+ghost use Rattle.nx_front.specs.Run.{EndsWith, CountsGrow, GrowsToAnswer, LeavesDisk, IsUndisturbed, IsCarriedOut};
 ghost use Rattle.nx_front.specs.declared.words.CommandLine.TheVariants.{Tidy, Run, Verify};
 ghost use Rattle.nx_front.specs.declared.refusal.Refusal.{Refusal};
 ghost use Rattle.nx_front.specs.Verify.{IsSoundInput, IsRefusedInput};
@@ -24,14 +25,18 @@ use std::alloc::Global;
 /// the host, and answers how it ended.
 ///
 /// `STORE tidy` reads a document in PYX lines and gives its canonical text, or one line that
-/// refuses it, and nothing else. `_ run` reads the commands of a script and gives their replies,
-/// each before more input is asked for than its command needed. `STORE verify K` reads a document in
+/// refuses it, and nothing else. `_ run` reads the commands of a script and gives their replies
+/// in order. `STORE verify K` reads a document in
 /// PYX lines, a line of one dot and the lines of a plan, and gives the plan's number of intervals
 /// where no partitioning of the document with parts of at most K slots has fewer, by the plan's own
 /// bounds, or one line that says what is wrong. An input of 4,294,967,296 bytes or more is too much.
 pub fn run<H: Host>(alloc: Global, words: &Words, host: &mut H) -> Status
     // Why it ends so, and what was taken and given.
     ensures ends { EndsWith (command_line words.now) result (H.beside host.old) (H.beside host.new) }
+
+    // However it ends.
+    ensures bounded { TakesFew (H.beside host.old).input (H.beside host.new).input }
+    ensures counts { CountsGrow (H.beside host.old) (H.beside host.new) }
 
     // At every moment, also within the call.
     ensures grows { GrowsToAnswer H.may_leave H.beside H.moment H.stood_since (command_line words.now) host.old host.new }

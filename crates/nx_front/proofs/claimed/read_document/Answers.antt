@@ -12,7 +12,7 @@ returns-in_err-document-clause-err g c =
     let now = (h.beside c.fill.new.host).input in
     let p = err_from_is_err_and c.from_residual-in_err-document.result c.from_residual-in_err-document.ensures.1 in
     rw (p.1, p.2)
-    (came_dot_stops c.loop-body.body c.take_lines.new.body c.fill.new.self c.block.result.now c.in-Some.start first now c.in_err-document.field-0.0 c.fill.new.self.few c.block.ensures
+    (came_dot_stops c.loop-body.body c.take_lines.new.body c.fill.new.self c.block.result.now c.in-Some.start first now c.in_err-document.field-0.0 c.block.ensures
     (came_block c.loop-body.body c.loop-body.input c.fill.new.self first (h.beside c.loop-body.host).input now c.loop-body.invariant.came c.in_ok-fill.ensures.ok)
     (λ s within. subst (λ start. MatchOption start (IsWithin c.take_lines.new.body (s ++ c.block.result.now))
     (λ n. (n ≤ length c.block.result.now) × IsEndedBy c.take_lines.new.body (s ++ take n c.block.result.now))) c.in-Some.is (c.in_ok-start.ensures s within))
@@ -34,7 +34,7 @@ returns-in-Some-fault-clause-err g c =
     let h = g.H.Disk in
     let first = (h.beside c.args.host.now).input in
     let now = (h.beside c.fill.new.host).input in
-    came_fault c.loop-body.body c.take_lines.new.body c.fill.new.self c.block.result.now first now c.in-Some-fault.error c.fill.new.self.few c.block.ensures
+    came_fault c.loop-body.body c.take_lines.new.body c.fill.new.self c.block.result.now first now c.in-Some-fault.error c.block.ensures
     (came_block c.loop-body.body c.loop-body.input c.fill.new.self first (h.beside c.loop-body.host).input now c.loop-body.invariant.came c.in_ok-fill.ensures.ok)
     (λ s within. subst (λ start. MatchOption start (IsWithin c.take_lines.new.body (s ++ c.block.result.now))
     (λ n. (n ≤ length c.block.result.now) × IsEndedBy c.take_lines.new.body (s ++ take n c.block.result.now))) c.in_default.is (c.in_ok-start.ensures s within))

@@ -9,7 +9,7 @@ use Rattle.nx_front.specs.declared.words.CommandLine.TheVariants.{Run}
 use Rattle.nx_front.specs.Stop.{status_of_script, status_of_halt}
 use Rattle.nx_front.specs.Session.{session_status}
 use Rattle.nx_front.specs.Run.{IsCarriedOut}
-use Rattle.nx_front.proofs.SessionLemmas.{answered_none, answered_more, answered_filled, stopped_between, stopped_giving, carried_answered, carried_nothing, halt_ends, stop_ends}
+use Rattle.nx_front.proofs.SessionLemmas.{few_given, answered_none, answered_more, answered_filled, stopped_between, stopped_giving, carried_answered, carried_nothing, halt_ends, stop_ends}
 use Rattle.nx_front.proofs.session.converse.Goals as goal
 
 pub returns-in_err-script : goal.returns-in_err-script
@@ -41,7 +41,8 @@ returns-in_err-answer_ready g c =
     (stopped_between h.contents h.may_leave h.beside h.moment h.stood_since h.faults h.reads (status_of_halt halt) taken commands more c.loop-block.script c.loop-block.plain
     c.loop-block.block c.args.host.now c.loop-block.host c.answer_ready.new.host answered stopped
     (halt_ends halt (h.beside c.args.host.now) (h.beside c.loop-block.host) (h.beside c.answer_ready.new.host) answered.alone.out_faults
-    (λ e. c.in_err-answer_ready.ensures.cause (ap (λ v. Err v) e))))
+    (λ e. c.in_err-answer_ready.ensures.cause (ap (λ v. Err v) e)))
+    (few_given c.loop-block.script taken commands c.loop-block.script.few answered.given.given))
 
 pub returns-in_err-give : goal.returns-in_err-give
 returns-in_err-give g c =
@@ -60,7 +61,8 @@ returns-in_err-give g c =
     (stopped_between h.contents h.may_leave h.beside h.moment h.stood_since h.faults h.reads (status_of_halt halt) taken commands more c.loop-block.script c.loop-block.plain
     c.loop-block.block c.args.host.now c.loop-block.host c.give.new.host answered stopped
     (halt_ends halt (h.beside c.args.host.now) (h.beside c.answer_ready.new.host) (h.beside c.give.new.host) (omega arith)
-    (λ e. c.in_err-give.ensures.cause (ap (λ v. Err v) e))))
+    (λ e. c.in_err-give.ensures.cause (ap (λ v. Err v) e)))
+    (few_given c.loop-block.script taken commands c.loop-block.script.few answered.given.given))
 
 pub returns-then-is_ended : goal.returns-then-is_ended
 returns-then-is_ended g c =
@@ -83,6 +85,7 @@ returns-then-is_ended g c =
       },
       after.appends,
     )
+    (few_given c.answer_ready.new.script taken (commands ++ more) c.answer_ready.new.script.few after.given.given)
 
 pub loop-block-preserved : goal.loop-block-preserved
 loop-block-preserved g c =
@@ -121,4 +124,5 @@ returns-in_err-fill g c =
     (carried_answered h.contents h.may_leave h.beside h.moment h.stood_since h.faults h.reads (status_of_script error) taken (commands ++ more) c.fill.new.self
     c.answer_ready.new.plain c.give.new.block c.args.host.now c.fill.new.host last
     (stop_ends error (commands ++ more) (h.beside c.args.host.now) (h.beside c.give.new.host) (h.beside c.fill.new.host) after.alone.in_faults
-    (λ e. c.in_err-fill.ensures.cause (ap (λ v. Err v) e)) stopped last.appends))
+    (λ e. c.in_err-fill.ensures.cause (ap (λ v. Err v) e)) stopped last.appends)
+    (few_given c.fill.new.self taken (commands ++ more) c.fill.new.self.few last.given.given))

@@ -23,7 +23,7 @@ returns-in-Ok g c =
     (rw c.status_of.ensures
     (gave_read c.in-Ok.tree read.0 before middle after c.give_text.result read.1 took.output took.out_faults gave.input
     c.give_text.ensures.ok c.give_text.ensures.cause))
-    (read_answers c.in-Ok.tree read.0 before.input middle.input read.1) took gave
+    (read_answers c.in-Ok.tree read.0 before.input middle.input read.1) c.read.ensures.bounded took gave
 
 pub returns-in-Err-Refused : goal.returns-in-Err-Refused
 returns-in-Err-Refused g c =
@@ -40,7 +40,7 @@ returns-in-Err-Refused g c =
     (rw c.status_of-in-Err-Refused.ensures
     (gave_refused error refused.0 before middle after c.give_refusal.result refused.1 took.output took.out_faults gave.input
     c.give_refusal.ensures.ok c.give_refusal.ensures.cause))
-    (refused_answers error refused.0 before.input middle.input refused.1) took gave
+    (refused_answers error refused.0 before.input middle.input refused.1) c.read.ensures.bounded took gave
 
 pub returns-in-Err-ReadFault : goal.returns-in-Err-ReadFault
 returns-in-Err-ReadFault g c =
@@ -49,7 +49,7 @@ returns-in-Err-ReadFault g c =
     (an_answer (h.beside c.args.host.now).input (h.beside c.read.new.host).input)
     (let stopped = subst (λ stop. StopsBy stop (h.beside c.args.host.now).input (h.beside c.read.new.host).input) c.in-Err-ReadFault.field-0-is c.in-Err-ReadFault.ensures.err in
     (c.read.ensures.cause (c.in-Err-ReadFault.is ∙ ap Err c.in-Err-ReadFault.field-0-is), c.read.ensures.alone.output, stopped.0, stopped.1, stopped.2))
-    c.read.ensures.alone
+    c.read.ensures.bounded c.read.ensures.alone
 
 pub returns-in-Err-TooMuch : goal.returns-in-Err-TooMuch
 returns-in-Err-TooMuch g c =
@@ -58,10 +58,10 @@ returns-in-Err-TooMuch g c =
     (an_answer (h.beside c.args.host.now).input (h.beside c.read.new.host).input)
     (let stopped = subst (λ stop. StopsBy stop (h.beside c.args.host.now).input (h.beside c.read.new.host).input) c.in-Err-TooMuch.field-0-is c.in-Err-TooMuch.ensures.err in
     (c.read.ensures.alone.output, stopped.0, stopped.1, stopped.2))
-    c.read.ensures.alone
+    c.read.ensures.bounded c.read.ensures.alone
 
 pub returns-in-Err-NoMemory : goal.returns-in-Err-NoMemory
 returns-in-Err-NoMemory g c =
     let h = g.H.Disk in
     carried_stopped h.contents h.may_leave h.beside h.moment h.stood_since h.faults h.reads (Some Tidy) NoMemory c.args.host.now c.read.new.host
-    (an_answer (h.beside c.args.host.now).input (h.beside c.read.new.host).input) tt c.read.ensures.alone
+    (an_answer (h.beside c.args.host.now).input (h.beside c.read.new.host).input) tt c.read.ensures.bounded c.read.ensures.alone

@@ -28,7 +28,7 @@ returns-in-Ok g c =
     c.read_claimed.new.host c.give_verdict.new.host
     (judged_ends c.args.k c.give_verdict.result c.judge.result c.in-Ok.claimed.tree c.in-Ok.claimed.plan read.0 before middle after read.1 c.judge.ensures c.give_verdict.ensures.ends
     took.output took.out_faults gave.input)
-    (judged_answers c.args.k c.in-Ok.claimed.tree c.in-Ok.claimed.plan read.0 c.judge.result before.input middle.input read.1 c.judge.ensures) took gave
+    (judged_answers c.args.k c.in-Ok.claimed.tree c.in-Ok.claimed.plan read.0 c.judge.result before.input middle.input read.1 c.judge.ensures) c.read_claimed.ensures.bounded took gave
 
 pub returns-in-Err-Refused : goal.returns-in-Err-Refused
 returns-in-Err-Refused g c =
@@ -45,7 +45,7 @@ returns-in-Err-Refused g c =
     (rw c.status_of.ensures
     (faulty_ends c.args.k error refused.0 before middle after c.give_refusal.result refused.1 took.output took.out_faults gave.input
     c.give_refusal.ensures.ok c.give_refusal.ensures.cause))
-    (fault_answers c.args.k error refused.0 before.input middle.input refused.1) took gave
+    (fault_answers c.args.k error refused.0 before.input middle.input refused.1) c.read_claimed.ensures.bounded took gave
 
 pub returns-in-Err-ReadFault : goal.returns-in-Err-ReadFault
 returns-in-Err-ReadFault g c =
@@ -54,7 +54,7 @@ returns-in-Err-ReadFault g c =
     (nothing_answers c.args.k (h.beside c.args.host.now).input (h.beside c.read_claimed.new.host).input)
     (let stopped = subst (λ stop. StopsClaim stop (h.beside c.args.host.now).input (h.beside c.read_claimed.new.host).input) c.in-Err-ReadFault.field-0-is c.in-Err-ReadFault.ensures.err in
     (c.read_claimed.ensures.cause (c.in-Err-ReadFault.is ∙ ap Err c.in-Err-ReadFault.field-0-is), c.read_claimed.ensures.alone.output, stopped.0, stopped.1, stopped.2))
-    c.read_claimed.ensures.alone
+    c.read_claimed.ensures.bounded c.read_claimed.ensures.alone
 
 pub returns-in-Err-TooMuch : goal.returns-in-Err-TooMuch
 returns-in-Err-TooMuch g c =
@@ -63,10 +63,10 @@ returns-in-Err-TooMuch g c =
     (nothing_answers c.args.k (h.beside c.args.host.now).input (h.beside c.read_claimed.new.host).input)
     (let stopped = subst (λ stop. StopsClaim stop (h.beside c.args.host.now).input (h.beside c.read_claimed.new.host).input) c.in-Err-TooMuch.field-0-is c.in-Err-TooMuch.ensures.err in
     (c.read_claimed.ensures.alone.output, stopped.0, stopped.1, stopped.2))
-    c.read_claimed.ensures.alone
+    c.read_claimed.ensures.bounded c.read_claimed.ensures.alone
 
 pub returns-in-Err-NoMemory : goal.returns-in-Err-NoMemory
 returns-in-Err-NoMemory g c =
     let h = g.H.Disk in
     carried_stopped h.contents h.may_leave h.beside h.moment h.stood_since h.faults h.reads (Some (Verify c.args.k)) NoMemory c.args.host.now c.read_claimed.new.host
-    (nothing_answers c.args.k (h.beside c.args.host.now).input (h.beside c.read_claimed.new.host).input) tt c.read_claimed.ensures.alone
+    (nothing_answers c.args.k (h.beside c.args.host.now).input (h.beside c.read_claimed.new.host).input) tt c.read_claimed.ensures.bounded c.read_claimed.ensures.alone
