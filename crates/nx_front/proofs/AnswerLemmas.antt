@@ -1,6 +1,7 @@
 -- The answer to an input.
 use Rattle.std.proofs.Common.{◌≡◌, ◌⊎◌, inl, inr, ℕ, ◌<◌, List, [], ◌++◌, length, Option, None, Some, IfSome, sym, ap, ◌∙◌, subst, append-nil}
 use Rattle.std.specs.Option.{option_map_or}
+use Rattle.nx_host.specs.Input.{most_input}
 use Rattle.nx_tree.specs.Forest.{OrderedTree}
 use Rattle.nx_pyx.specs.declared.error.PyxError.{PyxError}
 use Rattle.nx_pyx.specs.Lines.{lines}
@@ -15,7 +16,7 @@ use Rattle.nx_front.specs.declared.words.CommandLine.TheVariants.{Tidy}
 use Rattle.nx_front.specs.declared.refusal.Refusal.TheVariants.{Pyx}
 use Rattle.nx_front.specs.Refusal.{refusal_line}
 use Rattle.nx_front.specs.Answer.{Answers}
-use Rattle.nx_front.specs.Outcome.{most_input, EndsRead, EndsRefused}
+use Rattle.nx_front.specs.Outcome.{EndsRead, EndsRefused}
 use Rattle.nx_front.specs.Run.{AnswersTold}
 
 -- the line that refuses a text with this fault

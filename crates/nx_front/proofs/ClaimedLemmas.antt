@@ -3,7 +3,7 @@ use Rattle.std.proofs.Common.{◌≡◌, ◌⊎◌, inl, inr, ℕ, ◌+◌, ◌-
 use Rattle.std.proofs.lemmas.List.{take-append-drop, take_all, length-drop}
 use Rattle.std.proofs.Math.Seq.{take-add}
 use Rattle.nx_host.specs.Host.{Takes, IsAtEnd}
-use Rattle.nx_host.specs.Input.{HasTaken, block_of}
+use Rattle.nx_host.specs.Input.{HasTaken, block_of, most_input}
 use Rattle.nx_host.specs.declared.input.Input.{Input}
 use Rattle.nx_host.specs.declared.input.InputError.{InputError}
 use Rattle.nx_host.specs.declared.input.InputError.TheVariants as input
@@ -19,7 +19,7 @@ use Rattle.nx_script.proofs.BeforeDot.{after_in-none, shown_before}
 use Rattle.nx_front.specs.declared.read.Stop.{Stop}
 use Rattle.nx_front.specs.declared.read.Stop.TheVariants.{Refused, ReadFault, TooMuch, NoMemory}
 use Rattle.nx_front.specs.Stop.{stop_of_input}
-use Rattle.nx_front.specs.Outcome.{most_input, EndsWhole, Finishes}
+use Rattle.nx_front.specs.Outcome.{EndsWhole, Finishes}
 use Rattle.nx_pyx.specs.Fault.{shown_fault}
 use Rattle.nx_pyx.proofs.Said.{no_fault}
 use Rattle.nx_pyx.proofs.Shown.{fault_shown}

@@ -1,7 +1,7 @@
 -- What was taken of the input as reading goes on, and where it ends.
 use Rattle.std.proofs.Common.{◌≡◌, inl, inr, ℕ, ◌+◌, ◌-◌, ◌≤◌, ◌<◌, List, [], ◌∷◌, ◌++◌, length, Option, None, Some, Result, Ok, Err, IfOk, IfErr, ◌↔◌, refl, sym, ap, ◌∙◌, subst, arith, append-nil}
 use Rattle.nx_host.specs.Host.{Takes, IsAtEnd}
-use Rattle.nx_host.specs.Input.{HasTaken, block_of}
+use Rattle.nx_host.specs.Input.{HasTaken, block_of, most_input}
 use Rattle.nx_host.specs.declared.input.Input.{Input}
 use Rattle.nx_host.specs.declared.input.InputError.{InputError}
 use Rattle.nx_host.specs.declared.input.InputError.TheVariants as input
@@ -15,7 +15,7 @@ use Rattle.nx_pyx.specs.Reader.{HasRead}
 use Rattle.nx_front.specs.declared.read.Stop.{Stop}
 use Rattle.nx_front.specs.declared.read.Stop.TheVariants.{Refused, ReadFault, TooMuch, NoMemory}
 use Rattle.nx_front.specs.Stop.{stop_of, stop_of_input}
-use Rattle.nx_front.specs.Outcome.{most_input, HasTakenIn, EndsRead, StopsBy, Finishes}
+use Rattle.nx_front.specs.Outcome.{HasTakenIn, EndsRead, StopsBy, Finishes}
 
 -- The reader has read what was taken of an input that is told so now.
 abbrev pub Took : Reader → Input → Option (List ℕ) → Option (List ℕ) → Type 0

@@ -2,6 +2,7 @@
 use Rattle.std.proofs.Common.{◌≡◌, ◌⊎◌, inl, inr, ℕ, ◌+◌, ◌<◌, ◌≤◌, List, [], ◌++◌, length, Option, None, Some, IsSome, Result, Ok, Err, OnOk, refl, sym, ap, ◌∙◌, subst, arith, append-nil, length-append}
 use Rattle.nx_host.specs.Disk.{Image, Beside, Keeps, Rose}
 use Rattle.nx_host.specs.Host.{Takes, Appends, AppendsFront}
+use Rattle.nx_host.specs.Input.{most_input}
 use Rattle.nx_host.specs.Time.{Stood, none_elapsed, elapsed_then, elapsed_weaker}
 use Rattle.nx_host.proofs.OutputLemmas.{keeps_front}
 use Rattle.nx_tree.specs.Forest.{OrderedTree}
@@ -18,7 +19,7 @@ use Rattle.nx_front.specs.declared.words.CommandLine.{CommandLine}
 use Rattle.nx_front.specs.declared.words.CommandLine.TheVariants.{Tidy, Run, Verify}
 use Rattle.nx_front.specs.declared.refusal.Refusal.TheVariants.{Pyx}
 use Rattle.nx_front.specs.Refusal.{refusal_line}
-use Rattle.nx_front.specs.Outcome.{most_input, TakesFew, EndsRead, EndsRefused}
+use Rattle.nx_front.specs.Outcome.{TakesFew, EndsRead, EndsRefused}
 use Rattle.nx_host.specs.Phase.{TakesAlone, StandsBeside, GivesAlone, StandsWithin}
 use Rattle.nx_front.specs.Run.{TidyEnds, EndsWith, AnswersTold, GrowsToAnswer, LeavesDisk, IsUndisturbed, status_after, IsCarriedOut}
 use Rattle.nx_front.proofs.AnswerLemmas.{fault_of_all}

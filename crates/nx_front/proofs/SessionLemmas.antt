@@ -14,6 +14,7 @@ use Rattle.nx_script.specs.Commands.{AreCommands, AreWhole}
 use Rattle.nx_script.specs.Reply.{reply_text}
 use Rattle.nx_script.specs.Script.{HasGiven, HasGivenIn, Stops}
 use Rattle.nx_script.proofs.OneList.{one_list, given_front}
+use Rattle.nx_script.proofs.ScriptLemmas.{in_input}
 use Rattle.nx_engine.specs.Documents.{Documents}
 use Rattle.nx_engine.specs.Step.{answer, after, replies, after_all}
 use Rattle.nx_front.specs.declared.status.Status.{Status}
@@ -23,7 +24,7 @@ use Rattle.nx_script.specs.declared.error.ScriptError.{ScriptError}
 use Rattle.nx_script.specs.declared.error.ScriptError.TheVariants as scripts
 use Rattle.nx_front.specs.Stop.{status_of_script, status_of_halt}
 use Rattle.nx_front.specs.declared.words.CommandLine.TheVariants.{Run}
-use Rattle.nx_front.specs.Outcome.{most_input}
+use Rattle.nx_host.specs.Input.{most_input}
 use Rattle.nx_front.specs.Session.{texts_from, texts, AreFirst, ScriptEnds, AnswersScript, HasAnswered, HasStopped, IsAnswered}
 use Rattle.nx_front.specs.Run.{AnswersTold, GrowsToAnswer, LeavesDisk, IsCarriedOut}
 
@@ -63,19 +64,13 @@ pub first_given : (script : Script) (taken : List ℕ) (commands : List Command)
 first_given script taken commands first None given = tt
 first_given script taken commands first (Some left) given = given_front script taken left commands first given
 
--- the script gave one command more, or learnt that none is left
-pub still_given : (old new : Script) (taken : List ℕ) (commands more : List Command) (first now : Option (List ℕ)) → new.ended ≡ old.ended →
-    HasGivenIn old taken commands first now → HasGiven new taken more → HasGivenIn new taken more first now
-still_given old new taken commands more first now same before given =
-    record { given = given; takes = before.takes; end = λ is. before.end (sym same ∙ is) }
-
 -- a count that has risen since a later moment has risen since an earlier one
 pub rose_since : (a b c : ℕ) → a ≤ b → Rose b c → Rose a c
 rose_since a b c earlier rose = omega (arith, rose, earlier)
 
 -- no more bytes were taken than a run takes
-pub few_given : (script : Script) (taken : List ℕ) (commands : List Command) → script.taken ≤ most_input → HasGiven script taken commands → length taken ≤ most_input
-few_given script taken commands few given = let counted : script.taken ≡ length taken = given.counted in let e : length taken ≤ most_input = omega arith in e
+pub few_given : (script : Script) (taken : List ℕ) (commands : List Command) → script.input.taken ≤ most_input → HasGiven script taken commands → length taken ≤ most_input
+few_given script taken commands few given = let counted : script.input.taken ≡ length taken = given.counted in let e : length taken ≤ most_input = omega arith in e
 
 -- before anything was taken
 first_none : (now : Option (List ℕ)) → AreFirst [] [] now
@@ -256,7 +251,7 @@ module _ {D : Type 0} (contents : D → Option Image) (may_leave : D → Image �
       let P : List Command → Option (List ℕ) → Type 0 = λ cs i. HasGivenIn new taken cs first i in
       subst (λ (i : Option (List ℕ)). P (commands ++ (more ++ c ∷ [])) i) (sym input)
       (subst (λ (cs : List Command). P cs (beside now).input) (append_assoc commands more (c ∷ []))
-      (still_given old new taken (commands ++ more) ((commands ++ more) ++ c ∷ []) first (beside now).input same did.given given))
+      (in_input old new taken (commands ++ more) ((commands ++ more) ++ c ∷ []) first (beside now).input same did.given given))
 
   -- one command more is answered
   pub has_answered_more : (first : Option (List ℕ)) (taken : List ℕ) (commands more : List Command) (c : Command) (old new : Script) (p0 p p' : Documents) (b0 b b' : List ℕ)

@@ -1,9 +1,9 @@
 -- How much was taken of an input.
 use Rattle.std.proofs.Common.{◌≡◌, ℕ, ◌≤◌, List, [], ◌++◌, length, Option, None, Some, refl, subst, sym, arith}
 use Rattle.nx_host.specs.Disk.{Beside}
-use Rattle.nx_host.specs.Input.{HasTaken}
+use Rattle.nx_host.specs.Input.{HasTaken, most_input}
 use Rattle.nx_host.specs.declared.input.Input.{Input}
-use Rattle.nx_front.specs.Outcome.{most_input, TakesFew}
+use Rattle.nx_front.specs.Outcome.{TakesFew}
 use Rattle.nx_front.specs.Run.{CountsGrow}
 
 -- nothing

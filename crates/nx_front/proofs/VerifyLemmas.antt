@@ -4,6 +4,7 @@ use Rattle.std.proofs.lemmas.List.{length-map}
 use Rattle.std.specs.List.{zip}
 use Rattle.nx_host.specs.Disk.{Beside, Rose}
 use Rattle.nx_host.specs.Host.{Takes, IsAtEnd, Appends}
+use Rattle.nx_host.specs.Input.{most_input}
 use Rattle.nx_tree.specs.Forest.{OrderedTree}
 use Rattle.nx_pyx.specs.declared.error.PyxError.{PyxError}
 use Rattle.nx_pyx.specs.Fault.{fault_of}
@@ -32,7 +33,7 @@ use Rattle.nx_front.specs.declared.words.CommandLine.TheVariants.{Tidy, Run, Ver
 use Rattle.nx_front.specs.declared.refusal.Refusal.{Refusal}
 use Rattle.nx_front.specs.declared.refusal.Refusal.TheVariants.{Pyx, Bounds}
 use Rattle.nx_front.specs.Refusal.{refusal_line}
-use Rattle.nx_front.specs.Outcome.{most_input, EndsWhole}
+use Rattle.nx_front.specs.Outcome.{EndsWhole}
 use Rattle.nx_front.specs.Claimed.{EndsClaimed, EndsFaulty}
 use Rattle.nx_front.specs.Verify.{certified_line, IsCertifiedText, IsRefusedText, IsCertifiedInput, IsSoundInput, IsRefusedInput, AnswersClaim, JudgesText, AreFew, verdict_text, EndsVerdict, EndsRefusedBy, VerifyEnds}
 use Rattle.nx_front.specs.Run.{EndsWith, AnswersTold, IsUndisturbed, status_after}

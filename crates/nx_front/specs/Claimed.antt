@@ -1,6 +1,7 @@
 -- How the reading of a document's lines and of what stands behind their dot ends.
 use Rattle.std.specs.Prelude.{◌≡◌, ◌⊎◌, ℕ, ◌<◌, List, ◌++◌, length, Option, None, Some}
 use Rattle.nx_host.specs.Host.{Takes, IsAtEnd}
+use Rattle.nx_host.specs.Input.{most_input}
 use Rattle.nx_tree.specs.Forest.{OrderedTree}
 use Rattle.nx_pyx.specs.declared.error.PyxError.{PyxError}
 use Rattle.nx_pyx.specs.Fault.{fault_of}
@@ -8,7 +9,7 @@ use Rattle.nx_pyx.specs.Reading.{Reads}
 use Rattle.nx_script.specs.BeforeDot.{before_dot, after_dot, shown_before_dot}
 use Rattle.nx_front.specs.declared.read.Stop.{Stop}
 use Rattle.nx_front.specs.declared.read.Stop.TheVariants.{Refused, ReadFault, TooMuch, NoMemory}
-use Rattle.nx_front.specs.Outcome.{most_input, EndsWhole}
+use Rattle.nx_front.specs.Outcome.{EndsWhole}
 
 -- The bytes were taken to the input's end. The lines before the dot say this tree, and this text stands behind it.
 pub record EndsClaimed (tree : OrderedTree) (plan taken : List ℕ) (first now : Option (List ℕ)) : Type 0 where

@@ -1,8 +1,8 @@
 -- How the reading of an input ends, and how a run of `tidy` does.
-use Rattle.std.specs.Prelude.{◌≡◌, ◌⊎◌, ℕ, ◌^◌, ◌<◌, ◌≤◌, List, length, Option, None, Some, Result, Ok, Err, Bool, true, false, [], ◌++◌}
+use Rattle.std.specs.Prelude.{◌≡◌, ◌⊎◌, ℕ, ◌<◌, ◌≤◌, List, length, Option, None, Some, Result, Ok, Err, Bool, true, false, [], ◌++◌}
 use Rattle.nx_host.specs.declared.input.Input.{Input}
 use Rattle.nx_host.specs.Host.{Takes, IsAtEnd, Appends}
-use Rattle.nx_host.specs.Input.{HasTaken}
+use Rattle.nx_host.specs.Input.{HasTaken, most_input}
 use Rattle.nx_tree.specs.Forest.{OrderedTree}
 use Rattle.nx_pyx.specs.declared.error.PyxError.{PyxError}
 use Rattle.nx_pyx.specs.declared.reader.Reader.{Reader}
@@ -11,10 +11,6 @@ use Rattle.nx_pyx.specs.Reading.{Reads}
 use Rattle.nx_pyx.specs.Reader.{HasRead}
 use Rattle.nx_front.specs.declared.read.Stop.{Stop}
 use Rattle.nx_front.specs.declared.read.Stop.TheVariants.{Refused, ReadFault, TooMuch, NoMemory}
-
--- as many bytes of input as a run takes at most
-abbrev pub most_input : ℕ
-most_input = 2 ^ 32
 
 -- No more bytes were taken of the input than a run takes.
 pub record TakesFew (first now : Option (List ℕ)) : Type 0 where

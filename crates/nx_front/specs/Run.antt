@@ -2,6 +2,7 @@
 use Rattle.std.specs.Prelude.{◌≡◌, ◌↔◌, ℕ, ◌<◌, ◌≤◌, List, [], length, Option, IfSome, IsSome, None, Some, Result, Ok, Err}
 use Rattle.nx_host.specs.Disk.{Image, Beside, Keeps, Rose}
 use Rattle.nx_host.specs.Host.{Appends}
+use Rattle.nx_host.specs.Input.{most_input}
 use Rattle.nx_host.specs.Time.{Stood, Elapses}
 use Rattle.nx_tree.specs.Forest.{OrderedTree}
 use Rattle.nx_pyx.specs.declared.error.PyxError.{PyxError}
@@ -15,7 +16,7 @@ use Rattle.nx_front.specs.declared.words.CommandLine.TheVariants.{Tidy, Run, Ver
 use Rattle.nx_front.specs.declared.refusal.Refusal.TheVariants.{Pyx}
 use Rattle.nx_front.specs.Refusal.{refusal_line}
 use Rattle.nx_front.specs.Answer.{Answers}
-use Rattle.nx_front.specs.Outcome.{most_input, TakesFew, EndsRead, EndsRefused, EndsSound}
+use Rattle.nx_front.specs.Outcome.{TakesFew, EndsRead, EndsRefused, EndsSound}
 use Rattle.nx_host.specs.Phase.{StandsWithin}
 use Rattle.nx_front.specs.Session.{ScriptEnds, AnswersScript}
 use Rattle.nx_front.specs.Verify.{VerifyEnds, AnswersClaim}

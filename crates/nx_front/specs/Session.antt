@@ -4,13 +4,14 @@ use Rattle.std.specs.List.{flat_map}
 use Rattle.std.specs.FinMap.{empty}
 use Rattle.nx_host.specs.Disk.{Image, Beside, Rose}
 use Rattle.nx_host.specs.Host.{Appends}
+use Rattle.nx_host.specs.Input.{most_input}
 use Rattle.nx_host.specs.Time.{Stood}
 use Rattle.nx_host.specs.Phase.{GivesAlone, TalksAlone}
 use Rattle.nx_script.specs.declared.command.Command.{Command}
 use Rattle.nx_script.specs.declared.script.Script.{Script}
 use Rattle.nx_script.specs.Commands.{AreCommands}
 use Rattle.nx_script.specs.Reply.{reply_text}
-use Rattle.nx_script.specs.Script.{HasGivenIn, EndsIn, StopsIn, most_input}
+use Rattle.nx_script.specs.Script.{HasGivenIn, EndsIn, StopsIn}
 use Rattle.nx_engine.specs.Documents.{Documents}
 use Rattle.nx_engine.specs.Step.{replies, after_all}
 use Rattle.nx_front.specs.declared.status.Status.{Status}

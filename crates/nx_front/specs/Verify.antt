@@ -11,9 +11,10 @@ use Rattle.nx_bounds.specs.Refusal.{IsSound, IsCertified, IsNotCertified}
 use Rattle.nx_bounds.specs.PlanText.{ReadsAs, IsNoPlan}
 use Rattle.nx_host.specs.Disk.{Beside, Rose}
 use Rattle.nx_host.specs.Host.{Appends}
+use Rattle.nx_host.specs.Input.{most_input}
 use Rattle.nx_front.specs.declared.status.Status.{Status}
 use Rattle.nx_front.specs.declared.status.Status.TheVariants.{Done, Usage, Refused, ReadFault, WriteFault, NoMemory, TooMuch}
-use Rattle.nx_front.specs.Outcome.{most_input, EndsWhole}
+use Rattle.nx_front.specs.Outcome.{EndsWhole}
 use Rattle.nx_front.specs.Claimed.{EndsFaulty, EndsUnfaulty}
 use Rattle.nx_front.specs.declared.refusal.Refusal.{Refusal}
 use Rattle.nx_front.specs.declared.refusal.Refusal.TheVariants.{Pyx, Bounds}

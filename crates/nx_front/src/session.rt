@@ -65,7 +65,7 @@ fn answer_ready<H: Host>(
         (more : List Command) × MatchBool script.new.ended (AreCommands taken (commands ++ more)) (AreWhole taken (commands ++ more))
         × HasAnswered H.contents H.may_leave H.beside H.moment H.stood_since H.faults H.reads first taken commands more script.new plain.old plain.new block.old block.new host.old host.new) }
     ensures drained { OnOk result (IsDrained script.new) }
-    ensures taken { OnOk result (script.new.taken ≡ script.old.taken) }
+    ensures taken { OnOk result (script.new.input.taken ≡ script.old.input.taken) }
     ensures ended { OnOk result (script.new.ended ≡ script.old.ended) }
     ensures err { IfErr result (λ _. (first : Option (List ℕ)) (taken : List ℕ) (commands : List Command) → HasGivenIn script.old taken commands first (H.beside host.old).input →
         (more : List Command) × HasStopped H.contents H.may_leave H.beside H.moment H.stood_since H.faults H.reads taken commands more plain.old block.old host.old host.new) }

@@ -76,6 +76,7 @@ impl Input {
         ensures err { OnErr result ((taken : List ℕ) (first : Option (List ℕ)) → HasTaken self.old taken first (H.beside host.old).input →
             HasTaken self.new taken first (H.beside host.new).input) }
         ensures none { OnErr result (block_of self.new ≡ []) }
+        ensures untaken { OnErr result (self.new.taken ≡ self.old.taken) }
         ensures too_much { (result ≡ Err TooMuch) ↔ (self.old.taken ≡ most_input) }
         ensures cause { result ≡ Err Read → Rose (H.beside host.old).in_faults (H.beside host.new).in_faults }
         ensures alone { TakesAlone H.contents H.may_leave H.beside H.moment H.stood_since H.faults H.reads host.old host.new }

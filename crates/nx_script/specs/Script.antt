@@ -1,7 +1,10 @@
 -- What a script has given of its input.
-use Rattle.std.specs.Prelude.{◌≡◌, ℕ, ◌+◌, ◌-◌, ◌^◌, ◌<◌, if◌then◌else◌, true, List, [], ◌∷◌, ◌++◌, length, take, drop, Option, None, Some}
+use Rattle.std.specs.Prelude.{◌≡◌, ℕ, ◌+◌, ◌<◌, if◌then◌else◌, true, List, [], ◌∷◌, ◌++◌, length, drop, Option, None, Some}
 use Rattle.std.specs.Bool.{MatchBool}
+use Rattle.nx_host.specs.declared.input.InputError.{InputError}
+use Rattle.nx_host.specs.declared.input.InputError.TheVariants as input
 use Rattle.nx_host.specs.Host.{Takes, IsAtEnd}
+use Rattle.nx_host.specs.Input.{block_of, most_input}
 use Rattle.nx_script.specs.declared.command.Command.{Command}
 use Rattle.nx_script.specs.declared.script.Script.{Script}
 use Rattle.nx_script.specs.declared.error.ScriptError.{ScriptError}
@@ -9,25 +12,26 @@ use Rattle.nx_script.specs.declared.error.ScriptError.TheVariants.{Read, TooMuch
 use Rattle.nx_script.specs.Commands.{AreCommands, AreWhole}
 use Rattle.nx_script.specs.Parser.{HasParsed}
 
--- the greatest number of bytes of a script's input
-abbrev pub most_input : ℕ
-most_input = 2 ^ 32
+-- why a script gives no further command, where its input gives no further bytes
+abbrev pub error_of : InputError → ScriptError
+error_of input.Read = Read
+error_of input.TooMuch = TooMuch
 
 -- the bytes that were taken and not looked at yet
 abbrev pub unread : Script → List ℕ
-unread script = take (script.end - script.start) (drop script.start script.block.items)
+unread script = drop script.start (block_of script.input)
 
 -- every byte that was taken was looked at
 abbrev pub IsDrained : Script → Type 0
-IsDrained script = script.start ≡ script.end
+IsDrained script = unread script ≡ []
 
 -- how much there is to do before more input is asked for: the bytes to look at, and the end
 abbrev pub work_left : Script → ℕ
-work_left script = (script.end - script.start) + (if script.finished then 0 else 1)
+work_left script = length (unread script) + (if script.finished then 0 else 1)
 
 -- The script has taken these bytes and given these commands of them.
 pub record HasGiven (script : Script) (taken : List ℕ) (commands : List Command) : Type 0 where
-  pub counted : script.taken ≡ length taken
+  pub counted : script.input.taken ≡ length taken
   pub ended : script.finished ≡ true → script.ended ≡ true
   pub drained : script.finished ≡ true → IsDrained script
   pub given : MatchBool script.finished

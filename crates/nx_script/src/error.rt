@@ -1,7 +1,9 @@
 // Why a script gives no further command.
 ghost use Rattle.std.specs.Prelude.{◌≡◌};
+ghost use Rattle.nx_script.specs.Script.{error_of};
 ghost use Rattle.nx_script.specs.declared.error.ScriptError.TheVariants.{Memory};
 
+use nx_host::InputError;
 use nx_tree::NoMemory;
 use std::alloc::AllocError;
 use thiserror::Error;
@@ -18,6 +20,17 @@ pub enum ScriptError {
     /// There was no memory for what the call had to keep.
     #[error("out of memory")]
     Memory,
+}
+
+impl From<InputError> for ScriptError {
+    ghost from_gives = { λ input error. error ≡ error_of input };
+
+    fn from(error: InputError) -> ScriptError {
+        match error {
+            InputError::Read => ScriptError::Read,
+            InputError::TooMuch => ScriptError::TooMuch,
+        }
+    }
 }
 
 impl From<NoMemory> for ScriptError {

@@ -1,19 +1,10 @@
 // A script that comes from a host.
-ghost use Rattle.std.specs.Prelude.{◌≡◌, ◌^◌, ◌<◌, ◌≤◌, length, take, min, IfOk, OnErr};
-ghost use Rattle.nx_host.specs.Disk.{Keeps, Rose};
-ghost use Rattle.nx_host.specs.Host.{Takes, IsAtEnd};
-ghost use Rattle.nx_host.specs.Phase.{TakesAlone};
+ghost use Rattle.std.specs.Prelude.{◌≡◌, ◌<◌, ◌≤◌};
 
 use crate::parser::Parser;
 use crate::{Command, ScriptError};
-use nx_host::{Failed, Host};
+use nx_host::{Host, Input};
 use std::alloc::Global;
-
-// As many bytes as are asked for at once.
-const BLOCK: usize = 65_536;
-
-// As many bytes as a script takes at most.
-const MOST_INPUT: u64 = 1 << 32;
 
 /// A script whose bytes come from a host's input.
 ///
@@ -21,30 +12,24 @@ const MOST_INPUT: u64 = 1 << 32;
 #[derive(Drop)]
 pub struct Script {
     parser: Parser,
-    // The block that was taken last, and where the bytes begin and end that are still to be looked
-    // at.
-    block: Vec<u8>,
+    input: Input,
+    // Where the bytes of the input's block begin that are still to be looked at.
     start: usize,
-    end: usize,
-    taken: u64,
     ended: bool,
     // Whether the last command was given.
     finished: bool,
-    ghost in_order: { start ≤ end },
-    ghost within: { end ≤ length block.items },
-    ghost some: { 0 < length block.items },
-    ghost few: { taken ≤ 2 ^ 32 },
 }
 
 impl Script {
     ghost use Rattle.std.specs.Prelude.{◌⊎◌, ◌↔◌, ℕ, List, [], ◌∷◌, ◌++◌, true, false, Option, Some, None, Ok, Err, IfOk, IfErr, IfSome, OnOk, OnErr};
     ghost use Rattle.std.specs.Bool.{MatchBool};
     ghost use Rattle.nx_host.specs.Disk.{Rose};
+    ghost use Rattle.nx_host.specs.Input.{most_input};
     ghost use Rattle.nx_host.specs.Phase.{TakesAlone};
     ghost use Rattle.nx_script.specs.declared.command.Command.{Command};
     ghost use Rattle.nx_script.specs.declared.error.ScriptError.TheVariants.{Read, TooMuch, Memory};
     ghost use Rattle.nx_script.specs.Commands.{AreWhole, AreCommands};
-    ghost use Rattle.nx_script.specs.Script.{HasGiven, HasGivenIn, IsDrained, GivesNext, Stops, most_input, work_left};
+    ghost use Rattle.nx_script.specs.Script.{HasGiven, HasGivenIn, IsDrained, GivesNext, Stops, work_left};
 
     /// A script that is about to come.
     ///
@@ -55,10 +40,8 @@ impl Script {
     {
         Ok(Script {
             parser: Parser::new(alloc),
-            block: vec![in alloc; 0u8; BLOCK]?,
+            input: Input::new(alloc)?,
             start: 0,
-            end: 0,
-            taken: 0,
             ended: false,
             finished: false,
         })
@@ -100,11 +83,11 @@ impl Script {
         ensures drained { result ≡ Ok None → IsDrained self.new }
         ensures less { IfOk result (λ next. IfSome next (λ _. work_left self.new < work_left self.old)) }
         ensures err { IfErr result (λ error. error ≡ Memory) }
-        ensures taken { self.new.taken ≡ self.old.taken }
+        ensures taken { self.new.input.taken ≡ self.old.input.taken }
         ensures ended { self.new.ended ≡ self.old.ended }
     {
-        while self.start < self.end {
-            let (len, command) = self.parser.take(&self.block[self.start..self.end])?;
+        while self.start < self.input.block().len() {
+            let (len, command) = self.parser.take(&self.input.block()[self.start..])?;
             self.start += len;
             if command.is_some() {
                 return Ok(command);
@@ -126,24 +109,17 @@ impl Script {
         requires unended { self.old.ended ≡ false }
         ensures ok { OnOk result ((first : Option (List ℕ)) (taken : List ℕ) (commands : List Command) → HasGivenIn self.old taken commands first (H.beside host.old).input →
             (more : List ℕ) × HasGivenIn self.new (taken ++ more) commands first (H.beside host.new).input) }
-        ensures more { OnOk result ((self.old.taken < self.new.taken) ⊎ (self.new.ended ≡ true)) }
-        ensures taken { self.old.taken ≤ self.new.taken }
+        ensures more { OnOk result ((self.old.input.taken < self.new.input.taken) ⊎ (self.new.ended ≡ true)) }
+        ensures taken { self.old.input.taken ≤ self.new.input.taken }
         ensures err { OnErr result ((first : Option (List ℕ)) (taken : List ℕ) (commands : List Command) → HasGivenIn self.old taken commands first (H.beside host.old).input →
             HasGivenIn self.new taken commands first (H.beside host.new).input) }
-        ensures too_much { (result ≡ Err TooMuch) ↔ (self.old.taken ≡ most_input) }
+        ensures too_much { (result ≡ Err TooMuch) ↔ (self.old.input.taken ≡ most_input) }
         ensures errors { IfErr result (λ error. (error ≡ Read) ⊎ (error ≡ TooMuch)) }
         ensures cause { result ≡ Err Read → Rose (H.beside host.old).in_faults (H.beside host.new).in_faults }
         ensures alone { TakesAlone H.contents H.may_leave H.beside H.moment H.stood_since H.faults H.reads host.old host.new }
     {
-        if self.taken >= MOST_INPUT {
-            return Err(ScriptError::TooMuch);
-        }
-        let Ok(count) = take_block(host, &mut self.block, MOST_INPUT - self.taken) else {
-            return Err(ScriptError::Read);
-        };
         self.start = 0;
-        self.end = count;
-        self.taken += count as u64;
+        let count = self.input.fill(host)?;
         self.ended = count == 0;
         Ok(())
     }
@@ -157,36 +133,8 @@ impl Script {
 
     /// How many bytes of the input were taken.
     pub fn taken(&self) -> u64
-        ensures { result ≡ self.now.taken }
+        ensures { result ≡ self.now.input.taken }
     {
-        self.taken
-    }
-}
-
-// Takes the next bytes of the input into the front of the block, at most as many as it has and
-// there is room for, and gives how many they were. None is the input's end.
-fn take_block<H: Host>(host: &mut H, block: &mut [u8], room: u64) -> Result<usize, Failed>
-    requires block { 0 < length block.old }
-    requires room { 0 < room }
-    ensures within { IfOk result (λ n. n ≤ length block.new) }
-    ensures room { IfOk result (λ n. n ≤ room) }
-    ensures taken { IfOk result (λ n. Takes (take n block.new) (H.beside host.old).input (H.beside host.new).input) }
-    ensures end { IfOk result (λ n. n ≡ 0 → IsAtEnd (H.beside host.new).input) }
-    ensures untaken { OnErr result (Keeps (H.beside host.old).input (H.beside host.new).input) }
-    ensures cause { OnErr result (Rose (H.beside host.old).in_faults (H.beside host.new).in_faults) }
-    ensures alone { TakesAlone H.contents H.may_leave H.beside H.moment H.stood_since H.faults H.reads host.old host.new }
-{
-    let most = least(block.len(), room);
-    host.read_in(&mut block[..most])
-}
-
-// The lesser of a length and a number of bytes.
-fn least(len: usize, room: u64) -> usize
-    ensures { result ≡ min len room }
-{
-    if (len as u64) < room {
-        len
-    } else {
-        room as usize
+        self.input.taken()
     }
 }

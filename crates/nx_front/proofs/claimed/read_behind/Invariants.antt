@@ -1,6 +1,6 @@
 use Rattle.std.proofs.Common.{ℕ, ◌-◌}
+use Rattle.nx_host.specs.Input.{most_input}
 use Rattle.nx_host.specs.Phase.{TakesAlone}
-use Rattle.nx_front.specs.Outcome.{most_input}
 use Rattle.nx_front.proofs.ClaimedLemmas.{Behind}
 use Rattle.nx_front.proofs.claimed.read_behind.Given as goal
 

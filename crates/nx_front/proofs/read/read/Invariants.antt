@@ -1,6 +1,7 @@
 use Rattle.std.proofs.Common.{ℕ, ◌-◌, List}
+use Rattle.nx_host.specs.Input.{most_input}
 use Rattle.nx_host.specs.Phase.{TakesAlone}
-use Rattle.nx_front.specs.Outcome.{HasTakenIn, most_input}
+use Rattle.nx_front.specs.Outcome.{HasTakenIn}
 use Rattle.nx_front.proofs.read.read.Given as goal
 
 -- the reader has read what was taken

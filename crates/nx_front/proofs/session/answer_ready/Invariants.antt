@@ -13,7 +13,7 @@ invariant-loop-next g l =
           (more : List Command) × HasAnswered h.contents h.may_leave h.beside h.moment h.stood_since h.faults h.reads first taken commands more l.script l.initial.plain l.plain
           l.initial.block l.block l.initial.host l.host;
       faults : (h.beside l.initial.host).out_faults ≤ (h.beside l.host).out_faults;
-      taken : l.script.taken ≡ l.initial.script.taken;
+      taken : l.script.input.taken ≡ l.initial.script.input.taken;
       ended : l.script.ended ≡ l.initial.script.ended;
     }
 

@@ -42,7 +42,7 @@ returns-in_err-answer_ready g c =
     c.loop-block.block c.args.host.now c.loop-block.host c.answer_ready.new.host answered stopped
     (halt_ends halt (h.beside c.args.host.now) (h.beside c.loop-block.host) (h.beside c.answer_ready.new.host) answered.alone.out_faults
     (λ e. c.in_err-answer_ready.ensures.cause (ap (λ v. Err v) e)))
-    (few_given c.loop-block.script taken commands c.loop-block.script.few answered.given.given))
+    (few_given c.loop-block.script taken commands c.loop-block.script.input.few answered.given.given))
 
 pub returns-in_err-give : goal.returns-in_err-give
 returns-in_err-give g c =
@@ -62,7 +62,7 @@ returns-in_err-give g c =
     c.loop-block.block c.args.host.now c.loop-block.host c.give.new.host answered stopped
     (halt_ends halt (h.beside c.args.host.now) (h.beside c.answer_ready.new.host) (h.beside c.give.new.host) (omega arith)
     (λ e. c.in_err-give.ensures.cause (ap (λ v. Err v) e)))
-    (few_given c.loop-block.script taken commands c.loop-block.script.few answered.given.given))
+    (few_given c.loop-block.script taken commands c.loop-block.script.input.few answered.given.given))
 
 pub returns-then-is_ended : goal.returns-then-is_ended
 returns-then-is_ended g c =
@@ -85,7 +85,7 @@ returns-then-is_ended g c =
       },
       after.appends,
     )
-    (few_given c.answer_ready.new.script taken (commands ++ more) c.answer_ready.new.script.few after.given.given)
+    (few_given c.answer_ready.new.script taken (commands ++ more) c.answer_ready.new.script.input.few after.given.given)
 
 pub loop-block-preserved : goal.loop-block-preserved
 loop-block-preserved g c =
@@ -119,10 +119,10 @@ returns-in_err-fill g c =
     let last = answered_filled h.contents h.may_leave h.beside h.moment h.stood_since h.faults h.reads taken taken (commands ++ more) c.answer_ready.new.script c.fill.new.self
     c.answer_ready.new.plain c.give.new.block c.args.host.now c.give.new.host c.fill.new.host after given c.fill.ensures.alone in
     let stopped = stops c.answer_ready.new.script c.fill.new.self error first (h.beside c.give.new.host).input (h.beside c.fill.new.host).input [] taken (commands ++ more)
-    c.in_err-fill.ensures.errors c.in_err-fill.ensures.too_much c.answer_ready.new.script.few unended after.given (after.given.given, whole) given in
+    c.in_err-fill.ensures.errors c.in_err-fill.ensures.too_much c.answer_ready.new.script.input.few unended after.given (after.given.given, whole) given in
     subst (λ (s : Status). IsCarriedOut h.contents h.may_leave h.beside h.moment h.stood_since h.faults h.reads (Some Run) s c.args.host.now c.fill.new.host) (sym is)
     (carried_answered h.contents h.may_leave h.beside h.moment h.stood_since h.faults h.reads (status_of_script error) taken (commands ++ more) c.fill.new.self
     c.answer_ready.new.plain c.give.new.block c.args.host.now c.fill.new.host last
     (stop_ends error (commands ++ more) (h.beside c.args.host.now) (h.beside c.give.new.host) (h.beside c.fill.new.host) after.alone.in_faults
     (λ e. c.in_err-fill.ensures.cause (ap (λ v. Err v) e)) stopped last.appends)
-    (few_given c.fill.new.self taken (commands ++ more) c.fill.new.self.few last.given.given))
+    (few_given c.fill.new.self taken (commands ++ more) c.fill.new.self.input.few last.given.given))

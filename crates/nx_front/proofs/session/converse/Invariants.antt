@@ -1,6 +1,6 @@
 use Rattle.std.proofs.Common.{ℕ, ◌+◌, ◌-◌, if◌then◌else◌, List}
+use Rattle.nx_host.specs.Input.{most_input}
 use Rattle.nx_script.specs.declared.command.Command.{Command}
-use Rattle.nx_script.specs.Script.{most_input}
 use Rattle.nx_front.specs.Session.{IsAnswered}
 use Rattle.nx_front.proofs.session.converse.Given as goal
 
@@ -13,4 +13,4 @@ invariant-loop-block g l =
 
 -- as many bytes as may still come, and the input's end
 abbrev pub decreases-loop-block : goal.decreases-loop-block
-decreases-loop-block g l = (most_input - l.script.taken) + (if l.script.ended then 0 else 1)
+decreases-loop-block g l = (most_input - l.script.input.taken) + (if l.script.ended then 0 else 1)

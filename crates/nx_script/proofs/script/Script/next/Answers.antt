@@ -6,8 +6,8 @@ use Rattle.nx_script.proofs.script.Script.next.Goals as goal
 
 pub loop-command-smaller : goal.loop-command-smaller
 loop-command-smaller g c =
-    smaller c.loop-command.self.taken c.ready.new.self.taken c.fill.new.self.taken c.loop-command.self.ended c.ready.new.self.ended c.fill.new.self.ended
-    c.ready.ensures.taken c.ready.ensures.ended c.if-self.false c.fill.ensures.taken c.fill.new.self.few c.in_ok-fill.ensures.more
+    smaller c.loop-command.self.input.taken c.ready.new.self.input.taken c.fill.new.self.input.taken c.loop-command.self.ended c.ready.new.self.ended c.fill.new.self.ended
+    c.ready.ensures.taken c.ready.ensures.ended c.if-self.false c.fill.ensures.taken c.fill.new.self.input.few c.in_ok-fill.ensures.more
 
 pub returns-in_err-fill-clause-err : goal.returns-in_err-fill-clause-err
 returns-in_err-fill-clause-err g c =
@@ -19,4 +19,4 @@ returns-in_err-fill-clause-err g c =
     let none = c.in_ok-command.ensures.none (ap (λ (o : Option Command). Ok o) c.in_default.is) (taken ++ more) commands before.given in
     let still = in_input c.loop-command.self c.ready.new.self (taken ++ more) commands commands first was c.ready.ensures.ended before none.0 in
     stops c.ready.new.self c.fill.new.self c.in_err-fill.field-0.0 first was (g.H.Disk.beside c.fill.new.host).input taken more commands c.in_err-fill.ensures.errors
-    c.in_err-fill.ensures.too_much c.ready.new.self.few c.if-self.false still none (c.in_err-fill.ensures.err first (taken ++ more) commands still))
+    c.in_err-fill.ensures.too_much c.ready.new.self.input.few c.if-self.false still none (c.in_err-fill.ensures.err first (taken ++ more) commands still))

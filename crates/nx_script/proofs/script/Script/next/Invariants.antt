@@ -1,7 +1,8 @@
 use Rattle.std.proofs.Common.{ℕ, ◌+◌, ◌-◌, if◌then◌else◌, List, ◌++◌, Option}
+use Rattle.nx_host.specs.Input.{most_input}
 use Rattle.nx_host.specs.Phase.{TakesAlone}
 use Rattle.nx_script.specs.declared.command.Command.{Command}
-use Rattle.nx_script.specs.Script.{HasGivenIn, most_input}
+use Rattle.nx_script.specs.Script.{HasGivenIn}
 use Rattle.nx_script.proofs.script.Script.next.Given as goal
 
 -- no command was given, and more may have been taken
@@ -16,4 +17,4 @@ invariant-loop-command g l =
 
 -- as many bytes as may still come, and the input's end
 abbrev pub decreases-loop-command : goal.decreases-loop-command
-decreases-loop-command g l = (most_input - l.self.taken) + (if l.self.ended then 0 else 1)
+decreases-loop-command g l = (most_input - l.self.input.taken) + (if l.self.ended then 0 else 1)
