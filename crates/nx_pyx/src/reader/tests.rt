@@ -124,7 +124,7 @@ const FAULTS: [(&[u8], &[u8], u64, PyxFault); 58] = [
 ];
 
 // A stream at a limit or past it: a front, what comes behind it so many times, an end, and the number
-// of end lines behind that. The last LF of the end tells the fault, which is in that line.
+// of end lines behind that. The last byte before those tells the fault, which is in that line.
 type Long = (
     &'static [u8],
     &'static [u8],
@@ -146,15 +146,15 @@ const LINES: [Long; 2] = [
     ),
 ];
 
-// The same with two bytes for each of the content.
+// The same with two bytes for each of the content. A backslash is one too many whatever comes behind.
 const ESCAPED: [Long; 2] = [
     (b"(a\nAy ", b"\\n", 1_048_575, b"\r\n", 1, None),
     (
         b"?y ",
         b"\\n",
-        1_048_576,
-        b"\r\n",
-        0,
+        1_048_575,
+        b"\\",
+        1,
         Some((1, PyxFault::LongLine)),
     ),
 ];
@@ -210,21 +210,54 @@ const MOMENTS: [(&[u8], usize, &[&[u8]]); 5] = [
     (b"(a\nAy ", 1_048_573, &[b"\\", b"q", b"\r", b"\r"]),
 ];
 
-// The stream in pieces of that size.
-fn pieces(alloc: Global, stream: &[u8], size: usize) -> Result<Vec<&[u8]>, Fail> {
-    let size = size.max(1);
+// How a stream is cut.
+#[derive(Clone, Copy)]
+enum Cutting {
+    // Into pieces of that size.
+    Pieces(usize),
+    // The same behind a first piece of each length up to that size, so that just one of the runs cuts
+    // at any one place.
+    Shifted(usize),
+    // In two, at each place so near to either end or to the byte that tells the fault.
+    Near(usize),
+}
+
+// In two at each place, in one piece among them, and byte by byte.
+const SHORT: [Cutting; 2] = [Cutting::Near(usize::MAX), Cutting::Pieces(1)];
+
+// In one piece, in the blocks of a run, byte by byte, and at each place. A run for each place of a long
+// stream would take too long, so one cuts at many, and only near the limit and the ends at one alone.
+const LONG: [Cutting; 5] = [
+    Cutting::Pieces(usize::MAX),
+    Cutting::Pieces(65_536),
+    Cutting::Pieces(1),
+    Cutting::Shifted(64),
+    Cutting::Near(64),
+];
+
+// The same in fewer runs, where each takes longer.
+const LONG_AND_SLOW: [Cutting; 5] = [
+    Cutting::Pieces(usize::MAX),
+    Cutting::Pieces(65_536),
+    Cutting::Pieces(1),
+    Cutting::Shifted(32),
+    Cutting::Near(4),
+];
+
+// The stream in a first piece of that length, and pieces of that size behind it.
+fn pieces(alloc: Global, stream: &[u8], first: usize, size: usize) -> Result<Vec<&[u8]>, Fail> {
+    let (front, back) = stream.split_at(first.min(stream.len()));
     let mut cut = Vec::new(alloc);
-    let mut rest = stream;
-    for _ in 0..stream.len().div_ceil(size) {
-        let (piece, others) = rest.split_at(size.min(rest.len()));
+    cut.push(front)?;
+    for piece in back.chunks(size.max(1)) {
         cut.push(piece)?;
-        rest = others;
     }
     Ok(cut)
 }
 
 // A stream in these pieces has that outcome, the text of its document or its fault. A fault is told
-// by the piece of that number, or at the end, and from then on. Want of memory may come instead.
+// by the piece that has the byte of that number, or at the end, and from then on. Want of memory may
+// come instead.
 fn check(
     rt: &impl Abort,
     alloc: Global,
@@ -233,7 +266,10 @@ fn check(
     want: Result<&[u8], PyxError>,
 ) -> Result<(), Fail> {
     let mut reader = Reader::new(alloc)?;
-    for (number, piece) in pieces.iter().enumerate() {
+    let mut len = 0usize;
+    for piece in pieces {
+        let before = len;
+        len = before.saturating_add(piece.len());
         let fed = reader.feed(piece);
         if let Err(error) = fed {
             assert_eq!(rt; reader.feed(b"(a\n)a\n"), fed);
@@ -241,7 +277,7 @@ fn check(
             if error == ReadError::Memory {
                 return Err(error.into());
             }
-            assert_eq!(rt; number, told, "{error:?}");
+            assert!(rt; before <= told && told < len, "{error:?}");
             assert_eq!(rt; Some(error), want.err().map(|e| ReadError::Pyx(e)));
             return Ok(());
         }
@@ -252,7 +288,7 @@ fn check(
             assert_eq!(rt; Ok(text.as_slice()), want);
         }
         Err(ReadError::Pyx(error)) => {
-            assert_eq!(rt; pieces.len(), told, "{error:?}");
+            assert_eq!(rt; len, told, "{error:?}");
             assert_eq!(rt; Some(error), want.err());
         }
         Err(ReadError::Memory) => return Err(ReadError::Memory.into()),
@@ -260,44 +296,56 @@ fn check(
     Ok(())
 }
 
-// The stream has that outcome cut in two at that place. A fault is told with the byte of that number,
-// or at the end.
-fn check_cut(
+// The stream has that outcome cut in that way.
+fn check_cutting(
     rt: &impl Abort,
     alloc: Global,
     stream: &[u8],
-    cut: usize,
     told: usize,
     want: Result<&[u8], PyxError>,
+    cutting: Cutting,
 ) -> Result<(), Fail> {
-    let (front, back) = stream.split_at(cut.min(stream.len()));
-    let told_by = if told == stream.len() {
-        2
-    } else {
-        usize::from(told >= cut)
-    };
-    check(rt, alloc, &[front, back], told_by, want)
+    match cutting {
+        Cutting::Pieces(size) => {
+            check(rt, alloc, &pieces(alloc, stream, size, size)?, told, want)?;
+        }
+        Cutting::Shifted(size) => {
+            for first in 1..=size {
+                check(rt, alloc, &pieces(alloc, stream, first, size)?, told, want)?;
+            }
+        }
+        Cutting::Near(distance) => {
+            for cut in 0..=stream.len() {
+                let place = cut.abs_diff(told).min(stream.len() - cut);
+                if place.min(cut) <= distance {
+                    let (front, back) = stream.split_at(cut);
+                    check(rt, alloc, &[front, back], told, want)?;
+                }
+            }
+        }
+    }
+    Ok(())
 }
 
-// The same at each place, in one piece among them, and byte by byte.
-fn check_cuts(
+// The stream has that outcome cut in each of these ways.
+fn check_cuttings(
     rt: &impl Abort,
     alloc: Global,
     stream: &[u8],
     told: usize,
     want: Result<&[u8], PyxError>,
+    cuttings: &[Cutting],
 ) -> Result<(), Fail> {
-    for cut in 0..=stream.len() {
-        check_cut(rt, alloc, stream, cut, told, want)?;
+    for cutting in cuttings {
+        check_cutting(rt, alloc, stream, told, want, *cutting)?;
     }
-    let bytes = pieces(alloc, stream, 1)?;
-    check(rt, alloc, &bytes, told, want)
+    Ok(())
 }
 
 #[test]
 fn documents(rt: HostRuntime) -> Result<(), Fail> {
     for (stream, text) in DOCUMENTS {
-        check_cuts(&rt, rt.alloc(), stream, stream.len(), Ok(text))?;
+        check_cuttings(&rt, rt.alloc(), stream, stream.len(), Ok(text), &SHORT)?;
     }
     Ok(())
 }
@@ -307,7 +355,7 @@ fn faults(rt: HostRuntime) -> Result<(), Fail> {
     for (before, after, line, fault) in FAULTS {
         let stream = [before, after].concat(rt.alloc())?;
         let want = Err(PyxError { line, fault });
-        check_cuts(&rt, rt.alloc(), &stream, before.len(), want)?;
+        check_cuttings(&rt, rt.alloc(), &stream, before.len(), want, &SHORT)?;
     }
     Ok(())
 }
@@ -326,66 +374,44 @@ fn bytes_of(alloc: Global, long: Long) -> Result<Vec<u8>, Fail> {
     Ok(bytes)
 }
 
-// How a stream at a limit is cut.
-#[derive(Clone, Copy)]
-enum Cutting {
-    // In pieces of that size.
-    Pieces(usize),
-    // In two, at each place so near to either end or to the byte that tells the fault.
-    Near(usize),
-}
-
-// The stream cut in that way is read up to the limit, and refused past it.
-fn check_long(rt: &impl Abort, alloc: Global, long: Long, cutting: Cutting) -> Result<(), Fail> {
+// The stream is read up to the limit, and refused past it, cut in each of these ways.
+fn check_long(
+    rt: &impl Abort,
+    alloc: Global,
+    long: Long,
+    cuttings: &[Cutting],
+) -> Result<(), Fail> {
     let (front, unit, count, end, closed, fault) = long;
     let stream = bytes_of(alloc, long)?;
-    let shown = bytes_of(alloc, (front, unit, count, end, 0, None))?;
+    if let Some((line, fault)) = fault {
+        let shown = bytes_of(alloc, (front, unit, count, end, 0, None))?;
+        let told = shown.len().saturating_sub(1);
+        let want = Err(PyxError { line, fault });
+        return check_cuttings(rt, alloc, &stream, told, want, cuttings);
+    }
     let read = end.strip_prefix(b"\r").unwrap_or(end);
     let text = bytes_of(alloc, (front, unit, count, read, closed, None))?;
-    let (told, want) = match fault {
-        Some((line, fault)) => (shown.len().saturating_sub(1), Err(PyxError { line, fault })),
-        None => (stream.len(), Ok(text.as_slice())),
-    };
-    match cutting {
-        Cutting::Pieces(size) => {
-            let cut = pieces(alloc, &stream, size)?;
-            let told = if fault.is_some() {
-                told / size.max(1)
-            } else {
-                cut.len()
-            };
-            check(rt, alloc, &cut, told, want)
-        }
-        Cutting::Near(distance) => {
-            for cut in 0..=stream.len() {
-                let place = cut.abs_diff(told).min(stream.len() - cut);
-                if place.min(cut) <= distance {
-                    check_cut(rt, alloc, &stream, cut, told, want)?;
-                }
-            }
-            Ok(())
-        }
-    }
-}
-
-// The stream in one piece, in the blocks of a run, byte by byte, and cut near its ends and its limit.
-fn check_each_way(rt: &impl Abort, alloc: Global, long: Long, distance: usize) -> Result<(), Fail> {
-    check_long(rt, alloc, long, Cutting::Pieces(usize::MAX))?;
-    check_long(rt, alloc, long, Cutting::Pieces(65_536))?;
-    check_long(rt, alloc, long, Cutting::Pieces(1))?;
-    check_long(rt, alloc, long, Cutting::Near(distance))
+    check_cuttings(rt, alloc, &stream, stream.len(), Ok(&text), cuttings)
 }
 
 #[test]
 fn long_line(rt: HostRuntime) -> Result<(), Fail> {
-    check_long(&rt, rt.alloc(), ESCAPED[0], Cutting::Pieces(usize::MAX))?;
-    check_each_way(&rt, rt.alloc(), LINES[0], 64)
+    check_long(&rt, rt.alloc(), LINES[0], &LONG)
 }
 
 #[test]
 fn too_long_line(rt: HostRuntime) -> Result<(), Fail> {
-    check_long(&rt, rt.alloc(), ESCAPED[1], Cutting::Pieces(usize::MAX))?;
-    check_each_way(&rt, rt.alloc(), LINES[1], 64)
+    check_long(&rt, rt.alloc(), LINES[1], &LONG)
+}
+
+#[test]
+fn long_escaped_line(rt: HostRuntime) -> Result<(), Fail> {
+    check_long(&rt, rt.alloc(), ESCAPED[0], &LONG_AND_SLOW)
+}
+
+#[test]
+fn too_long_escaped_line(rt: HostRuntime) -> Result<(), Fail> {
+    check_long(&rt, rt.alloc(), ESCAPED[1], &LONG_AND_SLOW)
 }
 
 #[test]
@@ -396,15 +422,10 @@ fn long_line_is_told_at_once(rt: HostRuntime) -> Result<(), Fail> {
         let mut cut = Vec::new(alloc);
         cut.push(stream.as_slice())?;
         cut.extend_from_slice(behind)?;
+        let told = cut.concat(alloc)?.len().saturating_sub(1);
         let line = if front.len() == 1 { 1 } else { 2 };
         let fault = PyxFault::LongLine;
-        check(
-            &rt,
-            alloc,
-            &cut,
-            behind.len(),
-            Err(PyxError { line, fault }),
-        )?;
+        check(&rt, alloc, &cut, told, Err(PyxError { line, fault }))?;
     }
     Ok(())
 }
@@ -412,18 +433,17 @@ fn long_line_is_told_at_once(rt: HostRuntime) -> Result<(), Fail> {
 #[test]
 fn deep(rt: HostRuntime) -> Result<(), Fail> {
     for stream in DEEP {
-        check_each_way(&rt, rt.alloc(), stream, 64)?;
+        check_long(&rt, rt.alloc(), stream, &SHORT)?;
     }
     Ok(())
 }
 
-// Each run takes half a million lines, so few places are tried.
 #[test]
 fn many_nodes(rt: HostRuntime) -> Result<(), Fail> {
-    check_each_way(&rt, rt.alloc(), MANY[0], 4)
+    check_long(&rt, rt.alloc(), MANY[0], &LONG_AND_SLOW)
 }
 
 #[test]
 fn too_many_nodes(rt: HostRuntime) -> Result<(), Fail> {
-    check_each_way(&rt, rt.alloc(), MANY[1], 4)
+    check_long(&rt, rt.alloc(), MANY[1], &LONG_AND_SLOW)
 }
