@@ -78,6 +78,7 @@ impl Input {
         ensures none { OnErr result (block_of self.new ≡ []) }
         ensures untaken { OnErr result (self.new.taken ≡ self.old.taken) }
         ensures too_much { (result ≡ Err TooMuch) ↔ (self.old.taken ≡ most_input) }
+        ensures unasked { result ≡ Err TooMuch → host.new ≡ host.old }
         ensures cause { result ≡ Err Read → Rose (H.beside host.old).in_faults (H.beside host.new).in_faults }
         ensures alone { TakesAlone H.contents H.may_leave H.beside H.moment H.stood_since H.faults H.reads host.old host.new }
     {
