@@ -83,12 +83,12 @@ halt_ends halts.WriteFault a b c earlier rose = rose_since a.out_faults b.out_fa
 halt_ends halts.NoMemory a b c earlier rose = tt
 
 -- the status of a run whose input gives no more
-pub stop_ends : (error : ScriptError) (commands : List Command) (a b c : Beside) → a.in_faults ≤ b.in_faults → (error ≡ scripts.Read → Rose b.in_faults c.in_faults) →
-    Stops error [] commands a.input c.input → Appends (texts commands) a.output c.output → ScriptEnds (status_of_script error) a c
-stop_ends scripts.Read commands a b c earlier rose (taken, few, stops) appends =
+pub stop_ends : (error : ScriptError) (script : Script) (commands : List Command) (a b c : Beside) → a.in_faults ≤ b.in_faults → (error ≡ scripts.Read → Rose b.in_faults c.in_faults) →
+    Stops error script [] commands a.input c.input → Appends (texts commands) a.output c.output → ScriptEnds (status_of_script error) a c
+stop_ends scripts.Read script commands a b c earlier rose (taken, given, few, stops) appends =
     (rose_since a.in_faults b.in_faults c.in_faults earlier (rose refl), taken, commands, few, stops, appends)
-stop_ends scripts.TooMuch commands a b c earlier rose (taken, long, stops) appends = (taken, commands, long, stops, appends)
-stop_ends scripts.Memory commands a b c earlier rose stops appends = tt
+stop_ends scripts.TooMuch script commands a b c earlier rose (taken, given, long, stops) appends = (taken, commands, long, stops, appends)
+stop_ends scripts.Memory script commands a b c earlier rose stops appends = tt
 
 module _ {D : Type 0} (contents : D → Option Image) (may_leave : D → Image → Type 0) (beside : D → Beside) (moment : D → ℕ)
     (stood_since : D → ℕ → Stood → Type 0) (faults reads : D → ℕ) where

@@ -151,7 +151,7 @@ smaller was mid now was_ended mid_ended false same same_end unended le few (inr 
 pub stops : (mid new : Script) (error : ScriptError) (first was now : Option (List ℕ)) (taken more : List ℕ) (commands : List Command) → (error ≡ Read) ⊎ (error ≡ TooMuch) →
     ◌≡◌ {A = Result (Unit {0}) ScriptError} (Err error) (Err TooMuch) ↔ (mid.input.taken ≡ most_input) → mid.input.taken ≤ most_input → mid.ended ≡ false →
     HasGivenIn mid (taken ++ more) commands first was → HasNone mid (taken ++ more) commands → HasGivenIn new (taken ++ more) commands first now →
-    Stops error taken commands first now
+    Stops error new taken commands first now
 stops mid new error first was now taken more commands is too_much few unended given (gives, all) after =
     let stopped : StopsIn (taken ++ more) commands first now =
     record { takes = after.takes; whole = MatchBool-at_false (AreCommands (taken ++ more) commands) (AreWhole (taken ++ more) commands) unended all } in
@@ -159,8 +159,8 @@ stops mid new error first was now taken more commands is too_much few unended gi
     ⊎_elim
     (λ (read : error ≡ Read).
     let below : mid.input.taken ≡ most_input → ⊥ = λ all_taken. let no_read : ◌≡◌ {A = Result (Unit {0}) ScriptError} (Err Read) (Err TooMuch) = ap (λ e. Err e) (sym read) ∙ too_much.1 all_taken in cc in
-    subst (λ (e : ScriptError). Stops e taken commands first now) (sym read) (more, (let e : length (taken ++ more) < most_input = omega arith in e), stopped))
+    subst (λ (e : ScriptError). Stops e new taken commands first now) (sym read) (more, after, (let e : length (taken ++ more) < most_input = omega arith in e), stopped))
     (λ (much : error ≡ TooMuch).
     let all_taken : mid.input.taken ≡ most_input = too_much.0 (ap (λ e. Err e) much) in
-    subst (λ (e : ScriptError). Stops e taken commands first now) (sym much) (more, sym counted ∙ all_taken, stopped))
+    subst (λ (e : ScriptError). Stops e new taken commands first now) (sym much) (more, after, sym counted ∙ all_taken, stopped))
     is

@@ -59,10 +59,12 @@ pub record StopsIn (taken : List ℕ) (commands : List Command) (first now : Opt
 -- what has come of a script that had taken these bytes and given these commands: one command more, or its end
 abbrev pub GivesNext : Option Command → Script → List ℕ → List Command → Option (List ℕ) → Option (List ℕ) → Type 0
 GivesNext (Some command) script taken commands first now = (more : List ℕ) × HasGivenIn script (taken ++ more) (commands ++ command ∷ []) first now
-GivesNext None script taken commands first now = (more : List ℕ) × EndsIn (taken ++ more) commands first now
+GivesNext None script taken commands first now = (more : List ℕ) × HasGivenIn script (taken ++ more) commands first now × EndsIn (taken ++ more) commands first now
 
--- how such a script stops
-abbrev pub Stops : ScriptError → List ℕ → List Command → Option (List ℕ) → Option (List ℕ) → Type 0
-Stops Read taken commands first now = (more : List ℕ) × (length (taken ++ more) < most_input) × StopsIn (taken ++ more) commands first now
-Stops TooMuch taken commands first now = (more : List ℕ) × (length (taken ++ more) ≡ most_input) × StopsIn (taken ++ more) commands first now
-Stops Memory taken commands first now = Unit {0}
+-- how such a script stops, and what it has given then
+abbrev pub Stops : ScriptError → Script → List ℕ → List Command → Option (List ℕ) → Option (List ℕ) → Type 0
+Stops Read script taken commands first now =
+    (more : List ℕ) × HasGivenIn script (taken ++ more) commands first now × (length (taken ++ more) < most_input) × StopsIn (taken ++ more) commands first now
+Stops TooMuch script taken commands first now =
+    (more : List ℕ) × HasGivenIn script (taken ++ more) commands first now × (length (taken ++ more) ≡ most_input) × StopsIn (taken ++ more) commands first now
+Stops Memory script taken commands first now = Unit {0}

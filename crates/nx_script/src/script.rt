@@ -56,7 +56,7 @@ impl Script {
         ensures given { IfOk result (λ next. (first : Option (List ℕ)) (taken : List ℕ) (commands : List Command) →
             HasGivenIn self.old taken commands first (H.beside host.old).input → GivesNext next self.new taken commands first (H.beside host.new).input) }
         ensures err { IfErr result (λ error. (first : Option (List ℕ)) (taken : List ℕ) (commands : List Command) →
-            HasGivenIn self.old taken commands first (H.beside host.old).input → Stops error taken commands first (H.beside host.new).input) }
+            HasGivenIn self.old taken commands first (H.beside host.old).input → Stops error self.new taken commands first (H.beside host.new).input) }
         ensures cause { result ≡ Err Read → Rose (H.beside host.old).in_faults (H.beside host.new).in_faults }
         ensures alone { TakesAlone H.contents H.may_leave H.beside H.moment H.stood_since H.faults H.reads host.old host.new }
     {

@@ -3,6 +3,7 @@ use super::commands::{REPLIES, SCRIPT};
 use super::host::{Counts, DisklessHost};
 use super::words_of;
 use crate::{Status, run};
+use nx_script::{Command, Script};
 use std::test::Fail;
 
 // Whole scripts and all that they are answered: documents with their faults, the end of the input
@@ -49,6 +50,44 @@ fn a_script_has_its_replies(rt: HostRuntime) -> Result<(), Fail> {
             assert_eq!(rt; run(alloc, &words, &mut host), Status::Done, "{input:?}");
             assert_eq!(rt; host.output(), output.as_bytes(), "{input:?}");
             assert_eq!(rt; host.counts(), Counts::default());
+        }
+    }
+    Ok(())
+}
+
+// A command as a word and the name of its document.
+fn said(command: &Command) -> (&str, &[u8]) {
+    match command {
+        Command::Load { name, .. } => ("load", name.as_slice()),
+        Command::Discard { name } => ("drop", name.as_slice()),
+        Command::Names => ("names", b""),
+        Command::Bad => ("bad", b""),
+        _ => ("other", b""),
+    }
+}
+
+// One after the other, however the input is cut, and then their end each time.
+#[test]
+fn a_script_gives_its_commands(rt: HostRuntime) -> Result<(), Fail> {
+    let alloc = rt.alloc();
+    let input = b"load d\n(a\n)a\n.\nnames\n\ndrop e\nload f\n(a";
+    for piece in 1..20usize {
+        assert!(rt; piece > 0);
+        let mut host = DisklessHost::new(alloc, input.to_vec(alloc)?, piece);
+        let mut script = Script::new(alloc)?;
+        for want in [
+            ("load", b"d".as_slice()),
+            ("names", b""),
+            ("bad", b""),
+            ("drop", b"e"),
+            ("bad", b""),
+        ] {
+            let next = script.next(&mut host)?;
+            assert_eq!(rt; next.as_ref().map(|command| said(command)), Some(want));
+        }
+        for _ in 0..2 {
+            assert!(rt; script.next(&mut host)?.is_none());
+            assert_eq!(rt; script.taken(), 38);
         }
     }
     Ok(())

@@ -123,6 +123,6 @@ returns-in_err-fill g c =
     subst (λ (s : Status). IsCarriedOut h.contents h.may_leave h.beside h.moment h.stood_since h.faults h.reads (Some Run) s c.args.host.now c.fill.new.host) (sym is)
     (carried_answered h.contents h.may_leave h.beside h.moment h.stood_since h.faults h.reads (status_of_script error) taken (commands ++ more) c.fill.new.self
     c.answer_ready.new.plain c.give.new.block c.args.host.now c.fill.new.host last
-    (stop_ends error (commands ++ more) (h.beside c.args.host.now) (h.beside c.give.new.host) (h.beside c.fill.new.host) after.alone.in_faults
+    (stop_ends error c.fill.new.self (commands ++ more) (h.beside c.args.host.now) (h.beside c.give.new.host) (h.beside c.fill.new.host) after.alone.in_faults
     (λ e. c.in_err-fill.ensures.cause (ap (λ v. Err v) e)) stopped last.appends)
     (few_given c.fill.new.self taken (commands ++ more) c.fill.new.self.input.few last.given.given))
