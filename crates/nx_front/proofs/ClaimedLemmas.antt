@@ -1,5 +1,5 @@
 -- What was taken of a document's lines and of the text behind their dot, as reading goes on, and where it ends.
-use Rattle.std.proofs.Common.{◌≡◌, ◌⊎◌, inl, inr, ℕ, ◌+◌, ◌-◌, ◌≤◌, ◌<◌, List, [], ◌∷◌, ◌++◌, length, take, drop, Option, None, Some, Result, Ok, Err, IfOk, IfErr, ◌↔◌, refl, sym, ap, ◌∙◌, subst, arith, append-nil, append_assoc}
+use Rattle.std.proofs.Common.{true, false, ◌≡◌, ◌⊎◌, inl, inr, ℕ, ◌+◌, ◌-◌, ◌≤◌, ◌<◌, List, [], ◌∷◌, ◌++◌, length, take, drop, Option, None, Some, Result, Ok, Err, IfOk, IfErr, ◌↔◌, refl, sym, ap, ◌∙◌, subst, arith, append-nil, append_assoc}
 use Rattle.std.proofs.lemmas.List.{take-append-drop, take_all, length-drop}
 use Rattle.std.proofs.Math.Seq.{take-add}
 use Rattle.nx_host.specs.Host.{Takes, IsAtEnd}
@@ -10,9 +10,10 @@ use Rattle.nx_host.specs.declared.input.InputError.TheVariants as input
 use Rattle.nx_tree.specs.Forest.{OrderedTree}
 use Rattle.nx_pyx.specs.declared.error.PyxError.{PyxError}
 use Rattle.nx_pyx.specs.Fault.{fault_of}
-use Rattle.nx_pyx.specs.Lines.{cut}
+use Rattle.nx_pyx.specs.Lines.{cut, ended_lines}
 use Rattle.nx_pyx.specs.Reading.{Reads}
 use Rattle.nx_script.specs.declared.body.Body.{Body}
+use Rattle.nx_script.specs.Commands.{has_dot}
 use Rattle.nx_script.specs.BeforeDot.{before_dot, after_dot, shown_before_dot}
 use Rattle.nx_script.specs.Body.{IsWithin, IsEndedBy}
 use Rattle.nx_script.proofs.BeforeDot.{after_in-none, shown_before}
@@ -90,13 +91,17 @@ pub record CameBlock (body : Body) (input : Input) (first now : Option (List ℕ
 pub came_none : (body : Body) (input : Input) (first : Option (List ℕ)) → IsWithin body [] → HasTaken input [] first first → Came body input first first
 came_none body input first within took = record { taken = []; within = within; sound = refl; took = took }
 
+-- no dot has come
+no_dot : (taken : List ℕ) → has_dot (ended_lines taken) ≡ false → has_dot (ended_lines taken) ≡ true → fault_of (before_dot taken) ≡ None
+no_dot taken undotted dotted = absurd (let no_end : true ≡ false = sym dotted ∙ undotted in cc)
+
 pub came_stops : (body : Body) (old new : Input) (first was now : Option (List ℕ)) (error : InputError) → old.taken ≤ most_input → Came body old first was →
     ◌≡◌ {A = Result ℕ InputError} (Err error) (Err input.TooMuch) ↔ (old.taken ≡ most_input) →
     ((taken : List ℕ) (f : Option (List ℕ)) → HasTaken old taken f was → HasTaken new taken f now) → StopsClaim (stop_of_input error) first now
 came_stops body old new first was now input.Read few came too_much stays =
-    (came.taken, stopped old came.taken first was input.Read few came.took too_much, record { takes = (stays came.taken first came.took).takes; sound = came.sound })
+    (came.taken, stopped old came.taken first was input.Read few came.took too_much, record { takes = (stays came.taken first came.took).takes; sound = came.sound; whole = no_dot came.taken came.within.undotted })
 came_stops body old new first was now input.TooMuch few came too_much stays =
-    (came.taken, stopped old came.taken first was input.TooMuch few came.took too_much, record { takes = (stays came.taken first came.took).takes; sound = came.sound })
+    (came.taken, stopped old came.taken first was input.TooMuch few came.took too_much, record { takes = (stays came.taken first came.took).takes; sound = came.sound; whole = no_dot came.taken came.within.undotted })
 
 pub came_block : (body : Body) (old new : Input) (first was now : Option (List ℕ)) → Came body old first was →
     ((taken : List ℕ) (f : Option (List ℕ)) → HasTaken old taken f was → HasTaken new (taken ++ block_of new) f now) → CameBlock body new first now
@@ -254,9 +259,9 @@ pub claim_stops : (tree : OrderedTree) (taken behind : List ℕ) (first now : Op
     (more : List ℕ) × Takes (taken ++ more) first now × StopsBehind stop (taken ++ more) → StopsClaim stop first now
 claim_stops tree taken behind first now (Refused error) document (more, takes, stops) = absurd stops
 claim_stops tree taken behind first now ReadFault document (more, takes, stops) =
-    (taken ++ more, stops, record { takes = takes; sound = sound_reads (before_dot (taken ++ more)) tree (document.before more) })
+    (taken ++ more, stops, record { takes = takes; sound = sound_reads (before_dot (taken ++ more)) tree (document.before more); whole = λ _. no_fault (before_dot (taken ++ more)) tree (document.before more) })
 claim_stops tree taken behind first now TooMuch document (more, takes, stops) =
-    (taken ++ more, stops, record { takes = takes; sound = sound_reads (before_dot (taken ++ more)) tree (document.before more) })
+    (taken ++ more, stops, record { takes = takes; sound = sound_reads (before_dot (taken ++ more)) tree (document.before more); whole = λ _. no_fault (before_dot (taken ++ more)) tree (document.before more) })
 claim_stops tree taken behind first now NoMemory document (more, takes, stops) = tt
 
 -- or it is

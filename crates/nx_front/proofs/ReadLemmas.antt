@@ -15,7 +15,8 @@ use Rattle.nx_pyx.specs.Reader.{HasRead}
 use Rattle.nx_front.specs.declared.read.Stop.{Stop}
 use Rattle.nx_front.specs.declared.read.Stop.TheVariants.{Refused, ReadFault, TooMuch, NoMemory}
 use Rattle.nx_front.specs.Stop.{stop_of, stop_of_input}
-use Rattle.nx_front.specs.Outcome.{HasTakenIn, EndsRead, StopsBy, Finishes}
+use Rattle.nx_front.specs.Outcome.{TakesFew, HasTakenIn, EndsRead, StopsBy, Finishes}
+use Rattle.nx_front.proofs.TakenLemmas.{takes_few}
 
 -- The reader has read what was taken of an input that is told so now.
 abbrev pub Took : Reader → Input → Option (List ℕ) → Option (List ℕ) → Type 0
@@ -33,6 +34,10 @@ took_none reader input first read none = ([], record { read = read; took = none 
 pub took_block : (reader : Reader) (old new : Input) (first was now : Option (List ℕ)) → Took reader old first was →
     ((taken : List ℕ) (f : Option (List ℕ)) → HasTaken old taken f was → HasTaken new (taken ++ block_of new) f now) → TookBlock reader new first now
 took_block reader old new first was now (taken, took) fills = (taken, took.read, fills taken first took.took)
+
+-- however it goes on, no more was taken than a run takes
+pub took_few : (reader : Reader) (input : Input) (first now : Option (List ℕ)) → input.taken ≤ most_input → TookBlock reader input first now → TakesFew first now
+took_few reader input first now few (taken, read, had) = takes_few input first now few (taken ++ block_of input, had)
 
 -- and read
 pub took_more : (old new : Reader) (input : Input) (block : List ℕ) (first now : Option (List ℕ)) → block ≡ block_of input → TookBlock old input first now →

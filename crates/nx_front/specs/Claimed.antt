@@ -1,11 +1,13 @@
 -- How the reading of a document's lines and of what stands behind their dot ends.
-use Rattle.std.specs.Prelude.{◌≡◌, ◌⊎◌, ℕ, ◌<◌, List, ◌++◌, length, Option, None, Some}
+use Rattle.std.specs.Prelude.{true, ◌≡◌, ◌⊎◌, ℕ, ◌<◌, List, ◌++◌, length, Option, None, Some}
 use Rattle.nx_host.specs.Host.{Takes, IsAtEnd}
 use Rattle.nx_host.specs.Input.{most_input}
 use Rattle.nx_tree.specs.Forest.{OrderedTree}
 use Rattle.nx_pyx.specs.declared.error.PyxError.{PyxError}
 use Rattle.nx_pyx.specs.Fault.{fault_of}
 use Rattle.nx_pyx.specs.Reading.{Reads}
+use Rattle.nx_pyx.specs.Lines.{ended_lines}
+use Rattle.nx_script.specs.Commands.{has_dot}
 use Rattle.nx_script.specs.BeforeDot.{before_dot, after_dot, shown_before_dot}
 use Rattle.nx_front.specs.declared.read.Stop.{Stop}
 use Rattle.nx_front.specs.declared.read.Stop.TheVariants.{Refused, ReadFault, TooMuch, NoMemory}
@@ -29,10 +31,11 @@ pub record EndsFaulty (error : PyxError) (taken : List ℕ) (first now : Option 
       ((more : List ℕ) → fault_of (before_dot (taken ++ more)) ≡ Some error)
       ⊎ (IsAtEnd now × (length taken < most_input) × (fault_of (before_dot taken) ≡ Some error))
 
--- The bytes that were taken show no fault before the dot.
+-- The bytes that were taken show no fault before the dot, and where the dot has come, the lines before it have none.
 pub record EndsUnfaulty (taken : List ℕ) (first now : Option (List ℕ)) : Type 0 where
   pub takes : Takes taken first now
   pub sound : shown_before_dot taken ≡ None
+  pub whole : has_dot (ended_lines taken) ≡ true → fault_of (before_dot taken) ≡ None
 
 -- how the reading stops without a document
 abbrev pub StopsClaim : Stop → Option (List ℕ) → Option (List ℕ) → Type 0

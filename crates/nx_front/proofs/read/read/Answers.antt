@@ -1,6 +1,7 @@
+use Rattle.std.proofs.Common.{◌≡◌, arith}
 use Rattle.std.proofs.lemmas.Result.{err_from_is_err_and}
 use Rattle.nx_host.proofs.PhaseLemmas.{takes_alone_none}
-use Rattle.nx_front.proofs.ReadLemmas.{took_none, took_block, refused}
+use Rattle.nx_front.proofs.ReadLemmas.{took_none, took_block, took_few, refused, at_end, ends_stopped}
 use Rattle.nx_front.proofs.read.read.Goals as goal
 
 pub loop-input-init : goal.loop-input-init
@@ -20,3 +21,28 @@ returns-in_err-feed-clause-err g c =
     (took_block c.loop-input.reader c.loop-input.input c.fill.new.self (h.beside c.args.host.now).input (h.beside c.loop-input.host).input (h.beside c.fill.new.host).input
     c.loop-input.invariant.taken c.in_ok-fill.ensures.ok)
     c.in_err-feed.ensures.fault)
+
+pub returns-in_err-feed-clause-bounded : goal.returns-in_err-feed-clause-bounded
+returns-in_err-feed-clause-bounded g c =
+    let h = g.H.Disk in
+    took_few c.loop-input.reader c.fill.new.self (h.beside c.args.host.now).input (h.beside c.fill.new.host).input c.fill.new.self.few
+    (took_block c.loop-input.reader c.loop-input.input c.fill.new.self (h.beside c.args.host.now).input (h.beside c.loop-input.host).input (h.beside c.fill.new.host).input
+    c.loop-input.invariant.taken c.in_ok-fill.ensures.ok)
+
+pub returns-clause-err : goal.returns-clause-err
+returns-clause-err g c =
+    let h = g.H.Disk in
+    let first = (h.beside c.args.host.now).input in
+    let now = (h.beside c.fill.new.host).input in
+    let none : c.in_ok-fill.field-0 ≡ 0 = let past = c.if-branch-gt0.false in omega arith in
+    ends_stopped c.loop-input.reader first now c.finish.result
+    (at_end c.loop-input.reader c.loop-input.input c.fill.new.self first (h.beside c.loop-input.host).input now c.fill.result c.in_ok-fill.field-0 c.in_ok-fill.was none
+    c.in_ok-fill.ensures.count (c.in_ok-fill.ensures.end none) c.loop-input.input.few c.fill.ensures.too_much c.loop-input.invariant.taken c.in_ok-fill.ensures.ok)
+    c.finish.ensures
+
+pub returns-clause-bounded : goal.returns-clause-bounded
+returns-clause-bounded g c =
+    let h = g.H.Disk in
+    took_few c.loop-input.reader c.fill.new.self (h.beside c.args.host.now).input (h.beside c.fill.new.host).input c.fill.new.self.few
+    (took_block c.loop-input.reader c.loop-input.input c.fill.new.self (h.beside c.args.host.now).input (h.beside c.loop-input.host).input (h.beside c.fill.new.host).input
+    c.loop-input.invariant.taken c.in_ok-fill.ensures.ok)
