@@ -6,7 +6,7 @@ ghost use Rattle.std.proofs.Common.{subst, sym};
 use nx_host::{Area, Disk, Failed, Host};
 use std::io::{ErrorKind, Read, Write};
 
-/// How often a call that a signal cuts short is tried again.
+/// How often a call that a signal cuts short is tried, the first time counted.
 const TRIES: u32 = 1024;
 
 /// A host over a reader and a writer. It tells nothing of their bytes, and has no disk: each call of

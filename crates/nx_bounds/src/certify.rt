@@ -12,9 +12,10 @@ use std::alloc::Global;
 /// Whether the plan is certified for the document: its intervals are a feasible partitioning, its
 /// weights are those of the parts, its bounds are supported, and there are no more intervals than the
 /// bound of the root says. Then no feasible partitioning has fewer intervals. No part may weigh more
-/// than `k` slots.
+/// than `k` slots. `k` has to be from 1 to 256, and there have to be fewer than 2^32 intervals,
+/// weights and bounds each.
 ///
-/// Errors: The first of these that applies: `Parts` where the intervals are no feasible partitioning;
+/// Errors: the first of these that applies: `Parts` where the intervals are no feasible partitioning;
 /// `WrongWeight` for the first part whose weight isn't the one that is claimed, where none counts as 0
 /// and weights behind the last part are not looked at; `Length` and `Unsupported` as [`supported`]
 /// says them; `Count` where there are more intervals than the bound of the root says. Besides it

@@ -46,8 +46,8 @@ impl Model for ClaimedChild {
 }
 
 /// The check of bounds against the choices over what is claimed of the children. It keeps the memory
-/// that it took for the nodes that come after: it is in proportion to k, and to how much the costs of
-/// choices over a node's children differ.
+/// that it took for the nodes that come after: at most k + 1 profiles of at most k + 1 numbers each, and
+/// fewer than 2k numbers beside them.
 #[derive(Drop)]
 pub struct Choices {
     alloc: Global,

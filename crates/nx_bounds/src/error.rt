@@ -11,8 +11,11 @@ use thiserror::Error;
 /// A number of a bound.
 #[derive(Clone, Copy, Debug, PartialEq, Eq)]
 pub enum Field {
+    /// How many intervals there are at least.
     Least,
+    /// What the root's part weighs at least with so many intervals.
     Lean,
+    /// What the root's part weighs at least with so many intervals and one.
     Nearly,
 }
 

@@ -26,7 +26,7 @@ struct Scratch {
 
 /// Whether there is one bound for each node of the document, and each is supported: no number of a
 /// bound is more than what any choice over the claims of the node's children gives, where no part may
-/// weigh more than `k` slots.
+/// weigh more than `k` slots. `k` has to be from 1 to 256, and there have to be fewer than 2^32 bounds.
 ///
 /// Errors: `Length` where there isn't one bound for each node. Else `Unsupported` for the first node in
 /// document order whose bound isn't supported, and the first of its numbers. `Memory` where there is

@@ -76,9 +76,9 @@ pub trait Disk {
         ensures faults { faults self.old ≤ faults self.new }
         ensures cause { OnErr result (Rose (faults self.old) (faults self.new)) };
 
-    /// Writes `bytes` at `at`, also past the area's end; what lies between the old end and `at` is
-    /// then open. Until a `sync` of the area, a stop may leave any bytes in the range and past the
-    /// old end.
+    /// Writes `bytes` at `at`, also past the area's end, but no further than to offset 2^63; what
+    /// lies between the old end and `at` is then open. Until a `sync` of the area, a stop may leave
+    /// any bytes in the range and past the old end.
     ///
     /// Errors: `Failed`, only where `faults` rose. The range may then hold any bytes.
     fn write_at(&mut self, area: Area, at: u64, bytes: &[u8]) -> Result<(), Failed>

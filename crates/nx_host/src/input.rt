@@ -62,7 +62,7 @@ impl Input {
     }
 
     /// Takes the next bytes of the input, which are the block then, and gives how many they are.
-    /// None says that the input has ended.
+    /// 0 says that the input has ended.
     ///
     /// Errors: `Read`, only where the input's count of faults rose; `TooMuch` exactly where
     /// 4,294,967,296 bytes were taken before, and then without asking the host. No byte is taken
@@ -110,7 +110,7 @@ impl Input {
 }
 
 // Takes the next bytes of the input into the front of the buffer, at most as many as it has and there
-// is room for, and gives how many they were. None is the input's end.
+// is room for, and gives how many they were. 0 says that the input has ended.
 fn take_block<H: Host>(host: &mut H, buffer: &mut [u8], room: u64) -> Result<usize, Failed>
     requires buffer { 0 < length buffer.old }
     requires room { 0 < room }

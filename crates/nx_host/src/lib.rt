@@ -5,6 +5,10 @@
 //! images that a stop may leave, to the input, the output and the counts of faults, at its end and
 //! at every moment of it. The definitions stand in `specs/Disk.antt`, `specs/Host.antt` and, for
 //! the one clock of both, `specs/Time.antt`.
+//!
+//! `Input` takes the input of a host in blocks, up to the most that a run takes; what was taken is
+//! said in `specs/Input.antt`. What a phase of a run leaves as it was, while it takes, gives or does
+//! both in turn, is said in `specs/Phase.antt`.
 #![tactic(auto)]
 
 mod disk;

@@ -27,7 +27,7 @@ impl Mark {
         }
     }
 
-    // Makes the members of the interval such.
+    // Marks the interval's members as its own.
     fn hold_members(
         &mut self,
         alloc: Global,

@@ -16,7 +16,8 @@ use nx_weights::{Weights, weight};
 use std::alloc::Global;
 
 /// The weights of the parts of a partitioning of the tree, in slots of 8 bytes and in the order of
-/// its intervals: each part is what its interval's members own, down to the next members.
+/// its intervals: each part is what its interval's members own, down to the next members. The tree
+/// has to be a document, and there have to be fewer than 2^32 intervals.
 ///
 /// The first of these that applies refuses the list, each with the least index: `OutOfTree` for an
 /// interval whose parent or a member isn't there or whose first position is above its last,
@@ -37,7 +38,7 @@ pub fn part_weights(alloc: Global, tree: &Tree, parts: &Partitioning) -> Result<
 }
 
 /// The weights of the parts of a partitioning of the tree, none of which weighs more than `k`
-/// slots.
+/// slots. The tree has to be a document, and there have to be fewer than 2^32 intervals.
 ///
 /// It refuses the list as [`part_weights`] does, and then by `Heavy` for the first part that weighs
 /// more.
@@ -58,7 +59,8 @@ pub fn feasible_weights(
 }
 
 /// Whether the intervals are a partitioning of the tree and none of its parts weighs more than `k`
-/// slots. It refuses them as [`feasible_weights`] does.
+/// slots. The tree has to be a document, and there have to be fewer than 2^32 intervals. It refuses
+/// them as [`feasible_weights`] does.
 pub fn check_feasible(
     alloc: Global,
     tree: &Tree,

@@ -28,6 +28,8 @@ impl Bytes {
     }
 
     /// No bytes, with room for `capacity` of them.
+    ///
+    /// Errors: `NoMemory`.
     pub fn with_capacity(alloc: Global, capacity: usize) -> Result<Bytes, NoMemory>
         ensures { IfOk result (λ made. made ≡ []) }
     {
@@ -37,6 +39,8 @@ impl Bytes {
     }
 
     /// A copy of the slice.
+    ///
+    /// Errors: `NoMemory`.
     pub fn from_slice(alloc: Global, bytes: &[u8]) -> Result<Bytes, NoMemory>
         ensures { IfOk result (λ made. made ≡ bytes.now) }
     {

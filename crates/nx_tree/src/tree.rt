@@ -79,7 +79,10 @@ impl Trees {
         }
     }
 
-    /// Adds one tree at the end. Want of memory leaves the list as it was, and drops the tree.
+    /// Adds one tree at the end.
+    ///
+    /// Errors: `NoMemory`, also where the number of nodes would pass 4,294,967,295. The list is as it
+    /// was then, and the tree is dropped.
     pub fn push(&mut self, item: Tree) -> Result<(), NoMemory>
         ensures ok { OnOk result (self.new ≡ planted self.old item) }
         ensures err { OnErr result (self.new ≡ self.old) }

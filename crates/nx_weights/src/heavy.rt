@@ -17,7 +17,8 @@ pub struct HeavyNode {
 }
 
 /// The first node of the tree in document order, which begins with the tree's root, that weighs
-/// more than `k` slots; `None` where no node does.
+/// more than `k` slots; `None` where no node does. The tree has to be within the limits of a document,
+/// as a document is and each tree in one.
 ///
 /// Errors: `NoMemory`.
 pub fn first_heavy(alloc: Global, tree: &Tree, k: u32) -> Result<Option<HeavyNode>, NoMemory>

@@ -7,7 +7,8 @@ use nx_tree::{NoMemory, Tree};
 use std::alloc::Global;
 
 /// The sum of the weights of each subtree's nodes, in slots of 8 bytes and in document order: a
-/// tree comes before those below it. The first is the weight of the whole tree.
+/// tree comes before those below it. The first is the weight of the whole tree, which has to be within
+/// the limits of a document, as a document is and each tree in one.
 ///
 /// Errors: `NoMemory`.
 pub fn subtree_weights(alloc: Global, tree: &Tree) -> Result<Weights, NoMemory>

@@ -7,7 +7,9 @@ use super::{Tree, Trees};
 use crate::{Bytes, NoMemory, Node, TreeError};
 use std::alloc::Global;
 
-/// A copy of the document. It answers no error but `Memory`.
+/// A copy of the document.
+///
+/// Errors: `Memory` alone.
 pub fn copy(alloc: Global, tree: &Tree) -> Result<Tree, TreeError>
     requires { IsDocument tree.now }
     ensures ok { IfOk result (λ copied. copied ≡ tree.now) }

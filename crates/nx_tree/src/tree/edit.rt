@@ -63,7 +63,8 @@ pub fn delete_at(tree: &mut Tree, path: &[u32]) -> Result<(), TreeError>
     Ok(())
 }
 
-/// Replaces the content of the node at the path. It takes no memory.
+/// Replaces the content of the node at the path. It takes no memory. Where the path leads to a node,
+/// its name and the new content may have at most 1,048,576 bytes together.
 ///
 /// The first of these that applies refuses it: `NoNode` where the path leads nowhere, `NoContent`
 /// where the node is an element or the root of the document. A refusal leaves the tree as it was,
