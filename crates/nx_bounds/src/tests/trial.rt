@@ -22,6 +22,9 @@ const MOST: u32 = 5;
 // How many shapes documents with so few nodes have.
 const SHAPES: u32 = 1 + 3 + 7 + 16 + 39;
 
+// How many lists of disjoint intervals there are over these shapes, each with the root's.
+const PARTITIONINGS: u32 = 2_725;
+
 // How much was tried.
 #[derive(Clone, Copy, Debug, PartialEq, Eq)]
 struct Tried {
@@ -83,8 +86,17 @@ fn tries_all_partitionings(rt: HostRuntime) -> Result<(), Fail> {
             }
         }
     }
-    println!(rt; "{tried:?}")?;
-    assert_eq!(rt; tried.documents, 6 * SHAPES);
+    assert_eq!(rt;
+        tried,
+        Tried {
+            documents: 6 * SHAPES,
+            lists: 7 * 6 * (PARTITIONINGS + 20 * SHAPES),
+            feasible: 29_810,
+            claims: 0,
+            refused: 0,
+            obeyed: 0,
+        }
+    );
     Ok(())
 }
 
@@ -155,8 +167,17 @@ fn tries_bounds(rt: HostRuntime) -> Result<(), Fail> {
             try_bounds(&rt, alloc, &tree, &mut random, &mut tried)?;
         }
     }
-    println!(rt; "{tried:?}")?;
-    assert_eq!(rt; tried.documents, SHAPES);
+    assert_eq!(rt;
+        tried,
+        Tried {
+            documents: SHAPES,
+            lists: 0,
+            feasible: 0,
+            claims: 5_337,
+            refused: 3_787,
+            obeyed: 11_220,
+        }
+    );
     Ok(())
 }
 
