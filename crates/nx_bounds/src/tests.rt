@@ -1,9 +1,9 @@
 // Every partitioning of every small document, by plain and slow functions that follow the
 // definitions word by word.
 mod choices;
-mod claims;
+pub(crate) mod claims;
 mod documents;
 mod minima;
 mod plain;
-mod random;
+pub(crate) mod random;
 mod trial;

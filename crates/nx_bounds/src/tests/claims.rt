@@ -43,7 +43,7 @@ fn choice(
 
 // The least that an admitted choice gives of which the number of the bound speaks; `None` where there is
 // no such choice.
-pub(super) fn least_given(
+fn least_given(
     alloc: Global,
     k: u32,
     field: Field,
@@ -76,7 +76,7 @@ fn codes(children: &[ClaimedChild]) -> u32 {
 
 // The children of the tree as the choices at it see them, where the bounds of the nodes below it begin
 // the list, in document order.
-pub(super) fn claimed_children(
+fn claimed_children(
     alloc: Global,
     k: u32,
     tree: &Tree,
@@ -98,7 +98,7 @@ pub(super) fn claimed_children(
 }
 
 // The number of nodes.
-pub(super) fn size(tree: &Tree) -> usize {
+fn size(tree: &Tree) -> usize {
     let mut sum: usize = 1;
     for child in tree.children.as_slice() {
         sum = sum.saturating_add(size(child));
@@ -135,21 +135,34 @@ fn check_bound(
 ) -> Result<(), BoundsError> {
     let children = claimed_children(alloc, k, tree, below)?;
     let own = slots(&tree.node)?;
+    match first_exceeded(alloc, k, own, children.as_slice(), bound)? {
+        Some((field, found)) => Err(BoundsError::Unsupported {
+            node,
+            field,
+            claimed: claim(field, bound),
+            found,
+        }),
+        None => Ok(()),
+    }
+}
+
+// The first number of the bound that is more than the least that a choice gives, and that least.
+pub(crate) fn first_exceeded(
+    alloc: Global,
+    k: u32,
+    own: u64,
+    children: &[ClaimedChild],
+    bound: Bound,
+) -> Result<Option<(Field, u32)>, NoMemory> {
     for field in [Field::Least, Field::Lean, Field::Nearly] {
-        let claimed = claim(field, bound);
-        let found = least_given(alloc, k, field, own, children.as_slice(), bound)?;
+        let found = least_given(alloc, k, field, own, children, bound)?;
         if let Some(found) = found
-            && found < claimed
+            && found < claim(field, bound)
         {
-            return Err(BoundsError::Unsupported {
-                node,
-                field,
-                claimed,
-                found,
-            });
+            return Ok(Some((field, found)));
         }
     }
-    Ok(())
+    Ok(None)
 }
 
 // Bounds for the tree's nodes, in document order, of which each is as great as those of its children

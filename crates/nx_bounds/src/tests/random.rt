@@ -2,17 +2,17 @@
 ghost use Rattle.std.specs.Prelude.{◌≤◌};
 
 #[derive(Drop)]
-pub(super) struct Random {
+pub(crate) struct Random {
     state: u64,
 }
 
 impl Random {
-    pub(super) fn new(seed: u64) -> Random {
+    pub(crate) fn new(seed: u64) -> Random {
         Random { state: seed }
     }
 
     // A number below the bound, or 0 where that is 0.
-    pub(super) fn below(&mut self, bound: u32) -> u32
+    pub(crate) fn below(&mut self, bound: u32) -> u32
         ensures { result ≤ bound }
     {
         self.state = self
@@ -24,7 +24,7 @@ impl Random {
     }
 
     // Most often the number itself, or else one near to it.
-    pub(super) fn near(&mut self, number: u32) -> u32 {
+    pub(crate) fn near(&mut self, number: u32) -> u32 {
         match self.below(10) {
             0 => number.saturating_add(self.below(3)),
             1 => number.saturating_sub(self.below(3)),
