@@ -75,8 +75,3 @@ pub record IsFeasible (k : ℕ) (tree : OrderedTree) (parts : List Interval) : T
 pub record IsOptimal (k : ℕ) (tree : OrderedTree) (parts : List Interval) : Type 0 where
   pub feasible : IsFeasible k tree parts
   pub fewest : (others : List Interval) → IsFeasible k tree others → length parts ≤ length others
-
--- among the optimal ones, one whose root's part is lightest
-pub record IsLean (k : ℕ) (tree : OrderedTree) (parts : List Interval) : Type 0 where
-  pub optimal : IsOptimal k tree parts
-  pub lightest : (others : List Interval) → IsOptimal k tree others → root_weight tree parts ≤ root_weight tree others
