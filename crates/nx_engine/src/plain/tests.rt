@@ -29,7 +29,7 @@ const EDITED: [Step; 9] = [
     ("retext", b"d", &[0], b"x", b"error no-content"),
     ("export", b"d", &[], b"", b"(a\n(b\n)b\n)a\n"),
     ("names", b"", &[], b"", b"doc d 3\n"),
-    ("layout", b"d", &[], b"", b"error syntax"),
+    ("nothing", b"d", &[], b"", b"error syntax"),
 ];
 
 const REFUSED: [Step; 37] = [
@@ -69,7 +69,7 @@ const REFUSED: [Step; 37] = [
     ("drop", b"e", &[], b"", b"error no-document"),
     ("delete", b"d", &[0], b"", b"ok"),
     ("names", b"", &[], b"", b"doc d 2\ndoc ee 2\n"),
-    ("checkpoint", b"", &[], b"", b"error syntax"),
+    ("nothing", b"", &[], b"", b"error syntax"),
 ];
 
 fn read(alloc: Global, text: &[u8]) -> Result<Tree, ReadError>
