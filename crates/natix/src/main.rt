@@ -126,21 +126,27 @@ mod tests {
     #[test]
     fn faults_in_mid_stream_end_the_run(rt: HostRuntime) -> Result<(), Fail> {
         let late = Trouble::at(2, ErrorKind::Other);
-        for (reading, writing, want) in [
-            (Trouble::NONE, Trouble::NONE, Status::Done),
-            (late, Trouble::NONE, Status::ReadFault),
-            (Trouble::NONE, late, Status::WriteFault),
+        for (reading, writing, want, written) in [
+            (
+                Trouble::NONE,
+                Trouble::NONE,
+                Status::Done,
+                b"(a\n-hi\n)a\n".as_slice(),
+            ),
+            (late, Trouble::NONE, Status::ReadFault, b""),
+            (Trouble::NONE, late, Status::WriteFault, b"(a\n"),
         ] {
             let arguments = FakeArguments(&[b"natix", b"_", b"tidy"]);
             let words = words(&(&arguments, rt.alloc())).map_err(|_| "no words")?;
-            let writer = FakeWriter {
+            let mut writer = FakeWriter {
                 taken: Vec::new(rt.alloc()),
                 calls: 0,
                 trouble: writing,
             };
             let reader = FakeReader::new(b"(a\n-hi\n)a\n", reading);
-            let mut host = StdioHost::new(reader, writer);
+            let mut host = StdioHost::new(reader, &mut writer);
             assert_eq!(rt; run(rt.alloc(), &words, &mut host), want);
+            assert_eq!(rt; writer.taken.as_slice(), written);
         }
         Ok(())
     }
