@@ -1,17 +1,16 @@
 -- What the plain functions of the tests need: members of an interval, owners, and the sum over the nodes of a tree.
-use Rattle.std.proofs.Common.{◌≡◌, ℕ, ◌+◌, ◌-◌, ◌<◌, ◌≤◌, ◌==◌, Bool, true, false, ◌&&◌, if◌then◌else◌, List, [], ◌∷◌, ◌++◌, length, take, drop, Option, None, Some, refl, sym, ap, ◌∙◌, subst, arith}
+use Rattle.std.proofs.Common.{◌≡◌, ℕ, ◌+◌, ◌<◌, ◌≤◌, ◌==◌, Bool, true, false, ◌&&◌, List, [], ◌∷◌, ◌++◌, length, drop, refl, sym, ap, ◌∙◌, subst, arith}
 use Rattle.std.specs.Prelude.{◌↔◌, IsTrue, nat_le}
 use Rattle.std.specs.List.{sum_by}
 use Rattle.std.specs.Option.{option_or}
 use Rattle.std.proofs.lemmas.List.Sums.{sum_by-cons, sum_by-append}
 use Rattle.std.proofs.lemmas.Bool.{both_ways, eq-eqb}
-use Rattle.nx_tree.specs.declared.node.Node.{Node}
 use Rattle.nx_tree.specs.Document.{is_empty}
-use Rattle.nx_tree.specs.Forest.{OrderedTree, Forest, Empty, Plant, forest_of}
-use Rattle.nx_weights.specs.Weight.{weight, listed_in, listed_from}
+use Rattle.nx_tree.specs.Forest.{OrderedTree, Forest, forest_of}
+use Rattle.nx_weights.specs.Weight.{listed_in, listed_from}
 use Rattle.nx_parts.specs.declared.interval.Interval.{Interval}
 use Rattle.nx_parts.specs.declared.interval.Interval.TheVariants.{Root, Run}
-use Rattle.nx_parts.specs.Partitioning.{is_child_path, has_member, ShareMember, holder, owner, owns}
+use Rattle.nx_parts.specs.Partitioning.{is_child_path, has_member, ShareMember, holder, owner}
 use Rattle.nx_parts.proofs.OwnerLemmas.{owned_of, owner-longer, owner-root}
 
 both_true : (a b : Bool) → a ≡ true → b ≡ true → (a && b) ≡ true

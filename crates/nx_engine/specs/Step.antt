@@ -1,11 +1,11 @@
 -- What a command is answered, and what it leaves.
-use Rattle.std.specs.Prelude.{ℕ, ◌+◌, ◌≤◌, nat_lt, if◌then◌else◌, List, [], ◌∷◌, length, map, fold, Option, None, Some, option_and_then}
+use Rattle.std.specs.Prelude.{ℕ, ◌+◌, nat_lt, if◌then◌else◌, List, [], ◌∷◌, length, map, fold, Option, None, Some, option_and_then}
 use Rattle.std.specs.Option.{option_map_or, option_or, is_none}
 use Rattle.std.specs.FinMap.{get, contains_key, insert, remove, entries}
 use Rattle.nx_tree.specs.declared.error.TreeError.{TreeError}
 use Rattle.nx_tree.specs.declared.error.TreeError.TheVariants as tree_error
 use Rattle.nx_tree.specs.Forest.{OrderedTree, nodes, trees_of}
-use Rattle.nx_tree.specs.Document.{IsDocument, IsNode, longest_node}
+use Rattle.nx_tree.specs.Document.{longest_node}
 use Rattle.nx_tree.specs.Edit.{at, put, cut_at, retext, insert_refusal, delete_refusal, retext_refusal}
 use Rattle.nx_pyx.specs.declared.error.PyxFault.TheVariants.{LongLine}
 use Rattle.nx_pyx.specs.Fault.{fault_at}

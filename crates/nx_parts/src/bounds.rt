@@ -43,6 +43,21 @@ impl Bounds {
         }
     }
 
+    /// The bounds of the vector, which isn't copied.
+    pub fn from_vec(bounds: Vec<Bound>) -> Bounds
+        ensures { result ≡ bounds.items }
+    {
+        Bounds { bounds }
+    }
+
+    /// The bounds as a vector, without a copy.
+    pub fn into_vec(self) -> Vec<Bound>
+        ensures { result.items ≡ self }
+    {
+        let Bounds { bounds } = self;
+        bounds
+    }
+
     /// Adds one bound at the end. Want of memory leaves the list as it was.
     pub fn push(&mut self, item: Bound) -> Result<(), NoMemory>
         ensures ok { OnOk result (self.new ≡ self.old ++ item ∷ []) }

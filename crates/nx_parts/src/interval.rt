@@ -47,6 +47,21 @@ impl Partitioning {
         }
     }
 
+    /// The intervals of the vector, which isn't copied.
+    pub fn from_vec(intervals: Vec<Interval>) -> Partitioning
+        ensures { result ≡ intervals.items }
+    {
+        Partitioning { intervals }
+    }
+
+    /// The intervals as a vector, without a copy.
+    pub fn into_vec(self) -> Vec<Interval>
+        ensures { result.items ≡ self }
+    {
+        let Partitioning { intervals } = self;
+        intervals
+    }
+
     /// Adds one interval at the end. Want of memory leaves the list as it was, and drops the
     /// interval.
     pub fn push(&mut self, item: Interval) -> Result<(), NoMemory>

@@ -179,6 +179,7 @@ fn check_lists(rt: &impl Abort, alloc: Global) -> Result<(), NoMemory> {
     assert!(rt; parts.is_empty());
     parts.push(Interval::Root)?;
     assert_eq!(rt; parts.len(), 1);
+    let parts = Partitioning::from_vec(parts.into_vec());
     assert!(rt; matches!(parts.as_slice(), [Interval::Root]));
     let bound = Bound {
         least: 2,
@@ -189,6 +190,7 @@ fn check_lists(rt: &impl Abort, alloc: Global) -> Result<(), NoMemory> {
     assert!(rt; bounds.is_empty());
     bounds.push(bound)?;
     assert_eq!(rt; bounds.len(), 1);
+    let bounds = Bounds::from_vec(bounds.into_vec());
     assert_eq!(rt; bounds.as_slice(), [bound].as_slice());
     Ok(())
 }

@@ -1,4 +1,3 @@
-use Rattle.std.proofs.Common.{◌≡◌, length}
 use Rattle.nx_tree.specs.Document.{IsDocument}
 use Rattle.nx_tree.proofs.tree.tests.check_deepest.Given as goal
 
