@@ -1,5 +1,5 @@
 -- What a command of a script holds could be read.
-use Rattle.std.proofs.Common.{◌≡◌, ◌≢◌, ℕ, ◌+◌, ◌≤◌, Bool, true, false, List, [], ◌∷◌, ◌++◌, length, map, ⊎_elim, Option, None, Some, IfSome, refl, sym, ap, ◌∙◌, subst, arith}
+use Rattle.std.proofs.Common.{◌≡◌, ℕ, ◌+◌, ◌≤◌, Bool, true, false, List, [], ◌∷◌, ◌++◌, length, ⊎_elim, Option, None, Some, IfSome, refl, sym, subst, arith}
 use Rattle.std.specs.Prelude.{if◌then◌else◌, ◌==◌, ◌&&◌, not, nat_lt, IsTrue, All, codes}
 use Rattle.std.specs.Bool.{MatchBool}
 use Rattle.std.specs.Option.{option_map_or, unwrap_or, is_none}
@@ -8,18 +8,15 @@ use Rattle.std.proofs.lemmas.Bool.{cases_Bool, MatchBool-at_true}
 use Rattle.std.proofs.lemmas.List.Elements.{All-nil, All-cons, All-append, All-head, All-tail}
 use Rattle.nx_tree.specs.declared.node.Kind.{Kind}
 use Rattle.nx_tree.specs.declared.node.Kind.TheVariants.{Doc, Element, Attribute, Text, Instruction}
-use Rattle.nx_tree.specs.declared.node.Node.{Node}
-use Rattle.nx_tree.specs.Document.{IsDocument, IsNode, HasParts, is_name, longest_node}
+use Rattle.nx_tree.specs.Document.{IsNode, HasParts, is_name, longest_node}
 use Rattle.nx_pyx.specs.declared.error.PyxFault.{PyxFault}
 use Rattle.nx_pyx.specs.declared.error.PyxFault.TheVariants.{BadCode, BadName, BadNesting, LongLine}
 use Rattle.nx_pyx.specs.Event.{Event, Start, End, Single, event_by, event_of, unescape}
 use Rattle.nx_pyx.specs.Fault.{is_long, is_misnamed, is_text, makes_node, fault_at}
 use Rattle.nx_pyx.specs.Line.{node_of, event_fault}
-use Rattle.nx_script.specs.declared.command.LoadBody.{LoadBody}
 use Rattle.nx_script.specs.declared.command.LoadBody.TheVariants as load
 use Rattle.nx_script.specs.declared.command.LineBody.{LineBody}
 use Rattle.nx_script.specs.declared.command.LineBody.TheVariants as line
-use Rattle.nx_script.specs.declared.command.TextBody.{TextBody}
 use Rattle.nx_script.specs.declared.command.TextBody.TheVariants as content
 use Rattle.nx_script.specs.declared.command.Command.{Command}
 use Rattle.nx_script.specs.declared.command.Command.TheVariants.{Load, Discard, Names, Export, Insert, Delete, Retext, Get, Bad}
@@ -28,8 +25,8 @@ use Rattle.nx_script.specs.Script.{HasGiven}
 use Rattle.nx_script.proofs.ScriptLemmas.{HasLooked, looked}
 use Rattle.nx_pyx.specs.Field.{field, behind}
 use Rattle.nx_script.specs.Field.{is_document_name}
-use Rattle.nx_script.specs.Line.{Place, longest_line, line_body, text_body, place_of, ends_there, insert_at, retext_at, command_by, command_of}
-use Rattle.nx_script.specs.Commands.{begins_load, has_dot, Loads, IsWhole, Gives, IsUnended, cut_off, AreCommands, CanCome}
+use Rattle.nx_script.specs.Line.{longest_line, line_body, place_of, ends_there, insert_at, retext_at, command_by, command_of}
+use Rattle.nx_script.specs.Commands.{begins_load, has_dot, Loads, IsWhole, Gives, cut_off, AreCommands, CanCome}
 
 -- what holds of both ways holds of the one that is taken
 either_way : {X : Type 0} (P : X → Type 0) (b : Bool) {x y : X} → P x → P y → P (if b then x else y)

@@ -12,12 +12,11 @@ use Rattle.nx_script.specs.declared.command.Command.{Command}
 use Rattle.nx_script.specs.declared.command.Command.TheVariants.{Bad}
 use Rattle.nx_script.specs.declared.parser.Load.{Load}
 use Rattle.nx_script.specs.declared.parser.Parser.{Parser}
-use Rattle.nx_pyx.specs.Field.{begins_with}
 use Rattle.nx_script.specs.Line.{command_of}
 use Rattle.nx_script.specs.Commands.{begins_load, is_dot, has_dot, loaded_name, Loads, IsWhole, Gives, AreCommands}
 use Rattle.nx_script.specs.Body.{HasReadLines, IsWithin, IsEndedBy}
 use Rattle.nx_script.specs.Parser.{most_held, with_command, IsLoading, Keeps, HasParsed, Adds, MeansSame}
-use Rattle.nx_script.proofs.Fronts.{means_same, dot_front, dot_begins}
+use Rattle.nx_script.proofs.Fronts.{means_same, dot_front}
 use Rattle.nx_script.proofs.Groups.{gives_longer, gives_then, whole_line, whole_load}
 use Rattle.nx_script.proofs.Cuts.{ended_lines-held, rest-held, ended_lines-ended, rest-ended, rest-append, lines-whole}
 use Rattle.nx_script.proofs.DocumentLines.{read_front, line_taken}

@@ -1,4 +1,4 @@
-use Rattle.std.proofs.Common.{ℕ, List, ap, ◌∙◌}
+use Rattle.std.proofs.Common.{ap, ◌∙◌}
 use Rattle.nx_pyx.specs.Lines.{cut, without_cr}
 use Rattle.nx_script.specs.Commands.{is_dot}
 use Rattle.nx_script.proofs.Fronts.{dot_front}
