@@ -1,5 +1,5 @@
 -- What was taken of a document's lines and of the text behind their dot, as reading goes on, and where it ends.
-use Rattle.std.proofs.Common.{true, false, ◌≡◌, ◌⊎◌, inl, inr, ℕ, ◌+◌, ◌-◌, ◌≤◌, ◌<◌, List, [], ◌∷◌, ◌++◌, length, take, drop, Option, None, Some, Result, Ok, Err, IfOk, IfErr, ◌↔◌, refl, sym, ap, ◌∙◌, subst, arith, append-nil, append_assoc}
+use Rattle.std.proofs.Common.{true, false, ◌≡◌, inl, inr, ℕ, ◌+◌, ◌-◌, ◌≤◌, ◌<◌, List, [], ◌∷◌, ◌++◌, length, take, drop, Option, None, Some, Result, Ok, Err, ◌↔◌, refl, sym, ap, ◌∙◌, subst, arith, append-nil, append_assoc}
 use Rattle.std.proofs.lemmas.List.{take-append-drop, take_all, length-drop}
 use Rattle.std.proofs.Math.Seq.{take-add}
 use Rattle.nx_host.specs.Host.{Takes, IsAtEnd}
@@ -24,7 +24,7 @@ use Rattle.nx_front.specs.Outcome.{EndsWhole, Finishes}
 use Rattle.nx_pyx.specs.Fault.{shown_fault}
 use Rattle.nx_pyx.proofs.Said.{no_fault}
 use Rattle.nx_pyx.proofs.Shown.{fault_shown}
-use Rattle.nx_front.specs.Claimed.{EndsClaimed, HasDocument, EndsFaulty, StopsClaim, StopsBehind}
+use Rattle.nx_front.specs.Claimed.{EndsClaimed, HasDocument, StopsClaim, StopsBehind}
 
 -- Of any input:
 
@@ -122,12 +122,12 @@ pub came_fault : (old new : Body) (input : Input) (block : List ℕ) (first now 
     CameBlock old input first now →
     ((s : List ℕ) → IsWithin old s → IsWithin new (s ++ block)) → ((s : List ℕ) → IsWithin new s → Some error ≡ shown_before_dot s) → StopsClaim (Refused error) first now
 came_fault old new input block first now error is came reads shows = (
-      came.taken ++ block,
-      record {
-        takes = subst (λ (l : List ℕ). Takes (came.taken ++ l) first now) (sym is) came.took.takes;
-        fault = inl (λ more. shown_before (came.taken ++ block) more error (sym (shows (came.taken ++ block) (reads came.taken came.within))));
-      },
-    )
+  came.taken ++ block,
+  record {
+    takes = subst (λ (l : List ℕ). Takes (came.taken ++ l) first now) (sym is) came.took.takes;
+    fault = inl (λ more. shown_before (came.taken ++ block) more error (sym (shows (came.taken ++ block) (reads came.taken came.within))));
+  },
+)
 
 -- bytes that end with the dot's line, and those behind it
 behind_dot : (taken block more : List ℕ) (start : ℕ) → (taken ++ block) ++ more ≡ (taken ++ take start block) ++ (drop start block ++ more)

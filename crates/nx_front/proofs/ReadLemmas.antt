@@ -1,5 +1,5 @@
 -- What was taken of the input as reading goes on, and where it ends.
-use Rattle.std.proofs.Common.{◌≡◌, inl, inr, ℕ, ◌+◌, ◌-◌, ◌≤◌, ◌<◌, List, [], ◌∷◌, ◌++◌, length, Option, None, Some, Result, Ok, Err, IfOk, IfErr, ◌↔◌, refl, sym, ap, ◌∙◌, subst, arith, append-nil}
+use Rattle.std.proofs.Common.{◌≡◌, inl, inr, ℕ, ◌+◌, ◌-◌, ◌≤◌, ◌<◌, List, [], ◌∷◌, ◌++◌, length, Option, Result, Ok, Err, IfOk, IfErr, ◌↔◌, refl, sym, ap, ◌∙◌, subst, arith, append-nil}
 use Rattle.nx_host.specs.Host.{Takes, IsAtEnd}
 use Rattle.nx_host.specs.Input.{HasTaken, block_of, most_input}
 use Rattle.nx_host.specs.declared.input.Input.{Input}

@@ -1,22 +1,20 @@
 -- A session: commands that came, their replies, and what was given of them.
-use Rattle.std.proofs.Common.{◌≡◌, ◌⊎◌, inl, inr, ℕ, ◌<◌, ◌≤◌, Bool, true, false, List, [], ◌∷◌, ◌++◌, length, Option, None, Some, IfSome, Result, Ok, Err, refl, sym, ap, ◌∙◌, subst, arith, append_assoc, append-nil}
-use Rattle.std.specs.Bool.{MatchBool}
+use Rattle.std.proofs.Common.{◌≡◌, ℕ, ◌≤◌, List, [], ◌∷◌, ◌++◌, length, Option, None, Some, IfSome, refl, sym, ap, ◌∙◌, subst, arith, append_assoc, append-nil}
 use Rattle.std.specs.FinMap.{empty}
-use Rattle.nx_host.specs.Disk.{Image, Beside, Keeps, Rose}
-use Rattle.nx_host.specs.Host.{Takes, IsAtEnd, Appends}
+use Rattle.nx_host.specs.Disk.{Image, Beside, Rose}
+use Rattle.nx_host.specs.Host.{Takes, Appends}
 use Rattle.nx_host.specs.Time.{Stood}
 use Rattle.nx_host.specs.Phase.{TakesAlone, GivesAlone, TalksAlone}
 use Rattle.nx_host.proofs.OutputLemmas.{appends_nothing, appends_then, takes_nothing}
 use Rattle.nx_host.proofs.PhaseLemmas.{talks_alone_none, talks_front, talks_then_gives, talks_then_takes, gives_front, gives_then, gives_alone_none}
 use Rattle.nx_script.specs.declared.command.Command.{Command}
 use Rattle.nx_script.specs.declared.script.Script.{Script}
-use Rattle.nx_script.specs.Commands.{AreCommands, AreWhole}
 use Rattle.nx_script.specs.Reply.{reply_text}
 use Rattle.nx_script.specs.Script.{HasGiven, HasGivenIn, Stops}
 use Rattle.nx_script.proofs.OneList.{one_list, given_front}
 use Rattle.nx_script.proofs.ScriptLemmas.{in_input}
 use Rattle.nx_engine.specs.Documents.{Documents}
-use Rattle.nx_engine.specs.Step.{answer, after, replies, after_all}
+use Rattle.nx_engine.specs.Step.{answer, after, after_all}
 use Rattle.nx_front.specs.declared.status.Status.{Status}
 use Rattle.nx_front.specs.declared.give.Halt.{Halt}
 use Rattle.nx_front.specs.declared.give.Halt.TheVariants as halts
@@ -26,7 +24,7 @@ use Rattle.nx_front.specs.Stop.{status_of_script, status_of_halt}
 use Rattle.nx_front.specs.declared.words.CommandLine.TheVariants.{Run}
 use Rattle.nx_host.specs.Input.{most_input}
 use Rattle.nx_front.specs.Session.{texts_from, texts, AreFirst, ScriptEnds, AnswersScript, HasAnswered, HasStopped, IsAnswered}
-use Rattle.nx_front.specs.Run.{AnswersTold, GrowsToAnswer, LeavesDisk, IsCarriedOut}
+use Rattle.nx_front.specs.Run.{AnswersTold, IsCarriedOut}
 
 -- the documents after commands and more commands
 pub after_all-append : (documents : Documents) (commands more : List Command) → after_all documents (commands ++ more) ≡ after_all (after_all documents commands) more

@@ -3,13 +3,12 @@ use Rattle.std.proofs.Common.{◌≡◌, ◌≢◌, ◌⊎◌, inl, inr, ℕ, �
 use Rattle.std.proofs.lemmas.List.{length-map}
 use Rattle.std.specs.List.{zip}
 use Rattle.nx_host.specs.Disk.{Beside, Rose}
-use Rattle.nx_host.specs.Host.{Takes, IsAtEnd, Appends}
+use Rattle.nx_host.specs.Host.{Appends}
 use Rattle.nx_host.specs.Input.{most_input}
 use Rattle.nx_tree.specs.Forest.{OrderedTree}
 use Rattle.nx_pyx.specs.declared.error.PyxError.{PyxError}
 use Rattle.nx_pyx.specs.Fault.{fault_of}
 use Rattle.nx_pyx.specs.Lines.{cut, without_cr, last_line, lines}
-use Rattle.nx_pyx.specs.Reading.{Reads}
 use Rattle.nx_pyx.proofs.Said.{no_fault}
 use Rattle.nx_pyx.proofs.Reading.{one_reading}
 use Rattle.nx_script.specs.Commands.{is_dot}
@@ -21,7 +20,7 @@ use Rattle.nx_parts.specs.declared.plan.Plan.{Plan}
 use Rattle.nx_bounds.specs.declared.error.BoundsError.{BoundsError}
 use Rattle.nx_bounds.specs.declared.error.BoundsError.TheVariants.{Parts, WrongWeight, Length, Unsupported, Count, BadPlanLine, Memory}
 use Rattle.nx_bounds.specs.Refusal.{IsSound, IsNotCertified}
-use Rattle.nx_bounds.specs.PlanText.{plan_line, part_line, bound_lines, lines_of, ReadsAs, IsNoPlan, bad_line}
+use Rattle.nx_bounds.specs.PlanText.{plan_line, part_line, bound_lines, lines_of, ReadsAs}
 use Rattle.nx_bounds.proofs.OnePlan.{same_plan, sound}
 use Rattle.nx_bounds.proofs.VerdictLemmas.{spared}
 use Rattle.nx_front.specs.declared.status.Status.{Status}
@@ -37,7 +36,7 @@ use Rattle.nx_front.specs.Outcome.{EndsWhole}
 use Rattle.nx_front.specs.Claimed.{EndsClaimed, EndsFaulty}
 use Rattle.nx_front.specs.Verify.{certified_line, IsCertifiedText, IsRefusedText, IsCertifiedInput, IsSoundInput, IsRefusedInput, AnswersClaim, JudgesText, AreFew, verdict_text, EndsVerdict, EndsRefusedBy, VerifyEnds}
 use Rattle.nx_front.specs.Run.{EndsWith, AnswersTold, IsUndisturbed, status_after}
-use Rattle.nx_front.proofs.RunLemmas.{taken_of, not_too_much}
+use Rattle.nx_front.proofs.RunLemmas.{not_too_much}
 
 -- The lists of a plan are no longer than its text:
 

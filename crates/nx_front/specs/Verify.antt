@@ -1,5 +1,5 @@
 -- What `verify` answers to an input: the lines of a document, a dot, and the lines of a plan.
-use Rattle.std.specs.Prelude.{◌≡◌, ◌≢◌, ◌⊎◌, ℕ, ◌<◌, ◌^◌, List, [], ◌∷◌, ◌++◌, length, Option, Some, Result, Ok, Err, codes, decimal}
+use Rattle.std.specs.Prelude.{◌≡◌, ◌≢◌, ◌⊎◌, ℕ, ◌<◌, ◌^◌, List, [], ◌∷◌, length, Option, Some, Result, Ok, Err, codes, decimal}
 use Rattle.nx_tree.specs.Forest.{OrderedTree}
 use Rattle.nx_pyx.specs.Fault.{fault_of}
 use Rattle.nx_pyx.specs.Reading.{Reads}

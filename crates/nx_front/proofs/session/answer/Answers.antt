@@ -1,4 +1,4 @@
-use Rattle.std.proofs.Common.{◌≡◌, [], ◌++◌, ap, ◌∙◌}
+use Rattle.std.proofs.Common.{[], ◌++◌, ap, ◌∙◌}
 use Rattle.nx_host.proofs.OutputLemmas.{appends_nothing}
 use Rattle.nx_host.proofs.PhaseLemmas.{gives_alone_none}
 use Rattle.nx_script.specs.Reply.{reply_text}

@@ -1,4 +1,4 @@
-use Rattle.std.proofs.Common.{◌^◌, ◌<◌, List, ℕ, IfOk, length, subst}
+use Rattle.std.proofs.Common.{List, ℕ, IfOk, subst}
 use Rattle.nx_bounds.specs.PlanText.{ReadsAs}
 use Rattle.nx_front.proofs.VerifyLemmas.{read_few}
 use Rattle.nx_front.proofs.verify.plan_of.Goals as goal
