@@ -1,0 +1,14 @@
+//! Slotted pages: a page of 8,192 bytes as a list of optional records, each of which is found by the
+//! number of its slot. It stands on `nx_numbers`.
+//!
+//! Contracts see a `Page` as that list, and its bytes by the form in `specs/Slots.antt`. What a change
+//! makes of the list is said in `specs/Edits.antt`.
+#![tactic(auto)]
+
+mod changes;
+mod form;
+mod packing;
+mod page;
+mod reads;
+
+pub use page::{Page, PageBytes, SlotsError};

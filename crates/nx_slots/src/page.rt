@@ -1,0 +1,130 @@
+// A slotted page.
+ghost use Rattle.nx_slots.specs.Edits.{free_in, growth_of, needed_for, without_record, HasRecord, IsPut, IsSet};
+ghost use Rattle.nx_slots.specs.Refusals.{LacksRoom};
+ghost use Rattle.nx_slots.specs.Slots.{slots_of, IsSlotted};
+ghost use Rattle.std.specs.Prelude.{◌≡◌, ◌≤◌, ℕ, List, [], Option, Some, None, length, slice_index_or, IfErr, IfOk, MatchOption};
+
+use crate::changes::{clear_record, put_record, set_record};
+use crate::form::is_slotted;
+use crate::packing::begin;
+use crate::reads::{free_at, read_record};
+use std::marker::Model;
+use thiserror::Error;
+
+/// The bytes of one page, in place.
+#[derive(Clone, Copy, Debug)]
+pub struct PageBytes {
+    pub bytes: [u8; 8192],
+}
+
+/// Why a page didn't take a record.
+#[derive(Clone, Copy, Debug, PartialEq, Eq, Error)]
+pub enum SlotsError {
+    /// More bytes are needed than are free.
+    #[error("{needed} bytes are needed and {free} are free")]
+    NoRoom {
+        /// How many bytes are needed, with those of a new slot.
+        needed: u32,
+        /// How many bytes are free.
+        free: u32,
+    },
+}
+
+/// A slotted page, seen as what its slots hold.
+#[derive(Drop)]
+pub struct Page {
+    page: PageBytes,
+}
+
+impl Model for Page {
+    ghost Value = { List (Option (List ℕ)) };
+
+    ghost view = { λ p. slots_of p.page.bytes };
+
+    ghost invariant = { λ p. IsSlotted p.page.bytes };
+}
+
+impl Page {
+    /// A page without slots.
+    pub fn new() -> Page
+        ensures { result ≡ [] }
+    {
+        let mut page = PageBytes { bytes: [0; 8192] };
+        begin(&mut page.bytes, 0);
+        Page { page }
+    }
+
+    /// The page of the given bytes, and none exactly where they are no slotted page. Records may lie in
+    /// any order and with holes between them.
+    pub fn from_bytes(bytes: &PageBytes) -> Option<Page>
+        ensures { MatchOption result (IsSlotted bytes.now.bytes → ⊥)
+            (λ page. IsSlotted bytes.now.bytes × (page ≡ slots_of bytes.now.bytes)) }
+    {
+        if is_slotted(&bytes.bytes) {
+            Some(Page { page: *bytes })
+        } else {
+            None
+        }
+    }
+
+    /// The page's bytes.
+    pub fn bytes(&self) -> &PageBytes
+        ensures slotted { IsSlotted result.now.bytes }
+        ensures slots { slots_of result.now.bytes ≡ self.now }
+    {
+        &self.page
+    }
+
+    /// The record of a slot, and none where the slot is empty or isn't there.
+    pub fn read(&self, slot: u16) -> Option<&[u8]>
+        ensures { MatchOption result (slice_index_or self.now slot None ≡ None)
+            (λ bytes. slice_index_or self.now slot None ≡ Some bytes.now) }
+    {
+        read_record(&self.page.bytes, slot as usize)
+    }
+
+    /// Puts a record of 1 to 8,176 bytes into the first empty slot, else into a new one, and answers which.
+    ///
+    /// Errors: `NoRoom` exactly where the record, and 4 bytes for a new slot, are more than is free. The
+    /// page stays.
+    pub fn put(&mut self, bytes: &[u8]) -> Result<u16, SlotsError>
+        requires some { 1 ≤ length bytes.now }
+        requires few { length bytes.now ≤ 8176 }
+        ensures ok { IfOk result (λ slot. IsPut self.old bytes.now slot self.new) }
+        ensures no_room { IfErr result (λ e.
+            LacksRoom self.old (needed_for self.old bytes.now) e
+            × (self.new ≡ self.old)) }
+    {
+        put_record(&mut self.page.bytes, bytes)
+    }
+
+    /// Puts another record of 1 to 8,176 bytes in the place of that of a slot, which has one.
+    ///
+    /// Errors: `NoRoom` exactly where it is longer by more bytes than are free. The page stays.
+    pub fn set(&mut self, slot: u16, bytes: &[u8]) -> Result<(), SlotsError>
+        requires there { HasRecord self.old slot }
+        requires some { 1 ≤ length bytes.now }
+        requires few { length bytes.now ≤ 8176 }
+        ensures ok { IfOk result (λ _. IsSet self.old slot bytes.now self.new) }
+        ensures no_room { IfErr result (λ e.
+            LacksRoom self.old (growth_of self.old slot bytes.now) e
+            × (self.new ≡ self.old)) }
+    {
+        set_record(&mut self.page.bytes, slot as usize, bytes)
+    }
+
+    /// Takes away the record of a slot, which has one, and then the empty slots at the end.
+    pub fn clear(&mut self, slot: u16)
+        requires { HasRecord self.old slot }
+        ensures { self.new ≡ without_record self.old slot }
+    {
+        clear_record(&mut self.page.bytes, slot as usize);
+    }
+
+    /// How many bytes are free: 8,184 less 4 for each slot and less the records.
+    pub fn free_bytes(&self) -> u32
+        ensures { result ≡ free_in self.now }
+    {
+        free_at(&self.page.bytes) as u32
+    }
+}
