@@ -1,10 +1,7 @@
 // What a command is answered.
-ghost use Rattle.std.specs.Prelude.{◌≡◌, ◌==◌, List, [], ◌∷◌, ◌++◌, length, OnOk, OnErr};
-
+use nx_lists::List;
 use nx_pyx::PyxError;
-use nx_tree::{Bytes, NoMemory, Node};
-use std::alloc::Global;
-use std::marker::Model;
+use nx_tree::{Bytes, Node};
 
 /// Why a command is refused.
 #[derive(Clone, Copy, Debug, PartialEq, Eq)]
@@ -38,62 +35,8 @@ pub struct DocLine {
     pub nodes: u32,
 }
 
-/// A growing list of documents' names and sizes. It keeps its allocator, and only `push` takes
-/// memory.
-#[derive(Drop)]
-pub struct DocLines {
-    lines: Vec<DocLine>,
-}
-
-impl Model for DocLines {
-    ghost use Rattle.std.specs.Prelude.{List};
-    ghost use Rattle.nx_script.specs.declared.reply.DocLine.{DocLine};
-
-    ghost Value = { List DocLine };
-
-    ghost view = { λ a. a.lines.items };
-}
-
-impl DocLines {
-    /// No lines. It takes no memory.
-    pub fn new(alloc: Global) -> DocLines
-        ensures { result ≡ [] }
-    {
-        DocLines {
-            lines: Vec::new(alloc),
-        }
-    }
-
-    /// Adds one line at the end. Want of memory leaves the list as it was, and drops the line.
-    pub fn push(&mut self, item: DocLine) -> Result<(), NoMemory>
-        ensures ok { OnOk result (self.new ≡ self.old ++ item ∷ []) }
-        ensures err { OnErr result (self.new ≡ self.old) }
-    {
-        self.lines.push(item)?;
-        Ok(())
-    }
-
-    /// The number of lines.
-    pub fn len(&self) -> usize
-        ensures { result ≡ length self.now }
-    {
-        self.lines.as_slice().len()
-    }
-
-    /// Whether there is no line.
-    pub fn is_empty(&self) -> bool
-        ensures { result ≡ (length self.now == 0) }
-    {
-        self.lines.as_slice().is_empty()
-    }
-
-    /// The lines as a slice.
-    pub fn as_slice(&self) -> &[DocLine]
-        ensures { result.now ≡ self.now }
-    {
-        self.lines.as_slice()
-    }
-}
+/// A list of documents' names and sizes.
+pub type DocLines = List<DocLine>;
 
 /// The reply to a command.
 #[derive(Drop)]
