@@ -1,8 +1,9 @@
 // The words of a command line.
-ghost use Rattle.std.specs.Prelude.{◌≡◌, ◌≤◌, ◌==◌, true, false, List, ℕ, [], ◌∷◌, ◌++◌, length, IfOk, IfSome, MatchOption, OnOk, OnErr};
+ghost use Rattle.std.specs.Prelude.{◌≡◌, ◌≤◌, true, false, IfOk, IfSome, MatchOption};
 ghost use Rattle.nx_pyx.specs.Field.{value_of};
 ghost use Rattle.nx_front.specs.CommandLine.{is_store, is_weight_limit, command_of_two, command_of_three, command_line, IsLimited};
 
+use nx_lists::List;
 use nx_pyx::position;
 use nx_tree::NoMemory;
 use std::alloc::Global;
@@ -42,60 +43,8 @@ impl Word {
     }
 }
 
-/// A growing list of words. It keeps its allocator, and only `push` takes memory.
-#[derive(Drop)]
-pub struct Words {
-    words: Vec<Word>,
-}
-
-impl Model for Words {
-    ghost use Rattle.std.specs.Prelude.{List, ℕ};
-
-    ghost Value = { List (List ℕ) };
-
-    ghost view = { λ a. a.words.items };
-}
-
-impl Words {
-    /// No words. It takes no memory.
-    pub fn new(alloc: Global) -> Words
-        ensures { result ≡ [] }
-    {
-        Words {
-            words: Vec::new(alloc),
-        }
-    }
-
-    /// Adds one word at the end. Want of memory leaves the list as it was, and drops the word.
-    pub fn push(&mut self, item: Word) -> Result<(), NoMemory>
-        ensures ok { OnOk result (self.new ≡ self.old ++ item ∷ []) }
-        ensures err { OnErr result (self.new ≡ self.old) }
-    {
-        self.words.push(item)?;
-        Ok(())
-    }
-
-    /// The number of words.
-    pub fn len(&self) -> usize
-        ensures { result ≡ length self.now }
-    {
-        self.words.len()
-    }
-
-    /// Whether there is no word.
-    pub fn is_empty(&self) -> bool
-        ensures { result ≡ (length self.now == 0) }
-    {
-        self.words.is_empty()
-    }
-
-    /// The words as a slice.
-    pub fn as_slice(&self) -> &[Word]
-        ensures { result.now ≡ self.now }
-    {
-        self.words.as_slice()
-    }
-}
+/// A list of words.
+pub type Words = List<Word>;
 
 // A command line.
 #[derive(Clone, Copy)]
