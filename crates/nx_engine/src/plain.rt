@@ -9,6 +9,7 @@ ghost use Rattle.nx_engine.specs.Step.{answer, after, name_at, done_unless, word
 #[cfg(test)]
 mod tests;
 
+use nx_lists::LONGEST_NODE;
 use nx_pyx::{PyxError, PyxFault, write};
 use nx_script::{Command, DocLine, DocLines, LineBody, LoadBody, Reply, ReplyError, TextBody};
 use nx_tree::{
@@ -17,9 +18,6 @@ use nx_tree::{
 use std::alloc::Global;
 use std::collections::BTreeMap;
 use std::marker::Model;
-
-// As many bytes as a name and a content have at most together.
-const LONGEST_NODE: usize = 1_048_576;
 
 /// Documents by their names, kept as plain trees. Contracts see a finite map, in the order of the
 /// names' bytes.

@@ -11,13 +11,10 @@ ghost use Rattle.nx_pyx.specs.Builder.{HasTaken, Makes, Refuses, Pushes, HasNoRo
 use crate::line::{self, Line};
 use crate::names::Names;
 use crate::{PyxError, PyxFault, ReadError};
+use nx_lists::{DEEPEST, MOST_NODES};
 use nx_tree::{Bytes, Kind, Node, Tree, Trees};
 use std::alloc::Global;
 use std::mem;
-
-const DEEPEST: usize = 256;
-
-const MOST_NODES: u32 = 524_288;
 
 // An open element: its name, and the trees that stand before it under the same parent.
 #[derive(Drop)]

@@ -10,11 +10,9 @@ ghost use Rattle.nx_pyx.specs.Line.{event_in, is_backslash};
 
 use crate::PyxFault;
 use crate::scan::{self, Backslash};
+use nx_lists::LONGEST_NODE;
 use nx_tree::{Bytes, NoMemory};
 use std::alloc::Global;
-
-// As many bytes as a name and a content have at most together.
-const LONGEST_NODE: usize = 1_048_576;
 
 // A line that begins with one of the five codes. Contents are as they stand in the line.
 #[derive(Clone, Copy)]

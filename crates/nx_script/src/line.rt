@@ -7,6 +7,7 @@ ghost use Rattle.nx_script.specs.Commands.{begins_load, is_dot, loaded_name};
 
 use crate::field::is_document_name;
 use crate::{Command, LineBody, TextBody};
+use nx_lists::LONGEST_NODE;
 use nx_pyx::{
     PyxError, PyxFault, ReadError, line_node, path, split_field, unescaped, unescaped_len,
 };
@@ -15,9 +16,6 @@ use std::alloc::Global;
 
 // As many bytes as a line has at most that isn't part of a document.
 pub const LONGEST_LINE: usize = 4_194_304;
-
-// As many bytes as a node's content has at most.
-const LONGEST_CONTENT: usize = 1_048_576;
 
 // A place in a document.
 #[derive(Drop)]
@@ -193,7 +191,7 @@ fn text_body(alloc: Global, bytes: &[u8]) -> Result<TextBody, NoMemory>
     ensures { IfOk result (λ body. body ≡ text_body bytes.now) }
 {
     // Pairs only make a content shorter, so most are not counted.
-    if bytes.len() > LONGEST_CONTENT && unescaped_len(bytes) > LONGEST_CONTENT {
+    if bytes.len() > LONGEST_NODE && unescaped_len(bytes) > LONGEST_NODE {
         return Ok(TextBody::Wrong(PyxError {
             line: 1,
             fault: PyxFault::LongLine,

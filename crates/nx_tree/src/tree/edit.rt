@@ -14,11 +14,8 @@ use super::kinds::{is_attribute_at, is_element_at};
 use super::measure::count;
 use super::{Tree, Trees};
 use crate::{Bytes, Kind, Node, TreeError};
+use nx_lists::{DEEPEST, MOST_NODES};
 use std::alloc::Global;
-
-const DEEPEST: usize = 256;
-
-const MOST_NODES: u32 = 524_288;
 
 /// Puts the node, without children, at the path, before the sibling that stands there.
 ///
