@@ -7,7 +7,7 @@ use Rattle.std.specs.Result.{result_err}
 use Rattle.std.specs.BTreeMap.{BTreeMap, WritesThrough}
 use Rattle.std.specs.FinMap.{get, insert}
 use Rattle.std.proofs.lemmas.Result.{IfOk-weaker, MatchResult-at_err}
-use Rattle.nx_tree.specs.declared.memory.NoMemory.{NoMemory}
+use Rattle.nx_lists.specs.declared.memory.NoMemory.{NoMemory}
 use Rattle.nx_tree.specs.declared.error.TreeError.{TreeError}
 use Rattle.nx_tree.specs.declared.error.TreeError.TheVariants as tree_error
 use Rattle.nx_tree.specs.Forest.{OrderedTree}
