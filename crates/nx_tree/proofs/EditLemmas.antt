@@ -11,7 +11,7 @@ use Rattle.nx_tree.specs.Edit.{child, at, changed_at, removed_at, retext, cut_at
 use Rattle.nx_tree.proofs.PlaceLemmas.{child-forest_of, forest_of-set, forest_of-remove, nodes-removed_at, nodes-changed_at, nodes-changed_same}
 
 -- the tree is this node over these trees, and the path begins at position i
-pub record Stands (tree : OrderedTree) (path : List ℕ) (node : Node) (items : List OrderedTree) (i : ℕ) (rest : List ℕ) : Type 0 where
+pub record IsStep (tree : OrderedTree) (path : List ℕ) (node : Node) (items : List OrderedTree) (i : ℕ) (rest : List ℕ) : Type 0 where
   pub path_is : path ≡ i ∷ rest
   pub tree_is : tree ≡ record { node = node; below = forest_of items }
 
@@ -19,8 +19,8 @@ pub record Stands (tree : OrderedTree) (path : List ℕ) (node : Node) (items : 
 pub whole : (tree : OrderedTree) (node : Node) (below : Forest) (items : List OrderedTree) → record { node = node; below = below } ≡ tree → forest_of items ≡ below → tree ≡ record { node = node; below = forest_of items }
 whole tree node below items t b = sym t ∙ ap (λ f. record { node = node; below = f }) (sym b)
 
-pub stands : (tree : OrderedTree) (path : List ℕ) (node : Node) (below : Forest) (items : List OrderedTree) (i : ℕ) (rest : List ℕ) → path ≡ i ∷ rest → record { node = node; below = below } ≡ tree → forest_of items ≡ below → Stands tree path node items i rest
-stands tree path node below items i rest p t b = record { path_is = p; tree_is = whole tree node below items t b }
+pub is_step : (tree : OrderedTree) (path : List ℕ) (node : Node) (below : Forest) (items : List OrderedTree) (i : ℕ) (rest : List ℕ) → path ≡ i ∷ rest → record { node = node; below = below } ≡ tree → forest_of items ≡ below → IsStep tree path node items i rest
+is_step tree path node below items i rest p t b = record { path_is = p; tree_is = whole tree node below items t b }
 
 -- why nothing can be taken away where this stands
 abbrev missing : Option OrderedTree → Option TreeError
@@ -34,7 +34,7 @@ cut_at-deeper : (tree : OrderedTree) (i : ℕ) (rest : List ℕ) → false ≡ (
 cut_at-deeper tree i [] more = absurd (cc)
 cut_at-deeper tree i (p ∷ path) more = refl
 
-module _ (tree : OrderedTree) (path : List ℕ) (node : Node) (items : List OrderedTree) (i : ℕ) (rest : List ℕ) (s : Stands tree path node items i rest) where
+module _ (tree : OrderedTree) (path : List ℕ) (node : Node) (items : List OrderedTree) (i : ℕ) (rest : List ℕ) (s : IsStep tree path node items i rest) where
   pub child-at : (t : OrderedTree) → slice_get items i ≡ Some t → child tree.below i ≡ Some t
   child-at t g = ap (λ (x : OrderedTree). child x.below i) s.tree_is ∙ child-forest_of items i ∙ g
 

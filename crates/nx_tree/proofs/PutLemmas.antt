@@ -15,7 +15,7 @@ use Rattle.nx_tree.specs.Forest.{OrderedTree, Forest, Empty, Plant, forest_of, n
 use Rattle.nx_tree.specs.Document.{is_doc, is_element, is_attribute, is_instruction, attribute_names, AttributesComeFirst, MayHave, HasParts, IsNode, IsForest, IsTop, HasNoAttribute, depth, IsDocument, deepest, most_nodes}
 use Rattle.nx_tree.specs.Edit.{child, at, changed_at, put, has_children, parent_path, last_position, is_misplaced, is_repeated, place_refusal, limit_refusal, put_refusal, insert_refusal, refusal_in}
 use Rattle.nx_tree.proofs.PlaceLemmas.{nodes-planted_at, nodes-child}
-use Rattle.nx_tree.proofs.EditLemmas.{Stands, child-at, child-missing, changes, nodes-changes}
+use Rattle.nx_tree.proofs.EditLemmas.{IsStep, child-at, child-missing, changes, nodes-changes}
 use Rattle.nx_tree.proofs.OrderLemmas.{SameFace, none_first}
 use Rattle.nx_tree.proofs.SoundLemmas.{IsTree, child_tree, has_ordered, has_changed, has_planted, forest_changed, forest_planted, depth_child, depth_changed, depth_planted, top_planted, elements_planted, nodes_changed_more}
 use Rattle.nx_tree.proofs.KeptLemmas.{document_changed, Fits, fits}
@@ -204,7 +204,7 @@ pub last_refuses : (limit : Option TreeError) (node : Node) (i : ℕ) (path rest
 last_refuses limit node i path [] tree e last = rw e refl
 last_refuses limit node i path (p ∷ rest) tree e last = absurd (let z : suc (length rest) ≡ 0 = (Decides-eqb (suc (length rest)) 0).0 (sym last) in omega arith)
 
-module _ (tree : OrderedTree) (path : List ℕ) (parent : Node) (items : List OrderedTree) (i : ℕ) (rest : List ℕ) (s : Stands tree path parent items i rest) (more : false ≡ (length rest == 0)) where
+module _ (tree : OrderedTree) (path : List ℕ) (parent : Node) (items : List OrderedTree) (i : ℕ) (rest : List ℕ) (s : IsStep tree path parent items i rest) (more : false ≡ (length rest == 0)) where
   pub puts : (t new : OrderedTree) (node : Node) → slice_get items i ≡ Some t → new ≡ put node rest t → record { node = parent; below = forest_of (slice_set items i new) } ≡ put node path tree
   puts t new node g n = changes tree path parent items i rest s t new (put node rest) g n ∙ put-deeper node tree i rest more ∙ ap (λ p. put node p tree) (sym s.path_is)
 
@@ -217,7 +217,7 @@ module _ (tree : OrderedTree) (path : List ℕ) (parent : Node) (items : List Or
       more_misses limit node i rest tree more (child-missing tree path parent items i rest s g) ∙ ap (λ p. put_refusal limit node p tree) (sym s.path_is)
 
 -- a child of a forest of a document is a tree of one, with fewer nodes
-pub sound_child : (tree : OrderedTree) (path : List ℕ) (parent : Node) (items : List OrderedTree) (i : ℕ) (rest : List ℕ) (t : OrderedTree) → Stands tree path parent items i rest → slice_get items i ≡ Some t → IsForest tree.below → nodes tree.below < most_nodes
+pub sound_child : (tree : OrderedTree) (path : List ℕ) (parent : Node) (items : List OrderedTree) (i : ℕ) (rest : List ℕ) (t : OrderedTree) → IsStep tree path parent items i rest → slice_get items i ≡ Some t → IsForest tree.below → nodes tree.below < most_nodes
     → AttributesComeFirst t.below × IsForest t.below × (nodes t.below < most_nodes)
 sound_child tree path parent items i rest t s g sound few =
     let e = child-at tree path parent items i rest s t g in
