@@ -11,14 +11,14 @@ use Rattle.nx_tree.specs.declared.node.Node.{Node}
 use Rattle.nx_tree.specs.Forest.{OrderedTree, Forest, Empty, Plant, forest_of}
 use Rattle.nx_tree.specs.Edit.{child, at}
 use Rattle.nx_weights.specs.Weight.{weight, listed_in, listed_from, is_heavy, first_heavy, weighed, AreAtMost, IsAtMost, IsHeavyAt}
-use Rattle.nx_weights.specs.Search.{IsFound}
+use Rattle.nx_weights.specs.Search.{HasSearched}
 
 -- the path is what it was, and what is found in the trees from a position on is found in the tree
 pub record Passed (k i : ℕ) (now old : List ℕ) (ts : List OrderedTree) (tree : OrderedTree) : Type 0 where
   pub path : now ≡ old
   pub left : find (is_heavy k) (listed_in old i (forest_of (drop i ts))) ≡ find (is_heavy k) (listed_from old tree)
 
-pub found_root : (k w : ℕ) (path : List ℕ) (tree : OrderedTree) → w ≡ weight tree.node → k < w → IsFound k tree path path (Some w)
+pub found_root : (k w : ℕ) (path : List ℕ) (tree : OrderedTree) → w ≡ weight tree.node → k < w → HasSearched k tree path path (Some w)
 found_root k w path tree is more =
     let heavy : k < weight tree.node = omega arith in
     let passes : nat_lt k (weight tree.node) ≡ true = lt-ltb k (weight tree.node) heavy in
@@ -35,9 +35,9 @@ passed_start k w path ts tree is light e =
           ∙ sym (ap (λ (b : Bool). cond b (Some (path, tree.node)) (find (is_heavy k) (listed_in path 0 tree.below))) fails);
     }
 
-mapped_front : (a b : Option (List ℕ × Node)) (w : List ℕ × ℕ) → option_map weighed a ≡ Some w → option_map weighed (option_or a b) ≡ Some w
-mapped_front None b w e = absurd (cc)
-mapped_front (Some x) b w e = e
+mapped_prefix : (a b : Option (List ℕ × Node)) (w : List ℕ × ℕ) → option_map weighed a ≡ Some w → option_map weighed (option_or a b) ≡ Some w
+mapped_prefix None b w e = absurd (cc)
+mapped_prefix (Some x) b w e = e
 
 -- what is left is the next tree's nodes and then the others'
 left_parts : (k i : ℕ) (path old : List ℕ) (ts : List OrderedTree) (tree t : OrderedTree) → Passed k i path old ts tree → drop i ts ≡ t ∷ drop (i + 1) ts
@@ -51,29 +51,29 @@ left_parts k i path old ts tree t h e =
 there : (k i : ℕ) (path old to : List ℕ) (ts : List OrderedTree) (tree : OrderedTree) → Passed k i path old ts tree → to ≡ path ++ i ∷ [] → to ≡ old ++ i ∷ []
 there k i path old to ts tree h e = e ∙ ap (λ (r : List ℕ). r ++ i ∷ []) h.path
 
-pub found_below : (k i : ℕ) (path old to now : List ℕ) (ts : List OrderedTree) (tree t : OrderedTree) (found : Option ℕ) → Passed k i path old ts tree → drop i ts ≡ t ∷ drop (i + 1) ts → to ≡ path ++ i ∷ [] → is_some found ≡ true → IsFound k t to now found → IsFound k tree old now found
+pub found_below : (k i : ℕ) (path old to now : List ℕ) (ts : List OrderedTree) (tree t : OrderedTree) (found : Option ℕ) → Passed k i path old ts tree → drop i ts ≡ t ∷ drop (i + 1) ts → to ≡ path ++ i ∷ [] → is_some found ≡ true → HasSearched k t to now found → HasSearched k tree old now found
 found_below k i path old to now ts tree t None h e p is f = absurd (cc)
 found_below k i path old to now ts tree t (Some w) h e p is f =
     ap (option_map weighed) (sym (left_parts k i path old ts tree t h e))
-    ∙ mapped_front _ _ (now, w) (ap (λ (r : List ℕ). option_map weighed (find (is_heavy k) (listed_from r t))) (sym (there k i path old to ts tree h p)) ∙ f)
+    ∙ mapped_prefix _ _ (now, w) (ap (λ (r : List ℕ). option_map weighed (find (is_heavy k) (listed_from r t))) (sym (there k i path old to ts tree h p)) ∙ f)
 
-front_again : (old to : List ℕ) (i n : ℕ) → to ≡ old ++ i ∷ [] → n ≡ length to → take (n - 1) to ≡ old
-front_again old to i n e is =
+prefix_again : (old to : List ℕ) (i n : ℕ) → to ≡ old ++ i ∷ [] → n ≡ length to → take (n - 1) to ≡ old
+prefix_again old to i n e is =
     let m : n - 1 ≡ length old = let l = ap length e in omega (arith, length-append old (i ∷ [])) in
     ap (λ (j : ℕ). take j to) m ∙ ap (take (length old)) e ∙ take-append_seam old (i ∷ [])
 
-pub passed_more : (k i n : ℕ) (path old to now after : List ℕ) (ts : List OrderedTree) (tree t : OrderedTree) (found : Option ℕ) → Passed k i path old ts tree → drop i ts ≡ t ∷ drop (i + 1) ts → to ≡ path ++ i ∷ [] → is_some found ≡ false → IsFound k t to now found → after ≡ take (n - 1) now → n ≡ length now → Passed k (i + 1) after old ts tree
+pub passed_more : (k i n : ℕ) (path old to now after : List ℕ) (ts : List OrderedTree) (tree t : OrderedTree) (found : Option ℕ) → Passed k i path old ts tree → drop i ts ≡ t ∷ drop (i + 1) ts → to ≡ path ++ i ∷ [] → is_some found ≡ false → HasSearched k t to now found → after ≡ take (n - 1) now → n ≡ length now → Passed k (i + 1) after old ts tree
 passed_more k i n path old to now after ts tree t (Some w) h e p is f back len = absurd (cc)
 passed_more k i n path old to now after ts tree t None h e p is f back len =
     let old_to = there k i path old to ts tree h p in
     record {
-      path = back ∙ front_again old now i n (f.1 ∙ old_to) len;
+      path = back ∙ prefix_again old now i n (f.1 ∙ old_to) len;
       left = sym (ap (λ (o : Option (List ℕ × Node)). option_or o (find (is_heavy k) (listed_in old (i + 1) (forest_of (drop (i + 1) ts)))))
           (ap (λ (r : List ℕ). find (is_heavy k) (listed_from r t)) (sym old_to) ∙ f.0))
           ∙ left_parts k i path old ts tree t h e;
     }
 
-pub passed_all : (k i : ℕ) (path old : List ℕ) (ts : List OrderedTree) (tree : OrderedTree) → Passed k i path old ts tree → drop i ts ≡ [] → IsFound k tree old path None
+pub passed_all : (k i : ℕ) (path old : List ℕ) (ts : List OrderedTree) (tree : OrderedTree) → Passed k i path old ts tree → drop i ts ≡ [] → HasSearched k tree old path None
 passed_all k i path old ts tree h e = (sym h.left ∙ ap (λ (xs : List OrderedTree). find (is_heavy k) (listed_in old i (forest_of xs))) e, h.path)
 
 -- where a found node stands:
@@ -179,10 +179,10 @@ none_heavy k tree e =
 
 -- the same of a search that began at the empty path
 
-pub none_found : (k : ℕ) (tree : OrderedTree) (start now : List ℕ) → start ≡ [] → IsFound k tree start now None → IsAtMost k tree
+pub none_found : (k : ℕ) (tree : OrderedTree) (start now : List ℕ) → start ≡ [] → HasSearched k tree start now None → IsAtMost k tree
 none_found k tree start now e f = none_heavy k tree (ap (λ (r : List ℕ). find (is_heavy k) (listed_from r tree)) (sym e) ∙ f.0)
 
-pub some_found : (k : ℕ) (tree : OrderedTree) (start now path : List ℕ) (slots : ℕ) → start ≡ [] → path ≡ now → IsFound k tree start now (Some slots) → IsHeavyAt k tree path slots
+pub some_found : (k : ℕ) (tree : OrderedTree) (start now path : List ℕ) (slots : ℕ) → start ≡ [] → path ≡ now → HasSearched k tree start now (Some slots) → IsHeavyAt k tree path slots
 some_found k tree start now path slots e p f =
     heavy_at k tree path slots (
     ap (λ (r : List ℕ). option_map weighed (find (is_heavy k) (listed_from r tree))) (sym e)

@@ -6,6 +6,6 @@ use Rattle.nx_tree.specs.Forest.{OrderedTree}
 use Rattle.nx_weights.specs.Weight.{listed_from, is_heavy, weighed}
 
 -- the path led to the tree before, and leads to its first node that weighs more than k now, whose weight was found; where there is none, the path is what it was
-abbrev pub IsFound : ℕ → OrderedTree → List ℕ → List ℕ → Option ℕ → Type 0
-IsFound k tree before now None = (find (is_heavy k) (listed_from before tree) ≡ None) × (now ≡ before)
-IsFound k tree before now (Some slots) = option_map weighed (find (is_heavy k) (listed_from before tree)) ≡ Some (now, slots)
+abbrev pub HasSearched : ℕ → OrderedTree → List ℕ → List ℕ → Option ℕ → Type 0
+HasSearched k tree before now None = (find (is_heavy k) (listed_from before tree) ≡ None) × (now ≡ before)
+HasSearched k tree before now (Some slots) = option_map weighed (find (is_heavy k) (listed_from before tree)) ≡ Some (now, slots)

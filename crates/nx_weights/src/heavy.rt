@@ -2,7 +2,7 @@
 ghost use Rattle.std.specs.Prelude.{◌≡◌, IfOk, MatchOption};
 ghost use Rattle.std.specs.Option.{option_map};
 ghost use Rattle.nx_weights.specs.Weight.{first_heavy, weighed, IsAtMost, IsHeavyAt, IsWithinLimits};
-ghost use Rattle.nx_weights.specs.Search.{IsFound};
+ghost use Rattle.nx_weights.specs.Search.{HasSearched};
 
 use crate::weight;
 use nx_tree::{NoMemory, Path, Tree};
@@ -40,7 +40,7 @@ pub fn first_heavy(alloc: Global, tree: &Tree, k: u32) -> Result<Option<HeavyNod
 // of the node; where there is none, it is as it was.
 fn find_heavy(tree: &Tree, k: u32, path: &mut Vec<u32>) -> Result<Option<u32>, NoMemory>
     requires { IsWithinLimits tree.now }
-    ensures { IfOk result (λ found. IsFound k tree.now path.old.items path.new.items found) }
+    ensures { IfOk result (λ found. HasSearched k tree.now path.old.items path.new.items found) }
 {
     let own = weight(&tree.node);
     if own > k {
