@@ -17,7 +17,7 @@ use Rattle.nx_pyx.specs.declared.builder.Level.{Level}
 use Rattle.nx_pyx.specs.declared.builder.Builder.{Builder}
 use Rattle.nx_pyx.specs.Event.{Event, Start, End, Single, events, event_of}
 use Rattle.nx_pyx.specs.Fault.{Standing, after, attributes_after, standing, events_of, line_fault, first_fault, fault_at, refusal, is_outside, is_innermost, end_fault, fault_at_end}
-use Rattle.nx_pyx.specs.Builder.{level_events, open_names_over, IsBuilt, AreLevels, standing_at, standing_of, IsMade, Knows, HasTaken, Makes, Refuses, Fails}
+use Rattle.nx_pyx.specs.Builder.{level_events, open_names_over, IsBuilt, AreLevels, standing_at, standing_of, IsMade, Knows, HasBuilt, Makes, Refuses, Fails}
 use Rattle.nx_pyx.proofs.Running.{sound_goes}
 use Rattle.nx_pyx.proofs.Said.{events_single, document_from_goes}
 use Rattle.nx_pyx.proofs.Built.{forest_from_goes}
@@ -43,9 +43,9 @@ pub AreLevels-more : (levels : List Level) (l : Level) → AreLevels levels → 
 AreLevels-more [] l h name short built = (name, short, built, tt)
 AreLevels-more (x ∷ levels) l h name short built = (h.0, h.1, h.2, AreLevels-more levels l h.3 name short built)
 
-pub AreLevels-front : (levels : List Level) (l : Level) → AreLevels (levels ++ l ∷ []) → AreLevels levels × IsTrue (is_name l.name) × (length l.name ≤ longest_node) × IsBuilt l.before
-AreLevels-front [] l h = (tt, h.0, h.1, h.2)
-AreLevels-front (x ∷ levels) l h = let r = AreLevels-front levels l h.3 in ((h.0, h.1, h.2, r.0), r.1, r.2, r.3)
+pub AreLevels-prefix : (levels : List Level) (l : Level) → AreLevels (levels ++ l ∷ []) → AreLevels levels × IsTrue (is_name l.name) × (length l.name ≤ longest_node) × IsBuilt l.before
+AreLevels-prefix [] l h = (tt, h.0, h.1, h.2)
+AreLevels-prefix (x ∷ levels) l h = let r = AreLevels-prefix levels l h.3 in ((h.0, h.1, h.2, r.0), r.1, r.2, r.3)
 
 -- an element starts
 pub made_start : (levels : List Level) (children : Forest) (rooted : Bool) (nodes : ℕ) (attributes : Option (List (List ℕ))) (es : List Event) (name : List ℕ) →
@@ -90,7 +90,7 @@ pub made_end : (levels : List Level) (level : Level) (children : Forest) (rooted
     IsMade levels (planted level.before (record { node = record { kind = Element; name = level.name; content = content }; below = children })) rooted nodes None (es ++ End level.name ∷ [])
 made_end levels level children rooted nodes attributes es content made bare =
     let tree : OrderedTree = record { node = record { kind = Element; name = level.name; content = content }; below = children } in
-    let parts = AreLevels-front levels level made.levels_formed in
+    let parts = AreLevels-prefix levels level made.levels_formed in
     record {
       says = ap (λ r. r ++ End level.name ∷ []) (made.says ∙ ap (λ r. r ++ events children) (level_events-more levels level))
           ∙ regrouped (level_events levels) (events level.before) (events children) (Start level.name) (End level.name)
@@ -122,10 +122,10 @@ is_innermost-more levels level name = ap (is_innermost name) (open_names_over-mo
 
 -- the builder takes one line more
 pub taken_more : (old new : Builder) (ls : List (List ℕ)) (line : List ℕ) (e : Event) (n : ℕ) →
-    HasTaken old ls → event_of line ≡ Some e → ((attributes : Option (List (List ℕ))) → Knows old attributes → refusal (standing_of old attributes) e ≡ None) →
+    HasBuilt old ls → event_of line ≡ Some e → ((attributes : Option (List (List ℕ))) → Knows old attributes → refusal (standing_of old attributes) e ≡ None) →
     ((es : List Event) (attributes : Option (List (List ℕ))) → Knows old attributes → IsMade old.levels.items old.children old.rooted old.nodes attributes es →
     (next : Option (List (List ℕ))) × Knows new next × IsMade new.levels.items new.children new.rooted new.nodes next (es ++ e ∷ [])) →
-    new.lines ≡ length ls + 1 → HasTaken new (ls ++ line ∷ [])
+    new.lines ≡ length ls + 1 → HasBuilt new (ls ++ line ∷ [])
 taken_more old new ls line e n taken says fine makes counted =
     let fault : line_fault ls line ≡ None =
     ap (λ o. option_map_or (refusal (standing (events_of ls))) o (Some BadCode)) says ∙ ap (λ s. refusal s e) taken.made.stands ∙ fine taken.attributes taken.known in
@@ -142,7 +142,7 @@ taken_more old new ls line e n taken says fine makes counted =
     }
 
 -- the fault of a line that says an event
-pub fault_next : (builder : Builder) (ls : List (List ℕ)) (line : List ℕ) (e : Event) (taken : HasTaken builder ls) → event_of line ≡ Some e →
+pub fault_next : (builder : Builder) (ls : List (List ℕ)) (line : List ℕ) (e : Event) (taken : HasBuilt builder ls) → event_of line ≡ Some e →
     first_fault ls (line ∷ []) ≡ option_map (fault_at (length ls + 1)) (refusal (standing_of builder taken.attributes) e)
 fault_next builder ls line e taken says =
     first_fault-one ls line
@@ -150,7 +150,7 @@ fault_next builder ls line e taken says =
     (ap (λ o. option_map_or (refusal (standing (events_of ls))) o (Some BadCode)) says ∙ ap (λ s. refusal s e) taken.made.stands)
 
 -- how many lines a builder may have taken
-pub few_lines : (builder : Builder) (ls : List (List ℕ)) → HasTaken builder ls → length ls < 2 ^ 21
+pub few_lines : (builder : Builder) (ls : List (List ℕ)) → HasBuilt builder ls → length ls < 2 ^ 21
 few_lines builder ls taken =
     let few : length (events_of ls) + length builder.levels.items + 2 ≤ 2 * builder.nodes = taken.made.few in
     let within : builder.nodes ≤ most_nodes = taken.made.within in
@@ -162,7 +162,7 @@ none_there [] h = refl
 none_there (level ∷ levels) h = absurd (let e : length (level ∷ levels) ≡ 0 = eqb-true (length (level ∷ levels)) 0 h in omega arith)
 
 -- the end of the lines, with no element open
-pub finished : (builder : Builder) (ls : List (List ℕ)) (tree : OrderedTree) → HasTaken builder ls →
+pub finished : (builder : Builder) (ls : List (List ℕ)) (tree : OrderedTree) → HasBuilt builder ls →
     (length builder.levels.items == 0) ≡ true → builder.rooted ≡ true →
     tree.node.kind ≡ Doc → tree.node.name ≡ [] → tree.node.content ≡ [] → tree.below ≡ builder.children →
     IsDocument tree × (map event_of ls ≡ map (λ e. Some e) (events tree.below))
@@ -180,7 +180,7 @@ finished builder ls tree taken outside rooted kind name content below =
     )
 
 -- the fault of the end within an element
-pub unclosed : (builder : Builder) (ls : List (List ℕ)) (taken : HasTaken builder ls) → (length builder.levels.items == 0) ≡ false → end_fault (standing (events_of ls)) ≡ Some Unclosed
+pub unclosed : (builder : Builder) (ls : List (List ℕ)) (taken : HasBuilt builder ls) → (length builder.levels.items == 0) ≡ false → end_fault (standing (events_of ls)) ≡ Some Unclosed
 unclosed builder ls taken inside =
     ap end_fault taken.made.stands
     ∙ ap (λ t. if t then (if builder.rooted then None else Some fault.Empty) else Some Unclosed) (is_outside-standing_at builder.levels.items builder.rooted builder.nodes taken.attributes ∙ inside)
@@ -192,7 +192,7 @@ with_lines builder n =
 
 -- a line that says an event which the builder makes
 pub takes_event : (builder new : Builder) (line : List ℕ) (e : Event) (n : ℕ) → event_of line ≡ Some e → n ≡ min (builder.lines + 1) (2 ^ 64 - 1) →
-    Makes (with_lines builder n) new e → (ls : List (List ℕ)) → HasTaken builder ls → HasTaken new (ls ++ line ∷ [])
+    Makes (with_lines builder n) new e → (ls : List (List ℕ)) → HasBuilt builder ls → HasBuilt new (ls ++ line ∷ [])
 takes_event builder new line e n says counted makes ls taken =
     taken_more builder new ls line e n taken says (λ a k. makes.fine a (record { may_come = k.may_come; holds = k.holds })) (λ es a k m. makes.made es a (record { may_come = k.may_come; holds = k.holds }) m)
     (let few : length ls < 2 ^ 21 = few_lines builder ls taken in
@@ -203,7 +203,7 @@ takes_event builder new line e n says counted makes ls taken =
 -- a line that says an event which is refused
 pub refuses_event : (builder : Builder) (line : List ℕ) (e : Event) (n : ℕ) (error : ReadError) → event_of line ≡ Some e → n ≡ min (builder.lines + 1) (2 ^ 64 - 1) →
     Refuses (with_lines builder n) n e error →
-    (ls : List (List ℕ)) → HasTaken builder ls → Fails error (first_fault ls (line ∷ []))
+    (ls : List (List ℕ)) → HasBuilt builder ls → Fails error (first_fault ls (line ∷ []))
 refuses_event builder line e n error says counted fails ls taken =
     let few : length ls < 2 ^ 21 = few_lines builder ls taken in
     let is : builder.lines ≡ length ls = taken.counted in
@@ -213,13 +213,13 @@ refuses_event builder line e n error says counted fails ls taken =
 
 -- the code says the fault of the end within an element
 pub fails_unclosed : (builder : Builder) (error : ReadError) → error ≡ Pyx (fault_at builder.lines Unclosed) → (length builder.levels.items == 0) ≡ false →
-    (ls : List (List ℕ)) → HasTaken builder ls → Fails error (fault_at_end ls)
+    (ls : List (List ℕ)) → HasBuilt builder ls → Fails error (fault_at_end ls)
 fails_unclosed builder error is inside ls taken =
     subst (λ (e : ReadError). Fails e (fault_at_end ls)) (sym is)
     (ap (option_map (fault_at (length ls))) (unclosed builder ls taken inside) ∙ ap (λ (n : ℕ). Some (fault_at n Unclosed)) (sym taken.counted))
 
 -- the number of the line that comes next
-pub next_line : (builder : Builder) (ls : List (List ℕ)) (n : ℕ) → HasTaken builder ls → n ≡ min (builder.lines + 1) (2 ^ 64 - 1) → n ≡ length ls + 1
+pub next_line : (builder : Builder) (ls : List (List ℕ)) (n : ℕ) → HasBuilt builder ls → n ≡ min (builder.lines + 1) (2 ^ 64 - 1) → n ≡ length ls + 1
 next_line builder ls n taken is =
     let few : length ls < 2 ^ 21 = few_lines builder ls taken in
     let counted : builder.lines ≡ length ls = taken.counted in

@@ -18,9 +18,9 @@ events-nonempty false start single es fs h = line-nonempty single fs h
 ends-nonempty : (before after name : List ℕ) → before ++ (end_line name ++ after) ≡ [] → ⊥
 ends-nonempty before after name h = omega (arith, length-append before (end_line name ++ after), ap length h)
 
-front_nil : (xs ys : List ℕ) → xs ++ ys ≡ [] → xs ≡ []
-front_nil [] ys h = refl
-front_nil (x ∷ xs) ys h = cc
+prefix_nil : (xs ys : List ℕ) → xs ++ ys ≡ [] → xs ≡ []
+prefix_nil [] ys h = refl
+prefix_nil (x ∷ xs) ys h = cc
 
 rest_nil : (xs ys : List ℕ) → xs ++ ys ≡ [] → ys ≡ []
 rest_nil [] ys h = h
@@ -35,4 +35,4 @@ elements_nil [] h = refl
 elements_nil (element ∷ elements) h = absurd (ends-nonempty (text_after elements) _ element.name.now h)
 
 pub left_nil : (rest : List OrderedTree) (elements : List OpenElement) → forest_text (forest_of rest) ++ text_after elements ≡ [] → (rest ≡ []) × (elements ≡ [])
-left_nil rest elements h = (trees_nil rest (front_nil _ _ h), elements_nil elements (rest_nil _ _ h))
+left_nil rest elements h = (trees_nil rest (prefix_nil _ _ h), elements_nil elements (rest_nil _ _ h))

@@ -42,8 +42,8 @@ pub grows : (n : ℕ) (digits : List ℕ) → n ≤ fold more n digits
 grows n [] = omega arith
 grows n (digit ∷ digits) = let h : more n digit ≤ fold more (more n digit) digits = grows (more n digit) digits in omega arith
 
-front_least : (digits : List ℕ) (i : ℕ) → value_of (take i digits) ≤ value_of digits
-front_least digits i =
+prefix_least : (digits : List ℕ) (i : ℕ) → value_of (take i digits) ≤ value_of digits
+prefix_least digits i =
     let whole : value_of digits ≡ fold more (value_of (take i digits)) (drop i digits) =
     ap value_of (sym (take-append-drop i digits)) ∙ fold-append more 0 (take i digits) (drop i digits) in
     let least = grows (value_of (take i digits)) (drop i digits) in
@@ -63,8 +63,8 @@ pub is_number-stopped : (digits : List ℕ) (i n digit d : ℕ) → IsRead digit
     (is_digit digit && nat_le (more n digit) greatest_position) ≡ false → is_number digits ≡ false
 is_number-stopped digits i n digit d r lt at h =
     let P : Bool → Type 0 = λ t. is_digit digit ≡ t → (t && nat_le (more n digit) greatest_position) ≡ false → is_number digits ≡ false in
-    let front : value_of (take (i + 1) digits) ≡ more n digit = fold_more more 0 digits i d lt ∙ ap (λ v. more v (get_or digits i d)) (sym r.value) ∙ ap (more n) (sym at) in
-    let least = front_least digits (i + 1) in
+    let prefix : value_of (take (i + 1) digits) ≡ more n digit = fold_more more 0 digits i d lt ∙ ap (λ v. more v (get_or digits i d)) (sym r.value) ∙ ap (more n) (sym at) in
+    let least = prefix_least digits (i + 1) in
     let cases : (t : Bool) → P t = λ t. elim t as P [
       | true ↦ λ is is_great. too_much digits (more n digit) (omega arith) is_great
       | false ↦ λ is _. and_left _ _ (list_all_at is_digit digits i d lt (ap is_digit (sym at) ∙ is))

@@ -20,7 +20,7 @@ pub mod Outcome
 pub mod Open
 pub mod DoneLemmas
 pub mod EscapeLemmas
-pub mod FrontLemmas
+pub mod PrefixLemmas
 pub mod WriterLemmas
 pub mod FieldLemmas
 pub mod PathLemmas

@@ -46,20 +46,20 @@ open_stands (name ∷ names) es are =
     ∙ trees_leave are.2 (after (standing are.0) (Start name))
     ∙ ap (λ (ns : List (List ℕ)). name ∷ ns) (open_stands names are.0 are.1)
 
-behind_start : (front before inner : List Event) (name : List ℕ) → (front ++ (before ++ Start name ∷ [])) ++ inner ≡ (front ++ before) ++ Start name ∷ inner
-behind_start front before inner name = simp append_assoc
+behind_start : (prefix before inner : List Event) (name : List ℕ) → (prefix ++ (before ++ Start name ∷ [])) ++ inner ≡ (prefix ++ before) ++ Start name ∷ inner
+behind_start prefix before inner name = simp append_assoc
 
-behind_level : (front before levels inner : List Event) (name : List ℕ) → (front ++ (before ++ Start name ∷ [])) ++ (levels ++ inner) ≡ front ++ ((before ++ Start name ∷ levels) ++ inner)
-behind_level front before levels inner name = simp append_assoc
+behind_level : (prefix before levels inner : List Event) (name : List ℕ) → (prefix ++ (before ++ Start name ∷ [])) ++ (levels ++ inner) ≡ prefix ++ ((before ++ Start name ∷ levels) ++ inner)
+behind_level prefix before levels inner name = simp append_assoc
 
 -- levels are open within what is open in front of them
-levels_open : (levels : List Level) (names : List (List ℕ)) (front : List Event) (children : Forest) → ((trees : Forest) → OpenAre names (front ++ events trees))
-    → OpenAre (open_names_over levels names) (front ++ (level_events levels ++ events children))
-levels_open [] names front children are = are children
-levels_open (level ∷ levels) names front children are =
-    subst (OpenAre (open_names_over levels (level.name ∷ names))) (behind_level front (events level.before) (level_events levels) (events children) level.name)
-    (levels_open levels (level.name ∷ names) (front ++ (events level.before ++ Start level.name ∷ [])) children
-    (λ trees. (front ++ events level.before, are level.before, trees, behind_start front (events level.before) (events trees) level.name)))
+levels_open : (levels : List Level) (names : List (List ℕ)) (prefix : List Event) (children : Forest) → ((trees : Forest) → OpenAre names (prefix ++ events trees))
+    → OpenAre (open_names_over levels names) (prefix ++ (level_events levels ++ events children))
+levels_open [] names prefix children are = are children
+levels_open (level ∷ levels) names prefix children are =
+    subst (OpenAre (open_names_over levels (level.name ∷ names))) (behind_level prefix (events level.before) (level_events levels) (events children) level.name)
+    (levels_open levels (level.name ∷ names) (prefix ++ (events level.before ++ Start level.name ∷ [])) children
+    (λ trees. (prefix ++ events level.before, are level.before, trees, behind_start prefix (events level.before) (events trees) level.name)))
 
 -- what stands open after lines without a fault is open
 stands_open : (ls : List (List ℕ)) → first_fault [] ls ≡ None → OpenAre (standing (events_of ls)).open_names (events_of ls)
@@ -165,14 +165,14 @@ ends_more es (Single node) ends names is =
     both false c h k = absurd (cc)
 
 -- what stands after events that come behind others
-stands_ends_from : (front es : List Event) → ((names : List (List ℕ)) → (standing front).attributes ≡ Some names → EndWithAttributes front names)
-    → (names : List (List ℕ)) → (fold after (standing front) es).attributes ≡ Some names → EndWithAttributes (front ++ es) names
-stands_ends_from front [] ends names is = subst (λ (es : List Event). EndWithAttributes es names) (sym (append-nil front)) (ends names is)
-stands_ends_from front (e ∷ es) ends names is =
-    let more : standing (front ++ e ∷ []) ≡ after (standing front) e = standing-more front e in
-    subst (λ (xs : List Event). EndWithAttributes xs names) (append_assoc front (e ∷ []) es)
-    (stands_ends_from (front ++ e ∷ []) es
-    (λ ns at. ends_more front e ends ns (sym (ap (λ (s : Standing). s.attributes) more) ∙ at))
+stands_ends_from : (prefix es : List Event) → ((names : List (List ℕ)) → (standing prefix).attributes ≡ Some names → EndWithAttributes prefix names)
+    → (names : List (List ℕ)) → (fold after (standing prefix) es).attributes ≡ Some names → EndWithAttributes (prefix ++ es) names
+stands_ends_from prefix [] ends names is = subst (λ (es : List Event). EndWithAttributes es names) (sym (append-nil prefix)) (ends names is)
+stands_ends_from prefix (e ∷ es) ends names is =
+    let more : standing (prefix ++ e ∷ []) ≡ after (standing prefix) e = standing-more prefix e in
+    subst (λ (xs : List Event). EndWithAttributes xs names) (append_assoc prefix (e ∷ []) es)
+    (stands_ends_from (prefix ++ e ∷ []) es
+    (λ ns at. ends_more prefix e ends ns (sym (ap (λ (s : Standing). s.attributes) more) ∙ at))
     names (ap (λ (s : Standing). (fold after s es).attributes) more ∙ is))
 
 -- where the next attribute may come, the names are those of the attributes behind the last start

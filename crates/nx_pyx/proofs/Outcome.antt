@@ -97,12 +97,12 @@ said_parts Text name content said named = said
 said_parts Instruction name content said named = not-false (is_name name) named
 
 -- no level, or a last one
-last_level : (levels : List Level) → (levels ≡ []) ⊎ ((front : List Level) × (level : Level) × (levels ≡ front ++ level ∷ []))
+last_level : (levels : List Level) → (levels ≡ []) ⊎ ((prefix : List Level) × (level : Level) × (levels ≡ prefix ++ level ∷ []))
 last_level [] = inl refl
 last_level (first ∷ levels) =
     ⊎_elim
     (λ (none : levels ≡ []). inr ([], first, ap (λ (ls : List Level). first ∷ ls) none))
-    (λ (some : (front : List Level) × (level : Level) × (levels ≡ front ++ level ∷ [])). inr (first ∷ some.0, some.1, ap (λ (ls : List Level). first ∷ ls) some.2))
+    (λ (some : (prefix : List Level) × (level : Level) × (levels ≡ prefix ++ level ∷ [])). inr (first ∷ some.0, some.1, ap (λ (ls : List Level). first ∷ ls) some.2))
     (last_level levels)
 
 -- an end, by the level that is open innermost
@@ -113,7 +113,7 @@ form_end levels children rooted nodes attributes es name made passes =
     (λ (none : levels ≡ []).
     absurd (let p : Passes (standing_at [] rooted nodes attributes) (End name) = subst (λ (ls : List Level). Passes (standing_at ls rooted nodes attributes) (End name)) none passes in
     let no : true ≡ false = p.placed in cc))
-    (λ (some : (front : List Level) × (level : Level) × (levels ≡ front ++ level ∷ [])).
+    (λ (some : (prefix : List Level) × (level : Level) × (levels ≡ prefix ++ level ∷ [])).
     let p : Passes (standing_at (some.0 ++ some.1 ∷ []) rooted nodes attributes) (End name) =
     subst (λ (ls : List Level). Passes (standing_at ls rooted nodes attributes) (End name)) some.2 passes in
     let innermost = not-false _ p.placed in

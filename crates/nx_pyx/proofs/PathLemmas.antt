@@ -137,20 +137,20 @@ le_from : (a b : ℕ) → nat_le a b ≡ true → a ≤ b
 le_from a b h = grind (arith, nat_tests)
 
 -- decimal digits without a leading zero are the decimal of their number
-decimal_onto : (rest : List ℕ) (n : ℕ) (front : List ℕ) → 1 ≤ n → list_all is_digit rest ≡ true → fold more n rest < 2 ^ 64 → decimal n ≡ front →
-    decimal (fold more n rest) ≡ front ++ rest
-decimal_onto [] n front some all fits e = e ∙ sym (append-nil front)
-decimal_onto (d ∷ rest) n front some all fits e =
+decimal_onto : (rest : List ℕ) (n : ℕ) (prefix : List ℕ) → 1 ≤ n → list_all is_digit rest ≡ true → fold more n rest < 2 ^ 64 → decimal n ≡ prefix →
+    decimal (fold more n rest) ≡ prefix ++ rest
+decimal_onto [] n prefix some all fits e = e ∙ sym (append-nil prefix)
+decimal_onto (d ∷ rest) n prefix some all fits e =
     let p = and_parts (is_digit d) (list_all is_digit rest) all in
     let within : (48 ≤ d) × (d ≤ 57) = digit_within d p.0 in
     let m = more n d in
     let least : m ≤ fold more m rest = grows m rest in
     let tens : m / 10 ≡ n = omega arith in
     let ones : 48 + m % 10 ≡ d = omega arith in
-    let step : decimal m ≡ front ++ d ∷ [] =
+    let step : decimal m ≡ prefix ++ d ∷ [] =
     decimal_step m (omega arith) (omega arith) ∙ ap (λ k. decimal k ++ ((48 + m % 10) ∷ [])) tens ∙ ap (λ (k : ℕ). decimal n ++ (k ∷ [])) ones
     ∙ ap (λ ds. ds ++ d ∷ []) e in
-    decimal_onto rest m (front ++ d ∷ []) (omega arith) p.1 fits step ∙ append_assoc front (d ∷ []) rest
+    decimal_onto rest m (prefix ++ d ∷ []) (omega arith) p.1 fits step ∙ append_assoc prefix (d ∷ []) rest
 
 decimal_one : (d : ℕ) → is_digit d ≡ true → decimal (more 0 d) ≡ d ∷ []
 decimal_one d h =

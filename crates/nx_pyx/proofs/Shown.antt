@@ -36,7 +36,7 @@ prepend-onto : (x : ℕ) (ended : List (List ℕ)) (rest more : List ℕ) → (x
 prepend-onto x [] rest more is = sym (no_break x (rest ++ more) is)
 prepend-onto x (piece ∷ pieces) rest more is = refl
 
--- a longer stream has the pieces of its front, and then those of what the front leaves with the bytes behind it
+-- a longer stream has the pieces of its prefix, and then those of what the prefix leaves with the bytes behind it
 pub cut-append : (bytes more : List ℕ) → cut (bytes ++ more) ≡ onto (cut bytes).ended (cut ((cut bytes).rest ++ more))
 cut-append [] more = refl
 cut-append (x ∷ bytes) more =
@@ -50,7 +50,7 @@ cut-append (x ∷ bytes) more =
     ∙ ap (λ (p : Pieces). onto p.ended (cut (p.rest ++ more))) (sym (no_break x bytes is)))
     (cases_Bool (x == 10))
 
--- a longer stream has the ended lines of its front first
+-- a longer stream has the ended lines of its prefix first
 pub ended_lines-append : (bytes more : List ℕ) → ended_lines (bytes ++ more) ≡ ended_lines bytes ++ ended_lines ((cut bytes).rest ++ more)
 ended_lines-append bytes more =
     ap (λ (p : Pieces). map without_cr p.ended) (cut-append bytes more)
@@ -90,12 +90,12 @@ first_fault_behind before ls more h =
 
 -- bytes without an LF in front of the first piece
 abbrev pub begun_by : List ℕ → List (List ℕ) → List ℕ → Pieces
-begun_by front [] rest = record { ended = []; rest = front ++ rest }
-begun_by front (piece ∷ pieces) rest = record { ended = (front ++ piece) ∷ pieces; rest = rest }
+begun_by prefix [] rest = record { ended = []; rest = prefix ++ rest }
+begun_by prefix (piece ∷ pieces) rest = record { ended = (prefix ++ piece) ∷ pieces; rest = rest }
 
 -- the same, in front of pieces
 abbrev pub begun : List ℕ → Pieces → Pieces
-begun front p = begun_by front p.ended p.rest
+begun prefix p = begun_by prefix p.ended p.rest
 
 -- nothing in front
 begun_none : (ended : List (List ℕ)) (rest : List ℕ) → pieces_of ended rest ≡ begun [] (pieces_of ended rest)
@@ -103,16 +103,16 @@ begun_none [] rest = refl
 begun_none (piece ∷ pieces) rest = refl
 
 -- one byte more in front
-prepend-begun : (x : ℕ) (front : List ℕ) (ended : List (List ℕ)) (rest : List ℕ) → prepend x (begun front (pieces_of ended rest)) ≡ begun (x ∷ front) (pieces_of ended rest)
-prepend-begun x front [] rest = refl
-prepend-begun x front (piece ∷ pieces) rest = refl
+prepend-begun : (x : ℕ) (prefix : List ℕ) (ended : List (List ℕ)) (rest : List ℕ) → prepend x (begun prefix (pieces_of ended rest)) ≡ begun (x ∷ prefix) (pieces_of ended rest)
+prepend-begun x prefix [] rest = refl
+prepend-begun x prefix (piece ∷ pieces) rest = refl
 
 -- bytes without an LF stand before the first piece of the others
-pub cut-begun : (front more : List ℕ) → has_lf front ≡ false → cut (front ++ more) ≡ begun front (cut more)
+pub cut-begun : (prefix more : List ℕ) → has_lf prefix ≡ false → cut (prefix ++ more) ≡ begun prefix (cut more)
 cut-begun [] more h = begun_none (cut more).ended (cut more).rest
-cut-begun (x ∷ front) more h =
-    let p = or_parts (x == 10) (has_lf front) h in
-    no_break x (front ++ more) p.0 ∙ ap (prepend x) (cut-begun front more p.1) ∙ prepend-begun x front (cut more).ended (cut more).rest
+cut-begun (x ∷ prefix) more h =
+    let p = or_parts (x == 10) (has_lf prefix) h in
+    no_break x (prefix ++ more) p.0 ∙ ap (prepend x) (cut-begun prefix more p.1) ∙ prepend-begun x prefix (cut more).ended (cut more).rest
 
 -- one byte more in front of pieces brings no LF, where it is none
 unbroken : (x : ℕ) (ended : List (List ℕ)) (rest : List ℕ) → (x == 10) ≡ false → has_lf rest ≡ false → has_lf (prepend_to x ended rest).rest ≡ false
@@ -142,32 +142,32 @@ shown_onto ended p h =
     (first_fault_behind [] (map without_cr ended) (map without_cr p.ended) h)
 
 -- the early fault of bytes without an LF is shown, whatever comes behind them
-early_shows : (before : List (List ℕ)) (front : List ℕ) (ended : List (List ℕ)) (rest : List ℕ) (fault : PyxFault) → early_fault front ≡ Some fault
-    → shown_behind before (begun front (pieces_of ended rest)) ≡ Some (fault_at (length before + 1) fault)
-early_shows before front [] rest fault h =
-    ap (λ (o : Option PyxFault). option_map (fault_at (length (before ++ []) + 1)) o) (early_stays front rest fault h).0
+early_shows : (before : List (List ℕ)) (prefix : List ℕ) (ended : List (List ℕ)) (rest : List ℕ) (fault : PyxFault) → early_fault prefix ≡ Some fault
+    → shown_behind before (begun prefix (pieces_of ended rest)) ≡ Some (fault_at (length before + 1) fault)
+early_shows before prefix [] rest fault h =
+    ap (λ (o : Option PyxFault). option_map (fault_at (length (before ++ []) + 1)) o) (early_stays prefix rest fault h).0
     ∙ ap (λ (ls : List (List ℕ)). Some (fault_at (length ls + 1) fault)) (append-nil before)
-early_shows before front (piece ∷ pieces) rest fault h =
+early_shows before prefix (piece ∷ pieces) rest fault h =
     ap (λ (o : Option PyxFault).
     option_map_or (λ e. Some e)
-    (option_map_or (λ f. Some (fault_at (length before + 1) f)) o (first_fault (before ++ without_cr (front ++ piece) ∷ []) (map without_cr pieces)))
-    (option_map (fault_at (length (before ++ (without_cr (front ++ piece) ∷ map without_cr pieces)) + 1)) (early_fault rest)))
-    ((early_stays front piece fault h).1 before)
+    (option_map_or (λ f. Some (fault_at (length before + 1) f)) o (first_fault (before ++ without_cr (prefix ++ piece) ∷ []) (map without_cr pieces)))
+    (option_map (fault_at (length (before ++ (without_cr (prefix ++ piece) ∷ map without_cr pieces)) + 1)) (early_fault rest)))
+    ((early_stays prefix piece fault h).1 before)
 
 -- the last line is there
-last_begun : (front rest : List ℕ) (fault : PyxFault) → early_fault front ≡ Some fault → last_line (front ++ rest) ≡ without_cr (front ++ rest) ∷ []
+last_begun : (prefix rest : List ℕ) (fault : PyxFault) → early_fault prefix ≡ Some fault → last_line (prefix ++ rest) ≡ without_cr (prefix ++ rest) ∷ []
 last_begun [] rest fault h = absurd (cc)
-last_begun (b ∷ front) rest fault h = refl
+last_begun (b ∷ prefix) rest fault h = refl
 
 -- the fault of the line that hasn't ended is that of the first line behind
-early_comes : (before : List (List ℕ)) (front : List ℕ) (ended : List (List ℕ)) (rest : List ℕ) (fault : PyxFault) → early_fault front ≡ Some fault
-    → first_fault before (lines_of (begun front (pieces_of ended rest))) ≡ Some (fault_at (length before + 1) fault)
-early_comes before front [] rest fault h =
-    ap (first_fault before) (last_begun front rest fault h)
-    ∙ ap (λ (o : Option PyxFault). option_map_or (λ f. Some (fault_at (length before + 1) f)) o None) ((early_stays front rest fault h).1 before)
-early_comes before front (piece ∷ pieces) rest fault h =
-    ap (λ (o : Option PyxFault). option_map_or (λ f. Some (fault_at (length before + 1) f)) o (first_fault (before ++ without_cr (front ++ piece) ∷ []) (map without_cr pieces ++ last_line rest)))
-    ((early_stays front piece fault h).1 before)
+early_comes : (before : List (List ℕ)) (prefix : List ℕ) (ended : List (List ℕ)) (rest : List ℕ) (fault : PyxFault) → early_fault prefix ≡ Some fault
+    → first_fault before (lines_of (begun prefix (pieces_of ended rest))) ≡ Some (fault_at (length before + 1) fault)
+early_comes before prefix [] rest fault h =
+    ap (first_fault before) (last_begun prefix rest fault h)
+    ∙ ap (λ (o : Option PyxFault). option_map_or (λ f. Some (fault_at (length before + 1) f)) o None) ((early_stays prefix rest fault h).1 before)
+early_comes before prefix (piece ∷ pieces) rest fault h =
+    ap (λ (o : Option PyxFault). option_map_or (λ f. Some (fault_at (length before + 1) f)) o (first_fault (before ++ without_cr (prefix ++ piece) ∷ []) (map without_cr pieces ++ last_line rest)))
+    ((early_stays prefix piece fault h).1 before)
 
 -- a fault that is shown is that of an ended line, or else of the line that hasn't ended
 shown_parts : (o : Option PyxError) (n : ℕ) (p : Option PyxFault) (e : PyxError) → option_map_or (λ x. Some x) o (option_map (fault_at n) p) ≡ Some e

@@ -133,12 +133,12 @@ no_cr code is =
 abbrev pub last_byte : Bool → ℕ → List ℕ
 last_byte is_cr b = if is_cr then [] else b ∷ []
 
--- a byte at the end, kept or dropped, is the front of what it becomes with others behind it
+-- a byte at the end, kept or dropped, is a prefix of what it becomes with others behind it
 byte_kept : (b : ℕ) (is_cr : Bool) (more : List ℕ) → (kept : List ℕ) × (b ∷ more ≡ last_byte is_cr b ++ kept)
 byte_kept b true more = (b ∷ more, refl)
 byte_kept b false more = (more, refl)
 
--- more bytes behind a line leave what it has without CR at the front
+-- more bytes behind a line leave what it has without CR as a prefix
 pub cr_kept : (line more : List ℕ) → (kept : List ℕ) × (without_cr (line ++ more) ≡ without_cr line ++ kept)
 cr_kept [] more = (without_cr more, refl)
 cr_kept (b ∷ []) [] = ([], sym (append-nil (without_cr (b ∷ []))))

@@ -9,7 +9,7 @@ use Rattle.nx_pyx.specs.declared.error.PyxFault.{PyxFault}
 use Rattle.nx_pyx.specs.declared.builder.Builder.{Builder}
 use Rattle.nx_pyx.specs.declared.reader.Reader.{Reader}
 use Rattle.nx_pyx.specs.Fault.{first_fault, shown_fault, early_fault, fault_at, fault_at_end, fault_of}
-use Rattle.nx_pyx.specs.Builder.{HasTaken, Fails}
+use Rattle.nx_pyx.specs.Builder.{HasBuilt, Fails}
 use Rattle.nx_pyx.specs.Reader.{HasRead, HasRoom}
 use Rattle.nx_pyx.specs.Lines.{Pieces, prepend_to, prepend, cut, without_cr, last_line, ended_lines, lines, has_lf, EndsLine}
 use Rattle.nx_pyx.proofs.Shown.{onto, cut-append, first_fault-append, fault_shows}
@@ -119,7 +119,7 @@ holds old new bytes none builder failed held room s read =
 
 -- the line that comes shows a fault
 pub shows : (old : Reader) (bytes held : List ℕ) (fault : PyxFault) (error : ReadError) → has_lf bytes ≡ false → held ≡ old.held ++ bytes → early_fault held ≡ Some fault →
-    ((ls : List (List ℕ)) → HasTaken old.builder ls → error ≡ Pyx (fault_at (length ls + 1) fault)) →
+    ((ls : List (List ℕ)) → HasBuilt old.builder ls → error ≡ Pyx (fault_at (length ls + 1) fault)) →
     (s : List ℕ) → HasRead old s → Fails error (shown_fault (s ++ bytes))
 shows old bytes held fault error none is early says s read =
     let rest : held ≡ (cut (s ++ bytes)).rest = is ∙ ap (λ h. h ++ bytes) read.held ∙ ap (λ (p : Pieces). p.rest) (sym (cut-held s bytes none)) in
@@ -155,10 +155,10 @@ ended_fault s bytes line sound none is =
 
 -- an LF ends the line that these bytes are
 pub takes_line : (old new : Reader) (bytes line : List ℕ) → has_lf bytes ≡ false → new.held ≡ [] → (HasRoom old.held old.room → HasRoom new.held new.room) → new.failed ≡ old.failed →
-    ((ls : List (List ℕ)) → HasTaken old.builder ls → HasTaken new.builder (ls ++ without_cr line ∷ [])) →
+    ((ls : List (List ℕ)) → HasBuilt old.builder ls → HasBuilt new.builder (ls ++ without_cr line ∷ [])) →
     (s : List ℕ) → line ≡ (cut s).rest ++ bytes → HasRead old s → HasRead new (s ++ (bytes ++ 10 ∷ []))
 takes_line old new bytes line none held room failed takes s is read =
-    let taken : HasTaken new.builder (ended_lines (s ++ (bytes ++ 10 ∷ []))) =
+    let taken : HasBuilt new.builder (ended_lines (s ++ (bytes ++ 10 ∷ []))) =
     rw (ended_lines-ended s bytes none ∙ ap (λ (l : List ℕ). ended_lines s ++ without_cr l ∷ []) (sym is)) (takes (ended_lines s) read.taken) in
     let rest : (cut (s ++ (bytes ++ 10 ∷ []))).rest ≡ [] = ap (λ (p : Pieces). p.rest) (cut-ended s bytes none) in
     record {
@@ -170,7 +170,7 @@ takes_line old new bytes line none held room failed takes s is read =
     }
 
 pub fails_line : (old : Reader) (bytes line : List ℕ) (error : ReadError) → has_lf bytes ≡ false →
-    ((ls : List (List ℕ)) → HasTaken old.builder ls → Fails error (first_fault ls (without_cr line ∷ []))) →
+    ((ls : List (List ℕ)) → HasBuilt old.builder ls → Fails error (first_fault ls (without_cr line ∷ []))) →
     (s : List ℕ) → line ≡ (cut s).rest ++ bytes → HasRead old s → Fails error (shown_fault (s ++ (bytes ++ 10 ∷ [])))
 fails_line old bytes line error none fails s is read =
     fails_first (s ++ (bytes ++ 10 ∷ [])) error
@@ -185,7 +185,7 @@ pub still_none : (old new : List ℕ) → (length old == 0) ≡ true → new ≡
 still_none old new none same = same ∙ nothing_held old old refl none
 
 -- no line is left
-pub takes_none : (old : Reader) (s : List ℕ) → (length old.held == 0) ≡ true → HasRead old s → HasTaken old.builder (lines s)
+pub takes_none : (old : Reader) (s : List ℕ) → (length old.held == 0) ≡ true → HasRead old s → HasBuilt old.builder (lines s)
 takes_none old s empty read =
     let rest : (cut s).rest ≡ [] = nothing_held (cut s).rest old.held read.held empty in
     rw (ap (λ (r : List ℕ). ended_lines s ++ last_line r) rest ∙ append-nil (ended_lines s)) read.taken
@@ -196,13 +196,13 @@ last_line-some rest [] is some = absurd (let h : true ≡ false = some in cc h)
 last_line-some rest (x ∷ held) is some = ap last_line (sym is)
 
 pub takes_last : (old : Reader) (builder : Builder) (held : List ℕ) (s : List ℕ) → (length old.held == 0) ≡ false → held ≡ old.held → HasRead old s →
-    ((ls : List (List ℕ)) → HasTaken old.builder ls → HasTaken builder (ls ++ without_cr held ∷ [])) → HasTaken builder (lines s)
+    ((ls : List (List ℕ)) → HasBuilt old.builder ls → HasBuilt builder (ls ++ without_cr held ∷ [])) → HasBuilt builder (lines s)
 takes_last old builder held s some is read takes =
     rw (ap (λ (ls : List (List ℕ)). ended_lines s ++ ls) (last_line-some (cut s).rest old.held read.held some ∙ ap (λ (l : List ℕ). without_cr l ∷ []) (sym is)))
     (takes (ended_lines s) read.taken)
 
 pub fails_last : (old : Reader) (held : List ℕ) (error : ReadError) (s : List ℕ) → (length old.held == 0) ≡ false → held ≡ old.held → HasRead old s →
-    ((ls : List (List ℕ)) → HasTaken old.builder ls → Fails error (first_fault ls (without_cr held ∷ []))) → Fails error (fault_of s)
+    ((ls : List (List ℕ)) → HasBuilt old.builder ls → Fails error (first_fault ls (without_cr held ∷ []))) → Fails error (fault_of s)
 fails_last old held error s some is read fails =
     fails_whole_stream (first_fault [] (lines s)) (fault_at_end (lines s)) error
     (subst (Fails error)
@@ -216,7 +216,7 @@ fails_last old held error s some is read fails =
     fails_whole_stream found at_end Memory h = tt
 
 -- the fault of the end, where no line is faulty
-pub fails_at_end : (builder : Builder) (error : ReadError) (s : List ℕ) → HasTaken builder (lines s) → Fails error (fault_at_end (lines s)) → Fails error (fault_of s)
+pub fails_at_end : (builder : Builder) (error : ReadError) (s : List ℕ) → HasBuilt builder (lines s) → Fails error (fault_at_end (lines s)) → Fails error (fault_of s)
 fails_at_end builder error s taken fails =
     subst (Fails error) (ap (λ o. option_map_or (λ e. Some e) o (fault_at_end (lines s))) (sym taken.sound)) fails
 

@@ -53,7 +53,7 @@ pub record Knows (builder : Builder) (attributes : Option (List (List ℕ))) : T
   pub holds : IfSome attributes (HoldsNames builder.attributes)
 
 -- The builder has taken these lines, and none of them is faulty.
-pub record HasTaken (builder : Builder) (ls : List (List ℕ)) : Type 0 where
+pub record HasBuilt (builder : Builder) (ls : List (List ℕ)) : Type 0 where
   pub sound : first_fault [] ls ≡ None
   pub attributes : Option (List (List ℕ))
   pub known : Knows builder attributes

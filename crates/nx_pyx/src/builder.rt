@@ -6,7 +6,7 @@ ghost use Rattle.nx_pyx.specs.Lines.{without_cr};
 ghost use Rattle.nx_pyx.specs.Event.{Start, End, Single, event_of, events};
 ghost use Rattle.nx_pyx.specs.Fault.{is_long, fault_at, first_fault, fault_at_end};
 ghost use Rattle.nx_pyx.specs.Line.{node_in, event_in};
-ghost use Rattle.nx_pyx.specs.Builder.{HasTaken, Makes, Refuses, Pushes, HasNoRoom, Fails};
+ghost use Rattle.nx_pyx.specs.Builder.{HasBuilt, Makes, Refuses, Pushes, HasNoRoom, Fails};
 
 use crate::line::{self, Line};
 use crate::names::Names;
@@ -43,7 +43,7 @@ pub struct Builder {
 
 impl Builder {
     pub fn new(alloc: Global) -> Builder
-        ensures { HasTaken result [] }
+        ensures { HasBuilt result [] }
     {
         Builder {
             alloc,
@@ -59,8 +59,8 @@ impl Builder {
 
     // Takes the next line, from which a CR at its end is dropped.
     pub fn take(&mut self, line: &[u8]) -> Result<(), ReadError>
-        ensures ok { OnOk result ((ls : List (List ℕ)) → HasTaken self.old ls → HasTaken self.new (ls ++ without_cr line.now ∷ [])) }
-        ensures err { IfErr result (λ e. (ls : List (List ℕ)) → HasTaken self.old ls → Fails e (first_fault ls (without_cr line.now ∷ []))) }
+        ensures ok { OnOk result ((ls : List (List ℕ)) → HasBuilt self.old ls → HasBuilt self.new (ls ++ without_cr line.now ∷ [])) }
+        ensures err { IfErr result (λ e. (ls : List (List ℕ)) → HasBuilt self.old ls → Fails e (first_fault ls (without_cr line.now ∷ []))) }
     {
         self.lines = self.lines.saturating_add(1);
         match line::parse(line::without_cr(line)) {
@@ -71,8 +71,8 @@ impl Builder {
 
     // The document of the lines, whose end this is.
     pub fn finish(mut self) -> Result<Tree, ReadError>
-        ensures ok { IfOk result (λ t. (ls : List (List ℕ)) → HasTaken self ls → IsDocument t × (map event_of ls ≡ map (λ e. Some e) (events t.below))) }
-        ensures err { IfErr result (λ e. (ls : List (List ℕ)) → HasTaken self ls → Fails e (fault_at_end ls)) }
+        ensures ok { IfOk result (λ t. (ls : List (List ℕ)) → HasBuilt self ls → IsDocument t × (map event_of ls ≡ map (λ e. Some e) (events t.below))) }
+        ensures err { IfErr result (λ e. (ls : List (List ℕ)) → HasBuilt self ls → Fails e (fault_at_end ls)) }
     {
         if !self.is_outside() {
             return Err(self.fault(PyxFault::Unclosed));
@@ -93,7 +93,7 @@ impl Builder {
 
     // The fault at the line that comes next.
     pub fn next_fault(&self, fault: PyxFault) -> ReadError
-        ensures { (ls : List (List ℕ)) → HasTaken self.now ls → result ≡ ReadError.Pyx (fault_at (length ls + 1) fault) }
+        ensures { (ls : List (List ℕ)) → HasBuilt self.now ls → result ≡ ReadError.Pyx (fault_at (length ls + 1) fault) }
     {
         ReadError::Pyx(PyxError {
             line: self.lines.saturating_add(1),

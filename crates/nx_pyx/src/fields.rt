@@ -54,7 +54,7 @@ fn with_digit(number: u32, digit: u8) -> Option<u32>
 /// Errors: `NoMemory`. A part of them may stand behind what the block had then.
 pub fn push_number(block: &mut Bytes, before: &[u8], number: u64) -> Result<(), NoMemory>
     ensures ok { OnOk result (block.new ≡ block.old ++ before.now ++ decimal number) }
-    ensures front { (bytes : List ℕ) × (block.new ≡ block.old ++ bytes) }
+    ensures prefix { (bytes : List ℕ) × (block.new ≡ block.old ++ bytes) }
 {
     let mut digits = Buffer::new();
     block.extend_from_slice(before)?;

@@ -134,7 +134,7 @@ pub fn without_cr(line: &[u8]) -> &[u8]
 {
     match line.split_last() {
         None => line,
-        Some((last, front)) => { if *last == b'\r' { front } else { line } }
+        Some((last, prefix)) => { if *last == b'\r' { prefix } else { line } }
     }
 }
 
@@ -173,8 +173,8 @@ pub fn unescaped(alloc: Global, content: &[u8]) -> Result<Bytes, NoMemory>
     let mut bytes = Bytes::with_capacity(alloc, content.len())?;
     let mut rest = content;
     loop {
-        let (run, others) = rest.split_at(scan::unmarked_len::<Backslash>(rest));
-        bytes.extend_from_slice(run)?;
+        let (stretch, others) = rest.split_at(scan::unmarked_len::<Backslash>(rest));
+        bytes.extend_from_slice(stretch)?;
         let Some((_, after)) = others.split_first() else {
             return Ok(bytes);
         };
@@ -203,8 +203,8 @@ pub fn unescaped_len(content: &[u8]) -> usize
     let mut len = 0;
     let mut rest = content;
     loop {
-        let (run, others) = rest.split_at(scan::unmarked_len::<Backslash>(rest));
-        len += run.len();
+        let (stretch, others) = rest.split_at(scan::unmarked_len::<Backslash>(rest));
+        len += stretch.len();
         let Some((_, after)) = others.split_first() else {
             return len;
         };

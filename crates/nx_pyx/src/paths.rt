@@ -46,7 +46,7 @@ pub fn position(digits: &[u8]) -> Option<u32>
 /// Errors: `NoMemory`. A part of the text may stand behind what the block had then.
 pub fn push_path(block: &mut Bytes, positions: &[u32]) -> Result<(), NoMemory>
     ensures ok { OnOk result (block.new ≡ block.old ++ path_text positions.now) }
-    ensures front { (bytes : List ℕ) × (block.new ≡ block.old ++ bytes) }
+    ensures prefix { (bytes : List ℕ) × (block.new ≡ block.old ++ bytes) }
 {
     if positions.is_empty() {
         return block.push(b'/');

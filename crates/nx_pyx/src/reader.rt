@@ -4,7 +4,7 @@ ghost use Rattle.nx_pyx.specs.declared.error.ReadError.{ReadError};
 ghost use Rattle.nx_tree.specs.Forest.{OrderedTree};
 ghost use Rattle.nx_pyx.specs.Fault.{shown_fault, fault_of};
 ghost use Rattle.nx_pyx.specs.Reading.{Reads};
-ghost use Rattle.nx_pyx.specs.Builder.{HasTaken, Fails};
+ghost use Rattle.nx_pyx.specs.Builder.{HasBuilt, Fails};
 ghost use Rattle.nx_pyx.specs.Lines.{has_lf, EndsLine, lines};
 ghost use Rattle.nx_pyx.specs.Reader.{HasRead, HasFailed};
 
@@ -133,7 +133,7 @@ impl Reader {
 
     // Takes the last line, which no LF ends, where there is one.
     fn take_rest(&mut self) -> Result<(), ReadError>
-        ensures ok { OnOk result ((s : List ℕ) → HasRead self.old s → HasTaken self.new.builder (lines s)) }
+        ensures ok { OnOk result ((s : List ℕ) → HasRead self.old s → HasBuilt self.new.builder (lines s)) }
         ensures err { IfErr result (λ e. (s : List ℕ) → HasRead self.old s → Fails e (fault_of s)) }
     {
         if self.held.is_empty() {

@@ -54,7 +54,7 @@ impl<'a> Writer<'a> {
     /// Errors: `NoMemory`. What was added by then is whole lines, and a later call goes on behind them.
     pub fn fill(&mut self, block: &mut Bytes, enough: usize) -> Result<bool, NoMemory>
         ensures text { block.new ++ self.new ≡ block.old ++ self.old }
-        ensures front { (n : ℕ) × (block.new ≡ block.old ++ take n self.old) }
+        ensures prefix { (n : ℕ) × (block.new ≡ block.old ++ take n self.old) }
         ensures lines { (es : List Event) × (block.new ≡ block.old ++ text_of es) }
         ensures more { result ≡ Ok true → (enough ≤ length block.new) × (self.new ≢ []) }
         ensures end { result ≡ Ok false → self.new ≡ [] }
@@ -94,7 +94,7 @@ impl<'a> Writer<'a> {
         ensures ok { OnOk result (block.new ++ self.new ≡ block.old ++ self.old) }
         ensures err { OnErr result (self.new ≡ self.old) }
         ensures lines { OnOk result ((es : List Event) × (block.new ≡ block.old ++ text_of es)) }
-        ensures front { (bytes : List ℕ) × (block.new ≡ block.old ++ bytes) }
+        ensures prefix { (bytes : List ℕ) × (block.new ≡ block.old ++ bytes) }
         ensures more { result ≡ Ok true → length block.old < length block.new }
         ensures end { result ≡ Ok false → self.new ≡ [] }
     {
@@ -153,7 +153,7 @@ pub fn node_line(alloc: Global, node: &Node) -> Result<Bytes, NoMemory>
 /// Errors: `NoMemory`. A part of the line may then stand behind what the block had.
 pub fn push_node_line(block: &mut Bytes, node: &Node) -> Result<(), NoMemory>
     ensures ok { OnOk result (block.new ≡ block.old ++ node_line node.now.kind node.now.name node.now.content) }
-    ensures front { (bytes : List ℕ) × (block.new ≡ block.old ++ bytes) }
+    ensures prefix { (bytes : List ℕ) × (block.new ≡ block.old ++ bytes) }
 {
     let name = node.name.as_slice();
     let content = node.content.as_slice();
@@ -178,7 +178,7 @@ pub fn push_node_line(block: &mut Bytes, node: &Node) -> Result<(), NoMemory>
 // Adds a byte and a name behind it.
 fn push_name(block: &mut Bytes, before: u8, name: &[u8]) -> Result<(), NoMemory>
     ensures ok { OnOk result (block.new ≡ block.old ++ before ∷ name.now) }
-    ensures front { (bytes : List ℕ) × (block.new ≡ block.old ++ bytes) }
+    ensures prefix { (bytes : List ℕ) × (block.new ≡ block.old ++ bytes) }
 {
     block.push(before)?;
     block.extend_from_slice(name)
@@ -187,7 +187,7 @@ fn push_name(block: &mut Bytes, before: u8, name: &[u8]) -> Result<(), NoMemory>
 // Adds a byte and a content behind it, with its escapes.
 fn push_content(block: &mut Bytes, before: u8, content: &[u8]) -> Result<(), NoMemory>
     ensures ok { OnOk result (block.new ≡ block.old ++ before ∷ escaped content.now) }
-    ensures front { (bytes : List ℕ) × (block.new ≡ block.old ++ bytes) }
+    ensures prefix { (bytes : List ℕ) × (block.new ≡ block.old ++ bytes) }
 {
     block.push(before)?;
     push_escaped(block, content)
@@ -196,12 +196,12 @@ fn push_content(block: &mut Bytes, before: u8, content: &[u8]) -> Result<(), NoM
 // Adds a content with its escapes.
 fn push_escaped(block: &mut Bytes, content: &[u8]) -> Result<(), NoMemory>
     ensures ok { OnOk result (block.new ≡ block.old ++ escaped content.now) }
-    ensures front { (bytes : List ℕ) × (block.new ≡ block.old ++ bytes) }
+    ensures prefix { (bytes : List ℕ) × (block.new ≡ block.old ++ bytes) }
 {
     let mut rest = content;
     loop {
-        let (run, others) = rest.split_at(scan::unmarked_len::<Escaped>(rest));
-        block.extend_from_slice(run)?;
+        let (stretch, others) = rest.split_at(scan::unmarked_len::<Escaped>(rest));
+        block.extend_from_slice(stretch)?;
         let Some((first, after)) = others.split_first() else {
             return Ok(());
         };

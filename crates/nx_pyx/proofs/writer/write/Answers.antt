@@ -1,5 +1,5 @@
 use Rattle.std.proofs.Common.{rules}
-use Rattle.nx_pyx.proofs.FrontLemmas.{less-left}
+use Rattle.nx_pyx.proofs.PrefixLemmas.{less-left}
 use Rattle.nx_pyx.proofs.writer.write.Goals as goal
 
 pub loop-writer-smaller : goal.loop-writer-smaller
