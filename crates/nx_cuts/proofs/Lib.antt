@@ -10,3 +10,4 @@ pub mod FoldLemmas
 pub mod WeightLemmas
 pub mod DrawnLaw
 pub mod OrderLemmas
+pub mod NumberLemmas
