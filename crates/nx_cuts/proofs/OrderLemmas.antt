@@ -1,13 +1,12 @@
 -- The intervals of a tree are drawn in document order of their first members.
-use Rattle.std.proofs.Common.{◌≡◌, ℕ, ◌+◌, ◌-◌, ◌<◌, ◌≤◌, IsTrue, List, [], ◌∷◌, ◌++◌, refl, sym, subst, ◌∙◌, arith, inl, inr}
+use Rattle.std.proofs.Common.{◌≡◌, ℕ, ◌+◌, ◌-◌, ◌<◌, ◌≤◌, IsTrue, List, [], ◌∷◌, ◌++◌, refl, sym, subst, arith, inl, inr}
 use Rattle.std.specs.List.{AllByRecursion}
 use Rattle.nx_parts.specs.declared.interval.Interval.{Interval}
-use Rattle.nx_parts.specs.declared.interval.Interval.TheVariants.{Root, Run}
 use Rattle.nx_parts.specs.Order.{ComesBefore, first_member, AreInOrder}
 use Rattle.nx_parts.specs.Partitioning.{has_member}
 use Rattle.nx_cuts.specs.Cut.{CutForest, CutTree, Bare, Grown, Kept, width, intervals, AreFree, AreParts, parts_of}
 use Rattle.nx_cuts.proofs.PairLemmas.{PairsBy, all_pairs, both, weaker, pairs-append}
-use Rattle.nx_cuts.proofs.FeasibleLemmas.{Members, Reaches, further, reaches_child, members_reach, free_deeper, same_step, le_or}
+use Rattle.nx_cuts.proofs.FeasibleLemmas.{Members, Reaches, further, reaches_child, members_reach, free_deeper, le_or}
 
 -- of two paths through one node the one with the lesser step comes first
 before_step : (path : List ℕ) (a b : ℕ) (r s : List ℕ) → a < b → ComesBefore (path ++ a ∷ r) (path ++ b ∷ s)

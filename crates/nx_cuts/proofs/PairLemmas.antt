@@ -1,5 +1,5 @@
 -- What holds of each element of a list and each later one, by recursion.
-use Rattle.std.proofs.Common.{ℕ, List, [], ◌∷◌, ◌++◌, arith, AllPairs}
+use Rattle.std.proofs.Common.{List, [], ◌∷◌, ◌++◌, arith, AllPairs}
 use Rattle.std.specs.List.{AllByRecursion}
 use Rattle.std.proofs.lemmas.List.Kept.{AllPairs-cons}
 use Rattle.std.proofs.lemmas.List.Elements.{All-from_recursion}
