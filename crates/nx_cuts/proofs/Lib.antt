@@ -1,0 +1,13 @@
+pub mod CutEdit
+pub mod Draw
+pub mod PairLemmas
+pub mod FeasibleLemmas
+pub mod PartitionLemmas
+pub mod DrawLemmas
+pub mod DeepLemmas
+pub mod FreeLemmas
+pub mod FoldLemmas
+pub mod WeightLemmas
+pub mod DrawnLaw
+pub mod OrderLemmas
+pub mod NumberLemmas
