@@ -7,7 +7,6 @@ pub mod CutLemmas
 pub mod Numbers
 pub mod LawLemmas
 pub mod Law
-pub mod PlainLemmas
 pub mod LeafLemmas
 pub mod WalkLemmas
 pub mod PlanLemmas
