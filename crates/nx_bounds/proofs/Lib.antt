@@ -11,6 +11,7 @@ pub mod LeafLemmas
 pub mod WalkLemmas
 pub mod PlanLemmas
 pub mod VerdictLemmas
+pub mod EveryVerdict
 pub mod PlanFields
 pub mod PlanLines
 pub mod OnePlan
