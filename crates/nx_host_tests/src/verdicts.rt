@@ -1,7 +1,7 @@
 // Runs that check a partitioning of a document.
-use super::host::DisklessHost;
-use super::words_of;
-use crate::{Status, run};
+use crate::host::DisklessHost;
+use crate::runs::words_of;
+use nx_front::{Status, run};
 use std::alloc::Global;
 use std::process::Abort;
 use std::test::Fail;

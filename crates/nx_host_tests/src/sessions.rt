@@ -1,8 +1,7 @@
 // Runs of scripts.
-use super::commands::{REPLIES, SCRIPT};
-use super::host::{Counts, DisklessHost};
-use super::words_of;
-use crate::{Status, run};
+use crate::host::{Counts, DisklessHost};
+use crate::runs::words_of;
+use nx_front::{Status, run};
 use nx_script::{Command, Script};
 use std::test::Fail;
 
@@ -89,19 +88,6 @@ fn a_script_gives_its_commands(rt: HostRuntime) -> Result<(), Fail> {
             assert!(rt; script.next(&mut host)?.is_none());
             assert_eq!(rt; script.taken(), 38);
         }
-    }
-    Ok(())
-}
-
-#[test]
-fn a_long_script_has_its_replies(rt: HostRuntime) -> Result<(), Fail> {
-    let alloc = rt.alloc();
-    let words = words_of(alloc, &["_", "run"])?;
-    for piece in [1usize, 65_536] {
-        assert!(rt; piece > 0);
-        let mut host = DisklessHost::new(alloc, SCRIPT.as_bytes().to_vec(alloc)?, piece);
-        assert_eq!(rt; run(alloc, &words, &mut host), Status::Done);
-        assert_eq!(rt; host.output(), REPLIES.as_bytes());
     }
     Ok(())
 }

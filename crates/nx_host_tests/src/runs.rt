@@ -1,19 +1,13 @@
-// Tests, and the hosts that they run on.
-mod commands;
-mod endless;
-mod host;
-mod session;
-mod verify;
-
-use crate::{Status, Word, Words, run};
-use endless::EndlessHost;
-use host::{Counts, DisklessHost};
+// Runs of `tidy`, words that are no command, and the hosts themselves.
+use crate::endless::EndlessHost;
+use crate::host::{Counts, DisklessHost};
+use nx_front::{Status, Word, Words, run};
 use nx_host::{Area, Disk, Failed, Host};
 use nx_tree::NoMemory;
 use std::alloc::Global;
 use std::test::Fail;
 
-fn words_of(alloc: Global, texts: &[&str]) -> Result<Words, NoMemory> {
+pub(crate) fn words_of(alloc: Global, texts: &[&str]) -> Result<Words, NoMemory> {
     let mut words = Words::new(alloc);
     for text in texts {
         words.push(Word::new(alloc, text)?)?;

@@ -1,6 +1,6 @@
 use Rattle.std.proofs.Common.{◌-◌, ◌≤◌, Some, drop, length, ap, arith}
-use Rattle.nx_front.proofs.TestHost.{piece_taken}
-use Rattle.nx_front.proofs.tests.host.DisklessHostHost.read_in.Goals as goal
+use Rattle.nx_host_tests.proofs.TestHost.{piece_taken}
+use Rattle.nx_host_tests.proofs.host.DisklessHostHost.read_in.Goals as goal
 
 pub returns-clause-taken : goal.returns-clause-taken
 returns-clause-taken c =

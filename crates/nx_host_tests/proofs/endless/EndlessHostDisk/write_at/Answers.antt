@@ -2,7 +2,7 @@ use Rattle.std.proofs.Common.{ℕ, ◌+◌, List, drop, refl, ap, arith}
 use Rattle.std.proofs.lemmas.List.{take_min}
 use Rattle.std.proofs.Math.Seq.{take-length}
 use Rattle.nx_host.specs.Disk.{Torn, area_of}
-use Rattle.nx_front.proofs.tests.endless.EndlessHostDisk.write_at.Goals as goal
+use Rattle.nx_host_tests.proofs.endless.EndlessHostDisk.write_at.Goals as goal
 
 -- A write that a stop cuts short may have written nothing.
 torn_unchanged : (at n : ℕ) (bytes : List ℕ) → Torn at n bytes bytes

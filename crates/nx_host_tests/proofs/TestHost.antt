@@ -3,7 +3,7 @@ use Rattle.std.proofs.Common.{◌≡◌, ◌⊎◌, inl, inr, ⊎_elim, ℕ, zer
 use Rattle.std.proofs.lemmas.List.{take_at, take_all, drop-drop, length-take-le}
 use Rattle.nx_host.specs.Host.{AppendsFront}
 use Rattle.nx_host.specs.Time.{Stood, Elapses}
-use Rattle.nx_front.specs.TestHost.{nothing, WasFront, StoodSince}
+use Rattle.nx_host_tests.specs.TestHost.{nothing, WasFront, StoodSince}
 
 -- A piece that was copied to the front of a slice was the first of the input that was left.
 pub piece_taken : (input shown piece rest : List ℕ) (given n : ℕ) → shown ≡ input → piece ≡ take (given + n - given) (drop given shown) → n ≤ length input - given →

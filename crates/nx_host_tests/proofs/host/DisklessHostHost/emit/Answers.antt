@@ -1,5 +1,5 @@
-use Rattle.nx_front.proofs.TestHost.{output_grows}
-use Rattle.nx_front.proofs.tests.host.DisklessHostHost.emit.Goals as goal
+use Rattle.nx_host_tests.proofs.TestHost.{output_grows}
+use Rattle.nx_host_tests.proofs.host.DisklessHostHost.emit.Goals as goal
 
 pub returns-in-Ok-clause-time : goal.returns-in-Ok-clause-time
 returns-in-Ok-clause-time c =

@@ -1,6 +1,6 @@
 // A host of tests that tells its input, its output and its moments.
 ghost use Rattle.std.specs.Prelude.{◌≡◌, ◌+◌, ◌<◌, ◌≤◌, ◌↔◌, [], ◌∷◌, ◌++◌, length, drop, min, Some, IsTrue, OnOk, OnErr};
-ghost use Rattle.nx_front.specs.TestHost.{nothing, StoodSince, only_nothing, told, stands, only_whole};
+ghost use Rattle.nx_host_tests.specs.TestHost.{nothing, StoodSince, only_nothing, told, stands, only_whole};
 
 use nx_host::{Area, Disk, Failed, Host};
 use std::alloc::{AllocError, Global};
