@@ -150,44 +150,45 @@ pub fn node_line(alloc: Global, node: &Node) -> Result<Bytes, NoMemory>
 /// Adds the canonical line of one node to the block, without a line end; `#doc` for the root of a
 /// document.
 ///
-/// Errors: `NoMemory`. A part of the line may then stand behind what the block had.
+/// Errors: `NoMemory`. The first bytes of the line may then stand behind what the block had.
 pub fn push_node_line(block: &mut Bytes, node: &Node) -> Result<(), NoMemory>
     ensures ok { OnOk result (block.new ≡ block.old ++ node_line node.now.kind node.now.name node.now.content) }
-    ensures prefix { (bytes : List ℕ) × (block.new ≡ block.old ++ bytes) }
+    ensures prefix { (n : ℕ) × (block.new ≡ block.old ++ take n (node_line node.now.kind node.now.name node.now.content)) }
 {
     let name = node.name.as_slice();
     let content = node.content.as_slice();
     match node.kind {
-        Kind::Doc => block.extend_from_slice(b"#doc"),
-        Kind::Element => push_name(block, b'(', name),
+        Kind::Doc => block.extend_from_slice(b"#doc")?,
+        Kind::Element => push_name(block, b'(', name)?,
         Kind::Attribute => {
             push_name(block, b'A', name)?;
-            push_content(block, b' ', content)
+            push_content(block, b' ', content)?;
         }
-        Kind::Text => push_content(block, b'-', content),
+        Kind::Text => push_content(block, b'-', content)?,
         Kind::Instruction => {
             push_name(block, b'?', name)?;
-            if content.is_empty() {
-                return Ok(());
+            if !content.is_empty() {
+                push_content(block, b' ', content)?;
             }
-            push_content(block, b' ', content)
         }
     }
+    Ok(())
 }
 
 // Adds a byte and a name behind it.
 fn push_name(block: &mut Bytes, before: u8, name: &[u8]) -> Result<(), NoMemory>
     ensures ok { OnOk result (block.new ≡ block.old ++ before ∷ name.now) }
-    ensures prefix { (bytes : List ℕ) × (block.new ≡ block.old ++ bytes) }
+    ensures prefix { (n : ℕ) × (block.new ≡ block.old ++ take n (before ∷ name.now)) }
 {
     block.push(before)?;
-    block.extend_from_slice(name)
+    block.extend_from_slice(name)?;
+    Ok(())
 }
 
 // Adds a byte and a content behind it, with its escapes.
 fn push_content(block: &mut Bytes, before: u8, content: &[u8]) -> Result<(), NoMemory>
     ensures ok { OnOk result (block.new ≡ block.old ++ before ∷ escaped content.now) }
-    ensures prefix { (bytes : List ℕ) × (block.new ≡ block.old ++ bytes) }
+    ensures prefix { (n : ℕ) × (block.new ≡ block.old ++ take n (before ∷ escaped content.now)) }
 {
     block.push(before)?;
     push_escaped(block, content)
@@ -196,7 +197,7 @@ fn push_content(block: &mut Bytes, before: u8, content: &[u8]) -> Result<(), NoM
 // Adds a content with its escapes.
 fn push_escaped(block: &mut Bytes, content: &[u8]) -> Result<(), NoMemory>
     ensures ok { OnOk result (block.new ≡ block.old ++ escaped content.now) }
-    ensures prefix { (bytes : List ℕ) × (block.new ≡ block.old ++ bytes) }
+    ensures prefix { (n : ℕ) × (block.new ≡ block.old ++ take n (escaped content.now)) }
 {
     let mut rest = content;
     loop {
