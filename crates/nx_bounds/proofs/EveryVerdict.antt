@@ -19,7 +19,7 @@ use Rattle.nx_bounds.specs.declared.error.BoundsError.{BoundsError}
 use Rattle.nx_bounds.specs.declared.error.BoundsError.TheVariants.{Parts, WrongWeight, Length, Unsupported, Count, Memory}
 use Rattle.nx_bounds.specs.Choice.{Cell, IsAdmitted}
 use Rattle.nx_bounds.specs.Claim.{Claimed, claimed, claim, value, SpeaksOf, IsFieldSupported, IsSupported, AreSupported, IsExceeded}
-use Rattle.nx_bounds.specs.Refusal.{AreSupportedBefore, IsUnsupported, IsSound, IsNotCertified, IsWrong, root_least}
+use Rattle.nx_bounds.specs.Refusal.{AreSupportedBefore, IsUnsupported, IsNotCertified, IsWrong, root_least}
 use Rattle.nx_bounds.specs.Verdict.{HasVerdict}
 
 -- Where there is no first number with a property, there is none.

@@ -15,7 +15,7 @@ pub(crate) fn read(alloc: Global, text: &[u8]) -> Result<Tree, ReadError>
     reader.finish()
 }
 
-/// The node of one of five lines; of any other, the text `hi`.
+/// The node of one of these lines; of any other, the text `hi`.
 pub(crate) fn node(alloc: Global, line: &[u8]) -> Result<Node, NoMemory>
     ensures { IfOk result (λ node. IsNode node) }
 {

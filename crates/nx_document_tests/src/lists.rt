@@ -1,8 +1,7 @@
-// The list types, each call once, and the texts of errors.
+// Lists, each call once, of items that are copied and of others, and the texts of errors.
 use crate::fixtures::node;
-use nx_parts::{Bound, Bounds, Interval, Partitioning, PartsError};
+use nx_parts::{Interval, Partitioning, PartsError};
 use nx_tree::{Bytes, Kind, NoMemory, Path, Tree, Trees};
-use nx_weights::Weights;
 use std::test::Fail;
 
 #[test]
@@ -32,30 +31,12 @@ fn lists(rt: HostRuntime) -> Result<(), Fail> {
     assert_eq!(rt; path.len(), 2);
     let path = Path::from_vec(path.into_vec());
     assert_eq!(rt; path.as_slice(), [0, u32::MAX].as_slice());
-    let mut weights = Weights::new(alloc);
-    assert!(rt; weights.is_empty());
-    weights.push(3)?;
-    weights.push(u64::MAX)?;
-    assert_eq!(rt; weights.len(), 2);
-    let weights = Weights::from_vec(weights.into_vec());
-    assert_eq!(rt; weights.as_slice(), [3, u64::MAX].as_slice());
     let mut parts = Partitioning::new(alloc);
     assert!(rt; parts.is_empty());
     parts.push(Interval::Root)?;
     assert_eq!(rt; parts.len(), 1);
     let parts = Partitioning::from_vec(parts.into_vec());
     assert!(rt; matches!(parts.as_slice(), [Interval::Root]));
-    let bound = Bound {
-        least: 2,
-        lean: 3,
-        nearly: 1,
-    };
-    let mut bounds = Bounds::new(alloc);
-    assert!(rt; bounds.is_empty());
-    bounds.push(bound)?;
-    assert_eq!(rt; bounds.len(), 1);
-    let bounds = Bounds::from_vec(bounds.into_vec());
-    assert_eq!(rt; bounds.as_slice(), [bound].as_slice());
     Ok(())
 }
 
