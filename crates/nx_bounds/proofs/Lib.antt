@@ -7,11 +7,11 @@ pub mod CutLemmas
 pub mod Numbers
 pub mod LawLemmas
 pub mod Law
-pub mod PlainLemmas
 pub mod LeafLemmas
 pub mod WalkLemmas
 pub mod PlanLemmas
 pub mod VerdictLemmas
+pub mod EveryVerdict
 pub mod PlanFields
 pub mod PlanLines
 pub mod OnePlan

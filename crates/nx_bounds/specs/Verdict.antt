@@ -1,4 +1,4 @@
--- The verdicts on a plan exclude one another.
+-- Each plan has one verdict.
 use Rattle.std.specs.Prelude.{◌≡◌, ◌≢◌, ℕ}
 use Rattle.nx_tree.specs.Forest.{OrderedTree}
 use Rattle.nx_parts.specs.declared.plan.Plan.{Plan}
@@ -15,3 +15,7 @@ abbrev pub HasOneRefusal : Type 0
 HasOneRefusal =
     (k : ℕ) (tree : OrderedTree) (plan : Plan) (first second : BoundsError) → IsNotCertified k tree plan first → IsNotCertified k tree plan second
     → first ≢ Memory → second ≢ Memory → first ≡ second
+
+-- a plan of which nothing but want of memory can be said is sound
+abbrev pub HasVerdict : Type 0
+HasVerdict = (k : ℕ) (tree : OrderedTree) (plan : Plan) → ((error : BoundsError) → IsNotCertified k tree plan error → error ≡ Memory) → IsSound k tree plan

@@ -10,8 +10,6 @@ mod found;
 mod lightest;
 mod profile;
 mod reach;
-#[cfg(test)]
-mod tests;
 
 use crate::Field;
 use build::Cuts;

@@ -4,7 +4,7 @@ ghost use Rattle.nx_parts.specs.declared.plan.Plan.{Plan};
 ghost use Rattle.nx_bounds.specs.declared.text.PlanLine.{PlanLine};
 ghost use Rattle.nx_bounds.specs.Law.{LowerBound};
 ghost use Rattle.nx_bounds.specs.PlanText.{HasText, ReadsAs, plan_line, line_text, plan_text};
-ghost use Rattle.nx_bounds.specs.Verdict.{IsSparedRefusals, HasOneRefusal};
+ghost use Rattle.nx_bounds.specs.Verdict.{IsSparedRefusals, HasOneRefusal, HasVerdict};
 
 /// Where bounds are supported, the bound of each node is true of every feasible partitioning of the
 /// subtree of that node.
@@ -12,10 +12,12 @@ pub fn lower_bound()
     ensures { LowerBound }
 {}
 
-/// A sound plan has no refusal but want of memory, and no plan has two beside it.
+/// A sound plan has no refusal but want of memory, no plan has two beside it, and a plan that has none
+/// is sound.
 pub fn verdict()
     ensures spared { IsSparedRefusals }
     ensures one { HasOneRefusal }
+    ensures every { HasVerdict }
 {}
 
 /// The text of a plan reads as that plan, and a line of a plan is the text of what it says.

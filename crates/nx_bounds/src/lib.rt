@@ -11,8 +11,6 @@ mod choices;
 mod error;
 pub mod laws;
 mod support;
-#[cfg(test)]
-mod tests;
 mod text;
 
 pub use certify::certified;

@@ -6,9 +6,6 @@ ghost use Rattle.nx_tree.specs.Document.{IsDocument, IsNode, longest_node};
 ghost use Rattle.nx_script.specs.Commands.{CanCome};
 ghost use Rattle.nx_engine.specs.Step.{answer, after, name_at, done_unless, worded};
 
-#[cfg(test)]
-mod tests;
-
 use nx_lists::LONGEST_NODE;
 use nx_pyx::{PyxError, PyxFault, write};
 use nx_script::{Command, DocLine, DocLines, LineBody, LoadBody, Reply, ReplyError, TextBody};

@@ -6,4 +6,3 @@ pub mod RunLemmas
 pub mod VerifyLemmas
 pub mod SessionLemmas
 pub mod TakenLemmas
-mod TestHost

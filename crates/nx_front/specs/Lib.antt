@@ -7,4 +7,3 @@ pub mod Session
 pub mod Claimed
 pub mod Verify
 pub mod Run
-pub mod TestHost

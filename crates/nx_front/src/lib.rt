@@ -7,8 +7,6 @@ mod read;
 mod refusal;
 mod session;
 mod status;
-#[cfg(test)]
-mod tests;
 mod top;
 mod verify;
 mod words;

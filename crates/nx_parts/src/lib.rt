@@ -11,8 +11,6 @@ mod error;
 mod interval;
 mod marks;
 mod plan;
-#[cfg(test)]
-mod tests;
 mod weigh;
 
 pub use bounds::{Bound, Bounds};

@@ -34,3 +34,7 @@ written-more all block stretch others rest first after h e s =
     ∙ append_assoc block stretch (escape first ++ escaped after)
     ∙ ap (λ r. block ++ r) (ap (λ r. stretch ++ escaped r) (sym s) ∙ sym e)
     ∙ h
+
+-- what is written after a stretch, where the byte behind it couldn't be
+pub written-stretch : (all block stretch others rest : List ℕ) → block ++ escaped rest ≡ all → escaped rest ≡ stretch ++ escaped others → (block ++ stretch) ++ escaped others ≡ all
+written-stretch all block stretch others rest h e = append_assoc block stretch (escaped others) ∙ ap (λ r. block ++ r) (sym e) ∙ h

@@ -1,17 +1,21 @@
 -- Paths and their texts.
-use Rattle.std.proofs.Common.{zero, suc, ◌≡◌, ℕ, ◌+◌, ◌-◌, ◌/◌, ◌%◌, ◌^◌, ◌<◌, ◌≤◌, Bool, true, false, ◌&&◌, ◌||◌, not, ◌==◌, nat_le, List, [], ◌∷◌, ◌++◌, length, map, refl, sym, ap, ◌∙◌, subst, arith, append_assoc, append-nil}
+use Rattle.std.proofs.Common.{zero, suc, ◌≡◌, ℕ, ◌+◌, ◌-◌, ◌/◌, ◌%◌, ◌^◌, ◌<◌, ◌≤◌, Bool, true, false, ◌&&◌, ◌||◌, not, ◌==◌, nat_le, List, [], ◌∷◌, ◌++◌, length, get_or, take, drop, map, refl, sym, ap, ◌∙◌, subst, arith, append_assoc, append-nil}
 use Rattle.std.specs.List.{All, list_all, fold, flat_map, slice_split, join_with_byte}
 use Rattle.std.specs.Fmt.{decimal}
 use Rattle.std.specs.Str.{bytes_eq}
 use Rattle.std.proofs.lemmas.Bool.{and_parts, and_from, false≢true, eqb-true}
 use Rattle.std.proofs.lemmas.Bool.Decides.{nat_tests}
 use Rattle.std.proofs.lemmas.Fmt.{decimal_digit, decimal_step, decimal_by_steps}
+use Rattle.std.proofs.Math.Seq.{drop-cons}
+use Rattle.std.proofs.lemmas.List.{take-append-drop}
+use Rattle.std.proofs.lemmas.List.Concat.{flat_map-append}
 use Rattle.std.proofs.lemmas.List.Elements.{All-nil, All-cons, All-head, All-tail}
 use Rattle.std.proofs.lemmas.List.Folds.{list_all-append}
 use Rattle.std.proofs.lemmas.List.Sums.{fold_push}
 use Rattle.std.proofs.lemmas.List.Splits.{slice_split_at, slice_split_none, length-slice_split, join_with_byte-slice_split}
 use Rattle.nx_pyx.specs.Field.{begins_with, greatest_position, is_digit, is_number, is_path, is_position, is_slash, positions_of, value_of}
 use Rattle.nx_pyx.specs.Path.{path_text, step_text}
+use Rattle.nx_pyx.proofs.PrefixLemmas.{prefix-all, prefix-first, prefix-of, prefix-rest}
 use Rattle.nx_pyx.proofs.FieldLemmas.{more, grows, steps_path}
 
 -- these digits are the decimal of this number
@@ -224,3 +228,26 @@ path_text-positions_of [] h = absurd (false≢true h)
 path_text-positions_of (b ∷ rest) h =
     let P : ℕ → Type 0 = λ c. is_path (c ∷ rest) ≡ true → Fit (positions_of (c ∷ rest)) × (path_text (positions_of (c ∷ rest)) ≡ c ∷ rest) in
     subst P (sym (slash_first b rest h)) (behind_slash rest) h
+
+-- a prefix of one step stands behind the steps before it
+pub prefix-step : (old block new positions : List ℕ) (i : ℕ) {text : List ℕ} → i < length positions → block ≡ old ++ flat_map step_text (take i positions) → text ≡ step_text (get_or positions i 0)
+    → (n : ℕ) × (new ≡ block ++ take n text) → (n : ℕ) × (new ≡ old ++ take n (path_text positions))
+prefix-step old block new [] i within e step h = absurd (omega arith)
+prefix-step old block new (p ∷ ps) i {text} within e step h =
+    let positions : List ℕ = p ∷ ps in
+    let whole : flat_map step_text (take i positions) ++ (text ++ flat_map step_text (drop (suc i) positions)) ≡ flat_map step_text positions =
+    ap (λ t. flat_map step_text (take i positions) ++ (t ++ flat_map step_text (drop (suc i) positions))) step
+    ∙ sym (flat_map-append step_text (take i positions) (get_or positions i 0 ∷ drop (suc i) positions))
+    ∙ ap (λ l. flat_map step_text (take i positions ++ l)) (sym (drop-cons positions i 0 within))
+    ∙ ap (flat_map step_text) (take-append-drop i positions) in
+    prefix-of old new _ (path_text positions) whole (prefix-rest old block new (flat_map step_text (take i positions)) _ e (prefix-first block new text (flat_map step_text (drop (suc i) positions)) h))
+
+-- and steps are a prefix of all of them
+pub prefix-steps : (old block positions : List ℕ) (i : ℕ) → block ≡ old ++ flat_map step_text (take i positions) → (n : ℕ) × (block ≡ old ++ take n (path_text positions))
+prefix-steps old block [] zero e = (0, e)
+prefix-steps old block [] (suc i) e = (0, e)
+prefix-steps old block (p ∷ ps) i e =
+    let positions : List ℕ = p ∷ ps in
+    let whole : flat_map step_text (take i positions) ++ flat_map step_text (drop i positions) ≡ flat_map step_text positions =
+    sym (flat_map-append step_text (take i positions) (drop i positions)) ∙ ap (flat_map step_text) (take-append-drop i positions) in
+    prefix-of old block _ (path_text positions) whole (prefix-first old block (flat_map step_text (take i positions)) (flat_map step_text (drop i positions)) (prefix-all old block _ e))

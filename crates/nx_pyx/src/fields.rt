@@ -1,5 +1,5 @@
 // The fields of a line, which single spaces separate, and numbers in decimal digits.
-ghost use Rattle.std.specs.Prelude.{◌≡◌, ℕ, List, ◌+◌, ◌-◌, ◌*◌, ◌<◌, ◌≤◌, ◌&&◌, ◌++◌, true, false, None, Some, MatchOption, IfSome, OnOk, length, nat_le, decimal};
+ghost use Rattle.std.specs.Prelude.{◌≡◌, ℕ, ◌+◌, ◌-◌, ◌*◌, ◌<◌, ◌≤◌, ◌&&◌, ◌++◌, true, false, None, Some, MatchOption, IfSome, OnOk, length, take, nat_le, decimal};
 ghost use Rattle.std.specs.List.{position};
 ghost use Rattle.nx_pyx.specs.Event.{is_space};
 ghost use Rattle.nx_pyx.specs.Field.{field, behind, is_digit, is_number, value_of, greatest_position};
@@ -51,12 +51,13 @@ fn with_digit(number: u32, digit: u8) -> Option<u32>
 
 /// Adds bytes, and behind them a number in decimal digits without a leading zero.
 ///
-/// Errors: `NoMemory`. A part of them may stand behind what the block had then.
+/// Errors: `NoMemory`. The first of these bytes may stand behind what the block had then.
 pub fn push_number(block: &mut Bytes, before: &[u8], number: u64) -> Result<(), NoMemory>
     ensures ok { OnOk result (block.new ≡ block.old ++ before.now ++ decimal number) }
-    ensures prefix { (bytes : List ℕ) × (block.new ≡ block.old ++ bytes) }
+    ensures prefix { (n : ℕ) × (block.new ≡ block.old ++ take n (before.now ++ decimal number)) }
 {
     let mut digits = Buffer::new();
     block.extend_from_slice(before)?;
-    block.extend_from_slice(digits.format(number).as_bytes())
+    block.extend_from_slice(digits.format(number).as_bytes())?;
+    Ok(())
 }

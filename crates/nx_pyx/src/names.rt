@@ -44,33 +44,3 @@ impl Names {
         Ok(self.names.insert(Vec::from_slice(self.alloc, name)?)?)
     }
 }
-
-#[cfg(test)]
-mod tests {
-    use super::*;
-    use std::test::Fail;
-
-    // Names, and whether each is new after those before it.
-    const NAMES: [(&[u8], bool); 8] = [
-        (b"b", true),
-        (b"a", true),
-        (b"b", false),
-        (b"ab", true),
-        (b"", true),
-        (b"a", false),
-        (b"\xff", true),
-        (b"ab", false),
-    ];
-
-    #[test]
-    fn names(rt: HostRuntime) -> Result<(), Fail> {
-        let mut names = Names::new(rt.alloc());
-        for _ in 0..2 {
-            names.clear();
-            for (name, is_new) in NAMES {
-                assert_eq!(rt; names.insert(name)?, is_new);
-            }
-        }
-        Ok(())
-    }
-}

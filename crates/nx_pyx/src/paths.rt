@@ -1,5 +1,5 @@
 // The texts of paths.
-ghost use Rattle.std.specs.Prelude.{◌≡◌, ℕ, List, ◌++◌, true, false, MatchOption, IfOk, OnOk};
+ghost use Rattle.std.specs.Prelude.{◌≡◌, ℕ, ◌++◌, take, true, false, MatchOption, IfOk, OnOk};
 ghost use Rattle.nx_pyx.specs.Field.{is_position, value_of, is_path, positions_of};
 ghost use Rattle.nx_pyx.specs.Path.{path_text};
 
@@ -43,13 +43,14 @@ pub fn position(digits: &[u8]) -> Option<u32>
 
 /// Adds the text of a path: one slash alone for the root, or a slash and a decimal for each position.
 ///
-/// Errors: `NoMemory`. A part of the text may stand behind what the block had then.
+/// Errors: `NoMemory`. The first bytes of the text may stand behind what the block had then.
 pub fn push_path(block: &mut Bytes, positions: &[u32]) -> Result<(), NoMemory>
     ensures ok { OnOk result (block.new ≡ block.old ++ path_text positions.now) }
-    ensures prefix { (bytes : List ℕ) × (block.new ≡ block.old ++ bytes) }
+    ensures prefix { (n : ℕ) × (block.new ≡ block.old ++ take n (path_text positions.now)) }
 {
     if positions.is_empty() {
-        return block.push(b'/');
+        block.push(b'/')?;
+        return Ok(());
     }
     for position in positions {
         push_number(block, b"/", u64::from(*position))?;

@@ -174,6 +174,3 @@ pub fn line_end(bytes: &[u8]) -> Option<usize>
     let end = scan::unmarked_len::<LineEnd>(bytes);
     if end < bytes.len() { Some(end) } else { None }
 }
-
-#[cfg(test)]
-mod tests;

@@ -150,44 +150,45 @@ pub fn node_line(alloc: Global, node: &Node) -> Result<Bytes, NoMemory>
 /// Adds the canonical line of one node to the block, without a line end; `#doc` for the root of a
 /// document.
 ///
-/// Errors: `NoMemory`. A part of the line may then stand behind what the block had.
+/// Errors: `NoMemory`. The first bytes of the line may then stand behind what the block had.
 pub fn push_node_line(block: &mut Bytes, node: &Node) -> Result<(), NoMemory>
     ensures ok { OnOk result (block.new ≡ block.old ++ node_line node.now.kind node.now.name node.now.content) }
-    ensures prefix { (bytes : List ℕ) × (block.new ≡ block.old ++ bytes) }
+    ensures prefix { (n : ℕ) × (block.new ≡ block.old ++ take n (node_line node.now.kind node.now.name node.now.content)) }
 {
     let name = node.name.as_slice();
     let content = node.content.as_slice();
     match node.kind {
-        Kind::Doc => block.extend_from_slice(b"#doc"),
-        Kind::Element => push_name(block, b'(', name),
+        Kind::Doc => block.extend_from_slice(b"#doc")?,
+        Kind::Element => push_name(block, b'(', name)?,
         Kind::Attribute => {
             push_name(block, b'A', name)?;
-            push_content(block, b' ', content)
+            push_content(block, b' ', content)?;
         }
-        Kind::Text => push_content(block, b'-', content),
+        Kind::Text => push_content(block, b'-', content)?,
         Kind::Instruction => {
             push_name(block, b'?', name)?;
-            if content.is_empty() {
-                return Ok(());
+            if !content.is_empty() {
+                push_content(block, b' ', content)?;
             }
-            push_content(block, b' ', content)
         }
     }
+    Ok(())
 }
 
 // Adds a byte and a name behind it.
 fn push_name(block: &mut Bytes, before: u8, name: &[u8]) -> Result<(), NoMemory>
     ensures ok { OnOk result (block.new ≡ block.old ++ before ∷ name.now) }
-    ensures prefix { (bytes : List ℕ) × (block.new ≡ block.old ++ bytes) }
+    ensures prefix { (n : ℕ) × (block.new ≡ block.old ++ take n (before ∷ name.now)) }
 {
     block.push(before)?;
-    block.extend_from_slice(name)
+    block.extend_from_slice(name)?;
+    Ok(())
 }
 
 // Adds a byte and a content behind it, with its escapes.
 fn push_content(block: &mut Bytes, before: u8, content: &[u8]) -> Result<(), NoMemory>
     ensures ok { OnOk result (block.new ≡ block.old ++ before ∷ escaped content.now) }
-    ensures prefix { (bytes : List ℕ) × (block.new ≡ block.old ++ bytes) }
+    ensures prefix { (n : ℕ) × (block.new ≡ block.old ++ take n (before ∷ escaped content.now)) }
 {
     block.push(before)?;
     push_escaped(block, content)
@@ -196,7 +197,7 @@ fn push_content(block: &mut Bytes, before: u8, content: &[u8]) -> Result<(), NoM
 // Adds a content with its escapes.
 fn push_escaped(block: &mut Bytes, content: &[u8]) -> Result<(), NoMemory>
     ensures ok { OnOk result (block.new ≡ block.old ++ escaped content.now) }
-    ensures prefix { (bytes : List ℕ) × (block.new ≡ block.old ++ bytes) }
+    ensures prefix { (n : ℕ) × (block.new ≡ block.old ++ take n (escaped content.now)) }
 {
     let mut rest = content;
     loop {
@@ -221,163 +222,5 @@ fn push_escape(block: &mut Bytes, byte: u8) -> Result<(), NoMemory>
         b'\r' => block.extend_from_slice(b"\\r"),
         b'\\' => block.extend_from_slice(b"\\\\"),
         _ => block.push(byte),
-    }
-}
-
-#[cfg(test)]
-mod tests {
-    use super::*;
-    use nx_tree::Trees;
-    use std::test::Fail;
-
-    // A kind, a name, a content and the line of them.
-    const LINES: [(Kind, &[u8], &[u8], &[u8]); 10] = [
-        (Kind::Doc, b"", b"", b"#doc"),
-        (Kind::Element, b"a", b"", b"(a"),
-        (Kind::Attribute, b"k", b"", b"Ak "),
-        (Kind::Attribute, b"k", b"v w\\", b"Ak v w\\\\"),
-        (Kind::Text, b"", b"", b"-"),
-        (Kind::Text, b"", b"\n\n x\ty\rz\\", b"-\\n\\n x\\ty\\rz\\\\"),
-        (Kind::Text, b"", b"\x0b\xff n", b"-\x0b\xff n"),
-        (
-            Kind::Text,
-            b"",
-            b"more bytes than are looked at together\nand an end",
-            b"-more bytes than are looked at together\\nand an end",
-        ),
-        (Kind::Instruction, b"p", b"", b"?p"),
-        (Kind::Instruction, b"p", b"\tq", b"?p \\tq"),
-    ];
-
-    const TEXT: &[u8] = b"?p\n(a\nAk v\\\\\n(b\n)b\n-x\\ny\n(c\n-\n(d\n)d\n)c\n)a\n?q r\n";
-
-    // A kind of a node of the name `k` that stands in an element, its content, and its line.
-    const WRITTEN: [(Kind, &[u8], &[u8]); 19] = [
-        (Kind::Attribute, b"", b"Ak "),
-        (Kind::Attribute, b" ", b"Ak  "),
-        (Kind::Attribute, b"v w", b"Ak v w"),
-        (Kind::Attribute, b"\n", b"Ak \\n"),
-        (Kind::Attribute, b"\t", b"Ak \\t"),
-        (Kind::Attribute, b"\r", b"Ak \\r"),
-        (Kind::Attribute, b"\\", b"Ak \\\\"),
-        (Kind::Attribute, b"\\n\n\t\r\\x", b"Ak \\\\n\\n\\t\\r\\\\x"),
-        (
-            Kind::Attribute,
-            b"sixteen bytes...\\and one behind",
-            b"Ak sixteen bytes...\\\\and one behind",
-        ),
-        (Kind::Instruction, b"", b"?k"),
-        (Kind::Instruction, b" ", b"?k  "),
-        (Kind::Instruction, b"q r", b"?k q r"),
-        (Kind::Instruction, b"\n", b"?k \\n"),
-        (Kind::Instruction, b"\t", b"?k \\t"),
-        (Kind::Instruction, b"\r", b"?k \\r"),
-        (Kind::Instruction, b"\\", b"?k \\\\"),
-        (
-            Kind::Instruction,
-            b"\\n\n\t\r\\x",
-            b"?k \\\\n\\n\\t\\r\\\\x",
-        ),
-        (Kind::Text, b"\\n\n\t\r\\x", b"-\\\\n\\n\\t\\r\\\\x"),
-        (Kind::Text, b"\x0b\x0c\x00/[]", b"-\x0b\x0c\x00/[]"),
-    ];
-
-    fn node(alloc: Global, kind: Kind, name: &[u8], content: &[u8]) -> Result<Node, NoMemory> {
-        Ok(Node {
-            kind,
-            name: Bytes::from_slice(alloc, name)?,
-            content: Bytes::from_slice(alloc, content)?,
-        })
-    }
-
-    fn add(
-        trees: &mut Trees,
-        alloc: Global,
-        kind: Kind,
-        name: &[u8],
-        content: &[u8],
-        children: Trees,
-    ) -> Result<(), NoMemory> {
-        let node = node(alloc, kind, name, content)?;
-        trees.push(Tree { node, children })
-    }
-
-    // The tree of `TEXT`. It has parts that no document has and that have no line: a content of an
-    // element, and a child of a text.
-    fn document(alloc: Global) -> Result<Tree, NoMemory> {
-        let none = || Trees::new(alloc);
-        let mut inner = none();
-        add(&mut inner, alloc, Kind::Text, b"", b"", none())?;
-        add(&mut inner, alloc, Kind::Element, b"d", b"x", none())?;
-        let mut below_text = none();
-        add(&mut below_text, alloc, Kind::Element, b"x", b"", none())?;
-        let mut outer = none();
-        add(&mut outer, alloc, Kind::Attribute, b"k", b"v\\", none())?;
-        add(&mut outer, alloc, Kind::Element, b"b", b"", none())?;
-        add(&mut outer, alloc, Kind::Text, b"", b"x\ny", below_text)?;
-        add(&mut outer, alloc, Kind::Element, b"c", b"", inner)?;
-        let mut children = none();
-        add(&mut children, alloc, Kind::Instruction, b"p", b"", none())?;
-        add(&mut children, alloc, Kind::Element, b"a", b"", outer)?;
-        add(&mut children, alloc, Kind::Instruction, b"q", b"r", none())?;
-        Ok(Tree {
-            node: node(alloc, Kind::Doc, b"", b"")?,
-            children,
-        })
-    }
-
-    #[test]
-    fn lines(rt: HostRuntime) -> Result<(), Fail> {
-        let alloc = rt.alloc();
-        for (kind, name, content, expected) in LINES {
-            let line = node_line(alloc, &node(alloc, kind, name, content)?)?;
-            assert_eq!(rt; line.as_slice(), expected);
-        }
-        Ok(())
-    }
-
-    // An element over one node of the name `k`.
-    fn element_over(alloc: Global, kind: Kind, content: &[u8]) -> Result<Tree, NoMemory> {
-        let mut inner = Trees::new(alloc);
-        add(&mut inner, alloc, kind, b"k", content, Trees::new(alloc))?;
-        let mut children = Trees::new(alloc);
-        add(&mut children, alloc, Kind::Element, b"a", b"", inner)?;
-        Ok(Tree {
-            node: node(alloc, Kind::Doc, b"", b"")?,
-            children,
-        })
-    }
-
-    #[test]
-    fn written(rt: HostRuntime) -> Result<(), Fail> {
-        let alloc = rt.alloc();
-        for (kind, content, line) in WRITTEN {
-            let text = write(alloc, &element_over(alloc, kind, content)?)?;
-            let expected: [&[u8]; 3] = [b"(a\n", line, b"\n)a\n"];
-            assert_eq!(rt; text.as_slice(), expected.concat(alloc)?.as_slice());
-        }
-        Ok(())
-    }
-
-    #[test]
-    fn blocks(rt: HostRuntime) -> Result<(), Fail> {
-        let alloc = rt.alloc();
-        let tree = document(alloc)?;
-        assert_eq!(rt; write(alloc, &tree)?.as_slice(), TEXT);
-        for enough in [1usize, 2, 3, 10, 20, 50, 1000] {
-            let mut writer = Writer::new(alloc, &tree)?;
-            let mut block = Bytes::new(alloc);
-            let mut whole = Bytes::new(alloc);
-            for _ in 0..TEXT.len() {
-                block.clear();
-                let more = writer.fill(&mut block, enough)?;
-                whole.extend_from_slice(block.as_slice())?;
-                if !more {
-                    break;
-                }
-            }
-            assert_eq!(rt; whole.as_slice(), TEXT, "{enough}");
-        }
-        Ok(())
     }
 }

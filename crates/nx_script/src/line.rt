@@ -199,6 +199,3 @@ fn text_body(alloc: Global, bytes: &[u8]) -> Result<TextBody, NoMemory>
     }
     Ok(TextBody::Read(unescaped(alloc, bytes)?))
 }
-
-#[cfg(test)]
-mod tests;

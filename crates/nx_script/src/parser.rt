@@ -194,6 +194,3 @@ fn loaded(load: Load) -> Result<Command, NoMemory>
         None => Ok(Command::Bad),
     }
 }
-
-#[cfg(test)]
-mod tests;

@@ -7,8 +7,6 @@
 mod error;
 mod lists;
 mod node;
-#[cfg(test)]
-mod tests;
 mod tree;
 
 pub use error::TreeError;

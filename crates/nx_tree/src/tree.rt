@@ -6,8 +6,6 @@ mod copying;
 mod edit;
 mod kinds;
 mod measure;
-#[cfg(test)]
-mod tests;
 
 use crate::{NoMemory, Node};
 pub use copying::copy;

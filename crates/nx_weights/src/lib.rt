@@ -7,8 +7,6 @@
 mod heavy;
 mod node;
 mod sums;
-#[cfg(test)]
-mod tests;
 mod weights;
 
 pub use heavy::{HeavyNode, first_heavy};

@@ -1,0 +1,185 @@
+// Scripts with their replies: each command, and each of its refusals in their order.
+ghost use Rattle.std.specs.Prelude.{[], IfOk};
+ghost use Rattle.nx_script.specs.Commands.{CanCome};
+
+use crate::fixtures::{node, read};
+use nx_engine::Plain;
+use nx_pyx::{PyxError, PyxFault, ReadError};
+use nx_script::{Command, LineBody, LoadBody, TextBody, write_reply};
+use nx_tree::{Bytes, NoMemory, Path, count};
+use std::alloc::Global;
+use std::process::Abort;
+use std::test::Fail;
+
+// A command's word, the document, the path, the text behind it, and the reply's text.
+type Step = (
+    &'static str,
+    &'static [u8],
+    &'static [u32],
+    &'static [u8],
+    &'static [u8],
+);
+
+const EDITED: [Step; 9] = [
+    ("load", b"d", &[], b"(a\n-hi\n)a\n", b"ok 3 0\n"),
+    ("get", b"d", &[0, 0], b"", b"node 0 -hi\n"),
+    ("insert", b"d", &[0, 1], b"(e", b"ok\n"),
+    ("insert", b"d", &[0, 9], b"-", b"error bad-place\n"),
+    ("delete", b"d", &[0, 0], b"", b"ok\n"),
+    ("retext", b"d", &[0], b"x", b"error no-content\n"),
+    ("export", b"d", &[], b"", b"(a\n(e\n)e\n)a\n.\n"),
+    ("names", b"", &[], b"", b"doc d 3\n.\n"),
+    ("nothing", b"d", &[], b"", b"error syntax\n"),
+];
+
+const REFUSED: [Step; 37] = [
+    ("load", b"e", &[], b"(a\nAx 1\n-hi\n)a\n", b"ok 4 0\n"),
+    ("load", b"e", &[], b"(a\n", b"error exists\n"),
+    ("load", b"e", &[], b"(a\n)a\n", b"error exists\n"),
+    ("load", b"f", &[], b"(a\n", b"error pyx 1 unclosed\n"),
+    ("drop", b"f", &[], b"", b"error no-document\n"),
+    ("export", b"f", &[], b"", b"error no-document\n"),
+    ("get", b"f", &[], b"", b"error no-document\n"),
+    ("get", b"e", &[9], b"", b"error no-node\n"),
+    ("get", b"e", &[0], b"", b"node 2 (a\n"),
+    ("get", b"e", &[], b"", b"node 1 #doc\n"),
+    ("insert", b"f", &[], b"", b"error no-document\n"),
+    ("insert", b"e", &[], b"", b"error pyx 1 bad-code\n"),
+    ("insert", b"e", &[], b"-", b"error bad-place\n"),
+    ("insert", b"e", &[9, 9], b"-", b"error no-node\n"),
+    ("insert", b"e", &[0, 3], b"-", b"error bad-place\n"),
+    ("insert", b"e", &[0, 2], b"Ax 2", b"error bad-place\n"),
+    ("insert", b"e", &[0, 1], b"Ax 2", b"error twice\n"),
+    ("delete", b"f", &[], b"", b"error no-document\n"),
+    ("delete", b"e", &[], b"", b"error bad-place\n"),
+    ("delete", b"e", &[1], b"", b"error no-node\n"),
+    ("delete", b"e", &[0], b"", b"error bad-place\n"),
+    ("retext", b"f", &[9], b"", b"error no-document\n"),
+    ("retext", b"e", &[9], b"*", b"error pyx 1 long-line\n"),
+    ("retext", b"e", &[9], b"x", b"error no-node\n"),
+    ("retext", b"e", &[], b"x", b"error no-content\n"),
+    ("retext", b"e", &[0], b"x", b"error no-content\n"),
+    ("retext", b"e", &[0, 0], b"2", b"ok\n"),
+    ("retext", b"e", &[0, 1], b"", b"ok\n"),
+    ("export", b"e", &[], b"", b"(a\nAx 2\n-\n)a\n.\n"),
+    ("load", b"d", &[], b"?p\n(a\n)a\n", b"ok 3 0\n"),
+    ("load", b"ee", &[], b"(a\n)a\n", b"ok 2 0\n"),
+    ("names", b"", &[], b"", b"doc d 3\ndoc e 4\ndoc ee 2\n.\n"),
+    ("drop", b"e", &[], b"", b"ok\n"),
+    ("drop", b"e", &[], b"", b"error no-document\n"),
+    ("delete", b"d", &[0], b"", b"ok\n"),
+    ("names", b"", &[], b"", b"doc d 2\ndoc ee 2\n.\n"),
+    ("nothing", b"", &[], b"", b"error syntax\n"),
+];
+
+fn document(alloc: Global, text: &[u8]) -> Result<LoadBody, ReadError>
+    ensures { IfOk result (λ body. CanCome (Command.Load [] body)) }
+{
+    match read(alloc, text) {
+        Ok(tree) => Ok(LoadBody::Read(tree)),
+        Err(ReadError::Pyx(error)) => Ok(LoadBody::Wrong(error)),
+        Err(ReadError::Memory) => Err(ReadError::Memory),
+    }
+}
+
+fn line(alloc: Global, text: &[u8]) -> Result<LineBody, NoMemory>
+    ensures { IfOk result (λ body. CanCome (Command.Insert [] [] body)) }
+{
+    if text.is_empty() {
+        return Ok(LineBody::Wrong(PyxError {
+            line: 1,
+            fault: PyxFault::BadCode,
+        }));
+    }
+    Ok(LineBody::Read(node(alloc, text)?))
+}
+
+// A star stands for a content that is too long.
+fn content(alloc: Global, text: &[u8]) -> Result<TextBody, NoMemory>
+    ensures { IfOk result (λ body. CanCome (Command.Retext [] [] body)) }
+{
+    if text == b"*".as_slice() || text.len() > 9 {
+        return Ok(TextBody::Wrong(PyxError {
+            line: 1,
+            fault: PyxFault::LongLine,
+        }));
+    }
+    Ok(TextBody::Read(Bytes::from_slice(alloc, text)?))
+}
+
+fn command(alloc: Global, step: Step) -> Result<Command, ReadError>
+    ensures { IfOk result (λ command. CanCome command) }
+{
+    let name = Bytes::from_slice(alloc, step.1)?;
+    let path = Path::from_vec(Vec::from_slice(alloc, step.2)?);
+    let text = step.3;
+    Ok(match step.0 {
+        "load" => Command::Load {
+            name,
+            body: document(alloc, text)?,
+        },
+        "drop" => Command::Discard { name },
+        "names" => Command::Names,
+        "export" => Command::Export { name },
+        "insert" => Command::Insert {
+            name,
+            path,
+            line: line(alloc, text)?,
+        },
+        "delete" => Command::Delete { name, path },
+        "retext" => Command::Retext {
+            name,
+            path,
+            text: content(alloc, text)?,
+        },
+        "get" => Command::Get { name, path },
+        _ => Command::Bad,
+    })
+}
+
+fn check(
+    rt: &impl Abort,
+    alloc: Global,
+    plain: &mut Plain,
+    steps: &[Step],
+) -> Result<(), ReadError> {
+    for step in steps {
+        let reply = plain.apply(command(alloc, *step)?)?;
+        assert_eq!(rt; write_reply(alloc, &reply)?.as_slice(), step.4);
+    }
+    Ok(())
+}
+
+#[test]
+fn refused(rt: HostRuntime) -> Result<(), Fail> {
+    let alloc = rt.alloc();
+    let mut plain = Plain::new(alloc);
+    check(&rt, alloc, &mut plain, &REFUSED)?;
+    let nodes = match plain.document(b"d") {
+        Some(tree) => count(tree),
+        None => 0,
+    };
+    assert_eq!(rt; nodes, 2);
+    assert!(rt; plain.document(b"e").is_none());
+    Ok(())
+}
+
+// At the end a content that a node may have, and that is too long beside a name.
+#[test]
+fn edited(rt: HostRuntime) -> Result<(), Fail> {
+    let alloc = rt.alloc();
+    let mut plain = Plain::new(alloc);
+    check(&rt, alloc, &mut plain, &EDITED)?;
+    for (position, want) in [
+        (0, b"error pyx 1 long-line\n".as_slice()),
+        (1, b"error no-node\n"),
+    ] {
+        let reply = plain.apply(Command::Retext {
+            name: Bytes::from_slice(alloc, b"d")?,
+            path: Path::from_vec(Vec::from_slice(alloc, &[position])?),
+            text: TextBody::Read(Bytes::from_vec(Vec::from_elem(alloc, b'x', 1_048_576)?)),
+        })?;
+        assert_eq!(rt; write_reply(alloc, &reply)?.as_slice(), want);
+    }
+    Ok(())
+}

@@ -1,0 +1,19 @@
+//! Tests of what takes its input from a host, over public calls: scripts and their replies, and whole
+//! runs, on hosts that tell all that was done to them. It has nothing but tests, so that all of it is
+//! proved once.
+#![tactic(auto)]
+
+#[cfg(test)]
+mod endless;
+#[cfg(test)]
+mod host;
+#[cfg(test)]
+mod replies;
+#[cfg(test)]
+mod runs;
+#[cfg(test)]
+mod scripts;
+#[cfg(test)]
+mod sessions;
+#[cfg(test)]
+mod verdicts;

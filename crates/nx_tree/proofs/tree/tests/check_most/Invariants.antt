@@ -1,5 +1,0 @@
-use Rattle.nx_tree.specs.Document.{IsDocument}
-use Rattle.nx_tree.proofs.tree.tests.check_most.Given as goal
-
-abbrev pub invariant-loop-position : goal.invariant-loop-position
-invariant-loop-position g l = IsDocument l.tree
