@@ -87,5 +87,3 @@ fn root_least(bounds: &[Bound]) -> u32
     }
 }
 
-#[cfg(test)]
-mod tests;

@@ -15,5 +15,3 @@ pub enum PlanLine {
     Claim { node: u32, bound: Bound },
 }
 
-#[cfg(test)]
-mod tests;

@@ -1,33 +1,19 @@
 -- The profile of children, made from those of the children without the first ones.
-use Rattle.std.proofs.Common.{◌≡◌, ℕ, suc, zero, ◌+◌, ◌-◌, ◌<◌, ◌≤◌, inl, inr, List, [], ◌∷◌, ◌++◌, length, take, drop, get_or, sym, ap, subst, ◌∙◌, arith, Some, None}
-use Rattle.std.proofs.lemmas.List.{drop-drop, length-drop, take_rest, take_more}
+use Rattle.std.proofs.Common.{◌≡◌, ℕ, suc, zero, ◌+◌, ◌-◌, ◌<◌, ◌≤◌, inl, inr, List, [], ◌∷◌, ◌++◌, length, take, drop, get_or, sym, ap, subst, ◌∙◌, arith}
+use Rattle.std.proofs.lemmas.List.{drop-drop, length-drop, length-append, length-take-le, take_rest, take_all, take-append-le, drop-append-le, get_or_append_left}
+use Rattle.std.proofs.Math.Seq.{drop-append_seam, get_or-append_seam}
 use Rattle.std.proofs.lemmas.Bool.{cases_lt}
-use Rattle.nx_choices.specs.declared.profile.Profile.{Profile}
+use Rattle.nx_choices.specs.declared.profiles.Profiles.{Profiles}
+use Rattle.nx_choices.specs.declared.profiles.Row.{Row}
 use Rattle.nx_choices.specs.declared.reach.Form.TheVariants.{Plain, Light}
 use Rattle.nx_choices.specs.declared.child.Child.{Child}
-use Rattle.nx_choices.specs.Choice.{IsWeighed, AreWeighed}
-use Rattle.nx_choices.specs.Profile.{IsWithin, IsProfile, AreProfiles, IsStarted, IsLowered, IsReach, IsDraftOf, IsFirstLight, AreLightest, weigh}
+use Rattle.nx_choices.specs.Choice.{AreWeighed}
+use Rattle.nx_choices.specs.Profile.{last, lefts_of, weigh, AreProfiles, IsDraftOf, IsLowered, IsProfile, IsReach, IsRowOf, IsStarted, IsWithin}
+use Rattle.nx_choices.specs.Lightest.{AreLightest}
 use Rattle.nx_choices.proofs.ChoiceLemmas.{plain_interval, wider}
 use Rattle.nx_choices.proofs.ReachLemmas.{len_weigh}
-use Rattle.nx_choices.proofs.LightestLemmas.{first_interval, first_fewest, first_none}
-use Rattle.nx_choices.proofs.ProfileLemmas.{drop_further, listed_end, listed_on, lowered_adds, draft_start, draft_lowered, draft_more, draft_done}
-
-pub profile_at : (k room : ℕ) (children : List Child) (profiles : List Profile) (index : ℕ) (profile : Profile) → AreProfiles k room children profiles → index < length profiles → profile ≡ get_or profiles index profile → IsProfile k room (drop index children) profile.base profile.lefts.items
-profile_at k room children [] index profile all within is = absurd (omega arith)
-profile_at k room children (first ∷ profiles) zero profile all within is = subst (λ (p : Profile). IsProfile k room children p.base p.lefts.items) (sym is) all.0
-profile_at k room children (first ∷ profiles) (suc index) profile all within is =
-    let rest = profile_at k room (drop 1 children) profiles index profile all.1 (omega arith) is in
-    let more : 1 + index ≡ suc index = omega arith in
-    let e : drop index (drop 1 children) ≡ drop (suc index) children = drop-drop index 1 children ∙ ap (λ n. drop n children) more in
-    subst (λ (cs : List Child). IsProfile k room cs profile.base profile.lefts.items) e rest
-
--- the profile of the children without the first `number`
-pub profile_beyond : (k room : ℕ) (children : List Child) (profiles : List Profile) (number : ℕ) (profile : Profile) → AreProfiles k room (drop 1 children) profiles → 1 ≤ number → number ≤ length profiles → profile ≡ get_or profiles (number - 1) profile → IsProfile k room (drop number children) profile.base profile.lefts.items
-profile_beyond k room children profiles number profile all some within is =
-    let rest = profile_at k room (drop 1 children) profiles (number - 1) profile all (omega arith) is in
-    let more : 1 + (number - 1) ≡ number = omega arith in
-    let e : drop (number - 1) (drop 1 children) ≡ drop number children = drop-drop (number - 1) 1 children ∙ ap (λ n. drop n children) more in
-    subst (λ (cs : List Child). IsProfile k room cs profile.base profile.lefts.items) e rest
+use Rattle.nx_choices.proofs.LightestLemmas.{fewest_some, fewest_least}
+use Rattle.nx_choices.proofs.ProfileLemmas.{drop_further, listed_end, listed_on, lowered_adds, draft_start, draft_lowered, draft_more, draft_done, profile_none}
 
 pub weighed_take : (k : ℕ) (children : List Child) (number : ℕ) → AreWeighed k children → AreWeighed k (take number children)
 weighed_take k children zero all = tt
@@ -59,13 +45,6 @@ pub plain_most : (k : ℕ) (children : List Child) (len sum light weight : ℕ) 
 plain_most k children len sum light weight h l =
     let w = h.weighed in let s = h.light in l.longest len h.within (let less = light_plain (take len children) in omega arith)
 
-pub draft_begun : (k room : ℕ) (children : List Child) (plain sum : ℕ) (first : Child) (after beyond : Profile) (lefts : List ℕ) → IsReach k Plain children plain sum → 1 ≤ plain → first ≡ get_or children 0 first → IsProfile k room (drop 1 children) after.base after.lefts.items → IsProfile k room (drop plain children) beyond.base beyond.lefts.items → IsStarted room first.lean after.base after.lefts.items beyond.base beyond.lefts.items lefts → IsDraftOf k room children (plain + 1) after.base lefts
-draft_begun k room [] plain sum first after beyond lefts reach some is a b h = let within = reach.within in absurd (omega arith)
-draft_begun k room (child ∷ children) plain sum first after beyond lefts reach some is a b h =
-    let w = reach.weighed in let l = reach.light in
-    let s = subst (λ (c : Child). IsStarted room c.lean after.base after.lefts.items beyond.base beyond.lefts.items lefts) is h in
-    draft_start k room child children plain after.base after.lefts.items beyond.base beyond.lefts.items lefts s a b some (plain_interval k (take plain (child ∷ children)) (omega arith))
-
 pub draft_ended : (k room : ℕ) (children : List Child) (light sum base : ℕ) (lefts : List ℕ) → IsDraftOf k room children (light + 1) base lefts → IsReach k Light children light sum → IsProfile k room children base lefts
 draft_ended k room [] light sum base lefts d reach = absurd d
 draft_ended k room (child ∷ children) light sum base lefts d reach = draft_done k room child children light sum base lefts d reach
@@ -81,66 +60,42 @@ idle k room children number light end last_base last extras extra most w p less 
     let g = l.enough in omega arith
 
 -- an interval of one child more, with as few members in their second form as it needs
-pub draft_cut : (k room : ℕ) (children : List Child) (number light base : ℕ) (lefts weights : List ℕ) (extra beyond_base : ℕ) (beyond new : List ℕ) (last_base : ℕ) (last : List ℕ) → IsDraftOf k room children number base lefts → 1 ≤ number → number ≤ light → AreLightest (take number children) weights → IsFirstLight k weights (Some extra) → IsProfile k room (drop number children) beyond_base beyond → IsProfile k room (drop light children) last_base last → base + length lefts ≤ length weights + (last_base + 1) → IsLowered (room + 1) base lefts (beyond_base + (1 + extra)) beyond new → IsDraftOf k room children (number + 1) base new
-draft_cut k room [] number light base lefts weights extra beyond_base beyond new last_base last d some less l f b p ends h = absurd d
-draft_cut k room (child ∷ children) number light base lefts weights extra beyond_base beyond new last_base last d some less l f b p ends h =
-    let i = first_interval k (take number (child ∷ children)) weights extra l f in
+pub draft_cut : (k room : ℕ) (children : List Child) (number light base : ℕ) (lefts : List ℕ) (extras : ℕ) (weights : List ℕ) (extra beyond_base : ℕ) (beyond new : List ℕ) (last_base : ℕ) (last : List ℕ) → IsDraftOf k room children number base lefts → 1 ≤ number → number ≤ light → AreLightest k (take number children) extras weights extra → extra < length weights → IsProfile k room (drop number children) beyond_base beyond → IsProfile k room (drop light children) last_base last → base + length lefts ≤ extras + (last_base + 1) → IsLowered (room + 1) base lefts (beyond_base + (1 + extra)) beyond new → IsDraftOf k room children (number + 1) base new
+draft_cut k room [] number light base lefts extras weights extra beyond_base beyond new last_base last d some less l f b p ends h = absurd d
+draft_cut k room (child ∷ children) number light base lefts extras weights extra beyond_base beyond new last_base last d some less l f b p ends h =
+    let i = fewest_some k (take number (child ∷ children)) extras weights extra l f in
     let lowered = draft_lowered k room child children number base lefts number extra beyond_base beyond new d b some i h in
     let len = h.len in
-    draft_more k room child children number base new lowered (λ other most w small much interval rest from. elim (cases_lt other (length weights)) [
+    draft_more k room child children number base new lowered (λ other most w small much interval rest from. elim (cases_lt other extras) [
       | inl within ↦
-          let fewest = first_fewest k (take number (child ∷ children)) weights extra other l f within interval in
+          let fewest = (fewest_least k (take number (child ∷ children)) extras weights extra other l within interval).1 in
           let wide = wider k (drop number (child ∷ children)) (most - (1 + other)) w (most - (1 + extra)) w (omega arith) (omega arith) rest in
           lowered_adds (room + 1) base lefts (beyond_base + (1 + extra)) beyond new most w h from (listed_on beyond_base (1 + extra) beyond most w (omega arith) ((b.tells (most - (1 + extra)) w small).0 wide))
-      | inr many ↦ listed_end base new most w (let e = idle k room (child ∷ children) number light (base + length lefts) last_base last (length weights) other most w p less ends many much small rest in omega arith)
+      | inr many ↦ listed_end base new most w (let e = idle k room (child ∷ children) number light (base + length lefts) last_base last extras other most w p less ends many much small rest in omega arith)
     ])
 
 -- no interval of so many children is light enough and worth its cost
-pub draft_uncut : (k room : ℕ) (children : List Child) (number light base : ℕ) (lefts weights : List ℕ) (last_base : ℕ) (last : List ℕ) → IsDraftOf k room children number base lefts → number ≤ light → AreLightest (take number children) weights → IsFirstLight k weights None → IsProfile k room (drop light children) last_base last → base + length lefts ≤ length weights + (last_base + 1) → IsDraftOf k room children (number + 1) base lefts
-draft_uncut k room [] number light base lefts weights last_base last d less l f p ends = absurd d
-draft_uncut k room (child ∷ children) number light base lefts weights last_base last d less l f p ends =
-    draft_more k room child children number base lefts d (λ other most w small much interval rest from. elim (cases_lt other (length weights)) [
-      | inl within ↦ absurd (first_none k (take number (child ∷ children)) weights other l f within interval)
-      | inr many ↦ listed_end base lefts most w (idle k room (child ∷ children) number light (base + length lefts) last_base last (length weights) other most w p less ends many much small rest)
+pub draft_uncut : (k room : ℕ) (children : List Child) (number light base : ℕ) (lefts : List ℕ) (extras : ℕ) (weights : List ℕ) (fewest last_base : ℕ) (last : List ℕ) → IsDraftOf k room children number base lefts → number ≤ light → AreLightest k (take number children) extras weights fewest → length weights ≤ fewest → IsProfile k room (drop light children) last_base last → base + length lefts ≤ extras + (last_base + 1) → IsDraftOf k room children (number + 1) base lefts
+draft_uncut k room [] number light base lefts extras weights fewest last_base last d less l f p ends = absurd d
+draft_uncut k room (child ∷ children) number light base lefts extras weights fewest last_base last d less l f p ends =
+    draft_more k room child children number base lefts d (λ other most w small much interval rest from. elim (cases_lt other extras) [
+      | inl within ↦ let least = (fewest_least k (take number (child ∷ children)) extras weights fewest other l within interval).0 in absurd (omega arith)
+      | inr many ↦ listed_end base lefts most w (idle k room (child ∷ children) number light (base + length lefts) last_base last extras other most w p less ends many much small rest)
     ])
 
-pub profile_fits : (k room : ℕ) (children : List Child) (number base : ℕ) (lefts : List ℕ) → IsProfile k room (drop number children) base lefts → base + length lefts ≤ length children - number
-profile_fits k room children number base lefts p = let s = p.short in let e = length-drop number children in omega arith
-
--- the profile at an index, where the profiles are those of the children without the first, and so on
-pub profile_next : (k room : ℕ) (children : List Child) (profiles : List Profile) (index : ℕ) (profile : Profile) → AreProfiles k room (drop 1 children) profiles → index < length profiles → profile ≡ get_or profiles index profile → IsProfile k room (drop (index + 1) children) profile.base profile.lefts.items
-profile_next k room children profiles index profile all within is =
-    let rest = profile_at k room (drop 1 children) profiles index profile all within is in
-    let more : 1 + index ≡ index + 1 = omega arith in
-    let e : drop index (drop 1 children) ≡ drop (index + 1) children = drop-drop index 1 children ∙ ap (λ n. drop n children) more in
-    subst (λ (cs : List Child). IsProfile k room cs profile.base profile.lefts.items) e rest
-
 -- what the start makes
-pub draft_first : (k room : ℕ) (children : List Child) (plain sum : ℕ) (first : Child) (lean : ℕ) (after beyond : Profile) (base : ℕ) (lefts : List ℕ) → IsReach k Plain children plain sum → 1 ≤ plain → first ≡ get_or children 0 first → lean ≡ first.lean → IsProfile k room (drop 1 children) after.base after.lefts.items → IsProfile k room (drop plain children) beyond.base beyond.lefts.items → base ≡ after.base → IsStarted room lean after.base after.lefts.items beyond.base beyond.lefts.items lefts → IsDraftOf k room children (plain + 1) base lefts
-draft_first k room children plain sum first lean after beyond base lefts reach some is leans a b bases h =
-    let s = subst (λ (n : ℕ). IsStarted room n after.base after.lefts.items beyond.base beyond.lefts.items lefts) leans h in
-    subst (λ (n : ℕ). IsDraftOf k room children (plain + 1) n lefts) (sym bases) (draft_begun k room children plain sum first after beyond lefts reach some is a b s)
-
-pub profiles_take : (k room : ℕ) (children : List Child) (profiles : List Profile) (number : ℕ) → AreProfiles k room children profiles → AreProfiles k room children (take number profiles)
-profiles_take k room children profiles zero all = tt
-profiles_take k room children [] (suc number) all = tt
-profiles_take k room children (profile ∷ profiles) (suc number) all = (all.0, profiles_take k room (drop 1 children) profiles number all.1)
+pub draft_first : (k room : ℕ) (children : List Child) (plain sum : ℕ) (first : Child) (after_base : ℕ) (after : List ℕ) (beyond_base : ℕ) (beyond : List ℕ) (base : ℕ) (lefts : List ℕ) → IsReach k Plain children plain sum → 1 ≤ plain → IsProfile k room (drop 1 children) after_base after → IsProfile k room (drop plain children) beyond_base beyond → base ≡ after_base → IsStarted room (get_or children 0 first).lean after_base after beyond_base beyond lefts → IsDraftOf k room children (plain + 1) base lefts
+draft_first k room [] plain sum first after_base after beyond_base beyond base lefts reach some a b bases h = let within = reach.within in absurd (omega arith)
+draft_first k room (child ∷ children) plain sum first after_base after beyond_base beyond base lefts reach some a b bases h =
+    let w = reach.weighed in let l = reach.light in
+    subst (λ (n : ℕ). IsDraftOf k room (child ∷ children) (plain + 1) n lefts) (sym bases)
+    (draft_start k room child children plain after_base after beyond_base beyond lefts h a b some (plain_interval k (take plain (child ∷ children)) (omega arith)))
 
 -- the children from a place on, without the first of them
 pub rest_next : (children : List Child) (at : ℕ) → 1 ≤ at → drop 1 (take (length children - (at - 1)) (drop (at - 1) children)) ≡ drop at children
 rest_next children at some =
     let sums : at - 1 + 1 ≡ at = omega arith in
     ap (λ cs. drop 1 cs) (take_rest children (at - 1)) ∙ drop-drop 1 (at - 1) children ∙ ap (λ n. drop n children) sums
-
-weighed-append : (k : ℕ) (front : List Child) (child : Child) → IsWeighed k child → AreWeighed k front → AreWeighed k (front ++ child ∷ [])
-weighed-append k [] child h all = (h, tt)
-weighed-append k (first ∷ front) child h all = (all.0, weighed-append k front child h all.1)
-
--- one child more
-pub weighed_next : (k : ℕ) (children : List Child) (index : ℕ) (child : Child) → index < length children → child ≡ get_or children index child → IsWeighed k child → AreWeighed k (take index children) → AreWeighed k (take (index + 1) children)
-weighed_next k children index child within is h all =
-    let e : take index children ++ child ∷ [] ≡ take (index + 1) children = ap (λ (c : Child). take index children ++ c ∷ []) is ∙ sym (take_more children index child within) in
-    subst (λ (cs : List Child). AreWeighed k cs) e (weighed-append k (take index children) child h all)
 
 -- where a choice that begins with a longer interval costs as much as to leave nothing
 pub draft_idle : (k room : ℕ) (children : List Child) (until light base : ℕ) (lefts : List ℕ) (last_base : ℕ) (last : List ℕ) → IsDraftOf k room children until base lefts → IsProfile k room (drop light children) last_base last → base + length lefts ≤ last_base + 1 → IsDraftOf k room children (light + 1) base lefts
@@ -156,3 +111,93 @@ draft_idle k room (child ∷ children) until light base lefts last_base last d p
   short = d.short;
   small = d.small;
 }
+
+-- rows
+
+pub lefts_len : (lefts : List ℕ) (row : Row) → row.start + row.len ≤ length lefts → length (lefts_of lefts row) ≡ row.len
+lefts_len lefts row inside = let d = length-drop row.start lefts in length-take-le row.len (drop row.start lefts) (omega arith)
+
+-- a row ends where as many are cut as there are children
+pub row_fits : (k room : ℕ) (children : List Child) (lefts : List ℕ) (row : Row) → IsRowOf k room children lefts row → row.base + row.len ≤ length children
+row_fits k room children lefts row r = let e = lefts_len lefts row r.inside in let s = r.profile.short in omega arith
+
+-- the last children are those without the first ones
+pub last_all : (children : List Child) (at : ℕ) → at ≤ length children → last (length children - at) children ≡ drop at children
+last_all children at within = let e : length children - (length children - at) ≡ at = omega arith in ap (λ n. drop n children) e
+
+pub last_rest : (children : List Child) (number : ℕ) → 1 ≤ length children → number ≤ length children - 1 → last number (drop 1 children) ≡ last number children
+last_rest children number some within =
+    let len = length-drop 1 children in
+    let e : 1 + (length (drop 1 children) - number) ≡ length children - number = omega arith in
+    drop-drop (length (drop 1 children) - number) 1 children ∙ ap (λ n. drop n children) e
+
+-- the row of the children behind an interval
+pub row_beyond : (k room : ℕ) (children : List Child) (lefts : List ℕ) (row : Row) (number : ℕ) → 1 ≤ number → number ≤ length children → IsRowOf k room (last (length children - number) (drop 1 children)) lefts row → IsRowOf k room (drop number children) lefts row
+row_beyond k room children lefts row number some within r =
+    subst (λ cs. IsRowOf k room cs lefts row) (last_rest children (length children - number) (omega arith) (omega arith) ∙ last_all children number within) r
+
+row_kept : (k room : ℕ) (children : List Child) (lefts more : List ℕ) (row : Row) → IsRowOf k room children lefts row → IsRowOf k room children (lefts ++ more) row
+row_kept k room children lefts more row r =
+    let inside = r.inside in let len = length-append lefts more in let d = length-drop row.start lefts in
+    let same : lefts_of (lefts ++ more) row ≡ lefts_of lefts row =
+    ap (λ xs. take row.len xs) (drop-append-le row.start lefts more (omega arith)) ∙ take-append-le row.len (drop row.start lefts) more (omega arith) in
+    record { inside = omega arith; profile = subst (λ xs. IsProfile k room children row.base xs) (sym same) r.profile }
+
+row_new : (k room : ℕ) (children : List Child) (lefts more : List ℕ) (row : Row) → row.start ≡ length lefts → row.len ≡ length more → IsProfile k room children row.base more → IsRowOf k room children (lefts ++ more) row
+row_new k room children lefts more row start len p =
+    let sums = length-append lefts more in
+    let same : lefts_of (lefts ++ more) row ≡ more =
+    ap (λ n. take row.len (drop n (lefts ++ more))) start ∙ ap (λ xs. take row.len xs) (drop-append_seam lefts more) ∙ take_all row.len more (omega arith) in
+    record { inside = omega arith; profile = subst (λ xs. IsProfile k room children row.base xs) (sym same) p }
+
+-- one row more
+pub profiles_push : (k room : ℕ) (children : List Child) (old new : Profiles) (row : Row) (more : List ℕ) → new.rows.items ≡ old.rows.items ++ row ∷ [] → new.lefts.items ≡ old.lefts.items ++ more → row.start ≡ length old.lefts.items → row.len ≡ length more → length old.rows.items ≡ length children → AreProfiles k room (drop 1 children) old → IsProfile k room children row.base more → AreProfiles k room children new
+profiles_push k room children old new row more rows lefts start len many all p =
+    let less = all.all in let sums = ap length rows ∙ length-append old.rows.items (row ∷ []) in let dropped = length-drop 1 children in
+    record {
+      all = omega arith;
+      each = λ number other within. elim (cases_lt number (length old.rows.items)) [
+        | inl before ↦
+            let at : get_or new.rows.items number other ≡ get_or old.rows.items number other = ap (λ rs. get_or rs number other) rows ∙ get_or_append_left old.rows.items (row ∷ []) other number before in
+            let was = all.each number other (omega arith) in
+            subst (λ r. IsRowOf k room (last number children) new.lefts.items r) (sym at)
+            (subst (λ xs. IsRowOf k room (last number children) xs (get_or old.rows.items number other)) (sym lefts)
+            (row_kept k room (last number children) old.lefts.items more (get_or old.rows.items number other)
+            (subst (λ cs. IsRowOf k room cs old.lefts.items (get_or old.rows.items number other)) (last_rest children number (omega arith) (omega arith)) was)))
+        | inr past ↦
+            let here : number ≡ length old.rows.items = omega arith in
+            let at : get_or new.rows.items number other ≡ row = ap (λ n. get_or new.rows.items n other) here ∙ ap (λ rs. get_or rs (length old.rows.items) other) rows ∙ get_or-append_seam old.rows.items row [] other in
+            let none : length children - number ≡ 0 = omega arith in
+            let whole : last number children ≡ children = ap (λ n. drop n children) none in
+            subst (λ r. IsRowOf k room (last number children) new.lefts.items r) (sym at)
+            (subst (λ cs. IsRowOf k room cs new.lefts.items row) (sym whole)
+            (subst (λ xs. IsRowOf k room children xs row) (sym lefts) (row_new k room children old.lefts.items more row start len p)))
+      ];
+    }
+
+-- the profiles of no children
+pub profiles_none : (k room : ℕ) (profiles : Profiles) (row : Row) → profiles.rows.items ≡ row ∷ [] → row.start ≡ 0 → row.len ≡ 0 → row.base ≡ 0 → AreProfiles k room [] profiles
+profiles_none k room profiles row rows start len base = record {
+  all = let n = ap length rows in omega arith;
+  each = λ number other within.
+      let none : 0 ≡ number = omega arith in
+      let at : row ≡ get_or profiles.rows.items number other = ap (λ rs. get_or rs 0 other) (sym rows) ∙ ap (λ n. get_or profiles.rows.items n other) none in
+      subst (λ r. IsRowOf k room (last number []) profiles.lefts.items r) at (record {
+        inside = omega arith;
+        profile = subst (λ cs. IsProfile k room cs row.base (lefts_of profiles.lefts.items row)) (ap (λ n. last n []) none)
+            (subst (λ b. IsProfile k room [] b (lefts_of profiles.lefts.items row)) (sym base)
+            (subst (λ n. IsProfile k room [] 0 (take n (drop row.start profiles.lefts.items))) (sym len) (profile_none k room)));
+      });
+}
+
+-- the profiles of all children are those of the last ones
+pub profiles_drop : (k room : ℕ) (children : List Child) (profiles : Profiles) (at : ℕ) → at ≤ length children → AreProfiles k room children profiles → AreProfiles k room (drop at children) profiles
+profiles_drop k room children profiles at within all =
+    let len = length-drop at children in let many = all.all in
+    record {
+      all = omega arith;
+      each = λ number other less.
+          let e : at + (length (drop at children) - number) ≡ length children - number = omega arith in
+          let same : last number children ≡ last number (drop at children) = sym (drop-drop (length (drop at children) - number) at children ∙ ap (λ n. drop n children) e) in
+          subst (λ cs. IsRowOf k room cs profiles.lefts.items (get_or profiles.rows.items number other)) same (all.each number other (omega arith));
+    }

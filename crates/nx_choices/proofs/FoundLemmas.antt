@@ -15,11 +15,10 @@ leasts-append [] back = omega arith
 leasts-append (child ∷ front) back = let ih = leasts-append front back in omega arith
 
 -- one child more
-pub leasts_more : (children : List Child) (index : ℕ) (child : Child) → index < length children → child ≡ get_or children index child → leasts (take (index + 1) children) ≡ leasts (take index children) + child.least
-leasts_more children index child within is =
+pub leasts_more : (children : List Child) (index : ℕ) (child : Child) → index < length children → leasts (take (index + 1) children) ≡ leasts (take index children) + (get_or children index child).least
+leasts_more children index child within =
     let more = ap leasts (take_more children index child within) in
-    let sums = leasts-append (take index children) (get_or children index child ∷ []) in
-    let same = ap (λ (c : Child). c.least) is in omega arith
+    let sums = leasts-append (take index children) (get_or children index child ∷ []) in omega arith
 
 members_number : (members : List Member) → numbers_of members ≡ seconds members + leasts (map child_of members)
 members_number [] = refl
@@ -73,7 +72,7 @@ pub left_some : (k room : ℕ) (children : List Child) (base : ℕ) (lefts : Lis
 left_some k room children base lefts most enough little p =
     (little, (p.tells most (get_or lefts (most - base) 0) little).1 (record { enough = enough; little = omega arith }), λ w small h. ((p.tells most w small).0 h).little)
 
-counted : (cells : List Cell) (children : List Child) (number sum : ℕ) → AreCounts children number sum → covered cells ≡ children → count cells ≡ count_of sum number (cost cells)
+pub counted : (cells : List Cell) (children : List Child) (number sum : ℕ) → AreCounts children number sum → covered cells ≡ children → count cells ≡ count_of sum number (cost cells)
 counted cells children number sum a e = let n = a.many in let s = a.sums in let c = count_is cells children e in omega arith
 
 -- no choice has so small a count
@@ -88,7 +87,7 @@ excess_unleft own room children number sum most claimed budget a b l = λ cells 
     let within = admitted_within (own + room) own room children cells refl admitted in
     absurd (l (left cells) (omega arith) (wider (own + room) children (cost cells) (left cells) budget (left cells) ((b (cost cells)).0 (omega arith)) (omega arith) within))
 
-least_weight : (own room : ℕ) (children : List Child) (number sum most budget some_left : ℕ) → AreCounts children number sum → IsBudget sum number most (Some budget) → IsLeastLeft (own + room) room children budget (Some some_left) → IsLeastWeight (own + room) own children most (own + some_left)
+pub least_weight : (own room : ℕ) (children : List Child) (number sum most budget some_left : ℕ) → AreCounts children number sum → IsBudget sum number most (Some budget) → IsLeastLeft (own + room) room children budget (Some some_left) → IsLeastWeight (own + room) own children most (own + some_left)
 least_weight own room children number sum most budget some_left a b l =
     let h = l.1 in let c = counted h.cells children number sum a h.covers in let few = (b (cost h.cells)).1 h.cheap in let little = h.little in let small = l.0 in
     let least = l.2 (left h.cells) (omega arith) (record { cells = h.cells; covers = h.covers; light = h.light; cheap = h.cheap; little = omega arith }) in

@@ -23,47 +23,52 @@ weighs_most k Plain child h = omega arith
 weighs_most k Light child h = omega arith
 
 -- one of weighed children
-pub weighed_at : (k : ℕ) (children : List Child) (index : ℕ) (child : Child) → AreWeighed k children → index < length children → child ≡ get_or children index child → IsWeighed k child
-weighed_at k [] index child all within is = absurd (omega arith)
-weighed_at k (first ∷ children) zero child all within is = subst (λ (c : Child). IsWeighed k c) (sym is) all.0
-weighed_at k (first ∷ children) (suc index) child all within is = weighed_at k children index child all.1 (omega arith) is
+pub weighed_at : (k : ℕ) (children : List Child) (index : ℕ) (child : Child) → AreWeighed k children → index < length children → IsWeighed k (get_or children index child)
+weighed_at k [] index child all within = absurd (omega arith)
+weighed_at k (first ∷ children) zero child all within = all.0
+weighed_at k (first ∷ children) (suc index) child all within = weighed_at k children index child all.1 (omega arith)
 
 weigh-append : (form : Form) (front back : List Child) → weigh form (front ++ back) ≡ weigh form front + weigh form back
 weigh-append form [] back = omega arith
 weigh-append form (child ∷ front) back = let ih = weigh-append form front back in omega arith
 
-pub weigh_more : (form : Form) (children : List Child) (index : ℕ) (child : Child) → index < length children → child ≡ get_or children index child → weigh form (take (index + 1) children) ≡ weigh form (take index children) + weighs form child
-weigh_more form children index child within is =
+-- some of the children weigh no more than all
+pub weigh_take : (form : Form) (children : List Child) (number : ℕ) → weigh form (take number children) ≤ weigh form children
+weigh_take form children zero = omega arith
+weigh_take form [] (suc number) = omega arith
+weigh_take form (child ∷ children) (suc number) = let ih = weigh_take form children number in omega arith
+
+pub weigh_more : (form : Form) (children : List Child) (index : ℕ) (child : Child) → index < length children → weigh form (take (index + 1) children) ≡ weigh form (take index children) + weighs form (get_or children index child)
+weigh_more form children index child within =
     let more = ap (weigh form) (take_more children index child within) in
-    let sums = weigh-append form (take index children) (get_or children index child ∷ []) in
-    let same = ap (weighs form) is in omega arith
+    let sums = weigh-append form (take index children) (get_or children index child ∷ []) in omega arith
 
 longest_start : (k : ℕ) (form : Form) (child : Child) (children : List Child) (len sum : ℕ) → IsReach k form children len sum → (longer : ℕ) → longer ≤ length (child ∷ children) → weigh form (take longer (child ∷ children)) ≤ k → longer ≤ len + 1
 longest_start k form child children len sum h zero within light = omega arith
 longest_start k form child children len sum h (suc longer) within light =
     let shorter = h.longest longer (omega arith) (omega arith) in omega arith
 
-start_cons : (k : ℕ) (form : Form) (child : Child) (children : List Child) (len sum : ℕ) (first : Child) → first ≡ child → IsReach k form children len sum → IsLonger k form (child ∷ children) (suc len) (sum + weighs form first)
-start_cons k form child children len sum first is h =
-    let same = ap (weighs form) is in let w = h.weighed in
+start_cons : (k : ℕ) (form : Form) (child : Child) (children : List Child) (len sum : ℕ) → IsReach k form children len sum → IsLonger k form (child ∷ children) (suc len) (sum + weighs form child)
+start_cons k form child children len sum h =
+    let w = h.weighed in
     record { within = omega arith; weighed = omega arith; longest = λ longer a b. let l = longest_start k form child children len sum h longer a b in omega arith }
 
-pub start_reach : (k : ℕ) (form : Form) (children : List Child) (len sum : ℕ) (first : Child) → 1 ≤ length children → first ≡ get_or children 0 first → IsReach k form (drop 1 children) len sum → IsLonger k form children (len + 1) (sum + weighs form first)
-start_reach k form [] len sum first some is h = absurd (omega arith)
-start_reach k form (child ∷ children) len sum first some is h = rw add-one (start_cons k form child children len sum first is h)
+pub start_reach : (k : ℕ) (form : Form) (children : List Child) (len sum : ℕ) (first : Child) → 1 ≤ length children → IsReach k form (drop 1 children) len sum → IsLonger k form children (len + 1) (sum + weighs form (get_or children 0 first))
+start_reach k form [] len sum first some h = absurd (omega arith)
+start_reach k form (child ∷ children) len sum first some h = rw add-one (start_cons k form child children len sum h)
 
 pub longer_some : (k : ℕ) (form : Form) (children : List Child) (len sum : ℕ) → IsLonger k form children len sum → k < sum → 1 ≤ len
 longer_some k form children zero sum h heavy = let w = h.weighed in absurd (omega arith)
 longer_some k form children (suc len) sum h heavy = omega arith
 
 -- the far child is in the sum
-pub longer_far : (k : ℕ) (form : Form) (children : List Child) (len sum : ℕ) (far : Child) → IsLonger k form children (len + 1) sum → far ≡ get_or children len far → sum ≡ weigh form (take len children) + weighs form far
-longer_far k form children len sum far h is =
-    let within = h.within in h.weighed ∙ weigh_more form children len far (omega arith) is
+pub longer_far : (k : ℕ) (form : Form) (children : List Child) (len sum : ℕ) (far : Child) → IsLonger k form children (len + 1) sum → sum ≡ weigh form (take len children) + weighs form (get_or children len far)
+longer_far k form children len sum far h =
+    let within = h.within in h.weighed ∙ weigh_more form children len far (omega arith)
 
-pub shorten : (k : ℕ) (form : Form) (children : List Child) (len sum : ℕ) (far : Child) → IsLonger k form children (len + 1) sum → far ≡ get_or children len far → k < sum → IsLonger k form children len (sum - weighs form far)
-shorten k form children len sum far h is heavy =
-    let w = longer_far k form children len sum far h is in let within = h.within in let was = h.weighed in
+pub shorten : (k : ℕ) (form : Form) (children : List Child) (len sum : ℕ) (far : Child) → IsLonger k form children (len + 1) sum → k < sum → IsLonger k form children len (sum - weighs form (get_or children len far))
+shorten k form children len sum far h heavy =
+    let w = longer_far k form children len sum far h in let within = h.within in let was = h.weighed in
     record {
       within = omega arith;
       weighed = omega arith;
@@ -89,12 +94,12 @@ reach_some k form [] len sum all some h = absurd (omega arith)
 reach_some k form (child ∷ children) len sum all some h = h.longest 1 (omega arith) (first_light k form child children all.0)
 
 -- while the sum is too large, the far child is taken off
-pub shortened : (k : ℕ) (form : Form) (children : List Child) (len sum : ℕ) (far : Child) → IsLonger k form children len sum → far ≡ get_or children (len - 1) far → k < sum → (weighs form far ≤ sum) × IsLonger k form children (len - 1) (sum - weighs form far)
-shortened k form children len sum far h is heavy =
+pub shortened : (k : ℕ) (form : Form) (children : List Child) (len sum : ℕ) (far : Child) → IsLonger k form children len sum → k < sum → (weighs form (get_or children (len - 1) far) ≤ sum) × IsLonger k form children (len - 1) (sum - weighs form (get_or children (len - 1) far))
+shortened k form children len sum far h heavy =
     let some = longer_some k form children len sum h heavy in let e : len ≡ len - 1 + 1 = omega arith in
     let at = subst (λ (n : ℕ). IsLonger k form children n sum) e h in
-    let w = longer_far k form children (len - 1) sum far at is in
-    (omega arith, shorten k form children (len - 1) sum far at is heavy)
+    let w = longer_far k form children (len - 1) sum far at in
+    (omega arith, shorten k form children (len - 1) sum far at heavy)
 
 none_longest : (k : ℕ) (form : Form) (longer : ℕ) → longer ≤ length {A = Child} [] → longer ≤ 0
 none_longest k form longer within = omega arith

@@ -1,10 +1,11 @@
 -- The least that the choices over a list of children leave with their node, by what they cost.
-use Rattle.std.specs.Prelude.{◌≡◌, ◌↔◌, ℕ, ◌+◌, ◌-◌, ◌<◌, ◌≤◌, min, max, List, [], ◌∷◌, map, length, take, drop, slice_index, if◌then◌else◌, nat_lt, Option, None, Some}
-use Rattle.nx_choices.specs.declared.profile.Profile.{Profile}
+use Rattle.std.specs.Prelude.{◌≡◌, ◌↔◌, ℕ, ◌+◌, ◌-◌, ◌<◌, ◌≤◌, min, max, List, [], ◌∷◌, map, length, take, drop, get_or, slice_index, if◌then◌else◌, nat_lt, Option, None, Some}
+use Rattle.nx_choices.specs.declared.profiles.Profiles.{Profiles}
+use Rattle.nx_choices.specs.declared.profiles.Row.{Row}
 use Rattle.nx_choices.specs.declared.reach.Form.{Form}
 use Rattle.nx_choices.specs.declared.reach.Form.TheVariants.{Plain, Light}
 use Rattle.nx_choices.specs.declared.child.Child.{Child}
-use Rattle.nx_choices.specs.Choice.{Member, First, Second, Cell, Uncut, Interval, child_of, covered, interval_weight, left, count, AreLight, IsAdmitted}
+use Rattle.nx_choices.specs.Choice.{Member, First, Second, Cell, Uncut, Interval, child_of, covered, interval_weight, left, leasts, count, AreLight, IsAdmitted}
 
 -- 1 for a member in its second form
 abbrev pub second : Member → ℕ
@@ -56,10 +57,23 @@ pub record IsProfile (k room : ℕ) (children : List Child) (base : ℕ) (lefts 
   pub short : base + length lefts ≤ length children
   pub small : (index : ℕ) → slice_index lefts index ≤ room + 1
 
--- each of the profiles is that of the children without as many first ones as profiles stand before it
-abbrev pub AreProfiles : ℕ → ℕ → List Child → List Profile → Type 0
-AreProfiles k room children [] = Unit {0}
-AreProfiles k room children (profile ∷ profiles) = IsProfile k room children profile.base profile.lefts.items × AreProfiles k room (drop 1 children) profiles
+-- the numbers of a row
+abbrev pub lefts_of : List ℕ → Row → List ℕ
+lefts_of lefts row = take row.len (drop row.start lefts)
+
+-- the row is the profile of these children, and its numbers are among the lefts
+pub record IsRowOf (k room : ℕ) (children : List Child) (lefts : List ℕ) (row : Row) : Type 0 where
+  pub inside : row.start + row.len ≤ length lefts
+  pub profile : IsProfile k room children row.base (lefts_of lefts row)
+
+-- the last `number` of the children
+abbrev pub last : ℕ → List Child → List Child
+last number children = drop (length children - number) children
+
+-- the first of the rows are the profiles of no children, of the last one, of the last two, and so on up to all of these
+pub record AreProfiles (k room : ℕ) (children : List Child) (profiles : Profiles) : Type 0 where
+  pub all : length children < length profiles.rows.items
+  pub each : (number : ℕ) (row : Row) → number ≤ length children → IsRowOf k room (last number children) profiles.lefts.items (get_or profiles.rows.items number row)
 
 -- what a child weighs in an interval: in its first form, or in the lighter one
 abbrev pub weighs : Form → Child → ℕ
@@ -88,12 +102,6 @@ pub record IsLowered (none base : ℕ) (old : List ℕ) (beyond_base : ℕ) (bey
   pub len : length new ≡ length old
   pub each : (index : ℕ) → index < length old → slice_index new index ≡ min (slice_index old index) (left_at none beyond_base beyond (base + index))
 
--- The weights of intervals, by how many members are in their second form, where there is one member more.
-pub record IsAdded (child : Child) (old new : List ℕ) : Type 0 where
-  pub len : length new ≡ length old
-  pub first : 0 < length old → slice_index new 0 ≡ slice_index old 0 + child.lean
-  pub others : (most : ℕ) → 1 ≤ most → most < length old → slice_index new most ≡ min (slice_index old most + child.lean) (slice_index old (most - 1) + child.nearly)
-
 -- the index of the first weight that is at most k, if there is one
 abbrev pub IsFirstLight : ℕ → List ℕ → Option ℕ → Type 0
 IsFirstLight k weights None = (index : ℕ) → index < length weights → k < slice_index weights index
@@ -113,14 +121,6 @@ pub record IsDraft (k room : ℕ) (child : Child) (children : List Child) (until
 abbrev pub IsDraftOf : ℕ → ℕ → List Child → ℕ → ℕ → List ℕ → Type 0
 IsDraftOf k room [] until base lefts = ⊥
 IsDraftOf k room (child ∷ children) until base lefts = IsDraft k room child children until base lefts
-
--- what the lightest interval of these children weighs that has at most so many members in their second form
-pub record IsLightest (children : List Child) (most weight : ℕ) : Type 0 where
-  pub tells : (k : ℕ) → IsInterval k children most ↔ weight ≤ k
-
--- those with fewer than there are weights
-pub record AreLightest (children : List Child) (weights : List ℕ) : Type 0 where
-  pub each : (most : ℕ) → most < length weights → IsLightest children most (slice_index weights most)
 
 -- the count of a choice with this cost over so many children with these numbers
 abbrev pub count_of : ℕ → ℕ → ℕ → ℕ

@@ -1,16 +1,14 @@
 // The profile of children from those of the children without the first ones.
-ghost use Rattle.std.specs.Prelude.{◌≡◌, ℕ, ◌+◌, ◌-◌, ◌*◌, ◌<◌, ◌≤◌, ◌^◌, drop, take, length, slice_index, vec_len, OnOk};
-ghost use Rattle.std.specs.VecDeque.{deque_len};
+ghost use Rattle.std.specs.Prelude.{◌≡◌, ℕ, ◌+◌, ◌<◌, ◌≤◌, ◌^◌, drop, length, vec_len, OnOk};
 ghost use Rattle.nx_choices.specs.Choice.{AreWeighed};
-ghost use Rattle.nx_choices.specs.Profile.{AreLightest, AreProfiles, IsDraftOf, IsProfile, IsReach};
+ghost use Rattle.nx_choices.specs.Profile.{AreProfiles, IsDraftOf, IsProfile, IsReach};
 ghost use Rattle.nx_choices.specs.declared.reach.Form.TheVariants.{Plain, Light};
 
 use crate::Child;
-use crate::lightest::add_member;
-use crate::profile::{Profile, first_at_most};
-use crate::reach::Form;
+use crate::lightest::Lightest;
+use crate::profile::Profile;
+use crate::profiles::Profiles;
 use nx_tree::NoMemory;
-use std::collections::VecDeque;
 
 // How the first of some children may be cut.
 #[derive(Clone, Copy)]
@@ -27,13 +25,13 @@ pub(crate) struct Cuts {
 
 impl Profile {
     // Makes it the profile of these children, where `profiles` are those of the children without the
-    // first, and so on. `weights` is room to work in.
+    // first. `lightest` is room to work in.
     pub(crate) fn build(
         &mut self,
         cuts: Cuts,
         children: &[Child],
-        profiles: &VecDeque<Profile>,
-        weights: &mut Vec<u32>,
+        profiles: &Profiles,
+        lightest: &mut Lightest,
     ) -> Result<(), NoMemory>
         requires k { cuts.k ≤ 256 }
         requires room { cuts.room ≤ 256 }
@@ -42,12 +40,12 @@ impl Profile {
         requires weighed { AreWeighed cuts.k children.now }
         requires plain { (sum : ℕ) × IsReach cuts.k Plain children.now cuts.plain sum }
         requires light { (sum : ℕ) × IsReach cuts.k Light children.now cuts.light sum }
-        requires kept { cuts.light ≤ deque_len profiles.now }
-        requires profiles { AreProfiles cuts.k cuts.room (drop 1 children.now) profiles.now.items }
+        requires kept { length children.now ≤ vec_len profiles.now.rows }
+        requires profiles { AreProfiles cuts.k cuts.room (drop 1 children.now) profiles.now }
         ensures { OnOk result (IsProfile cuts.k cuts.room children.now self.new.base self.new.lefts.items) }
     {
         self.begin(cuts, children, profiles)?;
-        self.cut_longer(cuts, children, profiles, weights)?;
+        self.cut_longer(cuts, children, profiles, lightest)?;
         self.cut_start(cuts.room);
         Ok(())
     }
@@ -58,20 +56,22 @@ impl Profile {
         &mut self,
         cuts: Cuts,
         children: &[Child],
-        profiles: &VecDeque<Profile>,
+        profiles: &Profiles,
     ) -> Result<(), NoMemory>
         requires k { cuts.k ≤ 256 }
         requires room { cuts.room ≤ 256 }
-        requires some { 1 ≤ length children.now }
+        requires some { 1 ≤ cuts.plain }
         requires number { length children.now < 2 ^ 31 }
         requires weighed { AreWeighed cuts.k children.now }
         requires plain { (sum : ℕ) × IsReach cuts.k Plain children.now cuts.plain sum }
-        requires kept { cuts.plain ≤ deque_len profiles.now }
-        requires profiles { AreProfiles cuts.k cuts.room (drop 1 children.now) profiles.now.items }
+        requires kept { length children.now ≤ vec_len profiles.now.rows }
+        requires profiles { AreProfiles cuts.k cuts.room (drop 1 children.now) profiles.now }
         ensures { OnOk result (IsDraftOf cuts.k cuts.room children.now (cuts.plain + 1) self.new.base self.new.lefts.items) }
     {
-        let lean = children[0].weighs(Form::Plain);
-        self.start(lean, cuts.room, &profiles[0], &profiles[cuts.plain - 1])?;
+        let lean = children[0].lean;
+        let after = profiles.of_last(children.len() - 1);
+        let beyond = profiles.of_last(children.len() - cuts.plain);
+        self.start(lean, cuts.room, profiles, after, beyond)?;
         Ok(())
     }
 
@@ -81,8 +81,8 @@ impl Profile {
         &mut self,
         cuts: Cuts,
         children: &[Child],
-        profiles: &VecDeque<Profile>,
-        weights: &mut Vec<u32>,
+        profiles: &Profiles,
+        lightest: &mut Lightest,
     ) -> Result<(), NoMemory>
         requires k { cuts.k ≤ 256 }
         requires room { cuts.room ≤ 256 }
@@ -92,48 +92,28 @@ impl Profile {
         requires number { length children.now < 2 ^ 31 }
         requires weighed { AreWeighed cuts.k children.now }
         requires light { (sum : ℕ) × IsReach cuts.k Light children.now cuts.light sum }
-        requires kept { cuts.light ≤ deque_len profiles.now }
-        requires profiles { AreProfiles cuts.k cuts.room (drop 1 children.now) profiles.now.items }
+        requires kept { length children.now ≤ vec_len profiles.now.rows }
+        requires profiles { AreProfiles cuts.k cuts.room (drop 1 children.now) profiles.now }
         requires draft { IsDraftOf cuts.k cuts.room children.now (cuts.plain + 1) self.old.base self.old.lefts.items }
         ensures { OnOk result (IsProfile cuts.k cuts.room children.now self.new.base self.new.lefts.items) }
     {
         if cuts.plain == cuts.light {
             return Ok(());
         }
-        let last = &profiles[cuts.light - 1];
-        let extras = self.end().saturating_sub(last.base + 1);
+        let last = profiles.of_last(children.len() - cuts.light);
+        let extras = self.end().saturating_sub(last.base + 1) as usize;
         if extras == 0 {
             return Ok(());
         }
-        weigh_shorter(weights, extras as usize, &children[..cuts.plain])?;
+        lightest.weigh(cuts.k, extras, &children[..cuts.plain])?;
         for len in cuts.plain..cuts.light {
-            add_member(weights, &children[len]);
-            if let Some(extra) = first_at_most(weights, cuts.k) {
-                self.lower(1 + extra as u32, cuts.room, &profiles[len]);
+            lightest.add(cuts.k, extras, &children[len])?;
+            if let Some(extra) = lightest.fewest() {
+                let beyond = profiles.of_last(children.len() - (len + 1));
+                self.lower(1 + extra, cuts.room, profiles, beyond);
             }
         }
         self.cut_end();
         Ok(())
     }
-}
-
-// The least that an interval of these children weighs with 0, 1 and so on members in their second form,
-// fewer than `extras`.
-fn weigh_shorter(
-    weights: &mut Vec<u32>,
-    extras: usize,
-    children: &[Child],
-) -> Result<(), NoMemory>
-    requires number { length children.now ≤ 256 }
-    requires weighed { AreWeighed 256 children.now }
-    ensures len { OnOk result (length weights.new.items ≡ extras) }
-    ensures lightest { OnOk result (AreLightest children.now weights.new.items) }
-    ensures small { OnOk result ((index : ℕ) → slice_index weights.new.items index ≤ 256 * length children.now) }
-{
-    weights.clear();
-    weights.resize(extras, 0)?;
-    for child in children {
-        add_member(weights, child);
-    }
-    Ok(())
 }

@@ -1,49 +1,47 @@
 // What the choices over the children of a node give.
-ghost use Rattle.std.specs.Prelude.{◌≡◌, ℕ, ◌+◌, ◌<◌, ◌≤◌, ◌^◌, List, [], drop, length, min, IfOk, OnOk};
-ghost use Rattle.std.specs.VecDeque.{deque_len};
+ghost use Rattle.std.specs.Prelude.{◌<◌, ◌≤◌, ◌^◌, length, IfOk, OnOk};
 ghost use Rattle.nx_choices.specs.Choice.{leasts, AreWeighed};
 ghost use Rattle.nx_choices.specs.Claim.{IsFound};
 ghost use Rattle.nx_choices.specs.Least.{IsLeastChoice};
 ghost use Rattle.nx_choices.specs.Stand.{AddsChoice, HasChoice};
-ghost use Rattle.nx_choices.specs.Profile.{AreProfiles, IsReach};
-ghost use Rattle.nx_choices.specs.declared.reach.Form.TheVariants.{Plain, Light};
+ghost use Rattle.nx_choices.specs.Profile.{AreProfiles, IsProfile};
 
 use crate::build::Cuts;
 use crate::found::{Counts, Parent};
+use crate::lightest::Lightest;
 use crate::profile::Profile;
+use crate::profiles::Profiles;
 use crate::reach::{Form, Reach};
+use crate::walk::{follow, push_uncut, total};
 use crate::{Child, Field, Stand};
 use nx_tree::NoMemory;
 use std::alloc::Global;
-use std::collections::VecDeque;
 
-/// The check of bounds against the choices over what is claimed of the children. It keeps the memory
-/// that it took for the nodes that come after: at most k + 1 profiles of at most k + 1 numbers each, and
-/// fewer than 2k numbers beside them.
+/// The choices over the children of one node after another. It keeps the memory that it took for the nodes
+/// that come after: for the node with the most children 16 bytes a child, and two bytes for each number of
+/// their profiles, of which a child seldom has more than a few, and at most k + 1.
 #[derive(Drop)]
 pub struct Choices {
-    alloc: Global,
-    // What the choices may leave over the last children, over those without the first, and so on.
-    profiles: VecDeque<Profile>,
-    // Profiles to write over.
-    spares: Vec<Profile>,
+    // What the choices may leave over all children.
+    profile: Profile,
+    // What they may leave over the last ones, where not all children fit into the node's part.
+    profiles: Profiles,
     // The lightest intervals of the first children.
-    weights: Vec<u32>,
+    lightest: Lightest,
 }
 
 impl Choices {
     /// It takes no memory yet.
     pub fn new(alloc: Global) -> Choices {
         Choices {
-            alloc,
-            profiles: VecDeque::new(alloc),
-            spares: Vec::new(alloc),
-            weights: Vec::new(alloc),
+            profile: Profile::new(alloc),
+            profiles: Profiles::new(alloc),
+            lightest: Lightest::new(alloc),
         }
     }
 
-    /// The first number of the bound that is more than the least that a choice gives, and that least;
-    /// none where each number is supported. The node weighs `own`, and no part may weigh more than `k`.
+    /// The first number that is claimed of a node and is more than the least that a choice over its children
+    /// gives, and that least; none where each number is supported. The node weighs `own`, and no part may weigh more than `k`.
     /// Both forms of each child have to weigh at least 1 and at most `k`, which is at most 256.
     ///
     /// Errors: `NoMemory`, where there is none for what the choices have to keep.
@@ -69,8 +67,7 @@ impl Choices {
             room,
             counts: Counts::new(children),
         };
-        let profile = &self.profiles[0];
-        Ok(profile.exceeded(parent, claimed))
+        Ok(self.profile.exceeded(parent, claimed))
     }
 
     /// What the least choices over the children give at a node that weighs `own`, where no part may weigh
@@ -88,7 +85,14 @@ impl Choices {
         requires weights { AreWeighed k children.now }
         ensures { IfOk result (λ node. IsLeastChoice k own children.now node) }
     {
-        Err(NoMemory)
+        let room = k - own;
+        self.run(k, room, children)?;
+        let parent = Parent {
+            own,
+            room,
+            counts: Counts::new(children),
+        };
+        Ok(self.profile.least(parent))
     }
 
     /// Adds to the list how each of the children stands in a choice that counts at most `most` intervals,
@@ -113,24 +117,45 @@ impl Choices {
         requires there { HasChoice k own most weight children.now }
         ensures { OnOk result (AddsChoice k own most weight children.now stands.old.items stands.new.items) }
     {
-        Err(NoMemory)
+        let room = weight.min(k) - own;
+        match total(children, room) {
+            Some(_) => push_uncut(children.len(), stands),
+            None => {
+                self.make(k, room, children)?;
+                let cost = self.profile.cheapest(room);
+                let (profiles, lightest) = (&self.profiles, &mut self.lightest);
+                follow(k, children, cost, room, profiles, lightest, stands)
+            }
+        }
     }
 
-    // Makes the profiles of the children, from the last one on. As many are kept as an interval may have
-    // members.
+    // Makes the profile of all children.
     fn run(&mut self, k: u32, room: u32, children: &[Child]) -> Result<(), NoMemory>
+        requires some { 1 ≤ k }
+        requires bound { k ≤ 256 }
+        requires room { room ≤ k }
+        requires number { length children.now < 2 ^ 31 }
+        requires weights { AreWeighed k children.now }
+        ensures { OnOk result (IsProfile k room children.now self.new.profile.base self.new.profile.lefts.items) }
+    {
+        match total(children, room) {
+            Some(total) => self.profile.fill(total),
+            None => self.make(k, room, children),
+        }
+    }
+
+    // Makes the profiles of all children and of the last ones, from the last one on.
+    fn make(&mut self, k: u32, room: u32, children: &[Child]) -> Result<(), NoMemory>
         requires some { 1 ≤ k }
         requires bound { k ≤ 256 }
         requires room { room ≤ 256 }
         requires number { length children.now < 2 ^ 31 }
         requires weights { AreWeighed k children.now }
-        ensures some { OnOk result (1 ≤ deque_len self.new.profiles) }
-        ensures profiles { OnOk result (AreProfiles k room children.now self.new.profiles.items) }
+        ensures profile { OnOk result (IsProfile k room children.now self.new.profile.base self.new.profile.lefts.items) }
+        ensures profiles { OnOk result (AreProfiles k room children.now self.new.profiles) }
     {
-        self.clear()?;
-        let mut none = self.spare(k);
-        none.reset();
-        self.profiles.push_front(none)?;
+        self.profile.reset();
+        self.profiles.reset()?;
         let mut plain = Reach::new();
         let mut light = Reach::new();
         for at in (0..children.len()).rev() {
@@ -143,55 +168,9 @@ impl Choices {
                 plain: plain.len,
                 light: light.len,
             };
-            self.add(cuts, rest)?;
+            self.profile.build(cuts, rest, &self.profiles, &mut self.lightest)?;
+            self.profiles.push(&self.profile)?;
         }
         Ok(())
-    }
-
-    // Puts the profile of the children before those of the children without the first, and so on.
-    fn add(&mut self, cuts: Cuts, children: &[Child]) -> Result<(), NoMemory>
-        requires k { cuts.k ≤ 256 }
-        requires room { cuts.room ≤ 256 }
-        requires some { 1 ≤ length children.now }
-        requires number { length children.now < 2 ^ 31 }
-        requires weighed { AreWeighed cuts.k children.now }
-        requires plain { (sum : ℕ) × IsReach cuts.k Plain children.now cuts.plain sum }
-        requires light { (sum : ℕ) × IsReach cuts.k Light children.now cuts.light sum }
-        requires kept { min cuts.k (length children.now) ≤ deque_len self.old.profiles }
-        requires profiles { AreProfiles cuts.k cuts.room (drop 1 children.now) self.old.profiles.items }
-        ensures kept { OnOk result (min cuts.k (length children.now + 1) ≤ deque_len self.new.profiles) }
-        ensures profiles { OnOk result (AreProfiles cuts.k cuts.room children.now self.new.profiles.items) }
-    {
-        let mut next = self.spare(cuts.k);
-        next.build(cuts, children, &self.profiles, &mut self.weights)?;
-        self.profiles.push_front(next)?;
-        Ok(())
-    }
-
-    // Puts the profiles of the last node by.
-    fn clear(&mut self) -> Result<(), NoMemory>
-        ensures items { OnOk result (self.new.profiles.items ≡ []) }
-        ensures len { OnOk result (deque_len self.new.profiles ≡ 0) }
-    {
-        while let Some(profile) = self.profiles.pop_back() {
-            self.spares.push(profile)?;
-        }
-        Ok(())
-    }
-
-    // A profile to write over: the last one, where there are more than k.
-    fn spare(&mut self, k: u32) -> Profile
-        ensures kept { min k (deque_len self.old.profiles) ≤ deque_len self.new.profiles }
-        ensures profiles { (room : ℕ) (children : List Child) → AreProfiles k room children self.old.profiles.items → AreProfiles k room children self.new.profiles.items }
-    {
-        if self.profiles.len() > k as usize {
-            if let Some(profile) = self.profiles.pop_back() {
-                return profile;
-            }
-        }
-        if let Some(profile) = self.spares.pop() {
-            return profile;
-        }
-        Profile::new(self.alloc)
     }
 }

@@ -2,6 +2,7 @@
 ghost use Rattle.std.specs.Prelude.{◌≡◌, ℕ, ◌+◌, ◌<◌, ◌≤◌, ◌^◌, List, length, vec_len, IfSome};
 ghost use Rattle.nx_choices.specs.Choice.{leasts};
 ghost use Rattle.nx_choices.specs.Claim.{IsFound};
+ghost use Rattle.nx_choices.specs.Least.{IsLeastChoice, IsLeastWithin};
 ghost use Rattle.nx_choices.specs.Profile.{count_of, AreCounts, IsBudget, IsCheapest, IsExcess, IsLeastLeft, IsProfile};
 
 use crate::Child;
@@ -73,9 +74,10 @@ impl Counts {
 
 impl Profile {
     // The least cost of a choice that leaves no more than there is room for.
-    fn cheapest(&self, room: u32) -> u32
+    pub(crate) fn cheapest(&self, room: u32) -> u32
         requires { self.now.base + vec_len self.now.lefts < 2 ^ 32 }
-        ensures { (k : ℕ) (children : List Child) → IsProfile k room children self.now.base self.now.lefts.items → IsCheapest k room children result }
+        ensures within { result ≤ self.now.base + vec_len self.now.lefts }
+        ensures cheapest { (k : ℕ) (children : List Child) → IsProfile k room children self.now.base self.now.lefts.items → IsCheapest k room children result }
     {
         match first_at_most(&self.lefts, room) {
             Some(index) => self.base + index as u32,
@@ -137,5 +139,41 @@ impl Profile {
             return Some((Field::Nearly, found));
         }
         None
+    }
+
+    // The least that the node's part weighs by a choice with a count of at most `most`. There has to be
+    // such a choice.
+    fn lightest(&self, parent: Parent, most: u64) -> u32
+        requires own { parent.own ≤ 256 }
+        requires room { parent.room ≤ 256 }
+        requires sum { parent.counts.sum ≤ 2 ^ 63 }
+        requires number { parent.counts.number < 2 ^ 31 }
+        requires most { most ≤ 2 ^ 32 }
+        ensures { (children : List Child) (cheapest : ℕ) → IsProfile (parent.own + parent.room) parent.room children self.now.base self.now.lefts.items → AreCounts children parent.counts.number parent.counts.sum → IsCheapest (parent.own + parent.room) parent.room children cheapest → count_of parent.counts.sum parent.counts.number cheapest ≤ most → IsLeastWithin (parent.own + parent.room) parent.own children most result }
+    {
+        let Some(budget) = parent.counts.budget(most) else {
+            return parent.own;
+        };
+        let Some(left) = self.least_left(budget, parent.room) else {
+            return parent.own;
+        };
+        parent.own + left
+    }
+
+    // The numbers of the node.
+    pub(crate) fn least(&self, parent: Parent) -> Child
+        requires own { parent.own ≤ 256 }
+        requires room { parent.room ≤ 256 }
+        requires sum { parent.counts.sum < 2 ^ 31 }
+        requires number { parent.counts.number < 2 ^ 31 }
+        requires end { self.now.base + vec_len self.now.lefts ≤ parent.counts.number }
+        ensures { (children : List Child) → IsProfile (parent.own + parent.room) parent.room children self.now.base self.now.lefts.items → AreCounts children parent.counts.number parent.counts.sum → IsLeastChoice (parent.own + parent.room) parent.own children result }
+    {
+        let least = parent.counts.count(self.cheapest(parent.room));
+        Child {
+            least: least as u32,
+            lean: self.lightest(parent, least),
+            nearly: self.lightest(parent, least + 1),
+        }
     }
 }

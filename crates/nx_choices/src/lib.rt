@@ -12,7 +12,9 @@ mod choices;
 mod found;
 mod lightest;
 mod profile;
+mod profiles;
 mod reach;
+mod walk;
 
 pub use child::{Child, Field, Stand};
 pub use choices::Choices;

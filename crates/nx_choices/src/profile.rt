@@ -1,7 +1,11 @@
 // What the choices over the last children of a node may leave with it, by what they cost.
 ghost use Rattle.std.specs.Prelude.{◌≡◌, ℕ, ◌+◌, ◌-◌, ◌<◌, ◌≤◌, ◌^◌, [], List, length, min, vec_len, slice_index, IfOk, OnOk};
-ghost use Rattle.nx_choices.specs.Profile.{left_at, IsProfile, IsStarted, IsLowered, IsFirstLight};
+ghost use Rattle.nx_choices.specs.Choice.{AreWeighed};
+ghost use Rattle.nx_choices.specs.Profile.{lefts_of, weigh, IsProfile, IsStarted, IsLowered, IsFirstLight};
+ghost use Rattle.nx_choices.specs.declared.reach.Form.TheVariants.{Plain};
 
+use crate::Child;
+use crate::profiles::{Profiles, Row};
 use nx_tree::NoMemory;
 use std::alloc::Global;
 
@@ -43,41 +47,31 @@ impl Profile {
         self.base + self.lefts.len() as u32
     }
 
-    // What is left for a cost of which `extra` is spent elsewhere: `none` where it's below the base.
-    pub(crate) fn left_at(&self, extra: u32, cost: u32, none: u32) -> u32
-        requires { self.now.base + extra < 2 ^ 32 }
-        ensures { result ≡ left_at none (self.now.base + extra) self.now.lefts.items cost }
-    {
-        let base = self.base + extra;
-        if cost < base {
-            none
-        } else {
-            get_or_zero(&self.lefts, (cost - base) as usize)
-        }
-    }
-
     // The first child is uncut and the others are as in `after`, or the first ones are an interval and the
     // others are as in `beyond`.
     pub(crate) fn start(
         &mut self,
         lean: u32,
         room: u32,
-        after: &Profile,
-        beyond: &Profile,
+        profiles: &Profiles,
+        after: Row,
+        beyond: Row,
     ) -> Result<(), NoMemory>
         requires lean { lean ≤ 256 }
         requires room { room ≤ 256 }
-        requires after { after.now.base + 1 < 2 ^ 32 }
-        requires beyond { beyond.now.base + vec_len beyond.now.lefts + 1 < 2 ^ 32 }
-        requires small { (index : ℕ) → slice_index after.now.lefts.items index ≤ 257 }
-        ensures base { OnOk result (self.new.base ≡ after.now.base) }
-        ensures lefts { OnOk result (IsStarted room lean after.now.base after.now.lefts.items beyond.now.base beyond.now.lefts.items self.new.lefts.items) }
+        requires after { after.base + 1 < 2 ^ 32 }
+        requires beyond { beyond.base + beyond.len + 1 < 2 ^ 32 }
+        requires after_inside { after.start + after.len ≤ length profiles.now.lefts.items }
+        requires beyond_inside { beyond.start + beyond.len ≤ length profiles.now.lefts.items }
+        requires small { (index : ℕ) → slice_index (lefts_of profiles.now.lefts.items after) index ≤ 257 }
+        ensures base { OnOk result (self.new.base ≡ after.base) }
+        ensures lefts { OnOk result (IsStarted room lean after.base (lefts_of profiles.now.lefts.items after) beyond.base (lefts_of profiles.now.lefts.items beyond) self.new.lefts.items) }
     {
         self.base = after.base;
         self.lefts.clear();
-        for cost in after.base..beyond.end() + 1 {
-            let uncut = after.left_at(0, cost, 0) + lean;
-            let cut = beyond.left_at(1, cost, room + 1);
+        for cost in after.base..beyond.base + beyond.len + 1 {
+            let uncut = profiles.left_at(after, 0, cost, 0) + lean;
+            let cut = profiles.left_at(beyond, 1, cost, room + 1);
             self.lefts.push(uncut.min(cut))?;
         }
         Ok(())
@@ -85,18 +79,30 @@ impl Profile {
 
     // For a cost of which `extra` is spent on an interval of the first children, the others may be as in
     // `beyond`.
-    pub(crate) fn lower(&mut self, extra: u32, room: u32, beyond: &Profile)
+    pub(crate) fn lower(&mut self, extra: u32, room: u32, profiles: &Profiles, beyond: Row)
         requires room { room ≤ 256 }
         requires end { self.old.base + vec_len self.old.lefts < 2 ^ 32 }
-        requires beyond { beyond.now.base + extra < 2 ^ 32 }
+        requires beyond { beyond.base + extra < 2 ^ 32 }
+        requires inside { beyond.start + beyond.len ≤ length profiles.now.lefts.items }
         ensures base { self.new.base ≡ self.old.base }
-        ensures lefts { IsLowered (room + 1) self.old.base self.old.lefts.items (beyond.now.base + extra) beyond.now.lefts.items self.new.lefts.items }
+        ensures lefts { IsLowered (room + 1) self.old.base self.old.lefts.items (beyond.base + extra) (lefts_of profiles.now.lefts.items beyond) self.new.lefts.items }
     {
         for index in 0..self.lefts.len() {
-            let cut = beyond.left_at(extra, self.base + index as u32, room + 1);
+            let cut = profiles.left_at(beyond, extra, self.base + index as u32, room + 1);
             let left = self.lefts[index];
             self.lefts[index] = left.min(cut);
         }
+    }
+
+    // Makes it that of children that weigh so much together, all of which may stay with the node.
+    pub(crate) fn fill(&mut self, total: u32) -> Result<(), NoMemory>
+        ensures { OnOk result ((k room : ℕ) (children : List Child) → AreWeighed k children → total ≡ weigh Plain children → total ≤ room → room ≤ k → IsProfile k room children self.new.base self.new.lefts.items) }
+    {
+        self.reset();
+        if total > 0 {
+            self.lefts.push(total)?;
+        }
+        Ok(())
     }
 
     // The same without the costs beyond the first that leaves nothing.

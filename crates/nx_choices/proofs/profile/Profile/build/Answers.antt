@@ -4,10 +4,8 @@ use Rattle.nx_choices.proofs.ReachLemmas.{reach_some}
 use Rattle.nx_choices.proofs.BuildLemmas.{reach_most, plain_most}
 use Rattle.nx_choices.proofs.profile.Profile.build.Goals as goal
 
-pub begin-requires-clause-kept : goal.begin-requires-clause-kept
-begin-requires-clause-kept c =
-    let less = plain_most c.args.cuts.k c.args.children.now c.args.cuts.plain c.requires.plain.0 c.args.cuts.light c.requires.light.0 c.requires.plain.1 c.requires.light.1 in
-    omega arith
+pub begin-requires-clause-some : goal.begin-requires-clause-some
+begin-requires-clause-some c = reach_some c.args.cuts.k Plain c.args.children.now c.args.cuts.plain c.requires.plain.0 c.requires.weighed c.requires.some c.requires.plain.1
 
 pub cut_longer-requires-clause-some : goal.cut_longer-requires-clause-some
 cut_longer-requires-clause-some c = reach_some c.args.cuts.k Plain c.args.children.now c.args.cuts.plain c.requires.plain.0 c.requires.weighed c.requires.some c.requires.plain.1

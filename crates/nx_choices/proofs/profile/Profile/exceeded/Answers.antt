@@ -12,7 +12,7 @@ returns-then-least-claimed c = λ children p a.
     let less : count_of sum number c.cheapest.result < c.args.claims.least = omega arith in (
       tt,
       subst (λ n. IsExceeded (own + room) Least (record { own = own; children = children; bound = c.args.claims }) n) (sym e)
-          (least_exceeded own room children c.args.claims number sum c.cheapest.result a (c.cheapest.ensures (own + room) children p) less),
+          (least_exceeded own room children c.args.claims number sum c.cheapest.result a (c.cheapest.ensures.cheapest (own + room) children p) less),
     )
 
 pub returns-in-Some : goal.returns-in-Some
@@ -21,7 +21,7 @@ returns-in-Some c = λ children p a.
     let from = c.from-claimed.ensures in let e = c.count-least.ensures in
     let enough : c.args.claims.least ≤ count_of sum number c.cheapest.result = omega arith in
     let h = subst (λ n. IsExcess (own + room) own children n c.args.claims.lean (Some c.in-Some.found)) from (c.in-Some.ensures children p a) in (
-      least_supported own room children c.args.claims number sum c.cheapest.result a (c.cheapest.ensures (own + room) children p) enough,
+      least_supported own room children c.args.claims number sum c.cheapest.result a (c.cheapest.ensures.cheapest (own + room) children p) enough,
       lean_exceeded (own + room) own children c.args.claims c.in-Some.found h,
     )
 
@@ -32,7 +32,7 @@ returns-in-Some-exceeds c = λ children p a.
     let enough : c.args.claims.least ≤ count_of sum number c.cheapest.result = omega arith in
     let lean = subst (λ n. IsExcess (own + room) own children n c.args.claims.lean None) from (c.in_default.ensures children p a) in
     let h = subst (λ n. IsExcess (own + room) own children (n + 1) c.args.claims.nearly (Some c.in-Some-exceeds.found)) from (c.in-Some-exceeds.ensures children p a) in (
-      (least_supported own room children c.args.claims number sum c.cheapest.result a (c.cheapest.ensures (own + room) children p) enough, lean),
+      (least_supported own room children c.args.claims number sum c.cheapest.result a (c.cheapest.ensures.cheapest (own + room) children p) enough, lean),
       nearly_exceeded (own + room) own children c.args.claims c.in-Some-exceeds.found h,
     )
 
@@ -42,7 +42,7 @@ returns c = λ children p a.
     let from = c.from-claimed.ensures in let e = c.count-least.ensures in
     let enough : c.args.claims.least ≤ count_of sum number c.cheapest.result = omega arith in
     record {
-      least = least_supported own room children c.args.claims number sum c.cheapest.result a (c.cheapest.ensures (own + room) children p) enough;
+      least = least_supported own room children c.args.claims number sum c.cheapest.result a (c.cheapest.ensures.cheapest (own + room) children p) enough;
       lean = subst (λ n. IsExcess (own + room) own children n c.args.claims.lean None) from (c.in_default.ensures children p a);
       nearly = subst (λ n. IsExcess (own + room) own children (n + 1) c.args.claims.nearly None) from (c.in_default-exceeds.ensures children p a);
     }
