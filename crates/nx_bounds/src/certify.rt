@@ -86,4 +86,3 @@ fn root_least(bounds: &[Bound]) -> u32
         [bound, ..] => bound.least,
     }
 }
-

@@ -14,4 +14,3 @@ pub enum PlanLine {
     // A node by its number in document order, and what is claimed of its subtree.
     Claim { node: u32, bound: Bound },
 }
-

@@ -140,14 +140,17 @@ must_cut k [] child most w some h uncut = absurd (omega arith)
 must_cut k (first ∷ children) child most w some h uncut = elim (begins k first children most w h) [
   | inl u ↦ absurd (uncut u.0 u.1)
   | inr c ↦
-      let sums = c.sums in
-      (c.number, c.extra, record {
-        some = c.some;
-        within = c.within;
-        interval = c.interval;
-        much = omega arith;
-        rest = wider k (drop c.number (first ∷ children)) c.rest_most w (most - (1 + c.extra)) w (omega arith) (omega arith) c.rest;
-      })
+      let sums = c.sums in (
+        c.number,
+        c.extra,
+        record {
+          some = c.some;
+          within = c.within;
+          interval = c.interval;
+          much = omega arith;
+          rest = wider k (drop c.number (first ∷ children)) c.rest_most w (most - (1 + c.extra)) w (omega arith) (omega arith) c.rest;
+        },
+      )
 ]
 
 -- an interval has at most k members
@@ -255,8 +258,7 @@ pub tried_some : (k room : ℕ) (members others : List Child) (lefts : List ℕ)
     → left_at (w + 1) (row.base + (1 + fewest)) (lefts_of lefts row) most ≤ w → IsTried k members others most w extras (Some fewest)
 tried_some k room members others lefts row most w extras weights fewest a within r small fits =
     let l = at_listed (w + 1) (row.base + (1 + fewest)) (lefts_of lefts row) most w (omega arith) fits in
-    let enough = l.enough in
-    (
+    let enough = l.enough in (
       fewest_some k members extras weights fewest a within,
       omega arith,
       (r.profile.tells (most - (1 + fewest)) w small).1 (listed_off row.base (1 + fewest) (lefts_of lefts row) most w l),
@@ -288,7 +290,7 @@ pub cut_few : (k room : ℕ) (children : List Child) (lefts : List ℕ) (far : R
     → (number extra : ℕ) → IsCutAt k children most w number extra → extra < most - far.base
 cut_few k room children lefts far most w members all small r far_enough number extra cut =
     let within = cut.within in let much = cut.much in
-    let less : number ≤ members = elim far_enough [ | inl many ↦ (let m = interval_most k children number extra all within cut.interval in omega arith) | inr whole ↦ omega arith ] in
+    let less : number ≤ members = elim far_enough [ inl many ↦ (let m = interval_most k children number extra all within cut.interval in omega arith) | inr whole ↦ omega arith ] in
     let l = ((r.profile.tells (most - (1 + extra)) w small).0 (drop_further k children number members (most - (1 + extra)) w less cut.rest)).enough in
     omega arith
 

@@ -8,7 +8,7 @@ use crate::Child;
 use crate::lightest::Lightest;
 use crate::profile::Profile;
 use crate::profiles::Profiles;
-use nx_tree::NoMemory;
+use nx_lists::NoMemory;
 
 // How the first of some children may be cut.
 #[derive(Clone, Copy)]
@@ -52,12 +52,7 @@ impl Profile {
 
     // Makes it that of the choices that leave the first child uncut, or begin with an interval of children
     // in their first form. The longest such interval is as good as each shorter one.
-    fn begin(
-        &mut self,
-        cuts: Cuts,
-        children: &[Child],
-        profiles: &Profiles,
-    ) -> Result<(), NoMemory>
+    fn begin(&mut self, cuts: Cuts, children: &[Child], profiles: &Profiles) -> Result<(), NoMemory>
         requires k { cuts.k ≤ 256 }
         requires room { cuts.room ≤ 256 }
         requires some { 1 ≤ cuts.plain }

@@ -14,7 +14,7 @@ use crate::profiles::Profiles;
 use crate::reach::{Form, Reach};
 use crate::walk::{follow, push_uncut, total};
 use crate::{Child, Field, Stand};
-use nx_tree::NoMemory;
+use nx_lists::NoMemory;
 use std::alloc::Global;
 
 /// The choices over the children of one node after another. It keeps the memory that it took for the nodes
@@ -168,7 +168,8 @@ impl Choices {
                 plain: plain.len,
                 light: light.len,
             };
-            self.profile.build(cuts, rest, &self.profiles, &mut self.lightest)?;
+            self.profile
+                .build(cuts, rest, &self.profiles, &mut self.lightest)?;
             self.profiles.push(&self.profile)?;
         }
         Ok(())

@@ -5,9 +5,8 @@ ghost use Rattle.nx_choices.specs.Claim.{IsFound};
 ghost use Rattle.nx_choices.specs.Least.{IsLeastChoice, IsLeastWithin};
 ghost use Rattle.nx_choices.specs.Profile.{count_of, AreCounts, IsBudget, IsCheapest, IsExcess, IsLeastLeft, IsProfile};
 
-use crate::Child;
 use crate::profile::{Profile, first_at_most, get_or_zero};
-use crate::Field;
+use crate::{Child, Field};
 
 // The children of a node in sum.
 #[derive(Clone, Copy)]

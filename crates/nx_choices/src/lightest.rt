@@ -4,7 +4,7 @@ ghost use Rattle.nx_choices.specs.Choice.{AreWeighed};
 ghost use Rattle.nx_choices.specs.Lightest.{AreLightest, IsAdded, IsFewest, IsLengthened, IsSkipped};
 
 use crate::Child;
-use nx_tree::NoMemory;
+use nx_lists::NoMemory;
 use std::alloc::Global;
 
 #[derive(Drop)]
@@ -27,7 +27,12 @@ impl Lightest {
     }
 
     // Makes it that of these children, for fewer than `extras` members in their second form.
-    pub(crate) fn weigh(&mut self, k: u32, extras: usize, children: &[Child]) -> Result<(), NoMemory>
+    pub(crate) fn weigh(
+        &mut self,
+        k: u32,
+        extras: usize,
+        children: &[Child],
+    ) -> Result<(), NoMemory>
         requires number { length children.now ≤ 256 }
         requires weighed { AreWeighed 256 children.now }
         ensures { OnOk result (AreLightest k children.now extras self.new.weights.items self.new.fewest) }

@@ -6,7 +6,7 @@ ghost use Rattle.nx_choices.specs.declared.reach.Form.TheVariants.{Plain};
 
 use crate::Child;
 use crate::profiles::{Profiles, Row};
-use nx_tree::NoMemory;
+use nx_lists::NoMemory;
 use std::alloc::Global;
 
 // For each cost of a choice the least weight that is left.

@@ -4,7 +4,7 @@ ghost use Rattle.nx_choices.specs.Profile.{left_at, lefts_of, last, AreProfiles,
 
 use crate::Child;
 use crate::profile::Profile;
-use nx_tree::NoMemory;
+use nx_lists::NoMemory;
 use std::alloc::Global;
 
 // Where the numbers of a profile stand.

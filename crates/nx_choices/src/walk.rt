@@ -8,7 +8,7 @@ ghost use Rattle.nx_choices.specs.Walk.{stand_at as stand_behind, AddsInterval, 
 use crate::lightest::Lightest;
 use crate::profiles::{Profiles, Row};
 use crate::{Child, Stand};
-use nx_tree::NoMemory;
+use nx_lists::NoMemory;
 
 // How far a walk over the children came, and what the others may cost and leave.
 #[derive(Clone, Copy)]

@@ -10,7 +10,7 @@ returns-else-self-eq0-clause-weights c =
       kept = λ most less. elim (cases_lt most c.loop-most.most) [
         | inl before ↦ i.lesser most before
         | inr past ↦ elim (cases_lt most c.args.number) [
-          | inl inside ↦ elim i.ends [ | inl all ↦ absurd (omega arith) | inr start ↦ absurd (omega arith) ]
+          | inl inside ↦ elim i.ends [ inl all ↦ absurd (omega arith) | inr start ↦ absurd (omega arith) ]
           | inr behind ↦ i.behind most behind
         ]
       ];

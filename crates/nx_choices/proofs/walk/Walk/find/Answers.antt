@@ -76,7 +76,7 @@ loop-at-preserved c =
     let r = (row_behind k room rest lefts c.of_last-beyond.result (at + 1) (length rest - (at + 1)) (omega arith) refl (c.of_last-beyond.ensures k room rest (omega arith) c.requires.profiles.2)) in
     let t = c.in_default.ensures k room extras (take (at + 1) rest) (drop (at + 1) rest) c.requires.profiles.1 l r in
     let far = row_behind k room rest lefts c.of_last-far.result c.min-most.result (length rest - c.min-most.result) (omega arith) refl (c.of_last-far.ensures k room rest (omega arith) c.requires.profiles.2) in
-    let enough : (k ≤ c.min-most.result) ⊎ (length rest ≤ c.min-most.result) = elim (cases_lt k (length rest)) [ | inl less ↦ inl (omega arith) | inr more ↦ inr (omega arith) ] in
+    let enough : (k ≤ c.min-most.result) ⊎ (length rest ≤ c.min-most.result) = elim (cases_lt k (length rest)) [ inl less ↦ inl (omega arith) | inr more ↦ inr (omega arith) ] in
     let few = cut_few k room rest lefts c.of_last-far.result c.args.self.cost c.args.self.left c.min-most.result c.requires.weighed c.requires.profiles.1 far enough in
     let e : c.args.self.cost - c.of_last-far.result.base ≡ extras = sym c.saturating_sub-extras.ensures in
     record {
