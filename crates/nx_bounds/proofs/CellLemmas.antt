@@ -8,7 +8,8 @@ use Rattle.nx_weights.specs.Weight.{weight}
 use Rattle.nx_parts.specs.declared.interval.Interval.{Interval}
 use Rattle.nx_parts.specs.Partitioning.{holder}
 use Rattle.nx_parts.proofs.Owned.{is_place, owned}
-use Rattle.nx_bounds.specs.Choice.{Child, First, Cell, Uncut, Interval as Joined, covered, AreLight, left, intervals, numbers, interval_weight}
+use Rattle.nx_choices.specs.declared.child.Child.{Child}
+use Rattle.nx_choices.specs.Choice.{First, Cell, Uncut, Interval as Joined, covered, AreLight, left, intervals, numbers, interval_weight}
 use Rattle.nx_bounds.proofs.Cut.{kept, is_under, piece, pieces, AreFirst}
 use Rattle.nx_bounds.proofs.CountLemmas.{bit}
 

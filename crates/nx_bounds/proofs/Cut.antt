@@ -7,7 +7,8 @@ use Rattle.nx_weights.specs.Weight.{weight}
 use Rattle.nx_parts.specs.declared.interval.Interval.{Interval}
 use Rattle.nx_parts.specs.declared.interval.Interval.TheVariants.{Root, Run}
 use Rattle.nx_parts.specs.Partitioning.{holder}
-use Rattle.nx_bounds.specs.Choice.{Child, Member, First, Second, Cell, Uncut, Interval as Joined, covered, AreLight, left, intervals, numbers}
+use Rattle.nx_choices.specs.declared.child.Child.{Child}
+use Rattle.nx_choices.specs.Choice.{Member, First, Second, Cell, Uncut, Interval as Joined, covered, AreLight, left, intervals, numbers}
 
 -- the node at the path is a member of some interval
 abbrev pub is_cut : List Interval → List ℕ → Bool

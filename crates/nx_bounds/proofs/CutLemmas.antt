@@ -13,7 +13,7 @@ use Rattle.nx_parts.specs.declared.interval.Interval.TheVariants.{Root, Run}
 use Rattle.nx_parts.specs.Partitioning.{has_member, ShareMember, holder, part_weight, root_weight, IsFeasible}
 use Rattle.nx_parts.proofs.Owned.{is_place, owned}
 use Rattle.nx_parts.proofs.OwnerLemmas.{part_weight-walk}
-use Rattle.nx_bounds.specs.Choice.{intervals}
+use Rattle.nx_choices.specs.Choice.{intervals}
 use Rattle.nx_bounds.proofs.Cut.{kept, is_under, inner, IsLevel}
 use Rattle.nx_bounds.proofs.CountLemmas.{bit, count_two, count_more, counts_from, split_from, split_last, all_under, ends_here, ends_last}
 use Rattle.nx_bounds.proofs.CellLemmas.{goes_on, is_same, ends, cells_of, inside, covers_pieces, are_first, leaves_kept, numbers_inside, intervals-more, members_within, are_light}

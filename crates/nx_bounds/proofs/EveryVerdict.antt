@@ -13,13 +13,14 @@ use Rattle.nx_parts.specs.declared.error.PartsError.{PartsError}
 use Rattle.nx_parts.specs.declared.error.PartsError.TheVariants as parts_error
 use Rattle.nx_parts.specs.Partitioning.{is_in_tree, ShareMember, IsPartitioning, IsFeasible, part_weight}
 use Rattle.nx_parts.specs.Refusal.{IsFirst, IsOutOfTree, Overlaps, IsHeavy, IsNotFeasible}
-use Rattle.nx_bounds.specs.declared.error.Field.{Field}
-use Rattle.nx_bounds.specs.declared.error.Field.TheVariants.{Least, Lean, Nearly}
+use Rattle.nx_choices.specs.declared.child.Field.{Field}
+use Rattle.nx_choices.specs.declared.child.Field.TheVariants.{Least, Lean, Nearly}
 use Rattle.nx_bounds.specs.declared.error.BoundsError.{BoundsError}
 use Rattle.nx_bounds.specs.declared.error.BoundsError.TheVariants.{Parts, WrongWeight, Length, Unsupported, Count, Memory}
-use Rattle.nx_bounds.specs.Choice.{Cell, IsAdmitted}
-use Rattle.nx_bounds.specs.Claim.{Claimed, claimed, claim, value, SpeaksOf, IsFieldSupported, IsSupported, AreSupported, IsExceeded}
-use Rattle.nx_bounds.specs.Refusal.{AreSupportedBefore, IsUnsupported, IsNotCertified, IsWrong, root_least}
+use Rattle.nx_choices.specs.Choice.{Cell, IsAdmitted}
+use Rattle.nx_choices.specs.Claim.{Claimed, claim, value, SpeaksOf, IsFieldSupported, IsSupported, IsExceeded, AreSupportedBefore}
+use Rattle.nx_bounds.specs.Claim.{claimed, AreSupported}
+use Rattle.nx_bounds.specs.Refusal.{IsUnsupported, IsNotCertified, IsWrong, root_least}
 use Rattle.nx_bounds.specs.Verdict.{HasVerdict}
 
 -- Where there is no first number with a property, there is none.

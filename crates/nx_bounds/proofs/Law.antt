@@ -10,7 +10,8 @@ use Rattle.nx_weights.specs.Weight.{weight, listed, listed_in}
 use Rattle.nx_parts.specs.declared.interval.Interval.{Interval}
 use Rattle.nx_parts.specs.declared.bounds.Bound.{Bound}
 use Rattle.nx_parts.specs.Partitioning.{IsFeasible, IsOptimal}
-use Rattle.nx_bounds.specs.Claim.{children, claimed_in, IsSupported, AreSupported}
+use Rattle.nx_choices.specs.Claim.{IsSupported}
+use Rattle.nx_bounds.specs.Claim.{children, claimed_in, AreSupported}
 use Rattle.nx_bounds.specs.Refusal.{root_least}
 use Rattle.nx_bounds.specs.Law.{IsTrueOf, LowerBound}
 use Rattle.nx_bounds.proofs.LawLemmas.{all_left, all_right, root_true}

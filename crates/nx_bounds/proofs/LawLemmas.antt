@@ -8,8 +8,10 @@ use Rattle.nx_parts.specs.declared.interval.Interval.{Interval}
 use Rattle.nx_parts.specs.declared.bounds.Bound.{Bound}
 use Rattle.nx_parts.specs.Partitioning.{ShareMember, IsFeasible, holder}
 use Rattle.nx_parts.proofs.Owned.{is_place, owned}
-use Rattle.nx_bounds.specs.Choice.{Child, IsAdmitted, covered, count}
-use Rattle.nx_bounds.specs.Claim.{child, children, claimed_in, IsSupported}
+use Rattle.nx_choices.specs.declared.child.Child.{Child}
+use Rattle.nx_choices.specs.Choice.{IsAdmitted, covered, count}
+use Rattle.nx_choices.specs.Claim.{IsSupported}
+use Rattle.nx_bounds.specs.Claim.{child, children, claimed_in, numbers}
 use Rattle.nx_bounds.specs.Law.{IsTrueOf}
 use Rattle.nx_bounds.proofs.Cut.{kept, inner, pieces, IsLevel}
 use Rattle.nx_bounds.proofs.CutLemmas.{level, kept-within, IsNodeWithin, owner_of_child, owned-below, owned-beside, owned-within, root_holder, inner-root, root_weight-kept, root_within}
@@ -40,7 +42,7 @@ child_true k node bound fewest slots heavy t =
 
 -- a node whose children's claims are true
 node_true : (k : ℕ) (parts : List Interval) (path : List ℕ) (own : ℕ) (below : Forest) (claims : List Child) (bound : Bound) →
-    IsSupported k (record { own = own; children = claims; bound = bound }) → AreTrueClaims k claims (pieces parts path 0 below) → IsLevel k parts path below →
+    IsSupported k (record { own = own; children = claims; bound = numbers bound }) → AreTrueClaims k claims (pieces parts path 0 below) → IsLevel k parts path below →
     own + kept parts path 0 below ≤ k → IsTrueAt bound (inner parts path) (own + kept parts path 0 below)
 node_true k parts path own below claims bound s t here fits =
     let true_here : AreTrueClaims k claims (covered here.cells) = subst (AreTrueClaims k claims) (sym here.covers) t in

@@ -1,5 +1,3 @@
-pub mod BuildLemmas
-pub mod ChoiceLemmas
 pub mod Cut
 pub mod CountLemmas
 pub mod CellLemmas
@@ -7,7 +5,6 @@ pub mod CutLemmas
 pub mod Numbers
 pub mod LawLemmas
 pub mod Law
-pub mod LeafLemmas
 pub mod WalkLemmas
 pub mod PlanLemmas
 pub mod VerdictLemmas
@@ -18,8 +15,4 @@ pub mod OnePlan
 pub mod PlanTexts
 pub mod Pushed
 pub mod PlanLimits
-pub mod FoundLemmas
-pub mod LightestLemmas
-pub mod ProfileLemmas
-pub mod ReachLemmas
 pub mod OneText

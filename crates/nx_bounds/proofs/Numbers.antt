@@ -1,7 +1,8 @@
 -- A choice over what is claimed of the children, made from one over the children as they are: no more intervals, and no more left with the node.
 use Rattle.std.proofs.Common.{◌≡◌, ◌⊎◌, inl, inr, ℕ, ◌+◌, ◌<◌, ◌≤◌, List, [], ◌∷◌, ◌++◌, length, map, refl, ap, ◌∙◌, arith}
 use Rattle.std.proofs.lemmas.Bool.{cases_lt}
-use Rattle.nx_bounds.specs.Choice.{Child, Member, First, Second, Cell, Uncut, Interval, child_of, covered, intervals, numbers_of, numbers, interval_weight, left, AreLight, count}
+use Rattle.nx_choices.specs.declared.child.Child.{Child}
+use Rattle.nx_choices.specs.Choice.{Member, First, Second, Cell, Uncut, Interval, child_of, covered, intervals, numbers_of, numbers, interval_weight, left, AreLight, count}
 use Rattle.nx_bounds.proofs.Cut.{AreFirstMembers, AreFirst}
 
 -- What is claimed of a child is true of it as it is, where its part weighs the same with one interval more.

@@ -13,11 +13,12 @@ use Rattle.nx_parts.specs.declared.error.PartsError.{PartsError}
 use Rattle.nx_parts.specs.declared.error.PartsError.TheVariants as parts_error
 use Rattle.nx_parts.specs.Partitioning.{is_in_tree, ShareMember, IsPartitioning, IsFeasible, part_weight}
 use Rattle.nx_parts.specs.Refusal.{IsFirst, IsOutOfTree, Overlaps, IsHeavy, IsNotFeasible}
-use Rattle.nx_bounds.specs.declared.error.Field.{Field}
-use Rattle.nx_bounds.specs.declared.error.Field.TheVariants.{Least, Lean, Nearly}
+use Rattle.nx_choices.specs.declared.child.Field.{Field}
+use Rattle.nx_choices.specs.declared.child.Field.TheVariants.{Least, Lean, Nearly}
 use Rattle.nx_bounds.specs.declared.error.BoundsError.TheVariants.{Parts, WrongWeight, Length, Unsupported, Count, BadPlanLine, Memory}
-use Rattle.nx_bounds.specs.Claim.{Claimed, claimed, claim, value, IsFieldSupported, IsSupported, AreSupported, IsExceeded}
-use Rattle.nx_bounds.specs.Refusal.{AreSupportedBefore, IsUnsupported, IsNotSupported, IsWrong, root_least}
+use Rattle.nx_choices.specs.Claim.{Claimed, claim, value, IsFieldSupported, IsSupported, IsExceeded, AreSupportedBefore}
+use Rattle.nx_bounds.specs.Claim.{claimed, AreSupported}
+use Rattle.nx_bounds.specs.Refusal.{IsUnsupported, IsNotSupported, IsWrong, root_least}
 use Rattle.nx_bounds.specs.Verdict.{IsSparedRefusals, HasOneRefusal}
 
 -- There is one first number.

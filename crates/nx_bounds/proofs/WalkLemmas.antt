@@ -6,13 +6,13 @@ use Rattle.std.proofs.lemmas.List.{drop-drop}
 use Rattle.nx_tree.specs.Forest.{OrderedTree, Forest, Empty, Plant, forest_of, trees_of, nodes}
 use Rattle.nx_weights.specs.Weight.{weight}
 use Rattle.nx_parts.specs.declared.bounds.Bound.{Bound}
-use Rattle.nx_bounds.specs.declared.error.Field.{Field}
+use Rattle.nx_choices.specs.declared.child.Field.{Field}
 use Rattle.nx_bounds.specs.declared.error.BoundsError.{BoundsError}
 use Rattle.nx_bounds.specs.declared.error.BoundsError.TheVariants.{Parts, WrongWeight, Length, Unsupported, Count, BadPlanLine, Memory}
-use Rattle.nx_bounds.specs.Choice.{Child}
-use Rattle.nx_bounds.specs.Claim.{Claimed, child, children, claimed_in, claimed, IsSupported, AreSupported}
-use Rattle.nx_bounds.specs.Profile.{AreWeighed}
-use Rattle.nx_bounds.specs.Profile.{IsFound}
+use Rattle.nx_choices.specs.declared.child.Child.{Child}
+use Rattle.nx_choices.specs.Claim.{Claimed, IsSupported, IsFound}
+use Rattle.nx_bounds.specs.Claim.{child, children, claimed_in, claimed, numbers, AreSupported}
+use Rattle.nx_choices.specs.Choice.{AreWeighed}
 use Rattle.nx_bounds.specs.Refusal.{IsNotSupported}
 use Rattle.nx_bounds.specs.Walk.{claim_at, IsFirstUnsupported, NodeFails, WalkFails}
 
@@ -285,20 +285,14 @@ walk_refuses k tree bounds (Count a b) size h = absurd h
 walk_refuses k tree bounds (BadPlanLine line) size h = absurd h
 
 -- what is found of a node is found of its claim
-pub found_same : (k own : ℕ) (tree : OrderedTree) (bounds : List Bound) (list : List Child) (got b : Bound) (found : Option (Field × ℕ)) → own ≡ weight tree.node
-    → list ≡ children k tree.below bounds → got ≡ b → IsFound k (record { own = own; children = list; bound = got }) found → IsFound k (claim_at k tree bounds b) found
+pub found_same : (k own : ℕ) (tree : OrderedTree) (bounds : List Bound) (list : List Child) (got : Child) (b : Bound) (found : Option (Field × ℕ)) → own ≡ weight tree.node
+    → list ≡ children k tree.below bounds → got ≡ numbers b → IsFound k (record { own = own; children = list; bound = got }) found → IsFound k (claim_at k tree bounds b) found
 found_same k own tree bounds list got b found is same at h =
     let e : record { own = own; children = list; bound = got } ≡ claim_at k tree bounds b =
     ap (λ (w : ℕ). record { own = w; children = list; bound = got }) is
     ∙ ap (λ (l : List Child). record { own = weight tree.node; children = l; bound = got }) same
-    ∙ ap (λ (x : Bound). record { own = weight tree.node; children = children k tree.below bounds; bound = x }) at in
+    ∙ ap (λ (x : Child). record { own = weight tree.node; children = children k tree.below bounds; bound = x }) at in
     subst (λ (c : Claimed). IsFound k c found) e h
-
-pub no_children : (k : ℕ) (f : Forest) (bounds : List Bound) → true ≡ (length (trees_of f) == 0) → [] ≡ children k f bounds
-no_children k Empty bounds h = refl
-no_children k (Plant node below beside) bounds h =
-    let n : suc (length (trees_of beside)) ≡ 0 = eqb-true (suc (length (trees_of beside))) 0 (sym h) in
-    absurd (omega arith)
 
 pub walk_supports : (k : ℕ) (tree : OrderedTree) (slice bounds : List Bound) → slice ≡ bounds → length slice ≡ 1 + nodes tree.below → AllByRecursion (IsSupported k) (claimed k tree slice)
     → AreSupported k tree bounds

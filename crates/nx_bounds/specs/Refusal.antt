@@ -7,22 +7,16 @@ use Rattle.nx_parts.specs.declared.error.PartsError.{PartsError}
 use Rattle.nx_parts.specs.declared.error.PartsError.TheVariants as parts_error
 use Rattle.nx_parts.specs.Partitioning.{IsFeasible, IsOptimal, part_weight}
 use Rattle.nx_parts.specs.Refusal.{IsFirst, IsNotFeasible}
-use Rattle.nx_bounds.specs.declared.error.Field.{Field}
-use Rattle.nx_bounds.specs.declared.error.Field.TheVariants.{Least, Lean, Nearly}
+use Rattle.nx_choices.specs.declared.child.Field.{Field}
 use Rattle.nx_bounds.specs.declared.error.BoundsError.{BoundsError}
 use Rattle.nx_bounds.specs.declared.error.BoundsError.TheVariants.{Parts, WrongWeight, Length, Unsupported, Count, BadPlanLine, Memory}
-use Rattle.nx_bounds.specs.Claim.{Claimed, claimed, claim, IsFieldSupported, IsSupported, AreSupported, IsExceeded}
+use Rattle.nx_choices.specs.Claim.{Claimed, claim, AreSupportedBefore, IsSupported, IsExceeded}
+use Rattle.nx_bounds.specs.Claim.{claimed, AreSupported}
 
 -- the refusal of a list of intervals as one of a plan
 abbrev pub error_of_parts : PartsError → BoundsError
 error_of_parts parts_error.Memory = Memory
 error_of_parts error = Parts error
-
--- the numbers of a bound before this one are supported
-abbrev pub AreSupportedBefore : ℕ → Field → Claimed → Type 0
-AreSupportedBefore k Least node = Unit {0}
-AreSupportedBefore k Lean node = IsFieldSupported k Least node
-AreSupportedBefore k Nearly node = IsFieldSupported k Least node × IsFieldSupported k Lean node
 
 -- The bound at this place in document order is the first that isn't supported, and this is its first number that isn't: what is claimed is more than what was found.
 pub record IsUnsupported (k : ℕ) (tree : OrderedTree) (bounds : List Bound) (place : ℕ) (field : Field) (claimed_number found : ℕ) : Type 0 where

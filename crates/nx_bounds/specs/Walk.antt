@@ -3,15 +3,15 @@ use Rattle.std.specs.Prelude.{◌≡◌, ◌≢◌, ℕ, ◌+◌, ◌<◌, List,
 use Rattle.nx_tree.specs.Forest.{OrderedTree}
 use Rattle.nx_weights.specs.Weight.{weight}
 use Rattle.nx_parts.specs.declared.bounds.Bound.{Bound}
-use Rattle.nx_bounds.specs.declared.error.Field.{Field}
+use Rattle.nx_choices.specs.declared.child.Field.{Field}
 use Rattle.nx_bounds.specs.declared.error.BoundsError.{BoundsError}
 use Rattle.nx_bounds.specs.declared.error.BoundsError.TheVariants.{WrongWeight, Unsupported, Count, Memory}
-use Rattle.nx_bounds.specs.Claim.{Claimed, children, claim, IsSupported, IsExceeded}
-use Rattle.nx_bounds.specs.Refusal.{AreSupportedBefore}
+use Rattle.nx_choices.specs.Claim.{Claimed, claim, IsSupported, IsExceeded, AreSupportedBefore}
+use Rattle.nx_bounds.specs.Claim.{children, numbers}
 
 -- what is claimed of the root of a tree, where the bounds of the nodes below it come next
 abbrev pub claim_at : ℕ → OrderedTree → List Bound → Bound → Claimed
-claim_at k tree bounds bound = record { own = weight tree.node; children = children k tree.below bounds; bound = bound }
+claim_at k tree bounds bound = record { own = weight tree.node; children = children k tree.below bounds; bound = numbers bound }
 
 -- this number of what is claimed of a node is the first that isn't supported
 pub record IsFirstExceeded (k : ℕ) (node : Claimed) (field : Field) (claimed_number found : ℕ) : Type 0 where

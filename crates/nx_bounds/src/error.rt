@@ -3,21 +3,11 @@ ghost use Rattle.std.specs.Prelude.{◌≡◌};
 ghost use Rattle.nx_bounds.specs.declared.error.BoundsError.TheVariants.{Parts, Memory};
 ghost use Rattle.nx_bounds.specs.Refusal.{error_of_parts};
 
+use nx_choices::Field;
 use nx_parts::PartsError;
 use nx_tree::NoMemory;
 use std::alloc::{AllocError, AllocFailed};
 use thiserror::Error;
-
-/// A number of a bound.
-#[derive(Clone, Copy, Debug, PartialEq, Eq)]
-pub enum Field {
-    /// How many intervals there are at least.
-    Least,
-    /// What the root's part weighs at least with so many intervals.
-    Lean,
-    /// What the root's part weighs at least with so many intervals and one.
-    Nearly,
-}
 
 /// Why a plan isn't certified, or a text is no plan. Each index, node and line is the first one for
 /// which it can be said.

@@ -1,19 +1,19 @@
 //! Certificates of partitionings: a lower bound for each node of a document, the check that these
 //! bounds support each other, and the text of plans.
 //!
-//! What a numeric choice over the children of a node is, and when a claim is supported, is said in
-//! `specs/Choice.antt` and `specs/Claim.antt`; that supported claims are lower bounds in
+//! What a numeric choice over the children of a node is, and when a claim is supported, is said by
+//! `nx_choices`; what is claimed of all nodes of a tree in `specs/Claim.antt`; that supported claims are lower bounds in
 //! `specs/Law.antt`; what a text of a plan says in `specs/PlanText.antt`.
 #![tactic(auto)]
 
 mod certify;
-mod choices;
 mod error;
 pub mod laws;
 mod support;
 mod text;
 
 pub use certify::certified;
-pub use error::{BoundsError, Field};
+pub use error::BoundsError;
+pub use nx_choices::Field;
 pub use support::supported;
 pub use text::{read_plan, write_plan};

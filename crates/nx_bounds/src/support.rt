@@ -4,13 +4,13 @@ ghost use Rattle.std.specs.List.{AllByRecursion};
 ghost use Rattle.nx_tree.specs.Forest.{nodes};
 ghost use Rattle.nx_tree.specs.Document.{IsDocument, most_nodes};
 ghost use Rattle.nx_weights.specs.Weight.{IsShort, IsWithinLimits};
-ghost use Rattle.nx_bounds.specs.Claim.{child, children, claimed, claim, IsSupported, AreSupported};
-ghost use Rattle.nx_bounds.specs.Profile.{IsFound};
+ghost use Rattle.nx_choices.specs.Claim.{claim, IsSupported, IsFound};
+ghost use Rattle.nx_bounds.specs.Claim.{child, children, claimed, numbers, AreSupported};
 ghost use Rattle.nx_bounds.specs.Refusal.{IsNotSupported};
 ghost use Rattle.nx_bounds.specs.Walk.{claim_at, NodeFails, WalkFails};
 
-use crate::choices::{Choices, ClaimedChild};
-use crate::{BoundsError, Field};
+use crate::BoundsError;
+use nx_choices::{Child, Choices, Field};
 use nx_parts::{Bound, Bounds};
 use nx_tree::{NoMemory, Node, Tree, count};
 use nx_weights::weight;
@@ -21,7 +21,7 @@ use std::alloc::Global;
 struct Scratch {
     choices: Choices,
     // What is claimed of the children of the node.
-    children: Vec<ClaimedChild>,
+    children: Vec<Child>,
 }
 
 /// Whether there is one bound for each node of the document, and each is supported: no number of a
@@ -124,30 +124,9 @@ fn exceeded(
 {
     let bound = bounds[place as usize];
     let own = weight(&tree.node);
-    if tree.children.is_empty() {
-        return Ok(exceeded_at_leaf(k, own, bound));
-    }
     let Scratch { choices, children } = scratch;
     claim_children(tree, k, bounds, place, children)?;
-    choices.exceeded(k, own, children.as_slice(), bound)
-}
-
-// The same of a node without children. It has one choice, which counts one interval and leaves
-// nothing with the node, and none where the node itself is too heavy.
-fn exceeded_at_leaf(k: u32, own: u32, bound: Bound) -> Option<(Field, u32)>
-    ensures { IsFound k (record { own = own; children = []; bound = bound }) result }
-{
-    if own > k {
-        None
-    } else if bound.least > 1 {
-        Some((Field::Least, 1))
-    } else if bound.least == 1 && bound.lean > own {
-        Some((Field::Lean, own))
-    } else if bound.nearly > own {
-        Some((Field::Nearly, own))
-    } else {
-        None
-    }
+    choices.exceeded(k, own, children.as_slice(), numbers(bound))
 }
 
 // Makes the list one of what is claimed of the children of the tree's root, whose bound stands at the
@@ -157,7 +136,7 @@ fn claim_children(
     k: u32,
     bounds: &[Bound],
     place: u32,
-    list: &mut Vec<ClaimedChild>,
+    list: &mut Vec<Child>,
 ) -> Result<(), NoMemory>
     requires limits { IsWithinLimits tree.now }
     requires few { length bounds.now ≤ most_nodes }
@@ -174,21 +153,32 @@ fn claim_children(
 }
 
 // A child as the choices at its parent see it.
-fn claimed_child(node: &Node, k: u32, bound: Bound) -> ClaimedChild
+fn claimed_child(node: &Node, k: u32, bound: Bound) -> Child
     requires { IsShort node.now }
     ensures { result ≡ child k node.now bound }
 {
     let own = weight(node);
-    ClaimedChild {
+    Child {
         least: bound.least,
         lean: own.max(bound.lean).min(k),
         nearly: own.max(bound.nearly).min(k),
     }
 }
 
+// The numbers that are claimed of a node.
+fn numbers(bound: Bound) -> Child
+    ensures { result ≡ numbers bound }
+{
+    Child {
+        least: bound.least,
+        lean: bound.lean,
+        nearly: bound.nearly,
+    }
+}
+
 // The number of the bound.
 fn number(bound: Bound, field: Field) -> u32
-    ensures { result ≡ claim field bound }
+    ensures { result ≡ claim field (numbers bound) }
 {
     match field {
         Field::Least => bound.least,

@@ -4,8 +4,8 @@ use Rattle.nx_pyx.specs.Word.{word_of}
 use Rattle.nx_parts.specs.declared.error.PartsError.{PartsError}
 use Rattle.nx_parts.specs.declared.error.PartsError.TheVariants.{OutOfTree, Overlap, NoRoot, Heavy}
 use Rattle.nx_parts.specs.declared.error.PartsError.TheVariants as parts_error
-use Rattle.nx_bounds.specs.declared.error.Field.{Field}
-use Rattle.nx_bounds.specs.declared.error.Field.TheVariants.{Least, Lean, Nearly}
+use Rattle.nx_choices.specs.declared.child.Field.{Field}
+use Rattle.nx_choices.specs.declared.child.Field.TheVariants.{Least, Lean, Nearly}
 use Rattle.nx_bounds.specs.declared.error.BoundsError.{BoundsError}
 use Rattle.nx_bounds.specs.declared.error.BoundsError.TheVariants.{Parts, WrongWeight, Length, Unsupported, Count, BadPlanLine, Memory}
 use Rattle.nx_front.specs.declared.refusal.Refusal.{Refusal}

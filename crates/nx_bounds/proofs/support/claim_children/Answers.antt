@@ -1,7 +1,7 @@
 use Rattle.std.proofs.Common.{arith, ◌≡◌, ◌+◌, ◌≤◌, [], ◌∷◌, ◌++◌, length, get_or, sym, subst, ap, ◌∙◌}
 use Rattle.std.proofs.lemmas.Option.{slice_get-get_or}
 use Rattle.nx_parts.specs.declared.bounds.Bound.{Bound}
-use Rattle.nx_bounds.specs.Choice.{Child}
+use Rattle.nx_choices.specs.declared.child.Child.{Child}
 use Rattle.nx_bounds.specs.Claim.{child}
 use Rattle.std.proofs.lemmas.List.{drop_all}
 use Rattle.nx_tree.specs.Forest.{OrderedTree, nodes}

@@ -1,0 +1,21 @@
+-- What the least choices over the children of a node give.
+use Rattle.std.specs.Prelude.{◌≡◌, ℕ, ◌+◌, ◌≤◌, List}
+use Rattle.nx_choices.specs.declared.child.Child.{Child}
+use Rattle.nx_choices.specs.Choice.{Cell, IsAdmitted, count, left}
+
+-- The number is the least value of all those that P holds of: one of them has it, and none has less.
+pub record IsLeast {A : Type 0} (P : A → Type 0) (value : A → ℕ) (number : ℕ) : Type 0 where
+  pub one : A
+  pub holds : P one
+  pub reached : value one ≡ number
+  pub least : (other : A) → P other → number ≤ value other
+
+-- the least weight of the node's part by the choices with at most this count
+abbrev pub IsLeastWithin : ℕ → ℕ → List Child → ℕ → ℕ → Type 0
+IsLeastWithin k own children most weight = IsLeast (λ cells. IsAdmitted k own children cells × (count cells ≤ most)) (λ cells. own + left cells) weight
+
+-- The numbers of a node say what the admitted choices over its children give: the least count, the least weight of the node's part with such a count, and the least with at most one more.
+pub record IsLeastChoice (k own : ℕ) (children : List Child) (node : Child) : Type 0 where
+  pub least : IsLeast (IsAdmitted k own children) count node.least
+  pub lean : IsLeastWithin k own children node.least node.lean
+  pub nearly : IsLeastWithin k own children (node.least + 1) node.nearly
