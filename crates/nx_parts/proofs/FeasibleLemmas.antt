@@ -3,11 +3,10 @@ use Rattle.std.proofs.Common.{◌≡◌, ℕ, zero, suc, ◌+◌, ◌<◌, ◌�
 use Rattle.std.specs.List.{All, range_with_len}
 use Rattle.nx_tree.specs.Forest.{OrderedTree}
 use Rattle.nx_parts.specs.declared.interval.Interval.{Interval}
-use Rattle.nx_parts.specs.declared.error.PartsError.{PartsError}
-use Rattle.nx_parts.specs.declared.error.PartsError.TheVariants.{OutOfTree, Overlap, NoRoot, Heavy, Memory}
+use Rattle.nx_parts.specs.declared.error.PartsError.TheVariants.{Heavy}
 use Rattle.nx_parts.specs.Partitioning.{part_weight, part_weights, IsPartitioning, IsFeasible}
 use Rattle.nx_parts.specs.Refusal.{IsFirst, IsHeavy, IsNotFeasible}
-use Rattle.nx_parts.specs.Light.{IsAbove, IsTooHeavy}
+use Rattle.nx_parts.specs.Light.{IsAbove, IsFirstAbove}
 
 length-mapped_range : (f : ℕ → ℕ) (a n : ℕ) → length (map f (range_with_len a n)) ≡ n
 length-mapped_range f a zero = refl
@@ -51,14 +50,10 @@ module _ (tree : OrderedTree) (parts : List Interval) (weights : List ℕ) (are 
       let e = weight_at index a in
       (omega arith, omega arith)
 
-  pub too_heavy : (k : ℕ) (error : PartsError) → IsPartitioning tree parts → IsTooHeavy k weights error → IsNotFeasible k tree parts error
-  too_heavy k (Heavy index slots) p h =
+  pub too_heavy : (k index slots : ℕ) → IsPartitioning tree parts → IsFirstAbove k weights (index, slots) → IsNotFeasible k tree parts (Heavy index slots)
+  too_heavy k index slots p h =
       let first : IsFirst (IsHeavy k tree parts) index = record {
         holds = heavy_from k index h.0.holds;
         before = λ earlier lt x. h.0.before earlier lt (above_from k earlier x);
       } in
       (p, first, h.1 ∙ weight_at index first.holds.0)
-  too_heavy k (OutOfTree index) p h = absurd h
-  too_heavy k (Overlap index) p h = absurd h
-  too_heavy k NoRoot p h = absurd h
-  too_heavy k Memory p h = absurd h

@@ -1,31 +1,29 @@
 // Tests of the intervals and of their weights.
-ghost use Rattle.std.specs.Prelude.{◌≡◌, ◌≤◌, ◌<◌, ◌^◌, false, nat_lt, length, OnOk, IfErr, IsTrue};
+ghost use Rattle.std.specs.Prelude.{◌≡◌, ◌≤◌, ◌<◌, ◌^◌, false, nat_lt, length, MatchOption, IsTrue};
 ghost use Rattle.std.specs.List.{All};
 ghost use Rattle.std.specs.Option.{option_map_or};
 ghost use Rattle.nx_tree.specs.Document.{IsDocument};
 ghost use Rattle.nx_tree.specs.Edit.{at};
 ghost use Rattle.nx_tree.specs.Forest.{trees_of};
 ghost use Rattle.nx_parts.specs.Partitioning.{is_in_tree};
-ghost use Rattle.nx_parts.specs.Refusal.{IsNoPartitioning};
-ghost use Rattle.nx_parts.specs.Light.{IsTooHeavy};
+ghost use Rattle.nx_parts.specs.Refusal.{IsFirst, IsOutOfTree};
+ghost use Rattle.nx_parts.specs.Light.{IsFirstAbove};
 
-use crate::{Interval, PartsError};
+use crate::Interval;
 use nx_tree::{Tree, node_at};
 
-// `OutOfTree` for the first interval that isn't in the tree.
-pub(crate) fn check_inside(tree: &Tree, intervals: &[Interval]) -> Result<(), PartsError>
+// The place of the first interval that isn't in the tree.
+pub(crate) fn first_outside(tree: &Tree, intervals: &[Interval]) -> Option<u32>
     requires document { IsDocument tree.now }
     requires few { length intervals.now < 2 ^ 32 }
-    ensures ok { OnOk result (All (λ interval. IsTrue (is_in_tree tree.now interval)) intervals.now) }
-    ensures err { IfErr result (IsNoPartitioning tree.now intervals.now) }
+    ensures { MatchOption result (All (λ interval. IsTrue (is_in_tree tree.now interval)) intervals.now) (IsFirst (IsOutOfTree tree.now intervals.now)) }
 {
     for (index, interval) in intervals.iter().enumerate() {
         if !is_in_tree(tree, interval) {
-            let index = index as u32;
-            return Err(PartsError::OutOfTree { index });
+            return Some(index as u32);
         }
     }
-    Ok(())
+    None
 }
 
 // Whether the interval lies in the tree.
@@ -54,19 +52,15 @@ fn has_child(tree: &Tree, path: &[u32], position: usize) -> bool
     }
 }
 
-// `Heavy` for the first weight above `k`.
-pub(crate) fn check_light(weights: &[u64], k: u32) -> Result<(), PartsError>
+// The place of the first weight above `k`, and the weight.
+pub(crate) fn first_above(weights: &[u64], k: u32) -> Option<(u32, u64)>
     requires { length weights.now < 2 ^ 32 }
-    ensures ok { OnOk result (All (λ weight. weight ≤ k) weights.now) }
-    ensures err { IfErr result (IsTooHeavy k weights.now) }
+    ensures { MatchOption result (All (λ weight. weight ≤ k) weights.now) (IsFirstAbove k weights.now) }
 {
     for (index, weight) in weights.iter().enumerate() {
         if *weight > u64::from(k) {
-            return Err(PartsError::Heavy {
-                index: index as u32,
-                weight: *weight,
-            });
+            return Some((index as u32, *weight));
         }
     }
-    Ok(())
+    None
 }

@@ -8,7 +8,7 @@ ghost use Rattle.nx_parts.specs.Refusal.{IsNoPartitioning, IsNotFeasible};
 ghost use Rattle.nx_parts.specs.Marks.{marked_in, standing, owed};
 ghost use Rattle.nx_parts.specs.declared.marks.Mark.{out-Mark};
 
-use crate::check::{check_inside, check_light};
+use crate::check::{first_above, first_outside};
 use crate::marks::{Mark, below_in, holder_in, mark_members};
 use crate::{Partitioning, PartsError};
 use nx_tree::Tree;
@@ -30,7 +30,9 @@ pub fn part_weights(alloc: Global, tree: &Tree, parts: &Partitioning) -> Result<
     ensures err { IfErr result (λ error. IsNoPartitioning tree.now parts.now error) }
 {
     let intervals = parts.as_slice();
-    check_inside(tree, intervals)?;
+    if let Some(index) = first_outside(tree, intervals) {
+        return Err(PartsError::OutOfTree { index });
+    }
     let root = mark_members(alloc, intervals)?;
     let owner = root.holder.ok_or(PartsError::NoRoot)?;
     let sums = sum_owned(alloc, tree, &root, owner, intervals.len())?;
@@ -54,8 +56,10 @@ pub fn feasible_weights(
     ensures err { IfErr result (λ error. IsNotFeasible k tree.now parts.now error) }
 {
     let weights = part_weights(alloc, tree, parts)?;
-    check_light(weights.as_slice(), k)?;
-    Ok(weights)
+    match first_above(weights.as_slice(), k) {
+        Some((index, weight)) => Err(PartsError::Heavy { index, weight }),
+        None => Ok(weights),
+    }
 }
 
 /// Whether the intervals are a partitioning of the tree and none of its parts weighs more than `k`
