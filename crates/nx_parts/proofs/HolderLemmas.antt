@@ -4,6 +4,7 @@ use Rattle.std.specs.Prelude.{slice_get}
 use Rattle.std.specs.List.{position, position_from}
 use Rattle.std.specs.Option.{option_or}
 use Rattle.std.proofs.lemmas.Iterator.Adapters.{position_from-zero}
+use Rattle.nx_lists.proofs.CaseLemmas.{none_head}
 
 pushed : (b : Bool) (i : ℕ) (o p q : Option ℕ) → o ≡ option_or p q → (if b then Some i else o) ≡ option_or (if b then Some i else p) q
 pushed true i o p q e = refl
@@ -23,14 +24,10 @@ position-push {X} p xs x =
     ∙ ap (λ (n : ℕ). option_or (position_from p 0 xs) (if p x then Some n else None)) (let e : 0 + length xs ≡ length xs = omega arith in e)
     ∙ ap (λ (o : Option ℕ). option_or o (if p x then Some (length xs) else None)) (sym (position_from-zero p xs))
 
-none_here : (b : Bool) (i : ℕ) (o : Option ℕ) → (if b then Some i else o) ≡ None → (b ≡ false) × (o ≡ None)
-none_here true i o h = absurd (cc)
-none_here false i o h = (refl, h)
-
 from-none : {X : Type 0} (p : X → Bool) (i : ℕ) (xs : List X) (k : ℕ) (y : X) → position_from p i xs ≡ None → slice_get xs k ≡ Some y → p y ≡ false
 from-none {X} p i [] k y none e = absurd (cc)
-from-none {X} p i (x ∷ xs) zero y none e = let same : x ≡ y = cc in ap p (sym same) ∙ (none_here (p x) i (position_from p (i + 1) xs) none).0
-from-none {X} p i (x ∷ xs) (suc k) y none e = from-none p (i + 1) xs k y (none_here (p x) i (position_from p (i + 1) xs) none).1 e
+from-none {X} p i (x ∷ xs) zero y none e = let same : x ≡ y = cc in ap p (sym same) ∙ (none_head (p x) i (position_from p (i + 1) xs) none).0
+from-none {X} p i (x ∷ xs) (suc k) y none e = from-none p (i + 1) xs k y (none_head (p x) i (position_from p (i + 1) xs) none).1 e
 
 -- where there is no such place, the test fails everywhere
 pub position-None : {X : Type 0} (p : X → Bool) (xs : List X) (k : ℕ) (y : X) → position p xs ≡ None → slice_get xs k ≡ Some y → p y ≡ false

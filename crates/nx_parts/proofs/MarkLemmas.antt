@@ -4,6 +4,7 @@ use Rattle.std.specs.Prelude.{nat_le, slice_get, IsTrue}
 use Rattle.std.specs.Option.{option_and_then, is_some}
 use Rattle.std.proofs.lemmas.Bool.{and_parts, and_from, and_left, and_right, cases_Bool, cases_eq, cases_lt, eq-eqb, ne_eqb, eqb-true, le-leb, lt-leb, lt-ltb, le-ltb}
 use Rattle.std.proofs.lemmas.Bool.Decides.{nat_tests}
+use Rattle.nx_lists.proofs.CaseLemmas.{some_value}
 use Rattle.nx_tree.specs.Document.{is_empty}
 use Rattle.nx_parts.specs.declared.marks.Mark.{Mark, out-Mark}
 use Rattle.nx_parts.specs.declared.marks.Mark.TheOpen.{Mark-F}
@@ -28,13 +29,9 @@ pub empty_mark : (r : Mark-F Mark) → r.holder ≡ None → r.below.items ≡ [
 empty_mark r own none [] = ap (λ (f : Mark-F Mark). f.holder) (out-roll-Mark r) ∙ own
 empty_mark r own none (p ∷ path) = ap (λ (f : Mark-F Mark). marked_in f.below.items p path) (out-roll-Mark r) ∙ ap (λ (xs : List Mark). marked_in xs p path) none
 
-some_value : (o : Option ℕ) → true ≡ is_some o → (x : ℕ) × (o ≡ Some x)
-some_value None e = absurd (cc)
-some_value (Some x) e = (x, refl)
-
 -- a mark that holds something
 pub taken_root : (m : Mark) → true ≡ is_some (out-Mark m).holder → Clashes is_empty m
-taken_root m e = let g = some_value (out-Mark m).holder e in ([], g.0, refl, g.1)
+taken_root m e = let g = some_value (out-Mark m).holder (sym e) in ([], g.0, refl, g.1)
 
 pub get_here : (xs : List Mark) (i : ℕ) (child : Mark) (path : List ℕ) → slice_get xs i ≡ Some child → marked_in xs i path ≡ marked child path
 get_here xs i child path e = ap (option_and_then (λ (m : Mark). marked m path)) e

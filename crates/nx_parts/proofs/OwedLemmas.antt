@@ -8,7 +8,8 @@ use Rattle.nx_parts.specs.Partitioning.{holder}
 use Rattle.nx_parts.specs.Marks.{owed}
 use Rattle.nx_parts.proofs.Owned.{is_place, owned}
 
-at_most_one : (b : Bool) (w : ℕ) → (if b then w else 0) ≤ w
+-- nothing or a number is at most that number
+pub at_most_one : (b : Bool) (w : ℕ) → (if b then w else 0) ≤ w
 at_most_one true w = omega arith
 at_most_one false w = omega arith
 

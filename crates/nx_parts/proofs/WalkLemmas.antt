@@ -1,5 +1,5 @@
 -- The walk that adds up what each interval owns, tree by tree, and what it leaves.
-use Rattle.std.proofs.Common.{◌≡◌, ℕ, zero, suc, ◌+◌, ◌<◌, ◌≤◌, ◌==◌, ◌^◌, Bool, true, false, if◌then◌else◌, List, [], ◌∷◌, ◌++◌, length, take, drop, get_or, replicate, Option, None, Some, unwrap_or, refl, sym, ap, ◌∙◌, subst, inl, inr, arith, slice_set}
+use Rattle.std.proofs.Common.{◌≡◌, ℕ, zero, suc, ◌+◌, ◌<◌, ◌≤◌, ◌==◌, ◌^◌, Bool, if◌then◌else◌, List, [], ◌∷◌, ◌++◌, length, take, drop, get_or, replicate, Option, None, Some, unwrap_or, refl, sym, ap, ◌∙◌, subst, inl, inr, arith, slice_set}
 use Rattle.std.proofs.lemmas.Bool.{cases_eq, eq-eqb, ne_eqb}
 use Rattle.std.proofs.lemmas.List.FromFn.{fill_by_all}
 use Rattle.std.proofs.lemmas.List.{append-nil, take_all, drop_all}
@@ -14,7 +14,7 @@ use Rattle.nx_parts.specs.Partitioning.{holder, part_weight, part_weights}
 use Rattle.nx_parts.specs.Marks.{marked, marked_in, standing, owed}
 use Rattle.nx_parts.proofs.Owned.{is_place, owned}
 use Rattle.nx_parts.proofs.OwnerLemmas.{part_weight-walk}
-use Rattle.nx_parts.proofs.OwedLemmas.{owed-total, owed-same, owed-owned}
+use Rattle.nx_parts.proofs.OwedLemmas.{at_most_one, owed-total, owed-same, owed-owned}
 
 -- what the sums are before the trees from an index on, where they began as old
 pub record OwedSoFar (marks : List Mark) (above i : ℕ) (old now : List ℕ) (ts : List OrderedTree) : Type 0 where
@@ -55,10 +55,6 @@ get_added xs i k w h = get_set xs i k (get_or xs i 0 + w) h ∙ elim (cases_eq i
       ∙ sym (ap (λ (b : Bool). get_or xs k 0 + (if b then w else 0)) (ne_eqb i k ne))
 ]
 
-choice_most : (b : Bool) (w : ℕ) → (if b then w else 0) ≤ w
-choice_most true w = omega arith
-choice_most false w = omega arith
-
 -- the owner of a child is among the sums
 pub owner_within : (o : Option ℕ) (above n owner : ℕ) → owner ≡ unwrap_or o above → above < n → ((place : ℕ) → o ≡ Some place → place < n) → owner < n
 owner_within None above n owner is h f = omega arith
@@ -88,7 +84,7 @@ module _ (marks : List Mark) (above i : ℕ) (old now : List ℕ) (ts : List Ord
     pub mid_room : (most index : ℕ) → index < length old → get_or old index 0 + total (forest_of ts) < most → get_or mid index 0 + total t.below < most
     mid_room most index lt h =
         let m = mid_at index in
-        let c = choice_most (owner == index) w in
+        let c = at_most_one (owner == index) w in
         let r = s.room index lt in
         let l = left in
         omega arith
@@ -100,7 +96,7 @@ module _ (marks : List Mark) (above i : ℕ) (old now : List ℕ) (ts : List Ord
       short = child_short.2;
       room = λ index lt.
           let m = mid_at index in
-          let c = choice_most (owner == index) w in
+          let c = at_most_one (owner == index) w in
           let r = s.room index lt in
           let l = left in
           let a = at_child index lt in
@@ -149,7 +145,7 @@ root_sum zeros n owner w k e h =
 pub root_room : (tree : OrderedTree) (zeros begun : List ℕ) (ts : List OrderedTree) (n owner w index : ℕ) → IsDocument tree → zeros ≡ replicate n 0 → owner < length zeros → w ≡ weight tree.node → begun ≡ slice_set zeros owner w → forest_of ts ≡ tree.below → get_or begun index 0 + total (forest_of ts) < 2 ^ 64
 root_room tree zeros begun ts n owner w index doc zs within is e below =
     let a = ap (λ (xs : List ℕ). get_or xs index 0) e ∙ root_sum zeros n owner w index zs within in
-    let c = choice_most (owner == index) w in
+    let c = at_most_one (owner == index) w in
     let most = tree_weight_most tree (document_within tree doc) in
     let b = ap total below in
     omega arith

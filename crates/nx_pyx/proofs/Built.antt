@@ -1,26 +1,23 @@
 -- A forest that lines without a fault say has its attributes where a document has them.
-use Rattle.std.proofs.Common.{◌≡◌, ℕ, ◌+◌, ◌<◌, Bool, true, false, List, [], ◌∷◌, ◌++◌, length, get_or, Option, None, Some, map, refl, ap, sym, ◌∙◌, subst, inl, inr, ⊎_elim, ◌⊎◌, arith, append_assoc, zero, suc}
+use Rattle.std.proofs.Common.{◌≡◌, ℕ, ◌+◌, Bool, true, false, List, [], ◌∷◌, ◌++◌, Option, None, Some, map, refl, ap, sym, ◌∙◌, subst, ⊎_elim, ◌⊎◌, arith, append_assoc}
 use Rattle.std.specs.Prelude.{◌&&◌, if◌then◌else◌, unwrap_or, Contains}
 use Rattle.std.specs.Option.{option_map, is_none}
 use Rattle.std.specs.Str.{bytes_eq}
 use Rattle.std.proofs.lemmas.Bool.{or_parts, both_ways}
 use Rattle.std.proofs.lemmas.Slice.Eq.{bytes_eq-Decides}
+use Rattle.nx_lists.proofs.ListLemmas.{contains_parts}
+use Rattle.nx_tree.proofs.ForestLemmas.{no_names}
 use Rattle.nx_tree.specs.declared.node.Kind.{Kind}
 use Rattle.nx_tree.specs.declared.node.Kind.TheVariants.{Doc, Element, Attribute, Text, Instruction}
 use Rattle.nx_tree.specs.declared.node.Node.{Node}
 use Rattle.nx_tree.specs.Forest as forest
-use Rattle.nx_tree.specs.Forest.{OrderedTree, Forest, Plant}
+use Rattle.nx_tree.specs.Forest.{Forest, Plant}
 use Rattle.nx_tree.specs.Document.{is_element, is_attribute, attribute_names, HasNoAttribute, AreDistinct, MayHave, IsForest}
 use Rattle.nx_pyx.specs.Builder.{IsBuilt}
 use Rattle.nx_pyx.specs.Event.{Event, Start, End, Single, event_of, events}
 use Rattle.nx_pyx.specs.Fault.{Standing, at_first, attributes_after, standing, is_among, first_fault}
 use Rattle.nx_pyx.proofs.Running.{Goes, unrefused, sound_goes}
 use Rattle.nx_pyx.proofs.Said.{within, outside, kind_cases, events_element, events_single, AreNew, Suits, SuitsBy, leads_outside, said_events}
-
--- one of a list is the first or one of the others
-Contains_parts : (first : List ℕ) (more : List (List ℕ)) (name : List ℕ) (k : ℕ) → k < length (first ∷ more) → get_or (first ∷ more) k name ≡ name → (first ≡ name) ⊎ Contains more name
-Contains_parts first more name zero within_it is = inl is
-Contains_parts first more name (suc k) within_it is = inr (k, omega arith, is)
 
 -- names that differ from those so far and from each other are distinct, and none is among those so far
 pub AreNew_parts : (names more : List (List ℕ)) → AreNew names more → AreDistinct more × ((name : List ℕ) → Contains more name → is_among name names ≡ false)
@@ -32,14 +29,8 @@ AreNew_parts names (first ∷ more) new =
           ⊎_elim
           (λ (same : first ≡ name). subst (λ (x : List ℕ). is_among x names ≡ false) same new.0)
           (λ (later : Contains more name). (or_parts (bytes_eq name first) (is_among name names) (p.1 name later)).1)
-          (Contains_parts first more name here.0 here.1 here.2),
+          (contains_parts first more name here),
     )
-
--- no attribute, no name of one
-no_names : (f : Forest) → HasNoAttribute f → attribute_names f ≡ []
-no_names forest.Empty h = refl
-no_names (Plant node below beside) h =
-    ap (λ (b : Bool). if b then node.name ∷ attribute_names beside else attribute_names beside) h.0 ∙ no_names beside h.1
 
 -- a first tree that may come, and others that may follow it
 suited_by : (is : Bool) (name : List ℕ) (beside : Forest) (attributes : Option (List (List ℕ))) → (is && is_none attributes) ≡ false → (is && is_among name (unwrap_or attributes [])) ≡ false

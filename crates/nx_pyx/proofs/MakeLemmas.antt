@@ -1,7 +1,7 @@
 -- What a builder's calls make of an event, and where they refuse it.
-use Rattle.std.proofs.Common.{if◌then◌else◌, not, ◌&&◌, ◌==◌, nat_le, nat_lt, subst, ◌≡◌, ℕ, ◌+◌, ◌≤◌, ◌<◌, Bool, true, false, List, [], ◌∷◌, ◌++◌, length, Option, None, Some, IfSome, refl, ap, sym, ◌∙◌, add-zero, arith}
+use Rattle.std.proofs.Common.{if◌then◌else◌, not, ◌&&◌, ◌==◌, nat_le, subst, ◌≡◌, ℕ, ◌+◌, ◌<◌, Bool, true, false, List, [], ◌∷◌, ◌++◌, length, Option, None, Some, IfSome, refl, ap, sym, ◌∙◌, add-zero}
 use Rattle.std.proofs.lemmas.Slice.Eq.{bytes_eq-Decides}
-use Rattle.std.proofs.lemmas.Bool.{leb-false, lt-leb}
+use Rattle.std.proofs.lemmas.Bool.{lt-leb, ltb-false}
 use Rattle.std.specs.Option.{option_map, is_some, is_none}
 use Rattle.std.specs.Str.{bytes_eq}
 use Rattle.std.specs.Prelude.{unwrap_or}
@@ -9,7 +9,7 @@ use Rattle.nx_tree.specs.declared.node.Kind.TheVariants.{Element, Attribute, Tex
 use Rattle.nx_tree.specs.declared.node.Node.{Node}
 use Rattle.nx_tree.specs.Forest as forest
 use Rattle.nx_tree.specs.Forest.{Forest, planted}
-use Rattle.nx_tree.specs.Document.{IsNode, is_element, is_name, most_nodes, deepest}
+use Rattle.nx_tree.specs.Document.{IsNode, is_element, is_name, longest_node, most_nodes, deepest}
 use Rattle.nx_pyx.specs.declared.error.PyxFault.{PyxFault}
 use Rattle.nx_pyx.specs.declared.error.PyxFault.TheVariants.{BadNesting, BadAttribute, Twice, TooDeep, TooMany}
 use Rattle.nx_pyx.specs.declared.error.ReadError.{ReadError}
@@ -95,10 +95,6 @@ pub start_misplaced : (builder : Builder) (a : Option (List (List ℕ))) (name :
 start_misplaced builder a name short named beside =
     refused_place (standing_of builder a) (Start name) short (ap not named) (ap (λ t. t && builder.rooted) (is_outside-standing_at builder.levels.items builder.rooted builder.nodes a) ∙ beside)
 
--- a size that is allowed
-allowed : (n : ℕ) → nat_lt 1048576 n ≡ false → n ≤ 1048576
-allowed n h = let below : n < 1048577 = leb-false 1048577 n h in omega arith
-
 pub starts : (old new : Builder) (level : Level) (name : List ℕ) → is_long (Start name) ≡ false → is_name name ≡ true →
     ((length old.levels.items == 0) && old.rooted) ≡ false → nat_le deepest (length old.levels.items) ≡ false → old.nodes < most_nodes →
     new.levels.items ≡ old.levels.items ++ level ∷ [] → level.before ≡ old.children → level.name ≡ name →
@@ -114,7 +110,7 @@ starts old new level name short named beside shallow few levels before called ch
         Some [],
         record { may_come = sym may; holds = holds },
         rw (levels ∙ ap (λ l. old.levels.items ++ l ∷ []) same, children, rooted, nodes)
-            (made_start old.levels.items old.children old.rooted old.nodes a es name made named (allowed (length name) short) few),
+            (made_start old.levels.items old.children old.rooted old.nodes a es name made named (ltb-false longest_node (length name) short) few),
       );
       lines = lines;
     }
@@ -259,7 +255,7 @@ pub adds_text : (old tried new : Builder) (content : List ℕ) → is_long (Sing
     Makes old new (Single (node_in Text [] content))
 adds_text old tried new content short inside room pushed levels children rooted nodes lines may =
     singles old tried new (node_in Text [] content) pushed levels children rooted nodes lines
-    (record { parts = refl; short = allowed (0 + length (node_in Text [] content).content) short }) refl room.0 room.1
+    (record { parts = refl; short = ltb-false longest_node (0 + length (node_in Text [] content).content) short }) refl room.0 room.1
     (λ a known. text_fit old a content short inside)
     (λ a known. record { may_come = sym (pushed.may_have ∙ may); holds = tt })
 
@@ -269,7 +265,7 @@ pub adds_instruction : (old tried new : Builder) (name content : List ℕ) → i
     Makes old new (Single (node_in Instruction name content))
 adds_instruction old tried new name content short named room pushed levels children rooted nodes lines may =
     singles old tried new (node_in Instruction name content) pushed levels children rooted nodes lines
-    (record { parts = named; short = allowed (length name + length (node_in Instruction name content).content) short }) refl room.0 room.1
+    (record { parts = named; short = ltb-false longest_node (length name + length (node_in Instruction name content).content) short }) refl room.0 room.1
     (λ a known. instruction_fit old a name content short named)
     (λ a known. record { may_come = sym (pushed.may_have ∙ may); holds = tt })
 
@@ -280,7 +276,7 @@ pub adds_attribute : (old tried new : Builder) (name content : List ℕ) → is_
     Makes old new (Single (node_in Attribute name content))
 adds_attribute old tried new name content short named may fresh new_one inserts room pushed levels children rooted nodes lines may_still =
     singles old tried new (node_in Attribute name content) pushed levels children rooted nodes lines
-    (record { parts = named; short = allowed (length name + length (node_in Attribute name content).content) short }) refl room.0 room.1
+    (record { parts = named; short = ltb-false longest_node (length name + length (node_in Attribute name content).content) short }) refl room.0 room.1
     (λ a known. attribute_fit old tried.attributes a name content short named may fresh new_one inserts known)
     (λ a known. let more = knows_more old.attributes tried.attributes a name fresh new_one (known.may_come ∙ may) known.holds inserts in
     record {

@@ -1,7 +1,7 @@
 -- Each list of bytes stands for one document, or has one fault.
-use Rattle.std.proofs.Common.{◌≡◌, ℕ, ◌+◌, ◌≤◌, ◌<◌, ◌==◌, ◌&&◌, Bool, true, false, not, nat_lt, if◌then◌else◌, List, [], ◌∷◌, ◌++◌, length, Option, None, Some, map, refl, ap, sym, ◌∙◌, subst, inl, inr, ⊎_elim, ◌⊎◌, arith, append_assoc, append-nil}
+use Rattle.std.proofs.Common.{◌≡◌, ℕ, ◌+◌, ◌==◌, ◌&&◌, Bool, true, false, not, if◌then◌else◌, List, [], ◌∷◌, ◌++◌, length, Option, None, Some, map, refl, ap, sym, ◌∙◌, subst, inl, inr, ⊎_elim, ◌⊎◌, arith, append_assoc, append-nil}
 use Rattle.std.specs.Option.{option_map, option_map_or}
-use Rattle.std.proofs.lemmas.Bool.{leb-false, ne_eqb, not-false}
+use Rattle.std.proofs.lemmas.Bool.{leb-false, ltb-false, ne_eqb, not-false}
 use Rattle.std.proofs.lemmas.Slice.Eq.{bytes_eq-Decides}
 use Rattle.nx_tree.specs.declared.node.Kind.{Kind}
 use Rattle.nx_tree.specs.declared.node.Kind.TheVariants.{Doc, Element, Attribute, Text, Instruction}
@@ -131,10 +131,6 @@ form_end levels children rooted nodes attributes es name made passes =
     })
     (last_level levels)
 
--- a size that is allowed
-allowed : (n : ℕ) → nat_lt longest_node n ≡ false → n ≤ longest_node
-allowed n h = let below : n < longest_node + 1 = leb-false (longest_node + 1) n h in omega arith
-
 -- one event more, which a line may say and no test refuses
 form_next : (es : List Event) (e : Event) → IsForm es → IsSayable e → refusal (standing es) e ≡ None → IsForm (es ++ e ∷ [])
 form_next es (Start name) form said ok =
@@ -146,7 +142,7 @@ form_next es (Start name) form said ok =
       nodes = form.nodes + 1;
       attributes = Some [];
       made = made_start form.levels form.children form.rooted form.nodes form.attributes es name form.made
-          (not-false (is_name name) p.named) (allowed (length name) p.short) (leb-false most_nodes form.nodes p.few);
+          (not-false (is_name name) p.named) (ltb-false longest_node (length name) p.short) (leb-false most_nodes form.nodes p.few);
     }
 form_next es (End name) form said ok =
     form_end form.levels form.children form.rooted form.nodes form.attributes es name form.made
@@ -160,7 +156,7 @@ form_next es (Single node) form said ok =
       nodes = form.nodes + 1;
       attributes = attributes_after node form.attributes;
       made = made_single form.levels form.children form.rooted form.nodes form.attributes es node form.made
-          (record { parts = said_parts node.kind node.name node.content said p.named; short = allowed (length node.name + length node.content) p.short })
+          (record { parts = said_parts node.kind node.name node.content said p.named; short = ltb-false longest_node (length node.name + length node.content) p.short })
           (said_other node.kind node.name said) (leb-false most_nodes form.nodes p.few);
     }
 

@@ -3,7 +3,7 @@ use Rattle.std.proofs.Common.{zero, suc, ◌≡◌, ℕ, ◌+◌, ◌-◌, ◌/�
 use Rattle.std.specs.List.{All, list_all, fold, flat_map, slice_split, join_with_byte}
 use Rattle.std.specs.Fmt.{decimal}
 use Rattle.std.specs.Str.{bytes_eq}
-use Rattle.std.proofs.lemmas.Bool.{and_parts, and_from, false≢true, eqb-true}
+use Rattle.std.proofs.lemmas.Bool.{and_parts, and_from, false≢true, eqb-true, leb-true}
 use Rattle.std.proofs.lemmas.Bool.Decides.{nat_tests}
 use Rattle.std.proofs.lemmas.Fmt.{decimal_digit, decimal_step, decimal_by_steps}
 use Rattle.std.proofs.Math.Seq.{drop-cons}
@@ -137,9 +137,6 @@ path-text (p ∷ ps) h =
 digit_within : (d : ℕ) → is_digit d ≡ true → (48 ≤ d) × (d ≤ 57)
 digit_within d h = (grind (arith, nat_tests), grind (arith, nat_tests))
 
-le_from : (a b : ℕ) → nat_le a b ≡ true → a ≤ b
-le_from a b h = grind (arith, nat_tests)
-
 -- decimal digits without a leading zero are the decimal of their number
 decimal_onto : (rest : List ℕ) (n : ℕ) (prefix : List ℕ) → 1 ≤ n → list_all is_digit rest ≡ true → fold more n rest < 2 ^ 64 → decimal n ≡ prefix →
     decimal (fold more n rest) ≡ prefix ++ rest
@@ -178,7 +175,7 @@ decimal-value [] h = absurd (false≢true h)
 decimal-value (d ∷ rest) h =
     let p = and_parts (not (begins_with 48 (d ∷ rest)) || length (d ∷ rest) == 1) (is_number (d ∷ rest)) h in
     let q = and_parts (list_all is_digit (d ∷ rest)) (nat_le (value_of (d ∷ rest)) greatest_position) p.1 in
-    let fits : value_of (d ∷ rest) ≤ greatest_position = le_from _ _ q.1 in
+    let fits : value_of (d ∷ rest) ≤ greatest_position = leb-true _ _ q.1 in
     (decimal_of d rest p.0 q.0 fits, fits)
 
 -- what is read as a path is the text of its positions

@@ -54,7 +54,7 @@ event_grows_by : (code : ℕ) (rest more : List ℕ) → size_of (event_by code 
 event_grows_by code rest more = tests_grow_by (code == 40) (code == 41) (code == 65) (code == 45) (code == 63) rest more
 
 -- at most one byte is dropped
-one_dropped : (line : List ℕ) → length line ≤ length (without_cr line) + 1
+pub one_dropped : (line : List ℕ) → length line ≤ length (without_cr line) + 1
 one_dropped [] = omega arith
 one_dropped (b ∷ []) = omega arith
 one_dropped (b ∷ c ∷ line) = let h : length (c ∷ line) ≤ length (without_cr (c ∷ line)) + 1 = one_dropped (c ∷ line) in omega arith

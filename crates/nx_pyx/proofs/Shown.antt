@@ -120,13 +120,13 @@ unbroken x [] rest is h = or_from (x == 10) (has_lf rest) is h
 unbroken x (piece ∷ pieces) rest is h = h
 
 -- what stands behind the last LF has none
-pub rest_unbroken : (bytes : List ℕ) → has_lf (cut bytes).rest ≡ false
-rest_unbroken [] = refl
-rest_unbroken (x ∷ bytes) =
+pub cut-rest : (bytes : List ℕ) → has_lf (cut bytes).rest ≡ false
+cut-rest [] = refl
+cut-rest (x ∷ bytes) =
     ⊎_elim
-    (λ (is : (x == 10) ≡ true). ap (λ (p : Pieces). has_lf p.rest) (at_break x bytes is) ∙ rest_unbroken bytes)
+    (λ (is : (x == 10) ≡ true). ap (λ (p : Pieces). has_lf p.rest) (at_break x bytes is) ∙ cut-rest bytes)
     (λ (is : (x == 10) ≡ false).
-    ap (λ (p : Pieces). has_lf p.rest) (no_break x bytes is) ∙ unbroken x (cut bytes).ended (cut bytes).rest is (rest_unbroken bytes))
+    ap (λ (p : Pieces). has_lf p.rest) (no_break x bytes is) ∙ unbroken x (cut bytes).ended (cut bytes).rest is (cut-rest bytes))
     (cases_Bool (x == 10))
 
 -- the fault that these pieces show behind lines without a fault
@@ -186,7 +186,7 @@ fault_shows bytes more e h =
     (λ (k : (first_fault [] (ended_lines bytes) ≡ None) × ((fault : PyxFault) × (early_fault (cut bytes).rest ≡ Some fault) × (e ≡ fault_at (length (ended_lines bytes) + 1) fault))).
     ap (shown_behind []) (cut-append bytes more)
     ∙ shown_onto (cut bytes).ended (cut ((cut bytes).rest ++ more)) k.0
-    ∙ ap (λ (p : Pieces). shown_behind (ended_lines bytes) p) (cut-begun (cut bytes).rest more (rest_unbroken bytes))
+    ∙ ap (λ (p : Pieces). shown_behind (ended_lines bytes) p) (cut-begun (cut bytes).rest more (cut-rest bytes))
     ∙ early_shows (ended_lines bytes) (cut bytes).rest (cut more).ended (cut more).rest k.1.0 k.1.1
     ∙ ap (λ (x : PyxError). Some x) (sym k.1.2))
     (shown_parts (first_fault [] (ended_lines bytes)) (length (ended_lines bytes) + 1) (early_fault (cut bytes).rest) e h)
@@ -200,7 +200,7 @@ fault_shown bytes more e h =
     (λ (k : first_fault [] (ended_lines bytes) ≡ Some e). first_fault_kept [] (ended_lines bytes) (lines ((cut bytes).rest ++ more)) e k)
     (λ (k : (first_fault [] (ended_lines bytes) ≡ None) × ((fault : PyxFault) × (early_fault (cut bytes).rest ≡ Some fault) × (e ≡ fault_at (length (ended_lines bytes) + 1) fault))).
     first_fault_behind [] (ended_lines bytes) (lines ((cut bytes).rest ++ more)) k.0
-    ∙ ap (λ (p : Pieces). first_fault (ended_lines bytes) (lines_of p)) (cut-begun (cut bytes).rest more (rest_unbroken bytes))
+    ∙ ap (λ (p : Pieces). first_fault (ended_lines bytes) (lines_of p)) (cut-begun (cut bytes).rest more (cut-rest bytes))
     ∙ early_comes (ended_lines bytes) (cut bytes).rest (cut more).ended (cut more).rest k.1.0 k.1.1
     ∙ ap (λ (x : PyxError). Some x) (sym k.1.2))
     (shown_parts (first_fault [] (ended_lines bytes)) (length (ended_lines bytes) + 1) (early_fault (cut bytes).rest) e h))

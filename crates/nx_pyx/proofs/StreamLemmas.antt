@@ -1,7 +1,7 @@
 -- What a reader holds of a stream, and what it has taken of it.
-use Rattle.std.proofs.Common.{if◌then◌else◌, Result, Ok, Err, IfOk, IfErr, MatchResult, take_all, ⊎_elim, ◌≡◌, ℕ, ◌+◌, ◌-◌, ◌==◌, ◌||◌, Bool, true, false, List, [], ◌∷◌, ◌++◌, length, take, drop, Option, None, Some, refl, ap, sym, ◌∙◌, subst, arith, append_assoc, append-nil, map}
+use Rattle.std.proofs.Common.{if◌then◌else◌, Result, Ok, Err, IfOk, IfErr, MatchResult, take_all, ◌≡◌, ℕ, ◌+◌, ◌-◌, ◌==◌, ◌||◌, Bool, true, false, List, [], ◌∷◌, ◌++◌, length, take, drop, Option, None, Some, refl, ap, sym, ◌∙◌, subst, arith, append_assoc, append-nil, map}
 use Rattle.std.specs.Option.{option_map_or, option_map}
-use Rattle.std.proofs.lemmas.Bool.{eqb-true, cases_Bool}
+use Rattle.std.proofs.lemmas.Bool.{eqb-true}
 use Rattle.std.proofs.lemmas.List.{length-drop, map-append}
 use Rattle.nx_pyx.specs.declared.error.ReadError.{ReadError}
 use Rattle.nx_pyx.specs.declared.error.ReadError.TheVariants.{Pyx, Memory}
@@ -11,8 +11,8 @@ use Rattle.nx_pyx.specs.declared.reader.Reader.{Reader}
 use Rattle.nx_pyx.specs.Fault.{first_fault, shown_fault, early_fault, fault_at, fault_at_end, fault_of}
 use Rattle.nx_pyx.specs.Builder.{HasBuilt, Fails}
 use Rattle.nx_pyx.specs.Reader.{HasRead, HasRoom}
-use Rattle.nx_pyx.specs.Lines.{Pieces, prepend_to, prepend, cut, without_cr, last_line, ended_lines, lines, has_lf, EndsLine}
-use Rattle.nx_pyx.proofs.Shown.{onto, cut-append, first_fault-append, fault_shows}
+use Rattle.nx_pyx.specs.Lines.{Pieces, prepend, cut, without_cr, last_line, ended_lines, lines, has_lf, EndsLine}
+use Rattle.nx_pyx.proofs.Shown.{onto, cut-append, cut-rest, first_fault-append, fault_shows}
 use Rattle.nx_pyx.proofs.Said.{no_fault}
 use Rattle.nx_pyx.proofs.Reading.{one_reading}
 use Rattle.nx_pyx.specs.Reading.{Reads}
@@ -52,22 +52,6 @@ cut-line xs h =
         ap (λ (t : Bool). if t then (let q : Pieces = record { ended = [] ∷ (cut (ys ++ 10 ∷ [])).ended; rest = (cut (ys ++ 10 ∷ [])).rest } in q) else prepend y (cut (ys ++ 10 ∷ []))) p.0
         ∙ ap (prepend y) (alone ys p.1)
 
--- what stands behind the last LF has none
-pub cut-rest : (s : List ℕ) → has_lf (cut s).rest ≡ false
-cut-rest [] = refl
-cut-rest (x ∷ s) =
-    ⊎_elim
-    (λ (is : (x == 10) ≡ true).
-    ap (λ (t : Bool). has_lf (if t then (let q : Pieces = record { ended = [] ∷ (cut s).ended; rest = (cut s).rest } in q) else prepend x (cut s)).rest) is ∙ cut-rest s)
-    (λ (other : (x == 10) ≡ false).
-    ap (λ (t : Bool). has_lf (if t then (let q : Pieces = record { ended = [] ∷ (cut s).ended; rest = (cut s).rest } in q) else prepend x (cut s)).rest) other
-    ∙ kept x (cut s).ended (cut s).rest other (cut-rest s))
-    (cases_Bool (x == 10))
-  where
-    kept : (x : ℕ) (ended : List (List ℕ)) (rest : List ℕ) → (x == 10) ≡ false → has_lf rest ≡ false → has_lf (prepend_to x ended rest).rest ≡ false
-    kept x [] rest other h = ap (λ t. t || has_lf rest) other ∙ h
-    kept x (piece ∷ pieces) rest other h = h
-
 -- a stream that goes on with bytes without an LF
 pub cut-held : (s bytes : List ℕ) → has_lf bytes ≡ false → cut (s ++ bytes) ≡ record { ended = (cut s).ended; rest = (cut s).rest ++ bytes }
 cut-held s bytes h =
@@ -97,7 +81,7 @@ pub ended_shows_none : (s : List ℕ) → first_fault [] (ended_lines s) ≡ Non
 ended_shows_none s sound none = shown_early s sound ∙ ap (λ r. option_map (fault_at (length (ended_lines s) + 1)) (early_fault r)) none
 
 -- the lines that have ended, where bytes without an LF come
-ended_lines-held : (s bytes : List ℕ) → has_lf bytes ≡ false → ended_lines (s ++ bytes) ≡ ended_lines s
+pub ended_lines-held : (s bytes : List ℕ) → has_lf bytes ≡ false → ended_lines (s ++ bytes) ≡ ended_lines s
 ended_lines-held s bytes none = ap (λ (p : Pieces). map without_cr p.ended) (cut-held s bytes none)
 
 -- a reader holds more of a line
@@ -130,7 +114,7 @@ shows old bytes held fault error none is early says s read =
     ∙ ap (λ ls. Some (fault_at (length ls + 1) fault)) same)
 
 -- the lines of a stream that goes on with bytes without an LF, and an LF
-ended_lines-ended : (s bytes : List ℕ) → has_lf bytes ≡ false → ended_lines (s ++ (bytes ++ 10 ∷ [])) ≡ ended_lines s ++ without_cr ((cut s).rest ++ bytes) ∷ []
+pub ended_lines-ended : (s bytes : List ℕ) → has_lf bytes ≡ false → ended_lines (s ++ (bytes ++ 10 ∷ [])) ≡ ended_lines s ++ without_cr ((cut s).rest ++ bytes) ∷ []
 ended_lines-ended s bytes none =
     ap (λ (p : Pieces). map without_cr p.ended) (cut-ended s bytes none) ∙ map-append without_cr (cut s).ended (((cut s).rest ++ bytes) ∷ [])
 

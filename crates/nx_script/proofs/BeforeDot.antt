@@ -5,8 +5,8 @@ use Rattle.std.proofs.lemmas.Bool.{or_parts, eqb-true, false_from_ne_true}
 use Rattle.nx_pyx.specs.declared.error.PyxError.{PyxError}
 use Rattle.nx_pyx.specs.Lines.{Pieces, prepend_to, prepend, cut, without_cr, has_lf}
 use Rattle.nx_pyx.specs.Fault.{fault_of}
-use Rattle.nx_pyx.proofs.Shown.{onto, begun, cut-append, cut-begun, fault_shown}
-use Rattle.nx_pyx.proofs.StreamLemmas.{cut-held, cut-ended, cut-rest}
+use Rattle.nx_pyx.proofs.Shown.{onto, begun, cut-append, cut-rest, cut-begun, fault_shown}
+use Rattle.nx_pyx.proofs.StreamLemmas.{cut-held, cut-ended}
 use Rattle.nx_script.specs.Commands.{is_dot, has_dot}
 use Rattle.nx_script.specs.BeforeDot.{joined, before_in, after_in, before_dot, after_dot, shown_before_dot}
 use Rattle.nx_script.proofs.Fronts.{dot_before}

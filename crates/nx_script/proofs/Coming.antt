@@ -1,10 +1,10 @@
 -- What a command of a script holds could be read.
 use Rattle.std.proofs.Common.{◌≡◌, ℕ, ◌+◌, ◌≤◌, Bool, true, false, List, [], ◌∷◌, ◌++◌, length, ⊎_elim, Option, None, Some, IfSome, refl, sym, subst, arith}
-use Rattle.std.specs.Prelude.{if◌then◌else◌, ◌==◌, ◌&&◌, not, nat_lt, IsTrue, All, codes}
+use Rattle.std.specs.Prelude.{if◌then◌else◌, ◌==◌, ◌&&◌, not, nat_lt, All, codes}
 use Rattle.std.specs.Bool.{MatchBool}
 use Rattle.std.specs.Option.{option_map_or, unwrap_or, is_none}
 use Rattle.std.specs.Str.{bytes_eq}
-use Rattle.std.proofs.lemmas.Bool.{cases_Bool, MatchBool-at_true}
+use Rattle.std.proofs.lemmas.Bool.{cases_Bool, MatchBool-at_true, ltb-false, not-false}
 use Rattle.std.proofs.lemmas.List.Elements.{All-nil, All-cons, All-append, All-head, All-tail}
 use Rattle.nx_tree.specs.declared.node.Kind.{Kind}
 use Rattle.nx_tree.specs.declared.node.Kind.TheVariants.{Doc, Element, Attribute, Text, Instruction}
@@ -73,30 +73,23 @@ makes : (b : Bool) → (if b then None else Some BadNesting) ≡ None → b ≡ 
 makes true is = refl
 makes false is = cc is
 
-true_of_not : (b : Bool) → not b ≡ false → IsTrue b
-true_of_not true is = refl
-true_of_not false is = cc is
-
-within : (n : ℕ) → nat_lt longest_node n ≡ false → n ≤ longest_node
-within n short = grind (arith, short)
-
 has_parts : (kind : Kind) (name bytes : List ℕ) → HasShape kind name → (not (is_text kind) && not (is_name name)) ≡ false → HasParts kind name bytes
 unfolding HasShape
 has_parts Doc name bytes shape named = shape
 has_parts Element name bytes shape named = absurd shape
-has_parts Attribute name bytes shape named = true_of_not (is_name name) named
+has_parts Attribute name bytes shape named = not-false (is_name name) named
 has_parts Text name bytes shape named = shape
-has_parts Instruction name bytes shape named = true_of_not (is_name name) named
+has_parts Instruction name bytes shape named = not-false (is_name name) named
 
 -- a line without a fault that makes a node says a node of a document
 node_said : (e : Event) → IsShaped e → is_long e ≡ false → is_misnamed e ≡ false → makes_node e ≡ true → IsNode (node_of e)
 unfolding IsShaped
 node_said (Start name) shaped short named one =
-    let bound : length name ≤ longest_node = within (length name) short in
-    record { parts = (true_of_not (is_name name) named, refl); short = omega arith }
+    let bound : length name ≤ longest_node = ltb-false longest_node (length name) short in
+    record { parts = (not-false (is_name name) named, refl); short = omega arith }
 node_said (End name) shaped short named one = cc one
 node_said (Single node) shaped short named one =
-    record { parts = has_parts node.kind node.name node.content shaped named; short = within (length node.name + length node.content) short }
+    record { parts = has_parts node.kind node.name node.content shaped named; short = ltb-false longest_node (length node.name + length node.content) short }
 
 LineCan : LineBody → Type 0
 LineCan (line.Read node) = IsNode node
@@ -130,7 +123,7 @@ insert_can name path (line.Wrong error) can = tt
 text_can : (name path bytes : List ℕ) (b : Bool) → nat_lt longest_node (length (unescape bytes)) ≡ b →
     CanCome (Retext name path (if b then content.Wrong (fault_at 1 LongLine) else content.Read (unescape bytes)))
 text_can name path bytes true is = tt
-text_can name path bytes false is = within (length (unescape bytes)) is
+text_can name path bytes false is = ltb-false longest_node (length (unescape bytes)) is
 
 -- what a line says could be read
 pub command_can : (bytes : List ℕ) → CanCome (command_of bytes)

@@ -1,21 +1,12 @@
 -- The lines of a stream that goes on.
-use Rattle.std.proofs.Common.{◌≡◌, ℕ, false, List, [], ◌∷◌, ◌++◌, map, ap, ◌∙◌, append-nil}
-use Rattle.std.proofs.lemmas.List.{map-append}
-use Rattle.nx_pyx.specs.Lines.{Pieces, cut, without_cr, last_line, ended_lines, lines, has_lf}
+use Rattle.std.proofs.Common.{◌≡◌, ℕ, false, List, [], ◌∷◌, ◌++◌, ap, ◌∙◌, append-nil}
+use Rattle.nx_pyx.specs.Lines.{Pieces, cut, last_line, ended_lines, lines, has_lf}
 use Rattle.nx_pyx.proofs.Shown.{cut-append}
 use Rattle.nx_pyx.proofs.StreamLemmas.{cut-held, cut-ended}
 
--- bytes without an LF end no line
-pub ended_lines-held : (s bytes : List ℕ) → has_lf bytes ≡ false → ended_lines (s ++ bytes) ≡ ended_lines s
-ended_lines-held s bytes unbroken = ap (λ (p : Pieces). map without_cr p.ended) (cut-held s bytes unbroken)
-
+-- bytes without an LF stand behind the last one
 pub rest-held : (s bytes : List ℕ) → has_lf bytes ≡ false → (cut (s ++ bytes)).rest ≡ (cut s).rest ++ bytes
 rest-held s bytes unbroken = ap (λ (p : Pieces). p.rest) (cut-held s bytes unbroken)
-
--- with an LF behind them they end one
-pub ended_lines-ended : (s bytes : List ℕ) → has_lf bytes ≡ false → ended_lines (s ++ (bytes ++ 10 ∷ [])) ≡ ended_lines s ++ without_cr ((cut s).rest ++ bytes) ∷ []
-ended_lines-ended s bytes unbroken =
-    ap (λ (p : Pieces). map without_cr p.ended) (cut-ended s bytes unbroken) ∙ map-append without_cr (cut s).ended (((cut s).rest ++ bytes) ∷ [])
 
 pub rest-ended : (s bytes : List ℕ) → has_lf bytes ≡ false → (cut (s ++ (bytes ++ 10 ∷ []))).rest ≡ []
 rest-ended s bytes unbroken = ap (λ (p : Pieces). p.rest) (cut-ended s bytes unbroken)

@@ -19,8 +19,8 @@ use Rattle.nx_pyx.specs.Reading.{Reads}
 use Rattle.nx_pyx.specs.Lines.{Pieces, cut, without_cr, ended_lines, has_lf, EndsLine}
 use Rattle.nx_pyx.specs.Builder.{Fails}
 use Rattle.nx_pyx.specs.Reader.{HasRead, HasFailed}
-use Rattle.nx_pyx.proofs.Shown.{onto, cut-append, fault_shows, fault_shown}
-use Rattle.nx_pyx.proofs.StreamLemmas.{cut-held, cut-ended, cut-rest}
+use Rattle.nx_pyx.proofs.Shown.{onto, cut-append, cut-rest, fault_shows, fault_shown}
+use Rattle.nx_pyx.proofs.StreamLemmas.{cut-held, cut-ended, ended_lines-held, ended_lines-ended}
 use Rattle.nx_script.specs.declared.body.Body.{Body}
 use Rattle.nx_pyx.specs.Field.{begins_with}
 use Rattle.nx_script.specs.declared.command.LoadBody.{LoadBody}
@@ -28,9 +28,9 @@ use Rattle.nx_script.specs.declared.command.LoadBody.TheVariants.{Read, Wrong}
 use Rattle.nx_script.specs.Commands.{is_dot, has_dot, SaysBody}
 use Rattle.nx_script.specs.BeforeDot.{before_dot}
 use Rattle.nx_script.specs.Body.{HasReadOrFailed, HasReadLines, HasReadUpToDot, IsWithin, Stands, IsBeforeDot, Says, fault_in, unread}
-use Rattle.nx_script.proofs.Matches.{match_true, match_false}
+use Rattle.nx_lists.proofs.CaseLemmas.{match_true, match_false}
 use Rattle.nx_script.proofs.Fronts.{dot_front, dot_before, dot_short, undotted_front, undotted_line}
-use Rattle.nx_script.proofs.Cuts.{ended_lines-held, rest-held, ended_lines-ended, rest-ended, lines-whole}
+use Rattle.nx_script.proofs.Cuts.{rest-held, rest-ended, lines-whole}
 use Rattle.nx_script.proofs.BeforeDot.{joined-cut, joined-front, before_in-none, before_in-last, before_dot-ended, after_dot-ended}
 
 -- The lines before the first that begins with a dot.

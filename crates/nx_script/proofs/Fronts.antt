@@ -9,6 +9,7 @@ use Rattle.std.proofs.lemmas.Slice.Eq.{bytes_eq-Decides}
 use Rattle.nx_pyx.specs.Lines.{without_cr}
 use Rattle.nx_script.specs.declared.command.Command.TheVariants.{Bad}
 use Rattle.nx_pyx.specs.Field.{begins_with}
+use Rattle.nx_pyx.proofs.Room.{one_dropped}
 use Rattle.nx_script.specs.Line.{longest_line, command_of}
 use Rattle.nx_script.specs.Commands.{begins_load, loaded_name, is_dot}
 use Rattle.nx_script.specs.Parser.{MeansSame}
@@ -82,12 +83,6 @@ take-without_cr (suc k) [] h = absurd (omega arith)
 take-without_cr (suc k) (b ∷ []) h = absurd (omega arith)
 take-without_cr (suc k) (b ∷ c ∷ bytes) h = ap (λ (l : List ℕ). b ∷ l) (take-without_cr k (c ∷ bytes) (omega arith))
 
--- the CR is one byte at most
-length-without_cr : (line : List ℕ) → length line ≤ length (without_cr line) + 1
-length-without_cr [] = omega arith
-length-without_cr (b ∷ []) = omega arith
-length-without_cr (b ∷ c ∷ bytes) = let more : length (c ∷ bytes) ≤ length (without_cr (c ∷ bytes)) + 1 = length-without_cr (c ∷ bytes) in omega arith
-
 -- a line that is too long for a command says little
 long_load : (a : List ℕ) → longest_line < length a → begins_load a ≡ bytes_eq (take 5 a) (codes "load ")
 long_load a long =
@@ -115,8 +110,8 @@ means_same n line enough =
     ⊎_elim
     (λ (more : n < length line).
     let size : length (take n line) ≡ n = (let e : length (take n line) ≡ min n (length line) = length-take n line in omega arith) in
-    let first : length (take n line) ≤ length (without_cr (take n line)) + 1 = length-without_cr (take n line) in
-    let second : length line ≤ length (without_cr line) + 1 = length-without_cr line in
+    let first : length (take n line) ≤ length (without_cr (take n line)) + 1 = one_dropped (take n line) in
+    let second : length line ≤ length (without_cr line) + 1 = one_dropped line in
     long_same (without_cr (take n line)) (without_cr line) (omega arith) (omega arith)
     (take-without_cr 5 (take n line) (omega arith) ∙ take-take 5 n line (omega arith) ∙ sym (take-without_cr 5 line (omega arith))))
     (λ (all : length line ≤ n).

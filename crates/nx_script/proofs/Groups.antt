@@ -4,7 +4,7 @@ use Rattle.std.specs.Prelude.{codes}
 use Rattle.nx_script.specs.declared.command.Command.{Command}
 use Rattle.nx_script.specs.Line.{command_of}
 use Rattle.nx_script.specs.Commands.{begins_load, has_dot, Loads, IsWhole, Gives}
-use Rattle.nx_script.proofs.Matches.{match_true, match_false}
+use Rattle.nx_lists.proofs.CaseLemmas.{match_true, match_false}
 
 -- more lines behind
 pub gives_longer : (ls : List (List ℕ)) (commands : List Command) (rest more : List (List ℕ)) → Gives ls commands rest → Gives (ls ++ more) commands (rest ++ more)

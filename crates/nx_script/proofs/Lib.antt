@@ -1,4 +1,3 @@
-pub mod Matches
 pub mod Fronts
 pub mod Groups
 pub mod Cuts

@@ -5,8 +5,8 @@ use Rattle.std.proofs.lemmas.Bool.{or_from}
 use Rattle.std.proofs.lemmas.List.Folds.{list_any-append}
 use Rattle.std.proofs.lemmas.Slice.Eq.{bytes_eq-Decides}
 use Rattle.nx_pyx.specs.Lines.{cut, without_cr, last_line, ended_lines, lines, has_lf, EndsLine}
-use Rattle.nx_pyx.proofs.Shown.{ended_lines-append}
-use Rattle.nx_pyx.proofs.StreamLemmas.{cut-rest, nothing_held}
+use Rattle.nx_pyx.proofs.Shown.{cut-rest, ended_lines-append}
+use Rattle.nx_pyx.proofs.StreamLemmas.{ended_lines-held, ended_lines-ended, nothing_held}
 use Rattle.nx_script.specs.declared.body.Body.{Body}
 use Rattle.nx_script.specs.declared.command.Command.{Command}
 use Rattle.nx_script.specs.declared.command.Command.TheVariants.{Bad}
@@ -18,7 +18,7 @@ use Rattle.nx_script.specs.Body.{HasReadLines, IsWithin, IsEndedBy}
 use Rattle.nx_script.specs.Parser.{most_held, with_command, IsLoading, Keeps, HasParsed, Adds, MeansSame}
 use Rattle.nx_script.proofs.Fronts.{means_same, dot_front}
 use Rattle.nx_script.proofs.Groups.{gives_longer, gives_then, whole_line, whole_load}
-use Rattle.nx_script.proofs.Cuts.{ended_lines-held, rest-held, ended_lines-ended, rest-ended, rest-append, lines-whole}
+use Rattle.nx_script.proofs.Cuts.{rest-held, rest-ended, rest-append, lines-whole}
 use Rattle.nx_script.proofs.DocumentLines.{read_front, line_taken}
 
 -- nothing is held: there was nothing

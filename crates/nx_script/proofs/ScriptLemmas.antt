@@ -16,7 +16,7 @@ use Rattle.nx_script.specs.declared.script.Script.{Script}
 use Rattle.nx_script.specs.Commands.{has_dot, IsUnended, AreWhole, AreCommands}
 use Rattle.nx_script.specs.Parser.{with_command, Keeps as ParserKeeps, HasParsed}
 use Rattle.nx_script.specs.Script.{unread, IsDrained, HasGiven, HasGivenIn, StopsIn, Stops}
-use Rattle.nx_script.proofs.Matches.{match_true, match_false}
+use Rattle.nx_lists.proofs.CaseLemmas.{match_true, match_false}
 
 -- Bytes that are looked at.
 

@@ -4,7 +4,7 @@ use Rattle.std.specs.Prelude.{◌≢◌, IfErr, if◌then◌else◌, IfSome, is_
 use Rattle.std.specs.Option.{option_map_or, option_or}
 use Rattle.std.specs.Result.{result_err}
 use Rattle.std.specs.List.{insert}
-use Rattle.std.proofs.lemmas.Bool.{or_parts, ltb-false}
+use Rattle.std.proofs.lemmas.Bool.{or_parts, ltb-false, not-false}
 use Rattle.nx_tree.specs.declared.node.Kind.{Kind}
 use Rattle.nx_tree.specs.declared.node.Kind.TheVariants.{Doc, Element, Attribute, Text, Instruction}
 use Rattle.nx_tree.specs.declared.node.Node.{Node}
@@ -164,16 +164,12 @@ pub record Fits (node : Node) (position : ℕ) (parent : OrderedTree) : Type 0 w
   pub within : position ≤ length (trees_of parent.below)
   pub ordered : is_unordered node.kind position (trees_of parent.below) ≡ false
 
-not_false : (b : Bool) → not b ≡ false → b ≡ true
-not_false true e = refl
-not_false false e = absurd (cc)
-
 pub fits : (node : Node) (position : ℕ) (parent : OrderedTree) → is_misplaced node position parent ≡ false → Fits node position parent
 fits node position parent e =
     let a = or_parts _ (is_unordered node.kind position (trees_of parent.below)) e in
     let b = or_parts _ (nat_lt (length (trees_of parent.below)) position) a.0 in
     let c = or_parts (not (has_children parent.node.kind)) (is_doc parent.node.kind && not (is_instruction node.kind)) b.0 in
-    record { parents = not_false (has_children parent.node.kind) c.0; rooted = c.1; within = ltb-false (length (trees_of parent.below)) position b.1; ordered = a.1 }
+    record { parents = not-false (has_children parent.node.kind) c.0; rooted = c.1; within = ltb-false (length (trees_of parent.below)) position b.1; ordered = a.1 }
 
 -- the position is within the children
 pub room : (node : Node) (position : ℕ) (tree : OrderedTree) (parent : Node) (items : List OrderedTree) → tree ≡ record { node = parent; below = forest_of items } → false ≡ is_misplaced node position tree → position ≤ length items

@@ -1,11 +1,13 @@
 -- The attributes of an element stand first and differ, also after an edit.
-use Rattle.std.proofs.Common.{◌≡◌, ℕ, zero, suc, ◌<◌, Bool, true, false, not, List, [], ◌∷◌, length, take, drop, get_or, refl, sym, ap, ◌∙◌, subst, ◌⊎◌, inl, inr, ⊎_elim, arith}
+use Rattle.std.proofs.Common.{◌≡◌, ℕ, zero, suc, ◌<◌, Bool, true, false, not, List, [], ◌∷◌, take, drop, refl, sym, ap, ◌∙◌, subst, ◌⊎◌, inl, inr, ⊎_elim, arith}
 use Rattle.std.specs.Prelude.{if◌then◌else◌, Contains}
 use Rattle.std.specs.Bool.{MatchBool}
 use Rattle.std.specs.List.{list_any}
 use Rattle.std.specs.Str.{bytes_eq}
 use Rattle.std.proofs.lemmas.Bool.{or_parts, both_ways}
 use Rattle.std.proofs.lemmas.Slice.Eq.{bytes_eq-Decides}
+use Rattle.nx_lists.proofs.ListLemmas.{contains_here, contains_there, contains_parts}
+use Rattle.nx_lists.proofs.CaseLemmas.{match_true, match_false}
 use Rattle.nx_tree.specs.declared.node.Kind.{Kind}
 use Rattle.nx_tree.specs.Forest.{OrderedTree, Forest, Empty, Plant, trees_of}
 use Rattle.nx_tree.specs.Document.{is_attribute, attribute_names, HasNoAttribute, AttributesComeFirst, AreDistinct}
@@ -16,14 +18,6 @@ pub record SameFace (old new : OrderedTree) : Type 0 where
   pub kind : new.node.kind ≡ old.node.kind
   pub name : new.node.name ≡ old.node.name
 
-by_true : (b : Bool) {P : Type 0} (Q : Type 0) → b ≡ true → P → MatchBool b P Q
-by_true true Q e p = p
-by_true false Q e p = absurd (cc)
-
-by_false : (b : Bool) (P : Type 0) {Q : Type 0} → b ≡ false → Q → MatchBool b P Q
-by_false true P e q = absurd (cc)
-by_false false P e q = q
-
 by_both : (b : Bool) {P Q R S : Type 0} → (P → R) → (Q → S) → MatchBool b P Q → MatchBool b R S
 by_both true f g p = f p
 by_both false f g q = g q
@@ -31,7 +25,7 @@ by_both false f g q = g q
 -- no attribute at all is a right order
 pub none_first : (f : Forest) → HasNoAttribute f → AttributesComeFirst f
 none_first Empty h = tt
-none_first (Plant n b s) h = by_false (is_attribute n.kind) (AttributesComeFirst s) h.0 h.1
+none_first (Plant n b s) h = match_false (AttributesComeFirst s) _ (is_attribute n.kind) h.0 h.1
 
 -- a test that finds no attribute
 pub none_any : (f : Forest) → list_any (λ (t : OrderedTree). is_attribute t.node.kind) (trees_of f) ≡ false → HasNoAttribute f
@@ -44,7 +38,7 @@ none_planted Empty (suc i) t e h = tt
 none_planted (Plant n b s) (suc i) t e h = (h.0, none_planted s i t e h.1)
 
 attribute_planted : (f : Forest) (i : ℕ) (t : OrderedTree) → is_attribute t.node.kind ≡ true → list_any (λ (x : OrderedTree). not (is_attribute x.node.kind)) (take i (trees_of f)) ≡ false → AttributesComeFirst f → AttributesComeFirst (planted_at i t f)
-attribute_planted f zero t e none h = by_true (is_attribute t.node.kind) (HasNoAttribute f) e h
+attribute_planted f zero t e none h = match_true _ (HasNoAttribute f) (is_attribute t.node.kind) e h
 attribute_planted Empty (suc i) t e none h = tt
 attribute_planted (Plant n b s) (suc i) t e none h =
     let p = or_parts (not (is_attribute n.kind)) _ none in
@@ -55,7 +49,7 @@ attribute_planted (Plant n b s) (suc i) t e none h =
     go false is step h = absurd (cc)
 
 other_planted : (f : Forest) (i : ℕ) (t : OrderedTree) → is_attribute t.node.kind ≡ false → list_any (λ (x : OrderedTree). is_attribute x.node.kind) (drop i (trees_of f)) ≡ false → AttributesComeFirst f → AttributesComeFirst (planted_at i t f)
-other_planted f zero t e none h = by_false (is_attribute t.node.kind) (AttributesComeFirst f) e (none_any f none)
+other_planted f zero t e none h = match_false (AttributesComeFirst f) _ (is_attribute t.node.kind) e (none_any f none)
 other_planted Empty (suc i) t e none h = tt
 other_planted (Plant n b s) (suc i) t e none h = by_both (is_attribute n.kind) (other_planted s i t e none) (none_planted s i t e) h
 
@@ -100,19 +94,6 @@ names_changed (Plant n b s) zero change same =
     ap (λ (k : Kind). if is_attribute k then (change (record { node = n; below = b })).node.name ∷ attribute_names s else attribute_names s) face.kind
     ∙ ap (λ (name : List ℕ). if is_attribute n.kind then name ∷ attribute_names s else attribute_names s) face.name
 names_changed (Plant n b s) (suc i) change same = ap (λ (names : List (List ℕ)). if is_attribute n.kind then n.name ∷ names else names) (names_changed s i change same)
-
-contains_here : (first : List ℕ) (more : List (List ℕ)) (name : List ℕ) → first ≡ name → Contains (first ∷ more) name
-contains_here first more name e = (0, omega arith, e)
-
-contains_there : (first : List ℕ) (more : List (List ℕ)) (name : List ℕ) → Contains more name → Contains (first ∷ more) name
-contains_there first more name h = (suc h.0, (let lt : h.0 < length more = h.1 in omega arith), h.2)
-
-contains_at : (first : List ℕ) (more : List (List ℕ)) (name : List ℕ) (k : ℕ) → k < length (first ∷ more) → get_or (first ∷ more) k name ≡ name → (first ≡ name) ⊎ Contains more name
-contains_at first more name zero within is = inl is
-contains_at first more name (suc k) within is = inr (k, omega arith, is)
-
-contains_parts : (first : List ℕ) (more : List (List ℕ)) (name : List ℕ) → Contains (first ∷ more) name → (first ≡ name) ⊎ Contains more name
-contains_parts first more name h = contains_at first more name h.0 h.1 h.2
 
 -- a name after a removal was there before
 contains_removed : (f : Forest) (i : ℕ) (name : List ℕ) → Contains (attribute_names (removed_at i f)) name → Contains (attribute_names f) name

@@ -14,6 +14,7 @@ use Rattle.nx_tree.specs.Forest.{OrderedTree, Forest, Empty, Plant, forest_of, t
 use Rattle.nx_tree.specs.Document.{is_element, is_attribute, attribute_names, HasNoAttribute, AttributesComeFirst, depth}
 use Rattle.nx_tree.specs.Edit.{child, at, is_unordered, is_root_element}
 use Rattle.std.proofs.lemmas.Option.{slice_get_read}
+use Rattle.nx_tree.proofs.ForestLemmas.{no_names}
 use Rattle.nx_tree.proofs.PlaceLemmas.{child-forest_of}
 use Rattle.nx_tree.proofs.SoundLemmas.{depth_child}
 use Rattle.nx_tree.proofs.OrderLemmas.{none_first}
@@ -94,10 +95,6 @@ pub record IsAmongRest (name : List ℕ) (ts : List OrderedTree) (i : ℕ) : Typ
 
 pub among_first : (name : List ℕ) (ts : List OrderedTree) → AttributesComeFirst (forest_of ts) → IsAmongRest name ts 0
 among_first name ts h = record { ordered = h; same = refl }
-
-no_names : (f : Forest) → HasNoAttribute f → attribute_names f ≡ []
-no_names Empty h = refl
-no_names (Plant n b s) h = rw h.0 (no_names s h.1)
 
 none_after : (t : OrderedTree) (ts : List OrderedTree) → is_attribute t.node.kind ≡ false → AttributesComeFirst (forest_of (t ∷ ts)) → HasNoAttribute (forest_of ts)
 none_after t ts is h = MatchBool-at_false (AttributesComeFirst (forest_of ts)) (HasNoAttribute (forest_of ts)) is h

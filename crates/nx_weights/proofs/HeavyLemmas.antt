@@ -7,6 +7,7 @@ use Rattle.std.proofs.lemmas.Bool.{ltb-true, ltb-false, lt-ltb, le-ltb}
 use Rattle.std.proofs.lemmas.List.{length-append}
 use Rattle.std.proofs.lemmas.List.Folds.{find-append}
 use Rattle.std.proofs.Math.Seq.{take-append_seam}
+use Rattle.nx_lists.proofs.CaseLemmas.{none_head}
 use Rattle.nx_tree.specs.declared.node.Node.{Node}
 use Rattle.nx_tree.specs.Forest.{OrderedTree, Forest, Empty, Plant, forest_of}
 use Rattle.nx_tree.specs.Edit.{child, at}
@@ -156,10 +157,6 @@ pub heavy_at : (k : ℕ) (tree : OrderedTree) (path : List ℕ) (slots : ℕ) �
 heavy_at k tree path slots e =
     let m = mapped_from (first_heavy k tree) (path, slots) e in
     subst (λ (w : List ℕ × ℕ). IsHeavyAt k tree w.0 w.1) m.2 (placed_at k tree m.0 m.1)
-
-none_head : {X : Type 0} (b : Bool) (y : X) (o : Option X) → cond b (Some y) o ≡ None → (b ≡ false) × (o ≡ None)
-none_head true y o e = absurd (cc)
-none_head false y o e = (refl, e)
 
 none_both : {X : Type 0} (a b : Option X) → option_or a b ≡ None → (a ≡ None) × (b ≡ None)
 none_both None b e = (refl, e)
