@@ -1,3 +1,5 @@
+pub mod DiskLemmas
+pub mod TornLemmas
 pub mod OutputLemmas
 pub mod PhaseLemmas
 pub mod InputLemmas

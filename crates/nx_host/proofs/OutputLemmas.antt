@@ -38,11 +38,6 @@ front_then x y a (Some mid) (Some now) (was, is, grew) (was', n, is', grew') =
           ∙ ap (λ (t : List ℕ). was ++ t) (sym (take-append-add x y n)),
     )
 
-pub keeps_then : {T : Type 0} (a b c : Option T) → Keeps a b → Keeps b c → Keeps a c
-keeps_then a b None first second = tt
-keeps_then a None (Some x) first second = cc second
-keeps_then a (Some y) (Some x) first second = first ∙ second
-
 -- nothing more is a front of anything
 pub keeps_front : (bytes : List ℕ) (old now : Option (List ℕ)) → Keeps old now → AppendsFront bytes old now
 keeps_front bytes old None keeps = tt

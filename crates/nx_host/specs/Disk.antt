@@ -1,5 +1,5 @@
 -- What a disk holds, and what its calls do to it.
-use Rattle.std.specs.Prelude.{◌≡◌, ℕ, ◌+◌, ◌-◌, ◌^◌, ◌≤◌, List, length, take, drop, min, max, Option, IfSome, Some}
+use Rattle.std.specs.Prelude.{◌≡◌, ℕ, ◌+◌, ◌-◌, ◌^◌, ◌<◌, ◌≤◌, List, [], length, take, drop, get_or, min, max, Option, IfSome, Some}
 use Rattle.nx_host.specs.declared.disk.Area.{Area}
 use Rattle.nx_host.specs.declared.disk.Area.TheVariants.{Pages, Log}
 
@@ -7,6 +7,19 @@ use Rattle.nx_host.specs.declared.disk.Area.TheVariants.{Pages, Log}
 pub record Image : Type 0 where
   pub pages : List ℕ
   pub log : List ℕ
+
+-- each is a byte
+abbrev pub AreBytes : List ℕ → Type 0
+AreBytes bytes = (i : ℕ) → get_or bytes i 0 < 256
+
+-- both areas hold bytes
+pub record HoldsBytes (image : Image) : Type 0 where
+  pub pages : AreBytes image.pages
+  pub log : AreBytes image.log
+
+-- both areas are empty
+abbrev pub no_bytes : Image
+no_bytes = record { pages = []; log = [] }
 
 abbrev pub area_of : Area → Image → List ℕ
 area_of Pages image = image.pages

@@ -1,6 +1,6 @@
 // A disk of two areas.
 ghost use Rattle.std.specs.Prelude.{◌≡◌, ◌↔◌, ℕ, ◌+◌, ◌*◌, ◌^◌, ◌≤◌, List, length, take, drop, Option, Some, IsSome, IfSome, IfOk, OnOk, OnErr};
-ghost use Rattle.nx_host.specs.Disk.{Image, area_of, Beside, Rose, Keeps, LeavesBeside, WritesTo, TearsIn, ComesTorn, IsDurable, given_at};
+ghost use Rattle.nx_host.specs.Disk.{Image, AreBytes, HoldsBytes, area_of, Beside, Rose, Keeps, LeavesBeside, WritesTo, TearsIn, ComesTorn, IsDurable, given_at};
 ghost use Rattle.nx_host.specs.Time.{Stood, Elapses};
 
 use thiserror::Error;
@@ -121,4 +121,19 @@ pub trait Disk {
 
     /// Since this moment nothing else has.
     ghost only_now: { (d : Self) (s : Stood) → stood_since d (moment d) s → (s.output ≡ (beside d).output) × may_leave d s.image };
+
+    /// What has stood since a moment has stood since any earlier one.
+    ghost since_earlier: { (d : Self) (t u : ℕ) (s : Stood) → t ≤ u → u ≤ moment d → stood_since d u s → stood_since d t s };
+
+    /// A stop can always leave some image.
+    ghost some_image: { (d : Self) → (i : Image) × may_leave d i };
+
+    /// Images hold bytes, and so do the contents, which are one of them.
+    ghost images_hold_bytes: { (d : Self) (i : Image) → may_leave d i → HoldsBytes i };
+
+    /// So did the images at every moment.
+    ghost past_holds_bytes: { (d : Self) (t : ℕ) (s : Stood) → t ≤ moment d → stood_since d t s → HoldsBytes s.image };
+
+    /// The input that is left is bytes.
+    ghost input_is_bytes: { (d : Self) (input : List ℕ) → (beside d).input ≡ Some input → AreBytes input };
 }
