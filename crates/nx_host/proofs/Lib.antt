@@ -3,3 +3,4 @@ pub mod TornLemmas
 pub mod OutputLemmas
 pub mod PhaseLemmas
 pub mod InputLemmas
+pub mod TakingLemmas

@@ -1,5 +1,5 @@
 -- Phases of a run, one after another.
-use Rattle.std.proofs.Common.{◌≡◌, ℕ, ◌≤◌, List, [], ◌++◌, Option, refl, sym, ◌∙◌, subst, arith, append-nil}
+use Rattle.std.proofs.Common.{ℕ, ◌≤◌, List, [], ◌++◌, Option, refl, ◌∙◌, subst, arith, append-nil}
 use Rattle.nx_host.specs.Disk.{Keeps}
 use Rattle.nx_host.specs.Host.{Appends, AppendsFront}
 use Rattle.nx_host.specs.Time.{none_elapsed, elapsed_then, elapsed_weaker}

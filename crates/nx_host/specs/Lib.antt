@@ -4,3 +4,4 @@ pub mod Time
 pub mod Still
 pub mod Phase
 pub mod Input
+pub mod Taking

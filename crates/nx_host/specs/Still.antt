@@ -1,5 +1,5 @@
 -- What calls over a disk do to it, by its contents, its images and its moments.
-use Rattle.std.specs.Prelude.{◌≡◌, ◌↔◌, ◌≤◌, Option, Some, IsSome}
+use Rattle.std.specs.Prelude.{◌≡◌, ◌↔◌, ◌≤◌, Some, IsSome}
 use Rattle.nx_host.specs.Disk.{Image, Keeps, LeavesBeside}
 use Rattle.nx_host.specs.Time.{Elapses}
 use Rattle.nx_host.specs.declared.disk.Disk.{Ghosts}
