@@ -179,10 +179,10 @@ pub within_none : (body : Body) → body.held ≡ [] → HasRead body.reader [] 
 within_none body none read = record { undotted = refl; held = none; read = inl read }
 
 -- the bytes before the first line that begins with a dot are taken, where a line begins
-pub takes_lines : (old new : Body) (mid : Reader) (bytes : List ℕ) (n last : ℕ) → old.held ≡ [] → IsBeforeDot bytes n last →
+pub takes_lines : {old new : Body} {mid : Reader} {bytes : List ℕ} {n last : ℕ} → old.held ≡ [] → IsBeforeDot bytes n last →
     ((s : List ℕ) → HasReadOrFailed old.reader s → HasReadOrFailed mid (s ++ take n bytes)) → new.reader ≡ mid →
     new.held ≡ take 3 (take (n - last) (drop last bytes)) → (s : List ℕ) → IsWithin old s → IsWithin new (s ++ take n bytes)
-takes_lines old new mid bytes n last none before reads same held s within =
+takes_lines {old = old} {new = new} {mid = mid} {bytes = bytes} {n = n} {last = last} none before reads same held s within =
     let rest : (cut s).rest ≡ [] = none_held old.held (cut s).rest within.held none in
     let front : List ℕ = take n bytes in
     let is : cut (s ++ front) ≡ onto (cut s).ended (cut front) = cut-append s front ∙ ap (λ (r : List ℕ). onto (cut s).ended (cut (r ++ front))) rest in
@@ -337,10 +337,10 @@ said_read reader tree result is ok again s (inl read) = ok s read
 said_read reader tree result is ok again s (inr (error, failed, shown)) = absurd (let no_error : Ok tree ≡ Err (Pyx error) = sym is ∙ again (Pyx error) failed in cc)
 
 -- or its fault
-pub said_wrong : (reader : Reader) (e : PyxError) (fault : ReadError) (result : Result OrderedTree ReadError) → result ≡ Err fault → fault ≡ Pyx e →
+pub said_wrong : {reader : Reader} {e : PyxError} {fault : ReadError} {result : Result OrderedTree ReadError} → result ≡ Err fault → fault ≡ Pyx e →
     ((s : List ℕ) → HasRead reader s → Fails fault (fault_of s)) → ((e : ReadError) → HasFailed reader e → result ≡ Err e) → (s : List ℕ) → HasReadOrFailed reader s → fault_of s ≡ Some e
-said_wrong reader e fault result is fault_is fails again s (inl read) = subst (λ (f : ReadError). Fails f (fault_of s)) fault_is (fails s read)
-said_wrong reader e fault result is fault_is fails again s (inr (error, failed, shown)) =
+said_wrong {reader = reader} {e = e} {fault = fault} {result = result} is fault_is fails again s (inl read) = subst (λ (f : ReadError). Fails f (fault_of s)) fault_is (fails s read)
+said_wrong {reader = reader} {e = e} {fault = fault} {result = result} is fault_is fails again s (inr (error, failed, shown)) =
     let same : ◌≡◌ {A = Result OrderedTree ReadError} (Err (Pyx e)) (Err (Pyx error)) = ap (λ f. Err f) (sym fault_is) ∙ sym is ∙ again (Pyx error) failed in
     let same_error : e ≡ error = cc in
     ap fault_of (sym (append-nil s)) ∙ fault_shown s [] error shown ∙ ap (λ (x : PyxError). Some x) (sym same_error)
@@ -352,21 +352,21 @@ says_lines s (Wrong error) ended fault =
     ap (λ (ls : List (List ℕ)). option_map_or (λ e. Some e) (first_fault [] ls) (fault_at_end ls)) (sym (lines-whole s ended)) ∙ fault
 
 -- a piece that the reader takes
-pub feeds : (old new : Reader) (bytes : List ℕ) (result : Result (Unit {0}) ReadError) → result ≡ Ok tt →
+pub feeds : {old new : Reader} {bytes : List ℕ} {result : Result (Unit {0}) ReadError} → result ≡ Ok tt →
     ((s : List ℕ) → HasRead old s → HasRead new (s ++ bytes)) →
     ((e : ReadError) → HasFailed old e → (result ≡ Err e) × HasFailed new e) →
     (s : List ℕ) → HasReadOrFailed old s → HasReadOrFailed new (s ++ bytes)
-feeds old new bytes result is ok again s (inl read) = inl (ok s read)
-feeds old new bytes result is ok again s (inr (error, failed, shown)) = absurd (let no_error : Ok tt ≡ Err (Pyx error) = sym is ∙ (again (Pyx error) failed).0 in cc)
+feeds {old = old} {new = new} {bytes = bytes} {result = result} is ok again s (inl read) = inl (ok s read)
+feeds {old = old} {new = new} {bytes = bytes} {result = result} is ok again s (inr (error, failed, shown)) = absurd (let no_error : Ok tt ≡ Err (Pyx error) = sym is ∙ (again (Pyx error) failed).0 in cc)
 
 -- a piece with which the stream shows a fault
-pub feeds_fault : (old new : Reader) (bytes : List ℕ) (result : Result (Unit {0}) ReadError) (fault : ReadError) (e : PyxError) → fault ≡ Pyx e → HasFailed new fault →
+pub feeds_fault : {old new : Reader} (bytes : List ℕ) {result : Result (Unit {0}) ReadError} {fault : ReadError} {e : PyxError} → fault ≡ Pyx e → HasFailed new fault →
     ((s : List ℕ) → HasRead old s → Fails fault (shown_fault (s ++ bytes))) →
     ((e : ReadError) → HasFailed old e → (result ≡ Err e) × HasFailed new e) →
     (s : List ℕ) → HasReadOrFailed old s → HasReadOrFailed new (s ++ bytes)
-feeds_fault old new bytes result fault e is now fails again s (inl read) =
+feeds_fault {old = old} {new = new} bytes {result = result} {fault = fault} {e = e} is now fails again s (inl read) =
     inr (e, now ∙ ap (λ (f : ReadError). Some f) is, subst (λ (f : ReadError). Fails f (shown_fault (s ++ bytes))) is (fails s read))
-feeds_fault old new bytes result fault e is now fails again s (inr (error, failed, shown)) = inr (error, (again (Pyx error) failed).1, fault_shows s bytes error shown)
+feeds_fault {old = old} {new = new} bytes {result = result} {fault = fault} {e = e} is now fails again s (inr (error, failed, shown)) = inr (error, (again (Pyx error) failed).1, fault_shows s bytes error shown)
 
 -- a line without its LF
 pub without_last : (line rest : List ℕ) → rest ≡ line ++ 10 ∷ [] → take (length rest - 1) rest ≡ line
@@ -375,29 +375,29 @@ without_last line rest is =
     ap (take (length rest - 1)) is ∙ take_at line (10 ∷ []) (length rest - 1) size
 
 -- bytes of which a line and its LF consist
-pub stands_ended : (old new : Body) (ended : Bool) (line rest : List ℕ) → rest ≡ line ++ 10 ∷ [] → ((s : List ℕ) → IsWithin old s → Stands ended new (s ++ (line ++ 10 ∷ []))) →
+pub stands_ended : {old : Body} (new : Body) (ended : Bool) (line : List ℕ) {rest : List ℕ} → rest ≡ line ++ 10 ∷ [] → ((s : List ℕ) → IsWithin old s → Stands ended new (s ++ (line ++ 10 ∷ []))) →
     (s : List ℕ) → IsWithin old s → Stands ended new (s ++ rest)
-stands_ended old new ended line rest is stands s within = subst (λ (l : List ℕ). Stands ended new (s ++ l)) (sym is) (stands s within)
+stands_ended {old = old} new ended line {rest = rest} is stands s within = subst (λ (l : List ℕ). Stands ended new (s ++ l)) (sym is) (stands s within)
 
-pub reads_ended : (old : Reader) (mid new : Body) (unread line rest : List ℕ) → new ≡ mid → rest ≡ line ++ 10 ∷ [] →
+pub reads_ended : {old : Reader} {mid new : Body} (unread line : List ℕ) {rest : List ℕ} → new ≡ mid → rest ≡ line ++ 10 ∷ [] →
     ((s : List ℕ) → HasReadOrFailed old s → HasReadOrFailed mid.reader (s ++ (unread ++ rest))) →
     (s : List ℕ) → HasReadOrFailed old s → HasReadOrFailed new.reader (s ++ (unread ++ (line ++ 10 ∷ [])))
-reads_ended old mid new unread line rest same is reads s read =
+reads_ended {old = old} {mid = mid} {new = new} unread line {rest = rest} same is reads s read =
     subst (λ (b : Body). HasReadOrFailed b.reader (s ++ (unread ++ (line ++ 10 ∷ [])))) (sym same)
     (subst (λ (l : List ℕ). HasReadOrFailed mid.reader (s ++ (unread ++ l))) is (reads s read))
 
 -- bytes behind those that were held
-pub reads_both : (old mid new : Reader) (held unread bytes : List ℕ) (n : ℕ) → unread ≡ take n held →
+pub reads_both : {old mid new : Reader} (held : List ℕ) {unread bytes : List ℕ} (n : ℕ) → unread ≡ take n held →
     ((s : List ℕ) → HasReadOrFailed old s → HasReadOrFailed mid (s ++ unread)) →
     ((s : List ℕ) → HasReadOrFailed mid s → HasReadOrFailed new (s ++ bytes)) →
     (s : List ℕ) → HasReadOrFailed old s → HasReadOrFailed new (s ++ (take n held ++ bytes))
-reads_both old mid new held unread bytes n is first second s read =
+reads_both {old = old} {mid = mid} {new = new} held {unread = unread} {bytes = bytes} n is first second s read =
     subst (HasReadOrFailed new) (append_assoc s unread bytes ∙ ap (λ (l : List ℕ). s ++ (l ++ bytes)) is) (second (s ++ unread) (first s read))
 
 -- a line that goes on with what stands before an LF
-pub holds_ended : (old new : List ℕ) (line rest : List ℕ) (n : ℕ) → n ≡ length rest - 1 → rest ≡ line ++ 10 ∷ [] →
+pub holds_ended : {old new : List ℕ} (line : List ℕ) {rest : List ℕ} {n : ℕ} → n ≡ length rest - 1 → rest ≡ line ++ 10 ∷ [] →
     ((front : List ℕ) → old ≡ take 3 front → new ≡ take 3 (front ++ take n rest)) → (front : List ℕ) → old ≡ take 3 front → new ≡ take 3 (front ++ line)
-holds_ended old new line rest n size is holds front held =
+holds_ended {old = old} {new = new} line {rest = rest} {n = n} size is holds front held =
     holds front held ∙ ap (λ (l : List ℕ). take 3 (front ++ l)) (ap (λ (k : ℕ). take k rest) size ∙ without_last line rest is)
 
 -- all bytes are taken

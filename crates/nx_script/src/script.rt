@@ -51,7 +51,7 @@ impl Script {
     ///
     /// Errors: `Read`, only where the input's count of faults rose; `TooMuch` where 4,294,967,296
     /// bytes were taken; `Memory`. With the first two all commands were given whose last line's LF
-    /// was taken.
+    /// was taken. With any of them no more was taken than 4,294,967,296 bytes.
     pub fn next<H: Host>(&mut self, host: &mut H) -> Result<Option<Command>, ScriptError>
         ensures given { IfOk result (λ next. (first : Option (List ℕ)) (taken : List ℕ) (commands : List Command) →
             HasGivenIn self.old taken commands first (H.beside host.old).input → GivesNext next self.new taken commands first (H.beside host.new).input) }
