@@ -63,15 +63,15 @@ module _ {D : Type 0} {d : Ghosts D} where
   pub none_talked : {a : D} (bytes : List ℕ) → TalksAlone d bytes a a
   none_talked bytes = none_left
 
-  -- who takes alone gives a front of anything
+  -- who takes alone gives a prefix of anything
   pub takes_talks : {a b : D} (bytes : List ℕ) → TakesAlone d a b → TalksAlone d bytes a b
   takes_talks {a = a} bytes takes = left_weaker takes.areas (λ output h. keeps_front bytes (d.beside a).output output h)
 
-  -- a front of these bytes is one of more bytes
+  -- a prefix of these bytes is one of more bytes
   pub talks_front : {a b : D} (bytes more : List ℕ) → TalksAlone d bytes a b → TalksAlone d (bytes ++ more) a b
   talks_front {a = a} bytes more talks = left_weaker talks (λ output h. front_more bytes more (d.beside a).output output h)
 
-  -- first some of the bytes, and then a front of the others
+  -- first some of the bytes, and then a prefix of the others
   pub talks_then : {a b c : D} (done rest : List ℕ) → Appends done (d.beside a).output (d.beside b).output → TalksAlone d (done ++ rest) a b → TalksAlone d rest b c →
       TalksAlone d (done ++ rest) a c
   talks_then {a = a} {b = b} done rest appends first second =
@@ -81,11 +81,11 @@ module _ {D : Type 0} {d : Ghosts D} where
   pub none_given : {a : D} (bytes : List ℕ) → GivesAlone d bytes a a
   none_given bytes = record { areas = none_left; input_stays = refl; in_faults_stay = refl }
 
-  -- a front of these bytes is one of more bytes
+  -- a prefix of these bytes is one of more bytes
   pub gives_front : {a b : D} (bytes more : List ℕ) → GivesAlone d bytes a b → GivesAlone d (bytes ++ more) a b
   gives_front bytes more gives = record { areas = talks_front bytes more gives.areas; input_stays = gives.input_stays; in_faults_stay = gives.in_faults_stay }
 
-  -- first some of the bytes, and then a front of the others
+  -- first some of the bytes, and then a prefix of the others
   pub gives_then : {a b c : D} (done rest : List ℕ) → Appends done (d.beside a).output (d.beside b).output → GivesAlone d (done ++ rest) a b → GivesAlone d rest b c →
       GivesAlone d (done ++ rest) a c
   gives_then done rest appends first second = record {

@@ -3,12 +3,13 @@ use Rattle.std.proofs.Common.{◌≡◌, ◌⊎◌, inl, inr, ℕ, ◌+◌, ◌-
 use Rattle.std.proofs.lemmas.Bool.{cases_lt}
 use Rattle.std.proofs.lemmas.List.{length-take, length-drop, get_or-take, get_or-drop, ext_get_or}
 use Rattle.nx_host.specs.declared.disk.Area.{Area}
-use Rattle.nx_host.specs.Disk.{Image, Written, Torn, WritesTo, TearsIn, ComesTorn, area_of}
+use Rattle.nx_host.specs.declared.disk.Area.TheVariants.{Pages, Log}
+use Rattle.nx_host.specs.Disk.{Image, Written, Torn, WritesTo, TearsIn, ComesTorn, area_of, other_area_of}
 
 get_or-dropped : (k i : ℕ) (bytes : List ℕ) → k ≤ i → get_or (drop k bytes) (i - k) 0 ≡ get_or bytes i 0
 get_or-dropped k i bytes le = get_or-drop k bytes (i - k) 0 ∙ ap (λ (j : ℕ). get_or bytes j 0) (let h : k + (i - k) ≡ i = omega (arith, le) in h)
 
--- Two lists of one front, or of one rest.
+-- Two lists of one prefix, or of one rest.
 
 same_before : (n i : ℕ) (old new : List ℕ) → take (min n (length old)) new ≡ take n old → i < n → i < length old → get_or new i 0 ≡ get_or old i 0
 same_before n i old new same below within =
@@ -32,7 +33,7 @@ after_by k old new long same =
     ext_get_or 0 (drop k new) (drop k old) (omega (arith, now_long, was_long, long))
     (λ i within. get_or-drop k new i 0 ∙ same (k + i) (omega arith) (omega (arith, within, now_long, long)) ∙ sym (get_or-drop k old i 0))
 
--- Writes that a stop cuts short.
+-- Writes that a crash cuts short.
 
 -- outside the range each byte below the old end is left
 pub torn_at : {at n : ℕ} {old new : List ℕ} → Torn at n old new → (i : ℕ) → i < length old → (i < at) ⊎ (at + n ≤ i) → get_or new i 0 ≡ get_or old i 0
@@ -71,9 +72,20 @@ torn_nothing {at = at} {old = old} {new = new} here torn =
     either : (i at : ℕ) → (i < at) ⊎ (at + 0 ≤ i)
     either i at = elim (cases_lt i at) [ inl below ↦ inl below | inr above ↦ inr (omega (arith, above)) ]
 
--- a stop may leave the image as it stood before the write
+image_is : (area : Area) (old new : Image) → area_of area new ≡ area_of area old → other_area_of area new ≡ other_area_of area old → new ≡ old
+image_is Pages old new here there = ap (λ (p : List ℕ). record { pages = p; log = new.log }) here ∙ ap (λ (l : List ℕ). record { pages = old.pages; log = l }) there
+image_is Log old new here there = ap (λ (p : List ℕ). record { pages = p; log = new.log }) there ∙ ap (λ (l : List ℕ). record { pages = old.pages; log = l }) here
+
+-- and so is an image
+pub tears_self : (area : Area) (at n : ℕ) (image : Image) → TearsIn area at n image image
+tears_self area at n image = record { here = torn_self at n (area_of area image); there = refl }
+
+pub tears_nothing : {area : Area} {at : ℕ} {old new : Image} → at ≤ length (area_of area old) → TearsIn area at 0 old new → new ≡ old
+tears_nothing {area = area} {old = old} {new = new} here tears = image_is area old new (torn_nothing here tears.here) tears.there
+
+-- a crash may leave an image that it might have left before the write
 pub comes_self : (area : Area) (at n : ℕ) (images : Image → Type 0) (image : Image) → images image → ComesTorn area at n images image
-comes_self area at n images image left = (image, left, record { here = torn_self at n (area_of area image); there = refl })
+comes_self area at n images image left = (image, left, tears_self area at n image)
 
 -- Writes that are done.
 

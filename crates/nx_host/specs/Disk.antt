@@ -58,7 +58,7 @@ pub record Written (at : ℕ) (bytes old new : List ℕ) : Type 0 where
   pub after : drop (at + length bytes) new ≡ drop (at + length bytes) old
   pub long : length new ≡ max (length old) (at + length bytes)
 
--- old after a write of n bytes that a stop cuts short: any bytes in the range and past the old end, the same elsewhere
+-- old after a write of n bytes that a crash cuts short: any bytes in the range and past the old end, the same elsewhere
 pub record Torn (at n : ℕ) (old new : List ℕ) : Type 0 where
   pub before : take (min at (length old)) new ≡ take at old
   pub after : drop (at + n) (take (length old) new) ≡ drop (at + n) old
@@ -70,7 +70,7 @@ pub record WritesTo (area : Area) (at : ℕ) (bytes : List ℕ) (old new : Image
   pub here : Written at bytes (area_of area old) (area_of area new)
   pub there : other_area_of area new ≡ other_area_of area old
 
--- an image that a stop leaves within or after a write of n bytes to one area: the other area is left
+-- an image that a crash leaves within or after a write of n bytes to one area: the other area is left
 pub record TearsIn (area : Area) (at n : ℕ) (old new : Image) : Type 0 where
   pub here : Torn at n (area_of area old) (area_of area new)
   pub there : other_area_of area new ≡ other_area_of area old

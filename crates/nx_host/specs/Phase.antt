@@ -15,7 +15,7 @@ pub record LeavesAreas {D : Type 0} (d : Ghosts D) (old new : D) (P : Option (Li
   pub out_faults_later : (d.beside old).out_faults ≤ (d.beside new).out_faults
   pub time : Elapses d.moment d.stood_since old new (λ s. P s.output × d.may_leave old s.image)
 
--- From old to new the host was asked for input and given output alone, at every moment a front of these bytes.
+-- From old to new the host was asked for input and given output alone, at every moment a prefix of these bytes.
 abbrev pub TalksAlone : {D : Type 0} → Ghosts D → List ℕ → D → D → Type 0
 TalksAlone d bytes old new = LeavesAreas d old new (AppendsFront bytes (d.beside old).output)
 
@@ -26,7 +26,7 @@ pub record TakesAlone {D : Type 0} (d : Ghosts D) (old new : D) : Type 0 where
   pub output_stays : (d.beside new).output ≡ (d.beside old).output
   pub out_faults_stay : (d.beside new).out_faults ≡ (d.beside old).out_faults
 
--- From old to new the host was given output alone, at every moment a front of these bytes.
+-- From old to new the host was given output alone, at every moment a prefix of these bytes.
 pub record GivesAlone {D : Type 0} (d : Ghosts D) (bytes : List ℕ) (old new : D) : Type 0 where
   pub areas : TalksAlone d bytes old new
   pub input_stays : (d.beside new).input ≡ (d.beside old).input

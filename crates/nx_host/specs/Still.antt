@@ -21,7 +21,7 @@ pub record Goes {D : Type 0} (d : Ghosts D) (old new : D) (P : Image → Type 0)
   pub reads_later : d.reads old ≤ d.reads new
   pub time : Elapses d.moment d.stood_since old new (λ s. Keeps (d.beside old).output s.output × (IsSome (d.contents new) → P s.image))
 
--- The disk has this image, and a stop leaves this one alone.
+-- The disk has this image, and a crash leaves this one alone.
 pub record IsSettled {D : Type 0} (d : Ghosts D) (disk : D) (image : Image) : Type 0 where
   pub here : d.contents disk ≡ Some image
   pub only : (i : Image) → d.may_leave disk i → i ≡ image

@@ -7,7 +7,7 @@ use Rattle.nx_host.specs.declared.disk.Disk.{Ghosts}
 use Rattle.nx_host.specs.declared.taker.TakeError.{TakeError}
 use Rattle.nx_host.specs.declared.taker.TakeError.TheVariants.{Read, TooMuch, Memory, Taker}
 
--- These bytes were taken, and a front of these was given.
+-- These bytes were taken, and a prefix of these was given.
 pub record HasTalked {D : Type 0} (d : Ghosts D) (taken given : List ℕ) (old new : D) : Type 0 where
   pub takes : Takes taken (d.beside old).input (d.beside new).input
   pub few : length taken ≤ most_input

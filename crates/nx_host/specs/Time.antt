@@ -3,7 +3,7 @@ use Rattle.std.specs.Prelude.{◌⊎◌, ℕ, ◌≤◌, List, Option}
 use Rattle.std.proofs.Common.{inl, inr, arith}
 use Rattle.nx_host.specs.Disk.{Image}
 
--- a moment: the output so far, where it is told, and an image that a stop could leave then
+-- a moment: the output so far, where it is told, and an image that a crash could leave then
 pub record Stood : Type 0 where
   pub output : Option (List ℕ)
   pub image : Image

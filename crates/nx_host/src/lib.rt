@@ -2,7 +2,7 @@
 //! nothing of this repository.
 //!
 //! `Disk` and `Host` are traits. Their contracts say what each call does to the contents, to the
-//! images that a stop may leave, to the input, the output and the counts of faults, at its end and
+//! images that a crash may leave, to the input, the output and the counts of faults, at its end and
 //! at every moment of it. The definitions stand in `specs/Disk.antt`, `specs/Host.antt` and, for
 //! the one clock of both, `specs/Time.antt`.
 //!

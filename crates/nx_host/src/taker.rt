@@ -20,7 +20,7 @@ pub trait Taker {
     /// These bytes have come, these were given, and it takes further ones.
     ghost has_taken: { Self → List ℕ → List ℕ → Type 0 };
 
-    /// What an error says where these bytes have come, and a front of these was given.
+    /// What an error says where these bytes have come, and a prefix of these was given.
     ghost refuses: { Self.Error → List ℕ → List ℕ → Type 0 };
 
     /// The error comes from the host's output.
