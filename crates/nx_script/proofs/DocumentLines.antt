@@ -218,20 +218,25 @@ unread_dot line is = ap (λ (t : Bool). if t then take 3 line else []) (dot_fron
 unread_other : (line : List ℕ) → is_dot (without_cr line) ≡ false → unread (take 3 line) ≡ []
 unread_other line other = ap (λ (t : Bool). if t then take 3 line else []) (dot_front line ∙ other)
 
-module _ (old mid new : Body) (bytes : List ℕ) (unbroken : has_lf bytes ≡ false)
-    (holds : (line : List ℕ) → old.held ≡ take 3 line → mid.held ≡ take 3 (line ++ bytes)) (reader_stays : mid.reader ≡ old.reader) where
+-- A body has held these bytes more, in which is no LF, and has read none.
+pub record HoldsMore (old new : Body) (bytes : List ℕ) : Type 0 where
+  pub unbroken : has_lf bytes ≡ false
+  pub holds : (line : List ℕ) → old.held ≡ take 3 line → new.held ≡ take 3 (line ++ bytes)
+  pub reader_stays : new.reader ≡ old.reader
+
+module _ {old mid : Body} {bytes : List ℕ} (held_more : HoldsMore old mid bytes) where
   -- what begins a line, with these bytes behind it
   held_line : (s : List ℕ) → IsWithin old s → mid.held ≡ take 3 ((cut s).rest ++ bytes)
-  held_line s within = holds (cut s).rest within.held
+  held_line s within = held_more.holds (cut s).rest within.held
 
   held_is_dot : (s : List ℕ) (b : Bool) → IsWithin old s → b ≡ is_dot (without_cr mid.held) → is_dot (without_cr ((cut s).rest ++ bytes)) ≡ b
   held_is_dot s b within is = sym (is ∙ ap (λ (l : List ℕ). is_dot (without_cr l)) (held_line s within) ∙ dot_front ((cut s).rest ++ bytes))
 
   -- bytes that go on are read, behind those that were held alone
-  reads_all : (n : ℕ) (more : List ℕ) → n ≡ length (unread old.held) →
-      ((s : List ℕ) → HasReadOrFailed mid.reader s → HasReadOrFailed new.reader (s ++ (take n mid.held ++ more))) →
-      (s : List ℕ) → IsWithin old s → HasReadOrFailed new.reader (s ++ more)
-  reads_all n more count reads s within = by_dot (is_dot (without_cr (cut s).rest)) refl
+  reads_all : {reader : Reader} (n : ℕ) (more : List ℕ) → n ≡ length (unread old.held) →
+      ((s : List ℕ) → HasReadOrFailed mid.reader s → HasReadOrFailed reader (s ++ (take n mid.held ++ more))) →
+      (s : List ℕ) → IsWithin old s → HasReadOrFailed reader (s ++ more)
+  reads_all {reader = reader} n more count reads s within = by_dot (is_dot (without_cr (cut s).rest)) refl
     where
       kept : take n mid.held ≡ unread (take 3 (cut s).rest)
       kept =
@@ -239,53 +244,53 @@ module _ (old mid new : Body) (bytes : List ℕ) (unbroken : has_lf bytes ≡ fa
           ∙ ap (take (length (unread (take 3 (cut s).rest)))) (held_line s within)
           ∙ unread_kept (cut s).rest bytes
 
-      by_dot : (t : Bool) → is_dot (without_cr (cut s).rest) ≡ t → HasReadOrFailed new.reader (s ++ more)
+      by_dot : (t : Bool) → is_dot (without_cr (cut s).rest) ≡ t → HasReadOrFailed reader (s ++ more)
       by_dot true is =
           let f = read_front old.reader s [] (ap (λ (l : List ℕ). is_dot (without_cr l)) (append-nil (cut s).rest) ∙ is) within.read in
-          subst (HasReadOrFailed new.reader)
+          subst (HasReadOrFailed reader)
           (ap (λ (l : List ℕ). f.front ++ (l ++ more)) (kept ∙ unread_dot (cut s).rest is)
           ∙ sym (append_assoc f.front (cut s).rest more)
           ∙ ap (λ (l : List ℕ). l ++ more) (sym f.parts))
-          (reads f.front (same_reader old.reader mid.reader f.front reader_stays f.read).read)
+          (reads f.front (same_reader old.reader mid.reader f.front held_more.reader_stays f.read).read)
       by_dot false other =
-          subst (HasReadOrFailed new.reader) (ap (λ (l : List ℕ). s ++ (l ++ more)) (kept ∙ unread_other (cut s).rest other))
-          (reads s (subst (λ (r : Reader). HasReadOrFailed r s) (sym reader_stays) (from_none old.reader s other within.read)))
+          subst (HasReadOrFailed reader) (ap (λ (l : List ℕ). s ++ (l ++ more)) (kept ∙ unread_other (cut s).rest other))
+          (reads s (subst (λ (r : Reader). HasReadOrFailed r s) (sym held_more.reader_stays) (from_none old.reader s other within.read)))
 
   -- a line goes on that can't be the dot
-  pub goes_on_read : new.held ≡ mid.held → (dot : Bool) → dot ≡ is_dot (without_cr mid.held) → dot ≡ false → (n : ℕ) → n ≡ length (unread old.held) →
+  pub goes_on_read : {new : Body} {dot : Bool} → new.held ≡ mid.held → dot ≡ is_dot (without_cr mid.held) → dot ≡ false → (n : ℕ) → n ≡ length (unread old.held) →
       ((s : List ℕ) → HasReadOrFailed mid.reader s → HasReadOrFailed new.reader (s ++ (take n mid.held ++ bytes))) → (s : List ℕ) → IsWithin old s → IsWithin new (s ++ bytes)
-  goes_on_read held dot is none n count reads s within =
-      let rest : (cut (s ++ bytes)).rest ≡ (cut s).rest ++ bytes = rest-held s bytes unbroken in
+  goes_on_read {new = new} {dot = dot} held is none n count reads s within =
+      let rest : (cut (s ++ bytes)).rest ≡ (cut s).rest ++ bytes = rest-held s bytes held_more.unbroken in
       record {
-        undotted = ap has_dot (ended_lines-held s bytes unbroken) ∙ within.undotted;
+        undotted = ap has_dot (ended_lines-held s bytes held_more.unbroken) ∙ within.undotted;
         held = held ∙ held_line s within ∙ ap (take 3) (sym rest);
         read = up_to_none new.reader (s ++ bytes) (ap (λ (l : List ℕ). is_dot (without_cr l)) rest ∙ held_is_dot s dot within is ∙ none) (reads_all n bytes count reads s within);
       }
 
   -- a line goes on that may be the dot
-  pub goes_on_dotted : (dot : Bool) → dot ≡ is_dot (without_cr mid.held) → dot ≡ true → (s : List ℕ) → IsWithin old s → IsWithin mid (s ++ bytes)
-  goes_on_dotted dot is some s within =
-      let rest : (cut (s ++ bytes)).rest ≡ (cut s).rest ++ bytes = rest-held s bytes unbroken in
+  pub goes_on_dotted : {dot : Bool} → dot ≡ is_dot (without_cr mid.held) → dot ≡ true → (s : List ℕ) → IsWithin old s → IsWithin mid (s ++ bytes)
+  goes_on_dotted {dot = dot} is some s within =
+      let rest : (cut (s ++ bytes)).rest ≡ (cut s).rest ++ bytes = rest-held s bytes held_more.unbroken in
       let may : is_dot (without_cr ((cut s).rest ++ bytes)) ≡ true = held_is_dot s dot within is ∙ some in
       let f = read_front old.reader s bytes may within.read in
       record {
-        undotted = ap has_dot (ended_lines-held s bytes unbroken) ∙ within.undotted;
+        undotted = ap has_dot (ended_lines-held s bytes held_more.unbroken) ∙ within.undotted;
         held = held_line s within ∙ ap (take 3) (sym rest);
         read = up_to_dot mid.reader (s ++ bytes) f.front (ap (λ (l : List ℕ). is_dot (without_cr l)) rest ∙ may)
             (ap (λ (l : List ℕ). l ++ bytes) f.parts ∙ append_assoc f.front (cut s).rest bytes ∙ ap (λ (l : List ℕ). f.front ++ l) (sym rest))
-            (same_reader old.reader mid.reader f.front reader_stays f.read);
+            (same_reader old.reader mid.reader f.front held_more.reader_stays f.read);
       }
 
   -- an LF ends a line that isn't the dot
-  pub ends_read : new.held ≡ [] → (ended : Bool) → ended ≡ is_dot (without_cr mid.held) → ended ≡ false → (n : ℕ) → n ≡ length (unread old.held) →
+  pub ends_read : {new : Body} {ended : Bool} → new.held ≡ [] → ended ≡ is_dot (without_cr mid.held) → ended ≡ false → (n : ℕ) → n ≡ length (unread old.held) →
       ((s : List ℕ) → HasReadOrFailed mid.reader s → HasReadOrFailed new.reader (s ++ (take n mid.held ++ (bytes ++ 10 ∷ [])))) →
       (s : List ℕ) → IsWithin old s → Stands ended new (s ++ (bytes ++ 10 ∷ []))
-  ends_read held ended is none n count reads s within =
+  ends_read {new = new} {ended = ended} held is none n count reads s within =
       let other : is_dot (without_cr ((cut s).rest ++ bytes)) ≡ false = held_is_dot s ended within is ∙ none in
-      let rest : (cut (s ++ (bytes ++ 10 ∷ []))).rest ≡ [] = rest-ended s bytes unbroken in
+      let rest : (cut (s ++ (bytes ++ 10 ∷ []))).rest ≡ [] = rest-ended s bytes held_more.unbroken in
       subst (λ (b : Bool). Stands b new (s ++ (bytes ++ 10 ∷ []))) (sym none)
       (record {
-        undotted = ap has_dot (ended_lines-ended s bytes unbroken)
+        undotted = ap has_dot (ended_lines-ended s bytes held_more.unbroken)
             ∙ list_any-append is_dot (ended_lines s) (without_cr ((cut s).rest ++ bytes) ∷ [])
             ∙ or_from _ _ within.undotted (or_from _ _ other refl);
         held = held ∙ ap (take 3) (sym rest);
@@ -293,23 +298,23 @@ module _ (old mid new : Body) (bytes : List ℕ) (unbroken : has_lf bytes ≡ fa
       })
 
   -- an LF ends the dot
-  pub ends_dot : new.reader ≡ mid.reader → (ended : Bool) → ended ≡ is_dot (without_cr mid.held) → ended ≡ true →
+  pub ends_dot : (new : Body) {ended : Bool} → new.reader ≡ mid.reader → ended ≡ is_dot (without_cr mid.held) → ended ≡ true →
       (s : List ℕ) → IsWithin old s → Stands ended new (s ++ (bytes ++ 10 ∷ []))
-  ends_dot same ended is dot s within =
+  ends_dot new {ended = ended} same is dot s within =
       let last : is_dot (without_cr ((cut s).rest ++ bytes)) ≡ true = held_is_dot s ended within is ∙ dot in
       let f = read_front old.reader s bytes last within.read in
       let before : ended_lines s ≡ ended_lines f.front = ap ended_lines f.parts ∙ ended_lines-held f.front (cut s).rest (cut-rest s) in
       subst (λ (b : Bool). Stands b new (s ++ (bytes ++ 10 ∷ []))) (sym dot)
       (record {
         front = f.front;
-        before = λ more. before_dot-ended s bytes more unbroken within.undotted last ∙ joined-front f.front s f.parts f.read.ended;
-        after = λ more. after_dot-ended s bytes more unbroken within.undotted last;
-        lines_are = ended_lines-ended s bytes unbroken
+        before = λ more. before_dot-ended s bytes more held_more.unbroken within.undotted last ∙ joined-front f.front s f.parts f.read.ended;
+        after = λ more. after_dot-ended s bytes more held_more.unbroken within.undotted last;
+        lines_are = ended_lines-ended s bytes held_more.unbroken
             ∙ ap (λ (l : List ℕ). ended_lines s ++ l ∷ []) ((bytes_eq-Decides (without_cr ((cut s).rest ++ bytes)) (codes ".")).0 last)
             ∙ ap (λ (ls : List (List ℕ)). ls ++ codes "." ∷ []) before;
         undotted = ap has_dot (sym before) ∙ within.undotted;
-        read = same_reader mid.reader new.reader f.front same (same_reader old.reader mid.reader f.front reader_stays f.read);
-        ended = rest-ended s bytes unbroken;
+        read = same_reader mid.reader new.reader f.front same (same_reader old.reader mid.reader f.front held_more.reader_stays f.read);
+        ended = rest-ended s bytes held_more.unbroken;
       })
 
 -- What the lines say before the dot.

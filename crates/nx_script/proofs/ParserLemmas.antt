@@ -51,10 +51,10 @@ holds_line {old = old} {new = new} {bytes = bytes} unbroken outside same holds s
     (holds (cut seen).rest held ∙ ap (take most_held) (sym (rest-held seen bytes unbroken)))
 
 -- a line ends
-pub adds_line : {old new : Parser} {bytes line : List ℕ} (command : Option Command) → has_lf bytes ≡ false → old.load ≡ None → new.held ≡ [] →
+pub adds_line : {old new : Parser} {bytes line : List ℕ} (command : Option Command) → has_lf bytes ≡ false → (old.load ≡ None) × (new.held ≡ []) →
     ((rest : List ℕ) → old.held ≡ take most_held rest → MeansSame line (without_cr (rest ++ bytes))) → Adds line new command →
     (seen : List ℕ) (commands : List Command) → HasParsed old seen commands → HasParsed new (seen ++ (bytes ++ 10 ∷ [])) (with_command commands command)
-adds_line {old = old} {new = new} {bytes = bytes} {line = line} command unbroken outside none means adds seen commands parsed =
+adds_line {old = old} {new = new} {bytes = bytes} {line = line} command unbroken (outside, none) means adds seen commands parsed =
     let (gives, held) = kept_outside old seen commands outside parsed in
     let whole : List ℕ = without_cr ((cut seen).rest ++ bytes) in
     by_command command (means (cut seen).rest held) adds
@@ -145,11 +145,11 @@ module _ (old : Parser) {new : Parser} {load : Load} {body : Body} {bytes : List
       }
 
   -- a dot has come
-  pub body_ends : (command : Command) → new.load ≡ None → new.held ≡ old.held →
+  pub body_ends : (command : Command) → (new.load ≡ None) × (new.held ≡ old.held) →
       ((s : List ℕ) → IsWithin load.body s → IsEndedBy body (s ++ bytes)) →
       ((line s : List ℕ) → load.name ≡ loaded_name line → HasReadLines body.reader s → Loads line (ended_lines s) command) →
       (seen : List ℕ) (commands : List Command) → HasParsed (record old { load = Some load }) seen commands → HasParsed new (seen ++ bytes) (commands ++ command ∷ [])
-  body_ends command outside same ends loads seen commands parsed = by_rest parsed.rest parsed.gives parsed.keeps
+  body_ends command (outside, same) ends loads seen commands parsed = by_rest parsed.rest parsed.gives parsed.keeps
     where
       by_rest : (rest : List (List ℕ)) → Gives (ended_lines seen) commands rest → Keeps (Some load) old.held seen rest → HasParsed new (seen ++ bytes) (commands ++ command ∷ [])
       by_rest [] gives keeps = absurd keeps

@@ -6,7 +6,7 @@ use Rattle.nx_script.proofs.parser.Parser.take_body.Goals as goal
 pub returns-then-ended-clause-given : goal.returns-then-ended-clause-given
 returns-then-ended-clause-given c =
     let bytes : List ℕ = take c.in_ok-len.len c.args.bytes.now in
-    body_ends c.args.self.now c.in_ok-loaded.field-0 c.requires.taken refl
+    body_ends c.args.self.now c.in_ok-loaded.field-0 (c.requires.taken, refl)
     (λ s within. subst (λ (b : Bool). Stands b c.take.new.self (s ++ bytes)) c.if-ended.true (c.in_ok-len.ensures.stands s within))
     c.in_ok-loaded.ensures
 
