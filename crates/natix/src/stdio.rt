@@ -2,6 +2,8 @@
 ghost use Rattle.std.specs.Prelude.{◌≡◌, ◌<◌, ◌≤◌, ℕ, length, take, None, IfOk, IsSome, OnOk, OnErr, refl};
 ghost use Rattle.std.specs.Io.KnownBytes.{Appends, Consumes, IsAtEnd, Keeps};
 ghost use Rattle.std.proofs.Common.{subst, sym};
+ghost use Rattle.nx_host.specs.Disk.{HoldsBytes, no_bytes};
+ghost use Rattle.nx_host.proofs.DiskLemmas.{no_bytes_hold_bytes, untold};
 
 use nx_host::{Area, Disk, Failed, Host};
 use std::io::{ErrorKind, Read, Write};
@@ -42,13 +44,13 @@ impl<R, W> StdioHost<R, W> {
 impl<R: Read, W: Write> Disk for StdioHost<R, W> {
     ghost contents = { λ _. None };
 
-    ghost may_leave = { λ _ _. Unit {0} };
+    ghost may_leave = { λ _ image. HoldsBytes image };
 
     ghost beside = { λ host. record { input = None; output = None; in_faults = host.in_faults; out_faults = host.out_faults } };
 
     ghost moment = { λ _. 0 };
 
-    ghost stood_since = { λ _ _ stood. stood.output ≡ None };
+    ghost stood_since = { λ _ _ stood. (stood.output ≡ None) × HoldsBytes stood.image };
 
     ghost faults = { λ host. host.faults };
 
@@ -75,13 +77,23 @@ impl<R: Read, W: Write> Disk for StdioHost<R, W> {
         Err(Failed)
     }
 
-    ghost contents_may_stay = { λ _ _ _. tt };
+    ghost contents_may_stay = { λ _ image is. untold image is };
 
-    ghost told_before = { λ _ _ _ _ since told. subst IsSome (sym since) told };
+    ghost told_before = { λ _ _ _ _ since told. subst IsSome (sym since.0) told };
 
-    ghost stands_now = { λ _ _ _ _ _. refl };
+    ghost stands_now = { λ _ _ _ _ left. (refl, left) };
 
-    ghost only_now = { λ _ _ since. (since, tt) };
+    ghost only_now = { λ _ _ since. since };
+
+    ghost since_earlier = { λ _ _ _ _ _ _ since. since };
+
+    ghost some_image = { λ _. (no_bytes, no_bytes_hold_bytes) };
+
+    ghost images_hold_bytes = { λ _ _ left. left };
+
+    ghost past_holds_bytes = { λ _ _ _ _ since. since.1 };
+
+    ghost input_is_bytes = { λ _ input is. untold input is };
 }
 
 impl<R: Read, W: Write> Host for StdioHost<R, W> {

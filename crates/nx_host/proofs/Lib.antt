@@ -1,3 +1,6 @@
+pub mod DiskLemmas
+pub mod TornLemmas
 pub mod OutputLemmas
 pub mod PhaseLemmas
 pub mod InputLemmas
+pub mod TakingLemmas

@@ -20,12 +20,12 @@ appends_then x y a (Some mid) (Some now) (was, is, grew) (was', is', grew') =
 take-within : (n : ℕ) (x y : List ℕ) → take n x ≡ take (min n (length x)) (x ++ y)
 take-within n x y = sym (take_min n x) ∙ sym (take-append-le (min n (length x)) x y (omega arith))
 
--- a front of a front
+-- a prefix of a prefix
 pub front_more : (x y : List ℕ) (a b : Option (List ℕ)) → AppendsFront x a b → AppendsFront (x ++ y) a b
 front_more x y a None front = tt
 front_more x y a (Some now) (was, n, is, grew) = (was, min n (length x), is, grew ∙ ap (λ (t : List ℕ). was ++ t) (take-within n x y))
 
--- a front behind what was given
+-- a prefix behind what was given
 pub front_then : (x y : List ℕ) (a b c : Option (List ℕ)) → Appends x a b → AppendsFront y b c → AppendsFront (x ++ y) a c
 front_then x y a b None first second = tt
 front_then x y a None (Some now) first (was, n, is, grew) = cc
@@ -38,12 +38,7 @@ front_then x y a (Some mid) (Some now) (was, is, grew) (was', n, is', grew') =
           ∙ ap (λ (t : List ℕ). was ++ t) (sym (take-append-add x y n)),
     )
 
-pub keeps_then : {T : Type 0} (a b c : Option T) → Keeps a b → Keeps b c → Keeps a c
-keeps_then a b None first second = tt
-keeps_then a None (Some x) first second = cc second
-keeps_then a (Some y) (Some x) first second = first ∙ second
-
--- nothing more is a front of anything
+-- nothing more is a prefix of anything
 pub keeps_front : (bytes : List ℕ) (old now : Option (List ℕ)) → Keeps old now → AppendsFront bytes old now
 keeps_front bytes old None keeps = tt
 keeps_front bytes old (Some was) keeps = (was, 0, keeps, sym (append-nil was))

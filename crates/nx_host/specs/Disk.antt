@@ -1,5 +1,5 @@
 -- What a disk holds, and what its calls do to it.
-use Rattle.std.specs.Prelude.{◌≡◌, ℕ, ◌+◌, ◌-◌, ◌^◌, ◌≤◌, List, length, take, drop, min, max, Option, IfSome, Some}
+use Rattle.std.specs.Prelude.{◌≡◌, ℕ, ◌+◌, ◌-◌, ◌^◌, ◌<◌, ◌≤◌, List, [], length, take, drop, get_or, min, max, Option, IfSome, Some}
 use Rattle.nx_host.specs.declared.disk.Area.{Area}
 use Rattle.nx_host.specs.declared.disk.Area.TheVariants.{Pages, Log}
 
@@ -7,6 +7,19 @@ use Rattle.nx_host.specs.declared.disk.Area.TheVariants.{Pages, Log}
 pub record Image : Type 0 where
   pub pages : List ℕ
   pub log : List ℕ
+
+-- each is a byte
+abbrev pub AreBytes : List ℕ → Type 0
+AreBytes bytes = (i : ℕ) → get_or bytes i 0 < 256
+
+-- both areas hold bytes
+pub record HoldsBytes (image : Image) : Type 0 where
+  pub pages : AreBytes image.pages
+  pub log : AreBytes image.log
+
+-- both areas are empty
+abbrev pub no_bytes : Image
+no_bytes = record { pages = []; log = [] }
 
 abbrev pub area_of : Area → Image → List ℕ
 area_of Pages image = image.pages
@@ -45,7 +58,7 @@ pub record Written (at : ℕ) (bytes old new : List ℕ) : Type 0 where
   pub after : drop (at + length bytes) new ≡ drop (at + length bytes) old
   pub long : length new ≡ max (length old) (at + length bytes)
 
--- old after a write of n bytes that a stop cuts short: any bytes in the range and past the old end, the same elsewhere
+-- old after a write of n bytes that a crash cuts short: any bytes in the range and past the old end, the same elsewhere
 pub record Torn (at n : ℕ) (old new : List ℕ) : Type 0 where
   pub before : take (min at (length old)) new ≡ take at old
   pub after : drop (at + n) (take (length old) new) ≡ drop (at + n) old
@@ -57,7 +70,7 @@ pub record WritesTo (area : Area) (at : ℕ) (bytes : List ℕ) (old new : Image
   pub here : Written at bytes (area_of area old) (area_of area new)
   pub there : other_area_of area new ≡ other_area_of area old
 
--- an image that a stop leaves within or after a write of n bytes to one area: the other area is left
+-- an image that a crash leaves within or after a write of n bytes to one area: the other area is left
 pub record TearsIn (area : Area) (at n : ℕ) (old new : Image) : Type 0 where
   pub here : Torn at n (area_of area old) (area_of area new)
   pub there : other_area_of area new ≡ other_area_of area old

@@ -5,7 +5,7 @@ use Rattle.std.specs.Prelude.{◌≡◌, ℕ, List, [], ◌++◌, take, Option, 
 abbrev pub Appends : List ℕ → Option (List ℕ) → Option (List ℕ) → Type 0
 Appends bytes old new = IfSome new (λ now. (was : List ℕ) × (old ≡ Some was) × (now ≡ was ++ bytes))
 
--- Where the output is still told, it has grown by a front of these bytes.
+-- Where the output is still told, it has grown by a prefix of these bytes.
 abbrev pub AppendsFront : List ℕ → Option (List ℕ) → Option (List ℕ) → Type 0
 AppendsFront bytes old new = IfSome new (λ now. (was : List ℕ) × (n : ℕ) × (old ≡ Some was) × (now ≡ was ++ take n bytes))
 

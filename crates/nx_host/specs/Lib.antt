@@ -1,5 +1,7 @@
 pub mod Disk
 pub mod Host
 pub mod Time
+pub mod Still
 pub mod Phase
 pub mod Input
+pub mod Taking

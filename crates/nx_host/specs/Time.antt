@@ -3,7 +3,7 @@ use Rattle.std.specs.Prelude.{◌⊎◌, ℕ, ◌≤◌, List, Option}
 use Rattle.std.proofs.Common.{inl, inr, arith}
 use Rattle.nx_host.specs.Disk.{Image}
 
--- a moment: the output so far, where it is told, and an image that a stop could leave then
+-- a moment: the output so far, where it is told, and an image that a crash could leave then
 pub record Stood : Type 0 where
   pub output : Option (List ℕ)
   pub image : Image
@@ -15,8 +15,8 @@ pub record Elapses {D : Type 0} (moment : D → ℕ) (stood_since : D → ℕ �
   pub keeps : (t : ℕ) (s : Stood) → t ≤ moment old → stood_since old t s → stood_since new t s
 
 -- before the first call
-pub none_elapsed : {D : Type 0} (moment : D → ℕ) (stood_since : D → ℕ → Stood → Type 0) (P : Stood → Type 0) (d : D) → Elapses moment stood_since d d P
-none_elapsed moment stood_since P d = record {
+pub none_elapsed : {D : Type 0} {moment : D → ℕ} {stood_since : D → ℕ → Stood → Type 0} {d : D} {P : Stood → Type 0} → Elapses moment stood_since d d P
+none_elapsed = record {
   later = omega arith;
   nothing_else = λ t s le since. inl since;
   keeps = λ t s le since. since;

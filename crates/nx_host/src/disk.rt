@@ -1,6 +1,6 @@
 // A disk of two areas.
 ghost use Rattle.std.specs.Prelude.{◌≡◌, ◌↔◌, ℕ, ◌+◌, ◌*◌, ◌^◌, ◌≤◌, List, length, take, drop, Option, Some, IsSome, IfSome, IfOk, OnOk, OnErr};
-ghost use Rattle.nx_host.specs.Disk.{Image, area_of, Beside, Rose, Keeps, LeavesBeside, WritesTo, TearsIn, ComesTorn, IsDurable, given_at};
+ghost use Rattle.nx_host.specs.Disk.{Image, AreBytes, HoldsBytes, area_of, Beside, Rose, Keeps, LeavesBeside, WritesTo, TearsIn, ComesTorn, IsDurable, given_at};
 ghost use Rattle.nx_host.specs.Time.{Stood, Elapses};
 
 use thiserror::Error;
@@ -27,7 +27,7 @@ pub trait Disk {
     /// What a read gives, where it is told.
     ghost contents: { Self → Option Image };
 
-    /// The images that a stop at this moment may leave.
+    /// The images that a crash at this moment may leave.
     ghost may_leave: { Self → Image → Type 0 };
 
     /// The input that is left, the output so far, and how often they failed.
@@ -77,7 +77,7 @@ pub trait Disk {
         ensures cause { OnErr result (Rose (faults self.old) (faults self.new)) };
 
     /// Writes `bytes` at `at`, also past the area's end, but no further than to offset 2^63; what
-    /// lies between the old end and `at` is then open. Until a `sync` of the area, a stop may leave
+    /// lies between the old end and `at` is then open. Until a `sync` of the area, a crash may leave
     /// any bytes in the range and past the old end.
     ///
     /// Errors: `Failed`, only where `faults` rose. The range may then hold any bytes.
@@ -94,9 +94,9 @@ pub trait Disk {
         ensures faults { faults self.old ≤ faults self.new }
         ensures cause { OnErr result (Rose (faults self.old) (faults self.new)) };
 
-    /// Makes what was written to an area durable: a stop afterwards leaves there what a read gives.
+    /// Makes what was written to an area durable: a crash afterwards leaves there what a read gives.
     ///
-    /// Errors: `Failed`, only where `faults` rose. A stop may then leave what it might have left
+    /// Errors: `Failed`, only where `faults` rose. A crash may then leave what it might have left
     /// before.
     fn sync(&mut self, area: Area) -> Result<(), Failed>
         ensures told { IsSome (contents self.new) → IsSome (contents self.old) }
@@ -121,4 +121,19 @@ pub trait Disk {
 
     /// Since this moment nothing else has.
     ghost only_now: { (d : Self) (s : Stood) → stood_since d (moment d) s → (s.output ≡ (beside d).output) × may_leave d s.image };
+
+    /// What has stood since a moment has stood since any earlier one.
+    ghost since_earlier: { (d : Self) (t u : ℕ) (s : Stood) → t ≤ u → u ≤ moment d → stood_since d u s → stood_since d t s };
+
+    /// A crash can always leave some image.
+    ghost some_image: { (d : Self) → (i : Image) × may_leave d i };
+
+    /// Images hold bytes, and so do the contents, which are one of them.
+    ghost images_hold_bytes: { (d : Self) (i : Image) → may_leave d i → HoldsBytes i };
+
+    /// So did the images at every moment.
+    ghost past_holds_bytes: { (d : Self) (t : ℕ) (s : Stood) → t ≤ moment d → stood_since d t s → HoldsBytes s.image };
+
+    /// The input that is left is bytes.
+    ghost input_is_bytes: { (d : Self) (input : List ℕ) → (beside d).input ≡ Some input → AreBytes input };
 }

@@ -31,7 +31,7 @@ pub trait Host: Disk {
 
     /// Appends the whole slice to the output.
     ///
-    /// Errors: `Failed`, only where `out_faults` rose. The output has then grown by some front of
+    /// Errors: `Failed`, only where `out_faults` rose. The output has then grown by some prefix of
     /// the slice.
     fn emit(&mut self, bytes: &[u8]) -> Result<(), Failed>
         ensures ok { OnOk result (Appends bytes.now (Self.beside self.old).output (Self.beside self.new).output) }

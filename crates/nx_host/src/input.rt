@@ -4,7 +4,7 @@ ghost use Rattle.nx_host.specs.Disk.{Keeps, Rose};
 ghost use Rattle.nx_host.specs.Host.{Takes, IsAtEnd};
 ghost use Rattle.nx_host.specs.Phase.{TakesAlone};
 
-use crate::{Failed, Host};
+use crate::{Disk, Failed, Host};
 use std::alloc::{AllocError, Global};
 use thiserror::Error;
 
@@ -35,17 +35,17 @@ pub struct Input {
     len: usize,
     taken: u64,
     ghost within: { len ≤ length buffer.items },
-    ghost some: { 0 < length buffer.items },
+    ghost whole: { length buffer.items ≡ 2 ^ 16 },
     ghost few: { taken ≤ 2 ^ 32 },
 }
 
 impl Input {
-    ghost use Rattle.std.specs.Prelude.{ℕ, List, [], ◌+◌, ◌++◌, Option, Err, IfOk};
+    ghost use Rattle.std.specs.Prelude.{ℕ, List, [], ◌+◌, ◌++◌, Option, Err, IfOk, IfErr};
     ghost use Rattle.nx_host.specs.declared.input.InputError.TheVariants.{Read, TooMuch};
     ghost use Rattle.nx_host.specs.Disk.{Rose};
     ghost use Rattle.nx_host.specs.Host.{IsAtEnd};
     ghost use Rattle.nx_host.specs.Phase.{TakesAlone};
-    ghost use Rattle.nx_host.specs.Input.{HasTaken, block_of, most_input};
+    ghost use Rattle.nx_host.specs.Input.{HasTaken, IsStopped, block_of, most_block, most_input};
 
     /// An input of which nothing was taken.
     ///
@@ -66,21 +66,24 @@ impl Input {
     ///
     /// Errors: `Read`, only where the input's count of faults rose; `TooMuch` exactly where
     /// 4,294,967,296 bytes were taken before, and then without asking the host. No byte is taken
-    /// then, and the block is empty.
+    /// then, and the block is empty. With `Read` fewer were taken.
     pub fn fill<H: Host>(&mut self, host: &mut H) -> Result<usize, InputError>
         ensures ok { IfOk result (λ _. (taken : List ℕ) (first : Option (List ℕ)) → HasTaken self.old taken first (H.beside host.old).input →
             HasTaken self.new (taken ++ block_of self.new) first (H.beside host.new).input) }
         ensures count { IfOk result (λ n. n ≡ length (block_of self.new)) }
+        ensures block { length (block_of self.new) ≤ most_block }
         ensures taken { IfOk result (λ n. self.new.taken ≡ self.old.taken + n) }
         ensures end { IfOk result (λ n. n ≡ 0 → IsAtEnd (H.beside host.new).input) }
         ensures err { OnErr result ((taken : List ℕ) (first : Option (List ℕ)) → HasTaken self.old taken first (H.beside host.old).input →
             HasTaken self.new taken first (H.beside host.new).input) }
         ensures none { OnErr result (block_of self.new ≡ []) }
         ensures untaken { OnErr result (self.new.taken ≡ self.old.taken) }
+        ensures below { IfOk result (λ _. self.old.taken < most_input) }
+        ensures stopped { IfErr result (λ error. IsStopped error self.new.taken) }
         ensures too_much { (result ≡ Err TooMuch) ↔ (self.old.taken ≡ most_input) }
         ensures unasked { result ≡ Err TooMuch → host.new ≡ host.old }
         ensures cause { result ≡ Err Read → Rose (H.beside host.old).in_faults (H.beside host.new).in_faults }
-        ensures alone { TakesAlone H.contents H.may_leave H.beside H.moment H.stood_since H.faults H.reads host.old host.new }
+        ensures alone { TakesAlone ⟦<H as Disk>⟧ host.old host.new }
     {
         self.len = 0;
         if self.taken >= MOST_INPUT {
@@ -120,7 +123,7 @@ fn take_block<H: Host>(host: &mut H, buffer: &mut [u8], room: u64) -> Result<usi
     ensures end { IfOk result (λ n. n ≡ 0 → IsAtEnd (H.beside host.new).input) }
     ensures untaken { OnErr result (Keeps (H.beside host.old).input (H.beside host.new).input) }
     ensures cause { OnErr result (Rose (H.beside host.old).in_faults (H.beside host.new).in_faults) }
-    ensures alone { TakesAlone H.contents H.may_leave H.beside H.moment H.stood_since H.faults H.reads host.old host.new }
+    ensures alone { TakesAlone ⟦<H as Disk>⟧ host.old host.new }
 {
     let most = least(buffer.len(), room);
     host.read_in(&mut buffer[..most])

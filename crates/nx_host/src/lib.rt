@@ -2,19 +2,26 @@
 //! nothing of this repository.
 //!
 //! `Disk` and `Host` are traits. Their contracts say what each call does to the contents, to the
-//! images that a stop may leave, to the input, the output and the counts of faults, at its end and
+//! images that a crash may leave, to the input, the output and the counts of faults, at its end and
 //! at every moment of it. The definitions stand in `specs/Disk.antt`, `specs/Host.antt` and, for
 //! the one clock of both, `specs/Time.antt`.
 //!
 //! `Input` takes the input of a host in blocks, up to the most that a run takes; what was taken is
-//! said in `specs/Input.antt`. What a phase of a run leaves as it was, while it takes, gives or does
-//! both in turn, is said in `specs/Phase.antt`.
+//! said in `specs/Input.antt`. `take_input` is the one loop over an input: it hands each block to a
+//! `Taker`, and says at the end, or at each error, what the taker knows of the bytes that were taken
+//! and given (`specs/Taking.antt`).
+//!
+//! A definition over hosts takes the bundle of a disk's meanings, `Ghosts D`. What calls that ask or
+//! write the areas alone do is said in `specs/Still.antt`; what a phase of a run leaves as it was,
+//! while it takes, gives or does both in turn, in `specs/Phase.antt`.
 #![tactic(auto)]
 
 mod disk;
 mod host;
 mod input;
+mod taker;
 
 pub use disk::{Area, Disk, Failed};
 pub use host::Host;
 pub use input::{Input, InputError};
+pub use taker::{TakeError, Taker, take_input};

@@ -3,7 +3,8 @@ use Rattle.std.proofs.Common.{◌≡◌, ◌⊎◌, inl, inr, ⊎_elim, ℕ, zer
 use Rattle.std.proofs.lemmas.List.{take_at, take_all, drop-drop, length-take-le}
 use Rattle.nx_host.specs.Host.{AppendsFront}
 use Rattle.nx_host.specs.Time.{Stood, Elapses}
-use Rattle.nx_host_tests.specs.TestHost.{nothing, WasFront, StoodSince}
+use Rattle.nx_host_tests.specs.TestHost.{WasFront, StoodSince}
+use Rattle.nx_host.specs.Disk.{no_bytes}
 
 -- A piece that was copied to the front of a slice was the first of the input that was left.
 pub piece_taken : (input shown piece rest : List ℕ) (given n : ℕ) → shown ≡ input → piece ≡ take (given + n - given) (drop given shown) → n ≤ length input - given →
@@ -98,7 +99,7 @@ moment_of d = length d.0
 abbrev since_of : Moments → ℕ → Stood → Type 0
 since_of d = StoodSince d.0 d.1
 
-added : (past output bytes : List ℕ) → Elapses moment_of since_of (past, output) (past ++ length output ∷ [], output ++ bytes) (λ s. AppendsFront bytes (Some output) s.output × (s.image ≡ nothing))
+added : (past output bytes : List ℕ) → Elapses moment_of since_of (past, output) (past ++ length output ∷ [], output ++ bytes) (λ s. AppendsFront bytes (Some output) s.output × (s.image ≡ no_bytes))
 added past output bytes = record {
   later = omega (arith, length-append past (length output ∷ []));
   nothing_else = λ t s le since.
@@ -123,9 +124,9 @@ added past output bytes = record {
 
 -- An `emit` that is done adds nothing but the longer output, with the disk empty.
 pub output_grows : (past output later longer bytes : List ℕ) → later ≡ past ++ length output ∷ [] → longer ≡ output ++ bytes →
-    Elapses moment_of since_of (past, output) (later, longer) (λ s. AppendsFront bytes (Some output) s.output × (s.image ≡ nothing))
+    Elapses moment_of since_of (past, output) (later, longer) (λ s. AppendsFront bytes (Some output) s.output × (s.image ≡ no_bytes))
 output_grows past output later longer bytes one_more appended =
-    let P : Stood → Type 0 = λ s. AppendsFront bytes (Some output) s.output × (s.image ≡ nothing) in
+    let P : Stood → Type 0 = λ s. AppendsFront bytes (Some output) s.output × (s.image ≡ no_bytes) in
     let after : Elapses moment_of since_of (past, output) (later, output ++ bytes) P =
     subst (λ (l : List ℕ). Elapses moment_of since_of (past, output) (l, output ++ bytes) P) (sym one_more) (added past output bytes) in
     subst (λ (l : List ℕ). Elapses moment_of since_of (past, output) (later, l) P) (sym appended) after

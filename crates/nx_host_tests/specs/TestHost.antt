@@ -1,13 +1,10 @@
 -- What the host of tests tells of its moments: a disk that stays empty, and an output that only grows.
-use Rattle.std.specs.Prelude.{◌≡◌, ◌⊎◌, ℕ, List, [], ◌∷◌, length, take, drop, Option, Some, IsSome, refl}
+use Rattle.std.specs.Prelude.{◌≡◌, ◌⊎◌, ◌≤◌, ◌<◌, ◌+◌, ◌-◌, ℕ, zero, suc, List, [], ◌∷◌, length, take, drop, Option, Some, IsSome, refl}
 use Rattle.std.specs.Option.{unwrap_or, is_some}
-use Rattle.std.proofs.Common.{inl, inr, sym, ap}
-use Rattle.nx_host.specs.Disk.{Image}
+use Rattle.std.proofs.Common.{inl, inr, sym, ap, subst, ◌∙◌, arith}
+use Rattle.std.proofs.lemmas.List.{get_or-drop, drop-drop}
+use Rattle.nx_host.specs.Disk.{Image, AreBytes, no_bytes}
 use Rattle.nx_host.specs.Time.{Stood}
-
--- both areas are empty
-abbrev pub nothing : Image
-nothing = record { pages = []; log = [] }
 
 -- What is told is a front of the output, of one of these lengths.
 abbrev pub WasFront : List ℕ → List ℕ → Option (List ℕ) → Type 0
@@ -16,11 +13,11 @@ WasFront (n ∷ past) output seen = (seen ≡ Some (take n output)) ⊎ WasFront
 
 -- At some moment from t on this stood: an empty disk, and the output or a front of it. `past` has the output's length at each moment before now.
 pub record StoodSince (past output : List ℕ) (t : ℕ) (s : Stood) : Type 0 where
-  pub empty : s.image ≡ nothing
+  pub empty : s.image ≡ no_bytes
   pub front : (s.output ≡ Some output) ⊎ WasFront (drop t past) output s.output
 
-pub only_nothing : (image : Image) → Some nothing ≡ Some image → image ≡ nothing
-only_nothing image is = sym (ap (λ (o : Option Image). unwrap_or o nothing) is)
+pub only_nothing : (image : Image) → Some no_bytes ≡ Some image → image ≡ no_bytes
+only_nothing image is = sym (ap (λ (o : Option Image). unwrap_or o no_bytes) is)
 
 told_front : (past output : List ℕ) (seen : Option (List ℕ)) → WasFront past output seen → IsSome seen
 told_front [] output seen was = absurd was
@@ -36,7 +33,7 @@ pub told : (past output : List ℕ) (t : ℕ) (s : Stood) → StoodSince past ou
 told past output t s since = told_either (drop t past) output s.output since.front
 
 -- what is there now stands since any of them
-pub stands : (past output : List ℕ) (t : ℕ) (image : Image) → image ≡ nothing → StoodSince past output t (record { output = Some output; image = image })
+pub stands : (past output : List ℕ) (t : ℕ) (image : Image) → image ≡ no_bytes → StoodSince past output t (record { output = Some output; image = image })
 stands past output t image is = record { empty = is; front = inl refl }
 
 none_left : (past output : List ℕ) (seen : Option (List ℕ)) → WasFront (drop (length past) past) output seen → ⊥
@@ -48,5 +45,27 @@ only_front past output seen (inl now) = now
 only_front past output seen (inr was) = absurd (none_left past output seen was)
 
 -- and nothing else since this one
-pub only_whole : (past output : List ℕ) (s : Stood) → StoodSince past output (length past) s → (s.output ≡ Some output) × (s.image ≡ nothing)
+pub only_whole : (past output : List ℕ) (s : Stood) → StoodSince past output (length past) s → (s.output ≡ Some output) × (s.image ≡ no_bytes)
 only_whole past output s since = (only_front past output s.output since.front, since.empty)
+
+-- what stood since a later moment
+pub earlier : (past output : List ℕ) (t u : ℕ) (s : Stood) → t ≤ u → StoodSince past output u s → StoodSince past output t s
+earlier past output t u s le since = record { empty = since.empty; front = before since.front }
+  where
+    longer : (n : ℕ) (lengths : List ℕ) → WasFront (drop n lengths) output s.output → WasFront lengths output s.output
+    longer zero lengths was = was
+    longer (suc n) [] was = was
+    longer (suc n) (x ∷ lengths) was = inr (longer n lengths was)
+
+    cut : drop (u - t) (drop t past) ≡ drop u past
+    cut = drop-drop (u - t) t past ∙ ap (λ (k : ℕ). drop k past) (let e : t + (u - t) ≡ u = omega (arith, le) in e)
+
+    before : (s.output ≡ Some output) ⊎ WasFront (drop u past) output s.output → (s.output ≡ Some output) ⊎ WasFront (drop t past) output s.output
+    before (inl now) = inl now
+    before (inr was) = inr (longer (u - t) (drop t past) (subst (λ (l : List ℕ). WasFront l output s.output) (sym cut) was))
+
+-- the input that is left
+pub bytes_left : (given : ℕ) (input left : List ℕ) → AreBytes input → Some (drop given input) ≡ Some left → AreBytes left
+bytes_left given input left bytes is =
+    let same : drop given input ≡ left = cc in
+    subst AreBytes same (λ i. subst (λ (b : ℕ). b < 256) (sym (get_or-drop given input i 0)) (bytes (given + i)))

@@ -1,6 +1,8 @@
 // A host of tests whose input is one line without end.
 ghost use Rattle.std.specs.Prelude.{◌≡◌, None, IsSome, refl};
 ghost use Rattle.std.proofs.Common.{subst, sym};
+ghost use Rattle.nx_host.specs.Disk.{HoldsBytes, no_bytes};
+ghost use Rattle.nx_host.proofs.DiskLemmas.{no_bytes_hold_bytes, untold};
 
 use nx_host::{Area, Disk, Failed, Host};
 
@@ -16,13 +18,13 @@ pub struct EndlessHost {
 impl Disk for EndlessHost {
     ghost contents = { λ _. None };
 
-    ghost may_leave = { λ _ _. Unit {0} };
+    ghost may_leave = { λ _ image. HoldsBytes image };
 
     ghost beside = { λ _. record { input = None; output = None; in_faults = 0; out_faults = 0 } };
 
     ghost moment = { λ _. 0 };
 
-    ghost stood_since = { λ _ _ stood. stood.output ≡ None };
+    ghost stood_since = { λ _ _ stood. (stood.output ≡ None) × HoldsBytes stood.image };
 
     ghost faults = { λ _. 0 };
 
@@ -44,13 +46,23 @@ impl Disk for EndlessHost {
         Ok(())
     }
 
-    ghost contents_may_stay = { λ _ _ _. tt };
+    ghost contents_may_stay = { λ _ image is. untold image is };
 
-    ghost told_before = { λ _ _ _ _ since told. subst IsSome (sym since) told };
+    ghost told_before = { λ _ _ _ _ since told. subst IsSome (sym since.0) told };
 
-    ghost stands_now = { λ _ _ _ _ _. refl };
+    ghost stands_now = { λ _ _ _ _ left. (refl, left) };
 
-    ghost only_now = { λ _ _ since. (since, tt) };
+    ghost only_now = { λ _ _ since. since };
+
+    ghost since_earlier = { λ _ _ _ _ _ _ since. since };
+
+    ghost some_image = { λ _. (no_bytes, no_bytes_hold_bytes) };
+
+    ghost images_hold_bytes = { λ _ _ left. left };
+
+    ghost past_holds_bytes = { λ _ _ _ _ since. since.1 };
+
+    ghost input_is_bytes = { λ _ input is. untold input is };
 }
 
 impl Host for EndlessHost {

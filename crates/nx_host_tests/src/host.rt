@@ -1,6 +1,9 @@
 // A host of tests that tells its input, its output and its moments.
-ghost use Rattle.std.specs.Prelude.{◌≡◌, ◌+◌, ◌<◌, ◌≤◌, ◌↔◌, [], ◌∷◌, ◌++◌, length, drop, min, Some, IsTrue, OnOk, OnErr};
-ghost use Rattle.nx_host_tests.specs.TestHost.{nothing, StoodSince, only_nothing, told, stands, only_whole};
+ghost use Rattle.std.specs.Prelude.{◌≡◌, ◌+◌, ◌<◌, ◌≤◌, ◌↔◌, [], ◌∷◌, ◌++◌, length, drop, min, Some, IsTrue, OnOk, OnErr, refl};
+ghost use Rattle.nx_host_tests.specs.TestHost.{StoodSince, only_nothing, told, stands, only_whole, earlier, bytes_left};
+ghost use Rattle.nx_host.specs.Disk.{AreBytes, HoldsBytes, no_bytes};
+ghost use Rattle.nx_host.proofs.DiskLemmas.{no_bytes_hold_bytes};
+ghost use Rattle.std.proofs.Common.{subst, sym};
 
 use nx_host::{Area, Disk, Failed, Host};
 use std::alloc::{AllocError, Global};
@@ -47,6 +50,7 @@ pub struct DisklessHost {
     past: Vec<usize>,
     calls: Calls,
     counts: Counts,
+    ghost bytes: { AreBytes input.items },
     ghost given_of_input: { given ≤ length input.items },
     ghost some_piece: { 0 < piece },
 }
@@ -111,9 +115,9 @@ fn append(output: &mut Vec<u8>, past: &mut Vec<usize>, bytes: &[u8]) -> Result<(
 }
 
 impl Disk for DisklessHost {
-    ghost contents = { λ _. Some nothing };
+    ghost contents = { λ _. Some no_bytes };
 
-    ghost may_leave = { λ _ image. image ≡ nothing };
+    ghost may_leave = { λ _ image. image ≡ no_bytes };
 
     ghost beside = { λ host. record {
       input = Some (drop host.given host.input.items);
@@ -137,6 +141,16 @@ impl Disk for DisklessHost {
     ghost stands_now = { λ host t image le may. stands host.past.items host.output.items t image may };
 
     ghost only_now = { λ host s since. only_whole host.past.items host.output.items s since };
+
+    ghost since_earlier = { λ host t u s le now since. earlier host.past.items host.output.items t u s le since };
+
+    ghost some_image = { λ host. (no_bytes, refl) };
+
+    ghost images_hold_bytes = { λ host image is. subst HoldsBytes (sym is) no_bytes_hold_bytes };
+
+    ghost past_holds_bytes = { λ host t s le since. subst HoldsBytes (sym since.empty) no_bytes_hold_bytes };
+
+    ghost input_is_bytes = { λ host input is. bytes_left host.given host.input.items input host.bytes is };
 
     fn length(&mut self, _area: Area) -> Result<u64, Failed> {
         if self.calls.next_fails() {

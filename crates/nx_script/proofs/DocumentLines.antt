@@ -179,10 +179,10 @@ pub within_none : (body : Body) → body.held ≡ [] → HasRead body.reader [] 
 within_none body none read = record { undotted = refl; held = none; read = inl read }
 
 -- the bytes before the first line that begins with a dot are taken, where a line begins
-pub takes_lines : (old new : Body) (mid : Reader) (bytes : List ℕ) (n last : ℕ) → old.held ≡ [] → IsBeforeDot bytes n last →
+pub takes_lines : {old new : Body} {mid : Reader} {bytes : List ℕ} {n last : ℕ} → old.held ≡ [] → IsBeforeDot bytes n last →
     ((s : List ℕ) → HasReadOrFailed old.reader s → HasReadOrFailed mid (s ++ take n bytes)) → new.reader ≡ mid →
     new.held ≡ take 3 (take (n - last) (drop last bytes)) → (s : List ℕ) → IsWithin old s → IsWithin new (s ++ take n bytes)
-takes_lines old new mid bytes n last none before reads same held s within =
+takes_lines {old = old} {new = new} {mid = mid} {bytes = bytes} {n = n} {last = last} none before reads same held s within =
     let rest : (cut s).rest ≡ [] = none_held old.held (cut s).rest within.held none in
     let front : List ℕ = take n bytes in
     let is : cut (s ++ front) ≡ onto (cut s).ended (cut front) = cut-append s front ∙ ap (λ (r : List ℕ). onto (cut s).ended (cut (r ++ front))) rest in
@@ -218,20 +218,25 @@ unread_dot line is = ap (λ (t : Bool). if t then take 3 line else []) (dot_fron
 unread_other : (line : List ℕ) → is_dot (without_cr line) ≡ false → unread (take 3 line) ≡ []
 unread_other line other = ap (λ (t : Bool). if t then take 3 line else []) (dot_front line ∙ other)
 
-module _ (old mid new : Body) (bytes : List ℕ) (unbroken : has_lf bytes ≡ false)
-    (holds : (line : List ℕ) → old.held ≡ take 3 line → mid.held ≡ take 3 (line ++ bytes)) (reader_stays : mid.reader ≡ old.reader) where
+-- A body has held these bytes more, in which is no LF, and has read none.
+pub record HoldsMore (old new : Body) (bytes : List ℕ) : Type 0 where
+  pub unbroken : has_lf bytes ≡ false
+  pub holds : (line : List ℕ) → old.held ≡ take 3 line → new.held ≡ take 3 (line ++ bytes)
+  pub reader_stays : new.reader ≡ old.reader
+
+module _ {old mid : Body} {bytes : List ℕ} (held_more : HoldsMore old mid bytes) where
   -- what begins a line, with these bytes behind it
   held_line : (s : List ℕ) → IsWithin old s → mid.held ≡ take 3 ((cut s).rest ++ bytes)
-  held_line s within = holds (cut s).rest within.held
+  held_line s within = held_more.holds (cut s).rest within.held
 
   held_is_dot : (s : List ℕ) (b : Bool) → IsWithin old s → b ≡ is_dot (without_cr mid.held) → is_dot (without_cr ((cut s).rest ++ bytes)) ≡ b
   held_is_dot s b within is = sym (is ∙ ap (λ (l : List ℕ). is_dot (without_cr l)) (held_line s within) ∙ dot_front ((cut s).rest ++ bytes))
 
   -- bytes that go on are read, behind those that were held alone
-  reads_all : (n : ℕ) (more : List ℕ) → n ≡ length (unread old.held) →
-      ((s : List ℕ) → HasReadOrFailed mid.reader s → HasReadOrFailed new.reader (s ++ (take n mid.held ++ more))) →
-      (s : List ℕ) → IsWithin old s → HasReadOrFailed new.reader (s ++ more)
-  reads_all n more count reads s within = by_dot (is_dot (without_cr (cut s).rest)) refl
+  reads_all : {reader : Reader} (n : ℕ) (more : List ℕ) → n ≡ length (unread old.held) →
+      ((s : List ℕ) → HasReadOrFailed mid.reader s → HasReadOrFailed reader (s ++ (take n mid.held ++ more))) →
+      (s : List ℕ) → IsWithin old s → HasReadOrFailed reader (s ++ more)
+  reads_all {reader = reader} n more count reads s within = by_dot (is_dot (without_cr (cut s).rest)) refl
     where
       kept : take n mid.held ≡ unread (take 3 (cut s).rest)
       kept =
@@ -239,53 +244,53 @@ module _ (old mid new : Body) (bytes : List ℕ) (unbroken : has_lf bytes ≡ fa
           ∙ ap (take (length (unread (take 3 (cut s).rest)))) (held_line s within)
           ∙ unread_kept (cut s).rest bytes
 
-      by_dot : (t : Bool) → is_dot (without_cr (cut s).rest) ≡ t → HasReadOrFailed new.reader (s ++ more)
+      by_dot : (t : Bool) → is_dot (without_cr (cut s).rest) ≡ t → HasReadOrFailed reader (s ++ more)
       by_dot true is =
           let f = read_front old.reader s [] (ap (λ (l : List ℕ). is_dot (without_cr l)) (append-nil (cut s).rest) ∙ is) within.read in
-          subst (HasReadOrFailed new.reader)
+          subst (HasReadOrFailed reader)
           (ap (λ (l : List ℕ). f.front ++ (l ++ more)) (kept ∙ unread_dot (cut s).rest is)
           ∙ sym (append_assoc f.front (cut s).rest more)
           ∙ ap (λ (l : List ℕ). l ++ more) (sym f.parts))
-          (reads f.front (same_reader old.reader mid.reader f.front reader_stays f.read).read)
+          (reads f.front (same_reader old.reader mid.reader f.front held_more.reader_stays f.read).read)
       by_dot false other =
-          subst (HasReadOrFailed new.reader) (ap (λ (l : List ℕ). s ++ (l ++ more)) (kept ∙ unread_other (cut s).rest other))
-          (reads s (subst (λ (r : Reader). HasReadOrFailed r s) (sym reader_stays) (from_none old.reader s other within.read)))
+          subst (HasReadOrFailed reader) (ap (λ (l : List ℕ). s ++ (l ++ more)) (kept ∙ unread_other (cut s).rest other))
+          (reads s (subst (λ (r : Reader). HasReadOrFailed r s) (sym held_more.reader_stays) (from_none old.reader s other within.read)))
 
   -- a line goes on that can't be the dot
-  pub goes_on_read : new.held ≡ mid.held → (dot : Bool) → dot ≡ is_dot (without_cr mid.held) → dot ≡ false → (n : ℕ) → n ≡ length (unread old.held) →
+  pub goes_on_read : {new : Body} {dot : Bool} → new.held ≡ mid.held → dot ≡ is_dot (without_cr mid.held) → dot ≡ false → (n : ℕ) → n ≡ length (unread old.held) →
       ((s : List ℕ) → HasReadOrFailed mid.reader s → HasReadOrFailed new.reader (s ++ (take n mid.held ++ bytes))) → (s : List ℕ) → IsWithin old s → IsWithin new (s ++ bytes)
-  goes_on_read held dot is none n count reads s within =
-      let rest : (cut (s ++ bytes)).rest ≡ (cut s).rest ++ bytes = rest-held s bytes unbroken in
+  goes_on_read {new = new} {dot = dot} held is none n count reads s within =
+      let rest : (cut (s ++ bytes)).rest ≡ (cut s).rest ++ bytes = rest-held s bytes held_more.unbroken in
       record {
-        undotted = ap has_dot (ended_lines-held s bytes unbroken) ∙ within.undotted;
+        undotted = ap has_dot (ended_lines-held s bytes held_more.unbroken) ∙ within.undotted;
         held = held ∙ held_line s within ∙ ap (take 3) (sym rest);
         read = up_to_none new.reader (s ++ bytes) (ap (λ (l : List ℕ). is_dot (without_cr l)) rest ∙ held_is_dot s dot within is ∙ none) (reads_all n bytes count reads s within);
       }
 
   -- a line goes on that may be the dot
-  pub goes_on_dotted : (dot : Bool) → dot ≡ is_dot (without_cr mid.held) → dot ≡ true → (s : List ℕ) → IsWithin old s → IsWithin mid (s ++ bytes)
-  goes_on_dotted dot is some s within =
-      let rest : (cut (s ++ bytes)).rest ≡ (cut s).rest ++ bytes = rest-held s bytes unbroken in
+  pub goes_on_dotted : {dot : Bool} → dot ≡ is_dot (without_cr mid.held) → dot ≡ true → (s : List ℕ) → IsWithin old s → IsWithin mid (s ++ bytes)
+  goes_on_dotted {dot = dot} is some s within =
+      let rest : (cut (s ++ bytes)).rest ≡ (cut s).rest ++ bytes = rest-held s bytes held_more.unbroken in
       let may : is_dot (without_cr ((cut s).rest ++ bytes)) ≡ true = held_is_dot s dot within is ∙ some in
       let f = read_front old.reader s bytes may within.read in
       record {
-        undotted = ap has_dot (ended_lines-held s bytes unbroken) ∙ within.undotted;
+        undotted = ap has_dot (ended_lines-held s bytes held_more.unbroken) ∙ within.undotted;
         held = held_line s within ∙ ap (take 3) (sym rest);
         read = up_to_dot mid.reader (s ++ bytes) f.front (ap (λ (l : List ℕ). is_dot (without_cr l)) rest ∙ may)
             (ap (λ (l : List ℕ). l ++ bytes) f.parts ∙ append_assoc f.front (cut s).rest bytes ∙ ap (λ (l : List ℕ). f.front ++ l) (sym rest))
-            (same_reader old.reader mid.reader f.front reader_stays f.read);
+            (same_reader old.reader mid.reader f.front held_more.reader_stays f.read);
       }
 
   -- an LF ends a line that isn't the dot
-  pub ends_read : new.held ≡ [] → (ended : Bool) → ended ≡ is_dot (without_cr mid.held) → ended ≡ false → (n : ℕ) → n ≡ length (unread old.held) →
+  pub ends_read : {new : Body} {ended : Bool} → new.held ≡ [] → ended ≡ is_dot (without_cr mid.held) → ended ≡ false → (n : ℕ) → n ≡ length (unread old.held) →
       ((s : List ℕ) → HasReadOrFailed mid.reader s → HasReadOrFailed new.reader (s ++ (take n mid.held ++ (bytes ++ 10 ∷ [])))) →
       (s : List ℕ) → IsWithin old s → Stands ended new (s ++ (bytes ++ 10 ∷ []))
-  ends_read held ended is none n count reads s within =
+  ends_read {new = new} {ended = ended} held is none n count reads s within =
       let other : is_dot (without_cr ((cut s).rest ++ bytes)) ≡ false = held_is_dot s ended within is ∙ none in
-      let rest : (cut (s ++ (bytes ++ 10 ∷ []))).rest ≡ [] = rest-ended s bytes unbroken in
+      let rest : (cut (s ++ (bytes ++ 10 ∷ []))).rest ≡ [] = rest-ended s bytes held_more.unbroken in
       subst (λ (b : Bool). Stands b new (s ++ (bytes ++ 10 ∷ []))) (sym none)
       (record {
-        undotted = ap has_dot (ended_lines-ended s bytes unbroken)
+        undotted = ap has_dot (ended_lines-ended s bytes held_more.unbroken)
             ∙ list_any-append is_dot (ended_lines s) (without_cr ((cut s).rest ++ bytes) ∷ [])
             ∙ or_from _ _ within.undotted (or_from _ _ other refl);
         held = held ∙ ap (take 3) (sym rest);
@@ -293,23 +298,23 @@ module _ (old mid new : Body) (bytes : List ℕ) (unbroken : has_lf bytes ≡ fa
       })
 
   -- an LF ends the dot
-  pub ends_dot : new.reader ≡ mid.reader → (ended : Bool) → ended ≡ is_dot (without_cr mid.held) → ended ≡ true →
+  pub ends_dot : (new : Body) {ended : Bool} → new.reader ≡ mid.reader → ended ≡ is_dot (without_cr mid.held) → ended ≡ true →
       (s : List ℕ) → IsWithin old s → Stands ended new (s ++ (bytes ++ 10 ∷ []))
-  ends_dot same ended is dot s within =
+  ends_dot new {ended = ended} same is dot s within =
       let last : is_dot (without_cr ((cut s).rest ++ bytes)) ≡ true = held_is_dot s ended within is ∙ dot in
       let f = read_front old.reader s bytes last within.read in
       let before : ended_lines s ≡ ended_lines f.front = ap ended_lines f.parts ∙ ended_lines-held f.front (cut s).rest (cut-rest s) in
       subst (λ (b : Bool). Stands b new (s ++ (bytes ++ 10 ∷ []))) (sym dot)
       (record {
         front = f.front;
-        before = λ more. before_dot-ended s bytes more unbroken within.undotted last ∙ joined-front f.front s f.parts f.read.ended;
-        after = λ more. after_dot-ended s bytes more unbroken within.undotted last;
-        lines_are = ended_lines-ended s bytes unbroken
+        before = λ more. before_dot-ended s bytes more held_more.unbroken within.undotted last ∙ joined-front f.front s f.parts f.read.ended;
+        after = λ more. after_dot-ended s bytes more held_more.unbroken within.undotted last;
+        lines_are = ended_lines-ended s bytes held_more.unbroken
             ∙ ap (λ (l : List ℕ). ended_lines s ++ l ∷ []) ((bytes_eq-Decides (without_cr ((cut s).rest ++ bytes)) (codes ".")).0 last)
             ∙ ap (λ (ls : List (List ℕ)). ls ++ codes "." ∷ []) before;
         undotted = ap has_dot (sym before) ∙ within.undotted;
-        read = same_reader mid.reader new.reader f.front same (same_reader old.reader mid.reader f.front reader_stays f.read);
-        ended = rest-ended s bytes unbroken;
+        read = same_reader mid.reader new.reader f.front same (same_reader old.reader mid.reader f.front held_more.reader_stays f.read);
+        ended = rest-ended s bytes held_more.unbroken;
       })
 
 -- What the lines say before the dot.
@@ -337,10 +342,10 @@ said_read reader tree result is ok again s (inl read) = ok s read
 said_read reader tree result is ok again s (inr (error, failed, shown)) = absurd (let no_error : Ok tree ≡ Err (Pyx error) = sym is ∙ again (Pyx error) failed in cc)
 
 -- or its fault
-pub said_wrong : (reader : Reader) (e : PyxError) (fault : ReadError) (result : Result OrderedTree ReadError) → result ≡ Err fault → fault ≡ Pyx e →
+pub said_wrong : {reader : Reader} {e : PyxError} {fault : ReadError} {result : Result OrderedTree ReadError} → result ≡ Err fault → fault ≡ Pyx e →
     ((s : List ℕ) → HasRead reader s → Fails fault (fault_of s)) → ((e : ReadError) → HasFailed reader e → result ≡ Err e) → (s : List ℕ) → HasReadOrFailed reader s → fault_of s ≡ Some e
-said_wrong reader e fault result is fault_is fails again s (inl read) = subst (λ (f : ReadError). Fails f (fault_of s)) fault_is (fails s read)
-said_wrong reader e fault result is fault_is fails again s (inr (error, failed, shown)) =
+said_wrong {reader = reader} {e = e} {fault = fault} {result = result} is fault_is fails again s (inl read) = subst (λ (f : ReadError). Fails f (fault_of s)) fault_is (fails s read)
+said_wrong {reader = reader} {e = e} {fault = fault} {result = result} is fault_is fails again s (inr (error, failed, shown)) =
     let same : ◌≡◌ {A = Result OrderedTree ReadError} (Err (Pyx e)) (Err (Pyx error)) = ap (λ f. Err f) (sym fault_is) ∙ sym is ∙ again (Pyx error) failed in
     let same_error : e ≡ error = cc in
     ap fault_of (sym (append-nil s)) ∙ fault_shown s [] error shown ∙ ap (λ (x : PyxError). Some x) (sym same_error)
@@ -352,21 +357,21 @@ says_lines s (Wrong error) ended fault =
     ap (λ (ls : List (List ℕ)). option_map_or (λ e. Some e) (first_fault [] ls) (fault_at_end ls)) (sym (lines-whole s ended)) ∙ fault
 
 -- a piece that the reader takes
-pub feeds : (old new : Reader) (bytes : List ℕ) (result : Result (Unit {0}) ReadError) → result ≡ Ok tt →
+pub feeds : {old new : Reader} {bytes : List ℕ} {result : Result (Unit {0}) ReadError} → result ≡ Ok tt →
     ((s : List ℕ) → HasRead old s → HasRead new (s ++ bytes)) →
     ((e : ReadError) → HasFailed old e → (result ≡ Err e) × HasFailed new e) →
     (s : List ℕ) → HasReadOrFailed old s → HasReadOrFailed new (s ++ bytes)
-feeds old new bytes result is ok again s (inl read) = inl (ok s read)
-feeds old new bytes result is ok again s (inr (error, failed, shown)) = absurd (let no_error : Ok tt ≡ Err (Pyx error) = sym is ∙ (again (Pyx error) failed).0 in cc)
+feeds {old = old} {new = new} {bytes = bytes} {result = result} is ok again s (inl read) = inl (ok s read)
+feeds {old = old} {new = new} {bytes = bytes} {result = result} is ok again s (inr (error, failed, shown)) = absurd (let no_error : Ok tt ≡ Err (Pyx error) = sym is ∙ (again (Pyx error) failed).0 in cc)
 
 -- a piece with which the stream shows a fault
-pub feeds_fault : (old new : Reader) (bytes : List ℕ) (result : Result (Unit {0}) ReadError) (fault : ReadError) (e : PyxError) → fault ≡ Pyx e → HasFailed new fault →
+pub feeds_fault : {old new : Reader} (bytes : List ℕ) {result : Result (Unit {0}) ReadError} {fault : ReadError} {e : PyxError} → fault ≡ Pyx e → HasFailed new fault →
     ((s : List ℕ) → HasRead old s → Fails fault (shown_fault (s ++ bytes))) →
     ((e : ReadError) → HasFailed old e → (result ≡ Err e) × HasFailed new e) →
     (s : List ℕ) → HasReadOrFailed old s → HasReadOrFailed new (s ++ bytes)
-feeds_fault old new bytes result fault e is now fails again s (inl read) =
+feeds_fault {old = old} {new = new} bytes {result = result} {fault = fault} {e = e} is now fails again s (inl read) =
     inr (e, now ∙ ap (λ (f : ReadError). Some f) is, subst (λ (f : ReadError). Fails f (shown_fault (s ++ bytes))) is (fails s read))
-feeds_fault old new bytes result fault e is now fails again s (inr (error, failed, shown)) = inr (error, (again (Pyx error) failed).1, fault_shows s bytes error shown)
+feeds_fault {old = old} {new = new} bytes {result = result} {fault = fault} {e = e} is now fails again s (inr (error, failed, shown)) = inr (error, (again (Pyx error) failed).1, fault_shows s bytes error shown)
 
 -- a line without its LF
 pub without_last : (line rest : List ℕ) → rest ≡ line ++ 10 ∷ [] → take (length rest - 1) rest ≡ line
@@ -375,29 +380,29 @@ without_last line rest is =
     ap (take (length rest - 1)) is ∙ take_at line (10 ∷ []) (length rest - 1) size
 
 -- bytes of which a line and its LF consist
-pub stands_ended : (old new : Body) (ended : Bool) (line rest : List ℕ) → rest ≡ line ++ 10 ∷ [] → ((s : List ℕ) → IsWithin old s → Stands ended new (s ++ (line ++ 10 ∷ []))) →
+pub stands_ended : {old : Body} (new : Body) (ended : Bool) (line : List ℕ) {rest : List ℕ} → rest ≡ line ++ 10 ∷ [] → ((s : List ℕ) → IsWithin old s → Stands ended new (s ++ (line ++ 10 ∷ []))) →
     (s : List ℕ) → IsWithin old s → Stands ended new (s ++ rest)
-stands_ended old new ended line rest is stands s within = subst (λ (l : List ℕ). Stands ended new (s ++ l)) (sym is) (stands s within)
+stands_ended {old = old} new ended line {rest = rest} is stands s within = subst (λ (l : List ℕ). Stands ended new (s ++ l)) (sym is) (stands s within)
 
-pub reads_ended : (old : Reader) (mid new : Body) (unread line rest : List ℕ) → new ≡ mid → rest ≡ line ++ 10 ∷ [] →
+pub reads_ended : {old : Reader} {mid new : Body} (unread line : List ℕ) {rest : List ℕ} → new ≡ mid → rest ≡ line ++ 10 ∷ [] →
     ((s : List ℕ) → HasReadOrFailed old s → HasReadOrFailed mid.reader (s ++ (unread ++ rest))) →
     (s : List ℕ) → HasReadOrFailed old s → HasReadOrFailed new.reader (s ++ (unread ++ (line ++ 10 ∷ [])))
-reads_ended old mid new unread line rest same is reads s read =
+reads_ended {old = old} {mid = mid} {new = new} unread line {rest = rest} same is reads s read =
     subst (λ (b : Body). HasReadOrFailed b.reader (s ++ (unread ++ (line ++ 10 ∷ [])))) (sym same)
     (subst (λ (l : List ℕ). HasReadOrFailed mid.reader (s ++ (unread ++ l))) is (reads s read))
 
 -- bytes behind those that were held
-pub reads_both : (old mid new : Reader) (held unread bytes : List ℕ) (n : ℕ) → unread ≡ take n held →
+pub reads_both : {old mid new : Reader} (held : List ℕ) {unread bytes : List ℕ} (n : ℕ) → unread ≡ take n held →
     ((s : List ℕ) → HasReadOrFailed old s → HasReadOrFailed mid (s ++ unread)) →
     ((s : List ℕ) → HasReadOrFailed mid s → HasReadOrFailed new (s ++ bytes)) →
     (s : List ℕ) → HasReadOrFailed old s → HasReadOrFailed new (s ++ (take n held ++ bytes))
-reads_both old mid new held unread bytes n is first second s read =
+reads_both {old = old} {mid = mid} {new = new} held {unread = unread} {bytes = bytes} n is first second s read =
     subst (HasReadOrFailed new) (append_assoc s unread bytes ∙ ap (λ (l : List ℕ). s ++ (l ++ bytes)) is) (second (s ++ unread) (first s read))
 
 -- a line that goes on with what stands before an LF
-pub holds_ended : (old new : List ℕ) (line rest : List ℕ) (n : ℕ) → n ≡ length rest - 1 → rest ≡ line ++ 10 ∷ [] →
+pub holds_ended : {old new : List ℕ} (line : List ℕ) {rest : List ℕ} {n : ℕ} → n ≡ length rest - 1 → rest ≡ line ++ 10 ∷ [] →
     ((front : List ℕ) → old ≡ take 3 front → new ≡ take 3 (front ++ take n rest)) → (front : List ℕ) → old ≡ take 3 front → new ≡ take 3 (front ++ line)
-holds_ended old new line rest n size is holds front held =
+holds_ended {old = old} {new = new} line {rest = rest} {n = n} size is holds front held =
     holds front held ∙ ap (λ (l : List ℕ). take 3 (front ++ l)) (ap (λ (k : ℕ). take k rest) size ∙ without_last line rest is)
 
 -- all bytes are taken

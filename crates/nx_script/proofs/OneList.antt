@@ -124,10 +124,10 @@ unended_whole (line ∷ ls) others command whole (begins, undotted) =
     absurd (cc)
 
 -- the first group is one, and its command
-one_group : (own other more behind : List (List ℕ)) (c d : Command) → IsWhole own c → IsWhole other d → own ++ more ≡ other ++ behind → (more ≡ behind) × (c ≡ d)
-one_group [] other more behind c d p q is = absurd p
-one_group (line ∷ a) [] more behind c d p q is = absurd q
-one_group (line ∷ a) (second ∷ b) more behind c d p q is =
+one_group : (own other : List (List ℕ)) {more behind : List (List ℕ)} {c d : Command} → IsWhole own c → IsWhole other d → own ++ more ≡ other ++ behind → (more ≡ behind) × (c ≡ d)
+one_group [] other {more = more} {behind = behind} {c = c} {d = d} p q is = absurd p
+one_group (line ∷ a) [] {more = more} {behind = behind} {c = c} {d = d} p q is = absurd q
+one_group (line ∷ a) (second ∷ b) {more = more} {behind = behind} {c = c} {d = d} p q is =
     let first : line ≡ second = cc in
     let rest : a ++ more ≡ b ++ behind = cc in
     let again : IsWhole (line ∷ b) d = subst (λ (l : List ℕ). IsWhole (l ∷ b) d) (sym first) q in
@@ -153,13 +153,13 @@ one_group (line ∷ a) (second ∷ b) more behind c d p q is =
 -- All groups.
 
 -- lines give one list of whole commands, and leave one list of lines
-one_giving : (ls : List (List ℕ)) (c d : List Command) (x y : List (List ℕ)) → Gives ls c x → Gives ls d y → IsUnended x → IsUnended y → (c ≡ d) × (x ≡ y)
-one_giving ls [] [] x y p q u v = (refl, sym p ∙ q)
-one_giving ls [] (d ∷ ds) x y p (own, others, is, whole, gives) u v = absurd (unended_whole own others d whole (subst IsUnended (sym p ∙ is) u))
-one_giving ls (c ∷ cs) [] x y (own, others, is, whole, gives) q u v = absurd (unended_whole own others c whole (subst IsUnended (sym q ∙ is) v))
-one_giving ls (c ∷ cs) (d ∷ ds) x y (own, others, is, whole, gives) (own', others', is', whole', gives') u v =
-    let (left, first) = one_group own own' others others' c d whole whole' (sym is ∙ is') in
-    let (rest, ends) = one_giving others cs ds x y gives (subst (λ (l : List (List ℕ)). Gives l ds y) (sym left) gives') u v in
+one_giving : (ls : List (List ℕ)) (c d : List Command) {x y : List (List ℕ)} → Gives ls c x → Gives ls d y → IsUnended x → IsUnended y → (c ≡ d) × (x ≡ y)
+one_giving ls [] [] {x = x} {y = y} p q u v = (refl, sym p ∙ q)
+one_giving ls [] (d ∷ ds) {x = x} {y = y} p (own, others, is, whole, gives) u v = absurd (unended_whole own others d whole (subst IsUnended (sym p ∙ is) u))
+one_giving ls (c ∷ cs) [] {x = x} {y = y} (own, others, is, whole, gives) q u v = absurd (unended_whole own others c whole (subst IsUnended (sym q ∙ is) v))
+one_giving ls (c ∷ cs) (d ∷ ds) {x = x} {y = y} (own, others, is, whole, gives) (own', others', is', whole', gives') u v =
+    let (left, first) = one_group own own' whole whole' (sym is ∙ is') in
+    let (rest, ends) = one_giving others cs ds gives (subst (λ (l : List (List ℕ)). Gives l ds y) (sym left) gives') u v in
     (ap (λ (h : Command). h ∷ cs) first ∙ ap (λ (t : List Command). d ∷ t) rest, ends)
 
 -- lines give whole commands, and then no line or a document that isn't ended
@@ -205,7 +205,7 @@ one_list bytes =
       commands = commands ++ cut_off rest;
       are = (commands, rest, gives, unended, refl);
       only = λ others (whole, left, gives', unended', is).
-          let (same, ends) = one_giving (lines bytes) whole commands left rest gives' gives unended' unended in
+          let (same, ends) = one_giving (lines bytes) whole commands gives' gives unended' unended in
           is ∙ ap (λ (l : List Command). l ++ cut_off left) same ∙ ap (λ (l : List (List ℕ)). commands ++ cut_off l) ends;
     }
 

@@ -41,20 +41,20 @@ parsed_outside parser seen commands outside gives held =
     record { rest = []; gives = gives; keeps = subst (λ (l : Option Load). Keeps l parser.held seen []) (sym outside) (refl, held) }
 
 -- more of a line is held
-pub holds_line : (old new : Parser) (bytes : List ℕ) → has_lf bytes ≡ false → old.load ≡ None → new.load ≡ old.load →
+pub holds_line : {old new : Parser} {bytes : List ℕ} → has_lf bytes ≡ false → old.load ≡ None → new.load ≡ old.load →
     ((line : List ℕ) → old.held ≡ take most_held line → new.held ≡ take most_held (line ++ bytes)) →
     (seen : List ℕ) (commands : List Command) → HasParsed old seen commands → HasParsed new (seen ++ bytes) commands
-holds_line old new bytes unbroken outside same holds seen commands parsed =
+holds_line {old = old} {new = new} {bytes = bytes} unbroken outside same holds seen commands parsed =
     let (gives, held) = kept_outside old seen commands outside parsed in
     parsed_outside new (seen ++ bytes) commands (same ∙ outside)
     (subst (λ (ls : List (List ℕ)). Gives ls commands []) (sym (ended_lines-held seen bytes unbroken)) gives)
     (holds (cut seen).rest held ∙ ap (take most_held) (sym (rest-held seen bytes unbroken)))
 
 -- a line ends
-pub adds_line : (old new : Parser) (bytes line : List ℕ) (command : Option Command) → has_lf bytes ≡ false → old.load ≡ None → new.held ≡ [] →
+pub adds_line : {old new : Parser} {bytes line : List ℕ} (command : Option Command) → has_lf bytes ≡ false → (old.load ≡ None) × (new.held ≡ []) →
     ((rest : List ℕ) → old.held ≡ take most_held rest → MeansSame line (without_cr (rest ++ bytes))) → Adds line new command →
     (seen : List ℕ) (commands : List Command) → HasParsed old seen commands → HasParsed new (seen ++ (bytes ++ 10 ∷ [])) (with_command commands command)
-adds_line old new bytes line command unbroken outside none means adds seen commands parsed =
+adds_line {old = old} {new = new} {bytes = bytes} {line = line} command unbroken (outside, none) means adds seen commands parsed =
     let (gives, held) = kept_outside old seen commands outside parsed in
     let whole : List ℕ = without_cr ((cut seen).rest ++ bytes) in
     by_command command (means (cut seen).rest held) adds
@@ -119,7 +119,7 @@ same_rest-more : (load : Load) (seen bytes head : List ℕ) (ls : List (List ℕ
 same_rest-more load seen bytes head ls loading =
     rest-append loading.stream bytes ∙ ap (λ (rest : List ℕ). (cut (rest ++ bytes)).rest) loading.same_rest ∙ sym (rest-append seen bytes)
 
-module _ (old new : Parser) (load : Load) (body : Body) (bytes : List ℕ) where
+module _ (old : Parser) {new : Parser} {load : Load} {body : Body} {bytes : List ℕ} where
   -- no dot has come
   pub body_goes_on : new.load ≡ Some (record { name = load.name; body = body }) → new.held ≡ old.held →
       ((s : List ℕ) → IsWithin load.body s → IsWithin body (s ++ bytes)) →
@@ -145,11 +145,11 @@ module _ (old new : Parser) (load : Load) (body : Body) (bytes : List ℕ) where
       }
 
   -- a dot has come
-  pub body_ends : (command : Command) → new.load ≡ None → new.held ≡ old.held →
+  pub body_ends : (command : Command) → (new.load ≡ None) × (new.held ≡ old.held) →
       ((s : List ℕ) → IsWithin load.body s → IsEndedBy body (s ++ bytes)) →
       ((line s : List ℕ) → load.name ≡ loaded_name line → HasReadLines body.reader s → Loads line (ended_lines s) command) →
       (seen : List ℕ) (commands : List Command) → HasParsed (record old { load = Some load }) seen commands → HasParsed new (seen ++ bytes) (commands ++ command ∷ [])
-  body_ends command outside same ends loads seen commands parsed = by_rest parsed.rest parsed.gives parsed.keeps
+  body_ends command (outside, same) ends loads seen commands parsed = by_rest parsed.rest parsed.gives parsed.keeps
     where
       by_rest : (rest : List (List ℕ)) → Gives (ended_lines seen) commands rest → Keeps (Some load) old.held seen rest → HasParsed new (seen ++ bytes) (commands ++ command ∷ [])
       by_rest [] gives keeps = absurd keeps
@@ -282,8 +282,8 @@ takes_all old new bytes parses seen commands parsed =
     subst (λ (l : List ℕ). HasParsed new (seen ++ l) commands) (sym (take_all (length bytes) bytes (omega arith))) (parses seen commands parsed)
 
 -- a line and its LF are taken
-pub takes_to_end : (old new : Parser) (bytes : List ℕ) (end : ℕ) (command : Option Command) → EndsLine bytes end →
+pub takes_to_end : {old new : Parser} {bytes : List ℕ} (end : ℕ) (command : Option Command) → EndsLine bytes end →
     ((seen : List ℕ) (commands : List Command) → HasParsed old seen commands → HasParsed new (seen ++ (take end bytes ++ 10 ∷ [])) (with_command commands command)) →
     (seen : List ℕ) (commands : List Command) → HasParsed old seen commands → HasParsed new (seen ++ take (end + 1) bytes) (with_command commands command)
-takes_to_end old new bytes end command ends parses seen commands parsed =
+takes_to_end {old = old} {new = new} {bytes = bytes} end command ends parses seen commands parsed =
     subst (λ (l : List ℕ). HasParsed new (seen ++ l) (with_command commands command)) (sym (line_taken bytes end ends)) (parses seen commands parsed)

@@ -9,7 +9,7 @@ use Rattle.std.proofs.lemmas.List.{length-drop, take-append-drop}
 use Rattle.nx_host.specs.Input.{block_of, most_input}
 use Rattle.nx_script.specs.declared.command.Command.{Command}
 use Rattle.nx_script.specs.declared.error.ScriptError.{ScriptError}
-use Rattle.nx_script.specs.declared.error.ScriptError.TheVariants.{Read, TooMuch}
+use Rattle.nx_script.specs.declared.error.ScriptError.TheVariants.{Read, TooMuch, Memory}
 use Rattle.nx_script.specs.declared.parser.Load.{Load}
 use Rattle.nx_script.specs.declared.parser.Parser.{Parser}
 use Rattle.nx_script.specs.declared.script.Script.{Script}
@@ -44,11 +44,11 @@ unfinished_by_bytes script taken commands some given =
     omega arith)
 
 -- the first of the bytes that are left are looked at
-pub looks_at : (old : Script) (parser : Parser) (bytes : List ℕ) (n : ℕ) (command : Option Command) → old.start < length (block_of old.input) → bytes ≡ unread old →
+pub looks_at : {old : Script} {parser : Parser} {bytes : List ℕ} (n : ℕ) (command : Option Command) → old.start < length (block_of old.input) → bytes ≡ unread old →
     ((seen : List ℕ) (commands : List Command) → HasParsed old.parser seen commands → HasParsed parser (seen ++ take n bytes) (with_command commands command)) →
     (taken : List ℕ) (commands : List Command) → HasGiven old taken commands →
     HasGiven (record old { parser = parser; start = old.start + n }) taken (with_command commands command)
-looks_at old parser bytes n command some is parses taken commands given =
+looks_at {old = old} {parser = parser} {bytes = bytes} n command some is parses taken commands given =
     let new = record old { parser = parser; start = old.start + n } in
     let unfinished : old.finished ≡ false = unfinished_by_bytes old taken commands some given in
     let (seen, parts, parsed) = looked old taken commands unfinished given in
@@ -78,10 +78,10 @@ parsed_whole parser seen commands parsed = (parsed.rest, parsed.gives, unended p
     unended (Some load) (head ∷ ls) (none, loading) = (loading.begins, ap has_dot (sym loading.lines_are) ∙ loading.within.undotted)
 
 -- the last command is given, if there is one
-pub ends_by : (old : Script) (parser : Parser) (last : Option Command) → IsDrained old → old.finished ≡ false → old.ended ≡ true →
+pub ends_by : {old : Script} {parser : Parser} (last : Option Command) → IsDrained old → old.finished ≡ false → old.ended ≡ true →
     ((seen : List ℕ) (commands : List Command) → HasParsed old.parser seen commands → AreCommands seen (with_command commands last)) →
     (taken : List ℕ) (commands : List Command) → HasGiven old taken commands → HasGiven (record old { parser = parser; finished = true }) taken (with_command commands last)
-ends_by old parser last drained unfinished ended parses taken commands given = record {
+ends_by {old = old} {parser = parser} last drained unfinished ended parses taken commands given = record {
   counted = given.counted;
   ended = λ _. ended;
   drained = λ _. drained;
@@ -102,11 +102,11 @@ none_finished script finished taken commands given = (
 )
 
 -- the script has finished, and no command was left
-pub ends_none : (old new : Script) (last : Option Command) → ◌≡◌ {A = Result (Option Command) ScriptError} (Ok last) (Ok None) → new.finished ≡ true →
+pub ends_none : {old new : Script} (last : Option Command) → ◌≡◌ {A = Result (Option Command) ScriptError} (Ok last) (Ok None) → new.finished ≡ true →
     ((taken : List ℕ) (commands : List Command) → HasGiven old taken commands → HasGiven new taken (with_command commands last)) →
     (taken : List ℕ) (commands : List Command) → HasGiven old taken commands → HasNone new taken commands
-ends_none old new None is finished gives taken commands given = none_finished new finished taken commands (gives taken commands given)
-ends_none old new (Some command) is finished gives taken commands given = absurd (cc)
+ends_none {old = old} {new = new} None is finished gives taken commands given = none_finished new finished taken commands (gives taken commands given)
+ends_none {old = old} {new = new} (Some command) is finished gives taken commands given = absurd (cc)
 
 -- a command that was given
 pub gives_some : (old new : Script) (command : Option Command) →
@@ -124,35 +124,36 @@ gives_none old new (Some command) is gives = absurd (let some : true ≡ false =
 
 -- What was given of an input.
 
-pub in_input : (old new : Script) (taken : List ℕ) (commands now_commands : List Command) (first now : Option (List ℕ)) → new.ended ≡ old.ended →
+pub in_input : {old new : Script} {taken : List ℕ} {commands now_commands : List Command} {first now : Option (List ℕ)} → new.ended ≡ old.ended →
     HasGivenIn old taken commands first now → HasGiven new taken now_commands → HasGivenIn new taken now_commands first now
-in_input old new taken commands now_commands first now same given gives = record {
+in_input {old = old} {new = new} {taken = taken} {commands = commands} {now_commands = now_commands} {first = first} {now = now} same given gives = record {
   given = gives;
   takes = given.takes;
   end = λ is. given.end (sym same ∙ is);
 }
 
 -- the input goes on
-pub smaller : (was mid now : ℕ) (was_ended mid_ended now_ended : Bool) → mid ≡ was → mid_ended ≡ was_ended → mid_ended ≡ false → mid ≤ now → now ≤ most_input →
+pub smaller : {was mid now : ℕ} {was_ended mid_ended : Bool} (now_ended : Bool) → mid ≡ was → mid_ended ≡ was_ended → mid_ended ≡ false → mid ≤ now → now ≤ most_input →
     (mid < now) ⊎ (now_ended ≡ true) → (most_input - now) + (if now_ended then 0 else 1) < (most_input - was) + (if was_ended then 0 else 1)
-smaller was mid now was_ended mid_ended true same same_end unended le few more = by_end was_ended (sym same_end ∙ unended)
+smaller {was = was} {mid = mid} {now = now} {was_ended = was_ended} {mid_ended = mid_ended} true same same_end unended le few more = by_end was_ended (sym same_end ∙ unended)
   where
     by_end : (ended : Bool) → ended ≡ false → (most_input - now) + 0 < (most_input - was) + (if ended then 0 else 1)
     by_end true is = absurd (let no_end : true ≡ false = is in cc)
     by_end false is = omega arith
-smaller was mid now was_ended mid_ended false same same_end unended le few (inl more) = by_end was_ended (sym same_end ∙ unended)
+smaller {was = was} {mid = mid} {now = now} {was_ended = was_ended} {mid_ended = mid_ended} false same same_end unended le few (inl more) = by_end was_ended (sym same_end ∙ unended)
   where
     by_end : (ended : Bool) → ended ≡ false → (most_input - now) + 1 < (most_input - was) + (if ended then 0 else 1)
     by_end true is = absurd (let no_end : true ≡ false = is in cc)
     by_end false is = omega arith
-smaller was mid now was_ended mid_ended false same same_end unended le few (inr ended) = absurd (let no_end : false ≡ true = ended in cc)
+smaller {was = was} {mid = mid} {now = now} {was_ended = was_ended} {mid_ended = mid_ended} false same same_end unended le few (inr ended) = absurd (let no_end : false ≡ true = ended in cc)
 
 -- the input gives no more
-pub stops : (mid new : Script) (error : ScriptError) (first was now : Option (List ℕ)) (taken more : List ℕ) (commands : List Command) → (error ≡ Read) ⊎ (error ≡ TooMuch) →
-    ◌≡◌ {A = Result (Unit {0}) ScriptError} (Err error) (Err TooMuch) ↔ (mid.input.taken ≡ most_input) → mid.input.taken ≤ most_input → mid.ended ≡ false →
+pub stops : {mid new : Script} {error : ScriptError} {first was now : Option (List ℕ)} (taken more : List ℕ) {commands : List Command} → (error ≡ Read) ⊎ (error ≡ TooMuch) →
+    ◌≡◌ {A = Result (Unit {0}) ScriptError} (Err error) (Err TooMuch) ↔ (mid.input.taken ≡ most_input) → mid.ended ≡ false →
     HasGivenIn mid (taken ++ more) commands first was → HasNone mid (taken ++ more) commands → HasGivenIn new (taken ++ more) commands first now →
     Stops error new taken commands first now
-stops mid new error first was now taken more commands is too_much few unended given (gives, all) after =
+stops {mid = mid} {new = new} {error = error} {first = first} {was = was} {now = now} taken more {commands = commands} is too_much unended given (gives, all) after =
+    let few : mid.input.taken ≤ most_input = mid.input.few in
     let stopped : StopsIn (taken ++ more) commands first now =
     record { takes = after.takes; whole = MatchBool-at_false (AreCommands (taken ++ more) commands) (AreWhole (taken ++ more) commands) unended all } in
     let counted : mid.input.taken ≡ length (taken ++ more) = gives.counted in
@@ -164,3 +165,12 @@ stops mid new error first was now taken more commands is too_much few unended gi
     let all_taken : mid.input.taken ≡ most_input = too_much.0 (ap (λ e. Err e) much) in
     subst (λ (e : ScriptError). Stops e new taken commands first now) (sym much) (more, after, sym counted ∙ all_taken, stopped))
     is
+
+-- memory runs out, and no further byte was taken
+pub stops_memory : {old : Script} (new : Script) {error : ScriptError} {first now : Option (List ℕ)} (taken more : List ℕ) {commands : List Command} → error ≡ Memory →
+    new.input.taken ≡ old.input.taken → HasGivenIn old (taken ++ more) commands first now → Stops error new taken commands first now
+stops_memory {old = old} new {first = first} {now = now} taken more {commands = commands} is same given =
+    let counted : old.input.taken ≡ length (taken ++ more) = given.given.counted in
+    let few : old.input.taken ≤ most_input = old.input.few in
+    subst (λ (e : ScriptError). Stops e new taken commands first now) (sym is)
+    (more, record { counted = same ∙ counted; takes = given.takes }, (let e : length (taken ++ more) ≤ most_input = omega (arith, counted, few) in e))

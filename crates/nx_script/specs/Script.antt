@@ -1,10 +1,10 @@
 -- What a script has given of its input.
-use Rattle.std.specs.Prelude.{◌≡◌, ℕ, ◌+◌, ◌<◌, if◌then◌else◌, true, List, [], ◌∷◌, ◌++◌, length, drop, Option, None, Some}
+use Rattle.std.specs.Prelude.{◌≡◌, ℕ, ◌+◌, ◌<◌, ◌≤◌, if◌then◌else◌, true, List, [], ◌∷◌, ◌++◌, length, drop, Option, None, Some}
 use Rattle.std.specs.Bool.{MatchBool}
 use Rattle.nx_host.specs.declared.input.InputError.{InputError}
 use Rattle.nx_host.specs.declared.input.InputError.TheVariants as input
 use Rattle.nx_host.specs.Host.{Takes, IsAtEnd}
-use Rattle.nx_host.specs.Input.{block_of, most_input}
+use Rattle.nx_host.specs.Input.{HasTaken, block_of, most_input}
 use Rattle.nx_script.specs.declared.command.Command.{Command}
 use Rattle.nx_script.specs.declared.script.Script.{Script}
 use Rattle.nx_script.specs.declared.error.ScriptError.{ScriptError}
@@ -67,4 +67,4 @@ Stops Read script taken commands first now =
     (more : List ℕ) × HasGivenIn script (taken ++ more) commands first now × (length (taken ++ more) < most_input) × StopsIn (taken ++ more) commands first now
 Stops TooMuch script taken commands first now =
     (more : List ℕ) × HasGivenIn script (taken ++ more) commands first now × (length (taken ++ more) ≡ most_input) × StopsIn (taken ++ more) commands first now
-Stops Memory script taken commands first now = Unit {0}
+Stops Memory script taken commands first now = (more : List ℕ) × HasTaken script.input (taken ++ more) first now × (length (taken ++ more) ≤ most_input)

@@ -1,7 +1,7 @@
 //! Scripts: commands that come line by line, and the replies to them.
 //!
-//! `Script` takes the bytes of a script from a host and gives its commands, each as soon as it is
-//! whole; a document's lines are read as they come and never kept as text. `write_reply` gives a
+//! `Parser` makes commands of the bytes of a script, each as soon as it is whole, and `Script` those
+//! of a host's input; a document's lines are read as they come and never kept as text. `write_reply` gives a
 //! reply's text. Which lines are which command, and what a reply's text is, stands in `specs/`,
 //! apart from the code.
 #![tactic(auto)]
@@ -20,6 +20,7 @@ mod write;
 pub use body::Body;
 pub use command::{Command, LineBody, LoadBody, TextBody};
 pub use error::ScriptError;
+pub use parser::Parser;
 pub use reply::{DocLine, DocLines, Reply, ReplyError};
 pub use script::Script;
 pub use write::{push_reply, write_reply};

@@ -25,16 +25,19 @@ pub struct Load {
     pub body: Body,
 }
 
-// Makes commands of the bytes that come.
+/// Makes commands of the bytes of a script, as they come. A document's lines are read and not kept.
+///
+/// After `NoMemory` it is of no further use.
 #[derive(Drop)]
 pub struct Parser {
-    pub alloc: Global,
+    alloc: Global,
     // The first bytes of the line that no LF has ended yet, where it is no line of a document.
-    pub held: Bytes,
-    pub load: Option<Load>,
+    held: Bytes,
+    load: Option<Load>,
 }
 
 impl Parser {
+    /// A parser to which no byte has come.
     pub fn new(alloc: Global) -> Parser
         ensures { HasParsed result [] [] }
     {
@@ -45,8 +48,10 @@ impl Parser {
         }
     }
 
-    // Takes a front of the bytes that come, and gives how many they were and the command that they
-    // end, if they end one.
+    /// Takes a front of the bytes that come, and gives how many they were, at least one, and the
+    /// command that they end, if they end one.
+    ///
+    /// Errors: `NoMemory`.
     pub fn take(&mut self, bytes: &[u8]) -> Result<(usize, Option<Command>), NoMemory>
         requires { 0 < length bytes.now }
         ensures some { IfOk result (λ r. 0 < r.0) }
@@ -60,7 +65,10 @@ impl Parser {
         }
     }
 
-    // The command of the last lines, which no LF or no dot has ended, if there are any.
+    /// The command of the last lines, which no LF or no dot has ended, if there are any, once all
+    /// bytes have come.
+    ///
+    /// Errors: `NoMemory`.
     pub fn finish(&mut self) -> Result<Option<Command>, NoMemory>
         ensures { IfOk result (λ last. (seen : List ℕ) (commands : List Command) → HasParsed self.old seen commands → AreCommands seen (with_command commands last)) }
     {

@@ -3,7 +3,7 @@ ghost use Rattle.std.specs.Prelude.{◌≡◌, ◌<◌, ◌≤◌};
 
 use crate::parser::Parser;
 use crate::{Command, ScriptError};
-use nx_host::{Host, Input};
+use nx_host::{Disk, Host, Input};
 use std::alloc::Global;
 
 /// A script whose bytes come from a host's input.
@@ -51,14 +51,14 @@ impl Script {
     ///
     /// Errors: `Read`, only where the input's count of faults rose; `TooMuch` where 4,294,967,296
     /// bytes were taken; `Memory`. With the first two all commands were given whose last line's LF
-    /// was taken.
+    /// was taken. With any of them no more was taken than 4,294,967,296 bytes.
     pub fn next<H: Host>(&mut self, host: &mut H) -> Result<Option<Command>, ScriptError>
         ensures given { IfOk result (λ next. (first : Option (List ℕ)) (taken : List ℕ) (commands : List Command) →
             HasGivenIn self.old taken commands first (H.beside host.old).input → GivesNext next self.new taken commands first (H.beside host.new).input) }
         ensures err { IfErr result (λ error. (first : Option (List ℕ)) (taken : List ℕ) (commands : List Command) →
             HasGivenIn self.old taken commands first (H.beside host.old).input → Stops error self.new taken commands first (H.beside host.new).input) }
         ensures cause { result ≡ Err Read → Rose (H.beside host.old).in_faults (H.beside host.new).in_faults }
-        ensures alone { TakesAlone H.contents H.may_leave H.beside H.moment H.stood_since H.faults H.reads host.old host.new }
+        ensures alone { TakesAlone ⟦<H as Disk>⟧ host.old host.new }
     {
         loop {
             if let Some(command) = self.ready()? {
@@ -116,7 +116,7 @@ impl Script {
         ensures too_much { (result ≡ Err TooMuch) ↔ (self.old.input.taken ≡ most_input) }
         ensures errors { IfErr result (λ error. (error ≡ Read) ⊎ (error ≡ TooMuch)) }
         ensures cause { result ≡ Err Read → Rose (H.beside host.old).in_faults (H.beside host.new).in_faults }
-        ensures alone { TakesAlone H.contents H.may_leave H.beside H.moment H.stood_since H.faults H.reads host.old host.new }
+        ensures alone { TakesAlone ⟦<H as Disk>⟧ host.old host.new }
     {
         self.start = 0;
         let count = self.input.fill(host)?;

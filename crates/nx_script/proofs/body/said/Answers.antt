@@ -6,4 +6,4 @@ returns-in-Ok c = said_read c.args.reader c.in-Ok.tree c.finish.result c.in-Ok.i
 
 pub returns-in-Err-Pyx : goal.returns-in-Err-Pyx
 returns-in-Err-Pyx c =
-    said_wrong c.args.reader c.in-Err-Pyx.error c.in-Err-Pyx.field-0 c.finish.result c.in-Err-Pyx.is c.in-Err-Pyx.field-0-is c.in-Err-Pyx.ensures.fault c.finish.ensures.again
+    said_wrong c.in-Err-Pyx.is c.in-Err-Pyx.field-0-is c.in-Err-Pyx.ensures.fault c.finish.ensures.again

@@ -5,7 +5,7 @@ use Rattle.nx_host.proofs.input.Input.fill.Goals as goal
 pub returns-clause-ok : goal.returns-clause-ok
 returns-clause-ok g c =
     let s = c.args.self.now in
-    fills s _ c.take_block.new.buffer c.in-Ok.count (g.H.Disk.beside c.args.host.now).input (g.H.Disk.beside c.take_block.new.host).input
+    fills {old = s}
     (buffer_is s.buffer.len s.buffer.items c.take_block.new.buffer
     (let a : s.buffer.len ≡ length s.buffer.items = s.buffer.ok.0 in
     let b : length c.take_block.new.buffer ≡ length c.deref_mut.result.now = c.take_block.auto.buffer in

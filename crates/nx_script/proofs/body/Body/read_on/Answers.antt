@@ -6,6 +6,6 @@ use Rattle.nx_script.proofs.body.Body.read_on.Goals as goal
 pub returns-clause-read : goal.returns-clause-read
 returns-clause-read c =
     on_ok_weaker c.feed-2.result
-    (reads_both c.args.self.now.reader c.feed.new.reader c.feed-2.new.reader c.args.self.now.held (take c.args.unread c.as_slice.result.now) c.args.bytes.now c.args.unread
+    (reads_both c.args.self.now.held c.args.unread
     (ap (take c.args.unread) c.as_slice.ensures) c.in_ok-feed.ensures)
     c.feed-2.ensures

@@ -4,5 +4,5 @@ use Rattle.nx_script.proofs.body.Body.take_lines.Goals as goal
 
 pub returns-clause-stands : goal.returns-clause-stands
 returns-clause-stands c =
-    takes_lines c.args.self.now c.hold.new.self c.feed.new.reader c.args.bytes.now c.before_dot-len.result.0 c.before_dot-len.result.1 c.requires.held c.before_dot-len.ensures
+    takes_lines c.requires.held c.before_dot-len.ensures
     c.in_ok-feed.ensures c.in_ok-hold.ensures.reader (c.in_ok-hold.ensures.held [] c.requires.held)

@@ -3,9 +3,9 @@ use Rattle.nx_script.proofs.parser.Parser.take_line.Goals as goal
 
 pub returns-in_ok-end_line-in-Some-clause-given : goal.returns-in_ok-end_line-in-Some-clause-given
 returns-in_ok-end_line-in-Some-clause-given c =
-    takes_to_end c.args.self.now c.end_line.new.self c.args.bytes.now c.in-Some.end c.in_ok-end_line-in-Some.field-0 c.in-Some.ensures c.in_ok-end_line-in-Some.ensures
+    takes_to_end c.in-Some.end c.in_ok-end_line-in-Some.field-0 c.in-Some.ensures c.in_ok-end_line-in-Some.ensures
 
 pub returns-in_ok-hold-in-None-clause-given : goal.returns-in_ok-hold-in-None-clause-given
 returns-in_ok-hold-in-None-clause-given c =
     takes_all c.args.self.now c.hold.new.self c.args.bytes.now
-    (holds_line c.args.self.now c.hold.new.self c.args.bytes.now c.in-None.ensures c.requires.outside c.in_ok-hold-in-None.ensures.load c.in_ok-hold-in-None.ensures.held)
+    (holds_line c.in-None.ensures c.requires.outside c.in_ok-hold-in-None.ensures.load c.in_ok-hold-in-None.ensures.held)

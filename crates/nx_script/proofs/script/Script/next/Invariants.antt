@@ -12,7 +12,7 @@ invariant-loop-command g l =
     record {
       given : (first : Option (List ℕ)) (taken : List ℕ) (commands : List Command) → HasGivenIn l.initial.self taken commands first (h.beside l.initial.host).input →
           (more : List ℕ) × HasGivenIn l.self (taken ++ more) commands first (h.beside l.host).input;
-      alone : TakesAlone h.contents h.may_leave h.beside h.moment h.stood_since h.faults h.reads l.initial.host l.host;
+      alone : TakesAlone h l.initial.host l.host;
     }
 
 -- as many bytes as may still come, and the input's end

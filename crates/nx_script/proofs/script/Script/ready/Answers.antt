@@ -10,7 +10,7 @@ pub returns-then-is_some-clause-given : goal.returns-then-is_some-clause-given
 returns-then-is_some-clause-given c =
     let s = c.loop-self.self in
     gives_some c.args.self.now _ c.in_ok-len.command
-    (λ taken commands given. looks_at s _ _ c.in_ok-len.len c.in_ok-len.command (omega (arith, ap length c.block.ensures))
+    (λ taken commands given. looks_at c.in_ok-len.len c.in_ok-len.command (omega (arith, ap length c.block.ensures))
     (take_rest c.block-in-loop-self.result.now s.start ∙ ap (drop s.start) c.block-in-loop-self.ensures) c.in_ok-len.ensures.given taken commands
     (c.loop-self.invariant.given taken commands given))
 
@@ -19,7 +19,7 @@ loop-self-preserved c =
     let s = c.loop-self.self in
     record {
       given = gives_none c.args.self.now _ c.in_ok-len.command (sym c.if-is_some.ensures)
-          (λ taken commands given. looks_at s _ _ c.in_ok-len.len c.in_ok-len.command (omega (arith, ap length c.block.ensures))
+          (λ taken commands given. looks_at c.in_ok-len.len c.in_ok-len.command (omega (arith, ap length c.block.ensures))
           (take_rest c.block-in-loop-self.result.now s.start ∙ ap (drop s.start) c.block-in-loop-self.ensures) c.in_ok-len.ensures.given taken commands
           (c.loop-self.invariant.given taken commands given));
       taken = c.loop-self.invariant.taken;
@@ -32,13 +32,13 @@ returns-then-not-self-clause-given c =
     let s = c.loop-self.self in
     let drained : IsDrained s = drop_of_length-le (block_of s.input) (omega (arith, ap length c.block.ensures)) in
     gives_some c.args.self.now _ c.in_ok-finish.field-0
-    (λ taken commands given. ends_by s _ c.in_ok-finish.field-0 drained c.if-not-self.true c.if-self.true c.in_ok-finish.ensures taken commands
+    (λ taken commands given. ends_by c.in_ok-finish.field-0 drained c.if-not-self.true c.if-self.true c.in_ok-finish.ensures taken commands
     (c.loop-self.invariant.given taken commands given))
 
 pub returns-then-not-self-clause-none : goal.returns-then-not-self-clause-none
 returns-then-not-self-clause-none c =
     let s = c.loop-self.self in
     let drained : IsDrained s = drop_of_length-le (block_of s.input) (omega (arith, ap length c.block.ensures)) in
-    λ none. ends_none c.args.self.now _ c.in_ok-finish.field-0 none refl
-    (λ taken commands given. ends_by s _ c.in_ok-finish.field-0 drained c.if-not-self.true c.if-self.true c.in_ok-finish.ensures taken commands
+    λ none. ends_none c.in_ok-finish.field-0 none refl
+    (λ taken commands given. ends_by c.in_ok-finish.field-0 drained c.if-not-self.true c.if-self.true c.in_ok-finish.ensures taken commands
     (c.loop-self.invariant.given taken commands given))
