@@ -3,4 +3,3 @@ pub mod TornLemmas
 pub mod OutputLemmas
 pub mod PhaseLemmas
 pub mod InputLemmas
-pub mod TakingLemmas

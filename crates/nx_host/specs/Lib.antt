@@ -4,4 +4,3 @@ pub mod Time
 pub mod Still
 pub mod Phase
 pub mod Input
-pub mod Taking

@@ -7,9 +7,7 @@
 //! the one clock of both, `specs/Time.antt`.
 //!
 //! `Input` takes the input of a host in blocks, up to the most that a run takes; what was taken is
-//! said in `specs/Input.antt`. `take_input` is the one loop over an input: it hands each block to a
-//! `Taker`, and says at the end, or at each error, what the taker knows of the bytes that were taken
-//! and given (`specs/Taking.antt`).
+//! said in `specs/Input.antt`.
 //!
 //! A definition over hosts takes the bundle of a disk's meanings, `Ghosts D`. What calls that ask or
 //! write the areas alone do is said in `specs/Still.antt`; what a phase of a run leaves as it was,
@@ -19,9 +17,7 @@
 mod disk;
 mod host;
 mod input;
-mod taker;
 
 pub use disk::{Area, Disk, Failed};
 pub use host::Host;
 pub use input::{Input, InputError};
-pub use taker::{TakeError, Taker, take_input};
