@@ -11,7 +11,7 @@ use Rattle.nx_parts.specs.declared.interval.Interval.{Interval}
 use Rattle.nx_parts.specs.declared.bounds.Bound.{Bound}
 use Rattle.nx_parts.specs.Partitioning.{IsFeasible, IsOptimal}
 use Rattle.nx_choices.specs.Claim.{IsSupported}
-use Rattle.nx_bounds.specs.Claim.{children, claimed_in, AreSupported}
+use Rattle.nx_bounds.specs.Claim.{children, claimed_in, numbers, AreSupported}
 use Rattle.nx_bounds.specs.Refusal.{root_least}
 use Rattle.nx_bounds.specs.Law.{IsTrueOf, LowerBound}
 use Rattle.nx_bounds.proofs.LawLemmas.{all_left, all_right, root_true}
@@ -20,7 +20,7 @@ use Rattle.nx_bounds.proofs.LawLemmas.{all_left, all_right, root_true}
 pub record IsSupportedAt (k : ℕ) (tree : OrderedTree) (bound : Bound) : Type 0 where
   pub others : List Bound
   pub enough : nodes tree.below ≤ length others
-  pub root : IsSupported k (record { own = weight tree.node; children = children k tree.below others; bound = bound })
+  pub root : IsSupported k (record { own = weight tree.node; children = children k tree.below others; bound = numbers bound })
   pub below : AllByRecursion (IsSupported k) (claimed_in k tree.below others)
 
 -- A node with this path is found below the node at another path, from a position on: the bound for its tree is supported.

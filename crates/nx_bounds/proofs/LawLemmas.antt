@@ -70,7 +70,7 @@ own_part place slots = rw (eq-eqb place place refl) refl
 
 -- a tree, the part of whose root is that of the interval at a place
 tree_true : (k : ℕ) (parts : List Interval) → AllPairs (λ a b. ¬ ShareMember a b) parts → (path : List ℕ) (place : ℕ) (node : Node) (below : Forest) (bound : Bound) (claims : List Child) →
-    IsSupported k (record { own = weight node; children = claims; bound = bound }) → AreTrueClaims k claims (pieces parts path 0 below) →
+    IsSupported k (record { own = weight node; children = claims; bound = numbers bound }) → AreTrueClaims k claims (pieces parts path 0 below) →
     IsNodeWithin k parts place path node below → IsTrueAt bound (inner parts path) (weight node + kept parts path 0 below)
 tree_true k parts apart path place node below bound claims s t light =
     node_true k parts path (weight node) below claims bound s t (level k parts apart path place below (owned-within k parts place path node below light))
@@ -96,7 +96,7 @@ forest_true k parts apart path position above (Plant node below beside) (bound �
 
 -- the root of a tree
 pub root_true : (k : ℕ) (tree : OrderedTree) (bound : Bound) (bounds : List Bound) → nodes tree.below ≤ length bounds →
-    IsSupported k (record { own = weight tree.node; children = children k tree.below bounds; bound = bound }) → AllByRecursion (IsSupported k) (claimed_in k tree.below bounds) →
+    IsSupported k (record { own = weight tree.node; children = children k tree.below bounds; bound = numbers bound }) → AllByRecursion (IsSupported k) (claimed_in k tree.below bounds) →
     (parts : List Interval) → IsFeasible k tree parts → IsTrueOf bound tree parts
 root_true k tree bound bounds enough s below parts f =
     let apart = f.partitioning.disjoint in

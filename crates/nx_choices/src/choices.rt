@@ -41,8 +41,9 @@ impl Choices {
     }
 
     /// The first number that is claimed of a node and is more than the least that a choice over its children
-    /// gives, and that least; none where each number is supported. The node weighs `own`, and no part may weigh more than `k`.
-    /// Both forms of each child have to weigh at least 1 and at most `k`, which is at most 256.
+    /// gives, and that least; none where each number is supported. The node weighs `own`, and no part may
+    /// weigh more than `k`. Both forms of each child have to weigh at least 1 and at most `k`, which is at
+    /// most 256.
     ///
     /// Errors: `NoMemory`, where there is none for what the choices have to keep.
     pub fn exceeded(
@@ -100,7 +101,8 @@ impl Choices {
     /// `own`, no part may weigh more than `k`, which is at most 256, and both forms of each child have to
     /// weigh at least 1 and at most `k`.
     ///
-    /// Errors: `NoMemory`, where there is none for what the choices have to keep or for the list.
+    /// Errors: `NoMemory`, where there is none for what the choices have to keep or for the list, which may
+    /// then have grown by some of them.
     pub fn choose(
         &mut self,
         k: u32,

@@ -141,7 +141,7 @@ impl Profile {
     }
 
     // The least that the node's part weighs by a choice with a count of at most `most`. There has to be
-    // such a choice.
+    // such a choice, so that there is a budget, and something is left by it.
     fn lightest(&self, parent: Parent, most: u64) -> u32
         requires own { parent.own ≤ 256 }
         requires room { parent.room ≤ 256 }

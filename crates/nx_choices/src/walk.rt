@@ -137,7 +137,8 @@ impl Walk {
         }
     }
 
-    // An interval that begins a choice with the cost that is left, of as few members as will do.
+    // An interval that begins a choice over the rest with the cost that is left, of as few members as will
+    // do. With `extras` members in their second form it would cost too much, however few children are left.
     fn find(
         self,
         k: u32,
@@ -168,6 +169,7 @@ impl Walk {
                 });
             }
         }
+        // There is an interval, so it was found.
         Ok(Cut {
             number: 0,
             extra: 0,
