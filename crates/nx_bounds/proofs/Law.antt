@@ -108,8 +108,8 @@ found k path position (Plant first below beside) (b ∷ bounds) enough s zero lo
       supported = record {
         others = bounds;
         enough = omega (arith, enough);
-        root = subst (λ (n : Node). IsSupported k (record { own = weight n; children = children k below bounds; bound = bound })) same
-            (subst (λ (c : Bound). IsSupported k (record { own = weight first; children = children k below bounds; bound = c })) same_bound s.0);
+        root = subst (λ (n : Node). IsSupported k (record { own = weight n; children = children k below bounds; bound = numbers bound })) same
+            (subst (λ (c : Bound). IsSupported k (record { own = weight first; children = children k below bounds; bound = numbers c })) same_bound s.0);
         below = all_left (IsSupported k) (claimed_in k below bounds) (claimed_in k beside (drop (nodes below) bounds)) s.1;
       };
     }

@@ -1,9 +1,8 @@
 -- A walk over the nodes of a tree, and what is claimed of them in document order.
-use Rattle.std.proofs.Common.{◌≡◌, ℕ, zero, suc, ◌+◌, ◌-◌, ◌<◌, ◌≤◌, true, ◌==◌, Option, List, [], ◌∷◌, ◌++◌, length, drop, Some, refl, sym, ap, ◌∙◌, subst, arith, append_assoc, append-nil, length-append, length-drop}
+use Rattle.std.proofs.Common.{◌≡◌, ℕ, zero, suc, ◌+◌, ◌-◌, ◌<◌, ◌≤◌, Option, List, [], ◌∷◌, ◌++◌, length, drop, Some, refl, sym, ap, ◌∙◌, subst, arith, append_assoc, append-nil, length-append, length-drop}
 use Rattle.std.specs.List.{AllByRecursion, slice_get}
-use Rattle.std.proofs.lemmas.Bool.{eqb-true}
 use Rattle.std.proofs.lemmas.List.{drop-drop}
-use Rattle.nx_tree.specs.Forest.{OrderedTree, Forest, Empty, Plant, forest_of, trees_of, nodes}
+use Rattle.nx_tree.specs.Forest.{OrderedTree, Forest, Empty, Plant, forest_of, nodes}
 use Rattle.nx_weights.specs.Weight.{weight}
 use Rattle.nx_parts.specs.declared.bounds.Bound.{Bound}
 use Rattle.nx_choices.specs.declared.child.Field.{Field}

@@ -1,13 +1,13 @@
 -- Children that all may stay with their node.
-use Rattle.std.proofs.Common.{◌≡◌, ℕ, suc, zero, ◌+◌, ◌-◌, ◌<◌, ◌≤◌, inl, inr, List, [], ◌∷◌, ◌++◌, length, take, drop, get_or, refl, sym, ap, subst, ◌∙◌, arith, replicate}
+use Rattle.std.proofs.Common.{◌≡◌, ℕ, ◌+◌, ◌-◌, ◌<◌, ◌≤◌, inl, inr, List, [], ◌∷◌, ◌++◌, length, take, drop, get_or, refl, sym, ap, subst, arith, replicate}
 use Rattle.std.proofs.lemmas.List.{take_all, drop_all, get_or_past}
 use Rattle.std.proofs.lemmas.Bool.{cases_lt}
 use Rattle.nx_choices.specs.declared.child.Child.{Child}
 use Rattle.nx_choices.specs.declared.child.Stand.{Stand}
 use Rattle.nx_choices.specs.declared.child.Stand.TheVariants.{Uncut as Alone}
 use Rattle.nx_choices.specs.declared.reach.Form.TheVariants.{Plain}
-use Rattle.nx_choices.specs.Choice.{Cell, Uncut, Interval, covered, left, leasts, count, AreLight, AreWeighed, IsAdmitted}
-use Rattle.nx_choices.specs.Profile.{cost, count_of, weigh, IsWithin, IsListed, IsProfile}
+use Rattle.nx_choices.specs.Choice.{Cell, Uncut, Interval, covered, left, AreLight, AreWeighed}
+use Rattle.nx_choices.specs.Profile.{cost, weigh, IsWithin, IsProfile}
 use Rattle.nx_choices.specs.Stand.{stands, HasChoice, AddsChoice}
 use Rattle.nx_choices.proofs.ChoiceLemmas.{wider, within_none, add_interval, plain_interval}
 use Rattle.nx_choices.proofs.FoundLemmas.{count_is}

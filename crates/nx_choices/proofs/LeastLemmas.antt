@@ -1,7 +1,7 @@
 -- What a profile of the children gives is what the least admitted choices give.
 use Rattle.std.proofs.Common.{◌≡◌, ℕ, ◌+◌, ◌≤◌, List, Some, None, refl, arith}
 use Rattle.nx_choices.specs.declared.child.Child.{Child}
-use Rattle.nx_choices.specs.Choice.{covered, count, left, IsAdmitted}
+use Rattle.nx_choices.specs.Choice.{count, left, IsAdmitted}
 use Rattle.nx_choices.specs.Least.{IsLeast, IsLeastWithin}
 use Rattle.nx_choices.specs.Profile.{cost, count_of, AreCounts, IsBudget, IsCheapest, IsLeastLeft}
 use Rattle.nx_choices.proofs.ChoiceLemmas.{wider}

@@ -1,16 +1,16 @@
 -- A walk over the children that follows a choice and tells how each child stands.
 use Rattle.std.proofs.Common.{◌≡◌, ℕ, suc, zero, ◌+◌, ◌-◌, ◌<◌, ◌≤◌, ◌⊎◌, Bool, true, false, inl, inr, List, [], ◌∷◌, ◌++◌, map, length, take, drop, get_or, refl, sym, ap, subst, ◌∙◌, append_assoc, append-nil, arith, Some, None}
-use Rattle.std.proofs.lemmas.List.{drop-drop, length-drop, length-take-le, length-append, length-map, map-append, take_more, take_all}
+use Rattle.std.proofs.lemmas.List.{drop-drop, length-drop, length-take-le, length-map, map-append, take_more, take_all}
 use Rattle.std.proofs.Math.Seq.{take-add, drop-cons}
 use Rattle.std.proofs.lemmas.Bool.{cases_lt}
 use Rattle.nx_choices.specs.declared.child.Child.{Child}
 use Rattle.nx_choices.specs.declared.child.Stand.{Stand}
 use Rattle.nx_choices.specs.declared.child.Stand.TheVariants.{Uncut as Alone, Opens, Joins}
 use Rattle.nx_choices.specs.declared.walk.Walk.{Walk}
-use Rattle.nx_choices.specs.declared.reach.Form.TheVariants.{Plain, Light}
+use Rattle.nx_choices.specs.declared.reach.Form.TheVariants.{Light}
 use Rattle.nx_choices.specs.Choice.{Member, First, Second, Cell, Uncut, Interval, child_of, covered, slots, interval_weight, left, AreLight, AreWeighed}
 use Rattle.nx_choices.specs.declared.profiles.Row.{Row}
-use Rattle.nx_choices.specs.Profile.{second, seconds, cost, last, left_at, lefts_of, weigh, IsCheapest, IsInterval, IsListed, IsRowOf, IsWithin}
+use Rattle.nx_choices.specs.Profile.{second, seconds, cost, last, left_at, lefts_of, IsCheapest, IsInterval, IsListed, IsRowOf, IsWithin}
 use Rattle.nx_choices.specs.Lightest.{AreLightest}
 use Rattle.nx_choices.specs.Stand.{is_second, joins, stands, AddsChoice, HasChoice}
 use Rattle.nx_choices.specs.Walk.{opened, stand_at, AddsInterval, AreFormed, IsCutAt, IsFollowed, IsForm, IsFormOf, IsPartly, IsTried, IsUncut}

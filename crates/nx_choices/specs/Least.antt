@@ -1,7 +1,7 @@
 -- What the least choices over the children of a node give.
 use Rattle.std.specs.Prelude.{◌≡◌, ℕ, ◌+◌, ◌≤◌, List}
 use Rattle.nx_choices.specs.declared.child.Child.{Child}
-use Rattle.nx_choices.specs.Choice.{Cell, IsAdmitted, count, left}
+use Rattle.nx_choices.specs.Choice.{IsAdmitted, count, left}
 
 -- The number is the least value of all those that P holds of: one of them has it, and none has less.
 pub record IsLeast {A : Type 0} (P : A → Type 0) (value : A → ℕ) (number : ℕ) : Type 0 where

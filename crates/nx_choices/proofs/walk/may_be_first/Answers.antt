@@ -1,9 +1,8 @@
-use Rattle.std.proofs.Common.{◌≡◌, ◌+◌, ◌-◌, ◌≤◌, ◌<◌, List, drop, get_or, length, take, subst, sym, arith}
-use Rattle.std.proofs.lemmas.List.{length-drop, length-take-le, take_rest}
+use Rattle.std.proofs.Common.{◌+◌, ◌-◌, List, drop, get_or, subst, sym, arith}
+use Rattle.std.proofs.lemmas.List.{take_rest}
 use Rattle.nx_choices.specs.declared.child.Child.{Child}
 use Rattle.nx_choices.specs.Choice.{AreWeighed}
 use Rattle.nx_choices.specs.Lightest.{AreLightest}
-use Rattle.nx_choices.specs.Profile.{IsInterval}
 use Rattle.nx_choices.proofs.BuildLemmas.{weighed_drop}
 use Rattle.nx_choices.proofs.LightestLemmas.{fewest_some, fewest_least, looser}
 use Rattle.nx_choices.proofs.WalkLemmas.{form_free, form_not, form_may}

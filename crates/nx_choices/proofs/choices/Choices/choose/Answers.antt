@@ -1,4 +1,4 @@
-use Rattle.std.proofs.Common.{◌≡◌, ◌+◌, ◌-◌, ◌≤◌, min, arith}
+use Rattle.std.proofs.Common.{◌-◌, arith}
 use Rattle.std.proofs.lemmas.Result.{on_ok_weaker}
 use Rattle.nx_choices.proofs.BuildLemmas.{weighed_more}
 use Rattle.nx_choices.proofs.FitLemmas.{chooses_uncut}

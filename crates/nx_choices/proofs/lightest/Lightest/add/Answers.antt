@@ -1,5 +1,5 @@
-use Rattle.std.proofs.Common.{◌≡◌, ◌+◌, ℕ, List, length, sym, ap, subst, ◌∙◌, arith}
-use Rattle.nx_choices.specs.Lightest.{AreLightest, IsAdded, IsSkipped}
+use Rattle.std.proofs.Common.{◌≡◌, ℕ, List, length, sym, subst, ◌∙◌, arith}
+use Rattle.nx_choices.specs.Lightest.{IsAdded, IsSkipped}
 use Rattle.nx_choices.proofs.LightestLemmas.{lightest_added}
 use Rattle.nx_choices.proofs.lightest.Lightest.add.Goals as goal
 

@@ -1,7 +1,5 @@
-use Rattle.std.proofs.Common.{arith}
 use Rattle.nx_choices.specs.declared.child.Child.{Child}
 use Rattle.nx_choices.proofs.ReachLemmas.{weighed_at}
-use Rattle.nx_choices.proofs.LightestLemmas.{lightest_next}
 use Rattle.nx_choices.proofs.lightest.Lightest.weigh.Goals as goal
 
 pub add-requires-clause-lean : goal.add-requires-clause-lean

@@ -1,7 +1,6 @@
-use Rattle.std.proofs.Common.{◌-◌, drop, length, arith}
+use Rattle.std.proofs.Common.{drop, arith}
 use Rattle.std.proofs.lemmas.List.{length-drop}
 use Rattle.nx_choices.specs.declared.child.Child.{Child}
-use Rattle.nx_choices.specs.declared.reach.Form.TheVariants.{Plain}
 use Rattle.nx_choices.specs.Profile.{lefts_of}
 use Rattle.nx_choices.proofs.BuildLemmas.{row_beyond, row_fits, draft_first}
 use Rattle.nx_choices.proofs.profile.Profile.begin.Goals as goal

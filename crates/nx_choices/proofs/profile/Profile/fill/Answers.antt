@@ -1,4 +1,4 @@
-use Rattle.std.proofs.Common.{◌≡◌, ◌∷◌, ◌++◌, [], sym, ap, subst, ◌∙◌, arith}
+use Rattle.std.proofs.Common.{◌∷◌, ◌++◌, [], sym, ap, subst, ◌∙◌, arith}
 use Rattle.nx_choices.specs.Profile.{IsProfile}
 use Rattle.nx_choices.proofs.FitLemmas.{profile_filled, profile_empty}
 use Rattle.nx_choices.proofs.profile.Profile.fill.Goals as goal

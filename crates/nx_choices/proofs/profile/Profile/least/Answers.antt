@@ -1,4 +1,4 @@
-use Rattle.std.proofs.Common.{◌≡◌, ◌+◌, ◌≤◌, arith}
+use Rattle.std.proofs.Common.{◌+◌, ◌≤◌, arith}
 use Rattle.nx_choices.specs.Profile.{count_of}
 use Rattle.nx_choices.proofs.LeastLemmas.{fewest}
 use Rattle.nx_choices.proofs.profile.Profile.least.Goals as goal

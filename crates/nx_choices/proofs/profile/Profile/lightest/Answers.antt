@@ -1,4 +1,4 @@
-use Rattle.std.proofs.Common.{◌+◌, refl, arith}
+use Rattle.std.proofs.Common.{◌+◌, refl}
 use Rattle.nx_choices.proofs.LeastLemmas.{lightest, budget_some, left_there}
 use Rattle.nx_choices.proofs.profile.Profile.lightest.Goals as goal
 

@@ -1,8 +1,7 @@
-use Rattle.std.proofs.Common.{◌≡◌, ◌+◌, ◌-◌, ◌<◌, ◌≤◌, ◌⊎◌, inl, inr, ℕ, drop, length, take, refl, sym, ap, subst, arith}
+use Rattle.std.proofs.Common.{◌≡◌, ◌+◌, ◌-◌, ◌<◌, ◌≤◌, ◌⊎◌, inl, inr, drop, length, take, refl, sym, arith}
 use Rattle.std.proofs.lemmas.Bool.{cases_lt}
 use Rattle.std.proofs.lemmas.List.{length-drop, length-take-le}
 use Rattle.nx_choices.specs.declared.child.Child.{Child}
-use Rattle.nx_choices.specs.Walk.{IsCutAt}
 use Rattle.nx_choices.proofs.ReachLemmas.{weighed_at}
 use Rattle.nx_choices.proofs.LightestLemmas.{lightest_next}
 use Rattle.nx_choices.proofs.BuildLemmas.{row_fits}

@@ -1,4 +1,4 @@
-use Rattle.std.proofs.Common.{◌≡◌, ◌+◌, ◌<◌, ◌≤◌, Some, ap, sym, subst, arith}
+use Rattle.std.proofs.Common.{◌+◌, Some, ap, sym, subst, arith}
 use Rattle.nx_choices.specs.Profile.{left_at, lefts_of}
 use Rattle.nx_choices.specs.Walk.{IsTried}
 use Rattle.nx_choices.proofs.WalkLemmas.{tried_some, tried_heavy, tried_dear}

@@ -1,11 +1,10 @@
-use Rattle.std.proofs.Common.{◌≡◌, ◌+◌, ◌-◌, ◌<◌, ◌≤◌, ℕ, List, drop, get_or, length, take, refl, sym, ap, subst, ◌∙◌, arith}
+use Rattle.std.proofs.Common.{◌≡◌, ◌+◌, ◌-◌, ℕ, List, drop, get_or, length, take, refl, sym, ap, subst, ◌∙◌, arith}
 use Rattle.std.proofs.lemmas.List.{drop-drop, get_or-drop, length-drop, length-take-le, take_rest}
 use Rattle.nx_choices.specs.declared.child.Child.{Child}
-use Rattle.nx_choices.specs.declared.child.Stand.{Stand}
 use Rattle.nx_choices.specs.declared.walk.Walk.{Walk}
 use Rattle.nx_choices.specs.Choice.{AreWeighed}
-use Rattle.nx_choices.specs.Profile.{AreProfiles, IsInterval, IsWithin}
-use Rattle.nx_choices.specs.Walk.{AddsInterval, IsCutAt, IsUncut}
+use Rattle.nx_choices.specs.Profile.{AreProfiles, IsWithin}
+use Rattle.nx_choices.specs.Walk.{AddsInterval, IsCutAt}
 use Rattle.nx_choices.proofs.BuildLemmas.{profiles_drop, row_fits, weighed_drop, weighed_take, weighed_more}
 use Rattle.nx_choices.proofs.WalkLemmas.{goes_cut, goes_uncut, interval_most, must_cut, row_behind}
 use Rattle.nx_choices.proofs.walk.Walk.step.Goals as goal

@@ -1,4 +1,4 @@
-use Rattle.std.proofs.Common.{◌≡◌, ◌+◌, ◌-◌, ◌<◌, ◌≤◌, arith}
+use Rattle.std.proofs.Common.{arith}
 use Rattle.nx_choices.proofs.WalkLemmas.{uncut_some, uncut_none, uncut_heavy}
 use Rattle.nx_choices.proofs.walk.Walk.without.Goals as goal
 
