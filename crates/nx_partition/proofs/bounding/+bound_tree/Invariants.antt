@@ -1,0 +1,12 @@
+use Rattle.std.proofs.Common.{[], ◌∷◌, ◌++◌, drop}
+use Rattle.nx_tree.specs.Forest.{forest_of}
+use Rattle.nx_tree.specs.Document.{depth}
+use Rattle.nx_partition.proofs.GrowLemmas.{IsGrown}
+use Rattle.nx_partition.proofs.bounding.+bound_tree.Given as goal
+
+abbrev pub decreases-bound_tree : goal.decreases-bound_tree
+decreases-bound_tree l = depth l.tree.now.below
+
+abbrev pub invariant-loop-child : goal.invariant-loop-child
+invariant-loop-child l =
+    IsGrown l.k l.tree.below (forest_of (drop l.child-index l.child-items)) (l.fn.list.items ++ record { least = 0; lean = 0; nearly = 0 } ∷ []) l.list.items

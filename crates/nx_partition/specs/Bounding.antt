@@ -1,0 +1,20 @@
+-- What the search for the minima of all nodes gives.
+use Rattle.std.specs.Prelude.{◌≡◌, ℕ, List, ◌++◌, Some}
+use Rattle.std.specs.Option.{option_map}
+use Rattle.nx_tree.specs.Forest.{OrderedTree}
+use Rattle.nx_weights.specs.Weight.{first_heavy, weighed}
+use Rattle.nx_parts.specs.declared.bounds.Bound.{Bound}
+use Rattle.nx_parts.specs.Minima.{AreMinima}
+use Rattle.nx_partition.specs.declared.error.PlanError.{PlanError}
+use Rattle.nx_partition.specs.declared.error.PlanError.TheVariants.{TooHeavy, Memory}
+
+-- the list has grown by the minima of the nodes of a tree
+pub record Extends (k : ℕ) (tree : OrderedTree) (old new : List Bound) : Type 0 where
+  pub bounds : List Bound
+  pub added : new ≡ old ++ bounds
+  pub minima : AreMinima k tree bounds
+
+-- the first node in document order that weighs more than k stands at the path and weighs so much
+abbrev pub IsRefused : ℕ → OrderedTree → PlanError → Type 0
+IsRefused k tree (TooHeavy path slots) = option_map weighed (first_heavy k tree) ≡ Some (path, slots)
+IsRefused k tree Memory = Unit {0}
