@@ -14,7 +14,7 @@ use Rattle.nx_pyx.specs.Lines.{cut, ended_lines, lines}
 use Rattle.nx_pyx.proofs.Outcome.{document_of, neither}
 use Rattle.nx_pyx.proofs.Reading.{one_document}
 use Rattle.nx_pyx.proofs.Said.{document_goes}
-use Rattle.nx_pyx.proofs.Shown.{lines-append}
+use Rattle.nx_pyx.proofs.Shown.{lines-append, ended_lines-append}
 use Rattle.nx_script.specs.declared.command.Command.{Command}
 use Rattle.nx_script.specs.declared.command.Command.TheVariants.{Load, Bad}
 use Rattle.nx_script.specs.declared.command.LoadBody.{LoadBody}
@@ -244,3 +244,18 @@ given_front script taken left commands first given =
     let (rest, are) = whole_front seen (unread script ++ left) commands (parsed_whole script.parser seen commands parsed) in
     (rest, subst (λ (l : List ℕ). AreCommands l (commands ++ rest)) (sym (append_assoc seen (unread script) left) ∙ ap (λ (l : List ℕ). l ++ left) (sym parts)) are))
     (cases_Bool script.finished)
+
+-- what is whole in the bytes so far begins what is whole in more bytes
+pub whole_more : (taken more : List ℕ) (commands : List Command) → AreWhole taken commands → (rest : List Command) × AreWhole (taken ++ more) (commands ++ rest)
+whole_more taken more commands (left, gives, _) =
+    let all : List (List ℕ) = left ++ ended_lines ((cut taken).rest ++ more) in
+    let (others, rest, gives', unended) = some_giving (length all) all (omega arith) in (
+      others,
+      (
+        rest,
+        gives_append (ended_lines (taken ++ more)) commands others all rest
+            (subst (λ (l : List (List ℕ)). Gives l commands all) (sym (ended_lines-append taken more)) (gives_longer (ended_lines taken) commands left (ended_lines ((cut taken).rest ++ more)) gives))
+            gives',
+        unended,
+      ),
+    )
