@@ -1,8 +1,8 @@
-pub mod ReadLemmas
-pub mod ClaimedLemmas
+pub mod OutcomeLemmas
 pub mod GiveLemmas
-pub mod AnswerLemmas
-pub mod RunLemmas
+pub mod ConsumerLemmas
+pub mod TidyLemmas
+pub mod ClaimLemmas
 pub mod VerifyLemmas
 pub mod SessionLemmas
-pub mod TakenLemmas
+pub mod TopLemmas

@@ -1,52 +1,41 @@
--- How the reading of a document's lines and of what stands behind their dot ends.
-use Rattle.std.specs.Prelude.{true, ◌≡◌, ◌⊎◌, ℕ, ◌<◌, List, ◌++◌, length, Option, None, Some}
-use Rattle.nx_host.specs.Host.{Takes, IsAtEnd}
-use Rattle.nx_host.specs.Input.{most_input}
+-- What was read of the lines of a document, and of what stands behind their dot.
+use Rattle.std.specs.Prelude.{◌≡◌, ℕ, List, [], ◌++◌, Some, Ok}
 use Rattle.nx_tree.specs.Forest.{OrderedTree}
-use Rattle.nx_pyx.specs.declared.error.PyxError.{PyxError}
 use Rattle.nx_pyx.specs.Fault.{fault_of}
 use Rattle.nx_pyx.specs.Reading.{Reads}
-use Rattle.nx_pyx.specs.Lines.{ended_lines}
-use Rattle.nx_script.specs.Commands.{has_dot}
-use Rattle.nx_script.specs.BeforeDot.{before_dot, after_dot, shown_before_dot}
-use Rattle.nx_front.specs.declared.read.Stop.{Stop}
-use Rattle.nx_front.specs.declared.read.Stop.TheVariants.{Refused, ReadFault, TooMuch, NoMemory}
-use Rattle.nx_front.specs.Outcome.{EndsWhole}
+use Rattle.nx_script.specs.declared.body.Body.{Body}
+use Rattle.nx_script.specs.BeforeDot.{before_dot, after_dot}
+use Rattle.nx_script.specs.Body.{IsWithin, IsEndedBy}
+use Rattle.nx_front.specs.declared.stop.Stop.{Stop}
+use Rattle.nx_front.specs.declared.stop.Stop.TheVariants.{Refused, NoMemory}
+use Rattle.nx_front.specs.declared.refusal.Refusal.TheVariants.{Pyx}
+use Rattle.nx_front.specs.Verify.{ShowsClaim}
 
--- The bytes were taken to the input's end. The lines before the dot say this tree, and this text stands behind it.
-pub record EndsClaimed (tree : OrderedTree) (plan taken : List ℕ) (first now : Option (List ℕ)) : Type 0 where
-  pub whole : EndsWhole taken first now
+-- The lines before the dot of these bytes say this tree, and this text stands behind it.
+pub record IsClaimed (tree : OrderedTree) (plan taken : List ℕ) : Type 0 where
   pub reads : Reads (before_dot taken) tree
   pub behind : plan ≡ after_dot taken
 
--- The bytes that were taken hold the dot: the lines before it say this tree, and these bytes stand behind it so far.
-pub record HasDocument (tree : OrderedTree) (taken behind : List ℕ) : Type 0 where
+-- These bytes were read, and are lines of a document without a fault so far.
+pub record HasLines (body : Body) (behind taken : List ℕ) : Type 0 where
+  pub within : IsWithin body taken
+  pub shows : ShowsClaim taken (Ok [])
+  pub none : behind ≡ []
+
+-- These bytes were read, and a dot is among them, behind which these stand.
+pub record HasDot (body : Body) (behind taken : List ℕ) : Type 0 where
+  pub front : List ℕ
+  pub parts : taken ≡ front ++ behind
+  pub ended : IsEndedBy body front
+
+-- The bytes hold the dot: the lines before it say this tree, and this text stands behind it so far.
+pub record HasDocument (tree : OrderedTree) (plan taken : List ℕ) : Type 0 where
   pub before : (more : List ℕ) → Reads (before_dot (taken ++ more)) tree
-  pub after : (more : List ℕ) → after_dot (taken ++ more) ≡ behind ++ more
+  pub after : (more : List ℕ) → after_dot (taken ++ more) ≡ plan ++ more
+  pub shows : ShowsClaim taken (Ok [])
 
--- The lines before the dot have this fault in the bytes that were taken, whatever comes behind them, or in the whole input.
-pub record EndsFaulty (error : PyxError) (taken : List ℕ) (first now : Option (List ℕ)) : Type 0 where
-  pub takes : Takes taken first now
-  pub fault :
-      ((more : List ℕ) → fault_of (before_dot (taken ++ more)) ≡ Some error)
-      ⊎ (IsAtEnd now × (length taken < most_input) × (fault_of (before_dot taken) ≡ Some error))
-
--- The bytes that were taken show no fault before the dot, and where the dot has come, the lines before it have none.
-pub record EndsUnfaulty (taken : List ℕ) (first now : Option (List ℕ)) : Type 0 where
-  pub takes : Takes taken first now
-  pub sound : shown_before_dot taken ≡ None
-  pub whole : has_dot (ended_lines taken) ≡ true → fault_of (before_dot taken) ≡ None
-
--- how the reading stops without a document
-abbrev pub StopsClaim : Stop → Option (List ℕ) → Option (List ℕ) → Type 0
-StopsClaim (Refused error) first now = (taken : List ℕ) × EndsFaulty error taken first now
-StopsClaim ReadFault first now = (taken : List ℕ) × (length taken < most_input) × EndsUnfaulty taken first now
-StopsClaim TooMuch first now = (taken : List ℕ) × (length taken ≡ most_input) × EndsUnfaulty taken first now
-StopsClaim NoMemory first now = Unit {0}
-
--- how the taking of what stands behind the dot stops, where these bytes were taken by then
-abbrev pub StopsBehind : Stop → List ℕ → Type 0
-StopsBehind (Refused error) taken = ⊥
-StopsBehind ReadFault taken = length taken < most_input
-StopsBehind TooMuch taken = length taken ≡ most_input
-StopsBehind NoMemory taken = Unit {0}
+-- why the lines before the dot of a whole input say no document
+abbrev pub StopsWhole : Stop → List ℕ → Type 0
+StopsWhole (Refused (Pyx error)) taken = fault_of (before_dot taken) ≡ Some error
+StopsWhole NoMemory taken = Unit {0}
+StopsWhole _ taken = ⊥

@@ -1,8 +1,9 @@
 pub mod CommandLine
 pub mod Refusal
-pub mod Answer
-pub mod Outcome
 pub mod Stop
+pub mod Outcome
+pub mod Consumer
+pub mod Tidy
 pub mod Session
 pub mod Claimed
 pub mod Verify

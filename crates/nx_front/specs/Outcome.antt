@@ -1,16 +1,32 @@
--- How the reading of an input ends, and how a run of `tidy` does.
-use Rattle.std.specs.Prelude.{◌≡◌, ◌⊎◌, ℕ, ◌<◌, ◌≤◌, List, length, Option, None, Some, Result, Ok, Err, Bool, true, false, [], ◌++◌}
-use Rattle.nx_host.specs.declared.input.Input.{Input}
-use Rattle.nx_host.specs.Host.{Takes, IsAtEnd, Appends}
-use Rattle.nx_host.specs.Input.{HasTaken, most_input}
-use Rattle.nx_tree.specs.Forest.{OrderedTree}
-use Rattle.nx_pyx.specs.declared.error.PyxError.{PyxError}
-use Rattle.nx_pyx.specs.declared.reader.Reader.{Reader}
-use Rattle.nx_pyx.specs.Fault.{shown_fault, fault_of}
-use Rattle.nx_pyx.specs.Reading.{Reads}
-use Rattle.nx_pyx.specs.Reader.{HasRead}
-use Rattle.nx_front.specs.declared.read.Stop.{Stop}
-use Rattle.nx_front.specs.declared.read.Stop.TheVariants.{Refused, ReadFault, TooMuch, NoMemory}
+-- How a run of a command ends, what it has taken and given by then, and what stood at each of its moments: one definition for all commands.
+use Rattle.std.specs.Prelude.{◌≡◌, ◌⊎◌, ◌↔◌, ℕ, ◌<◌, ◌≤◌, List, [], ◌∷◌, ◌++◌, length, Option, IfSome, IsSome, None, Some, Result, Ok, Err}
+use Rattle.nx_host.specs.declared.disk.Disk.{Ghosts}
+use Rattle.nx_host.specs.Disk.{Image, Beside, Keeps, Rose}
+use Rattle.nx_host.specs.Host.{Takes, IsAtEnd, Appends, AppendsFront}
+use Rattle.nx_host.specs.Input.{most_input}
+use Rattle.nx_host.specs.Time.{Stood, Elapses}
+use Rattle.nx_front.specs.declared.status.Status.{Status}
+use Rattle.nx_front.specs.declared.status.Status.TheVariants.{Done, Usage, Refused, ReadFault, WriteFault, NoMemory, TooMuch}
+use Rattle.nx_front.specs.declared.stop.Stop.{Stop}
+use Rattle.nx_front.specs.declared.stop.Stop.TheVariants as stop
+use Rattle.nx_front.specs.declared.give.Halt.{Halt}
+use Rattle.nx_front.specs.declared.give.Halt.TheVariants as halt
+use Rattle.nx_front.specs.declared.refusal.Refusal.{Refusal}
+use Rattle.nx_front.specs.Refusal.{refusal_line}
+
+-- What a command makes of its input.
+pub record Meaning : Type 1 where
+  -- what answers an input, and its text
+  pub Answer : Type 0
+  pub text_of : Answer → List ℕ
+  -- the whole input has this answer
+  pub says : List ℕ → Answer → Type 0
+  -- the whole input is refused for this reason
+  pub refuses : List ℕ → Refusal → Type 0
+  -- what bytes show before the input's end: this text, which is given then, or a refusal, whatever comes behind them
+  pub shows : List ℕ → Result (List ℕ) Refusal → Type 0
+
+-- What was taken:
 
 -- No more bytes were taken of the input than a run takes.
 pub record TakesFew (first now : Option (List ℕ)) : Type 0 where
@@ -18,52 +34,175 @@ pub record TakesFew (first now : Option (List ℕ)) : Type 0 where
   pub few : length taken ≤ most_input
   pub takes : Takes taken first now
 
--- The reader has read all bytes that were taken of the input.
-pub record HasTakenIn (reader : Reader) (input : Input) (taken : List ℕ) (first now : Option (List ℕ)) : Type 0 where
-  pub read : HasRead reader taken
-  pub took : HasTaken input taken first now
-
 -- The bytes were taken to the input's end.
 pub record EndsWhole (taken : List ℕ) (first now : Option (List ℕ)) : Type 0 where
   pub takes : Takes taken first now
   pub end : IsAtEnd now
   pub few : length taken < most_input
 
--- The bytes were taken to the input's end, and say this tree.
-pub record EndsRead (tree : OrderedTree) (taken : List ℕ) (first now : Option (List ℕ)) : Type 0 where
+-- The bytes that were taken, no more than a run takes, show this refusal, or were taken to the input's end and have it.
+pub record EndsRefused (m : Meaning) (refusal : Refusal) (taken : List ℕ) (first now : Option (List ℕ)) : Type 0 where
   pub takes : Takes taken first now
-  pub end : IsAtEnd now
-  pub few : length taken < most_input
-  pub reads : Reads taken tree
+  pub few : length taken ≤ most_input
+  pub refused : m.shows taken (Err refusal) ⊎ (IsAtEnd now × (length taken < most_input) × m.refuses taken refusal)
 
--- The bytes that were taken show this fault, or were taken to the input's end and have it.
-pub record EndsRefused (error : PyxError) (taken : List ℕ) (first now : Option (List ℕ)) : Type 0 where
+-- The bytes that were taken, no more than a run takes, show no refusal, and this text.
+pub record EndsEarly (m : Meaning) (shown taken : List ℕ) (first now : Option (List ℕ)) : Type 0 where
   pub takes : Takes taken first now
-  pub fault : (shown_fault taken ≡ Some error) ⊎ (IsAtEnd now × (length taken < most_input) × (fault_of taken ≡ Some error))
+  pub few : length taken ≤ most_input
+  pub shows : m.shows taken (Ok shown)
 
--- The bytes that were taken show no fault.
-pub record EndsSound (taken : List ℕ) (first now : Option (List ℕ)) : Type 0 where
-  pub takes : Takes taken first now
-  pub sound : shown_fault taken ≡ None
+-- how the reading of an input stops without an answer, where nothing is given before its end
+abbrev pub StopsBy : Meaning → Stop → Beside → Beside → Type 0
+StopsBy m (stop.Refused refusal) old new = (taken : List ℕ) × EndsRefused m refusal taken old.input new.input
+StopsBy m stop.ReadFault old new = Rose old.in_faults new.in_faults × (taken : List ℕ) × (length taken < most_input) × EndsEarly m [] taken old.input new.input
+StopsBy m stop.TooMuch old new = (taken : List ℕ) × (length taken ≡ most_input) × EndsEarly m [] taken old.input new.input
+StopsBy m stop.NoMemory old new = Unit {0}
 
--- how the reading of an input stops without a document
-abbrev pub StopsBy : Stop → Option (List ℕ) → Option (List ℕ) → Type 0
-StopsBy (Refused error) first now = (taken : List ℕ) × EndsRefused error taken first now
-StopsBy ReadFault first now = (taken : List ℕ) × (length taken < most_input) × EndsSound taken first now
-StopsBy TooMuch first now = (taken : List ℕ) × (length taken ≡ most_input) × EndsSound taken first now
-StopsBy NoMemory first now = Unit {0}
+-- how the reading of an input ended: at the input's end, with this answer, or by a stop
+abbrev pub ReadsTo : (m : Meaning) → Result m.Answer Stop → Beside → Beside → Type 0
+ReadsTo m (Ok answer) old new = (taken : List ℕ) × EndsWhole taken old.input new.input × m.says taken answer
+ReadsTo m (Err stop) old new = StopsBy m stop old new
 
--- a reader of these bytes gives the tree that they say, or their fault
-abbrev pub Finishes : List ℕ → Result OrderedTree Stop → Type 0
-Finishes taken (Ok tree) = Reads taken tree
-Finishes taken (Err (Refused error)) = fault_of taken ≡ Some error
-Finishes taken (Err NoMemory) = Unit {0}
-Finishes taken (Err _) = ⊥
+-- what is to be given once these bytes were taken: the text of the whole input's answer, the line that refuses it, or the text that they show
+abbrev pub IsDue : Meaning → List ℕ → List ℕ → Option (List ℕ) → Option (List ℕ) → Type 0
+IsDue m due taken first now =
+    ((answer : m.Answer) × EndsWhole taken first now × m.says taken answer × (due ≡ m.text_of answer))
+    ⊎ ((refusal : Refusal) × EndsRefused m refusal taken first now × (due ≡ refusal_line refusal))
+    ⊎ EndsEarly m due taken first now
 
--- A block that is the front of what was left was given. Where there is more, the block isn't empty; else nothing is left.
-pub record GivesBlock (more : Bool) (before after : List ℕ) (old new : Option (List ℕ)) : Type 0 where
-  pub block : List ℕ
-  pub front : block ++ after ≡ before
-  pub appends : Appends block old new
-  pub some : more ≡ true → 0 < length block
-  pub none : more ≡ false → after ≡ []
+-- What was given:
+
+-- The output has grown by these bytes, where it is still told. Without bytes it is as it was.
+abbrev pub Gives : List ℕ → Option (List ℕ) → Option (List ℕ) → Type 0
+Gives [] old new = new ≡ old
+Gives (b ∷ bytes) old new = Appends (b ∷ bytes) old new
+
+-- Giving these bytes failed. Not all of them were out, and of the others a prefix was given then.
+pub record FailsGiving (bytes : List ℕ) (old new : Beside) : Type 0 where
+  pub rose : Rose old.out_faults new.out_faults
+  pub done : List ℕ
+  pub others : List ℕ
+  pub parts : done ++ others ≡ bytes
+  pub some : 0 < length others
+  pub middle : Option (List ℕ)
+  pub appends : Appends done old.output middle
+  pub front : AppendsFront others middle new.output
+
+-- how the giving of these bytes ended
+abbrev pub Given : List ℕ → Result (Unit {0}) Halt → Beside → Beside → Type 0
+Given bytes (Ok _) old new = Gives bytes old.output new.output
+Given bytes (Err halt.WriteFault) old new = FailsGiving bytes old new
+Given bytes (Err halt.NoMemory) old new = AppendsFront bytes old.output new.output
+
+-- Of these bytes the first were given, and these are left.
+pub record GivesBut (bytes left : List ℕ) (old new : Beside) : Type 0 where
+  pub done : List ℕ
+  pub parts : done ++ left ≡ bytes
+  pub gives : Gives done old.output new.output
+
+-- how the giving of these bytes ended, the last of which are left where it went well
+abbrev pub GivenBut : List ℕ → List ℕ → Result (Unit {0}) Halt → Beside → Beside → Type 0
+GivenBut bytes left (Ok _) old new = GivesBut bytes left old new
+GivenBut bytes left (Err stop) old new = Given bytes (Err stop) old new
+
+-- the status where the output was given so far, of a run that ends with `whole` where it is whole
+abbrev pub status_after : Status → Result (Unit {0}) Halt → Status
+status_after whole (Ok _) = whole
+status_after whole (Err halt.WriteFault) = WriteFault
+status_after whole (Err halt.NoMemory) = NoMemory
+
+-- what is given where the reading has stopped: the line of a refusal
+abbrev pub line_after : Stop → List ℕ
+line_after (stop.Refused refusal) = refusal_line refusal
+line_after _ = []
+
+-- how a run ends whose reading has stopped
+abbrev pub EndsAfter : Stop → Status → Beside → Beside → Type 0
+EndsAfter (stop.Refused refusal) status old new = (given : Result (Unit {0}) Halt) × (status ≡ status_after Refused given) × Given (refusal_line refusal) given old new
+EndsAfter stop.ReadFault status old new = (status ≡ ReadFault) × (new ≡ old)
+EndsAfter stop.TooMuch status old new = (status ≡ TooMuch) × (new ≡ old)
+EndsAfter stop.NoMemory status old new = (status ≡ NoMemory) × (new ≡ old)
+
+-- How a run ends:
+
+-- the input has this outcome, where one is known
+abbrev pub HasOutcome : (m : Meaning) → Option (Result m.Answer Refusal) → List ℕ → Type 0
+HasOutcome m None input = Unit {0}
+HasOutcome m (Some (Ok answer)) input = m.says input answer
+HasOutcome m (Some (Err refusal)) input = m.refuses input refusal
+
+-- the whole output of a run with this outcome; without one nothing is given
+abbrev pub output_of : (m : Meaning) → Option (Result m.Answer Refusal) → List ℕ
+output_of m None = []
+output_of m (Some (Ok answer)) = m.text_of answer
+output_of m (Some (Err refusal)) = refusal_line refusal
+
+-- Where the input is told to the end, it has this outcome.
+abbrev pub HasToldOutcome : (m : Meaning) → Option (Result m.Answer Refusal) → Option (List ℕ) → Option (List ℕ) → Type 0
+HasToldOutcome m outcome old new = IfSome new (λ left. IfSome old (λ input. HasOutcome m outcome input))
+
+-- why a run with this outcome ends with this status, what it has taken of the input by then and what it has given
+abbrev pub Ends : (m : Meaning) → Option (Result m.Answer Refusal) → Status → Beside → Beside → Type 0
+Ends m outcome Done old new =
+    (answer : m.Answer) × (taken : List ℕ) × (outcome ≡ Some (Ok answer)) × EndsWhole taken old.input new.input × m.says taken answer × Gives (m.text_of answer) old.output new.output
+Ends m outcome Refused old new =
+    (refusal : Refusal) × (taken : List ℕ) × (outcome ≡ Some (Err refusal)) × EndsRefused m refusal taken old.input new.input × Gives (refusal_line refusal) old.output new.output
+Ends m outcome ReadFault old new =
+    Rose old.in_faults new.in_faults × (shown taken : List ℕ) × (length taken < most_input) × EndsEarly m shown taken old.input new.input × Gives shown old.output new.output
+Ends m outcome WriteFault old new = (due taken : List ℕ) × IsDue m due taken old.input new.input × FailsGiving due old new
+Ends m outcome TooMuch old new =
+    (shown taken : List ℕ) × (length taken ≡ most_input) × EndsEarly m shown taken old.input new.input × Gives shown old.output new.output
+Ends m outcome NoMemory old new = Unit {0}
+Ends m outcome Usage old new = ⊥
+
+-- Neither count of faults fell.
+pub record CountsGrow (old new : Beside) : Type 0 where
+  pub read : old.in_faults ≤ new.in_faults
+  pub written : old.out_faults ≤ new.out_faults
+
+-- A run of a command, with one outcome. At every moment and at its end the output has grown by a prefix of the outcome's text; what stands on the disk beside it is told by `Stands`.
+pub record Runs {D : Type 0} (d : Ghosts D) (m : Meaning) (Stands : Option (Result m.Answer Refusal) → Stood → Type 0) (status : Status) (old new : D) : Type 0 where
+  pub outcome : Option (Result m.Answer Refusal)
+  pub told : HasToldOutcome m outcome (d.beside old).input (d.beside new).input
+  pub ends : Ends m outcome status (d.beside old) (d.beside new)
+  pub front : AppendsFront (output_of m outcome) (d.beside old).output (d.beside new).output
+  pub time : Elapses d.moment d.stood_since old new (λ s. AppendsFront (output_of m outcome) (d.beside old).output s.output × Stands outcome s)
+  pub bounded : TakesFew (d.beside old).input (d.beside new).input
+  pub counts : CountsGrow (d.beside old) (d.beside new)
+
+-- The disk is as it was.
+pub record LeavesDisk {D : Type 0} (d : Ghosts D) (old new : D) : Type 0 where
+  pub contents_stay : Keeps (d.contents old) (d.contents new)
+  pub images_stay : (i : Image) → d.may_leave new i ↔ d.may_leave old i
+  pub faults_stay : d.faults new ≡ d.faults old
+  pub reads_stay : d.reads new ≡ d.reads old
+
+-- A run of a command that leaves the disk as it was. At every moment an image stood that stood before.
+pub record RunsBeside {D : Type 0} (d : Ghosts D) (m : Meaning) (status : Status) (old new : D) : Type 0 where
+  pub run : Runs d m (λ _ s. d.may_leave old s.image) status old new
+  pub disk : LeavesDisk d old new
+
+-- Without a fault:
+
+-- This input of fewer bytes than a run takes was told to the end, and neither reading nor writing failed.
+pub record IsUndisturbed (input : List ℕ) (old new : Beside) : Type 0 where
+  pub told : old.input ≡ Some input
+  pub still_told : IsSome new.input
+  pub few : length input < most_input
+  pub read : ¬ Rose old.in_faults new.in_faults
+  pub written : ¬ Rose old.out_faults new.out_faults
+
+-- A run over this input that nothing disturbs ends with its answer or its refusal, and never with one where there is the other, unless memory runs out.
+abbrev pub Completes : Meaning → List ℕ → Status → Type 0
+Completes m input Done = ((answer : m.Answer) × m.says input answer) × ((refusal : Refusal) → ¬ m.refuses input refusal)
+Completes m input Refused = ((refusal : Refusal) × m.refuses input refusal) × ((answer : m.Answer) → ¬ m.says input answer)
+Completes m input NoMemory = Unit {0}
+Completes m input _ = ⊥
+
+-- What is said of an input holds together: what bytes show stays, whatever comes behind them, and there is one answer or one refusal.
+pub record HoldsTogether (m : Meaning) : Type 0 where
+  pub stays : (taken more : List ℕ) (refusal : Refusal) → m.shows taken (Err refusal) → m.refuses (taken ++ more) refusal
+  pub one_answer : (input : List ℕ) (first second : m.Answer) → m.says input first → m.says input second → m.text_of first ≡ m.text_of second
+  pub one_refusal : (input : List ℕ) (first second : Refusal) → m.refuses input first → m.refuses input second → first ≡ second
+  pub one_outcome : (input : List ℕ) (answer : m.Answer) (refusal : Refusal) → m.says input answer → m.refuses input refusal → ⊥

@@ -1,21 +1,21 @@
 -- A run of a script: its commands are answered one after the other, from no documents on.
-use Rattle.std.specs.Prelude.{◌≡◌, ℕ, ◌<◌, List, [], ◌++◌, length, Option, IfSome, Result, Ok, Err}
+use Rattle.std.specs.Prelude.{◌≡◌, ℕ, List, [], ◌++◌, Option, IfSome, Result, Ok, Err}
 use Rattle.std.specs.List.{flat_map}
 use Rattle.std.specs.FinMap.{empty}
-use Rattle.nx_host.specs.Disk.{Image, Beside, Rose}
-use Rattle.nx_host.specs.Host.{Appends}
-use Rattle.nx_host.specs.Input.{most_input}
-use Rattle.nx_host.specs.Time.{Stood}
+use Rattle.nx_host.specs.declared.disk.Disk.{Ghosts}
 use Rattle.nx_host.specs.Phase.{GivesAlone, TalksAlone}
 use Rattle.nx_script.specs.declared.command.Command.{Command}
 use Rattle.nx_script.specs.declared.script.Script.{Script}
-use Rattle.nx_script.specs.Commands.{AreCommands}
+use Rattle.nx_script.specs.Commands.{AreCommands, AreWhole}
 use Rattle.nx_script.specs.Reply.{reply_text}
-use Rattle.nx_script.specs.Script.{HasGivenIn, EndsIn, StopsIn}
+use Rattle.nx_script.specs.Script.{HasGivenIn}
 use Rattle.nx_engine.specs.Documents.{Documents}
 use Rattle.nx_engine.specs.Step.{replies, after_all}
 use Rattle.nx_front.specs.declared.status.Status.{Status}
-use Rattle.nx_front.specs.declared.status.Status.TheVariants.{Done, Usage, Refused, ReadFault, WriteFault, NoMemory, TooMuch}
+use Rattle.nx_front.specs.declared.status.Status.TheVariants.{Done}
+use Rattle.nx_front.specs.declared.give.Halt.{Halt}
+use Rattle.nx_front.specs.declared.refusal.Refusal.{Refusal}
+use Rattle.nx_front.specs.Outcome.{Meaning, Gives, Given, GivesBut}
 
 -- the texts of the replies to these commands, from these documents on
 abbrev pub texts_from : Documents → List Command → List ℕ
@@ -25,56 +25,48 @@ texts_from documents commands = flat_map reply_text (replies documents commands)
 abbrev pub texts : List Command → List ℕ
 texts commands = texts_from empty commands
 
--- these are the first commands of the bytes that were taken and the input that is left, where it is told
-abbrev pub AreFirst : List ℕ → List Command → Option (List ℕ) → Type 0
-AreFirst taken commands now = IfSome now (λ left. (rest : List Command) × AreCommands (taken ++ left) (commands ++ rest))
+-- no script is refused
+abbrev pub RefusesScript : List ℕ → Refusal → Type 0
+RefusesScript input refusal = ⊥
 
--- why a run of a script ends with this status, what it has taken of the input by then and what it has given
-abbrev pub ScriptEnds : Status → Beside → Beside → Type 0
-ScriptEnds Done old new = (taken : List ℕ) × (commands : List Command) × EndsIn taken commands old.input new.input × Appends (texts commands) old.output new.output
-ScriptEnds ReadFault old new =
-    Rose old.in_faults new.in_faults
-    × (taken : List ℕ) × (commands : List Command) × (length taken < most_input) × StopsIn taken commands old.input new.input × Appends (texts commands) old.output new.output
-ScriptEnds WriteFault old new = Rose old.out_faults new.out_faults
-ScriptEnds TooMuch old new =
-    (taken : List ℕ) × (commands : List Command) × (length taken ≡ most_input) × StopsIn taken commands old.input new.input × Appends (texts commands) old.output new.output
-ScriptEnds NoMemory old new = Unit {0}
-ScriptEnds Usage old new = ⊥
-ScriptEnds Refused old new = ⊥
+-- the bytes so far hold these commands whole, whose replies are given
+abbrev pub ShowsScript : List ℕ → Result (List ℕ) Refusal → Type 0
+ShowsScript taken (Ok shown) = (commands : List Command) × AreWhole taken commands × (shown ≡ texts commands)
+ShowsScript taken (Err refusal) = ⊥
 
--- the text that answers a script
-abbrev pub AnswersScript : List ℕ → List ℕ → Type 0
-AnswersScript input answer = (commands : List Command) × AreCommands input commands × (answer ≡ texts commands)
+-- the commands of a script, with the texts of their replies
+abbrev pub script_run : Meaning
+script_run = record { Answer = List Command; text_of = texts; says = AreCommands; refuses = RefusesScript; shows = ShowsScript }
 
 -- the status of a session that ended so
 abbrev pub session_status : Result (Unit {0}) Status → Status
 session_status (Ok _) = Done
 session_status (Err status) = status
 
--- The script gave these commands more, each was answered, and what isn't given of their replies stands in the block.
-pub record HasAnswered {D : Type 0} (contents : D → Option Image) (may_leave : D → Image → Type 0) (beside : D → Beside) (moment : D → ℕ)
-    (stood_since : D → ℕ → Stood → Type 0) (faults reads : D → ℕ) (first : Option (List ℕ)) (taken : List ℕ) (commands more : List Command)
-    (script : Script) (old_plain new_plain : Documents) (old_block new_block : List ℕ) (old new : D) : Type 0 where
-  pub given : HasGivenIn script taken (commands ++ more) first (beside new).input
-  pub documents : new_plain ≡ after_all old_plain more
-  pub done : List ℕ
-  pub sum : done ++ new_block ≡ old_block ++ texts_from old_plain more
-  pub appends : Appends done (beside old).output (beside new).output
-  pub alone : GivesAlone contents may_leave beside moment stood_since faults reads (old_block ++ texts_from old_plain more) old new
+-- these are the first commands of the bytes that were taken and the input that is left, where it is told
+abbrev pub AreFirst : List ℕ → List Command → Option (List ℕ) → Type 0
+AreFirst taken commands now = IfSome now (λ left. (rest : List Command) × AreCommands (taken ++ left) (commands ++ rest))
 
--- These commands came, and what was given is a front of the replies to them.
-pub record HasStopped {D : Type 0} (contents : D → Option Image) (may_leave : D → Image → Type 0) (beside : D → Beside) (moment : D → ℕ)
-    (stood_since : D → ℕ → Stood → Type 0) (faults reads : D → ℕ) (taken : List ℕ) (commands more : List Command)
-    (plain : Documents) (block : List ℕ) (old new : D) : Type 0 where
-  pub first : AreFirst taken (commands ++ more) (beside new).input
-  pub alone : GivesAlone contents may_leave beside moment stood_since faults reads (block ++ texts_from plain more) old new
+-- The script gave these commands more, each was answered, and what isn't given of their replies stands in the block.
+pub record HasAnswered {D : Type 0} (d : Ghosts D) (first : Option (List ℕ)) (taken : List ℕ) (commands more : List Command)
+    (script : Script) (old_plain new_plain : Documents) (old_block new_block : List ℕ) (old new : D) : Type 0 where
+  pub given : HasGivenIn script taken (commands ++ more) first (d.beside new).input
+  pub documents : new_plain ≡ after_all old_plain more
+  pub gave : GivesBut (old_block ++ texts_from old_plain more) new_block (d.beside old) (d.beside new)
+  pub alone : GivesAlone d (old_block ++ texts_from old_plain more) old new
+
+-- These commands more came, and the giving of the replies to them stopped.
+pub record HasStopped {D : Type 0} (d : Ghosts D) (stop : Halt) (first : Option (List ℕ)) (taken : List ℕ) (commands more : List Command)
+    (script : Script) (plain : Documents) (block : List ℕ) (old new : D) : Type 0 where
+  pub given : HasGivenIn script taken (commands ++ more) first (d.beside new).input
+  pub gave : Given (block ++ texts_from plain more) (Err stop) (d.beside old) (d.beside new)
+  pub alone : GivesAlone d (block ++ texts_from plain more) old new
 
 -- The bytes that were taken give these commands, all of them are answered, and their replies are given.
-pub record IsAnswered {D : Type 0} (contents : D → Option Image) (may_leave : D → Image → Type 0) (beside : D → Beside) (moment : D → ℕ)
-    (stood_since : D → ℕ → Stood → Type 0) (faults reads : D → ℕ) (taken : List ℕ) (commands : List Command)
+pub record IsAnswered {D : Type 0} (d : Ghosts D) (taken : List ℕ) (commands : List Command)
     (script : Script) (plain : Documents) (block : List ℕ) (first now : D) : Type 0 where
-  pub given : HasGivenIn script taken commands (beside first).input (beside now).input
+  pub given : HasGivenIn script taken commands (d.beside first).input (d.beside now).input
   pub documents : plain ≡ after_all empty commands
   pub none_left : block ≡ []
-  pub appends : Appends (texts commands) (beside first).output (beside now).output
-  pub alone : TalksAlone contents may_leave beside moment stood_since faults reads (texts commands) first now
+  pub gives : Gives (texts commands) (d.beside first).output (d.beside now).output
+  pub alone : TalksAlone d (texts commands) first now

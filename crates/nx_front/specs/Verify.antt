@@ -1,24 +1,20 @@
--- What `verify` answers to an input: the lines of a document, a dot, and the lines of a plan.
-use Rattle.std.specs.Prelude.{◌≡◌, ◌≢◌, ◌⊎◌, ℕ, ◌<◌, ◌^◌, List, [], ◌∷◌, length, Option, Some, Result, Ok, Err, codes, decimal}
+-- What `verify` makes of its input: the lines of a document, a dot, and the lines of a plan.
+use Rattle.std.specs.Prelude.{◌≡◌, ℕ, ◌<◌, ◌^◌, true, List, [], ◌∷◌, ◌++◌, length, None, Some, Result, Ok, Err, codes, decimal}
 use Rattle.nx_tree.specs.Forest.{OrderedTree}
 use Rattle.nx_pyx.specs.Fault.{fault_of}
+use Rattle.nx_pyx.specs.Lines.{ended_lines}
 use Rattle.nx_pyx.specs.Reading.{Reads}
-use Rattle.nx_script.specs.BeforeDot.{before_dot, after_dot}
+use Rattle.nx_script.specs.Commands.{has_dot}
+use Rattle.nx_script.specs.BeforeDot.{before_dot, after_dot, shown_before_dot}
 use Rattle.nx_parts.specs.declared.plan.Plan.{Plan}
 use Rattle.nx_bounds.specs.declared.error.BoundsError.{BoundsError}
 use Rattle.nx_bounds.specs.declared.error.BoundsError.TheVariants.{BadPlanLine, Memory}
 use Rattle.nx_bounds.specs.Refusal.{IsSound, IsCertified, IsNotCertified}
 use Rattle.nx_bounds.specs.PlanText.{ReadsAs, IsNoPlan}
-use Rattle.nx_host.specs.Disk.{Beside, Rose}
-use Rattle.nx_host.specs.Host.{Appends}
-use Rattle.nx_host.specs.Input.{most_input}
-use Rattle.nx_front.specs.declared.status.Status.{Status}
-use Rattle.nx_front.specs.declared.status.Status.TheVariants.{Done, Usage, Refused, ReadFault, WriteFault, NoMemory, TooMuch}
-use Rattle.nx_front.specs.Outcome.{EndsWhole}
-use Rattle.nx_front.specs.Claimed.{EndsFaulty, EndsUnfaulty}
 use Rattle.nx_front.specs.declared.refusal.Refusal.{Refusal}
 use Rattle.nx_front.specs.declared.refusal.Refusal.TheVariants.{Pyx, Bounds}
-use Rattle.nx_front.specs.Refusal.{line_of, refusal_line}
+use Rattle.nx_front.specs.Refusal.{line_of}
+use Rattle.nx_front.specs.Outcome.{Meaning}
 
 -- the line for a plan of so many intervals that is certified
 abbrev pub certified_line : ℕ → List ℕ
@@ -56,13 +52,6 @@ abbrev pub IsRefusedInput : ℕ → List ℕ → Refusal → Type 0
 IsRefusedInput k input (Pyx error) = fault_of (before_dot input) ≡ Some error
 IsRefusedInput k input (Bounds error) = (tree : OrderedTree) × Reads (before_dot input) tree × IsRefusedText k tree (after_dot input) error
 
--- the answer to an input: the one line of its verdict, or nothing where there was no memory for that
-abbrev pub AnswersClaim : ℕ → List ℕ → List ℕ → Type 0
-AnswersClaim k input answer =
-    ((intervals : ℕ) × IsCertifiedInput k input intervals × (answer ≡ certified_line intervals))
-    ⊎ ((refusal : Refusal) × IsRefusedInput k input refusal × (answer ≡ refusal_line refusal))
-    ⊎ (answer ≡ [])
-
 -- what is said of the text as that of a plan for the tree
 abbrev pub JudgesText : ℕ → OrderedTree → List ℕ → Result ℕ BoundsError → Type 0
 JudgesText k tree text (Ok intervals) = IsCertifiedText k tree text intervals
@@ -75,33 +64,12 @@ pub record AreFew (plan : Plan) : Type 0 where
   pub weights : length plan.weights < 2 ^ 32
   pub bounds : length plan.bounds < 2 ^ 32
 
--- the line of a verdict, which is none where there was no memory for it
-abbrev pub verdict_text : Result ℕ BoundsError → List ℕ
-verdict_text (Ok intervals) = certified_line intervals
-verdict_text (Err error) = refusal_line (Bounds error)
+-- the bytes so far show no fault of the document, and where its dot has come, it has none; or they show this one
+abbrev pub ShowsClaim : List ℕ → Result (List ℕ) Refusal → Type 0
+ShowsClaim taken (Ok shown) = (shown ≡ []) × (shown_before_dot taken ≡ None) × (has_dot (ended_lines taken) ≡ true → fault_of (before_dot taken) ≡ None)
+ShowsClaim taken (Err (Pyx error)) = (more : List ℕ) → fault_of (before_dot (taken ++ more)) ≡ Some error
+ShowsClaim taken (Err (Bounds error)) = ⊥
 
--- how a run ends that gives the line of a verdict
-abbrev pub EndsVerdict : Result ℕ BoundsError → Status → Beside → Beside → Type 0
-EndsVerdict verdict WriteFault old new = Rose old.out_faults new.out_faults
-EndsVerdict verdict NoMemory old new = Unit {0}
-EndsVerdict (Ok intervals) Done old new = Appends (certified_line intervals) old.output new.output
-EndsVerdict (Err error) Refused old new = (error ≢ Memory) × Appends (refusal_line (Bounds error)) old.output new.output
-EndsVerdict verdict status old new = ⊥
-
--- how the taking ends of an input that is refused so: at a fault of its document, or else at its end
-abbrev pub EndsRefusedBy : ℕ → Refusal → List ℕ → Option (List ℕ) → Option (List ℕ) → Type 0
-EndsRefusedBy k (Pyx error) taken first now = EndsFaulty error taken first now
-EndsRefusedBy k (Bounds error) taken first now = EndsWhole taken first now × IsRefusedInput k taken (Bounds error)
-
--- why a run of `verify` ends with this status, what it has taken of the input by then and what it has given
-abbrev pub VerifyEnds : ℕ → Status → Beside → Beside → Type 0
-VerifyEnds k Done old new =
-    (intervals : ℕ) × (taken : List ℕ) × EndsWhole taken old.input new.input × IsCertifiedInput k taken intervals × Appends (certified_line intervals) old.output new.output
-VerifyEnds k Refused old new =
-    (refusal : Refusal) × (taken : List ℕ) × EndsRefusedBy k refusal taken old.input new.input × Appends (refusal_line refusal) old.output new.output
-VerifyEnds k ReadFault old new =
-    Rose old.in_faults new.in_faults × (new.output ≡ old.output) × (taken : List ℕ) × (length taken < most_input) × EndsUnfaulty taken old.input new.input
-VerifyEnds k WriteFault old new = Rose old.out_faults new.out_faults
-VerifyEnds k TooMuch old new = (new.output ≡ old.output) × (taken : List ℕ) × (length taken ≡ most_input) × EndsUnfaulty taken old.input new.input
-VerifyEnds k NoMemory old new = Unit {0}
-VerifyEnds k Usage old new = ⊥
+-- the plan's number of intervals, where it is certified for the document
+abbrev pub verify : ℕ → Meaning
+verify k = record { Answer = ℕ; text_of = certified_line; says = IsCertifiedInput k; refuses = IsRefusedInput k; shows = ShowsClaim }

@@ -1,23 +1,21 @@
 // The second phase: the output is given.
-ghost use Rattle.std.specs.Prelude.{◌≡◌, ◌<◌, ℕ, List, [], ◌++◌, length, true, false, OnOk, IfOk, Err, string_bytes};
-ghost use Rattle.nx_host.specs.Disk.{Rose};
-ghost use Rattle.nx_host.specs.Host.{Appends};
+ghost use Rattle.std.specs.Prelude.{◌≡◌, ℕ, List, [], ◌++◌, OnOk, IfOk, string_bytes};
+ghost use Rattle.nx_host.specs.Phase.{GivesAlone};
 ghost use Rattle.nx_pyx.specs.Text.{text};
 ghost use Rattle.nx_front.specs.Refusal.{refusal_line};
 ghost use Rattle.nx_front.specs.Verify.{certified_line};
-ghost use Rattle.nx_front.specs.Run.{status_after};
-ghost use Rattle.nx_host.specs.Phase.{GivesAlone};
-ghost use Rattle.nx_front.specs.Outcome.{GivesBlock};
+ghost use Rattle.nx_front.specs.Outcome.{Given, GivenBut, EndsAfter, line_after, status_after};
 ghost use Rattle.nx_front.specs.declared.give.Halt.TheVariants.{NoMemory, WriteFault};
 
 use crate::Status;
 use crate::refusal::{Refusal, refusal_line};
-use nx_host::{Failed, Host};
+use crate::stop::Stop;
+use nx_host::{Disk, Failed, Host};
 use nx_pyx::Writer;
 use nx_tree::{Bytes, Tree};
 use std::alloc::{AllocError, Global};
 
-// As many bytes as are given at once, but for the last ones.
+// Once a block has as many bytes, it is given.
 pub const BLOCK: usize = 65_536;
 
 // Why the output isn't whole.
@@ -51,57 +49,72 @@ impl From<Failed> for Halt {
     }
 }
 
-// Gives the canonical text of the document.
-pub fn give_text<H: Host>(alloc: Global, host: &mut H, tree: &Tree) -> Result<(), Halt>
-    ensures ok { OnOk result (Appends (text tree.now) (H.beside host.old).output (H.beside host.new).output) }
-    ensures cause { result ≡ Err Halt.WriteFault → Rose (H.beside host.old).out_faults (H.beside host.new).out_faults }
-    ensures alone { GivesAlone H.contents H.may_leave H.beside H.moment H.stood_since H.faults H.reads (text tree.now) host.old host.new }
+// Gives the bytes, if there are any.
+pub fn give<H: Host>(host: &mut H, bytes: &[u8]) -> Result<(), Halt>
+    ensures given { Given bytes.now result (H.beside host.old) (H.beside host.new) }
+    ensures alone { GivesAlone ⟦<H as Disk>⟧ bytes.now host.old host.new }
 {
-    let mut writer = Writer::new(alloc, tree)?;
-    let mut block = Bytes::new(alloc);
-    let mut more = true;
-    while more {
-        more = give_block(host, &mut writer, &mut block)?;
+    if !bytes.is_empty() {
+        host.emit(bytes)?;
     }
     Ok(())
 }
 
-// Gives the next block of the text, and says whether there is more.
-fn give_block<H: Host>(
-    host: &mut H,
-    writer: &mut Writer<'_>,
-    block: &mut Bytes,
-) -> Result<bool, Halt>
-    ensures ok { IfOk result (λ more. GivesBlock more writer.old writer.new (H.beside host.old).output (H.beside host.new).output) }
-    ensures cause { result ≡ Err Halt.WriteFault → Rose (H.beside host.old).out_faults (H.beside host.new).out_faults }
-    ensures alone { GivesAlone H.contents H.may_leave H.beside H.moment H.stood_since H.faults H.reads writer.old host.old host.new }
+// Gives what the block has, and empties it.
+pub fn give_block<H: Host>(host: &mut H, block: &mut Bytes) -> Result<(), Halt>
+    ensures given { Given block.old result (H.beside host.old) (H.beside host.new) }
+    ensures empty { OnOk result (block.new ≡ []) }
+    ensures alone { GivesAlone ⟦<H as Disk>⟧ block.old host.old host.new }
 {
+    give(host, block.as_slice())?;
     block.clear();
-    let more = writer.fill(block, BLOCK)?;
-    host.emit(block.as_slice())?;
-    Ok(more)
+    Ok(())
+}
+
+// Gives what the block has and the canonical text of the document behind it, but for a last part,
+// which is left in the block.
+pub fn give_into<H: Host>(
+    alloc: Global,
+    host: &mut H,
+    block: &mut Bytes,
+    tree: &Tree,
+) -> Result<(), Halt>
+    ensures given { GivenBut (block.old ++ text tree.now) block.new result (H.beside host.old) (H.beside host.new) }
+    ensures alone { GivesAlone ⟦<H as Disk>⟧ (block.old ++ text tree.now) host.old host.new }
+{
+    let mut writer = Writer::new(alloc, tree)?;
+    while writer.fill(block, BLOCK)? {
+        give_block(host, block)?;
+    }
+    Ok(())
+}
+
+// Gives the canonical text of the document.
+pub fn give_text<H: Host>(alloc: Global, host: &mut H, tree: &Tree) -> Result<(), Halt>
+    ensures given { Given (text tree.now) result (H.beside host.old) (H.beside host.new) }
+    ensures alone { GivesAlone ⟦<H as Disk>⟧ (text tree.now) host.old host.new }
+{
+    let mut block = Bytes::new(alloc);
+    give_into(alloc, host, &mut block, tree)?;
+    give_block(host, &mut block)
 }
 
 // Gives the line that refuses the input.
-pub fn give_refusal<H: Host>(alloc: Global, host: &mut H, refusal: Refusal) -> Result<(), Halt>
-    ensures ok { OnOk result (Appends (refusal_line refusal) (H.beside host.old).output (H.beside host.new).output) }
-    ensures cause { result ≡ Err Halt.WriteFault → Rose (H.beside host.old).out_faults (H.beside host.new).out_faults }
-    ensures alone { GivesAlone H.contents H.may_leave H.beside H.moment H.stood_since H.faults H.reads (refusal_line refusal) host.old host.new }
+fn give_refusal<H: Host>(alloc: Global, host: &mut H, refusal: Refusal) -> Result<(), Halt>
+    ensures given { Given (refusal_line refusal) result (H.beside host.old) (H.beside host.new) }
+    ensures alone { GivesAlone ⟦<H as Disk>⟧ (refusal_line refusal) host.old host.new }
 {
     let line = refusal_line(alloc, refusal)?;
-    host.emit(line.as_bytes())?;
-    Ok(())
+    give(host, line.as_bytes())
 }
 
 // Gives the line for a plan of so many intervals that is certified.
 pub fn give_count<H: Host>(alloc: Global, host: &mut H, intervals: usize) -> Result<(), Halt>
-    ensures ok { OnOk result (Appends (certified_line intervals) (H.beside host.old).output (H.beside host.new).output) }
-    ensures cause { result ≡ Err Halt.WriteFault → Rose (H.beside host.old).out_faults (H.beside host.new).out_faults }
-    ensures alone { GivesAlone H.contents H.may_leave H.beside H.moment H.stood_since H.faults H.reads (certified_line intervals) host.old host.new }
+    ensures given { Given (certified_line intervals) result (H.beside host.old) (H.beside host.new) }
+    ensures alone { GivesAlone ⟦<H as Disk>⟧ (certified_line intervals) host.old host.new }
 {
     let line = certified_line(alloc, intervals)?;
-    host.emit(line.as_bytes())?;
-    Ok(())
+    give(host, line.as_bytes())
 }
 
 // The line for a plan of so many intervals that is certified.
@@ -119,5 +132,18 @@ pub fn status_of(given: Result<(), Halt>, whole: Status) -> Status
         Ok(()) => whole,
         Err(Halt::WriteFault) => Status::WriteFault,
         Err(Halt::NoMemory) => Status::NoMemory,
+    }
+}
+
+// Ends a run whose reading has stopped: gives the line of a refusal.
+pub fn end_after<H: Host>(alloc: Global, host: &mut H, stop: Stop) -> Status
+    ensures ends { EndsAfter stop result (H.beside host.old) (H.beside host.new) }
+    ensures alone { GivesAlone ⟦<H as Disk>⟧ (line_after stop) host.old host.new }
+{
+    match stop {
+        Stop::Refused(refusal) => { status_of(give_refusal(alloc, host, refusal), Status::Refused) }
+        Stop::ReadFault => Status::ReadFault,
+        Stop::TooMuch => Status::TooMuch,
+        Stop::NoMemory => Status::NoMemory,
     }
 }

@@ -2,11 +2,14 @@
 #![tactic(auto)]
 
 mod claimed;
+mod consumer;
 mod give;
+pub mod laws;
 mod read;
 mod refusal;
 mod session;
 mod status;
+mod stop;
 mod top;
 mod verify;
 mod words;

@@ -1,77 +1,41 @@
-// The first phase: the input is read to its end, or to where it is refused.
-ghost use Rattle.std.specs.Prelude.{◌≡◌, ℕ, List, IfOk, IfErr, Err};
-ghost use Rattle.nx_host.specs.Disk.{Rose};
+// The document that an input is.
+ghost use Rattle.std.specs.Prelude.{◌≡◌, ℕ, List, refl};
 ghost use Rattle.nx_host.specs.Phase.{TakesAlone};
 ghost use Rattle.nx_pyx.specs.Reader.{HasRead};
-ghost use Rattle.nx_front.specs.Outcome.{EndsRead, StopsBy, Finishes, TakesFew};
-ghost use Rattle.nx_front.specs.Stop.{stop_of, stop_of_input};
-ghost use Rattle.nx_front.specs.declared.read.Stop.TheVariants.{NoMemory};
+ghost use Rattle.nx_front.specs.Outcome.{ReadsTo, TakesFew};
+ghost use Rattle.nx_front.specs.Tidy.{ShowsDocument, tidy, Finishes};
 
-use nx_host::{Host, Input, InputError};
-use nx_pyx::{PyxError, ReadError, Reader};
+use crate::consumer::{Consumer, feed};
+use crate::stop::Stop;
+use nx_host::{Disk, Host, Input};
+use nx_pyx::Reader;
 use nx_tree::Tree;
-use std::alloc::{AllocError, Global};
+use std::alloc::Global;
 
-// Why the input gave no document.
-#[derive(Clone, Copy)]
-pub enum Stop {
-    Refused(PyxError),
-    ReadFault,
-    TooMuch,
-    NoMemory,
-}
+impl Consumer for Reader {
+    ghost has_read = { λ reader taken. HasRead reader taken };
 
-impl From<ReadError> for Stop {
-    ghost from_gives = { λ error stop. stop ≡ stop_of error };
+    ghost has_enough = { λ _ _. ⊥ };
 
-    fn from(error: ReadError) -> Stop {
-        match error {
-            ReadError::Pyx(error) => Stop::Refused(error),
-            ReadError::Memory => Stop::NoMemory,
-        }
+    ghost shows = { ShowsDocument };
+
+    fn take(&mut self, block: &[u8]) -> Result<bool, Stop> {
+        self.feed(block)?;
+        Ok(true)
     }
-}
 
-impl From<nx_tree::NoMemory> for Stop {
-    ghost from_gives = { λ _ stop. stop ≡ NoMemory };
-
-    fn from(_: nx_tree::NoMemory) -> Stop {
-        Stop::NoMemory
-    }
-}
-
-impl From<AllocError> for Stop {
-    ghost from_gives = { λ _ stop. stop ≡ NoMemory };
-
-    fn from(_: AllocError) -> Stop {
-        Stop::NoMemory
-    }
-}
-
-impl From<InputError> for Stop {
-    ghost from_gives = { λ error stop. stop ≡ stop_of_input error };
-
-    fn from(error: InputError) -> Stop {
-        match error {
-            InputError::Read => Stop::ReadFault,
-            InputError::TooMuch => Stop::TooMuch,
-        }
-    }
+    ghost shows_none = { λ reader taken read. (refl, read.shows_none) };
 }
 
 // The document that the whole input says.
 pub fn read<H: Host>(alloc: Global, host: &mut H) -> Result<Tree, Stop>
-    ensures ok { IfOk result (λ tree. (taken : List ℕ) × EndsRead tree taken (H.beside host.old).input (H.beside host.new).input) }
-    ensures err { IfErr result (λ stop. StopsBy stop (H.beside host.old).input (H.beside host.new).input) }
+    ensures reads { ReadsTo tidy result (H.beside host.old) (H.beside host.new) }
     ensures bounded { TakesFew (H.beside host.old).input (H.beside host.new).input }
-    ensures cause { result ≡ Err Stop.ReadFault → Rose (H.beside host.old).in_faults (H.beside host.new).in_faults }
-    ensures alone { TakesAlone H.contents H.may_leave H.beside H.moment H.stood_since H.faults H.reads host.old host.new }
+    ensures alone { TakesAlone ⟦<H as Disk>⟧ host.old host.new }
 {
     let mut reader = Reader::new(alloc)?;
     let mut input = Input::new(alloc)?;
-    while input.fill(host)? > 0 {
-        reader.feed(input.block())?;
-    }
+    feed(host, &mut input, &mut reader)?;
     finish(reader)
 }
 
@@ -79,8 +43,5 @@ pub fn read<H: Host>(alloc: Global, host: &mut H) -> Result<Tree, Stop>
 fn finish(reader: Reader) -> Result<Tree, Stop>
     ensures { (taken : List ℕ) → HasRead reader taken → Finishes taken result }
 {
-    match reader.finish() {
-        Ok(tree) => Ok(tree),
-        Err(error) => Err(Stop::from(error)),
-    }
+    Ok(reader.finish()?)
 }

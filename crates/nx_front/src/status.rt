@@ -16,7 +16,7 @@ pub enum Status {
     Refused,
     /// Reading the input failed.
     ReadFault,
-    /// Writing the output failed.
+    /// Writing the output failed, while bytes of it were still to be given.
     WriteFault,
     /// There was no memory for what the run had to keep.
     NoMemory,

@@ -1,19 +1,17 @@
 // A run that checks a partitioning of a document.
-ghost use Rattle.std.specs.Prelude.{◌≡◌, ◌≤◌, ◌<◌, ◌^◌, length, IfOk, IfErr, Some};
-ghost use Rattle.nx_host.specs.Phase.{GivesAlone};
+ghost use Rattle.std.specs.Prelude.{◌≤◌, ◌<◌, ◌^◌, length, IfOk, IfErr};
+ghost use Rattle.nx_host.specs.Phase.{TakesAlone};
 ghost use Rattle.nx_tree.specs.Document.{IsDocument};
 ghost use Rattle.nx_bounds.specs.PlanText.{ReadsAs, IsNoPlan};
-ghost use Rattle.nx_front.specs.Run.{IsCarriedOut};
-ghost use Rattle.nx_front.specs.Verify.{JudgesText, EndsVerdict, verdict_text, AreFew};
-ghost use Rattle.nx_front.specs.declared.words.CommandLine.TheVariants.{Verify};
+ghost use Rattle.nx_front.specs.Outcome.{ReadsTo, RunsBeside, TakesFew};
+ghost use Rattle.nx_front.specs.Verify.{JudgesText, AreFew, verify};
 
 use crate::Status;
 use crate::claimed::{Claimed, read_claimed};
-use crate::give::{give_count, give_refusal, status_of};
-use crate::read::Stop;
-use crate::refusal::Refusal;
+use crate::give::{end_after, give_count, status_of};
+use crate::stop::Stop;
 use nx_bounds::{BoundsError, certified, read_plan};
-use nx_host::Host;
+use nx_host::{Disk, Host};
 use nx_parts::Plan;
 use nx_tree::Bytes;
 use std::alloc::Global;
@@ -23,33 +21,24 @@ use std::alloc::Global;
 pub fn verify<H: Host>(alloc: Global, host: &mut H, k: u32) -> Status
     requires least { 1 ≤ k }
     requires most { k ≤ 256 }
-    ensures { IsCarriedOut H.contents H.may_leave H.beside H.moment H.stood_since H.faults H.reads (Some (Verify k)) result host.old host.new }
+    ensures { RunsBeside ⟦<H as Disk>⟧ (verify k) result host.old host.new }
 {
-    match read_claimed(alloc, host) {
-        Ok(claimed) => give_verdict(alloc, host, judge(alloc, claimed, k)),
-        Err(Stop::Refused(error)) => status_of(
-            give_refusal(alloc, host, Refusal::Pyx(error)),
-            Status::Refused,
-        ),
-        Err(Stop::ReadFault) => Status::ReadFault,
-        Err(Stop::TooMuch) => Status::TooMuch,
-        Err(Stop::NoMemory) => Status::NoMemory,
+    match read_verdict(alloc, host, k) {
+        Ok(intervals) => status_of(give_count(alloc, host, intervals), Status::Done),
+        Err(stop) => end_after(alloc, host, stop),
     }
 }
 
-// Gives the line of a verdict, unless it is want of memory.
-fn give_verdict<H: Host>(alloc: Global, host: &mut H, verdict: Result<usize, BoundsError>) -> Status
-    ensures ends { EndsVerdict verdict result (H.beside host.old) (H.beside host.new) }
-    ensures alone { GivesAlone H.contents H.may_leave H.beside H.moment H.stood_since H.faults H.reads (verdict_text verdict) host.old host.new }
+// The number of intervals of the input's plan, if it is certified for the input's document.
+fn read_verdict<H: Host>(alloc: Global, host: &mut H, k: u32) -> Result<usize, Stop>
+    requires least { 1 ≤ k }
+    requires most { k ≤ 256 }
+    ensures reads { ReadsTo (verify k) result (H.beside host.old) (H.beside host.new) }
+    ensures bounded { TakesFew (H.beside host.old).input (H.beside host.new).input }
+    ensures alone { TakesAlone ⟦<H as Disk>⟧ host.old host.new }
 {
-    match verdict {
-        Ok(intervals) => status_of(give_count(alloc, host, intervals), Status::Done),
-        Err(BoundsError::Memory) => Status::NoMemory,
-        Err(error) => status_of(
-            give_refusal(alloc, host, Refusal::Bounds(error)),
-            Status::Refused,
-        ),
-    }
+    let claimed = read_claimed(alloc, host)?;
+    Ok(judge(alloc, claimed, k)?)
 }
 
 // The number of intervals of the plan that the text is, if it is certified.

@@ -1,4 +1,4 @@
-use Rattle.std.proofs.Common.{◌≡◌, ◌≤◌, ℕ, List, [], ◌∷◌, ◌++◌, Option, Some, IfSome, refl, subst, arith, ◌∙◌}
+use Rattle.std.proofs.Common.{◌≡◌, ℕ, List, [], ◌∷◌, ◌++◌, Option, Some, IfSome, refl, subst, ◌∙◌}
 use Rattle.std.proofs.lemmas.Result.{err_from_is_err_and}
 use Rattle.nx_script.specs.declared.command.Command.{Command}
 use Rattle.nx_script.specs.declared.script.Script.{Script}
@@ -16,26 +16,16 @@ next_given old new next command is given =
 
 pub loop-next-init : goal.loop-next-init
 loop-next-init g c =
-    let h = g.H.Disk in
     record {
-      answered = λ first taken commands given. (
-        [],
-        has_answered_none h.contents h.may_leave h.beside h.moment h.stood_since h.faults h.reads c.args.script.now taken commands first c.args.plain.now c.args.block.now
-            c.args.host.now given,
-      );
-      faults = omega arith;
+      answered = λ first taken commands given. ([], has_answered_none given);
       taken = refl;
       ended = refl;
     }
 
 pub returns-in_default-clause-err : goal.returns-in_default-clause-err
 returns-in_default-clause-err g c = λ first taken commands given.
-    let h = g.H.Disk in
-    let (more, did) = c.loop-next.invariant.answered first taken commands given in (
-      more,
-      stopped_after h.contents h.may_leave h.beside h.moment h.stood_since h.faults h.reads first taken commands more c.loop-next.script c.args.plain.now c.loop-next.plain
-          c.args.block.now c.loop-next.block c.args.host.now c.loop-next.host did,
-    )
+    let (more, did) = c.loop-next.invariant.answered first taken commands given in
+    (more, c.loop-next.script, c.loop-next.invariant.ended, stopped_after did)
 
 pub answer-requires : goal.answer-requires
 answer-requires g c =
@@ -46,74 +36,57 @@ answer-requires g c =
 
 pub returns-in_err-answer-clause-err : goal.returns-in_err-answer-clause-err
 returns-in_err-answer-clause-err g c =
-    let h = g.H.Disk in
     let p = err_from_is_err_and c.from_residual.result c.from_residual.ensures.1 in
-    rw p.1
+    rw (p.1, p.2)
     (λ first taken commands given.
     let (more, did) = c.loop-next.invariant.answered first taken commands given in
     let next = next_given c.loop-next.script c.ready.new.self c.in-Ok.next c.in-Some.command c.in-Some.is c.in-Ok.ensures.given taken (commands ++ more) did.given.given in (
       more ++ c.in-Some.command ∷ [],
-      stopped_answering h.contents h.may_leave h.beside h.moment h.stood_since h.faults h.reads first taken commands more c.in-Some.command c.loop-next.script c.ready.new.self
-          c.args.plain.now c.loop-next.plain c.args.block.now c.loop-next.block c.args.host.now c.loop-next.host c.answer.new.host c.ready.ensures.ended did next
-          c.answer.ensures.alone,
+      c.ready.new.self,
+      c.ready.ensures.ended ∙ c.loop-next.invariant.ended,
+      stopped_answering c.in-Some.command
+          c.ready.ensures.ended did next c.in_err-answer.ensures.given c.answer.ensures.alone,
     ))
 
-pub returns-in_err-give-clause-err : goal.returns-in_err-give-clause-err
-returns-in_err-give-clause-err g c =
-    let h = g.H.Disk in
-    let p = err_from_is_err_and c.from_residual-in_err-give.result c.from_residual-in_err-give.ensures.1 in
-    rw p.1
+pub returns-in_err-give_block-clause-err : goal.returns-in_err-give_block-clause-err
+returns-in_err-give_block-clause-err g c =
+    let p = err_from_is_err_and c.from_residual-in_err-give_block.result c.from_residual-in_err-give_block.ensures.1 in
+    rw (p.1, p.2)
     (λ first taken commands given.
     let (more, did) = c.loop-next.invariant.answered first taken commands given in
     let next = next_given c.loop-next.script c.ready.new.self c.in-Ok.next c.in-Some.command c.in-Some.is c.in-Ok.ensures.given taken (commands ++ more) did.given.given in
-    let after = has_answered_more h.contents h.may_leave h.beside h.moment h.stood_since h.faults h.reads first taken commands more c.in-Some.command c.loop-next.script
-    c.ready.new.self c.args.plain.now c.loop-next.plain c.answer.new.plain c.args.block.now c.loop-next.block c.answer.new.block c.args.host.now c.loop-next.host
-    c.answer.new.host c.ready.ensures.ended did next c.in_ok-answer.ensures.documents c.in_ok-answer.ensures.ok c.answer.ensures.alone in (
+    let after = has_answered_more c.in-Some.command c.ready.ensures.ended did next c.in_ok-answer.ensures.documents c.in_ok-answer.ensures.given c.answer.ensures.alone in (
       more ++ c.in-Some.command ∷ [],
-      stopped_giving h.contents h.may_leave h.beside h.moment h.stood_since h.faults h.reads first taken commands (more ++ c.in-Some.command ∷ []) c.ready.new.self
-          c.args.plain.now c.answer.new.plain c.args.block.now c.answer.new.block c.args.host.now c.answer.new.host c.give.new.host after c.give.ensures.alone,
+      c.ready.new.self,
+      c.ready.ensures.ended ∙ c.loop-next.invariant.ended,
+      stopped_giving
+          after c.in_err-give_block.ensures.given c.give_block.ensures.alone,
     ))
 
 pub loop-next-preserved-in-Continue-branch-2 : goal.loop-next-preserved-in-Continue-branch-2
 loop-next-preserved-in-Continue-branch-2 g c =
-    let h = g.H.Disk in
     record {
       answered = λ first taken commands given.
           let (more, did) = c.loop-next.invariant.answered first taken commands given in
           let next = next_given c.loop-next.script c.ready.new.self c.in-Ok.next c.in-Some.command c.in-Some.is c.in-Ok.ensures.given taken (commands ++ more) did.given.given in
-          let after = has_answered_more h.contents h.may_leave h.beside h.moment h.stood_since h.faults h.reads first taken commands more c.in-Some.command c.loop-next.script
-          c.ready.new.self c.args.plain.now c.loop-next.plain c.answer.new.plain c.args.block.now c.loop-next.block c.answer.new.block c.args.host.now c.loop-next.host
-          c.answer.new.host c.ready.ensures.ended did next c.in_ok-answer.ensures.documents c.in_ok-answer.ensures.ok c.answer.ensures.alone in (
+          let after = has_answered_more c.in-Some.command c.ready.ensures.ended did next c.in_ok-answer.ensures.documents c.in_ok-answer.ensures.given c.answer.ensures.alone in (
             more ++ c.in-Some.command ∷ [],
-            has_answered_given h.contents h.may_leave h.beside h.moment h.stood_since h.faults h.reads first taken commands (more ++ c.in-Some.command ∷ []) c.ready.new.self
-                c.args.plain.now c.answer.new.plain c.args.block.now c.answer.new.block c.give.new.block c.args.host.now c.answer.new.host c.give.new.host after
-                c.in_ok-give.ensures.empty c.in_ok-give.ensures.ok c.give.ensures.alone,
+            has_answered_given after c.in_ok-give_block.ensures.empty c.in_ok-give_block.ensures.given c.give_block.ensures.alone,
           );
-      faults =
-          let x : (h.beside c.args.host.now).out_faults ≤ (h.beside c.loop-next.host).out_faults = c.loop-next.invariant.faults in
-          let y : (h.beside c.loop-next.host).out_faults ≤ (h.beside c.answer.new.host).out_faults = c.answer.ensures.alone.out_faults in
-          let z : (h.beside c.answer.new.host).out_faults ≤ (h.beside c.give.new.host).out_faults = c.give.ensures.alone.out_faults in
-          omega arith;
       taken = c.ready.ensures.taken ∙ c.loop-next.invariant.taken;
       ended = c.ready.ensures.ended ∙ c.loop-next.invariant.ended;
     }
 
 pub loop-next-preserved : goal.loop-next-preserved
 loop-next-preserved g c =
-    let h = g.H.Disk in
     record {
       answered = λ first taken commands given.
           let (more, did) = c.loop-next.invariant.answered first taken commands given in
           let next = next_given c.loop-next.script c.ready.new.self c.in-Ok.next c.in-Some.command c.in-Some.is c.in-Ok.ensures.given taken (commands ++ more) did.given.given in (
             more ++ c.in-Some.command ∷ [],
-            has_answered_more h.contents h.may_leave h.beside h.moment h.stood_since h.faults h.reads first taken commands more c.in-Some.command c.loop-next.script
-                c.ready.new.self c.args.plain.now c.loop-next.plain c.answer.new.plain c.args.block.now c.loop-next.block c.answer.new.block c.args.host.now c.loop-next.host
-                c.answer.new.host c.ready.ensures.ended did next c.in_ok-answer.ensures.documents c.in_ok-answer.ensures.ok c.answer.ensures.alone,
+            has_answered_more c.in-Some.command c.ready.ensures.ended did next c.in_ok-answer.ensures.documents c.in_ok-answer.ensures.given
+                c.answer.ensures.alone,
           );
-      faults =
-          let x : (h.beside c.args.host.now).out_faults ≤ (h.beside c.loop-next.host).out_faults = c.loop-next.invariant.faults in
-          let y : (h.beside c.loop-next.host).out_faults ≤ (h.beside c.answer.new.host).out_faults = c.answer.ensures.alone.out_faults in
-          omega arith;
       taken = c.ready.ensures.taken ∙ c.loop-next.invariant.taken;
       ended = c.ready.ensures.ended ∙ c.loop-next.invariant.ended;
     }

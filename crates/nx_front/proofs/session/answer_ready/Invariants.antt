@@ -1,4 +1,4 @@
-use Rattle.std.proofs.Common.{◌≡◌, ◌≤◌, ℕ, List, Option}
+use Rattle.std.proofs.Common.{◌≡◌, ℕ, List, Option}
 use Rattle.nx_script.specs.declared.command.Command.{Command}
 use Rattle.nx_script.specs.Script.{HasGivenIn, work_left}
 use Rattle.nx_front.specs.Session.{HasAnswered}
@@ -10,9 +10,7 @@ invariant-loop-next g l =
     let h = g.H.Disk in
     record {
       answered : (first : Option (List ℕ)) (taken : List ℕ) (commands : List Command) → HasGivenIn l.initial.script taken commands first (h.beside l.initial.host).input →
-          (more : List Command) × HasAnswered h.contents h.may_leave h.beside h.moment h.stood_since h.faults h.reads first taken commands more l.script l.initial.plain l.plain
-          l.initial.block l.block l.initial.host l.host;
-      faults : (h.beside l.initial.host).out_faults ≤ (h.beside l.host).out_faults;
+          (more : List Command) × HasAnswered h first taken commands more l.script l.initial.plain l.plain l.initial.block l.block l.initial.host l.host;
       taken : l.script.input.taken ≡ l.initial.script.input.taken;
       ended : l.script.ended ≡ l.initial.script.ended;
     }

@@ -6,10 +6,7 @@ use Rattle.nx_front.proofs.session.converse.Given as goal
 
 -- every command of the bytes that were taken is answered
 abbrev pub invariant-loop-block : goal.invariant-loop-block
-invariant-loop-block g l =
-    let h = g.H.Disk in
-    (taken : List ℕ) × (commands : List Command)
-    × IsAnswered h.contents h.may_leave h.beside h.moment h.stood_since h.faults h.reads taken commands l.script l.plain l.block l.initial.host l.host
+invariant-loop-block g l = (taken : List ℕ) × (commands : List Command) × IsAnswered g.H.Disk taken commands l.script l.plain l.block l.initial.host l.host
 
 -- as many bytes as may still come, and the input's end
 abbrev pub decreases-loop-block : goal.decreases-loop-block

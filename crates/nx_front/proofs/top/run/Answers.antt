@@ -1,23 +1,45 @@
-use Rattle.std.proofs.Common.{Some, refl, sym, ap, ◌∙◌}
-use Rattle.nx_front.specs.declared.words.CommandLine.TheVariants.{Tidy, Verify}
-use Rattle.nx_front.proofs.RunLemmas.{done_reading, refuses_fault}
-use Rattle.nx_front.proofs.VerifyLemmas.{done_certified, refuses_claim}
+use Rattle.std.proofs.Common.{Some, sym, ap, ◌∙◌, subst}
+use Rattle.nx_front.specs.declared.status.Status.{Status}
+use Rattle.nx_front.specs.declared.words.CommandLine.TheVariants.{Tidy, Run, Verify}
+use Rattle.nx_front.specs.Run.{IsCarriedOut}
+use Rattle.nx_front.proofs.TopLemmas.{carried_as, carried_completes, carried_usage, completes_sound, usage_not}
 use Rattle.nx_front.proofs.top.run.Goals as goal
 
-pub returns-in-Some-Tidy-clause-reading : goal.returns-in-Some-Tidy-clause-reading
-returns-in-Some-Tidy-clause-reading g c = λ input tree calm command reads.
-    done_reading (Some Tidy) c.tidy.result (g.H.Disk.beside c.args.host.now) (g.H.Disk.beside c.tidy.new.host) c.tidy.ensures.ends input tree calm refl reads
+pub returns-in-Some-Tidy : goal.returns-in-Some-Tidy
+returns-in-Some-Tidy g c =
+    record {
+      carried = λ line command. carried_as g.H.Disk c.args.host.now c.tidy.new.host Tidy line c.tidy.result (ap Some (sym c.in-Some-Tidy.field-0-is) ∙ sym c.in-Some-Tidy.is ∙ c.command_line.ensures.line ∙ command) c.tidy.ensures;
+      bounded = c.tidy.ensures.run.bounded;
+      counts = c.tidy.ensures.run.counts;
+      usage = usage_not g.H.Disk c.args.host.now c.tidy.new.host Tidy c.tidy.result (sym c.command_line.ensures.line ∙ c.in-Some-Tidy.is ∙ ap Some c.in-Some-Tidy.field-0-is) c.tidy.ensures;
+      untouched = λ usage. absurd (carried_usage g.H.Disk c.args.host.now c.tidy.new.host Tidy (subst (λ (s : Status). IsCarriedOut g.H.Disk Tidy s c.args.host.now c.tidy.new.host) usage c.tidy.ensures));
+      complete = λ line input command calm. carried_completes g.H.Disk c.args.host.now c.tidy.new.host line c.tidy.result input (carried_as g.H.Disk c.args.host.now c.tidy.new.host Tidy line c.tidy.result (ap Some (sym c.in-Some-Tidy.field-0-is) ∙ sym c.in-Some-Tidy.is ∙ c.command_line.ensures.line ∙ command) c.tidy.ensures) calm;
+      certified = λ k input command calm sure.
+          completes_sound k input c.tidy.result (carried_completes g.H.Disk c.args.host.now c.tidy.new.host (Verify k) c.tidy.result input (carried_as g.H.Disk c.args.host.now c.tidy.new.host Tidy (Verify k) c.tidy.result (ap Some (sym c.in-Some-Tidy.field-0-is) ∙ sym c.in-Some-Tidy.is ∙ c.command_line.ensures.line ∙ command) c.tidy.ensures) calm) sure;
+    }
 
-pub returns-in-Some-Tidy-clause-refusal : goal.returns-in-Some-Tidy-clause-refusal
-returns-in-Some-Tidy-clause-refusal g c = λ input error calm command fault.
-    refuses_fault (Some Tidy) c.tidy.result (g.H.Disk.beside c.args.host.now) (g.H.Disk.beside c.tidy.new.host) c.tidy.ensures.ends input error calm refl fault
+pub returns-in-Some-Run : goal.returns-in-Some-Run
+returns-in-Some-Run g c =
+    record {
+      carried = λ line command. carried_as g.H.Disk c.args.host.now c.session.new.host Run line c.session.result (ap Some (sym c.in-Some-Run.field-0-is) ∙ sym c.in-Some-Run.is ∙ c.command_line.ensures.line ∙ command) c.session.ensures;
+      bounded = c.session.ensures.run.bounded;
+      counts = c.session.ensures.run.counts;
+      usage = usage_not g.H.Disk c.args.host.now c.session.new.host Run c.session.result (sym c.command_line.ensures.line ∙ c.in-Some-Run.is ∙ ap Some c.in-Some-Run.field-0-is) c.session.ensures;
+      untouched = λ usage. absurd (carried_usage g.H.Disk c.args.host.now c.session.new.host Run (subst (λ (s : Status). IsCarriedOut g.H.Disk Run s c.args.host.now c.session.new.host) usage c.session.ensures));
+      complete = λ line input command calm. carried_completes g.H.Disk c.args.host.now c.session.new.host line c.session.result input (carried_as g.H.Disk c.args.host.now c.session.new.host Run line c.session.result (ap Some (sym c.in-Some-Run.field-0-is) ∙ sym c.in-Some-Run.is ∙ c.command_line.ensures.line ∙ command) c.session.ensures) calm;
+      certified = λ k input command calm sure.
+          completes_sound k input c.session.result (carried_completes g.H.Disk c.args.host.now c.session.new.host (Verify k) c.session.result input (carried_as g.H.Disk c.args.host.now c.session.new.host Run (Verify k) c.session.result (ap Some (sym c.in-Some-Run.field-0-is) ∙ sym c.in-Some-Run.is ∙ c.command_line.ensures.line ∙ command) c.session.ensures) calm) sure;
+    }
 
-pub returns-in-Some-Verify-clause-certified : goal.returns-in-Some-Verify-clause-certified
-returns-in-Some-Verify-clause-certified g c = λ input k calm command sure.
-    done_certified (Some (Verify c.in-Some-Verify.k)) c.verify.result (g.H.Disk.beside c.args.host.now) (g.H.Disk.beside c.verify.new.host) c.verify.ensures.ends input k calm
-    (ap Some (sym c.in-Some-Verify.field-0-is) ∙ sym c.in-Some-Verify.is ∙ c.command_line.ensures.line ∙ command) sure
-
-pub returns-in-Some-Verify-clause-uncertified : goal.returns-in-Some-Verify-clause-uncertified
-returns-in-Some-Verify-clause-uncertified g c = λ input k refusal calm command refused.
-    refuses_claim (Some (Verify c.in-Some-Verify.k)) c.verify.result (g.H.Disk.beside c.args.host.now) (g.H.Disk.beside c.verify.new.host) c.verify.ensures.ends input k refusal calm
-    (ap Some (sym c.in-Some-Verify.field-0-is) ∙ sym c.in-Some-Verify.is ∙ c.command_line.ensures.line ∙ command) refused
+pub returns-in-Some-Verify : goal.returns-in-Some-Verify
+returns-in-Some-Verify g c =
+    record {
+      carried = λ line command. carried_as g.H.Disk c.args.host.now c.verify.new.host (Verify c.in-Some-Verify.k) line c.verify.result (ap Some (sym c.in-Some-Verify.field-0-is) ∙ sym c.in-Some-Verify.is ∙ c.command_line.ensures.line ∙ command) c.verify.ensures;
+      bounded = c.verify.ensures.run.bounded;
+      counts = c.verify.ensures.run.counts;
+      usage = usage_not g.H.Disk c.args.host.now c.verify.new.host (Verify c.in-Some-Verify.k) c.verify.result (sym c.command_line.ensures.line ∙ c.in-Some-Verify.is ∙ ap Some c.in-Some-Verify.field-0-is) c.verify.ensures;
+      untouched = λ usage. absurd (carried_usage g.H.Disk c.args.host.now c.verify.new.host (Verify c.in-Some-Verify.k) (subst (λ (s : Status). IsCarriedOut g.H.Disk (Verify c.in-Some-Verify.k) s c.args.host.now c.verify.new.host) usage c.verify.ensures));
+      complete = λ line input command calm. carried_completes g.H.Disk c.args.host.now c.verify.new.host line c.verify.result input (carried_as g.H.Disk c.args.host.now c.verify.new.host (Verify c.in-Some-Verify.k) line c.verify.result (ap Some (sym c.in-Some-Verify.field-0-is) ∙ sym c.in-Some-Verify.is ∙ c.command_line.ensures.line ∙ command) c.verify.ensures) calm;
+      certified = λ k input command calm sure.
+          completes_sound k input c.verify.result (carried_completes g.H.Disk c.args.host.now c.verify.new.host (Verify k) c.verify.result input (carried_as g.H.Disk c.args.host.now c.verify.new.host (Verify c.in-Some-Verify.k) (Verify k) c.verify.result (ap Some (sym c.in-Some-Verify.field-0-is) ∙ sym c.in-Some-Verify.is ∙ c.command_line.ensures.line ∙ command) c.verify.ensures) calm) sure;
+    }

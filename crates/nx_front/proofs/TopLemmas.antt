@@ -1,0 +1,66 @@
+-- What each command line is, from how it is carried out.
+use Rattle.std.proofs.Common.{◌≡◌, ◌↔◌, ◌⊎◌, inl, inr, ℕ, ◌≤◌, List, [], Option, None, Some, refl, sym, ◌∙◌, subst, arith}
+use Rattle.nx_host.specs.declared.disk.Disk.{Ghosts}
+use Rattle.nx_host.specs.Disk.{Beside}
+use Rattle.nx_host.specs.Input.{most_input}
+use Rattle.nx_host.proofs.OutputLemmas.{takes_nothing}
+use Rattle.nx_front.specs.declared.status.Status.{Status}
+use Rattle.nx_front.specs.declared.status.Status.TheVariants.{Done, Usage, Refused, ReadFault, WriteFault, NoMemory, TooMuch}
+use Rattle.nx_front.specs.declared.words.CommandLine.{CommandLine}
+use Rattle.nx_front.specs.declared.words.CommandLine.TheVariants.{Tidy, Run, Verify}
+use Rattle.nx_front.specs.Outcome.{TakesFew, CountsGrow, IsUndisturbed, Completes, HoldsTogether}
+use Rattle.nx_front.specs.Run.{meaning, IsCarriedOut}
+use Rattle.nx_front.specs.Verify.{IsSoundInput, verify}
+use Rattle.nx_front.proofs.OutcomeLemmas.{completes}
+use Rattle.nx_front.proofs.TidyLemmas.{tidy_together}
+use Rattle.nx_front.proofs.SessionLemmas.{script_together}
+use Rattle.nx_front.proofs.VerifyLemmas.{verify_together, excludes}
+
+module _ {D : Type 0} (d : Ghosts D) (a b : D) where
+  -- the same command line
+  pub carried_as : (mine line : CommandLine) (status : Status) → Some mine ≡ Some line → IsCarriedOut d mine status a b → IsCarriedOut d line status a b
+  carried_as mine line status same carried = let one : mine ≡ line = cc same in subst (λ (l : CommandLine). IsCarriedOut d l status a b) one carried
+
+  -- what it ends with where nothing disturbs it
+  pub carried_completes : (line : CommandLine) (status : Status) (input : List ℕ) → IsCarriedOut d line status a b → IsUndisturbed input (d.beside a) (d.beside b) →
+      Completes (meaning line) input status
+  carried_completes Tidy status input carried calm = completes tidy_together carried.run.outcome status input (d.beside a) (d.beside b) carried.run.ends calm
+  carried_completes Run status input carried calm = completes script_together carried.run.outcome status input (d.beside a) (d.beside b) carried.run.ends calm
+  carried_completes (Verify k) status input carried calm = completes (verify_together k) carried.run.outcome status input (d.beside a) (d.beside b) carried.run.ends calm
+
+  -- a command line isn't answered by how it is to be written
+  pub carried_usage : (line : CommandLine) → IsCarriedOut d line Usage a b → ⊥
+  carried_usage Tidy carried = carried.run.ends
+  carried_usage Run carried = carried.run.ends
+  carried_usage (Verify k) carried = carried.run.ends
+
+  -- nor does such a line end so
+  pub usage_not : (line : CommandLine) (status : Status) {known : Option CommandLine} → known ≡ Some line → IsCarriedOut d line status a b → (status ≡ Usage) ↔ (known ≡ None)
+  usage_not line status is carried = (
+    λ usage. absurd (carried_usage line (subst (λ (s : Status). IsCarriedOut d line s a b) usage carried)),
+    λ none. absurd (let no_line : None ≡ Some line = sym none ∙ is in cc),
+  )
+
+-- a sound plan is certified
+pub completes_sound : (k : ℕ) (input : List ℕ) (status : Status) → Completes (verify k) input status → IsSoundInput k input → (status ≡ Done) ⊎ (status ≡ NoMemory)
+completes_sound k input Done complete sure = inl refl
+completes_sound k input NoMemory complete sure = inr refl
+completes_sound k input Refused ((refusal, refused), none) sure = absurd (excludes k input refusal sure refused)
+completes_sound k input Usage complete sure = absurd complete
+completes_sound k input ReadFault complete sure = absurd complete
+completes_sound k input WriteFault complete sure = absurd complete
+completes_sound k input TooMuch complete sure = absurd complete
+
+-- Nothing is done:
+
+pub takes_none : (now : Option (List ℕ)) → TakesFew now now
+takes_none now = record { taken = []; few = (let e : 0 ≤ most_input = omega arith in e); takes = takes_nothing now }
+
+pub counts_same : (beside : Beside) → CountsGrow beside beside
+counts_same beside = record { read = omega arith; written = omega arith }
+
+-- what is said of each input holds together
+pub together : (line : CommandLine) → HoldsTogether (meaning line)
+together Tidy = tidy_together
+together Run = script_together
+together (Verify k) = verify_together k
