@@ -1,5 +1,5 @@
 -- A forest that lines without a fault say has its attributes where a document has them.
-use Rattle.std.proofs.Common.{◌≡◌, ℕ, ◌+◌, Bool, true, false, List, [], ◌∷◌, ◌++◌, Option, None, Some, map, refl, ap, sym, ◌∙◌, subst, ⊎_elim, ◌⊎◌, arith, append_assoc}
+use Rattle.std.proofs.Common.{◌≡◌, ℕ, ◌+◌, Bool, true, false, List, [], ◌∷◌, ◌++◌, Option, None, Some, map, refl, ap, sym, ◌∙◌, subst, ⊎_elim, arith, append_assoc}
 use Rattle.std.specs.Prelude.{◌&&◌, if◌then◌else◌, unwrap_or, Contains}
 use Rattle.std.specs.Option.{option_map, is_none}
 use Rattle.std.specs.Str.{bytes_eq}

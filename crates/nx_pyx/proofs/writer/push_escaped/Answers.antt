@@ -1,4 +1,4 @@
-use Rattle.std.proofs.Common.{◌++◌, ◌∙◌, ap, sym}
+use Rattle.std.proofs.Common.{◌++◌, ◌∙◌, ap}
 use Rattle.nx_pyx.specs.Text.{escape, escaped}
 use Rattle.nx_pyx.proofs.EscapeLemmas.{escaped-stretch, written-last, written-more, written-stretch}
 use Rattle.nx_pyx.proofs.PrefixLemmas.{prefix-all, prefix-more, prefix-take}

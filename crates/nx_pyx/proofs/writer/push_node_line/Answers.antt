@@ -1,4 +1,4 @@
-use Rattle.std.proofs.Common.{◌≡◌, ◌∷◌, [], ◌++◌, if◌then◌else◌, refl, rules}
+use Rattle.std.proofs.Common.{◌≡◌, ◌∷◌, [], ◌++◌, if◌then◌else◌, rules}
 use Rattle.nx_tree.specs.Document.{is_empty}
 use Rattle.nx_pyx.specs.Text.{escaped, node_line}
 use Rattle.nx_pyx.proofs.PrefixLemmas.{prefix-all, prefix-first, prefix-of, prefix-rest}
