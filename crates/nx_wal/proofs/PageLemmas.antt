@@ -1,0 +1,100 @@
+-- Reading a page.
+use Rattle.std.proofs.Common.{◌≡◌, ℕ, ◌+◌, ◌*◌, ◌<◌, ◌≤◌, List, [], ◌∷◌, Bool, true, false, length, take, drop, refl, sym, ap, ◌∙◌, arith, inl, inr, cond}
+use Rattle.std.proofs.Common.{length-drop, length-take}
+use Rattle.std.proofs.lemmas.List.{take_all}
+use Rattle.std.proofs.lemmas.Bool.{cases_Bool}
+use Rattle.std.proofs.lemmas.Bool.Decides.{nat_tests}
+use Rattle.std.specs.Prelude.{Option, Some, None, ◌==◌, if◌then◌else◌}
+use Rattle.std.specs.Map.{lookup}
+use Rattle.std.specs.BTreeMap.{get, is_at}
+use Rattle.std.specs.Ordering.{nat_cmp}
+use Rattle.nx_host.specs.Disk.{Image}
+use Rattle.std.proofs.Common.{Bor}
+use Rattle.std.specs.Option.{option_or, option_map, option_copied}
+use Rattle.nx_replay.specs.Log.{entry_pages, groups, logged, pages_of, replay}
+use Rattle.nx_replay.proofs.ReplayLemmas.{page-there, page-cases}
+use Rattle.nx_slots.specs.declared.page.PageBytes.{PageBytes}
+use Rattle.nx_wal.specs.Reading.{Gives, page_found}
+use Rattle.nx_wal.specs.Places.{Places, place_in, LeadsTo}
+use Rattle.nx_wal.specs.Writing.{entries_of}
+use Rattle.nx_wal.proofs.ReadingLemmas.{at_number, no_place, some_same}
+
+pub whole_given : (n at : ℕ) (into bytes : List ℕ) → Gives n 8192 into (drop at bytes) → length into ≡ 8192 → 8192 ≤ n → (at + 8192 ≤ length bytes) × (into ≡ take 8192 (drop at bytes))
+whole_given n at into bytes gives long whole =
+    let count : n ≡ length (take 8192 (drop at bytes)) = gives.count in (
+      omega (arith, count, whole, length-take 8192 (drop at bytes), length-drop at bytes),
+      sym (take_all n into (omega (arith, long, whole))) ∙ gives.same,
+    )
+
+pub none_given : (n at : ℕ) (into bytes : List ℕ) → Gives n 8192 into (drop at bytes) → n < 8192 → at + 8192 ≤ length bytes → ⊥
+none_given n at into bytes gives short fits =
+    let count : n ≡ length (take 8192 (drop at bytes)) = gives.count in
+    omega (arith, count, short, fits, length-take 8192 (drop at bytes), length-drop at bytes)
+
+page_as : (found : Bool) (bytes area : List ℕ) (at : ℕ) (o : Option (List ℕ)) → (at + 8192 ≤ length area → o ≡ Some (take 8192 (drop at area))) → ((at + 8192 ≤ length area → ⊥) → o ≡ None)
+    → (found ≡ true → (at + 8192 ≤ length area) × (bytes ≡ take 8192 (drop at area))) → (found ≡ false → at + 8192 ≤ length area → ⊥) → o ≡ page_found found bytes
+page_as true bytes area at o there lost whole missing = let w = whole refl in there w.0 ∙ ap (λ (x : List ℕ). Some x) (sym w.1)
+page_as false bytes area at o there lost whole missing = lost (missing refl)
+
+pub page_in_log : (was : Image) (places : Places) (page at : ℕ) (found : Bool) (bytes : List ℕ) → LeadsTo (groups was.log) places was.log → get nat_cmp places page ≡ Some (Some at) → at + 8192 ≤ length was.log
+    → (found ≡ true → (at + 8192 ≤ length was.log) × (bytes ≡ take 8192 (drop at was.log))) → (found ≡ false → at + 8192 ≤ length was.log → ⊥) → replay was page ≡ page_found found bytes
+page_in_log was places page at found bytes leads place fits whole missing =
+    let held : logged (groups was.log) page ≡ Some (take 8192 (drop at was.log)) = leads page ∙ ap (λ (o : Option (Option ℕ)). place_in o was.log) place in
+    page_as found bytes was.log at (replay was page) (λ h. ap (λ (o : Option (List ℕ)). option_or o (pages_of was.pages page)) held) (λ out. absurd (out fits)) whole missing
+
+pub page_in_area : (was : Image) (places : Places) (page : ℕ) (found : Bool) (bytes : List ℕ) → LeadsTo (groups was.log) places was.log → ((at : ℕ) → get nat_cmp places page ≡ Some (Some at) → ⊥) → page < 16777216
+    → (found ≡ true → (8192 * page + 8192 ≤ length was.pages) × (bytes ≡ take 8192 (drop (8192 * page) was.pages))) → (found ≡ false → 8192 * page + 8192 ≤ length was.pages → ⊥) → replay was page ≡ page_found found bytes
+page_in_area was places page found bytes leads none low whole missing =
+    let lacks : logged (groups was.log) page ≡ None = leads page ∙ no_place (get nat_cmp places page) was.log none in
+    let base : replay was page ≡ pages_of was.pages page = ap (λ (o : Option (List ℕ)). option_or o (pages_of was.pages page)) lacks in
+    page_as found bytes was.pages (8192 * page) (replay was page) (λ fits. base ∙ page-there was.pages page low fits)
+    (λ out. base ∙ elim (page-cases was.pages page) [ inl there ↦ absurd (out there.1) | inr lost ↦ lost ]) whole missing
+
+pub page_too_far : (was : Image) (places : Places) (page : ℕ) → LeadsTo (groups was.log) places was.log → ((at : ℕ) → get nat_cmp places page ≡ Some (Some at) → ⊥) → 16777216 ≤ page → replay was page ≡ None
+page_too_far was places page leads none far =
+    let lacks : logged (groups was.log) page ≡ None = leads page ∙ no_place (get nat_cmp places page) was.log none in
+    ap (λ (o : Option (List ℕ)). option_or o (pages_of was.pages page)) lacks
+    ∙ elim (page-cases was.pages page) [ inl there ↦ absurd (let low : page < 16777216 = there.0 in omega (arith, low, far)) | inr lost ↦ lost ]
+
+same_either : (x y : ℕ) → (x == y) ≡ (y == x)
+same_either x y = grind (arith, nat_tests)
+
+-- the pages that wait, by their numbers
+pub pending_found : (es : List (ℕ × PageBytes)) (p : ℕ) (bytes : PageBytes) → lookup (is_at (nat_cmp p)) es ≡ Some bytes → entry_pages (entries_of es) p ≡ Some bytes.bytes
+pending_found [] p bytes found = absurd (let lost : None ≡ Some bytes = found in cc)
+pending_found (e ∷ es) p bytes found =
+    let found_by = λ (b : Bool). (if b then Some e.1.bytes else entry_pages (entries_of es) p) in
+    elim (cases_Bool (p == e.0)) [
+      | inl holds ↦
+          let here : is_at (nat_cmp p) e.0 ≡ true = at_number p e.0 ∙ same_either e.0 p ∙ holds in
+          let same : e.1 ≡ bytes = some_same (sym (ap (λ (b : Bool). cond b (Some e.1) (lookup (is_at (nat_cmp p)) es)) here) ∙ found) in
+          ap found_by holds ∙ ap (λ (x : PageBytes). Some x.bytes) same
+      | inr fails ↦
+          let there : is_at (nat_cmp p) e.0 ≡ false = at_number p e.0 ∙ same_either e.0 p ∙ fails in
+          ap found_by fails ∙ pending_found es p bytes (sym (ap (λ (b : Bool). cond b (Some e.1) (lookup (is_at (nat_cmp p)) es)) there) ∙ found)
+    ]
+
+pub pending_none : (es : List (ℕ × PageBytes)) (p : ℕ) → lookup (is_at (nat_cmp p)) es ≡ None → entry_pages (entries_of es) p ≡ None
+pending_none [] p found = refl
+pending_none (e ∷ es) p found =
+    let found_by = λ (b : Bool). (if b then Some e.1.bytes else entry_pages (entries_of es) p) in
+    elim (cases_Bool (p == e.0)) [
+      | inl holds ↦
+          let here : is_at (nat_cmp p) e.0 ≡ true = at_number p e.0 ∙ same_either e.0 p ∙ holds in
+          absurd (let lost : Some e.1 ≡ None = sym (ap (λ (b : Bool). cond b (Some e.1) (lookup (is_at (nat_cmp p)) es)) here) ∙ found in cc)
+      | inr fails ↦
+          let there : is_at (nat_cmp p) e.0 ≡ false = at_number p e.0 ∙ same_either e.0 p ∙ fails in
+          ap found_by fails ∙ pending_none es p (sym (ap (λ (b : Bool). cond b (Some e.1) (lookup (is_at (nat_cmp p)) es)) there) ∙ found)
+    ]
+
+-- the page that waits under a number
+pub pending_page : (es : List (ℕ × PageBytes)) (p : ℕ) → entry_pages (entries_of es) p ≡ option_map (λ (b : PageBytes). b.bytes) (lookup (is_at (nat_cmp p)) es)
+pending_page es p =
+    elim (lookup (is_at (nat_cmp p)) es) as (λ o. lookup (is_at (nat_cmp p)) es ≡ o → entry_pages (entries_of es) p ≡ option_map (λ (b : PageBytes). b.bytes) o) [
+      | None ↦ λ none. pending_none es p none
+      | Some b ↦ λ found. pending_found es p b found
+    ] refl
+
+pub copied_page : (o : Option (Bor PageBytes)) → option_map (λ (b : Bor PageBytes). b.now.bytes) o ≡ option_map (λ (b : PageBytes). b.bytes) (option_copied o)
+copied_page None = refl
+copied_page (Some b) = refl

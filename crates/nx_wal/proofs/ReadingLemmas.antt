@@ -1,0 +1,292 @@
+-- What reading a log by its heads and page numbers finds.
+use Rattle.std.proofs.Common.{◌≡◌, ◌⊎◌, ℕ, suc, ◌+◌, ◌-◌, ◌*◌, ◌^◌, ◌<◌, ◌≤◌, List, [], ◌∷◌, ◌++◌, length, take, drop, refl, sym, ap, subst, ◌∙◌, arith, Bool, true, false, inl, inr, get_or, cond, append_assoc}
+use Rattle.std.proofs.Common.{get_or-drop, length-drop, length-take}
+use Rattle.std.proofs.lemmas.List.{take-take, drop-drop, append-nil}
+use Rattle.std.proofs.lemmas.Bool.{false≢true, and_parts, leb-true, le-leb, ltb-true, lt-ltb, cases_Bool}
+use Rattle.std.proofs.lemmas.Bool.Decides.{nat_tests}
+use Rattle.std.specs.Prelude.{slice_index, ◌==◌, ◌&&◌, nat_le, nat_lt, min, if◌then◌else◌, ◌↔◌, Option, Some, None, Result, Ok, Err, IfOk, IfSome}
+use Rattle.std.specs.BTreeMap.{get, is_at}
+use Rattle.std.specs.Ordering.{nat_cmp}
+use Rattle.byteorder.specs.Endian.{big_number}
+use Rattle.nx_host.specs.Disk.{Image}
+use Rattle.std.specs.Option.{option_or}
+use Rattle.nx_replay.specs.Log.{Pages, replay, pages_of, Entry, Group, entries_of, entry_pages, rise, logged, groups, groups_behind, end_of, count_of, size_of, group_of, is_group}
+use Rattle.nx_replay.proofs.GroupLemmas.{IsGroup, group_says, says_group, groups-first, groups-none, entries-front, number-one, count-front, length-entries_of}
+use Rattle.nx_replay.proofs.StepLemmas.{drop_taken, end_more}
+use Rattle.nx_replay.proofs.ReplayLemmas.{logged-more, page-there}
+use Rattle.nx_wal.specs.declared.reading.Head.{Head}
+use Rattle.nx_wal.specs.Reading.{Gives, usable, IsHeadOf, IsHead, IsReadTo, IsRead, HasMark, mark}
+use Rattle.nx_wal.specs.Places.{Places, place_in, LeadsTo, Notes, AreWithin}
+
+-- Numbers.
+
+-- the first page, and those behind it
+pub rise_first : (n least place number : ℕ) (log : List ℕ) → number ≡ big_number 4 (drop place log)
+    → rise least (entries_of (suc n) (drop place log)) ≡ (nat_le least number && nat_lt number 16777216 && rise (number + 1) (entries_of n (drop (place + 8196) log)))
+rise_first n least place number log is = rw (sym is, drop-drop 8196 place log) refl
+
+module _ (at count i : ℕ) (log : List ℕ) (more : i < count) where
+  pub rise_here : (least number : ℕ) → number ≡ big_number 4 (drop (at + 8196 * i) log)
+      → rise least (entries_of (count - i) (drop (at + 8196 * i) log))
+      ≡ (nat_le least number && nat_lt number 16777216 && rise (number + 1) (entries_of (count - (i + 1)) (drop (at + 8196 * (i + 1)) log)))
+  rise_here least number is =
+      ap (λ (n : ℕ). rise least (entries_of n (drop (at + 8196 * i) log))) (let h : count - i ≡ suc (count - (i + 1)) = omega (arith, more) in h)
+      ∙ rise_first (count - (i + 1)) least (at + 8196 * i) number log is
+      ∙ ap (λ (k : ℕ). nat_le least number && nat_lt number 16777216 && rise (number + 1) (entries_of (count - (i + 1)) (drop k log)))
+      (let h : at + 8196 * i + 8196 ≡ at + 8196 * (i + 1) = omega arith in h)
+
+  -- a number that may be, and the numbers behind it
+  pub rise_more : (least number : ℕ) → number ≡ big_number 4 (drop (at + 8196 * i) log) → least ≤ number → number < 16777216
+      → rise least (entries_of (count - i) (drop (at + 8196 * i) log)) ≡ rise (number + 1) (entries_of (count - (i + 1)) (drop (at + 8196 * (i + 1)) log))
+  rise_more least number is from low = rise_here least number is ∙ rw (le-leb least number from, lt-ltb number 16777216 low) refl
+
+  -- a number that may not be
+  pub rise_ends : (least number : ℕ) → number ≡ big_number 4 (drop (at + 8196 * i) log) → (number < least) ⊎ (16777216 ≤ number)
+      → false ≡ rise least (entries_of (count - i) (drop (at + 8196 * i) log))
+  rise_ends least number is bad =
+      elim (cases_Bool (rise least (entries_of (count - i) (drop (at + 8196 * i) log)))) [
+        | inr fails ↦ sym fails
+        | inl holds ↦ absurd (
+            let a = and_parts _ _ (sym (rise_here least number is) ∙ holds) in
+            let b = and_parts _ _ a.0 in
+            let from : least ≤ number = leb-true _ _ b.0 in
+            let low : number < 16777216 = ltb-true _ _ b.1 in
+            elim bad [ inl below ↦ omega (arith, from, below) | inr above ↦ omega (arith, low, above) ]
+            )
+      ]
+
+-- Places.
+
+pub at_number : (k q : ℕ) → is_at (nat_cmp k) q ≡ (q == k)
+at_number k q = grind (arith, nat_tests)
+
+-- one page more in front of those that were noted
+pub note_more : (n place number : ℕ) (log : List ℕ) (old mid new : Places) → number ≡ big_number 4 (drop place log)
+    → ((q : ℕ) → get nat_cmp new q ≡ cond (is_at (nat_cmp number) q) (Some (Some (place + 4))) (get nat_cmp mid q))
+    → Notes (entries_of n (drop (place + 8196) log)) log old mid → Notes (entries_of (suc n) (drop place log)) log old new
+note_more n place number log old mid new is updates so_far p =
+    let found = λ (b : Bool). (if b then Some (take 8192 (drop (place + 4) log)) else entry_pages (entries_of n (drop (place + 8196) log)) p) in
+    let first : entry_pages (entries_of (suc n) (drop place log)) p ≡ (if p == number then Some (take 8192 (drop (place + 4) log)) else entry_pages (entries_of n (drop (place + 8196) log)) p) =
+    rw (sym is, drop-drop 8196 place log, drop-drop 4 place log) refl in
+    let here : get nat_cmp new p ≡ cond (p == number) (Some (Some (place + 4))) (get nat_cmp mid p) = updates p ∙ ap (λ (b : Bool). cond b (Some (Some (place + 4))) (get nat_cmp mid p)) (at_number number p) in
+    elim (cases_Bool (p == number)) [
+      | inl holds ↦
+          ap (λ (o : Option (Option ℕ)). place_in o log) (here ∙ ap (λ (b : Bool). cond b (Some (Some (place + 4))) (get nat_cmp mid p)) holds)
+          ∙ sym (ap (λ (o : Option (List ℕ)). option_or o (place_in (get nat_cmp old p) log)) (first ∙ ap found holds))
+      | inr fails ↦
+          ap (λ (o : Option (Option ℕ)). place_in o log) (here ∙ ap (λ (b : Bool). cond b (Some (Some (place + 4))) (get nat_cmp mid p)) fails) ∙ so_far p
+          ∙ sym (ap (λ (o : Option (List ℕ)). option_or o (place_in (get nat_cmp old p) log)) (first ∙ ap found fails))
+    ]
+
+pub note_before : (at count left number : ℕ) (log : List ℕ) (old mid new : Places) → 0 < left → left ≤ count → number ≡ big_number 4 (drop (at + 8196 * (left - 1)) log)
+    → ((q : ℕ) → get nat_cmp new q ≡ cond (is_at (nat_cmp number) q) (Some (Some (at + 8196 * (left - 1) + 4))) (get nat_cmp mid q))
+    → Notes (entries_of (count - left) (drop (at + 8196 * left) log)) log old mid → Notes (entries_of (count - (left - 1)) (drop (at + 8196 * (left - 1)) log)) log old new
+note_before at count left number log old mid new more few is updates so_far =
+    subst (λ (n : ℕ). Notes (entries_of n (drop (at + 8196 * (left - 1)) log)) log old new) (let h : suc (count - left) ≡ count - (left - 1) = omega (arith, more, few) in h) (
+    note_more (count - left) (at + 8196 * (left - 1)) number log old mid new is updates (
+    subst (λ (k : ℕ). Notes (entries_of (count - left) (drop k log)) log old mid) (let h : at + 8196 * left ≡ at + 8196 * (left - 1) + 8196 = omega (arith, more) in h) so_far
+    )
+    )
+
+pub some_same : {T : Type 0} {x y : T} → Some x ≡ Some y → x ≡ y
+some_same same = cc
+
+-- one place more
+pub within_more : (limit number place : ℕ) (mid new : Places) → place + 8192 ≤ limit
+    → ((q : ℕ) → get nat_cmp new q ≡ cond (is_at (nat_cmp number) q) (Some (Some place)) (get nat_cmp mid q)) → AreWithin limit mid → AreWithin limit new
+within_more limit number place mid new fits updates so_far p at is =
+    elim (cases_Bool (is_at (nat_cmp number) p)) [
+      | inl holds ↦ let same : place ≡ at = some_same (some_same (sym (updates p ∙ ap (λ (b : Bool). cond b (Some (Some place)) (get nat_cmp mid p)) holds) ∙ is)) in omega (arith, fits, same)
+      | inr fails ↦ so_far p at (sym (updates p ∙ ap (λ (b : Bool). cond b (Some (Some place)) (get nat_cmp mid p)) fails) ∙ is)
+    ]
+
+-- Heads.
+
+unfold_count : (bytes : List ℕ) → count_of bytes ≡ big_number 4 (drop 9 bytes)
+unfolding count_of
+unfold_count bytes = refl
+
+module _ (at given limit : ℕ) (front log : List ℕ) (gives : Gives given 13 front (drop at log)) (limit_is : limit ≡ min (2 ^ 63) (length log)) where
+  given_is : given ≡ min 13 (length log - at)
+  given_is = let n = gives.count in omega (arith, n, length-take 13 (drop at log), length-drop at log)
+
+  usable_rest : drop at (usable log) ≡ take (2 ^ 63 - at) (drop at log)
+  usable_rest = drop_taken at (2 ^ 63) log
+
+  usable_long : length (drop at (usable log)) ≡ limit - at
+  usable_long = omega (arith, limit_is, length-drop at (usable log), length-take (2 ^ 63) log)
+
+  -- the first byte is the one at the offset
+  byte_given : 0 < given → (slice_index front 0 ≡ slice_index log at) × (at < length log)
+  byte_given some =
+      let n = given_is in
+      let one : take 1 front ≡ take 1 (drop at log) =
+      sym (take-take 1 given front (omega (arith, some))) ∙ ap (λ (x : List ℕ). take 1 x) gives.same ∙ take-take 1 13 (drop at log) (omega arith) in (
+        number-one front (drop at log) one ∙ get_or-drop at log 0 0 ∙ ap (λ (k : ℕ). get_or log k 0) (let h : at + 0 ≡ at = omega arith in h),
+        omega (arith, some, n),
+      )
+
+  byte_there : at < length log → 0 < given
+  byte_there there = let n = given_is in omega (arith, there, n)
+
+  -- the head is the one below the limit
+  head_given : 13 ≤ given → 13 ≤ limit - at → take 13 front ≡ take 13 (drop at (usable log))
+  head_given whole room =
+      let n = given_is in
+      let thirteen : given ≡ 13 = omega (arith, whole, n) in
+      ap (λ (k : ℕ). take k front) (sym thirteen) ∙ gives.same ∙ sym (take-take 13 (2 ^ 63 - at) (drop at log) (omega (arith, room, limit_is)))
+      ∙ ap (λ (x : List ℕ). take 13 x) (sym usable_rest)
+
+  head_ones : 13 ≤ given → 13 ≤ limit - at → (slice_index front 0 ≡ slice_index (drop at (usable log)) 0) × (big_number 4 (drop 9 front) ≡ count_of (drop at (usable log)))
+  head_ones whole room =
+      let same = head_given whole room in
+      let first : take 1 front ≡ take 1 (drop at (usable log)) =
+      sym (take-take 1 13 front (omega arith)) ∙ ap (λ (x : List ℕ). take 1 x) same ∙ take-take 1 13 (drop at (usable log)) (omega arith) in
+      (number-one front (drop at (usable log)) first, sym (unfold_count front) ∙ count-front front (drop at (usable log)) same)
+
+  module _ (count : ℕ) (shut : Bool)
+      (is_shut : shut ≡ true → (0 < given) × ((slice_index front 0 == 1) ≡ false)) (is_open : shut ≡ false → 0 < given → slice_index front 0 ≡ 1)
+      (whole : 0 < count → (13 ≤ given) × (13 + 8196 * count < limit - at))
+      (counted : 0 < count → (slice_index front 0 ≡ 1) × (count ≡ big_number 4 (drop 9 front)) × (count ≤ 16777216))
+      (none : count ≡ 0 → 13 ≤ given → slice_index front 0 ≡ 1 → 1 ≤ big_number 4 (drop 9 front) → big_number 4 (drop 9 front) ≤ 16777216 → 13 + 8196 * big_number 4 (drop 9 front) < limit - at → ⊥) where
+    no_group : count ≡ 0 → is_group (drop at (usable log)) ≡ true → ⊥
+    no_group zero_count some =
+        let is = group_says (drop at (usable log)) some in
+        let n = given_is in
+        let long : size_of (count_of (drop at (usable log))) < limit - at = let w = is.whole in omega (arith, w, usable_long) in
+        let full : 13 ≤ given = omega (arith, n, long, limit_is) in
+        let ones = head_ones full (omega (arith, long)) in
+        let same : big_number 4 (drop 9 front) ≡ count_of (drop at (usable log)) = ones.1 in
+        none zero_count full (ones.0 ∙ is.gate) (let s = is.some in omega (arith, s, same)) (let f = is.few in omega (arith, f, same)) (omega (arith, long, same))
+
+    pub head_said : IsHead at (record { shut = shut; count = count }) log
+    head_said = record {
+      closed = λ h. let s = is_shut h in let b = byte_given s.0 in (b.1, ap (λ (x : ℕ). x == 1) (sym b.0) ∙ s.1);
+      opened = λ h there. let given_some = byte_there there in sym ((byte_given given_some).0) ∙ is_open h given_some;
+      none = λ h. elim (cases_Bool (is_group (drop at (usable log)))) [ inl some ↦ absurd (no_group h some) | inr nothing ↦ nothing ];
+      some = λ h.
+          let w = whole h in
+          let c = counted h in
+          let room : 13 + 8196 * count < limit - at = w.1 in
+          let ones = head_ones w.0 (omega (arith, room)) in
+          record { gate = sym ones.0 ∙ c.0; counted = sym ones.1 ∙ sym c.1; few = c.2; whole = omega (arith, room, usable_long) };
+    }
+
+-- Groups.
+
+entries_usable : (at count : ℕ) (log : List ℕ) → at + 13 + 8196 * count < 2 ^ 63 → entries_of count (drop 13 (drop at (usable log))) ≡ entries_of count (drop (at + 13) log)
+entries_usable at count log low =
+    ap (λ (x : List ℕ). entries_of count x) (drop-drop 13 at (usable log))
+    ∙ entries-front count (8196 * count) (drop (at + 13) (usable log)) (drop (at + 13) log) (omega arith)
+    (ap (λ (x : List ℕ). take (8196 * count) x) (drop_taken (at + 13) (2 ^ 63) log) ∙ take-take (8196 * count) (2 ^ 63 - (at + 13)) (drop (at + 13) log) (omega (arith, low)))
+
+nothing_at : (places : Places) → places.entries ≡ [] → (p : ℕ) → get nat_cmp places p ≡ None
+nothing_at places none p = rw none refl
+
+pub none_within : (limit : ℕ) (places : Places) → places.entries ≡ [] → AreWithin limit places
+none_within limit places none p at is = absurd (let lost : Some (Some at) ≡ None = sym is ∙ nothing_at places none p in cc)
+
+pub leads_none : (places : Places) (log : List ℕ) → places.entries ≡ [] → LeadsTo [] places log
+unfolding logged
+leads_none places log none p = sym (ap (λ (o : Option (Option ℕ)). place_in o log) (nothing_at places none p))
+
+pub nothing_read : (places : Places) (log : List ℕ) → places.entries ≡ [] → IsReadTo places 0 log
+nothing_read places log none = record {
+  front = [];
+  split = refl;
+  here = refl;
+  leads = leads_none places log none;
+}
+
+module _ (at count : ℕ) (log : List ℕ) (head : IsHeadOf count (drop at (usable log))) (low : at + 13 + 8196 * count < 2 ^ 63) where
+  pub group_there : 0 < count → true ≡ rise 0 (entries_of count (drop (at + 13) log)) → IsGroup (drop at (usable log))
+  group_there some rises = record {
+    gate = head.gate;
+    some = rw head.counted some;
+    few = rw head.counted head.few;
+    whole = rw head.counted head.whole;
+    rises = rw head.counted (ap (λ (es : List Entry). rise 0 es) (entries_usable at count log low) ∙ sym rises);
+  }
+
+  -- where the numbers don't rise, there is no group
+  pub no_rise : false ≡ rise 0 (entries_of count (drop (at + 13) log)) → is_group (drop at (usable log)) ≡ false
+  no_rise falls =
+      elim (cases_Bool (is_group (drop at (usable log)))) [
+        | inr nothing ↦ nothing
+        | inl some ↦ absurd (
+            let rises : rise 0 (entries_of (count_of (drop at (usable log))) (drop 13 (drop at (usable log)))) ≡ true = (group_says (drop at (usable log)) some).rises in
+            false≢true (falls ∙ ap (λ (es : List Entry). rise 0 es) (sym (entries_usable at count log low)) ∙ sym (ap (λ (n : ℕ). rise 0 (entries_of n (drop 13 (drop at (usable log))))) head.counted) ∙ rises)
+            )
+      ]
+
+  -- one group more was read
+  pub read_more : (old new : Places) → 0 < count → true ≡ rise 0 (entries_of count (drop (at + 13) log)) → IsReadTo old at log
+      → Notes (entries_of count (drop (at + 13) log)) log old new → IsReadTo new (at + (13 + 8196 * count)) log
+  read_more old new some rises so_far notes =
+      let rest = drop at (usable log) in
+      let g = group_of rest in
+      let entries : g.entries ≡ entries_of count (drop (at + 13) log) =
+      ap (λ (n : ℕ). entries_of n (drop 13 rest)) head.counted ∙ entries_usable at count log low in
+      let first : groups_behind 0 rest ≡ g ∷ groups_behind 0 (drop (size_of count) rest) =
+      groups-first rest (says_group rest (group_there some rises)) ∙ ap (λ (n : ℕ). g ∷ groups_behind 0 (drop (size_of n) rest)) head.counted in
+      let long : length g.entries ≡ count = ap (λ (es : List Entry). length es) entries ∙ length-entries_of count (drop (at + 13) log) in
+      record {
+        front = so_far.front ++ g ∷ [];
+        split = so_far.split ∙ ap (λ (gs : List Group). so_far.front ++ gs) (first ∙ ap (λ (x : List ℕ). g ∷ groups_behind 0 x) (drop-drop (size_of count) at (usable log)))
+            ∙ sym (append_assoc so_far.front (g ∷ []) (groups_behind 0 (drop (at + size_of count) (usable log))));
+        here = ap (λ (k : ℕ). k + (13 + 8196 * count)) so_far.here ∙ ap (λ (n : ℕ). end_of so_far.front + size_of n) (sym long) ∙ sym (end_more so_far.front g);
+        leads = λ p.
+            ap (λ (f : ℕ → Option (List ℕ)). f p) (logged-more so_far.front g) ∙ ap (λ (es : List Entry). option_or (entry_pages es p) (logged so_far.front p)) entries
+            ∙ ap (λ (o : Option (List ℕ)). option_or (entry_pages (entries_of count (drop (at + 13) log)) p) o) (so_far.leads p) ∙ sym (notes p);
+      }
+
+-- at the first place with no group
+pub read_whole : (places : Places) (at : ℕ) (head : Head) (log : List ℕ) → IsReadTo places at log → is_group (drop at (usable log)) ≡ false → IsHead at head log → AreWithin at places
+    → IsRead places (record { at = at; shut = head.shut }) log
+read_whole places at head log so_far none is within =
+    let all : groups log ≡ so_far.front = so_far.split ∙ ap (λ (gs : List Group). so_far.front ++ gs) (groups-none (drop at (usable log)) none) ∙ append-nil so_far.front in
+    record {
+      at = record { here = so_far.here ∙ ap end_of (sym all); closed = is.closed; opened = is.opened };
+      leads = λ p. ap (λ (gs : List Group). logged gs p) all ∙ so_far.leads p;
+      within = within;
+    }
+
+-- The mark.
+
+pub if_ok : {T E : Type 0} {P Q : T → Type 0} (r : Result T E) → IfOk r P → ((x : T) → P x → Q x) → IfOk r Q
+if_ok (Ok x) h f = f x h
+if_ok (Err e) h f = tt
+
+pub if_some : {T : Type 0} (P : T → Type 0) (o : Option T) (x : T) → IfSome o P → o ≡ Some x → P x
+if_some {T = T} P o x h is = subst (λ (o : Option T). IfSome o P) is h
+
+-- page 0 begins as its first bytes do
+mark_of : (pages : Pages) (bytes : List ℕ) → pages 0 ≡ Some (take 8192 bytes) → (take 8 bytes ≡ mark) ↔ HasMark pages
+mark_of pages bytes is = (
+  λ h. (take 8192 bytes, is, take-take 8 8192 bytes (omega arith) ∙ h),
+  λ has. sym (take-take 8 8192 bytes (omega arith)) ∙ ap (λ (x : List ℕ). take 8 x) (some_same (sym is ∙ has.1)) ∙ has.2,
+)
+
+iff_then : {A B C : Type 0} → A ↔ B → B ↔ C → A ↔ C
+iff_then first second = (λ a. second.0 (first.0 a), λ c. first.1 (second.1 c))
+
+pub mark_in_log : (was : Image) (places : Places) (at : ℕ) (is : Bool) → LeadsTo (groups was.log) places was.log → get nat_cmp places 0 ≡ Some (Some at)
+    → (is ≡ true) ↔ (take 8 (drop at was.log) ≡ mark) → (is ≡ true) ↔ HasMark (replay was)
+mark_in_log was places at is leads place said =
+    let held : logged (groups was.log) 0 ≡ Some (take 8192 (drop at was.log)) = leads 0 ∙ ap (λ (o : Option (Option ℕ)). place_in o was.log) place in
+    iff_then said (mark_of (replay was) (drop at was.log) (ap (λ (o : Option (List ℕ)). option_or o (pages_of was.pages 0)) held))
+
+pub no_place : (o : Option (Option ℕ)) (log : List ℕ) → ((at : ℕ) → o ≡ Some (Some at) → ⊥) → place_in o log ≡ None
+no_place (Some (Some at)) log none = absurd (none at refl)
+no_place (Some None) log none = refl
+no_place None log none = refl
+
+pub mark_in_area : (was : Image) (places : Places) (is : Bool) → LeadsTo (groups was.log) places was.log → ((at : ℕ) → get nat_cmp places 0 ≡ Some (Some at) → ⊥)
+    → 8192 ≤ length was.pages → (is ≡ true) ↔ (take 8 was.pages ≡ mark) → (is ≡ true) ↔ HasMark (replay was)
+mark_in_area was places is leads none long said =
+    let lacks : logged (groups was.log) 0 ≡ None = leads 0 ∙ no_place (get nat_cmp places 0) was.log none in
+    iff_then said (mark_of (replay was) was.pages (ap (λ (o : Option (List ℕ)). option_or o (pages_of was.pages 0)) lacks ∙ page-there was.pages 0 (omega arith) (omega (arith, long))))
+
+pub if_ok_both : {T E : Type 0} {P Q R : T → Type 0} (r : Result T E) → IfOk r P → IfOk r Q → ((x : T) → P x → Q x → R x) → IfOk r R
+if_ok_both (Ok x) p q f = f x p q
+if_ok_both (Err e) p q f = tt

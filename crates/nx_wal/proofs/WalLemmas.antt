@@ -1,0 +1,166 @@
+-- What a log and its disk stand for, from what was read.
+use Rattle.std.proofs.Common.{◌≡◌, ◌⊎◌, ℕ, ◌+◌, ◌*◌, ◌^◌, ◌<◌, ◌≤◌, List, [], ◌∷◌, length, take, Bool, true, refl, sym, ap, subst, ◌∙◌, arith, inl, inr}
+use Rattle.std.proofs.Common.{cond}
+use Rattle.std.proofs.lemmas.Bool.{cases_Bool}
+use Rattle.std.specs.Prelude.{Option, Some, None, ◌==◌, if◌then◌else◌}
+use Rattle.std.proofs.lemmas.List.{length-map}
+use Rattle.std.specs.Prelude.{All}
+use Rattle.std.specs.List.Sorted.{IsStrictlySortedBy}
+use Rattle.std.specs.Map.{lookup, keys_of}
+use Rattle.std.specs.BTreeMap.{BTreeMap, get, is_at}
+use Rattle.std.specs.Ordering.{nat_cmp}
+use Rattle.nx_slots.specs.declared.page.PageBytes.{PageBytes}
+use Rattle.nx_wal.proofs.PageLemmas.{pending_found, pending_none}
+use Rattle.nx_host.specs.Disk.{Image}
+use Rattle.nx_host.specs.declared.disk.Disk.{Ghosts}
+use Rattle.nx_host.specs.Still.{Goes}
+use Rattle.nx_host.proofs.DiskLemmas.{goes_weaker}
+use Rattle.std.specs.Option.{option_or}
+use Rattle.nx_replay.specs.Log.{Group, entry_pages, replay, groups, logged, end_of, Stays, IsAtEnd, HasSame, HasGroup}
+use Rattle.nx_replay.specs.Commit.{IsOpened, IsBody}
+use Rattle.nx_replay.proofs.ReplayLemmas.{logged-more}
+use Rattle.nx_wal.specs.declared.wal.Wal.{Wal}
+use Rattle.nx_wal.specs.declared.error.WalError.{WalError}
+use Rattle.nx_wal.specs.declared.error.WalError.TheVariants.{Disk, Exists, NotAStore, Ended, Memory}
+use Rattle.nx_wal.specs.declared.reading.End.{End}
+use Rattle.nx_wal.specs.Reading.{IsRead, IsNotOpened, HasMark}
+use Rattle.nx_wal.specs.Places.{Places, place_in, AreWithin, LeadsTo, Notes}
+use Rattle.nx_wal.specs.Writing.{entries_of, body_of}
+use Rattle.nx_wal.specs.Wal.{Follows, IsInStep, NotOpened, pending, next_group}
+use Rattle.nx_wal.proofs.WaitingLemmas.{waiting_few, waiting_group, place_same}
+use Rattle.nx_wal.specs.Moving.{IsLed}
+use Rattle.nx_wal.proofs.ReadingLemmas.{leads_none, none_within, some_same, at_number}
+use Rattle.nx_wal.proofs.WritingLemmas.{end_fits}
+
+pub not_opened : {D : Type 0} (d : Ghosts D) (e : WalError) (old new : D) → IsNotOpened e (d.faults old) (d.faults new) ((was : Image) → d.contents old ≡ Some was → HasMark (replay was) → ⊥)
+    → NotOpened d e old new
+not_opened d Disk old new h = h
+not_opened d Exists old new h = h
+not_opened d NotAStore old new h = λ was settled has. h was settled.here has
+not_opened d Ended old new h = h
+not_opened d Memory old new h = tt
+
+-- what was read is followed
+pub follows_read : (wal : Wal) (end : End) (log : List ℕ) → wal.end ≡ end.at → wal.shut ≡ end.shut → IsRead wal.places end log → Follows wal log
+follows_read wal end log at shut read = record {
+  at = rw (at, shut) read.at;
+  leads = read.leads;
+  within = rw at read.within;
+}
+
+-- A checkpoint.
+
+pub led : {D : Type 0} (d : Ghosts D) (wal : Wal) (disk : D) (was : Image) → IsInStep d wal disk was → IsLed d wal.places disk was
+led d wal disk was step = record {
+  settled = step.settled;
+  leads = (step.follows).leads;
+  within = λ p at is. let fits = end_fits wal.end wal.shut was.log (step.follows).at in let low = (step.follows).within p at is in omega (arith, fits, low);
+}
+
+pub some_group : {D : Type 0} (d : Ghosts D) (wal : Wal) (disk : D) (was : Image) → IsInStep d wal disk was → 0 < wal.end → 0 < end_of (groups was.log)
+some_group d wal disk was step some = let here : wal.end ≡ end_of (groups was.log) = ((step.follows).at).here in omega (arith, some, here)
+
+pub ended_none : (gs : List Group) → end_of gs ≡ 0 → gs ≡ []
+ended_none [] is = refl
+ended_none (g ∷ gs) is = absurd (omega (arith, is))
+
+pub stays_self : (i : Image) → Stays (replay i) (replay i)
+stays_self i = record { each = λ p some. refl; dense = λ all. refl }
+
+-- an empty log is followed with no places
+pub follows_none : (wal : Wal) (log : List ℕ) → wal.places.entries ≡ [] → wal.end ≡ 0 → IsAtEnd 0 wal.shut log → Follows wal log
+follows_none wal log none at ends =
+    let gs : groups log ≡ [] = ended_none (groups log) (sym ends.here) in
+    record {
+      at = rw at ends;
+      leads = λ p. ap (λ (gs : List Group). logged gs p) gs ∙ leads_none wal.places log none p;
+      within = none_within wal.end wal.places none;
+    }
+
+pub checkpoint_goes : {D : Type 0} (d : Ghosts D) (wal : Wal) (a b : D) → 0 < wal.end
+    → Goes d a b (λ i. (was : Image) → IsLed d wal.places a was → 0 < end_of (groups was.log) → Stays (replay was) (replay i))
+    → Goes d a b (λ i. (was : Image) → IsInStep d wal a was → Stays (replay was) (replay i))
+checkpoint_goes d wal a b some goes = goes_weaker goes (λ told i stays was step. stays was (led d wal a was step) (some_group d wal a was step some))
+
+pub checkpoint_none : {D : Type 0} (d : Ghosts D) (wal : Wal) (a : D) (was now : Image) → wal.end ≡ 0 → IsInStep d wal a was → d.contents a ≡ Some now
+    → IsInStep d wal a now × Stays (replay was) (replay now) × (groups now.log ≡ [])
+checkpoint_none d wal a was now none step told =
+    let same : was ≡ now = some_same (sym ((step.settled).here) ∙ told) in
+    subst (λ (i : Image). IsInStep d wal a i × Stays (replay was) (replay i) × (groups i.log ≡ [])) same (
+      step,
+      stays_self was,
+      ended_none (groups was.log) (sym (((step.follows).at).here) ∙ none),
+    )
+
+-- A put.
+
+pub follows_same : (old new : Wal) (log : List ℕ) → new.end ≡ old.end → new.shut ≡ old.shut
+    → ((q : ℕ) (l : List ℕ) → place_in (get nat_cmp new.places q) l ≡ place_in (get nat_cmp old.places q) l)
+    → ((limit : ℕ) → AreWithin limit old.places → AreWithin limit new.places) → Follows old log → Follows new log
+follows_same old new log ends shut leads within follows = record {
+  at = rw (ends, shut) follows.at;
+  leads = λ p. follows.leads p ∙ sym (leads p log);
+  within = rw ends (within old.end follows.within);
+}
+
+pub option_cases : {T : Type 0} (o : Option T) → (o ≡ None) ⊎ ((x : T) × (o ≡ Some x))
+option_cases None = inl refl
+option_cases (Some x) = inr (x, refl)
+
+pub put_at : (old new : BTreeMap ℕ PageBytes) (page : ℕ) (bytes : PageBytes)
+    → ((q : ℕ) → get nat_cmp new q ≡ cond (is_at (nat_cmp page) q) (Some bytes) (get nat_cmp old q)) → (p : ℕ)
+    → entry_pages (entries_of new.entries) p ≡ option_or (entry_pages (record { page = page; bytes = bytes.bytes } ∷ []) p) (entry_pages (entries_of old.entries) p)
+put_at old new page bytes updates p =
+    let right = λ (b : Bool). option_or (if b then Some bytes.bytes else None) (entry_pages (entries_of old.entries) p) in
+    elim (cases_Bool (p == page)) [
+      | inl holds ↦
+          let here : get nat_cmp new p ≡ Some bytes = updates p ∙ ap (λ (b : Bool). cond b (Some bytes) (get nat_cmp old p)) (at_number page p ∙ holds) in
+          pending_found new.entries p bytes here ∙ sym (ap right holds)
+      | inr fails ↦
+          let there : get nat_cmp new p ≡ get nat_cmp old p = updates p ∙ ap (λ (b : Bool). cond b (Some bytes) (get nat_cmp old p)) (at_number page p ∙ fails) in
+          elim (option_cases (get nat_cmp old p)) [
+            | inl none ↦ pending_none new.entries p (there ∙ none) ∙ sym (ap right fails ∙ pending_none old.entries p none)
+            | inr some ↦ pending_found new.entries p some.0 (there ∙ some.1) ∙ sym (ap right fails ∙ pending_found old.entries p some.0 some.1)
+          ]
+    ]
+
+pub some_waits : (es : List (ℕ × PageBytes)) (p : ℕ) (b : PageBytes) → lookup (is_at (nat_cmp p)) es ≡ Some b → entries_of es ≡ [] → ⊥
+some_waits [] p b found none = let lost : None ≡ Some b = found in absurd (cc)
+some_waits (e ∷ es) p b found none = omega (arith, ap length none)
+
+-- A commit.
+
+module _ (wal : Wal) (ordered : IsStrictlySortedBy nat_cmp (keys_of wal.waiting.entries)) where
+  low_keys : All (λ k. k < 16777216) (keys_of wal.waiting.entries)
+  low_keys k d within = (wal.numbers k d within).0
+
+  pub few_wait : length wal.waiting.entries ≤ 16777216
+  few_wait = waiting_few wal.waiting.entries ordered low_keys
+
+  -- what waits is a group that can be written at the log's end
+  pub next_body : (number : ℕ) → number < 2 ^ 64 → wal.end ≤ 2 ^ 62 → (pending wal ≡ [] → ⊥) → IsBody (next_group number wal) wal.end (body_of number wal.waiting.entries)
+  next_body number fits room some =
+      let few : length wal.waiting.entries ≤ 16777216 = few_wait in
+      let count : length (entries_of wal.waiting.entries) ≡ length wal.waiting.entries = simp length-map in
+      record {
+        whole = waiting_group wal.waiting.entries ordered low_keys number fits some wal.whole;
+        bytes = refl;
+        low = omega (arith, few, count, room);
+      }
+
+pub opened_step : {D : Type 0} {d : Ghosts D} {wal : Wal} {a : D} {was : Image} → wal.end ≤ 2 ^ 62 → IsInStep d wal a was → IsOpened d wal.end wal.shut a was
+opened_step room step = record { settled = step.settled; at = (step.follows).at; low = omega (arith, room) }
+
+pub commit_goes : {D : Type 0} (d : Ghosts D) (wal : Wal) (number : ℕ) (a b : D) → wal.end ≤ 2 ^ 62 → IsBody (next_group number wal) wal.end (body_of number wal.waiting.entries)
+    → Goes d a b (λ i. (was : Image) (g : Group) → IsOpened d wal.end wal.shut a was → IsBody g wal.end (body_of number wal.waiting.entries) → HasSame was i ⊎ HasGroup g was i)
+    → Goes d a b (λ i. (was : Image) → IsInStep d wal a was → HasSame was i ⊎ HasGroup (next_group number wal) was i)
+commit_goes d wal number a b room body goes = goes_weaker goes (λ told i outcome was step. outcome was (next_group number wal) (opened_step room step) body)
+
+-- the places lead to the pages of one group more
+pub leads_more : {wal : Wal} {was now : Image} (number : ℕ) (new : Places) → Follows wal was.log → HasGroup (next_group number wal) was now → take wal.end now.log ≡ take wal.end was.log
+    → Notes (pending wal) now.log wal.places new → LeadsTo (groups now.log) new now.log
+leads_more {wal = wal} {was = was} {now = now} number new follows more front notes p =
+    ap (λ (gs : List Group). logged gs p) more.log ∙ ap (λ (f : ℕ → Option (List ℕ)). f p) (logged-more (groups was.log) (next_group number wal))
+    ∙ ap (λ (o : Option (List ℕ)). option_or (entry_pages (pending wal) p) o)
+    (follows.leads p ∙ place_same (get nat_cmp wal.places p) wal.end was.log now.log (λ at is. follows.within p at is) front)
+    ∙ sym (notes p)

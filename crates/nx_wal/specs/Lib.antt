@@ -1,0 +1,6 @@
+pub mod Places
+pub mod Reading
+pub mod Writing
+pub mod Gathering
+pub mod Moving
+pub mod Wal

@@ -1,0 +1,37 @@
+-- Where the pages of a log stand.
+use Rattle.std.specs.Prelude.{ℕ, ◌+◌, ◌≡◌, ◌<◌, ◌≤◌, List, length, take, drop, Option, Some, None, IsSome}
+use Rattle.std.specs.Option.{option_or}
+use Rattle.std.specs.BTreeMap.{BTreeMap, get}
+use Rattle.std.specs.Ordering.{nat_cmp}
+use Rattle.nx_slots.specs.declared.page.PageBytes.{PageBytes}
+use Rattle.nx_replay.specs.Log.{Entry, Group, entry_pages, logged}
+
+-- where the log has a page, or none where it is only pending
+abbrev pub Places : Type 0
+Places = BTreeMap ℕ (Option ℕ)
+
+-- the page that stands there
+abbrev pub place_in : Option (Option ℕ) → List ℕ → Option (List ℕ)
+place_in (Some (Some at)) log = Some (take 8192 (drop at log))
+place_in (Some None) log = None
+place_in None log = None
+
+-- The places lead to the pages of these groups.
+abbrev pub LeadsTo : List Group → Places → List ℕ → Type 0
+LeadsTo gs places log = (p : ℕ) → logged gs p ≡ place_in (get nat_cmp places p) log
+
+-- These pages of a group were noted.
+abbrev pub Notes : List Entry → List ℕ → Places → Places → Type 0
+Notes es log old new = (p : ℕ) → place_in (get nat_cmp new p) log ≡ option_or (entry_pages es p) (place_in (get nat_cmp old p) log)
+
+-- Each place has a page's bytes below the limit.
+abbrev pub AreWithin : ℕ → Places → Type 0
+AreWithin limit places = (p at : ℕ) → get nat_cmp places p ≡ Some (Some at) → at + 8192 ≤ limit
+
+-- A page with this number may wait for a commit: its place has an entry already, so that the commit takes no memory.
+abbrev pub MayWait : Places → ℕ → Type 0
+MayWait places page = (page < 16777216) × IsSome (get nat_cmp places page)
+
+-- all bytes of a page are there
+abbrev pub IsWholePage : PageBytes → Type 0
+IsWholePage page = length page.bytes ≡ 8192

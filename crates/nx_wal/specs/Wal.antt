@@ -1,0 +1,81 @@
+-- What a log and its disk stand for.
+use Rattle.std.specs.Prelude.{◌≡◌, ℕ, ◌-◌, ◌<◌, ◌≤◌, Bool, true, false, List, map, None, IsSome}
+use Rattle.std.specs.BTreeMap.{get}
+use Rattle.std.specs.Ordering.{nat_cmp}
+use Rattle.nx_host.specs.Disk.{Image, Rose}
+use Rattle.nx_host.specs.declared.disk.Disk.{Ghosts}
+use Rattle.nx_host.specs.Still.{IsSettled}
+use Rattle.nx_replay.specs.Log.{Pages, Entry, Group, over, logged, replay, groups, entry_pages, IsAtEnd}
+use Rattle.nx_wal.specs.Places.{LeadsTo, AreWithin}
+use Rattle.nx_wal.specs.Reading.{HasMark}
+use Rattle.nx_wal.specs.Writing.{entries_of, group_with}
+use Rattle.nx_wal.specs.declared.wal.Wal.{Wal}
+use Rattle.nx_wal.specs.declared.error.WalError.{WalError}
+use Rattle.nx_wal.specs.declared.error.WalError.TheVariants as error
+
+-- an earlier call failed
+abbrev pub has_ended : Wal → Bool
+has_ended wal = wal.ended
+
+-- where the log ends
+abbrev pub length_of : Wal → ℕ
+length_of wal = wal.end
+
+-- the pages that wait for a commit, as the entries of its group, by their numbers
+abbrev pub pending : Wal → List Entry
+pending wal = entries_of wal.waiting.entries
+
+-- the group that a commit with this number writes
+abbrev pub next_group : ℕ → Wal → Group
+next_group number wal = group_with number wal.waiting.entries
+
+-- The object follows this log: it knows where the log ends, and where each of its pages stands.
+pub record Follows (wal : Wal) (log : List ℕ) : Type 0 where
+  pub at : IsAtEnd wal.end wal.shut log
+  pub leads : LeadsTo (groups log) wal.places log
+  pub within : AreWithin wal.end wal.places
+
+-- The disk stands as the last call left it: it has this image alone, and the object follows its log.
+pub record IsInStep {D : Type 0} (d : Ghosts D) (wal : Wal) (disk : D) (image : Image) : Type 0 where
+  pub settled : IsSettled d disk image
+  pub follows : Follows wal image.log
+
+-- the pages as the pending ones, else those of the image, have them
+abbrev pub current : Wal → Image → Pages
+current wal image = over (entry_pages (pending wal)) (replay image)
+
+-- one more than the number of the greatest page, 0 where there is none
+pub record IsPageCount (count : ℕ) (pages : Pages) : Type 0 where
+  pub last : 0 < count → IsSome (pages (count - 1))
+  pub none_from : (p : ℕ) → count ≤ p → pages p ≡ None
+
+-- The object ended in this call. What waits stays, and so does the log's length.
+pub record Ends (old new : Wal) : Type 0 where
+  pub before : has_ended old ≡ false
+  pub after : has_ended new ≡ true
+  pub length_stays : length_of new ≡ length_of old
+  pub pending_stays : pending new ≡ pending old
+
+-- Why a call that goes to the disk gave up.
+abbrev pub Refused : {D : Type 0} → Ghosts D → WalError → Wal → Wal → D → D → Type 0
+Refused d error.Disk old new before after = Rose (d.faults before) (d.faults after) × Ends old new
+Refused d error.Ended old new before after = (has_ended old ≡ true) × (new ≡ old)
+Refused d error.Exists old new before after = ⊥
+Refused d error.NotAStore old new before after = ⊥
+Refused d error.Memory old new before after = ⊥
+
+-- Why no log was created.
+abbrev pub NotCreated : {D : Type 0} → Ghosts D → WalError → D → D → Type 0
+NotCreated d error.Disk before after = Rose (d.faults before) (d.faults after)
+NotCreated d error.Exists before after = (was : Image) → IsSettled d before was → (p : ℕ) × IsSome (replay was p)
+NotCreated d error.NotAStore before after = ⊥
+NotCreated d error.Ended before after = ⊥
+NotCreated d error.Memory before after = Unit {0}
+
+-- Why none was opened.
+abbrev pub NotOpened : {D : Type 0} → Ghosts D → WalError → D → D → Type 0
+NotOpened d error.Disk before after = Rose (d.faults before) (d.faults after)
+NotOpened d error.Exists before after = ⊥
+NotOpened d error.NotAStore before after = (was : Image) → IsSettled d before was → HasMark (replay was) → ⊥
+NotOpened d error.Ended before after = ⊥
+NotOpened d error.Memory before after = Unit {0}

@@ -1,0 +1,17 @@
+//! Pages under a log. A commit writes a group of pages behind the end of the log and opens its gate; a
+//! checkpoint moves the pages to the pages area and empties the log; opening reads the log by its heads
+//! and page numbers. What an image stands for is said in `nx_replay`.
+#![tactic(auto)]
+
+mod block;
+mod error;
+mod moving;
+mod pages;
+mod places;
+mod reading;
+mod wal;
+mod writing;
+
+pub use error::WalError;
+pub use nx_slots::PageBytes;
+pub use wal::Wal;

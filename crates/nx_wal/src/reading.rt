@@ -1,0 +1,276 @@
+// Reading a log: its groups by their heads and page numbers.
+ghost use Rattle.std.specs.Prelude.{◌≡◌, Bool, ℕ, List, ◌+◌, ◌*◌, ◌/◌, ◌^◌, ◌<◌, ◌≤◌, ◌==◌, min, length, take, drop, slice_index, true, false, Some, None, IsSome, IfOk, IfErr, IfSome, IfNone, OnOk, OnErr, ◌↔◌};
+ghost use Rattle.nx_host.specs.Disk.{Image, area_of, Rose, given_at};
+ghost use Rattle.nx_host.specs.Still.{IsStill};
+ghost use Rattle.nx_replay.specs.Log.{groups, replay, rise, entries_of, IsAtEnd};
+ghost use Rattle.byteorder.specs.Endian.{big_number};
+ghost use Rattle.nx_wal.specs.Reading.{Gives, IsHead, IsRead, HasMark, mark, FailsBy, IsNotOpened, page_found};
+ghost use Rattle.nx_wal.specs.Places.{Notes, AreWithin, LeadsTo, place_in};
+ghost use Rattle.std.specs.BTreeMap.{IsEmpty, get};
+ghost use Rattle.std.specs.Ordering.{nat_cmp};
+
+use crate::WalError;
+use crate::pages::{area_count, has_mark};
+use byteorder::{BigEndian, ByteOrder};
+use nx_host::{Area, Disk, Failed};
+use std::alloc::Global;
+use std::collections::BTreeMap;
+
+// What stands at the place of a gate.
+#[derive(Clone, Copy)]
+pub(crate) struct Head {
+    // A byte is there and isn't 1.
+    shut: bool,
+    // How many pages the group has that may stand there, or 0.
+    count: u32,
+}
+
+// Where a log ends.
+#[derive(Clone, Copy)]
+pub(crate) struct End {
+    pub(crate) at: u64,
+    pub(crate) shut: bool,
+}
+
+// Reads bytes of an area.
+pub(crate) fn read_from<D: Disk>(
+    disk: &mut D,
+    area: Area,
+    at: u64,
+    into: &mut [u8],
+) -> Result<usize, Failed>
+    ensures still { IsStill D.Disk disk.old disk.new }
+    ensures reads { D.reads disk.new ≤ D.reads disk.old + 1 }
+    ensures room { IfOk result (λ n. n ≤ length into.old) }
+    ensures gives { IfOk result (λ n. (was : Image) → D.contents disk.old ≡ Some was → Gives n (length into.old) into.new (drop at (area_of area was))) }
+    ensures cause { OnErr result (Rose (D.faults disk.old) (D.faults disk.new)) }
+{
+    disk.read(area, at, into)
+}
+
+// Whether a byte was given, and the first isn't 1.
+fn is_shut(given: usize, head: &[u8]) -> bool
+    requires { 1 ≤ length head.now }
+    ensures shut { result ≡ true → (0 < given) × ((slice_index head.now 0 == 1) ≡ false) }
+    ensures open { result ≡ false → 0 < given → slice_index head.now 0 ≡ 1 }
+{
+    given > 0 && head[0] != 1
+}
+
+// How many pages the group has whose head was given whole, where it is open and leaves a byte of the
+// room; else 0.
+fn pages_of(given: usize, head: &[u8], room: u64) -> u32
+    requires { 13 ≤ length head.now }
+    ensures whole { 0 < result → (13 ≤ given) × (13 + 8196 * result < room) }
+    ensures counted { 0 < result → (slice_index head.now 0 ≡ 1) × (result ≡ big_number 4 (drop 9 head.now)) × (result ≤ 16777216) }
+    ensures none { result ≡ 0 → 13 ≤ given → slice_index head.now 0 ≡ 1 → 1 ≤ big_number 4 (drop 9 head.now) → big_number 4 (drop 9 head.now) ≤ 16777216
+        → 13 + 8196 * big_number 4 (drop 9 head.now) < room → ⊥ }
+{
+    if given < 13 || head[0] != 1 {
+        return 0;
+    }
+    let count = BigEndian::read_u32(&head[9..]);
+    if count > 16_777_216 || 13 + 8_196 * (count as u64) >= room {
+        return 0;
+    }
+    count
+}
+
+// Reads the head of a group, where one may stand below the limit.
+fn read_head<D: Disk>(disk: &mut D, at: u64, limit: u64) -> Result<Head, Failed>
+    requires { at ≤ limit }
+    ensures still { IsStill D.Disk disk.old disk.new }
+    ensures reads { D.reads disk.new ≤ D.reads disk.old + 1 }
+    ensures room { IfOk result (λ head. 0 < head.count → at + 13 + 8196 * head.count < limit) }
+    ensures head { IfOk result (λ head. (was : Image) → D.contents disk.old ≡ Some was → limit ≡ min (2 ^ 63) (length was.log) → IsHead at head was.log) }
+    ensures cause { OnErr result (Rose (D.faults disk.old) (D.faults disk.new)) }
+{
+    let mut head = [0u8; 13];
+    let given = read_from(disk, Area::Log, at, &mut head)?;
+    let shut = is_shut(given, &head);
+    let count = pages_of(given, &head, limit - at);
+    Ok(Head { shut, count })
+}
+
+// The number of the page that stands there, or none where a byte is missing.
+fn read_number<D: Disk>(disk: &mut D, at: u64) -> Result<Option<u32>, Failed>
+    ensures still { IsStill D.Disk disk.old disk.new }
+    ensures reads { D.reads disk.new ≤ D.reads disk.old + 1 }
+    ensures number { IfOk result (λ number. (was : Image) → D.contents disk.old ≡ Some was → at + 4 ≤ length was.log → number ≡ Some (big_number 4 (drop at was.log))) }
+    ensures cause { OnErr result (Rose (D.faults disk.old) (D.faults disk.new)) }
+{
+    let mut number = [0u8; 4];
+    let given = read_from(disk, Area::Log, at, &mut number)?;
+    if given < 4 {
+        return Ok(None);
+    }
+    Ok(Some(BigEndian::read_u32(&number)))
+}
+
+// Whether the numbers of so many pages rise strictly, and each may be.
+fn numbers_rise<D: Disk>(disk: &mut D, at: u64, count: u32) -> Result<bool, Failed>
+    requires { at + 8196 * count ≤ 2 ^ 63 }
+    ensures still { IsStill D.Disk disk.old disk.new }
+    ensures reads { D.reads disk.new ≤ D.reads disk.old + count }
+    ensures rise { IfOk result (λ rises. (was : Image) → D.contents disk.old ≡ Some was → at + 8196 * count ≤ length was.log → rises ≡ rise 0 (entries_of count (drop at was.log))) }
+    ensures cause { OnErr result (Rose (D.faults disk.old) (D.faults disk.new)) }
+{
+    let mut least = 0u32;
+    for i in 0..count {
+        let Some(number) = read_number(disk, at + 8_196 * (i as u64))? else {
+            return Ok(false);
+        };
+        if number < least || number >= 16_777_216 {
+            return Ok(false);
+        }
+        least = number + 1;
+    }
+    Ok(true)
+}
+
+// Notes where so many pages stand, from the last to the first.
+fn note_pages<D: Disk>(
+    places: &mut BTreeMap<u32, Option<u64>>,
+    disk: &mut D,
+    at: u64,
+    count: u32,
+) -> Result<(), WalError>
+    requires { at + 8196 * count ≤ 2 ^ 63 }
+    ensures still { IsStill D.Disk disk.old disk.new }
+    ensures reads { D.reads disk.new ≤ D.reads disk.old + count }
+    ensures notes { OnOk result ((was : Image) → D.contents disk.old ≡ Some was → at + 8196 * count ≤ length was.log → Notes (entries_of count (drop at was.log)) was.log places.old places.new) }
+    ensures within { OnOk result ((limit : ℕ) → at + 8196 * count ≤ limit → AreWithin limit places.old → AreWithin limit places.new) }
+    ensures refused { IfErr result (λ e. FailsBy e (D.faults disk.old) (D.faults disk.new)) }
+{
+    let mut left = count;
+    while left > 0 {
+        left -= 1;
+        let place = at + 8_196 * (left as u64);
+        let Ok(read) = read_number(disk, place) else {
+            return Err(WalError::Disk);
+        };
+        let Some(number) = read else {
+            return Ok(());
+        };
+        let Ok(_) = places.insert(number, Some(place + 4)) else {
+            return Err(WalError::Memory);
+        };
+    }
+    Ok(())
+}
+
+// Reads the log below the limit, and notes where its pages stand.
+fn read_log<D: Disk>(
+    places: &mut BTreeMap<u32, Option<u64>>,
+    disk: &mut D,
+    limit: u64,
+) -> Result<End, WalError>
+    requires none { IsEmpty places.old }
+    requires limit { limit ≤ 2 ^ 63 }
+    ensures still { IsStill D.Disk disk.old disk.new }
+    ensures reads { D.reads disk.new ≤ D.reads disk.old + (3 * (limit / 8196) + 1) }
+    ensures read { IfOk result (λ end. (was : Image) → D.contents disk.old ≡ Some was → limit ≡ min (2 ^ 63) (length was.log) → IsRead places.new end was.log) }
+    ensures refused { IfErr result (λ e. FailsBy e (D.faults disk.old) (D.faults disk.new)) }
+{
+    let mut at = 0u64;
+    loop {
+        let Ok(head) = read_head(disk, at, limit) else {
+            return Err(WalError::Disk);
+        };
+        if head.count == 0 {
+            return Ok(End {
+                at,
+                shut: head.shut,
+            });
+        }
+        let Ok(rises) = numbers_rise(disk, at + 13, head.count) else {
+            return Err(WalError::Disk);
+        };
+        if !rises {
+            return Ok(End {
+                at,
+                shut: head.shut,
+            });
+        }
+        note_pages(places, disk, at + 13, head.count)?;
+        at += 13 + 8_196 * (head.count as u64);
+    }
+}
+
+// The limit below which a log's groups end.
+fn log_limit<D: Disk>(disk: &mut D) -> Result<u64, Failed>
+    ensures still { IsStill D.Disk disk.old disk.new }
+    ensures reads { D.reads disk.new ≡ D.reads disk.old }
+    ensures low { IfOk result (λ limit. limit ≤ 2 ^ 63) }
+    ensures limit { IfOk result (λ limit. (was : Image) → D.contents disk.old ≡ Some was → limit ≡ min (2 ^ 63) (length was.log)) }
+    ensures cause { OnErr result (Rose (D.faults disk.old) (D.faults disk.new)) }
+{
+    let length = disk.length(Area::Log)?;
+    if length < 9_223_372_036_854_775_808 {
+        Ok(length)
+    } else {
+        Ok(9_223_372_036_854_775_808)
+    }
+}
+
+// A log that was opened.
+#[derive(Drop)]
+pub(crate) struct Opened {
+    pub(crate) places: BTreeMap<u32, Option<u64>>,
+    pub(crate) end: End,
+}
+
+// Reads the log of a store.
+pub(crate) fn open_log<D: Disk>(disk: &mut D, alloc: Global) -> Result<Opened, WalError>
+    ensures still { IsStill D.Disk disk.old disk.new }
+    ensures reads { IfSome (D.contents disk.old) (λ was. D.reads disk.new ≤ D.reads disk.old + (3 * (length was.log / 8196 + 1) + 1)) }
+    ensures read { IfOk result (λ opened. (was : Image) → D.contents disk.old ≡ Some was → IsRead opened.places opened.end was.log × HasMark (replay was)) }
+    ensures refused { IfErr result (λ e. IsNotOpened e (D.faults disk.old) (D.faults disk.new) ((was : Image) → D.contents disk.old ≡ Some was → HasMark (replay was) → ⊥)) }
+{
+    let Ok(limit) = log_limit(disk) else {
+        return Err(WalError::Disk);
+    };
+    let mut places = BTreeMap::new(alloc);
+    let end = read_log(&mut places, disk, limit)?;
+    let Ok(is) = has_mark(disk, &places) else {
+        return Err(WalError::Disk);
+    };
+    if !is {
+        return Err(WalError::NotAStore);
+    }
+    Ok(Opened { places, end })
+}
+
+// Whether a group stands at a log's front.
+fn has_group<D: Disk>(disk: &mut D, head: Head) -> Result<bool, Failed>
+    ensures still { IsStill D.Disk disk.old disk.new }
+    ensures some { IfOk result (λ has. has ≡ true → (0 < head.count) × ((was : Image) → D.contents disk.old ≡ Some was → 13 + 8196 * head.count ≤ length was.log
+        → rise 0 (entries_of head.count (drop 13 was.log)) ≡ true)) }
+    ensures none { IfOk result (λ has. has ≡ false → 0 < head.count → (was : Image) → D.contents disk.old ≡ Some was → 13 + 8196 * head.count ≤ length was.log
+        → rise 0 (entries_of head.count (drop 13 was.log)) ≡ false) }
+    ensures cause { OnErr result (Rose (D.faults disk.old) (D.faults disk.new)) }
+{
+    if head.count == 0 {
+        return Ok(false);
+    }
+    numbers_rise(disk, 13, head.count)
+}
+
+// Where the disk has no page, whether a closed byte stands at the log's front.
+pub(crate) fn shut_of_none<D: Disk>(disk: &mut D) -> Result<Option<bool>, Failed>
+    ensures still { IsStill D.Disk disk.old disk.new }
+    ensures some { IfOk result (λ found. (shut : Bool) → found ≡ Some shut → (was : Image) → D.contents disk.old ≡ Some was → IsAtEnd 0 shut was.log × ((p : ℕ) → replay was p ≡ None)) }
+    ensures none { IfOk result (λ found. found ≡ None → (was : Image) → D.contents disk.old ≡ Some was → (p : ℕ) × IsSome (replay was p)) }
+    ensures cause { OnErr result (Rose (D.faults disk.old) (D.faults disk.new)) }
+{
+    let limit = log_limit(disk)?;
+    let head = read_head(disk, 0, limit)?;
+    if has_group(disk, head)? {
+        return Ok(None);
+    }
+    let count = area_count(disk)?;
+    if count > 0 {
+        return Ok(None);
+    }
+    Ok(Some(head.shut))
+}

@@ -1,0 +1,272 @@
+// Pages under a log.
+ghost use Rattle.std.specs.Prelude.{◌≡◌, ◌≢◌, ◌⊎◌, ◌++◌, ◌∷◌, [], ℕ, List, ◌+◌, ◌*◌, ◌/◌, ◌^◌, ◌<◌, ◌≤◌, length, true, false, All, Some, None, IsSome, IfSome, IfOk, IfErr, OnOk, OnErr};
+ghost use Rattle.std.specs.Option.{option_map};
+ghost use Rattle.std.specs.BTreeMap.{keys, values};
+ghost use Rattle.std.proofs.Props.{props};
+ghost use Rattle.nx_host.specs.Disk.{Image};
+ghost use Rattle.nx_host.specs.Still.{IsStill, IsSettled, Goes};
+ghost use Rattle.nx_replay.specs.Log.{replay, over, groups, entry_pages, Stays, HasSame, HasGroup};
+ghost use Rattle.nx_wal.specs.Places.{MayWait, IsWholePage};
+
+use crate::block::Block;
+use crate::moving::empty_log;
+use crate::pages::{area_count, read_page};
+use crate::places::{copy_of, logged_count, make_place, read_waiting, set_places};
+use crate::reading::{open_log, shut_of_none};
+use crate::writing::write_group;
+use crate::{PageBytes, WalError};
+use nx_host::Disk;
+use std::alloc::Global;
+use std::collections::BTreeMap;
+
+/// Pages under a log: the pages of a disk as its log, else its pages area, has them, and besides the
+/// pages that wait for a commit.
+///
+/// Of the log it keeps where each page stands, and no page but those that wait. It stands for the
+/// disk that the last call was handed, as that call left it.
+#[derive(Drop)]
+pub struct Wal {
+    // Where the log has a page, or none where it only waits.
+    places: BTreeMap<u32, Option<u64>>,
+    waiting: BTreeMap<u32, PageBytes>,
+    block: Block,
+    // Where the log ends, and whether a closed byte stands there.
+    end: u64,
+    shut: bool,
+    ended: bool,
+    ghost numbers: { All (MayWait places) (keys waiting) } by { Prim.hlevel props },
+    ghost whole: { All IsWholePage (values waiting) } by { Prim.hlevel props },
+}
+
+impl Wal {
+    ghost use Rattle.nx_wal.specs.Wal.{Follows, IsInStep, IsPageCount, Ends, pending, current, next_group, has_ended, length_of, Refused, NotCreated, NotOpened};
+    ghost use Rattle.nx_wal.specs.Reading.{HasMark, page_found};
+
+    /// A log over a disk that has no pages. Nothing is written.
+    ///
+    /// Errors: `Exists` exactly where the disk has a page; `Disk`, only where `faults` rose;
+    /// `Memory`.
+    pub fn create<D: Disk>(disk: &mut D, alloc: Global) -> Result<Wal, WalError>
+        ensures still { IsStill D.Disk disk.old disk.new }
+        ensures ok { IfOk result (λ wal. (was : Image) → IsSettled D.Disk disk.old was → IsInStep D.Disk wal disk.new was × ((p : ℕ) → replay was p ≡ None)) }
+        ensures fresh { IfOk result (λ wal. (has_ended wal ≡ false) × (length_of wal ≡ 0) × (pending wal ≡ [])) }
+        ensures refused { IfErr result (λ e. NotCreated D.Disk e disk.old disk.new) }
+    {
+        let Ok(found) = shut_of_none(disk) else {
+            return Err(WalError::Disk);
+        };
+        let Some(shut) = found else {
+            return Err(WalError::Exists);
+        };
+        let Ok(block) = Block::new(alloc) else {
+            return Err(WalError::Memory);
+        };
+        Ok(Wal {
+            places: BTreeMap::new(alloc),
+            waiting: BTreeMap::new(alloc),
+            block,
+            end: 0,
+            shut,
+            ended: false,
+        })
+    }
+
+    /// The log of a disk that has a store. Nothing is written.
+    ///
+    /// Errors: `NotAStore` exactly where page 0 is missing or doesn't begin with the eight bytes
+    /// `NATIXST1`; `Disk`, only where `faults` rose; `Memory`.
+    pub fn open<D: Disk>(disk: &mut D, alloc: Global) -> Result<Wal, WalError>
+        ensures still { IsStill D.Disk disk.old disk.new }
+        ensures ok { IfOk result (λ wal. (was : Image) → IsSettled D.Disk disk.old was → IsInStep D.Disk wal disk.new was × HasMark (replay was)) }
+        ensures fresh { IfOk result (λ wal. (has_ended wal ≡ false) × (pending wal ≡ [])) }
+        ensures reads { IfSome (D.contents disk.old) (λ was. D.reads disk.new ≤ D.reads disk.old + (3 * (length was.log / 8196 + 1) + 1)) }
+        ensures refused { IfErr result (λ e. NotOpened D.Disk e disk.old disk.new) }
+    {
+        let opened = match open_log(disk, alloc) {
+            Ok(opened) => opened,
+            Err(error) => return Err(error),
+        };
+        let Ok(block) = Block::new(alloc) else {
+            return Err(WalError::Memory);
+        };
+        Ok(Wal {
+            places: opened.places,
+            waiting: BTreeMap::new(alloc),
+            block,
+            end: opened.end.at,
+            shut: opened.end.shut,
+            ended: false,
+        })
+    }
+
+    /// A page as the pending puts, else the log, else the pages area have it; `false` exactly where
+    /// there is none, and `into` stays. It takes one read at most, and no memory.
+    ///
+    /// Errors: `Disk`, only where `faults` rose; `Ended` exactly where an earlier call answered
+    /// `Disk`.
+    pub fn page<D: Disk>(
+        &mut self,
+        disk: &mut D,
+        page: u32,
+        into: &mut PageBytes,
+    ) -> Result<bool, WalError>
+        ensures still { IsStill D.Disk disk.old disk.new }
+        ensures reads { D.reads disk.new ≤ D.reads disk.old + 1 }
+        ensures ok { IfOk result (λ found. (self.new ≡ self.old) × (has_ended self.old ≡ false) × ((was : Image) → IsInStep D.Disk self.old disk.old was →
+            current self.old was page ≡ page_found found into.new.bytes)) }
+        ensures untouched { IfOk result (λ found. found ≡ false → into.new ≡ into.old) }
+        ensures refused { IfErr result (λ e. Refused D.Disk e self.old self.new disk.old disk.new) }
+    {
+        if self.ended {
+            return Err(WalError::Ended);
+        }
+        if read_waiting(&self.waiting, page, into) {
+            return Ok(true);
+        }
+        let Ok(found) = read_page(disk, &self.places, page, into) else {
+            self.ended = true;
+            return Err(WalError::Disk);
+        };
+        Ok(found)
+    }
+
+    /// The page that waits for a commit under this number, if one does.
+    pub fn waiting(&self, page: u32) -> Option<&PageBytes>
+        ensures { option_map (λ bytes. bytes.now.bytes) result ≡ entry_pages (pending self.now) page }
+    {
+        self.waiting.get(&page)
+    }
+
+    /// Makes a page wait for a commit, in place of one that waits under the same number. It takes
+    /// all the memory that the commit needs.
+    ///
+    /// Errors: `Memory`; `Ended` exactly where an earlier call answered `Disk`. The pages that wait
+    /// stay then.
+    pub fn put(&mut self, page: u32, bytes: &PageBytes) -> Result<(), WalError>
+        requires { page < 16777216 }
+        ensures follows { (log : List ℕ) → Follows self.old log → Follows self.new log }
+        ensures pending { OnOk result (entry_pages (pending self.new) ≡ over (entry_pages (record { page = page; bytes = bytes.now.bytes } ∷ [])) (entry_pages (pending self.old))) }
+        ensures some { OnOk result (pending self.new ≢ []) }
+        ensures stays { (length_of self.new ≡ length_of self.old) × (has_ended self.new ≡ has_ended self.old) }
+        ensures open { OnOk result (has_ended self.old ≡ false) }
+        ensures refused { IfErr result (λ e. (e ≡ WalError.Memory ⊎ (e ≡ WalError.Ended) × (has_ended self.old ≡ true)) × (pending self.new ≡ pending self.old)) }
+    {
+        if self.ended {
+            return Err(WalError::Ended);
+        }
+        if !make_place(&mut self.places, page) {
+            return Err(WalError::Memory);
+        }
+        let Ok(_) = self.waiting.insert(page, copy_of(bytes)) else {
+            return Err(WalError::Memory);
+        };
+        Ok(())
+    }
+
+    /// Writes the pages that wait as a group with this number at the log's end. At every moment the
+    /// disk stands for the pages before or for those after, and after Ok for those after, with one
+    /// group more in its log. It takes no memory.
+    ///
+    /// Errors: `Disk`, only where `faults` rose; `Ended` exactly where an earlier call answered
+    /// `Disk`.
+    pub fn commit<D: Disk>(&mut self, disk: &mut D, number: u64) -> Result<(), WalError>
+        requires some { pending self.old ≢ [] }
+        requires room { length_of self.old ≤ 2 ^ 62 }
+        ensures goes { Goes D.Disk disk.old disk.new (λ i. (was : Image) → IsInStep D.Disk self.old disk.old was → HasSame was i ⊎ HasGroup (next_group number self.old) was i) }
+        ensures ok { OnOk result ((was now : Image) → IsInStep D.Disk self.old disk.old was → D.contents disk.new ≡ Some now →
+            IsInStep D.Disk self.new disk.new now × HasGroup (next_group number self.old) was now) }
+        ensures none_left { OnOk result ((pending self.new ≡ []) × (has_ended self.old ≡ false) × (has_ended self.new ≡ false)) }
+        ensures reads { D.reads disk.new ≡ D.reads disk.old }
+        ensures refused { IfErr result (λ e. Refused D.Disk e self.old self.new disk.old disk.new) }
+    {
+        if self.ended {
+            return Err(WalError::Ended);
+        }
+        let count = self.waiting.len() as u64;
+        let Ok(_) = write_group(
+            disk,
+            &mut self.block,
+            self.end,
+            self.shut,
+            number,
+            &self.waiting,
+        ) else {
+            self.ended = true;
+            return Err(WalError::Disk);
+        };
+        set_places(&mut self.places, &self.waiting, self.end + 13);
+        self.waiting.clear();
+        self.end += 13 + 8_196 * count;
+        self.shut = true;
+        Ok(())
+    }
+
+    /// Drops the pages that wait for a commit. It takes no memory.
+    pub fn abandon(&mut self)
+        ensures follows { (log : List ℕ) → Follows self.old log → Follows self.new log }
+        ensures none_left { pending self.new ≡ [] }
+        ensures stays { (length_of self.new ≡ length_of self.old) × (has_ended self.new ≡ has_ended self.old) }
+    {
+        self.waiting.clear();
+    }
+
+    /// Writes the pages of the log to the pages area, in the order of their numbers, and empties the
+    /// log. At every moment each page that the disk stands for stays, and none is added where none
+    /// is missing below the greatest. It takes no memory.
+    ///
+    /// Errors: `Disk`, only where `faults` rose; `Ended` exactly where an earlier call answered
+    /// `Disk`.
+    pub fn checkpoint<D: Disk>(&mut self, disk: &mut D) -> Result<(), WalError>
+        requires none { pending self.old ≡ [] }
+        ensures goes { Goes D.Disk disk.old disk.new (λ i. (was : Image) → IsInStep D.Disk self.old disk.old was → Stays (replay was) (replay i)) }
+        ensures ok { OnOk result ((was now : Image) → IsInStep D.Disk self.old disk.old was → D.contents disk.new ≡ Some now →
+            IsInStep D.Disk self.new disk.new now × Stays (replay was) (replay now) × (groups now.log ≡ [])) }
+        ensures empty { OnOk result ((length_of self.new ≡ 0) × (pending self.new ≡ []) × (has_ended self.old ≡ false) × (has_ended self.new ≡ false)) }
+        ensures refused { IfErr result (λ e. Refused D.Disk e self.old self.new disk.old disk.new) }
+    {
+        if self.ended {
+            return Err(WalError::Ended);
+        }
+        if self.end == 0 {
+            return Ok(());
+        }
+        let Ok(_) = empty_log(disk, &self.places) else {
+            self.ended = true;
+            return Err(WalError::Disk);
+        };
+        self.places.clear();
+        self.end = 0;
+        self.shut = true;
+        Ok(())
+    }
+
+    /// Where the log ends: how many bytes its groups take, their gates counted, but for the gate
+    /// behind the last one.
+    pub fn log_length(&self) -> u64
+        ensures { result ≡ length_of self.now }
+    {
+        self.end
+    }
+
+    /// One more than the number of the greatest page that the disk stands for, 0 where there is
+    /// none. It takes no read, and no memory.
+    ///
+    /// Errors: `Disk`, only where `faults` rose; `Ended` exactly where an earlier call answered
+    /// `Disk`.
+    pub fn page_count<D: Disk>(&mut self, disk: &mut D) -> Result<u32, WalError>
+        ensures still { IsStill D.Disk disk.old disk.new }
+        ensures reads { D.reads disk.new ≡ D.reads disk.old }
+        ensures ok { IfOk result (λ count. (self.new ≡ self.old) × (has_ended self.old ≡ false)
+            × ((was : Image) → IsInStep D.Disk self.old disk.old was → IsPageCount count (replay was))) }
+        ensures refused { IfErr result (λ e. Refused D.Disk e self.old self.new disk.old disk.new) }
+    {
+        if self.ended {
+            return Err(WalError::Ended);
+        }
+        let Ok(count) = area_count(disk) else {
+            self.ended = true;
+            return Err(WalError::Disk);
+        };
+        Ok(count.max(logged_count(&self.places)))
+    }
+}
