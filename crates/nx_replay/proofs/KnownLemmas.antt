@@ -8,7 +8,7 @@ use Rattle.std.specs.Option.{option_or}
 use Rattle.nx_host.specs.Disk.{Image}
 use Rattle.nx_replay.specs.Log.{Entry, Group, IsEntry, entries_of, entry_pages, rise, count_of, size_of, group_of, is_group, groups_behind, groups, logged, pages_of, replay}
 use Rattle.nx_replay.proofs.GroupLemmas.{group_says, groups-first, groups-none}
-use Rattle.nx_replay.proofs.ReplayLemmas.{page-cases, page-there}
+use Rattle.nx_replay.proofs.ReplayLemmas.{logged_none, logged_first, page-cases, page-there}
 
 -- This page may be in a group.
 abbrev pub IsPage : ℕ → List ℕ → Type 0
@@ -40,14 +40,6 @@ known_entry (e ∷ es) p bytes are found =
 either : {T : Type 0} (a b : Option T) (x : T) → option_or a b ≡ Some x → (a ≡ Some x) ⊎ (b ≡ Some x)
 either (Some y) b x is = inl is
 either None b x is = inr is
-
-logged_none : (p : ℕ) → logged [] p ≡ None
-unfolding logged
-logged_none p = refl
-
-logged_first : (g : Group) (gs : List Group) (p : ℕ) → logged (g ∷ gs) p ≡ option_or (logged gs p) (entry_pages g.entries p)
-unfolding logged
-logged_first g gs p = refl
 
 nowhere : (l : List ℕ) (p : ℕ) (bytes : List ℕ) → is_group l ≡ false → logged (groups_behind 0 l) p ≡ Some bytes → IsPage p bytes
 nowhere l p bytes none found = absurd (

@@ -22,6 +22,16 @@ option_or-none None = refl
 pub nothing-over : (a : Pages) → over a (λ p. None) ≡ a
 nothing-over a = λ i p. option_or-none (a p) i
 
+-- no group has a page
+pub logged_none : (p : ℕ) → logged [] p ≡ None
+unfolding logged
+logged_none p = refl
+
+-- the groups behind the first have their pages over its own
+pub logged_first : (g : Group) (gs : List Group) (p : ℕ) → logged (g ∷ gs) p ≡ option_or (logged gs p) (entry_pages g.entries p)
+unfolding logged
+logged_first g gs p = refl
+
 -- a group more lays its pages over those of the log
 pub logged-more : (gs : List Group) (g : Group) → logged (gs ++ g ∷ []) ≡ over (entry_pages g.entries) (logged gs)
 unfolding logged
@@ -90,7 +100,11 @@ page-cases area p =
       | false ↦ λ is. inr (rw is refl)
     ] refl
 
-option_or-left : {T : Type 0} (a b : Option T) → IsSome a → IsSome (option_or a b)
+pub option_or-right : {T : Type 0} (a b : Option T) → IsSome b → IsSome (option_or a b)
+option_or-right (Some x) b h = refl
+option_or-right None b h = h
+
+pub option_or-left : {T : Type 0} (a b : Option T) → IsSome a → IsSome (option_or a b)
 option_or-left (Some x) b h = refl
 option_or-left None b h = absurd (false≢true h)
 
@@ -157,10 +171,6 @@ pub record IsMoved (now : Image) : Type 0 where
   pub some : 0 < length now.log
   pub in_area : (p : ℕ) → IsSome (logged (groups now.log) p) → pages_of now.pages p ≡ logged (groups now.log) p
 
-logged-nothing : logged [] ≡ (λ p. None)
-unfolding logged
-logged-nothing = refl
-
 same_at : (now : Image) → IsMoved now → (p : ℕ) → option_or (logged (groups now.log) p) (pages_of now.pages p) ≡ pages_of now.pages p
 same_at now moved p =
     elim (logged (groups now.log) p) as (λ o. logged (groups now.log) p ≡ o → option_or (logged (groups now.log) p) (pages_of now.pages p) ≡ pages_of now.pages p) [
@@ -184,6 +194,6 @@ closed_torn now i moved area torn =
           let long : 0 < length i.log = let more = torn.no_shorter in omega (arith, here, more) in
           let first : take (2 ^ 63) i.log ≡ get_or i.log 0 0 ∷ drop 1 (take (2 ^ 63) i.log) = at_end (2 ^ 63) i.log 0 (omega arith) long in
           let none : groups i.log ≡ [] = ap (λ (x : List ℕ). groups_behind 0 x) first ∙ closed (get_or i.log 0 0) (drop 1 (take (2 ^ 63) i.log)) shut in
-          ap (λ (gs : List Group). over (logged gs) (pages_of i.pages)) none ∙ ap (λ (t : Pages). over t (pages_of i.pages)) logged-nothing
+          ap (λ (gs : List Group). over (logged gs) (pages_of i.pages)) none ∙ ap (λ (t : Pages). over t (pages_of i.pages)) (λ j p. logged_none p j)
           ∙ ap (λ (a : List ℕ). pages_of a) area ∙ sym (moved_alone now moved)
     ] refl

@@ -9,7 +9,7 @@ use Rattle.nx_host.specs.Disk.{Image}
 use Rattle.nx_replay.specs.Log.{Entry, Group, entries_of, entry_pages, rise, group_of, is_group, groups, groups_behind, logged, pages_of, replay, count_of, end_of, IsAtEnd}
 use Rattle.nx_replay.proofs.GroupLemmas.{says_group, groups-first, groups-none, length-entries_of}
 use Rattle.nx_replay.proofs.StepLemmas.{less_or_not}
-use Rattle.nx_replay.proofs.ReplayLemmas.{page-there, page-cases}
+use Rattle.nx_replay.proofs.ReplayLemmas.{logged_none, logged_first, option_or-left, option_or-right, page-there, page-cases}
 use Rattle.nx_replay.proofs.KnownLemmas.{logged-known}
 use Rattle.nx_replay.proofs.SettledLemmas.{some_of, is_some}
 use Rattle.nx_wal.specs.Reading.{usable, IsHead, IsHeadOf}
@@ -17,14 +17,6 @@ use Rattle.nx_wal.specs.Places.{Places, place_in, LeadsTo}
 use Rattle.nx_wal.specs.Wal.{IsPageCount}
 use Rattle.nx_wal.specs.declared.reading.Head.{Head}
 use Rattle.nx_wal.proofs.ReadingLemmas.{group_there, no_rise, no_place, some_same}
-
-or_left : {T : Type 0} (a b : Option T) → IsSome a → IsSome (option_or a b)
-or_left (Some x) b some = refl
-or_left None b some = absurd (false≢true some)
-
-or_right : {T : Type 0} (a b : Option T) → IsSome b → IsSome (option_or a b)
-or_right (Some x) b some = refl
-or_right None b some = some
 
 first_page : (es : List Entry) → 0 < length es → (p : ℕ) × IsSome (entry_pages es p)
 first_page [] some = absurd (omega (arith, some))
@@ -36,14 +28,6 @@ first_page (e ∷ es) some = (
   ],
 )
 
-logged_first : (g : Group) (gs : List Group) (p : ℕ) → logged (g ∷ gs) p ≡ option_or (logged gs p) (entry_pages g.entries p)
-unfolding logged
-logged_first g gs p = refl
-
-logged_none : (gs : List Group) (p : ℕ) → gs ≡ [] → logged gs p ≡ None
-unfolding logged
-logged_none gs p none = ap (λ (gs : List Group). logged gs p) none
-
 -- a group at the log's front has a page
 pub group_page : (count : ℕ) (was : Image) → IsHeadOf count (drop 0 (usable was.log)) → 13 + 8196 * count < 2 ^ 63 → 0 < count → rise 0 (entries_of count (drop 13 was.log)) ≡ true
     → (p : ℕ) × IsSome (replay was p)
@@ -54,12 +38,12 @@ group_page count was head low some rises =
     let long : length (group_of (usable was.log)).entries ≡ count = length-entries_of (count_of (usable was.log)) (drop 13 (usable was.log)) ∙ counted in
     let page = first_page (group_of (usable was.log)).entries (omega (arith, some, long)) in
     let held : IsSome (logged (groups was.log) page.0) =
-    subst IsSome (sym (ap (λ (gs : List Group). logged gs page.0) first ∙ logged_first (group_of (usable was.log)) _ page.0)) (or_right (logged _ page.0) (entry_pages (group_of (usable was.log)).entries page.0) page.1) in
-    (page.0, or_left (logged (groups was.log) page.0) (pages_of was.pages page.0) held)
+    subst IsSome (sym (ap (λ (gs : List Group). logged gs page.0) first ∙ logged_first (group_of (usable was.log)) _ page.0)) (option_or-right (logged _ page.0) (entry_pages (group_of (usable was.log)).entries page.0) page.1) in
+    (page.0, option_or-left (logged (groups was.log) page.0) (pages_of was.pages page.0) held)
 
 -- a page of the area
 pub area_page : (was : Image) (p : ℕ) → p < 16777216 → 8192 * p + 8192 ≤ length was.pages → IsSome (replay was p)
-area_page was p low fits = or_right (logged (groups was.log) p) (pages_of was.pages p) (is_some (pages_of was.pages p) (page-there was.pages p low fits))
+area_page was p low fits = option_or-right (logged (groups was.log) p) (pages_of was.pages p) (is_some (pages_of was.pages p) (page-there was.pages p low fits))
 
 -- no group stands at the log's front
 pub none_there : (head : Head) (was : Image) → IsHead 0 head was.log → (0 < head.count → 13 + 8196 * head.count < 2 ^ 63) → (0 < head.count → rise 0 (entries_of head.count (drop 13 was.log)) ≡ false)
@@ -72,7 +56,7 @@ none_there head was is low falls =
 
 pub no_page : (was : Image) → groups was.log ≡ [] → length was.pages < 8192 → (p : ℕ) → replay was p ≡ None
 no_page was none short p =
-    ap (λ (o : Option (List ℕ)). option_or o (pages_of was.pages p)) (logged_none (groups was.log) p none)
+    ap (λ (gs : List Group). option_or (logged gs p) (pages_of was.pages p)) none ∙ ap (λ (o : Option (List ℕ)). option_or o (pages_of was.pages p)) (logged_none p)
     ∙ elim (page-cases was.pages p) [ inl there ↦ absurd (let fits = there.1 in omega (arith, fits, short)) | inr lost ↦ lost ]
 
 -- The greatest page.
@@ -95,7 +79,7 @@ module _ (was : Image) (places : Places) (area log : ℕ) (leads : LeadsTo (grou
             let low : top.0 < 16777216 = p.0 in
             let is : log ≡ min (top.0 + 1) 4294967295 = top.3 in
             let same : top.0 ≡ max area log - 1 = omega (arith, more, low, is) in
-            subst (λ (k : ℕ). IsSome (replay was k)) same (or_left (logged (groups was.log) top.0) (pages_of was.pages top.0) p.1)
+            subst (λ (k : ℕ). IsSome (replay was k)) same (option_or-left (logged (groups was.log) top.0) (pages_of was.pages top.0) p.1)
         | inr less ↦
             let there = (counted (area - 1)).0 (omega (arith, some, less)) in
             let same : area - 1 ≡ max area log - 1 = omega (arith, less) in

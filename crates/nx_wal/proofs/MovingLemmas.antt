@@ -8,6 +8,7 @@ use Rattle.std.specs.List.{AllByRecursion}
 use Rattle.std.specs.Map.{lookup}
 use Rattle.std.specs.BTreeMap.{get, is_at}
 use Rattle.std.specs.Ordering.{nat_cmp}
+use Rattle.nx_replay.proofs.KnownLemmas.{logged-known}
 use Rattle.nx_wal.proofs.ListLemmas.{all_push, all_weaker}
 use Rattle.nx_host.proofs.TornLemmas.{written_torn}
 use Rattle.nx_host.specs.declared.disk.Area.TheVariants.{Pages, Log}
@@ -165,56 +166,6 @@ module _ {D : Type 0} (d : Ghosts D) (places : Places) where
         there = λ was now led told. (moved_either was now led told).1;
       }
 
--- Numbers of pages that a log has.
-low_entry : (es : List Entry) (least p : ℕ) → rise least es ≡ true → IsSome (entry_pages es p) → p < 16777216
-low_entry [] least p rises some = absurd (false≢true some)
-low_entry (e ∷ es) least p rises some =
-    let a = and_parts _ _ rises in
-    let b = and_parts _ _ a.0 in
-    let low : e.page < 16777216 = ltb-true _ _ b.1 in
-    elim (cases_Bool (p == e.page)) [
-      | inl holds ↦ let same : p ≡ e.page = eqb-true p e.page holds in omega (arith, same, low)
-      | inr fails ↦ low_entry es (e.page + 1) p a.1 (subst IsSome (ap (λ (b : Bool). if b then Some e.bytes else entry_pages es p) fails) some)
-    ]
-
-first_either : {T : Type 0} (a b : Option T) → IsSome (option_or a b) → IsSome a ⊎ IsSome b
-first_either (Some x) b some = inl some
-first_either None b some = inr some
-
-logged_nothing : (p : ℕ) → logged [] p ≡ None
-unfolding logged
-logged_nothing p = refl
-
-logged_first : (g : Group) (gs : List Group) (p : ℕ) → logged (g ∷ gs) p ≡ option_or (logged gs p) (entry_pages g.entries p)
-unfolding logged
-logged_first g gs p = refl
-
-low_none : (l : List ℕ) (p : ℕ) → is_group l ≡ false → IsSome (logged (groups_behind 0 l) p) → p < 16777216
-low_none l p none some = absurd (
-    let lacks : logged (groups_behind 0 l) p ≡ None = ap (λ (gs : List Group). logged gs p) (groups-none l none) ∙ logged_nothing p in
-    false≢true (subst IsSome lacks some)
-    )
-
-low_behind : (fuel : ℕ) (l : List ℕ) → length l ≤ fuel → (p : ℕ) → IsSome (logged (groups_behind 0 l) p) → p < 16777216
-low_behind zero l fits p some =
-    elim (cases_Bool (is_group l)) [
-      | inr fails ↦ low_none l p fails some
-      | inl holds ↦ absurd (let w = (group_says l holds).whole in omega (arith, w, fits))
-    ]
-low_behind (suc fuel) l fits p some =
-    elim (cases_Bool (is_group l)) [
-      | inr fails ↦ low_none l p fails some
-      | inl holds ↦
-          let is = group_says l holds in
-          let rest = drop (size_of (count_of l)) l in
-          let split : logged (groups_behind 0 l) p ≡ option_or (logged (groups_behind 0 rest) p) (entry_pages (group_of l).entries p) =
-          ap (λ (gs : List Group). logged gs p) (groups-first l holds) ∙ logged_first (group_of l) (groups_behind 0 rest) p in
-          elim (first_either (logged (groups_behind 0 rest) p) (entry_pages (group_of l).entries p) (subst IsSome split some)) [
-            | inl later ↦ low_behind fuel rest (let w = is.whole in omega (arith, w, fits, length-drop (size_of (count_of l)) l)) p later
-            | inr here ↦ low_entry (group_of l).entries 0 p is.rises here
-          ]
-    ]
-
 no_gate : (log : List ℕ) → get_or log 0 0 ≡ 0 → is_group (take (2 ^ 63) log) ≡ false
 no_gate log shut =
     elim (cases_Bool (is_group (take (2 ^ 63) log))) [
@@ -225,9 +176,6 @@ no_gate log shut =
           omega (arith, one, shut)
           )
     ]
-
-pub low_logged : (log : List ℕ) (p : ℕ) → IsSome (logged (groups log) p) → p < 16777216
-low_logged log p some = low_behind (length (take (2 ^ 63) log)) (take (2 ^ 63) log) (omega arith) p some
 
 -- a log that has a group begins with an open gate
 pub opens : (log : List ℕ) → 0 < end_of (groups log) → (get_or log 0 0 ≡ 1) × (0 < length log)
@@ -255,7 +203,7 @@ all_moved places was now leads same some all =
           let held_was : IsSome (logged (groups was.log) p) = subst (λ (l : List ℕ). IsSome (logged (groups l) p)) same held in
           let place = place_some (get nat_cmp places p) was.log (subst IsSome (leads p) held_was) in
           let there = all_found (IsThere was.log now.pages) places.entries p place.0 all place.1 held_was in
-          page-there now.pages p (low_logged was.log p held_was) there.0 ∙ sym there.1 ∙ ap (λ (l : List ℕ). logged (groups l) p) (sym same);
+          page-there now.pages p (let found = some_of (logged (groups was.log) p) held_was in (logged-known was.log p found.0 found.1).low) there.0 ∙ sym there.1 ∙ ap (λ (l : List ℕ). logged (groups l) p) (sym same);
     }
 
 stays_then : (a b c : Image) → Stays (replay a) (replay b) → replay c ≡ replay b → Stays (replay a) (replay c)

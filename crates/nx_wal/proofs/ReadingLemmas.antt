@@ -1,5 +1,5 @@
 -- What reading a log by its heads and page numbers finds.
-use Rattle.std.proofs.Common.{◌≡◌, ◌⊎◌, ℕ, suc, ◌+◌, ◌-◌, ◌*◌, ◌^◌, ◌<◌, ◌≤◌, List, [], ◌∷◌, ◌++◌, length, take, drop, refl, sym, ap, subst, ◌∙◌, arith, Bool, true, false, inl, inr, get_or, cond, append_assoc}
+use Rattle.std.proofs.Common.{◌≡◌, ◌⊎◌, ℕ, zero, suc, ◌+◌, ◌-◌, ◌*◌, ◌^◌, ◌<◌, ◌≤◌, List, [], ◌∷◌, ◌++◌, length, take, drop, refl, sym, ap, subst, ◌∙◌, arith, Bool, true, false, inl, inr, get_or, cond, append_assoc}
 use Rattle.std.proofs.Common.{get_or-drop, length-drop, length-take}
 use Rattle.std.proofs.lemmas.List.{take-take, drop-drop, append-nil}
 use Rattle.std.proofs.lemmas.Bool.{false≢true, and_parts, leb-true, le-leb, ltb-true, lt-ltb, cases_Bool}
@@ -15,7 +15,7 @@ use Rattle.nx_replay.proofs.GroupLemmas.{IsGroup, group_says, says_group, groups
 use Rattle.nx_replay.proofs.StepLemmas.{drop_taken, end_more}
 use Rattle.nx_replay.proofs.ReplayLemmas.{logged-more, page-there}
 use Rattle.nx_wal.specs.declared.reading.Head.{Head}
-use Rattle.nx_wal.specs.Reading.{Gives, usable, IsHeadOf, IsHead, IsReadTo, IsRead, HasMark, mark}
+use Rattle.nx_wal.specs.Reading.{numbers_of, Gives, usable, IsHeadOf, IsHead, IsReadTo, IsRead, HasMark, mark}
 use Rattle.nx_wal.specs.Places.{Places, place_in, LeadsTo, Notes, AreWithin}
 
 -- Numbers.
@@ -54,6 +54,27 @@ module _ (at count i : ℕ) (log : List ℕ) (more : i < count) where
             elim bad [ inl below ↦ omega (arith, from, below) | inr above ↦ omega (arith, low, above) ]
             )
       ]
+
+-- the number of one page
+pub number_in : (n i : ℕ) (bytes : List ℕ) → i < n → get_or (numbers_of (entries_of n bytes)) i 0 ≡ big_number 4 (drop (8196 * i) bytes)
+number_in zero i bytes below = absurd (omega (arith, below))
+number_in (suc n) zero bytes below = refl
+number_in (suc n) (suc i) bytes below =
+    number_in n i (drop 8196 bytes) (omega (arith, below)) ∙ ap (λ (x : List ℕ). big_number 4 x) (drop-drop (8196 * i) 8196 bytes)
+    ∙ ap (λ (k : ℕ). big_number 4 (drop k bytes)) (let h : 8196 + 8196 * i ≡ 8196 * suc i = omega arith in h)
+
+-- the numbers behind one that was read
+pub numbers_first : (n place number : ℕ) (log : List ℕ) → number ≡ big_number 4 (drop place log)
+    → numbers_of (entries_of (suc n) (drop place log)) ≡ number ∷ numbers_of (entries_of n (drop (place + 8196) log))
+numbers_first n place number log is = rw (sym is, drop-drop 8196 place log) refl
+
+pub numbers_more : (at count i number : ℕ) (log gone : List ℕ) → i < count → number ≡ big_number 4 (drop (at + 8196 * i) log)
+    → gone ++ numbers_of (entries_of (count - i) (drop (at + 8196 * i) log)) ≡ (gone ++ number ∷ []) ++ numbers_of (entries_of (count - (i + 1)) (drop (at + 8196 * (i + 1)) log))
+numbers_more at count i number log gone more is =
+    ap (λ (n : ℕ). gone ++ numbers_of (entries_of n (drop (at + 8196 * i) log))) (let h : count - i ≡ suc (count - (i + 1)) = omega (arith, more) in h)
+    ∙ ap (λ (x : List ℕ). gone ++ x) (numbers_first (count - (i + 1)) (at + 8196 * i) number log is)
+    ∙ ap (λ (k : ℕ). gone ++ number ∷ numbers_of (entries_of (count - (i + 1)) (drop k log))) (let h : at + 8196 * i + 8196 ≡ at + 8196 * (i + 1) = omega arith in h)
+    ∙ sym (append_assoc gone (number ∷ []) (numbers_of (entries_of (count - (i + 1)) (drop (at + 8196 * (i + 1)) log))))
 
 -- Places.
 

@@ -1,5 +1,5 @@
 -- What is read of a log.
-use Rattle.std.specs.Prelude.{ℕ, ◌+◌, ◌^◌, ◌≡◌, ◌<◌, ◌≤◌, ◌==◌, Bool, true, false, List, [], ◌∷◌, ◌++◌, length, take, drop, slice_index, Option, Some, None}
+use Rattle.std.specs.Prelude.{ℕ, ◌+◌, ◌^◌, ◌≡◌, ◌<◌, ◌≤◌, ◌==◌, Bool, true, false, List, [], ◌∷◌, ◌++◌, length, map, take, drop, slice_index, Option, Some, None}
 use Rattle.std.specs.BTreeMap.{BTreeMap, get}
 use Rattle.std.specs.Ordering.{nat_cmp}
 use Rattle.nx_host.specs.Disk.{Rose}
@@ -10,6 +10,10 @@ use Rattle.nx_wal.specs.declared.reading.End.{End}
 use Rattle.nx_wal.specs.declared.error.WalError.{WalError}
 use Rattle.nx_wal.specs.declared.error.WalError.TheVariants as error
 use Rattle.nx_wal.specs.Places.{Places, LeadsTo, AreWithin}
+
+-- the numbers of pages
+abbrev pub numbers_of : List Entry → List ℕ
+numbers_of es = map (λ e. e.page) es
 
 -- the bytes of a log that groups may use
 abbrev pub usable : List ℕ → List ℕ

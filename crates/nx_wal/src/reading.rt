@@ -4,8 +4,8 @@ ghost use Rattle.nx_host.specs.Disk.{Image, area_of, Rose, given_at};
 ghost use Rattle.nx_host.specs.Still.{IsStill};
 ghost use Rattle.nx_replay.specs.Log.{groups, replay, rise, entries_of, IsAtEnd};
 ghost use Rattle.byteorder.specs.Endian.{big_number};
-ghost use Rattle.nx_wal.specs.Reading.{Gives, IsHead, IsRead, HasMark, mark, FailsBy, IsNotOpened, page_found};
-ghost use Rattle.nx_wal.specs.Places.{Notes, AreWithin, LeadsTo, place_in};
+ghost use Rattle.nx_wal.specs.Reading.{Gives, IsHead, IsRead, HasMark, mark, FailsBy, IsNotOpened, numbers_of};
+ghost use Rattle.nx_wal.specs.Places.{Notes, AreWithin};
 ghost use Rattle.std.specs.BTreeMap.{IsEmpty, get};
 ghost use Rattle.std.specs.Ordering.{nat_cmp};
 
@@ -107,52 +107,55 @@ fn read_number<D: Disk>(disk: &mut D, at: u64) -> Result<Option<u32>, Failed>
     Ok(Some(BigEndian::read_u32(&number)))
 }
 
-// Whether the numbers of so many pages rise strictly, and each may be.
-fn numbers_rise<D: Disk>(disk: &mut D, at: u64, count: u32) -> Result<bool, Failed>
+// Reads the numbers of so many pages; whether they rise strictly, and each may be.
+fn read_numbers<D: Disk>(
+    disk: &mut D,
+    at: u64,
+    count: u32,
+    numbers: &mut Vec<u32>,
+) -> Result<bool, WalError>
     requires { at + 8196 * count ≤ 2 ^ 63 }
     ensures still { IsStill D.Disk disk.old disk.new }
     ensures reads { D.reads disk.new ≤ D.reads disk.old + count }
     ensures rise { IfOk result (λ rises. (was : Image) → D.contents disk.old ≡ Some was → at + 8196 * count ≤ length was.log → rises ≡ rise 0 (entries_of count (drop at was.log))) }
-    ensures cause { OnErr result (Rose (D.faults disk.old) (D.faults disk.new)) }
+    ensures long { IfOk result (λ rises. rises ≡ true → length numbers.new.items ≡ count) }
+    ensures numbers { IfOk result (λ rises. rises ≡ true → (was : Image) → D.contents disk.old ≡ Some was → at + 8196 * count ≤ length was.log
+        → numbers.new.items ≡ numbers_of (entries_of count (drop at was.log))) }
+    ensures refused { IfErr result (λ e. FailsBy e (D.faults disk.old) (D.faults disk.new)) }
 {
+    numbers.clear();
     let mut least = 0u32;
     for i in 0..count {
-        let Some(number) = read_number(disk, at + 8_196 * (i as u64))? else {
+        let Ok(read) = read_number(disk, at + 8_196 * (i as u64)) else {
+            return Err(WalError::Disk);
+        };
+        let Some(number) = read else {
             return Ok(false);
         };
         if number < least || number >= 16_777_216 {
             return Ok(false);
         }
+        let Ok(_) = numbers.push(number) else {
+            return Err(WalError::Memory);
+        };
         least = number + 1;
     }
     Ok(true)
 }
 
-// Notes where so many pages stand, from the last to the first.
-fn note_pages<D: Disk>(
-    places: &mut BTreeMap<u32, Option<u64>>,
-    disk: &mut D,
-    at: u64,
-    count: u32,
-) -> Result<(), WalError>
-    requires { at + 8196 * count ≤ 2 ^ 63 }
-    ensures still { IsStill D.Disk disk.old disk.new }
-    ensures reads { D.reads disk.new ≤ D.reads disk.old + count }
-    ensures notes { OnOk result ((was : Image) → D.contents disk.old ≡ Some was → at + 8196 * count ≤ length was.log → Notes (entries_of count (drop at was.log)) was.log places.old places.new) }
-    ensures within { OnOk result ((limit : ℕ) → at + 8196 * count ≤ limit → AreWithin limit places.old → AreWithin limit places.new) }
-    ensures refused { IfErr result (λ e. FailsBy e (D.faults disk.old) (D.faults disk.new)) }
+// Notes where pages with these numbers stand, from the last to the first.
+fn note_pages(places: &mut BTreeMap<u32, Option<u64>>, at: u64, numbers: &[u32]) -> Result<(), WalError>
+    requires { at + 8196 * length numbers.now ≤ 2 ^ 63 }
+    ensures notes { OnOk result ((log : List ℕ) → numbers.now ≡ numbers_of (entries_of (length numbers.now) (drop at log))
+        → Notes (entries_of (length numbers.now) (drop at log)) log places.old places.new) }
+    ensures within { OnOk result ((limit : ℕ) → at + 8196 * length numbers.now ≤ limit → AreWithin limit places.old → AreWithin limit places.new) }
+    ensures refused { IfErr result (λ e. e ≡ WalError.Memory) }
 {
-    let mut left = count;
+    let mut left = numbers.len();
     while left > 0 {
         left -= 1;
-        let place = at + 8_196 * (left as u64);
-        let Ok(read) = read_number(disk, place) else {
-            return Err(WalError::Disk);
-        };
-        let Some(number) = read else {
-            return Ok(());
-        };
-        let Ok(_) = places.insert(number, Some(place + 4)) else {
+        let number = numbers[left];
+        let Ok(_) = places.insert(number, Some(at + 8_196 * (left as u64) + 4)) else {
             return Err(WalError::Memory);
         };
     }
@@ -164,6 +167,7 @@ fn read_log<D: Disk>(
     places: &mut BTreeMap<u32, Option<u64>>,
     disk: &mut D,
     limit: u64,
+    alloc: Global,
 ) -> Result<End, WalError>
     requires none { IsEmpty places.old }
     requires limit { limit ≤ 2 ^ 63 }
@@ -173,6 +177,7 @@ fn read_log<D: Disk>(
     ensures refused { IfErr result (λ e. FailsBy e (D.faults disk.old) (D.faults disk.new)) }
 {
     let mut at = 0u64;
+    let mut numbers = Vec::new(alloc);
     loop {
         let Ok(head) = read_head(disk, at, limit) else {
             return Err(WalError::Disk);
@@ -183,16 +188,14 @@ fn read_log<D: Disk>(
                 shut: head.shut,
             });
         }
-        let Ok(rises) = numbers_rise(disk, at + 13, head.count) else {
-            return Err(WalError::Disk);
-        };
+        let rises = read_numbers(disk, at + 13, head.count, &mut numbers)?;
         if !rises {
             return Ok(End {
                 at,
                 shut: head.shut,
             });
         }
-        note_pages(places, disk, at + 13, head.count)?;
+        note_pages(places, at + 13, &numbers)?;
         at += 13 + 8_196 * (head.count as u64);
     }
 }
@@ -231,7 +234,7 @@ pub(crate) fn open_log<D: Disk>(disk: &mut D, alloc: Global) -> Result<Opened, W
         return Err(WalError::Disk);
     };
     let mut places = BTreeMap::new(alloc);
-    let end = read_log(&mut places, disk, limit)?;
+    let end = read_log(&mut places, disk, limit, alloc)?;
     let Ok(is) = has_mark(disk, &places) else {
         return Err(WalError::Disk);
     };
@@ -242,33 +245,40 @@ pub(crate) fn open_log<D: Disk>(disk: &mut D, alloc: Global) -> Result<Opened, W
 }
 
 // Whether a group stands at a log's front.
-fn has_group<D: Disk>(disk: &mut D, head: Head) -> Result<bool, Failed>
+fn has_group<D: Disk>(disk: &mut D, head: Head, alloc: Global) -> Result<bool, WalError>
     ensures still { IsStill D.Disk disk.old disk.new }
     ensures some { IfOk result (λ has. has ≡ true → (0 < head.count) × ((was : Image) → D.contents disk.old ≡ Some was → 13 + 8196 * head.count ≤ length was.log
         → rise 0 (entries_of head.count (drop 13 was.log)) ≡ true)) }
     ensures none { IfOk result (λ has. has ≡ false → 0 < head.count → (was : Image) → D.contents disk.old ≡ Some was → 13 + 8196 * head.count ≤ length was.log
         → rise 0 (entries_of head.count (drop 13 was.log)) ≡ false) }
-    ensures cause { OnErr result (Rose (D.faults disk.old) (D.faults disk.new)) }
+    ensures refused { IfErr result (λ e. FailsBy e (D.faults disk.old) (D.faults disk.new)) }
 {
     if head.count == 0 {
         return Ok(false);
     }
-    numbers_rise(disk, 13, head.count)
+    let mut numbers = Vec::new(alloc);
+    read_numbers(disk, 13, head.count, &mut numbers)
 }
 
 // Where the disk has no page, whether a closed byte stands at the log's front.
-pub(crate) fn shut_of_none<D: Disk>(disk: &mut D) -> Result<Option<bool>, Failed>
+pub(crate) fn shut_of_none<D: Disk>(disk: &mut D, alloc: Global) -> Result<Option<bool>, WalError>
     ensures still { IsStill D.Disk disk.old disk.new }
     ensures some { IfOk result (λ found. (shut : Bool) → found ≡ Some shut → (was : Image) → D.contents disk.old ≡ Some was → IsAtEnd 0 shut was.log × ((p : ℕ) → replay was p ≡ None)) }
     ensures none { IfOk result (λ found. found ≡ None → (was : Image) → D.contents disk.old ≡ Some was → (p : ℕ) × IsSome (replay was p)) }
-    ensures cause { OnErr result (Rose (D.faults disk.old) (D.faults disk.new)) }
+    ensures refused { IfErr result (λ e. FailsBy e (D.faults disk.old) (D.faults disk.new)) }
 {
-    let limit = log_limit(disk)?;
-    let head = read_head(disk, 0, limit)?;
-    if has_group(disk, head)? {
+    let Ok(limit) = log_limit(disk) else {
+        return Err(WalError::Disk);
+    };
+    let Ok(head) = read_head(disk, 0, limit) else {
+        return Err(WalError::Disk);
+    };
+    if has_group(disk, head, alloc)? {
         return Ok(None);
     }
-    let count = area_count(disk)?;
+    let Ok(count) = area_count(disk) else {
+        return Err(WalError::Disk);
+    };
     if count > 0 {
         return Ok(None);
     }

@@ -52,8 +52,9 @@ impl Wal {
         ensures fresh { IfOk result (λ wal. (has_ended wal ≡ false) × (length_of wal ≡ 0) × (pending wal ≡ [])) }
         ensures refused { IfErr result (λ e. NotCreated D.Disk e disk.old disk.new) }
     {
-        let Ok(found) = shut_of_none(disk) else {
-            return Err(WalError::Disk);
+        let found = match shut_of_none(disk, alloc) {
+            Ok(found) => found,
+            Err(error) => return Err(error),
         };
         let Some(shut) = found else {
             return Err(WalError::Exists);
