@@ -6,7 +6,7 @@ use Rattle.std.specs.Prelude.{Option, Some, None, IsSome, min, nat_lt, nat_le, �
 use Rattle.nx_host.specs.Disk.{Image, Torn}
 use Rattle.nx_replay.proofs.StepLemmas.{less_or_not, same_but, at_end, closed}
 use Rattle.std.specs.Option.{option_or}
-use Rattle.nx_replay.specs.Log.{Pages, over, Group, entry_pages, logged, groups, groups_behind, pages_of, replay, HasGroup, IsDense, Stays, IsPartlyMoved}
+use Rattle.nx_replay.specs.Log.{Pages, over, Group, entry_pages, logged, groups, groups_behind, pages_of, replay, HasGroup, HasSame, IsDense, Stays, IsPartlyMoved}
 
 option_or-assoc : {T : Type 0} (a b c : Option T) → option_or (option_or a b) c ≡ option_or a (option_or b c)
 option_or-assoc (Some x) b c = refl
@@ -45,6 +45,11 @@ replay-more g was now more =
     ∙ ap (λ (gs : List Group). over (logged gs) (pages_of was.pages)) more.log
     ∙ ap (λ (top : Pages). over top (pages_of was.pages)) (logged-more (groups was.log) g)
     ∙ over-over (entry_pages g.entries) (logged (groups was.log)) (pages_of was.pages)
+
+-- where no group came, the pages are the same
+pub replay-same : (was now : Image) → HasSame was now → replay now ≡ replay was
+replay-same was now same =
+    ap (λ (area : List ℕ). over (logged (groups now.log)) (pages_of area)) same.area ∙ ap (λ (gs : List Group). over (logged gs) (pages_of was.pages)) same.log
 
 -- a write that a stop cuts short leaves a range that it doesn't touch
 pub torn_apart : (at n a m : ℕ) (old new : List ℕ) → Torn at n old new → a + m ≤ length old → (a + m ≤ at) ⊎ (at + n ≤ a) → take m (drop a new) ≡ take m (drop a old)

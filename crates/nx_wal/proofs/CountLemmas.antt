@@ -1,22 +1,22 @@
 -- Whether a disk has a page, and which is the greatest.
-use Rattle.std.proofs.Common.{◌≡◌, ◌⊎◌, ℕ, suc, ◌+◌, ◌-◌, ◌*◌, ◌^◌, ◌<◌, ◌≤◌, List, [], ◌∷◌, length, take, drop, refl, sym, ap, subst, ◌∙◌, arith, Bool, true, false, inl, inr}
-use Rattle.std.proofs.lemmas.Bool.{false≢true, cases_Bool, eqb-false, eqb-true}
+use Rattle.std.proofs.Common.{◌≡◌, ℕ, ◌+◌, ◌-◌, ◌*◌, ◌^◌, ◌<◌, ◌≤◌, List, [], ◌∷◌, length, take, drop, refl, sym, ap, subst, ◌∙◌, arith, Bool, true, false, inl, inr}
+use Rattle.std.proofs.lemmas.Bool.{cases_Bool, eqb-false}
 use Rattle.std.specs.Prelude.{Option, Some, None, IsSome, ◌==◌, if◌then◌else◌, ◌↔◌, min, max}
 use Rattle.std.specs.Option.{option_or}
 use Rattle.std.specs.BTreeMap.{get}
 use Rattle.std.specs.Ordering.{nat_cmp}
 use Rattle.nx_host.specs.Disk.{Image}
-use Rattle.nx_replay.specs.Log.{Entry, Group, entries_of, entry_pages, rise, group_of, is_group, groups, groups_behind, logged, pages_of, replay, count_of, end_of, IsAtEnd}
+use Rattle.nx_replay.specs.Log.{Entry, Group, entries_of, entry_pages, rise, group_of, groups, logged, pages_of, replay, count_of, end_of, IsAtEnd}
 use Rattle.nx_replay.proofs.GroupLemmas.{says_group, groups-first, groups-none, length-entries_of}
 use Rattle.nx_replay.proofs.StepLemmas.{less_or_not}
 use Rattle.nx_replay.proofs.ReplayLemmas.{logged_none, logged_first, option_or-left, option_or-right, page-there, page-cases}
 use Rattle.nx_replay.proofs.KnownLemmas.{logged-known}
-use Rattle.nx_replay.proofs.SettledLemmas.{some_of, is_some}
+use Rattle.nx_replay.proofs.SettledLemmas.{is_some}
 use Rattle.nx_wal.specs.Reading.{usable, IsHead, IsHeadOf}
 use Rattle.nx_wal.specs.Places.{Places, place_in, LeadsTo}
 use Rattle.nx_wal.specs.Wal.{IsPageCount}
 use Rattle.nx_wal.specs.declared.reading.Head.{Head}
-use Rattle.nx_wal.proofs.ReadingLemmas.{group_there, no_rise, no_place, some_same}
+use Rattle.nx_wal.proofs.ReadingLemmas.{group_there, no_rise, no_place}
 
 first_page : (es : List Entry) → 0 < length es → (p : ℕ) × IsSome (entry_pages es p)
 first_page [] some = absurd (omega (arith, some))

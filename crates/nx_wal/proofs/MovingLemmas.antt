@@ -1,9 +1,9 @@
 -- Moving pages from the log to the pages area.
-use Rattle.std.proofs.Common.{◌≡◌, ◌⊎◌, ℕ, zero, suc, ◌+◌, ◌*◌, ◌^◌, ◌<◌, ◌≤◌, List, [], ◌∷◌, ◌++◌, length, take, drop, refl, sym, ap, subst, ◌∙◌, arith, inl, inr, Bool, true, false, cond, get_or}
+use Rattle.std.proofs.Common.{◌≡◌, ◌⊎◌, ℕ, ◌+◌, ◌*◌, ◌^◌, ◌<◌, ◌≤◌, List, [], ◌∷◌, ◌++◌, length, take, drop, refl, sym, ap, subst, ◌∙◌, arith, inl, inr, Bool, true, false, cond, get_or}
 use Rattle.std.proofs.Common.{length-drop, length-take, get_or-take}
-use Rattle.std.proofs.lemmas.Bool.{false≢true, cases_Bool, eqb-true, eqb-false, and_parts, ltb-true}
+use Rattle.std.proofs.lemmas.Bool.{false≢true, cases_Bool, eqb-true, eqb-false}
 use Rattle.std.proofs.lemmas.List.{take_all}
-use Rattle.std.specs.Prelude.{Option, Some, None, IsSome, max, ◌==◌, if◌then◌else◌}
+use Rattle.std.specs.Prelude.{Option, Some, None, IsSome, max, ◌==◌}
 use Rattle.std.specs.List.{AllByRecursion}
 use Rattle.std.specs.Map.{lookup}
 use Rattle.std.specs.BTreeMap.{get, is_at}
@@ -15,9 +15,8 @@ use Rattle.nx_host.specs.declared.disk.Area.TheVariants.{Pages, Log}
 use Rattle.nx_host.specs.Disk.{Image, Torn, Written, TearsIn, WritesTo, ComesTorn}
 use Rattle.nx_host.specs.declared.disk.Disk.{Ghosts}
 use Rattle.nx_host.specs.Still.{Goes, IsSettled}
-use Rattle.std.specs.Option.{option_or}
-use Rattle.nx_replay.specs.Log.{Entry, Group, entry_pages, rise, count_of, size_of, group_of, is_group, groups_behind, end_of, groups, logged, replay, IsAtEnd, Stays, IsPartlyMoved}
-use Rattle.nx_replay.proofs.GroupLemmas.{group_says, groups-first, groups-none}
+use Rattle.nx_replay.specs.Log.{is_group, end_of, groups, logged, replay, IsAtEnd, Stays, IsPartlyMoved}
+use Rattle.nx_replay.proofs.GroupLemmas.{group_says, groups-none}
 use Rattle.nx_replay.proofs.CommitLemmas.{at_written, first_of_rest}
 use Rattle.nx_wal.proofs.WritingLemmas.{image_same}
 use Rattle.nx_host.proofs.DiskLemmas.{goes_then, goes_weaker, none_goes}

@@ -1,5 +1,5 @@
 -- Pages that wait, the group that they make, and where they stand once it is written.
-use Rattle.std.proofs.Common.{◌≡◌, ◌⊎◌, ℕ, suc, ◌+◌, ◌-◌, ◌*◌, ◌^◌, ◌<◌, ◌≤◌, List, [], ◌∷◌, ◌++◌, length, take, drop, refl, sym, ap, subst, ◌∙◌, arith, Bool, true, false, inl, inr, cond, append_assoc, get_or}
+use Rattle.std.proofs.Common.{◌≡◌, ℕ, suc, ◌+◌, ◌*◌, ◌^◌, ◌<◌, ◌≤◌, List, [], ◌∷◌, ◌++◌, length, take, drop, refl, sym, ap, subst, ◌∙◌, arith, Bool, true, inl, inr, cond, append_assoc}
 use Rattle.std.proofs.Common.{take-append-drop}
 use Rattle.std.proofs.lemmas.Bool.{and_from, le-leb, lt-ltb, cases_Bool, eqb-true}
 use Rattle.std.proofs.lemmas.List.{drop-drop, drop_at, take_at, map-append, length-map}
@@ -8,21 +8,20 @@ use Rattle.std.proofs.lemmas.Map.Keys.{below_from_sorted, sorted_tail}
 use Rattle.std.specs.Prelude.{Option, Some, None, IsSome, All, ◌==◌, if◌then◌else◌}
 use Rattle.std.specs.List.{AllByRecursion}
 use Rattle.std.specs.List.Sorted.{IsStrictlySortedBy}
-use Rattle.std.specs.Option.{option_or, option_map}
-use Rattle.std.specs.Map.{lookup, keys_of, values_of}
+use Rattle.std.specs.Option.{option_or}
+use Rattle.std.specs.Map.{keys_of, values_of}
 use Rattle.std.specs.BTreeMap.{get, is_at}
 use Rattle.std.specs.Ordering.{nat_cmp}
 use Rattle.byteorder.specs.Endian.{big_bytes}
 use Rattle.byteorder.specs.Numbers.{length-bytes_high_first}
 use Rattle.nx_host.specs.Disk.{Image}
 use Rattle.nx_slots.specs.declared.page.PageBytes.{PageBytes}
-use Rattle.nx_replay.specs.Log.{Entry, Group, IsEntry, IsWhole, entry_bytes, entry_pages, rise, logged, groups}
+use Rattle.nx_replay.specs.Log.{Entry, IsEntry, IsWhole, entry_bytes, entry_pages, rise}
 use Rattle.nx_replay.proofs.GroupLemmas.{front-drop, front-less}
-use Rattle.nx_replay.proofs.ReplayLemmas.{logged-more}
 use Rattle.nx_replay.proofs.KnownLemmas.{rise_few, rise_apart}
-use Rattle.nx_wal.specs.Places.{Places, place_in, LeadsTo, Notes, AreWithin, MayWait, IsWholePage}
+use Rattle.nx_wal.specs.Places.{Places, place_in, Notes, IsWholePage}
 use Rattle.nx_wal.specs.Writing.{StandsBehind, entries_of, group_with, body_of, head_of}
-use Rattle.nx_wal.proofs.ReadingLemmas.{at_number, some_same}
+use Rattle.nx_wal.proofs.ReadingLemmas.{at_number}
 use Rattle.nx_wal.proofs.ListLemmas.{all_front, all_middle, all_keys, all_values}
 use Rattle.nx_wal.proofs.WritingLemmas.{entry_bytes-append, pages_long, body_parts, head_long}
 

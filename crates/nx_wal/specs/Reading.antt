@@ -1,10 +1,7 @@
 -- What is read of a log.
-use Rattle.std.specs.Prelude.{ℕ, ◌+◌, ◌^◌, ◌≡◌, ◌<◌, ◌≤◌, ◌==◌, Bool, true, false, List, [], ◌∷◌, ◌++◌, length, map, take, drop, slice_index, Option, Some, None}
-use Rattle.std.specs.BTreeMap.{BTreeMap, get}
-use Rattle.std.specs.Ordering.{nat_cmp}
+use Rattle.std.specs.Prelude.{ℕ, ◌^◌, ◌≡◌, ◌<◌, ◌≤◌, ◌==◌, Bool, true, false, List, [], ◌∷◌, ◌++◌, length, map, take, drop, slice_index, Option, Some, None}
 use Rattle.nx_host.specs.Disk.{Rose}
-use Rattle.std.specs.Option.{option_or}
-use Rattle.nx_replay.specs.Log.{Pages, Entry, Group, entry_pages, logged, groups, groups_behind, end_of, count_of, size_of, is_group, IsAtEnd}
+use Rattle.nx_replay.specs.Log.{Pages, Entry, Group, groups, groups_behind, end_of, count_of, size_of, is_group, IsAtEnd}
 use Rattle.nx_wal.specs.declared.reading.Head.{Head}
 use Rattle.nx_wal.specs.declared.reading.End.{End}
 use Rattle.nx_wal.specs.declared.error.WalError.{WalError}

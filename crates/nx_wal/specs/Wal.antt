@@ -1,11 +1,9 @@
 -- What a log and its disk stand for.
-use Rattle.std.specs.Prelude.{◌≡◌, ℕ, ◌-◌, ◌<◌, ◌≤◌, Bool, true, false, List, map, None, IsSome}
-use Rattle.std.specs.BTreeMap.{get}
-use Rattle.std.specs.Ordering.{nat_cmp}
+use Rattle.std.specs.Prelude.{◌≡◌, ℕ, ◌-◌, ◌<◌, ◌≤◌, Bool, true, false, List, None, IsSome}
 use Rattle.nx_host.specs.Disk.{Image, Rose}
 use Rattle.nx_host.specs.declared.disk.Disk.{Ghosts}
 use Rattle.nx_host.specs.Still.{IsSettled}
-use Rattle.nx_replay.specs.Log.{Pages, Entry, Group, over, logged, replay, groups, entry_pages, IsAtEnd}
+use Rattle.nx_replay.specs.Log.{Pages, Entry, Group, over, replay, groups, entry_pages, IsAtEnd}
 use Rattle.nx_wal.specs.Places.{LeadsTo, AreWithin}
 use Rattle.nx_wal.specs.Reading.{HasMark}
 use Rattle.nx_wal.specs.Writing.{entries_of, group_with}

@@ -144,7 +144,11 @@ fn read_numbers<D: Disk>(
 }
 
 // Notes where pages with these numbers stand, from the last to the first.
-fn note_pages(places: &mut BTreeMap<u32, Option<u64>>, at: u64, numbers: &[u32]) -> Result<(), WalError>
+fn note_pages(
+    places: &mut BTreeMap<u32, Option<u64>>,
+    at: u64,
+    numbers: &[u32],
+) -> Result<(), WalError>
     requires { at + 8196 * length numbers.now ≤ 2 ^ 63 }
     ensures notes { OnOk result ((log : List ℕ) → numbers.now ≡ numbers_of (entries_of (length numbers.now) (drop at log))
         → Notes (entries_of (length numbers.now) (drop at log)) log places.old places.new) }

@@ -5,7 +5,7 @@ ghost use Rattle.std.specs.BTreeMap.{keys, values};
 ghost use Rattle.std.proofs.Props.{props};
 ghost use Rattle.nx_host.specs.Disk.{Image};
 ghost use Rattle.nx_host.specs.Still.{IsStill, IsSettled, Goes};
-ghost use Rattle.nx_replay.specs.Log.{replay, over, groups, entry_pages, Stays, HasSame, HasGroup};
+ghost use Rattle.nx_replay.specs.Log.{replay, over, groups, size_of, entry_pages, Stays, HasSame, HasGroup};
 ghost use Rattle.nx_wal.specs.Places.{MayWait, IsWholePage};
 
 use crate::block::Block;
@@ -177,6 +177,7 @@ impl Wal {
         ensures ok { OnOk result ((was now : Image) → IsInStep D.Disk self.old disk.old was → D.contents disk.new ≡ Some now →
             IsInStep D.Disk self.new disk.new now × HasGroup (next_group number self.old) was now) }
         ensures none_left { OnOk result ((pending self.new ≡ []) × (has_ended self.old ≡ false) × (has_ended self.new ≡ false)) }
+        ensures length { OnOk result (length_of self.new ≡ length_of self.old + size_of (length (pending self.old))) }
         ensures reads { D.reads disk.new ≡ D.reads disk.old }
         ensures refused { IfErr result (λ e. Refused D.Disk e self.old self.new disk.old disk.new) }
     {

@@ -1,4 +1,4 @@
-use Rattle.std.proofs.Common.{◌≡◌, ◌*◌, ◌+◌, ◌<◌, ◌≤◌, length, sym, subst, ◌∙◌, ℕ}
+use Rattle.std.proofs.Common.{◌≡◌, ◌*◌, ◌+◌, ◌<◌, ◌≤◌, length, subst, ◌∙◌, ℕ}
 use Rattle.std.specs.Prelude.{◌↔◌}
 use Rattle.nx_wal.proofs.ReadingLemmas.{if_some}
 use Rattle.nx_wal.proofs.pages.area_count.Goals as goal

@@ -1,5 +1,5 @@
-use Rattle.std.proofs.Common.{◌≡◌, ℕ, ◌+◌, ◌*◌, ◌<◌, ◌≤◌, List, [], ◌∷◌, ◌++◌, arith, refl, rules, length, sym, ap, subst, ◌∙◌, append_assoc, length-append, cond}
-use Rattle.std.specs.Prelude.{Some, None, IsSome, All}
+use Rattle.std.proofs.Common.{◌≡◌, ℕ, ◌+◌, ◌*◌, ◌<◌, List, [], ◌∷◌, ◌++◌, arith, refl, rules, length, sym, ap, subst, ◌∙◌, append_assoc, length-append, cond}
+use Rattle.std.specs.Prelude.{Some, IsSome, All}
 use Rattle.std.specs.Map.{keys_of}
 use Rattle.std.specs.List.{AllByRecursion}
 use Rattle.std.specs.Map.Iter.{deref_pair}

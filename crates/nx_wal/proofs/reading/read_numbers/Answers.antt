@@ -1,8 +1,7 @@
 use Rattle.std.proofs.Common.{◌≡◌, ◌⊎◌, ◌+◌, ◌-◌, ◌*◌, ◌<◌, ◌≤◌, ◌++◌, ◌∷◌, [], arith, sym, ap, ◌∙◌, inl, inr, drop, length, length-append, List, ℕ}
-use Rattle.std.proofs.lemmas.List.{append-nil}
 use Rattle.byteorder.specs.Endian.{big_number}
 use Rattle.nx_replay.specs.Log.{entries_of}
-use Rattle.nx_host.proofs.DiskLemmas.{none_still, still_then}
+use Rattle.nx_host.proofs.DiskLemmas.{still_then}
 use Rattle.nx_replay.proofs.SettledLemmas.{told_still}
 use Rattle.nx_wal.specs.Reading.{numbers_of}
 use Rattle.nx_wal.proofs.ReadingLemmas.{rise_more, rise_ends, numbers_more, some_same}

@@ -1,4 +1,4 @@
-use Rattle.std.proofs.Common.{◌≡◌, ◌+◌, ◌*◌, ◌<◌, ◌≤◌, arith, length, sym, subst, ap, ◌∙◌, refl, Bool}
+use Rattle.std.proofs.Common.{◌+◌, ◌*◌, ◌<◌, arith, length, subst, Bool}
 use Rattle.nx_replay.specs.Log.{IsAtEnd}
 use Rattle.nx_replay.proofs.SettledLemmas.{told_still}
 use Rattle.nx_wal.proofs.ReadingLemmas.{some_same}

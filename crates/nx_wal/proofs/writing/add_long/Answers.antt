@@ -1,4 +1,4 @@
-use Rattle.std.proofs.Common.{arith, length}
+use Rattle.std.proofs.Common.{arith}
 use Rattle.nx_wal.proofs.GatherLemmas.{reaches_wider}
 use Rattle.nx_wal.proofs.writing.add_long.Goals as goal
 

@@ -5,7 +5,7 @@ use Rattle.byteorder.specs.Endian.{big_bytes}
 use Rattle.nx_slots.specs.declared.page.PageBytes.{PageBytes}
 use Rattle.nx_replay.specs.Log.{entry_bytes}
 use Rattle.nx_wal.specs.Writing.{entries_of}
-use Rattle.nx_wal.specs.Gathering.{Adds, Reaches}
+use Rattle.nx_wal.specs.Gathering.{Adds}
 use Rattle.nx_wal.proofs.WritingLemmas.{page_more}
 use Rattle.nx_wal.proofs.ListLemmas.{all_gone}
 use Rattle.nx_wal.proofs.GatherLemmas.{adds_then, reaches_then, reaches_wider, kept_adds, kept_reaches}

@@ -1,4 +1,4 @@
-use Rattle.std.proofs.Common.{◌≡◌, ◌+◌, ◌*◌, ◌≤◌, ◌++◌, ◌∷◌, [], arith, length, refl, sym, ap, subst, ◌∙◌, length-append, List, ℕ}
+use Rattle.std.proofs.Common.{◌≡◌, ◌+◌, ◌*◌, ◌++◌, ◌∷◌, [], arith, length, ap, subst, ◌∙◌, length-append, List, ℕ}
 use Rattle.std.proofs.lemmas.List.{append-nil}
 use Rattle.nx_replay.specs.Log.{entry_bytes}
 use Rattle.nx_replay.proofs.SettledLemmas.{on_ok2}

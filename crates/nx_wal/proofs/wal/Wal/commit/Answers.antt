@@ -1,4 +1,4 @@
-use Rattle.std.proofs.Common.{◌≡◌, ℕ, ◌+◌, ◌*◌, ◌≤◌, arith, refl, subst, length}
+use Rattle.std.proofs.Common.{◌≡◌, ℕ, ◌+◌, ◌*◌, arith, subst, length}
 use Rattle.std.proofs.lemmas.List.{length-map}
 use Rattle.std.specs.Prelude.{true}
 use Rattle.nx_replay.specs.Log.{size_of, IsAtEnd}
@@ -58,3 +58,10 @@ returns-clause-ok g c was now step told =
       },
       done.0,
     )
+
+pub returns-clause-length : goal.returns-clause-length
+returns-clause-length g c =
+    let es = c.args.self.now.waiting.entries in
+    let mapped : length (entries_of es) ≡ length es = simp length-map in
+    let count : c.len-count.result ≡ length es = c.len-count.ensures.len in
+    omega (arith, mapped, count)
