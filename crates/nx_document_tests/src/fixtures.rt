@@ -7,7 +7,7 @@ use nx_tree::{Bytes, Kind, NoMemory, Node, Tree};
 use std::alloc::Global;
 
 /// The document of these lines.
-pub(crate) fn read(alloc: Global, text: &[u8]) -> Result<Tree, ReadError>
+pub fn read(alloc: Global, text: &[u8]) -> Result<Tree, ReadError>
     ensures { IfOk result (λ tree. IsDocument tree) }
 {
     let mut reader = Reader::new(alloc)?;
@@ -16,7 +16,7 @@ pub(crate) fn read(alloc: Global, text: &[u8]) -> Result<Tree, ReadError>
 }
 
 /// The node of one of these lines; of any other, the text `hi`.
-pub(crate) fn node(alloc: Global, line: &[u8]) -> Result<Node, NoMemory>
+pub fn node(alloc: Global, line: &[u8]) -> Result<Node, NoMemory>
     ensures { IfOk result (λ node. IsNode node) }
 {
     match line {

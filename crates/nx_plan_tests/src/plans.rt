@@ -1,6 +1,6 @@
 // Texts of plans, and plans that are certified or refused.
-use crate::fixtures::read;
 use nx_bounds::{BoundsError, Field, certified, read_plan, write_plan};
+use nx_document_tests::read;
 use nx_parts::PartsError;
 use nx_weights::Weights;
 use std::test::Fail;

@@ -8,12 +8,12 @@ mod minima;
 mod plain;
 mod random;
 
-use crate::fixtures::read;
 use choices::{Child, claim, first_exceeded};
 use claims::{any_supported, check_bounds};
 use documents::{Shape, any_intervals, document, partitioning, partitioning_codes, push_shapes};
 use minima::{Measured, measure, minima};
 use nx_bounds::{BoundsError, Field, supported};
+use nx_document_tests::read;
 use nx_parts::{Bound, Bounds, Partitioning, check_feasible};
 use nx_tree::{NoMemory, Tree};
 use plain::{check_plainly, placed_nodes, slots};

@@ -4,7 +4,7 @@ ghost use Rattle.nx_tree.specs.Document.{IsDocument};
 
 use super::plain::Placed;
 use super::random::Random;
-use crate::fixtures::read;
+use nx_document_tests::read;
 use nx_parts::{Interval, Partitioning};
 use nx_pyx::ReadError;
 use nx_tree::{NoMemory, Path, Tree};

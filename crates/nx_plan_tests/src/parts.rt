@@ -1,5 +1,5 @@
 // A document's lists of intervals, with the weights of their parts or why they are refused.
-use crate::fixtures::read;
+use nx_document_tests::read;
 use nx_parts::{
     Interval, Partitioning, PartsError, check_feasible, feasible_weights, part_weights,
 };

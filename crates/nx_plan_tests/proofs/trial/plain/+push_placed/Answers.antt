@@ -2,7 +2,7 @@ use Rattle.std.proofs.Common.{◌+◌, ◌≤◌, ap, ◌∙◌, rules}
 use Rattle.nx_tree.specs.Forest.{OrderedTree}
 use Rattle.nx_tree.specs.Document.{depth}
 use Rattle.nx_tree.proofs.TestLemmas.{depth_item}
-use Rattle.nx_document_tests.proofs.trial.plain.+push_placed.Goals as goal
+use Rattle.nx_plan_tests.proofs.trial.plain.+push_placed.Goals as goal
 
 pub push_placed-requires : goal.push_placed-requires
 push_placed-requires t c =
