@@ -42,9 +42,9 @@ child_true k node bound fewest slots heavy t =
     }
 
 -- a node whose children's claims are true
-node_true : (k own : ℕ) (c : CutForest) (claims : List Child) (bound : Bound) → IsSupported k (record { own = own; children = claims; bound = numbers bound }) → AreTrueClaims k claims (pieces c) → AreParts k c → own + part_weight c ≤ k
+node_true : (k : ℕ) {own : ℕ} (c : CutForest) {claims : List Child} (bound : Bound) → IsSupported k (record { own = own; children = claims; bound = numbers bound }) → AreTrueClaims k claims (pieces c) → AreParts k c → own + part_weight c ≤ k
     → IsTrueAt bound (1 + cuts c) (own + part_weight c)
-node_true k own c claims bound s t h fits =
+node_true k {own} c {claims} bound s t h fits =
     let l = lower_claims k own c claims h fits t in
     record {
       least = omega (arith, s.least l.cells l.admitted tt, l.few);
@@ -95,7 +95,7 @@ forest_true k (Grown node below beside) (bound ∷ bounds) enough s h light =
     let of_beside = all_right (IsSupported k) (claimed_in k (forest below) bounds) (claimed_in k (forest beside) rest) s.1 in
     let t = forest_true k below bounds (omega (arith, enough)) of_below h.0 (omega (arith, light)) in (
       child_true k node bound (1 + cuts below) (weight node + part_weight below) (omega arith)
-          (node_true k (weight node) below (children k (forest below) bounds) bound s.0 t h.0 (omega (arith, light))),
+          (node_true k below bound s.0 t h.0 (omega (arith, light))),
       forest_true k beside rest (omega (arith, enough, length-drop (nodes (forest below)) bounds)) of_beside h.1 (omega (arith, light)),
     )
 forest_true k (Kept mark members beside) bounds enough s h light =
@@ -110,17 +110,17 @@ forest_true k (Kept mark members beside) bounds enough s h light =
     (true_both k (children k f bounds) (pieces members) (children k g rest) (pieces beside) of_members of_beside)
 
 -- the root of a tree
-pub root_true : (k : ℕ) (tree : OrderedTree) (bound : Bound) (bounds : List Bound) → nodes tree.below ≤ length bounds →
+pub root_true : {k : ℕ} {tree : OrderedTree} (bound : Bound) (bounds : List Bound) → nodes tree.below ≤ length bounds →
     IsSupported k (record { own = weight tree.node; children = children k tree.below bounds; bound = numbers bound }) → AllByRecursion (IsSupported k) (claimed_in k tree.below bounds) →
     (parts : List Interval) → IsFeasible k tree parts → IsTrueOf bound tree parts
-root_true k tree bound bounds enough s below parts f =
+root_true {k} {tree} bound bounds enough s below parts f =
     let d = same_drawn k tree parts f in
     let c = d.drawn.below in
     let same : tree.below ≡ forest c = sym (ap (λ (t : OrderedTree). t.below) d.tree_is) in
     let node : weight d.drawn.node ≡ weight tree.node = ap (λ (t : OrderedTree). weight t.node) d.tree_is in
     let fits : weight tree.node + part_weight c ≤ k = omega (arith, d.weighs, d.light, node) in
     let t = forest_true k c bounds (omega (arith, enough, ap nodes same)) (subst (λ g. AllByRecursion (IsSupported k) (claimed_in k g bounds)) same below) d.form (omega (arith, fits)) in
-    let h = node_true k (weight tree.node) c (children k (forest c) bounds) bound
+    let h = node_true k c bound
     (subst (λ g. IsSupported k (record { own = weight tree.node; children = children k g bounds; bound = numbers bound })) same s) t d.form fits in
     record {
       least = omega (arith, h.least, d.as_many);
