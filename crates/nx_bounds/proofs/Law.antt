@@ -155,7 +155,7 @@ supported_at k tree (b ∷ bounds) s (suc number) path node bound subtree listed
     subst (λ t. IsSupportedAt k t bound) same f.supported
 
 true_of_all : (k : ℕ) (tree : OrderedTree) (bound : Bound) → IsSupportedAt k tree bound → (parts : List Interval) → IsFeasible k tree parts → IsTrueOf bound tree parts
-true_of_all k tree bound s = root_true k tree bound s.others s.enough s.root s.below
+true_of_all k tree bound s = root_true bound s.others s.enough s.root s.below
 
 pub bounds_below : LowerBound
 bounds_below k tree bounds s number path node bound subtree listed_there there stands =

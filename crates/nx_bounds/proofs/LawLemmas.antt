@@ -1,21 +1,22 @@
--- Supported claims are true of every feasible partitioning: at a node, over a forest, and at the root.
-use Rattle.std.proofs.Common.{◌≡◌, ℕ, ◌+◌, ◌≤◌, min, max, if◌then◌else◌, List, [], ◌∷◌, ◌++◌, length, drop, Some, AllPairs, refl, sym, ap, subst, arith, length-drop, eq-eqb}
+-- Supported claims are true of every feasible partitioning: at a node, over a forest with its intervals drawn in, and at the root.
+use Rattle.std.proofs.Common.{◌≡◌, ℕ, suc, ◌+◌, ◌≤◌, min, max, List, [], ◌∷◌, ◌++◌, length, drop, refl, sym, ap, ◌∙◌, subst, arith, append_assoc, length-drop}
 use Rattle.std.specs.List.{AllByRecursion}
+use Rattle.std.proofs.lemmas.List.{drop-drop}
 use Rattle.nx_tree.specs.declared.node.Node.{Node}
 use Rattle.nx_tree.specs.Forest.{OrderedTree, Forest, Empty, Plant, nodes}
 use Rattle.nx_weights.specs.Weight.{weight}
 use Rattle.nx_parts.specs.declared.interval.Interval.{Interval}
 use Rattle.nx_parts.specs.declared.bounds.Bound.{Bound}
-use Rattle.nx_parts.specs.Partitioning.{ShareMember, IsFeasible, holder}
-use Rattle.nx_parts.proofs.Owned.{is_place, owned}
+use Rattle.nx_parts.specs.Partitioning.{IsFeasible}
 use Rattle.nx_choices.specs.declared.child.Child.{Child}
-use Rattle.nx_choices.specs.Choice.{IsAdmitted, covered, count}
-use Rattle.nx_choices.specs.Claim.{IsSupported}
+use Rattle.nx_choices.specs.Claim.{Claimed, IsSupported}
+use Rattle.nx_cuts.specs.Cut.{CutForest, Bare, Grown, Kept, joined, forest, cuts, part_weight, AreParts}
+use Rattle.nx_cuts.proofs.NumberLemmas.{same_drawn}
+use Rattle.nx_minima.proofs.BoundLemmas.{nodes-joined}
+use Rattle.nx_minima.proofs.LowerLemmas.{pieces, lower_claims, true_both}
+use Rattle.nx_minima.proofs.Numbers.{IsTrueClaim, AreTrueClaims}
 use Rattle.nx_bounds.specs.Claim.{child, children, claimed_in, numbers}
 use Rattle.nx_bounds.specs.Law.{IsTrueOf}
-use Rattle.nx_bounds.proofs.Cut.{kept, inner, pieces, IsLevel}
-use Rattle.nx_bounds.proofs.CutLemmas.{level, kept-within, IsNodeWithin, owner_of_child, owned-below, owned-beside, owned-within, root_holder, inner-root, root_weight-kept, root_within}
-use Rattle.nx_bounds.proofs.Numbers.{IsTrueClaim, AreTrueClaims, lowered_by_claims, count-lowered}
 
 -- The bound is true of a tree that is cut into so many intervals, and whose root's part weighs so much.
 pub record IsTrueAt (bound : Bound) (fewest slots : ℕ) : Type 0 where
@@ -41,19 +42,14 @@ child_true k node bound fewest slots heavy t =
     }
 
 -- a node whose children's claims are true
-node_true : (k : ℕ) (parts : List Interval) (path : List ℕ) (own : ℕ) (below : Forest) (claims : List Child) (bound : Bound) →
-    IsSupported k (record { own = own; children = claims; bound = numbers bound }) → AreTrueClaims k claims (pieces parts path 0 below) → IsLevel k parts path below →
-    own + kept parts path 0 below ≤ k → IsTrueAt bound (inner parts path) (own + kept parts path 0 below)
-node_true k parts path own below claims bound s t here fits =
-    let true_here : AreTrueClaims k claims (covered here.cells) = subst (AreTrueClaims k claims) (sym here.covers) t in
-    let l = lowered_by_claims k here.cells claims here.firsts here.light true_here in
-    let few : count l.lowered ≤ inner parts path =
-    count-lowered k (inner parts path) here.cells claims true_here (omega arith) (omega (arith, here.few, ap length here.covers)) l in
-    let a : IsAdmitted k own claims l.lowered = record { covers = l.covers; root = omega (arith, l.leaves, here.leaves, fits); light = l.light } in
+node_true : (k : ℕ) {own : ℕ} (c : CutForest) {claims : List Child} (bound : Bound) → IsSupported k (record { own = own; children = claims; bound = numbers bound }) → AreTrueClaims k claims (pieces c) → AreParts k c → own + part_weight c ≤ k
+    → IsTrueAt bound (1 + cuts c) (own + part_weight c)
+node_true k {own} c {claims} bound s t h fits =
+    let l = lower_claims k own c claims h fits t in
     record {
-      least = omega (arith, s.least l.lowered a tt, few);
-      lean = λ h. omega (arith, s.lean l.lowered a (omega (arith, few, h)), l.leaves, here.leaves);
-      nearly = λ h. omega (arith, s.nearly l.lowered a (omega (arith, few, h)), l.leaves, here.leaves);
+      least = omega (arith, s.least l.cells l.admitted tt, l.few);
+      lean = λ few. omega (arith, s.lean l.cells l.admitted (omega (arith, l.few, few)), l.little);
+      nearly = λ few. omega (arith, s.nearly l.cells l.admitted (omega (arith, l.few, few)), l.little);
     }
 
 pub all_left : {X : Type 0} → (P : X → Type 0) (xs ys : List X) → AllByRecursion P (xs ++ ys) → AllByRecursion P xs
@@ -64,50 +60,70 @@ pub all_right : {X : Type 0} → (P : X → Type 0) (xs ys : List X) → AllByRe
 all_right P [] ys all = all
 all_right P (x ∷ xs) ys all = all_right P xs ys all.1
 
--- what the interval at this place owns of a tree whose root it owns too
-own_part : (place slots : ℕ) → (if is_place place (Some place) then slots else 0) ≡ slots
-own_part place slots = rw (eq-eqb place place refl) refl
+-- the bounds of one forest, and those of the forest beside it
+behind : (below beside : ℕ) (bound : Bound) (bounds : List Bound) → drop beside (drop below bounds) ≡ drop (1 + below + beside) (bound ∷ bounds)
+behind below beside bound bounds = drop-drop beside below bounds ∙ ap (λ (j : ℕ). drop j (bound ∷ bounds)) (let e : suc (below + beside) ≡ 1 + below + beside = omega arith in e)
 
--- a tree, the part of whose root is that of the interval at a place
-tree_true : (k : ℕ) (parts : List Interval) → AllPairs (λ a b. ¬ ShareMember a b) parts → (path : List ℕ) (place : ℕ) (node : Node) (below : Forest) (bound : Bound) (claims : List Child) →
-    IsSupported k (record { own = weight node; children = claims; bound = numbers bound }) → AreTrueClaims k claims (pieces parts path 0 below) →
-    IsNodeWithin k parts place path node below → IsTrueAt bound (inner parts path) (weight node + kept parts path 0 below)
-tree_true k parts apart path place node below bound claims s t light =
-    node_true k parts path (weight node) below claims bound s t (level k parts apart path place below (owned-within k parts place path node below light))
-    (omega (arith, light place, own_part place (weight node), kept-within parts place path 0 below))
+children-joined : (k : ℕ) (f g : Forest) (bounds : List Bound) → nodes f ≤ length bounds → children k (joined f g) bounds ≡ children k f bounds ++ children k g (drop (nodes f) bounds)
+children-joined k Empty g bounds enough = refl
+children-joined k (Plant node below beside) g [] enough = absurd (omega (arith, enough))
+children-joined k (Plant node below beside) g (bound ∷ bounds) enough =
+    let rest = drop (nodes below) bounds in
+    let e = behind (nodes below) (nodes beside) bound bounds in
+    ap (λ l. child k node bound ∷ l)
+    (children-joined k beside g rest (omega (arith, enough, length-drop (nodes below) bounds)) ∙ ap (λ bs. children k beside rest ++ children k g bs) e)
+
+claimed_in-joined : (k : ℕ) (f g : Forest) (bounds : List Bound) → nodes f ≤ length bounds → claimed_in k (joined f g) bounds ≡ claimed_in k f bounds ++ claimed_in k g (drop (nodes f) bounds)
+claimed_in-joined k Empty g bounds enough = refl
+claimed_in-joined k (Plant node below beside) g [] enough = absurd (omega (arith, enough))
+claimed_in-joined k (Plant node below beside) g (bound ∷ bounds) enough =
+    let here : Claimed = record { own = weight node; children = children k below bounds; bound = numbers bound } in
+    let rest = drop (nodes below) bounds in
+    let e = behind (nodes below) (nodes beside) bound bounds in
+    ap (λ l. here ∷ claimed_in k below bounds ++ l)
+    (claimed_in-joined k beside g rest (omega (arith, enough, length-drop (nodes below) bounds)) ∙ ap (λ bs. claimed_in k beside rest ++ claimed_in k g bs) e)
+    ∙ ap (λ l. here ∷ l) (sym (append_assoc (claimed_in k below bounds) (claimed_in k beside rest) (claimed_in k g (drop (nodes (Plant node below beside)) (bound ∷ bounds)))))
 
 -- the trees of a forest
-pub forest_true : (k : ℕ) (parts : List Interval) → AllPairs (λ a b. ¬ ShareMember a b) parts → (path : List ℕ) (position above : ℕ) (forest : Forest) (bounds : List Bound) →
-    nodes forest ≤ length bounds → AllByRecursion (IsSupported k) (claimed_in k forest bounds) → ((index : ℕ) → owned parts index (Some above) path position forest ≤ k) →
-    AreTrueClaims k (children k forest bounds) (pieces parts path position forest)
-forest_true k parts apart path position above Empty bounds enough s light = tt
-forest_true k parts apart path position above (Plant node below beside) [] enough s light = absurd (omega (arith, enough))
-forest_true k parts apart path position above (Plant node below beside) (bound ∷ bounds) enough s light =
-    let here : List ℕ = path ++ position ∷ [] in
-    let place : ℕ = owner_of_child (holder parts here) above in
-    let light_here = owned-below k parts above path position node below beside light in
-    let of_below = all_left (IsSupported k) (claimed_in k below bounds) (claimed_in k beside (drop (nodes below) bounds)) s.1 in
-    let of_beside = all_right (IsSupported k) (claimed_in k below bounds) (claimed_in k beside (drop (nodes below) bounds)) s.1 in
-    let t = forest_true k parts apart here 0 place below bounds (omega (arith, enough)) of_below (owned-within k parts place here node below light_here) in (
-      child_true k node bound (inner parts here) (weight node + kept parts here 0 below) (omega arith)
-          (tree_true k parts apart here place node below bound (children k below bounds) s.0 t light_here),
-      forest_true k parts apart path (position + 1) above beside (drop (nodes below) bounds) (omega (arith, enough, length-drop (nodes below) bounds)) of_beside (owned-beside k parts above path position node below beside light),
+forest_true : (k : ℕ) (c : CutForest) (bounds : List Bound) → nodes (forest c) ≤ length bounds → AllByRecursion (IsSupported k) (claimed_in k (forest c) bounds) → AreParts k c → part_weight c ≤ k
+    → AreTrueClaims k (children k (forest c) bounds) (pieces c)
+forest_true k Bare bounds enough s h light = tt
+forest_true k (Grown node below beside) [] enough s h light = absurd (omega (arith, enough))
+forest_true k (Grown node below beside) (bound ∷ bounds) enough s h light =
+    let rest = drop (nodes (forest below)) bounds in
+    let of_below = all_left (IsSupported k) (claimed_in k (forest below) bounds) (claimed_in k (forest beside) rest) s.1 in
+    let of_beside = all_right (IsSupported k) (claimed_in k (forest below) bounds) (claimed_in k (forest beside) rest) s.1 in
+    let t = forest_true k below bounds (omega (arith, enough)) of_below h.0 (omega (arith, light)) in (
+      child_true k node bound (1 + cuts below) (weight node + part_weight below) (omega arith)
+          (node_true k below bound s.0 t h.0 (omega (arith, light))),
+      forest_true k beside rest (omega (arith, enough, length-drop (nodes (forest below)) bounds)) of_beside h.1 (omega (arith, light)),
     )
+forest_true k (Kept mark members beside) bounds enough s h light =
+    let f = forest members in
+    let g = forest beside in
+    let many = nodes-joined f g in
+    let rest = drop (nodes f) bounds in
+    let parted = subst (AllByRecursion (IsSupported k)) (claimed_in-joined k f g bounds (omega (arith, enough, many))) s in
+    let of_members = forest_true k members bounds (omega (arith, enough, many)) (all_left (IsSupported k) (claimed_in k f bounds) (claimed_in k g rest) parted) h.3 h.2 in
+    let of_beside = forest_true k beside rest (omega (arith, enough, many, length-drop (nodes f) bounds)) (all_right (IsSupported k) (claimed_in k f bounds) (claimed_in k g rest) parted) h.4 light in
+    subst (λ l. AreTrueClaims k l (pieces members ++ pieces beside)) (sym (children-joined k f g bounds (omega (arith, enough, many))))
+    (true_both k (children k f bounds) (pieces members) (children k g rest) (pieces beside) of_members of_beside)
 
 -- the root of a tree
-pub root_true : (k : ℕ) (tree : OrderedTree) (bound : Bound) (bounds : List Bound) → nodes tree.below ≤ length bounds →
+pub root_true : {k : ℕ} {tree : OrderedTree} (bound : Bound) (bounds : List Bound) → nodes tree.below ≤ length bounds →
     IsSupported k (record { own = weight tree.node; children = children k tree.below bounds; bound = numbers bound }) → AllByRecursion (IsSupported k) (claimed_in k tree.below bounds) →
     (parts : List Interval) → IsFeasible k tree parts → IsTrueOf bound tree parts
-root_true k tree bound bounds enough s below parts f =
-    let apart = f.partitioning.disjoint in
-    let r = root_holder parts f.partitioning.rooted in
-    let light = root_within k tree parts f r.0 r.1 in
-    let few = inner-root parts f.partitioning.rooted in
-    let heavy = root_weight-kept tree parts f.partitioning.rooted in
-    let t = forest_true k parts apart [] 0 r.0 tree.below bounds enough below (owned-within k parts r.0 [] tree.node tree.below light) in
-    let h = tree_true k parts apart [] r.0 tree.node tree.below bound (children k tree.below bounds) s t light in
+root_true {k} {tree} bound bounds enough s below parts f =
+    let d = same_drawn k tree parts f in
+    let c = d.drawn.below in
+    let same : tree.below ≡ forest c = sym (ap (λ (t : OrderedTree). t.below) d.tree_is) in
+    let node : weight d.drawn.node ≡ weight tree.node = ap (λ (t : OrderedTree). weight t.node) d.tree_is in
+    let fits : weight tree.node + part_weight c ≤ k = omega (arith, d.weighs, d.light, node) in
+    let t = forest_true k c bounds (omega (arith, enough, ap nodes same)) (subst (λ g. AllByRecursion (IsSupported k) (claimed_in k g bounds)) same below) d.form (omega (arith, fits)) in
+    let h = node_true k c bound
+    (subst (λ g. IsSupported k (record { own = weight tree.node; children = children k g bounds; bound = numbers bound })) same s) t d.form fits in
     record {
-      least = omega (arith, h.least, few);
-      lean = λ (at_most : length parts ≤ bound.least). omega (arith, h.lean (omega (arith, at_most, few)), heavy);
-      nearly = λ (at_most : length parts ≤ bound.least + 1). omega (arith, h.nearly (omega (arith, at_most, few)), heavy);
+      least = omega (arith, h.least, d.as_many);
+      lean = λ (at_most : length parts ≤ bound.least). omega (arith, h.lean (omega (arith, at_most, d.as_many)), d.weighs, node);
+      nearly = λ (at_most : length parts ≤ bound.least + 1). omega (arith, h.nearly (omega (arith, at_most, d.as_many)), d.weighs, node);
     }

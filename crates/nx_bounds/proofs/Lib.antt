@@ -1,10 +1,6 @@
-pub mod Cut
-pub mod CountLemmas
-pub mod CellLemmas
-pub mod CutLemmas
-pub mod Numbers
 pub mod LawLemmas
 pub mod Law
+pub mod MinimaLemmas
 pub mod WalkLemmas
 pub mod PlanLemmas
 pub mod VerdictLemmas

@@ -156,10 +156,10 @@ all_at k (c ∷ claims) zero node h e = let same : c ≡ node = cc in subst (IsS
 all_at k (c ∷ claims) (suc index) node h e = all_at k claims index node h.1 e
 
 -- Supported bounds have no refusal.
-supported_spared : (k : ℕ) (tree : OrderedTree) (bounds : List Bound) (p : ℕ) (f : Field) (m a : ℕ) → AreSupported k tree bounds → IsUnsupported k tree bounds p f m a → ⊥
+pub supported_spared : (k : ℕ) (tree : OrderedTree) (bounds : List Bound) (p : ℕ) (f : Field) (m a : ℕ) → AreSupported k tree bounds → IsUnsupported k tree bounds p f m a → ⊥
 supported_spared k tree bounds p f m a s x = exceeded_not k f x.node a x.exceeded (field_of k f x.node (all_at k (claimed k tree bounds) p x.node s.each x.there))
 
-length_spared : (k : ℕ) (tree : OrderedTree) (bounds : List Bound) (a b : ℕ) → length bounds ≡ 1 + nodes tree.below → IsNotSupported k tree bounds (Length a b) → ⊥
+pub length_spared : (k : ℕ) (tree : OrderedTree) (bounds : List Bound) (a b : ℕ) → length bounds ≡ 1 + nodes tree.below → IsNotSupported k tree bounds (Length a b) → ⊥
 length_spared k tree bounds a b e h = h.0 e
 
 wrong_spared : (tree : OrderedTree) (plan : Plan) (index : ℕ) → ((i : ℕ) → i < length plan.parts → get_or plan.weights i 0 ≡ part_weight tree plan.parts i) → IsWrong tree plan index → ⊥

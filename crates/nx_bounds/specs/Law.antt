@@ -1,4 +1,4 @@
--- The law of the lower bound: supported claims are true of every feasible partitioning.
+-- The laws of bounds: supported ones are true of every feasible partitioning, and minima are supported.
 use Rattle.std.specs.Prelude.{◌≡◌, ℕ, ◌+◌, ◌≤◌, List, length, Some, slice_get}
 use Rattle.nx_tree.specs.declared.node.Node.{Node}
 use Rattle.nx_tree.specs.Forest.{OrderedTree}
@@ -6,6 +6,7 @@ use Rattle.nx_tree.specs.Edit.{at}
 use Rattle.nx_weights.specs.Weight.{listed}
 use Rattle.nx_parts.specs.declared.interval.Interval.{Interval}
 use Rattle.nx_parts.specs.declared.bounds.Bound.{Bound}
+use Rattle.nx_parts.specs.Minima.{AreMinima}
 use Rattle.nx_parts.specs.Partitioning.{IsFeasible, root_weight}
 use Rattle.nx_bounds.specs.Claim.{AreSupported}
 
@@ -22,3 +23,7 @@ LowerBound =
     → (number : ℕ) (path : List ℕ) (node : Node) (bound : Bound) (subtree : OrderedTree)
     → slice_get (listed tree) number ≡ Some (path, node) → slice_get bounds number ≡ Some bound → at tree path ≡ Some subtree
     → (parts : List Interval) → IsFeasible k subtree parts → IsTrueOf bound subtree parts
+
+-- The minima of all nodes are supported.
+abbrev pub MinimaAreSupported : Type 0
+MinimaAreSupported = (k : ℕ) (tree : OrderedTree) (bounds : List Bound) → AreMinima k tree bounds → AreSupported k tree bounds

@@ -2,7 +2,7 @@
 ghost use Rattle.std.specs.Prelude.{◌≡◌, ℕ, List, Some};
 ghost use Rattle.nx_parts.specs.declared.plan.Plan.{Plan};
 ghost use Rattle.nx_bounds.specs.declared.text.PlanLine.{PlanLine};
-ghost use Rattle.nx_bounds.specs.Law.{LowerBound};
+ghost use Rattle.nx_bounds.specs.Law.{LowerBound, MinimaAreSupported};
 ghost use Rattle.nx_bounds.specs.PlanText.{HasText, ReadsAs, plan_line, line_text, plan_text};
 ghost use Rattle.nx_bounds.specs.Verdict.{IsSparedRefusals, HasOneRefusal, HasVerdict};
 
@@ -10,6 +10,11 @@ ghost use Rattle.nx_bounds.specs.Verdict.{IsSparedRefusals, HasOneRefusal, HasVe
 /// subtree of that node.
 pub fn lower_bound()
     ensures { LowerBound }
+{}
+
+/// The minima of all nodes are supported.
+pub fn minima()
+    ensures { MinimaAreSupported }
 {}
 
 /// A sound plan has no refusal but want of memory, no plan has two beside it, and a plan that has none

@@ -4,6 +4,7 @@ ghost use Rattle.std.specs.List.{AllByRecursion};
 ghost use Rattle.nx_tree.specs.Forest.{nodes};
 ghost use Rattle.nx_tree.specs.Document.{IsDocument, most_nodes};
 ghost use Rattle.nx_weights.specs.Weight.{IsShort, IsWithinLimits};
+ghost use Rattle.nx_parts.specs.Minima.{AreMinima};
 ghost use Rattle.nx_choices.specs.Claim.{claim, IsSupported, IsFound};
 ghost use Rattle.nx_bounds.specs.Claim.{child, children, claimed, numbers, AreSupported};
 ghost use Rattle.nx_bounds.specs.Refusal.{IsNotSupported};
@@ -30,7 +31,8 @@ struct Scratch {
 ///
 /// Errors: `Length` where there isn't one bound for each node. Else `Unsupported` for the first node in
 /// document order whose bound isn't supported, and the first of its numbers. `Memory` where there is
-/// none for what the check has to keep.
+/// none for what the check has to keep. Bounds that are the minima of their nodes are refused by
+/// nothing else.
 pub fn supported(alloc: Global, tree: &Tree, k: u32, bounds: &Bounds) -> Result<(), BoundsError>
     requires document { IsDocument tree.now }
     requires some { 1 ≤ k }
@@ -38,6 +40,7 @@ pub fn supported(alloc: Global, tree: &Tree, k: u32, bounds: &Bounds) -> Result<
     requires few { length bounds.now < 2 ^ 32 }
     ensures ok { OnOk result (AreSupported k tree.now bounds.now) }
     ensures err { IfErr result (λ error. IsNotSupported k tree.now bounds.now error) }
+    ensures minima { AreMinima k tree.now bounds.now → IfErr result (λ error. error ≡ BoundsError.Memory) }
 {
     let bounds = bounds.as_slice();
     let nodes = count(tree);

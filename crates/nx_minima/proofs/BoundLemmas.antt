@@ -6,7 +6,7 @@ use Rattle.nx_minima.specs.ChoiceLaw.{MinimaAreWithinBounds}
 use Rattle.nx_cuts.proofs.NumberLemmas.{same_drawn}
 use Rattle.nx_minima.proofs.MinimaLemmas.{within}
 
-nodes-joined : (f g : Forest) → nodes (joined f g) ≡ nodes f + nodes g
+pub nodes-joined : (f g : Forest) → nodes (joined f g) ≡ nodes f + nodes g
 nodes-joined Empty g = omega arith
 nodes-joined (Plant n b s) g = omega (arith, nodes-joined s g)
 

@@ -15,10 +15,10 @@ use Rattle.nx_cuts.proofs.NumberLemmas.{length-parts, root_weight-drawn, same_dr
 use Rattle.nx_cuts.proofs.PartitionLemmas.{drawn_feasible}
 
 -- a child as it is drawn
-abbrev piece : Node → CutForest → Child
+abbrev pub piece : Node → CutForest → Child
 piece node below = record { least = 1 + cuts below; lean = weight node + part_weight below; nearly = weight node + part_weight below }
 
-abbrev pieces : CutForest → List Child
+abbrev pub pieces : CutForest → List Child
 pieces Bare = []
 pieces (Grown node below beside) = piece node below ∷ pieces beside
 pieces (Kept mark members beside) = pieces members ++ pieces beside
@@ -108,7 +108,7 @@ split k (Plant n b s) g (bound ∷ bounds) m =
     let r = split k s g bounds m.1 in
     record { first = bound ∷ r.first; last = r.last; both = ap (λ l. bound ∷ l) r.both; of_first = (m.0, r.of_first); of_last = r.of_last }
 
-true_both : (k : ℕ) (xs ys more others : List Child) → AreTrueClaims k xs ys → AreTrueClaims k more others → AreTrueClaims k (xs ++ more) (ys ++ others)
+pub true_both : (k : ℕ) (xs ys more others : List Child) → AreTrueClaims k xs ys → AreTrueClaims k more others → AreTrueClaims k (xs ++ more) (ys ++ others)
 true_both k [] [] more others a b = b
 true_both k [] (y ∷ ys) more others a b = absurd a
 true_both k (x ∷ xs) [] more others a b = absurd a
@@ -124,22 +124,25 @@ true_claims k (Kept u c s) bounds h w m =
     let both = true_both k (seen r.first) (pieces c) (seen r.last) (pieces s) (true_claims k c r.first h.3 h.2 r.of_first) (true_claims k s r.last h.4 w r.of_last) in
     subst (λ l. AreTrueClaims k l (pieces c ++ pieces s)) (sym (ap seen r.both ∙ map-append as_child r.first r.last)) both
 
--- A choice over the minima of the children that has no more intervals than the drawing and leaves no more.
-pub record IsLower (k own most most_left : ℕ) (bounds : List Bound) : Type 0 where
+-- A choice over what is claimed of the children that has no more intervals than the drawing and leaves no more.
+pub record IsLower (k own most most_left : ℕ) (claims : List Child) : Type 0 where
   pub cells : List Cell
-  pub admitted : IsAdmitted k own (seen bounds) cells
+  pub admitted : IsAdmitted k own claims cells
   pub few : count cells ≤ most
   pub little : left cells ≤ most_left
 
-pub lower : (k own : ℕ) (c : CutForest) (bounds : List Bound) → AreParts k c → own + part_weight c ≤ k → AreMinimaOf k (forest c) bounds → IsLower k own (1 + cuts c) (part_weight c) bounds
-lower k own c bounds h heavy m =
+pub lower_claims : (k own : ℕ) (c : CutForest) (claims : List Child) → AreParts k c → own + part_weight c ≤ k → AreTrueClaims k claims (pieces c) → IsLower k own (1 + cuts c) (part_weight c) claims
+lower_claims k own c claims h heavy true =
     let here = level k c h in
-    let t : AreTrueClaims k (seen bounds) (covered (cells_of c)) =
-    subst (AreTrueClaims k (seen bounds)) (sym here.covers) (true_claims k c bounds h (omega arith) m) in
-    let l = lowered_by_claims k (cells_of c) (seen bounds) here.firsts here.light t in
+    let t : AreTrueClaims k claims (covered (cells_of c)) = subst (AreTrueClaims k claims) (sym here.covers) true in
+    let l = lowered_by_claims k (cells_of c) claims here.firsts here.light t in
     record {
       cells = l.lowered;
       admitted = record { covers = l.covers; root = omega (arith, l.leaves, here.leaves, heavy); light = l.light };
-      few = count-lowered k (1 + cuts c) (cells_of c) (seen bounds) t (omega arith) (omega (arith, here.number, ap length here.covers)) l;
+      few = count-lowered k (1 + cuts c) (cells_of c) claims t (omega arith) (omega (arith, here.number, ap length here.covers)) l;
       little = omega (arith, l.leaves, here.leaves);
     }
+
+-- over the minima of the children
+pub lower : (k own : ℕ) (c : CutForest) (bounds : List Bound) → AreParts k c → own + part_weight c ≤ k → AreMinimaOf k (forest c) bounds → IsLower k own (1 + cuts c) (part_weight c) (seen bounds)
+lower k own c bounds h heavy m = lower_claims k own c (seen bounds) h heavy (true_claims k c bounds h (omega arith) m)

@@ -51,9 +51,9 @@ abbrev head_of : Child → List Child → Child
 head_of none [] = none
 head_of none (c ∷ cs) = c
 
-chosen_more : (k : ℕ) (node : Node) (below beside : Forest) (member : Member) (members : List Member) (most most_weight : ℕ)
+chosen_more : {k : ℕ} (node : Node) (below : Forest) {beside : Forest} (member : Member) {members : List Member} {most most_weight : ℕ}
     → ((t : CutTree) → Reaches k most most_weight t → AreReached k (member ∷ []) (t ∷ [])) → IsDrawnSo k most most_weight (record { node = node; below = below }) → AreChosen k beside members → AreChosen k (Plant node below beside) (member ∷ members)
-chosen_more k node below beside member members most most_weight form d c =
+chosen_more node below member form d c =
     record {
       trees = d.drawn ∷ c.trees;
       same = ap (λ (t : OrderedTree). Plant t.node t.below (forest_under c.trees)) d.tree_is ∙ ap (Plant node below) c.same;
@@ -70,12 +70,12 @@ chosen k (Plant node below beside) (bound ∷ bounds) (First c ∷ members) m e 
     let here : as_child bound ≡ c = sym (ap (head_of c) e) in
     let tree : OrderedTree = record { node = node; below = below } in
     let d = subst (λ (x : Child). IsDrawnSo k x.least x.lean tree) here (first_form k tree bound m.0) in
-    chosen_more k node below beside (First c) members c.least c.lean (λ t r. (r, tt)) d (chosen k beside bounds members m.1 (ap (drop 1) e))
+    chosen_more node below (First c) (λ t r. (r, tt)) d (chosen k beside bounds members m.1 (ap (drop 1) e))
 chosen k (Plant node below beside) (bound ∷ bounds) (Second c ∷ members) m e =
     let here : as_child bound ≡ c = sym (ap (head_of c) e) in
     let tree : OrderedTree = record { node = node; below = below } in
     let d = subst (λ (x : Child). IsDrawnSo k (x.least + 1) x.nearly tree) here (second_form k tree bound m.0) in
-    chosen_more k node below beside (Second c) members (c.least + 1) c.nearly (λ t r. (r, tt)) d (chosen k beside bounds members m.1 (ap (drop 1) e))
+    chosen_more node below (Second c) (λ t r. (r, tt)) d (chosen k beside bounds members m.1 (ap (drop 1) e))
 
 -- the forms are those of the children that the choice covers
 pub forms-covered : (cells : List Cell) → map child_of (forms cells) ≡ covered cells
@@ -188,17 +188,15 @@ drawn_lean k bound t m r =
     }
 
 -- what a least value is, is one number
-one_least : {A : Type 0} → (P Q : A → Type 0) (value : A → ℕ) (m n : ℕ) → ((x : A) → P x → Q x) → ((x : A) → Q x → P x) → IsLeast P value m → IsLeast Q value n → m ≡ n
-one_least P Q value m n to back a b = omega (arith, a.reached, b.reached, a.least b.one (back b.one b.holds), b.least a.one (to a.one a.holds))
+one_least : {A : Type 0} {P Q : A → Type 0} {value : A → ℕ} {m n : ℕ} → ((x : A) → P x → Q x) → ((x : A) → Q x → P x) → IsLeast P value m → IsLeast Q value n → m ≡ n
+one_least to back a b = omega (arith, a.reached, b.reached, a.least b.one (back b.one b.holds), b.least a.one (to a.one a.holds))
 
 pub one_minima : MinimaAreOne
 one_minima k tree b c m n =
-    let least : b.least ≡ c.least = one_least (IsFeasible k tree) (IsFeasible k tree) length b.least c.least (λ x p. p) (λ x p. p) m.least n.least in (
+    let least : b.least ≡ c.least = one_least (λ x p. p) (λ x p. p) m.least n.least in (
       least,
-      one_least (λ parts. IsFeasible k tree parts × (length parts ≡ b.least)) (λ parts. IsFeasible k tree parts × (length parts ≡ c.least)) (root_weight tree) b.lean c.lean
-          (λ x p. (p.0, p.1 ∙ least)) (λ x p. (p.0, p.1 ∙ sym least)) m.lean n.lean,
-      one_least (λ parts. IsFeasible k tree parts × (length parts ≤ b.least + 1)) (λ parts. IsFeasible k tree parts × (length parts ≤ c.least + 1)) (root_weight tree) b.nearly c.nearly
-          (λ x p. (p.0, subst (λ i. length x ≤ i + 1) least p.1)) (λ x p. (p.0, subst (λ i. length x ≤ i + 1) (sym least) p.1)) m.nearly n.nearly,
+      one_least (λ x p. (p.0, p.1 ∙ least)) (λ x p. (p.0, p.1 ∙ sym least)) m.lean n.lean,
+      one_least (λ x p. (p.0, subst (λ i. length x ≤ i + 1) least p.1)) (λ x p. (p.0, subst (λ i. length x ≤ i + 1) (sym least) p.1)) m.nearly n.nearly,
     )
 
 -- the root's part weighs at least the root, and at most k

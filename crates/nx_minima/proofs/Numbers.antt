@@ -73,20 +73,20 @@ few-closed [] cells = omega arith
 few-closed (member ∷ members) cells = omega arith
 
 -- a child more in front of the open interval: in its first form, in its second, or as an interval of its own
-extended : (k weight leaving most : ℕ) (claim actual : Child) (claims : List Child) → IsTrueClaim k claim actual → weight ≤ k → Opened k weight leaving most claims →
+extended : {k weight leaving most : ℕ} {claim actual : Child} {claims : List Child} → IsTrueClaim k claim actual → weight ≤ k → Opened k weight leaving most claims →
     (claim.least + 1 < actual.least) ⊎ (actual.least ≤ claim.least + 1) → (claim.least < actual.least) ⊎ (actual.least ≤ claim.least) →
     Opened k (actual.lean + weight) leaving (actual.least + most) (claim ∷ claims)
-extended k weight leaving most claim actual claims true slight o (inl many) some =
+extended {claim = claim} true slight o (inl many) some =
     record {
       front = [];
       behind = Interval (First claim) [] ∷ closed o.front o.behind;
       covers = ap (λ l. claim ∷ l) (covered-closed o.front o.behind ∙ o.covers);
       weighs = omega arith;
-      light = (omega (arith, true.light), light-closed k o.front o.behind (omega (arith, o.weighs, slight)) o.light);
+      light = (omega (arith, true.light), light-closed _ o.front o.behind (omega (arith, o.weighs, slight)) o.light);
       leaves = omega (arith, left-closed o.front o.behind, o.leaves);
       few = omega (arith, few-closed o.front o.behind, o.few, many);
     }
-extended k weight leaving most claim actual claims true slight o (inr few) (inl some) =
+extended {claim = claim} true slight o (inr few) (inl some) =
     record {
       front = Second claim ∷ o.front;
       behind = o.behind;
@@ -96,7 +96,7 @@ extended k weight leaving most claim actual claims true slight o (inr few) (inl 
       leaves = o.leaves;
       few = omega (arith, o.few, some);
     }
-extended k weight leaving most claim actual claims true slight o (inr few) (inr none) =
+extended {claim = claim} true slight o (inr few) (inr none) =
     record {
       front = First claim ∷ o.front;
       behind = o.behind;
@@ -119,7 +119,7 @@ opened k (Second actual ∷ members) cells claims first light true rest = absurd
 opened k (First actual ∷ members) cells [] first light true rest = absurd true
 opened k (First actual ∷ members) cells (claim ∷ claims) first light true rest =
     let o = opened k members cells claims first (omega (arith, light)) true.1 rest in
-    let e = extended k (interval_weight members) (left cells) (numbers_of members + intervals cells + numbers cells) claim actual claims true.0 (omega (arith, light)) o
+    let e = extended true.0 (omega (arith, light)) o
     (cases_lt (claim.least + 1) actual.least) (cases_lt claim.least actual.least) in
     record { front = e.front; behind = e.behind; covers = e.covers; weighs = e.weighs; light = e.light; leaves = e.leaves; few = omega (arith, e.few) }
 
