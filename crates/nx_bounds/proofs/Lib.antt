@@ -10,5 +10,6 @@ pub mod PlanLines
 pub mod OnePlan
 pub mod PlanTexts
 pub mod Pushed
+pub mod GrownLemmas
 pub mod PlanLimits
 pub mod OneText

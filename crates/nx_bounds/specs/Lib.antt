@@ -4,3 +4,4 @@ pub mod Refusal
 pub mod Verdict
 pub mod Walk
 pub mod PlanText
+pub mod PlanWriter

@@ -16,4 +16,4 @@ pub use certify::certified;
 pub use error::BoundsError;
 pub use nx_choices::Field;
 pub use support::supported;
-pub use text::{read_plan, write_plan};
+pub use text::{PlanWriter, read_plan, write_plan};

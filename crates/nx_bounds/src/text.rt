@@ -1,10 +1,12 @@
 // The text of plans.
 mod read;
 mod write;
+mod writer;
 
 use nx_parts::{Bound, Interval};
 pub use read::read_plan;
 pub use write::write_plan;
+pub use writer::PlanWriter;
 
 // A line of a plan.
 #[derive(Drop)]

@@ -3,6 +3,7 @@ ghost use Rattle.std.specs.Prelude.{◌≡◌, ◌≤◌, ◌++◌, ◌∷◌, [
 ghost use Rattle.std.specs.List.{join_with_byte};
 ghost use Rattle.nx_pyx.specs.Field.{greatest_position};
 ghost use Rattle.nx_bounds.specs.declared.text.PlanLine.TheVariants.{Part, Claim};
+ghost use Rattle.nx_bounds.specs.PlanWriter.{HasGrown};
 ghost use Rattle.nx_bounds.specs.PlanText.{IsWritable, ReadsAs, Fits, IntervalFits, interval_fields, line_text, plan_text};
 
 use nx_parts::{Bound, Interval, Plan};
@@ -33,11 +34,11 @@ pub fn write_plan(alloc: Global, plan: &Plan) -> Result<Bytes, NoMemory>
     Ok(text)
 }
 
-// Adds the line of an interval. Each number that it says fits its field.
-fn push_part(text: &mut Bytes, interval: &Interval, weight: u64) -> Result<(), NoMemory>
-    requires { weight ≤ greatest_position }
+// Adds the line of an interval. Each number that it says fits its field, if the weight does.
+pub fn push_part(text: &mut Bytes, interval: &Interval, weight: u64) -> Result<(), NoMemory>
     ensures text { OnOk result (text.new ≡ text.old ++ line_text (Part interval.now weight) ++ 10 ∷ []) }
-    ensures fits { OnOk result (Fits (Part interval.now weight)) }
+    ensures begun { HasGrown text.old text.new }
+    ensures fits { OnOk result (weight ≤ greatest_position → Fits (Part interval.now weight)) }
 {
     push_interval(text, interval)?;
     push_number(text, b" ", weight)?;
@@ -47,6 +48,7 @@ fn push_part(text: &mut Bytes, interval: &Interval, weight: u64) -> Result<(), N
 // Adds the fields of an interval. Each number that they say fits its field.
 fn push_interval(text: &mut Bytes, interval: &Interval) -> Result<(), NoMemory>
     ensures text { OnOk result (text.new ≡ text.old ++ join_with_byte 32 (interval_fields interval.now)) }
+    ensures begun { HasGrown text.old text.new }
     ensures fits { OnOk result (IntervalFits interval.now) }
 {
     match interval {
@@ -62,6 +64,7 @@ fn push_interval(text: &mut Bytes, interval: &Interval) -> Result<(), NoMemory>
 // Adds the fields of an interval of these children. Each number that they say fits its field.
 fn push_run(text: &mut Bytes, parent: &[u32], first: u32, last: u32) -> Result<(), NoMemory>
     ensures text { OnOk result (text.new ≡ text.old ++ join_with_byte 32 (interval_fields (Interval.Run parent.now first last))) }
+    ensures begun { HasGrown text.old text.new }
     ensures fits { OnOk result (IntervalFits (Interval.Run parent.now first last)) }
 {
     text.extend_from_slice(b"run ")?;
@@ -70,11 +73,11 @@ fn push_run(text: &mut Bytes, parent: &[u32], first: u32, last: u32) -> Result<(
     push_number(text, b" ", u64::from(last))
 }
 
-// Adds the line of a node's bound. Each number that it says fits its field.
-fn push_claim(text: &mut Bytes, node: u64, bound: &Bound) -> Result<(), NoMemory>
-    requires { node ≤ greatest_position }
+// Adds the line of a node's bound. Each number that it says fits its field, if the node's does.
+pub fn push_claim(text: &mut Bytes, node: u64, bound: &Bound) -> Result<(), NoMemory>
     ensures text { OnOk result (text.new ≡ text.old ++ line_text (Claim node bound.now) ++ 10 ∷ []) }
-    ensures fits { OnOk result (Fits (Claim node bound.now)) }
+    ensures begun { HasGrown text.old text.new }
+    ensures fits { OnOk result (node ≤ greatest_position → Fits (Claim node bound.now)) }
 {
     let Bound {
         least,

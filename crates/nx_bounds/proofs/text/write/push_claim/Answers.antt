@@ -2,6 +2,7 @@ use Rattle.std.proofs.Common.{◌≡◌, ◌≤◌, ℕ, List, [], ◌∷◌, �
 use Rattle.std.specs.Prelude.{codes, decimal}
 use Rattle.nx_pyx.specs.Field.{greatest_position}
 use Rattle.nx_bounds.proofs.Pushed.{on_ok, word_pushed, field_pushed}
+use Rattle.nx_bounds.proofs.GrownLemmas.{grown_prefix, grown_or_not, grown_then}
 use Rattle.nx_bounds.proofs.text.write.push_claim.Goals as goal
 
 pub returns-clause-text : goal.returns-clause-text
@@ -26,4 +27,28 @@ returns-clause-fits c =
     let least : c.args.bound.now.least ≤ greatest_position = omega arith in
     let lean : c.args.bound.now.lean ≤ greatest_position = omega arith in
     let nearly : c.args.bound.now.nearly ≤ greatest_position = omega arith in
-    on_ok c.push.result (c.requires, least, lean, nearly)
+    on_ok c.push.result (λ node. (node, least, lean, nearly))
+
+pub returns-in_err-push_number-clause-begun : goal.returns-in_err-push_number-clause-begun
+returns-in_err-push_number-clause-begun c = grown_prefix _ _ _ c.push_number.ensures.prefix
+
+pub returns-in_err-push_number-2-clause-begun : goal.returns-in_err-push_number-2-clause-begun
+returns-in_err-push_number-2-clause-begun c =
+    grown_then _ _ _ (grown_prefix _ _ _ c.push_number.ensures.prefix) (grown_prefix _ _ _ c.push_number-2.ensures.prefix)
+
+pub returns-in_err-push_number-3-clause-begun : goal.returns-in_err-push_number-3-clause-begun
+returns-in_err-push_number-3-clause-begun c =
+    grown_then _ _ _ (grown_then _ _ _ (grown_prefix _ _ _ c.push_number.ensures.prefix) (grown_prefix _ _ _ c.push_number-2.ensures.prefix)) (grown_prefix _ _ _ c.push_number-3.ensures.prefix)
+
+pub returns-in_err-push_number-4-clause-begun : goal.returns-in_err-push_number-4-clause-begun
+returns-in_err-push_number-4-clause-begun c =
+    grown_then _ _ _
+    (grown_then _ _ _ (grown_then _ _ _ (grown_prefix _ _ _ c.push_number.ensures.prefix) (grown_prefix _ _ _ c.push_number-2.ensures.prefix)) (grown_prefix _ _ _ c.push_number-3.ensures.prefix))
+    (grown_prefix _ _ _ c.push_number-4.ensures.prefix)
+
+pub returns-clause-begun : goal.returns-clause-begun
+returns-clause-begun c =
+    grown_then _ _ _
+    (grown_then _ _ _
+    (grown_then _ _ _ (grown_then _ _ _ (grown_prefix _ _ _ c.push_number.ensures.prefix) (grown_prefix _ _ _ c.push_number-2.ensures.prefix)) (grown_prefix _ _ _ c.push_number-3.ensures.prefix))
+    (grown_prefix _ _ _ c.push_number-4.ensures.prefix)) (grown_or_not _ _ _ c.push.result c.push.ensures.ok c.push.ensures.err)

@@ -3,6 +3,7 @@ use Rattle.std.specs.Prelude.{codes, decimal}
 use Rattle.nx_pyx.specs.Field.{greatest_position}
 use Rattle.nx_pyx.specs.Path.{path_text}
 use Rattle.nx_bounds.proofs.Pushed.{on_ok, positions_fit, word_pushed, field_pushed}
+use Rattle.nx_bounds.proofs.GrownLemmas.{grown_none, grown_prefix, grown_or_not, grown_then}
 use Rattle.nx_bounds.proofs.text.write.push_run.Goals as goal
 
 pub returns-clause-text : goal.returns-clause-text
@@ -26,3 +27,23 @@ returns-clause-fits c =
     let first : c.args.first ≤ greatest_position = omega arith in
     let last : c.args.last ≤ greatest_position = omega arith in
     on_ok c.push_number-2.result (positions_fit c.args.parent.now c.type_inv.parent, first, last)
+
+pub returns-in_err-extend_from_slice-clause-begun : goal.returns-in_err-extend_from_slice-clause-begun
+returns-in_err-extend_from_slice-clause-begun c = grown_none _ _ c.in_err-extend_from_slice.ensures.err
+
+pub returns-in_err-push_path-clause-begun : goal.returns-in_err-push_path-clause-begun
+returns-in_err-push_path-clause-begun c =
+    grown_then _ _ _ (grown_or_not _ _ _ c.extend_from_slice.result c.extend_from_slice.ensures.ok c.extend_from_slice.ensures.err) (grown_prefix _ _ _ c.push_path.ensures.prefix)
+
+pub returns-in_err-push_number-clause-begun : goal.returns-in_err-push_number-clause-begun
+returns-in_err-push_number-clause-begun c =
+    grown_then _ _ _
+    (grown_then _ _ _ (grown_or_not _ _ _ c.extend_from_slice.result c.extend_from_slice.ensures.ok c.extend_from_slice.ensures.err) (grown_prefix _ _ _ c.push_path.ensures.prefix))
+    (grown_prefix _ _ _ c.push_number.ensures.prefix)
+
+pub returns-clause-begun : goal.returns-clause-begun
+returns-clause-begun c =
+    grown_then _ _ _
+    (grown_then _ _ _
+    (grown_then _ _ _ (grown_or_not _ _ _ c.extend_from_slice.result c.extend_from_slice.ensures.ok c.extend_from_slice.ensures.err) (grown_prefix _ _ _ c.push_path.ensures.prefix))
+    (grown_prefix _ _ _ c.push_number.ensures.prefix)) (grown_prefix _ _ _ c.push_number-2.ensures.prefix)
