@@ -1,5 +1,5 @@
-//! natix's commands over plain trees, without proofs: `tidy`, `run` and `verify` do what natix's do,
-//! and refuse what those refuse. `plan`, which natix doesn't have, makes the plans for `verify`.
+//! natix's commands over plain trees, without proofs: `tidy`, `run`, `plan` and `verify` do what natix's
+//! do, and refuse what those refuse. Of several plans that are as good `plan` may give another one.
 
 mod certificate;
 mod fields;
