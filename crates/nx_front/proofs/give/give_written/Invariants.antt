@@ -1,17 +1,17 @@
 use Rattle.std.proofs.Common.{◌+◌, ◌++◌, length}
 use Rattle.nx_host.specs.Phase.{GivesAlone}
-use Rattle.nx_pyx.specs.Text.{text}
 use Rattle.nx_front.specs.Outcome.{GivesBut}
-use Rattle.nx_front.proofs.give.give_into.Given as goal
+use Rattle.nx_front.proofs.give.give_written.Given as goal
 
 -- the first bytes were given, and the others are in the block or still to be written
 abbrev pub invariant-loop-writer : goal.invariant-loop-writer
 invariant-loop-writer g l =
     let h = g.H.Disk in
+    let all = l.initial.block ++ g.W.Writes.left l.initial.writer in
     record {
-      gave : GivesBut (l.initial.block ++ text l.fn.tree) (l.block ++ l.writer) (h.beside l.initial.host) (h.beside l.host);
-      alone : GivesAlone h (l.initial.block ++ text l.fn.tree) l.initial.host l.host;
+      gave : GivesBut all (l.block ++ g.W.Writes.left l.writer) (h.beside l.initial.host) (h.beside l.host);
+      alone : GivesAlone h all l.initial.host l.host;
     }
 
 abbrev pub decreases-loop-writer : goal.decreases-loop-writer
-decreases-loop-writer g l = length l.block + length l.writer
+decreases-loop-writer g l = length l.block + length (g.W.Writes.left l.writer)
