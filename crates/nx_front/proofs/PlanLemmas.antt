@@ -54,9 +54,12 @@ light_none k tree (own, low) =
     ap (λ (b : Bool). cond b (Some ([], tree.node)) (find (is_heavy k) (listed_in [] 0 tree.below))) (le-ltb k (weight tree.node) own)
     ∙ none_listed k [] 0 tree.below low
 
+none_else : (found : List ℕ × ℕ) → None ≡ Some found → ⊥
+none_else found none = cc
+
 light_not_refused : (k : ℕ) (tree : OrderedTree) (path : List ℕ) (slots : ℕ) → IsAtMost k tree → option_map weighed (first_heavy k tree) ≡ Some (path, slots) → ⊥
 light_not_refused k tree path slots light refused =
-    let none : None ≡ Some (path, slots) = sym (ap (option_map weighed) (light_none k tree light)) ∙ refused in cc
+    none_else (path, slots) (sym (ap (option_map weighed) (light_none k tree light)) ∙ refused)
 
 -- No node of a tree that is feasibly partitioned weighs more than k:
 

@@ -4,8 +4,8 @@ use Rattle.nx_front.specs.Outcome.{GivesBut}
 use Rattle.nx_front.proofs.give.give_written.Given as goal
 
 -- the first bytes were given, and the others are in the block or still to be written
-abbrev pub invariant-loop-writer : goal.invariant-loop-writer
-invariant-loop-writer g l =
+abbrev pub invariant-loop-host : goal.invariant-loop-host
+invariant-loop-host g l =
     let h = g.H.Disk in
     let all = l.initial.block ++ g.W.Writes.left l.initial.writer in
     record {
@@ -13,5 +13,5 @@ invariant-loop-writer g l =
       alone : GivesAlone h all l.initial.host l.host;
     }
 
-abbrev pub decreases-loop-writer : goal.decreases-loop-writer
-decreases-loop-writer g l = length l.block + length (g.W.Writes.left l.writer)
+abbrev pub decreases-loop-host : goal.decreases-loop-host
+decreases-loop-host g l = length l.block + length (g.W.Writes.left l.writer)

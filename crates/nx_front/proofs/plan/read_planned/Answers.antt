@@ -2,10 +2,10 @@ use Rattle.std.proofs.lemmas.Result.{err_from_is_err_and}
 use Rattle.nx_front.proofs.PlanLemmas.{document_stops, plan_read, plan_stops}
 use Rattle.nx_front.proofs.plan.read_planned.Goals as goal
 
-pub returns-in_err-read-clause-reads : goal.returns-in_err-read-clause-reads
-returns-in_err-read-clause-reads g c =
-    let p = err_from_is_err_and c.from_residual-in_err-read.result c.from_residual-in_err-read.ensures.1 in
-    rw (p.1, p.2) (document_stops c.args.k c.in_err-read.field-0.0 (g.H.Disk.beside c.args.host.now) (g.H.Disk.beside c.read.new.host) c.in_err-read.ensures.reads)
+pub returns-in_err-tree-clause-reads : goal.returns-in_err-tree-clause-reads
+returns-in_err-tree-clause-reads g c =
+    let p = err_from_is_err_and c.from_residual-in_err-tree.result c.from_residual-in_err-tree.ensures.1 in
+    rw (p.1, p.2) (document_stops c.args.k c.in_err-tree.field-0.0 (g.H.Disk.beside c.args.host.now) (g.H.Disk.beside c.read.new.host) c.in_err-tree.ensures.reads)
 
 pub plan-requires-clause-document : goal.plan-requires-clause-document
 plan-requires-clause-document g c = let (taken, whole, reads) = c.in_ok-tree.ensures.reads in reads.document
