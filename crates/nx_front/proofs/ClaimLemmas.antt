@@ -17,7 +17,7 @@ use Rattle.nx_script.specs.declared.body.Body.{Body}
 use Rattle.nx_script.specs.BeforeDot.{before_dot, after_dot, shown_before_dot}
 use Rattle.nx_script.specs.Body.{IsWithin, IsEndedBy}
 use Rattle.nx_script.proofs.BeforeDot.{after_in-none, shown_before}
-use Rattle.nx_front.specs.declared.refusal.Refusal.TheVariants.{Pyx, Bounds}
+use Rattle.nx_front.specs.declared.refusal.Refusal.TheVariants.{Pyx, TooHeavy, Bounds}
 use Rattle.nx_front.specs.declared.stop.Stop.{Stop}
 use Rattle.nx_front.specs.declared.stop.Stop.TheVariants.{Refused, ReadFault, TooMuch, NoMemory}
 use Rattle.nx_front.specs.Outcome.{EndsWhole, StopsBy}
@@ -88,6 +88,7 @@ document_dotted body behind s tree dot reads =
 pub faulty_dotted : (body : Body) (behind s : List ℕ) (stop : Stop) → HasDot body behind s → ((t : List ℕ) → IsEndedBy body t → (more : List ℕ) → StopsWhole stop (t ++ more)) → StopsAt ShowsClaim stop s
 faulty_dotted body behind s (Refused (Pyx error)) dot faulty = λ more.
     ap (λ (l : List ℕ). fault_of (before_dot l)) (ap (λ (l : List ℕ). l ++ more) dot.parts ∙ append_assoc dot.front behind more) ∙ faulty dot.front dot.ended (behind ++ more)
+faulty_dotted body behind s (Refused (TooHeavy path slots)) dot faulty = absurd (faulty dot.front dot.ended [])
 faulty_dotted body behind s (Refused (Bounds error)) dot faulty = absurd (faulty dot.front dot.ended [])
 faulty_dotted body behind s ReadFault dot faulty = absurd (faulty dot.front dot.ended [])
 faulty_dotted body behind s TooMuch dot faulty = absurd (faulty dot.front dot.ended [])
@@ -121,6 +122,7 @@ document_claimed tree plan s document = record {
 pub whole_stops : (k : ℕ) (stop : Stop) (taken : List ℕ) (old new : Beside) → EndsWhole taken old.input new.input → StopsWhole stop taken → StopsBy (verify k) stop old new
 whole_stops k (Refused (Pyx error)) taken old new whole is =
     (taken, record { takes = whole.takes; few = (let few : length taken < most_input = whole.few in omega arith); refused = inr (whole.end, whole.few, is) })
+whole_stops k (Refused (TooHeavy path slots)) taken old new whole is = absurd is
 whole_stops k (Refused (Bounds error)) taken old new whole is = absurd is
 whole_stops k ReadFault taken old new whole is = absurd is
 whole_stops k TooMuch taken old new whole is = absurd is

@@ -2,6 +2,7 @@ pub mod OutcomeLemmas
 pub mod GiveLemmas
 pub mod ConsumerLemmas
 pub mod TidyLemmas
+pub mod PlanLemmas
 pub mod ClaimLemmas
 pub mod VerifyLemmas
 pub mod SessionLemmas

@@ -25,7 +25,7 @@ use Rattle.nx_front.specs.declared.give.Halt.{Halt}
 use Rattle.nx_front.specs.declared.give.Halt.TheVariants as halt
 use Rattle.nx_front.specs.declared.refusal.Refusal.{Refusal}
 use Rattle.nx_front.specs.Stop.{status_of_script, status_of_halt}
-use Rattle.nx_front.specs.Outcome.{Gives, FailsGiving, Given, GivesBut, IsDue, Ends, HasToldOutcome, RunsBeside, HoldsTogether}
+use Rattle.nx_front.specs.Outcome.{Gives, FailsGiving, Given, GivesBut, IsDue, Ends, HasToldOutcome, RunsBeside, HoldsTogether, HasOneText}
 use Rattle.nx_front.specs.Session.{texts_from, texts, AreFirst, script_run, HasAnswered, HasStopped, IsAnswered}
 use Rattle.nx_front.proofs.GiveLemmas.{given_nothing, gave_rest, alone_rest}
 use Rattle.nx_front.proofs.OutcomeLemmas.{rose_since, gives_appends, gives_more, gives_all_front, given_front as front_given, given_then, fails_more, told_answer, told_nothing, runs_by}
@@ -57,10 +57,12 @@ texts_from-more documents commands c =
 pub script_together : HoldsTogether script_run
 script_together = record {
   stays = λ taken more refusal shows. shows;
-  one_answer = λ input first second says says'. let one = one_list input in ap texts (one.only first says ∙ sym (one.only second says'));
   one_refusal = λ input first second refused refused'. absurd refused;
   one_outcome = λ input answer refusal says refused. refused;
 }
+
+pub script_once : HasOneText script_run
+script_once input first second says says' = let one = one_list input in ap texts (one.only first says ∙ sym (one.only second says'))
 
 -- what is told no longer is behind what was given
 front_then_keeps : (bytes : List ℕ) (a b c : Option (List ℕ)) → Appends bytes a b → Keeps b c → AppendsFront bytes a c

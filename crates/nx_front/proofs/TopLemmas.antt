@@ -7,14 +7,16 @@ use Rattle.nx_host.proofs.OutputLemmas.{takes_nothing}
 use Rattle.nx_front.specs.declared.status.Status.{Status}
 use Rattle.nx_front.specs.declared.status.Status.TheVariants.{Done, Usage, Refused, ReadFault, WriteFault, NoMemory, TooMuch}
 use Rattle.nx_front.specs.declared.words.CommandLine.{CommandLine}
-use Rattle.nx_front.specs.declared.words.CommandLine.TheVariants.{Tidy, Run, Verify}
+use Rattle.nx_front.specs.declared.words.CommandLine.TheVariants.{Tidy, Run, Plan, Verify}
 use Rattle.nx_front.specs.Outcome.{TakesFew, CountsGrow, IsUndisturbed, Completes, HoldsTogether}
-use Rattle.nx_front.specs.Run.{meaning, IsCarriedOut}
+use Rattle.nx_front.specs.Run.{meaning, Agrees, IsCarriedOut}
+use Rattle.nx_front.specs.Plan.{IsLightInput, plan}
 use Rattle.nx_front.specs.Verify.{IsSoundInput, verify}
 use Rattle.nx_front.proofs.OutcomeLemmas.{completes}
-use Rattle.nx_front.proofs.TidyLemmas.{tidy_together}
-use Rattle.nx_front.proofs.SessionLemmas.{script_together}
-use Rattle.nx_front.proofs.VerifyLemmas.{verify_together, excludes}
+use Rattle.nx_front.proofs.TidyLemmas.{tidy_together, tidy_once}
+use Rattle.nx_front.proofs.SessionLemmas.{script_together, script_once}
+use Rattle.nx_front.proofs.PlanLemmas.{plan_together, equal_plans, light_excludes}
+use Rattle.nx_front.proofs.VerifyLemmas.{verify_together, verify_once, excludes}
 
 module _ {D : Type 0} (d : Ghosts D) (a b : D) where
   -- the same command line
@@ -26,12 +28,14 @@ module _ {D : Type 0} (d : Ghosts D) (a b : D) where
       Completes (meaning line) input status
   carried_completes Tidy status input carried calm = completes tidy_together carried.run.outcome status input (d.beside a) (d.beside b) carried.run.ends calm
   carried_completes Run status input carried calm = completes script_together carried.run.outcome status input (d.beside a) (d.beside b) carried.run.ends calm
+  carried_completes (Plan k) status input carried calm = completes (plan_together k) carried.run.outcome status input (d.beside a) (d.beside b) carried.run.ends calm
   carried_completes (Verify k) status input carried calm = completes (verify_together k) carried.run.outcome status input (d.beside a) (d.beside b) carried.run.ends calm
 
   -- a command line isn't answered by how it is to be written
   pub carried_usage : (line : CommandLine) → IsCarriedOut d line Usage a b → ⊥
   carried_usage Tidy carried = carried.run.ends
   carried_usage Run carried = carried.run.ends
+  carried_usage (Plan k) carried = carried.run.ends
   carried_usage (Verify k) carried = carried.run.ends
 
   -- nor does such a line end so
@@ -40,6 +44,16 @@ module _ {D : Type 0} (d : Ghosts D) (a b : D) where
     λ usage. absurd (carried_usage line (subst (λ (s : Status). IsCarriedOut d line s a b) usage carried)),
     λ none. absurd (let no_line : None ≡ Some line = sym none ∙ is in cc),
   )
+
+-- a document without a heavy node is planned
+pub completes_light : (k : ℕ) (input : List ℕ) (status : Status) → Completes (plan k) input status → IsLightInput k input → (status ≡ Done) ⊎ (status ≡ NoMemory)
+completes_light k input Done complete light = inl refl
+completes_light k input NoMemory complete light = inr refl
+completes_light k input Refused ((refusal, refused), none) light = absurd (light_excludes k input refusal light refused)
+completes_light k input Usage complete light = absurd complete
+completes_light k input ReadFault complete light = absurd complete
+completes_light k input WriteFault complete light = absurd complete
+completes_light k input TooMuch complete light = absurd complete
 
 -- a sound plan is certified
 pub completes_sound : (k : ℕ) (input : List ℕ) (status : Status) → Completes (verify k) input status → IsSoundInput k input → (status ≡ Done) ⊎ (status ≡ NoMemory)
@@ -63,4 +77,12 @@ counts_same beside = record { read = omega arith; written = omega arith }
 pub together : (line : CommandLine) → HoldsTogether (meaning line)
 together Tidy = tidy_together
 together Run = script_together
+together (Plan k) = plan_together k
 together (Verify k) = verify_together k
+
+-- how the answers of each input go together
+pub agrees : (line : CommandLine) → Agrees line
+agrees Tidy = tidy_once
+agrees Run = script_once
+agrees (Plan k) = equal_plans k
+agrees (Verify k) = verify_once k

@@ -21,10 +21,10 @@ use Rattle.nx_bounds.specs.PlanText.{plan_line, part_line, bound_lines, lines_of
 use Rattle.nx_bounds.proofs.OnePlan.{same_plan, sound}
 use Rattle.nx_bounds.proofs.VerdictLemmas.{spared, one_refusal}
 use Rattle.nx_front.specs.declared.refusal.Refusal.{Refusal}
-use Rattle.nx_front.specs.declared.refusal.Refusal.TheVariants.{Pyx, Bounds}
+use Rattle.nx_front.specs.declared.refusal.Refusal.TheVariants.{Pyx, TooHeavy, Bounds}
 use Rattle.nx_front.specs.Claimed.{IsClaimed}
 use Rattle.nx_front.specs.Stop.{stop_of_bounds}
-use Rattle.nx_front.specs.Outcome.{HoldsTogether, EndsWhole, EndsRefused, StopsBy, ReadsTo}
+use Rattle.nx_front.specs.Outcome.{HoldsTogether, HasOneText, EndsWhole, EndsRefused, StopsBy, ReadsTo}
 use Rattle.nx_host.specs.Disk.{Beside}
 use Rattle.nx_front.specs.Verify.{certified_line, IsCertifiedText, IsRefusedText, IsCertifiedInput, IsSoundInput, IsRefusedInput, JudgesText, AreFew, verify}
 
@@ -119,6 +119,7 @@ text_excludes k tree text plan (Count a b) says sound_plan refused = refuses_not
 
 pub excludes : (k : ℕ) (input : List ℕ) (refusal : Refusal) → IsSoundInput k input → IsRefusedInput k input refusal → ⊥
 excludes k input (Pyx error) sound_input is = let none : None ≡ Some error = sym (no_fault (before_dot input) sound_input.tree sound_input.reads) ∙ is in cc
+excludes k input (TooHeavy path slots) sound_input refused = refused
 excludes k input (Bounds error) sound_input (tree, reads, refused) =
     text_excludes k sound_input.tree (after_dot input) sound_input.plan error sound_input.says sound_input.sound
     (subst (λ (t : OrderedTree). IsRefusedText k t (after_dot input) error) (one_reading (before_dot input) tree sound_input.tree reads sound_input.reads) refused)
@@ -171,6 +172,9 @@ one_text k tree text first second (inr (some, refused)) (inr (some', refused')) 
 -- an input has one refusal
 one_refused : (k : ℕ) (input : List ℕ) (first second : Refusal) → IsRefusedInput k input first → IsRefusedInput k input second → first ≡ second
 one_refused k input (Pyx e) (Pyx f) is is' = let same : Some e ≡ Some f = sym is ∙ is' in ap (λ (x : PyxError). Pyx x) (cc same)
+one_refused k input (TooHeavy path slots) second refused refused' = absurd refused
+one_refused k input (Pyx e) (TooHeavy path slots) is refused = absurd refused
+one_refused k input (Bounds e) (TooHeavy path slots) is refused = absurd refused
 one_refused k input (Pyx e) (Bounds f) is (tree, reads, refused) = absurd (let none : None ≡ Some e = sym (no_fault (before_dot input) tree reads) ∙ is in cc)
 one_refused k input (Bounds e) (Pyx f) (tree, reads, refused) is = absurd (let none : None ≡ Some f = sym (no_fault (before_dot input) tree reads) ∙ is in cc)
 one_refused k input (Bounds e) (Bounds f) (tree, reads, refused) (other, reads', refused') =
@@ -180,15 +184,18 @@ one_refused k input (Bounds e) (Bounds f) (tree, reads, refused) (other, reads',
 
 shown_stays : (k : ℕ) (taken more : List ℕ) (refusal : Refusal) → (verify k).shows taken (Err refusal) → (verify k).refuses (taken ++ more) refusal
 shown_stays k taken more (Pyx error) shows = shows more
+shown_stays k taken more (TooHeavy path slots) shows = absurd shows
 shown_stays k taken more (Bounds error) shows = absurd shows
 
 pub verify_together : (k : ℕ) → HoldsTogether (verify k)
 verify_together k = record {
   stays = shown_stays k;
-  one_answer = λ input first second says says'. ap certified_line (one_certified k input first second says says');
   one_refusal = one_refused k;
   one_outcome = λ input answer refusal says refused. excludes k input refusal (sound_input k input answer says) refused;
 }
+
+pub verify_once : (k : ℕ) → HasOneText (verify k)
+verify_once k input first second says says' = ap certified_line (one_certified k input first second says says')
 
 -- What is read of an input:
 

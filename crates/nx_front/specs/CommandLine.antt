@@ -3,7 +3,7 @@ use Rattle.std.specs.Prelude.{ℕ, ◌≤◌, Bool, false, not, ◌&&◌, ◌==�
 use Rattle.std.specs.Str.{bytes_eq}
 use Rattle.nx_pyx.specs.Field.{is_position, value_of}
 use Rattle.nx_front.specs.declared.words.CommandLine.{CommandLine}
-use Rattle.nx_front.specs.declared.words.CommandLine.TheVariants.{Tidy, Run, Verify}
+use Rattle.nx_front.specs.declared.words.CommandLine.TheVariants.{Tidy, Run, Plan, Verify}
 
 -- a word that may name a store: it isn't empty, and doesn't begin with a hyphen
 abbrev pub is_store : List ℕ → Bool
@@ -21,10 +21,12 @@ command_of_two store command =
     else if bytes_eq store (codes "_") && bytes_eq command (codes "run") then Some Run
     else None
 
--- a store and `verify`, whatever the store, and what a part weighs at most
+-- a store and `plan` or `verify`, whatever the store, and what a part weighs at most
 abbrev pub command_of_three : List ℕ → List ℕ → List ℕ → Option CommandLine
 command_of_three store command limit =
-    if is_store store && bytes_eq command (codes "verify") && is_weight_limit limit then Some (Verify (value_of limit)) else None
+    if is_store store && bytes_eq command (codes "plan") && is_weight_limit limit then Some (Plan (value_of limit))
+    else if is_store store && bytes_eq command (codes "verify") && is_weight_limit limit then Some (Verify (value_of limit))
+    else None
 
 abbrev pub command_line : List (List ℕ) → Option CommandLine
 command_line (store ∷ command ∷ []) = command_of_two store command
@@ -33,5 +35,6 @@ command_line _ = None
 
 -- the weight that a command line has parts weigh at most is from 1 to 256
 abbrev pub IsLimited : CommandLine → Type 0
+IsLimited (Plan k) = (1 ≤ k) × (k ≤ 256)
 IsLimited (Verify k) = (1 ≤ k) × (k ≤ 256)
 IsLimited _ = Unit {0}

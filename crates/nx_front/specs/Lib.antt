@@ -6,5 +6,6 @@ pub mod Consumer
 pub mod Tidy
 pub mod Session
 pub mod Claimed
+pub mod Plan
 pub mod Verify
 pub mod Run

@@ -200,9 +200,12 @@ Completes m input Refused = ((refusal : Refusal) × m.refuses input refusal) × 
 Completes m input NoMemory = Unit {0}
 Completes m input _ = ⊥
 
--- What is said of an input holds together: what bytes show stays, whatever comes behind them, and there is one answer or one refusal.
+-- What is said of an input holds together: what bytes show stays, whatever comes behind them, and there are answers or there is one refusal.
 pub record HoldsTogether (m : Meaning) : Type 0 where
   pub stays : (taken more : List ℕ) (refusal : Refusal) → m.shows taken (Err refusal) → m.refuses (taken ++ more) refusal
-  pub one_answer : (input : List ℕ) (first second : m.Answer) → m.says input first → m.says input second → m.text_of first ≡ m.text_of second
   pub one_refusal : (input : List ℕ) (first second : Refusal) → m.refuses input first → m.refuses input second → first ≡ second
   pub one_outcome : (input : List ℕ) (answer : m.Answer) (refusal : Refusal) → m.says input answer → m.refuses input refusal → ⊥
+
+-- an input has one answer, as far as its text goes
+abbrev pub HasOneText : Meaning → Type 0
+HasOneText m = (input : List ℕ) (first second : m.Answer) → m.says input first → m.says input second → m.text_of first ≡ m.text_of second

@@ -1,6 +1,8 @@
 -- The line that refuses an input.
 use Rattle.std.specs.Prelude.{ℕ, List, [], ◌∷◌, ◌++◌, codes, decimal}
+use Rattle.nx_pyx.specs.Path.{path_text}
 use Rattle.nx_pyx.specs.Word.{word_of}
+use Rattle.nx_pyx.specs.declared.error.PyxError.{PyxError}
 use Rattle.nx_parts.specs.declared.error.PartsError.{PartsError}
 use Rattle.nx_parts.specs.declared.error.PartsError.TheVariants.{OutOfTree, Overlap, NoRoot, Heavy}
 use Rattle.nx_parts.specs.declared.error.PartsError.TheVariants as parts_error
@@ -9,7 +11,7 @@ use Rattle.nx_choices.specs.declared.child.Field.TheVariants.{Least, Lean, Nearl
 use Rattle.nx_bounds.specs.declared.error.BoundsError.{BoundsError}
 use Rattle.nx_bounds.specs.declared.error.BoundsError.TheVariants.{Parts, WrongWeight, Length, Unsupported, Count, BadPlanLine, Memory}
 use Rattle.nx_front.specs.declared.refusal.Refusal.{Refusal}
-use Rattle.nx_front.specs.declared.refusal.Refusal.TheVariants.{Pyx, Bounds}
+use Rattle.nx_front.specs.declared.refusal.Refusal.TheVariants.{Pyx, TooHeavy, Bounds}
 
 -- fields with a space between each two, and an LF behind the last
 abbrev pub line_of : List (List ℕ) → List ℕ
@@ -40,6 +42,13 @@ bounds_line (Count intervals bound) = line_of (codes "refused" ∷ codes "count"
 bounds_line (BadPlanLine line) = line_of (codes "refused" ∷ codes "plan-line" ∷ decimal line ∷ [])
 bounds_line Memory = []
 
+abbrev pub fault_line : PyxError → List ℕ
+fault_line error = line_of (codes "refused" ∷ codes "pyx" ∷ decimal error.line ∷ word_of error.fault ∷ [])
+
+abbrev pub heavy_line : List ℕ → ℕ → List ℕ
+heavy_line path slots = line_of (codes "refused" ∷ codes "too-heavy" ∷ path_text path ∷ decimal slots ∷ [])
+
 abbrev pub refusal_line : Refusal → List ℕ
-refusal_line (Pyx error) = line_of (codes "refused" ∷ codes "pyx" ∷ decimal error.line ∷ word_of error.fault ∷ [])
+refusal_line (Pyx error) = fault_line error
+refusal_line (TooHeavy path slots) = heavy_line path slots
 refusal_line (Bounds error) = bounds_line error

@@ -5,7 +5,7 @@ use Rattle.nx_pyx.specs.Fault.{shown_fault, fault_of}
 use Rattle.nx_pyx.specs.Reading.{Reads}
 use Rattle.nx_pyx.specs.Text.{text}
 use Rattle.nx_front.specs.declared.refusal.Refusal.{Refusal}
-use Rattle.nx_front.specs.declared.refusal.Refusal.TheVariants.{Pyx, Bounds}
+use Rattle.nx_front.specs.declared.refusal.Refusal.TheVariants.{Pyx, TooHeavy, Bounds}
 use Rattle.nx_front.specs.declared.stop.Stop.{Stop}
 use Rattle.nx_front.specs.declared.stop.Stop.TheVariants.{Refused, NoMemory}
 use Rattle.nx_front.specs.Outcome.{Meaning}
@@ -13,12 +13,14 @@ use Rattle.nx_front.specs.Outcome.{Meaning}
 -- the input has this fault
 abbrev pub RefusesDocument : List ℕ → Refusal → Type 0
 RefusesDocument input (Pyx error) = fault_of input ≡ Some error
+RefusesDocument input (TooHeavy path slots) = ⊥
 RefusesDocument input (Bounds error) = ⊥
 
 -- the bytes so far show this fault, or none, and nothing is given
 abbrev pub ShowsDocument : List ℕ → Result (List ℕ) Refusal → Type 0
 ShowsDocument taken (Ok shown) = (shown ≡ []) × (shown_fault taken ≡ None)
 ShowsDocument taken (Err (Pyx error)) = shown_fault taken ≡ Some error
+ShowsDocument taken (Err (TooHeavy path slots)) = ⊥
 ShowsDocument taken (Err (Bounds error)) = ⊥
 
 -- the document that the input says, in its canonical text

@@ -12,7 +12,7 @@ use Rattle.nx_bounds.specs.declared.error.BoundsError.TheVariants.{BadPlanLine, 
 use Rattle.nx_bounds.specs.Refusal.{IsSound, IsCertified, IsNotCertified}
 use Rattle.nx_bounds.specs.PlanText.{ReadsAs, IsNoPlan}
 use Rattle.nx_front.specs.declared.refusal.Refusal.{Refusal}
-use Rattle.nx_front.specs.declared.refusal.Refusal.TheVariants.{Pyx, Bounds}
+use Rattle.nx_front.specs.declared.refusal.Refusal.TheVariants.{Pyx, TooHeavy, Bounds}
 use Rattle.nx_front.specs.Refusal.{line_of}
 use Rattle.nx_front.specs.Outcome.{Meaning}
 
@@ -50,6 +50,7 @@ pub record IsSoundInput (k : ℕ) (input : List ℕ) : Type 0 where
 -- why the input is refused: by its document first, then by its plan
 abbrev pub IsRefusedInput : ℕ → List ℕ → Refusal → Type 0
 IsRefusedInput k input (Pyx error) = fault_of (before_dot input) ≡ Some error
+IsRefusedInput k input (TooHeavy path slots) = ⊥
 IsRefusedInput k input (Bounds error) = (tree : OrderedTree) × Reads (before_dot input) tree × IsRefusedText k tree (after_dot input) error
 
 -- what is said of the text as that of a plan for the tree
@@ -68,6 +69,7 @@ pub record AreFew (plan : Plan) : Type 0 where
 abbrev pub ShowsClaim : List ℕ → Result (List ℕ) Refusal → Type 0
 ShowsClaim taken (Ok shown) = (shown ≡ []) × (shown_before_dot taken ≡ None) × (has_dot (ended_lines taken) ≡ true → fault_of (before_dot taken) ≡ None)
 ShowsClaim taken (Err (Pyx error)) = (more : List ℕ) → fault_of (before_dot (taken ++ more)) ≡ Some error
+ShowsClaim taken (Err (TooHeavy path slots)) = ⊥
 ShowsClaim taken (Err (Bounds error)) = ⊥
 
 -- the plan's number of intervals, where it is certified for the document

@@ -1,7 +1,8 @@
 // The second phase: the output is given.
-ghost use Rattle.std.specs.Prelude.{◌≡◌, ℕ, List, [], ◌++◌, OnOk, IfOk, string_bytes};
+ghost use Rattle.std.specs.Prelude.{◌≡◌, ◌≤◌, ℕ, List, [], ◌++◌, length, true, false, Ok, OnOk, IfOk, string_bytes};
 ghost use Rattle.nx_host.specs.Phase.{GivesAlone};
 ghost use Rattle.nx_pyx.specs.Text.{text};
+ghost use Rattle.nx_bounds.specs.PlanText.{plan_text};
 ghost use Rattle.nx_front.specs.Refusal.{refusal_line};
 ghost use Rattle.nx_front.specs.Verify.{certified_line};
 ghost use Rattle.nx_front.specs.Outcome.{Given, GivenBut, EndsAfter, line_after, status_after};
@@ -10,7 +11,9 @@ ghost use Rattle.nx_front.specs.declared.give.Halt.TheVariants.{NoMemory, WriteF
 use crate::Status;
 use crate::refusal::{Refusal, refusal_line};
 use crate::stop::Stop;
+use nx_bounds::PlanWriter;
 use nx_host::{Disk, Failed, Host};
+use nx_parts::Plan;
 use nx_pyx::Writer;
 use nx_tree::{Bytes, Tree};
 use std::alloc::{AllocError, Global};
@@ -71,6 +74,60 @@ pub fn give_block<H: Host>(host: &mut H, block: &mut Bytes) -> Result<(), Halt>
     Ok(())
 }
 
+// What writes a text block by block.
+pub trait Writes {
+    // The bytes that are still to come.
+    ghost left: { Self → List ℕ };
+
+    // Adds bytes to the block until it has at least `enough`, or there are no more.
+    fn fill_block(&mut self, block: &mut Bytes, enough: usize) -> Result<bool, nx_tree::NoMemory>
+        ensures text { block.new ++ left self.new ≡ block.old ++ left self.old }
+        ensures more { result ≡ Ok true → enough ≤ length block.new }
+        ensures end { result ≡ Ok false → left self.new ≡ [] };
+}
+
+impl Writes for Writer<'_> {
+    ghost left = { λ text. text };
+
+    fn fill_block(&mut self, block: &mut Bytes, enough: usize) -> Result<bool, nx_tree::NoMemory> {
+        self.fill(block, enough)
+    }
+}
+
+impl Writes for PlanWriter<'_> {
+    ghost left = { λ text. text };
+
+    fn fill_block(&mut self, block: &mut Bytes, enough: usize) -> Result<bool, nx_tree::NoMemory> {
+        self.fill(block, enough)
+    }
+}
+
+// Gives what the block has and what is written behind it, but for a last part, which is left in the
+// block.
+fn give_written<H: Host, W: Writes>(
+    host: &mut H,
+    block: &mut Bytes,
+    writer: &mut W,
+) -> Result<(), Halt>
+    ensures given { GivenBut (block.old ++ W.left writer.old) block.new result (H.beside host.old) (H.beside host.new) }
+    ensures alone { GivesAlone ⟦<H as Disk>⟧ (block.old ++ W.left writer.old) host.old host.new }
+{
+    while writer.fill_block(block, BLOCK)? {
+        give_block(host, block)?;
+    }
+    Ok(())
+}
+
+// Gives what is written.
+fn give_all<H: Host, W: Writes>(alloc: Global, host: &mut H, writer: &mut W) -> Result<(), Halt>
+    ensures given { Given (W.left writer.old) result (H.beside host.old) (H.beside host.new) }
+    ensures alone { GivesAlone ⟦<H as Disk>⟧ (W.left writer.old) host.old host.new }
+{
+    let mut block = Bytes::new(alloc);
+    give_written(host, &mut block, writer)?;
+    give_block(host, &mut block)
+}
+
 // Gives what the block has and the canonical text of the document behind it, but for a last part,
 // which is left in the block.
 pub fn give_into<H: Host>(
@@ -83,10 +140,7 @@ pub fn give_into<H: Host>(
     ensures alone { GivesAlone ⟦<H as Disk>⟧ (block.old ++ text tree.now) host.old host.new }
 {
     let mut writer = Writer::new(alloc, tree)?;
-    while writer.fill(block, BLOCK)? {
-        give_block(host, block)?;
-    }
-    Ok(())
+    give_written(host, block, &mut writer)
 }
 
 // Gives the canonical text of the document.
@@ -94,9 +148,17 @@ pub fn give_text<H: Host>(alloc: Global, host: &mut H, tree: &Tree) -> Result<()
     ensures given { Given (text tree.now) result (H.beside host.old) (H.beside host.new) }
     ensures alone { GivesAlone ⟦<H as Disk>⟧ (text tree.now) host.old host.new }
 {
-    let mut block = Bytes::new(alloc);
-    give_into(alloc, host, &mut block, tree)?;
-    give_block(host, &mut block)
+    let mut writer = Writer::new(alloc, tree)?;
+    give_all(alloc, host, &mut writer)
+}
+
+// Gives the text of the plan.
+pub fn give_plan<H: Host>(alloc: Global, host: &mut H, plan: &Plan) -> Result<(), Halt>
+    ensures given { Given (plan_text plan.now) result (H.beside host.old) (H.beside host.new) }
+    ensures alone { GivesAlone ⟦<H as Disk>⟧ (plan_text plan.now) host.old host.new }
+{
+    let mut writer = PlanWriter::new(plan);
+    give_all(alloc, host, &mut writer)
 }
 
 // Gives the line that refuses the input.
@@ -105,7 +167,7 @@ fn give_refusal<H: Host>(alloc: Global, host: &mut H, refusal: Refusal) -> Resul
     ensures alone { GivesAlone ⟦<H as Disk>⟧ (refusal_line refusal) host.old host.new }
 {
     let line = refusal_line(alloc, refusal)?;
-    give(host, line.as_bytes())
+    give(host, line.as_slice())
 }
 
 // Gives the line for a plan of so many intervals that is certified.

@@ -5,6 +5,7 @@ mod claimed;
 mod consumer;
 mod give;
 pub mod laws;
+mod plan;
 mod read;
 mod refusal;
 mod session;

@@ -1,33 +1,53 @@
 // The line that refuses an input.
 ghost use Rattle.std.specs.Prelude.{◌≡◌, IfOk, string_bytes};
-ghost use Rattle.nx_front.specs.Refusal.{field_word, parts_line, bounds_line, refusal_line};
+ghost use Rattle.nx_front.specs.Refusal.{field_word, parts_line, bounds_line, fault_line, heavy_line, refusal_line};
 
 use nx_bounds::{BoundsError, Field};
 use nx_parts::PartsError;
-use nx_pyx::PyxError;
+use nx_pyx::{PyxError, push_number, push_path};
+use nx_tree::{Bytes, NoMemory, Path};
 use std::alloc::{AllocError, Global};
 
 // Why an input is refused.
-#[derive(Clone, Copy)]
+#[derive(Drop)]
 pub enum Refusal {
     // It says no document.
     Pyx(PyxError),
+    // A node of its document alone weighs more than a part may, the first one in document order.
+    TooHeavy { path: Path, weight: u32 },
     // What it says of a document isn't certified, or is no plan.
     Bounds(BoundsError),
 }
 
 // The line that says why the input is refused. It is empty for want of memory, which is no refusal.
-pub fn refusal_line(alloc: Global, refusal: Refusal) -> Result<String, AllocError>
-    ensures { IfOk result (λ line. string_bytes line ≡ refusal_line refusal) }
+pub fn refusal_line(alloc: Global, refusal: Refusal) -> Result<Bytes, NoMemory>
+    ensures { IfOk result (λ line. line ≡ refusal_line refusal) }
 {
     match refusal {
-        Refusal::Pyx(error) => {
-            let line = error.line;
-            let word = error.fault.word();
-            format!(in alloc; "refused pyx {line} {word}\n")
-        }
-        Refusal::Bounds(error) => bounds_line(alloc, error),
+        Refusal::Pyx(error) => Ok(Bytes::from_vec(fault_line(alloc, error)?.into_bytes())),
+        Refusal::TooHeavy { path, weight } => heavy_line(alloc, &path, weight),
+        Refusal::Bounds(error) => Ok(Bytes::from_vec(bounds_line(alloc, error)?.into_bytes())),
     }
+}
+
+// The line for a fault of the document.
+fn fault_line(alloc: Global, error: PyxError) -> Result<String, AllocError>
+    ensures { IfOk result (λ line. string_bytes line ≡ fault_line error) }
+{
+    let line = error.line;
+    let word = error.fault.word();
+    format!(in alloc; "refused pyx {line} {word}\n")
+}
+
+// The line for a node that weighs more than a part may.
+fn heavy_line(alloc: Global, path: &Path, weight: u32) -> Result<Bytes, NoMemory>
+    ensures { IfOk result (λ line. line ≡ heavy_line path.now weight) }
+{
+    let mut line = Bytes::from_slice(alloc, b"refused too-heavy ")?;
+    push_path(&mut line, path.as_slice())?;
+    push_number(&mut line, b" ", u64::from(weight))?;
+    line.push(b'\n')?;
+    Ok(line)
 }
 
 fn bounds_line(alloc: Global, error: BoundsError) -> Result<String, AllocError>

@@ -1,16 +1,17 @@
 // Why an input gave no answer.
 ghost use Rattle.std.specs.Prelude.{◌≡◌};
-ghost use Rattle.nx_front.specs.Stop.{stop_of, stop_of_input, stop_of_bounds};
+ghost use Rattle.nx_front.specs.Stop.{stop_of, stop_of_plan, stop_of_input, stop_of_bounds};
 ghost use Rattle.nx_front.specs.declared.stop.Stop.TheVariants.{NoMemory};
 
 use crate::refusal::Refusal;
 use nx_bounds::BoundsError;
 use nx_host::InputError;
+use nx_partition::PlanError;
 use nx_pyx::ReadError;
 use std::alloc::AllocError;
 
 // Why the input gave no answer.
-#[derive(Clone, Copy)]
+#[derive(Drop)]
 pub enum Stop {
     Refused(Refusal),
     ReadFault,
@@ -25,6 +26,19 @@ impl From<ReadError> for Stop {
         match error {
             ReadError::Pyx(error) => Stop::Refused(Refusal::Pyx(error)),
             ReadError::Memory => Stop::NoMemory,
+        }
+    }
+}
+
+impl From<PlanError> for Stop {
+    ghost from_gives = { λ error stop. stop ≡ stop_of_plan error };
+
+    fn from(error: PlanError) -> Stop {
+        match error {
+            PlanError::TooHeavy { path, weight } => {
+                Stop::Refused(Refusal::TooHeavy { path, weight })
+            }
+            PlanError::Memory => Stop::NoMemory,
         }
     }
 }

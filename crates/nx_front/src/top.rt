@@ -4,11 +4,13 @@ ghost use Rattle.nx_front.specs.CommandLine.{command_line};
 ghost use Rattle.nx_front.specs.Outcome.{TakesFew, CountsGrow, IsUndisturbed, Completes, RunsBeside};
 ghost use Rattle.nx_front.specs.Run.{meaning, IsCarriedOut};
 ghost use Rattle.nx_front.specs.Tidy.{tidy};
+ghost use Rattle.nx_front.specs.Plan.{IsLightInput};
 ghost use Rattle.nx_front.specs.Verify.{IsSoundInput};
 ghost use Rattle.nx_front.specs.declared.words.CommandLine.{CommandLine};
-ghost use Rattle.nx_front.specs.declared.words.CommandLine.TheVariants.{Verify};
+ghost use Rattle.nx_front.specs.declared.words.CommandLine.TheVariants.{Plan, Verify};
 
 use crate::give::{end_after, give_text, status_of};
+use crate::plan::plan;
 use crate::read::read;
 use crate::session::session;
 use crate::verify::verify;
@@ -22,7 +24,10 @@ use std::alloc::Global;
 ///
 /// `STORE tidy` reads a document in PYX lines and gives its canonical text, or one line that
 /// refuses it, and nothing else. `_ run` reads the commands of a script and gives their replies in
-/// order. `STORE verify K` reads a document in PYX lines, a line of one dot and the lines of a plan,
+/// order. `STORE plan K` reads a document in PYX lines and gives the lines of a plan: as few intervals
+/// as there can be with parts of at most K slots, of which the root's is as light as it can be with so
+/// many, and the minima of each node's subtree; or one line that says what is wrong, or which node
+/// weighs more than K. `STORE verify K` reads a document in PYX lines, a line of one dot and the lines of a plan,
 /// and gives the plan's number of intervals where no partitioning of the document with parts of at
 /// most K slots has fewer, by the plan's own bounds, or one line that says what is wrong. An input of
 /// 4,294,967,296 bytes or more is too much.
@@ -41,12 +46,15 @@ pub fn run<H: Host>(alloc: Global, words: &Words, host: &mut H) -> Status
     // It doesn't give up by itself, unless memory runs out.
     ensures complete { (line : CommandLine) (input : List ℕ) → command_line words.now ≡ Some line → IsUndisturbed input (H.beside host.old) (H.beside host.new) →
         Completes (meaning line) input result }
+    ensures planned { (k : ℕ) (input : List ℕ) → command_line words.now ≡ Some (Plan k) → IsUndisturbed input (H.beside host.old) (H.beside host.new) →
+        IsLightInput k input → (result ≡ Status.Done) ⊎ (result ≡ Status.NoMemory) }
     ensures certified { (k : ℕ) (input : List ℕ) → command_line words.now ≡ Some (Verify k) → IsUndisturbed input (H.beside host.old) (H.beside host.new) →
         IsSoundInput k input → (result ≡ Status.Done) ⊎ (result ≡ Status.NoMemory) }
 {
     match command_line(words) {
         Some(CommandLine::Tidy) => tidy(alloc, host),
         Some(CommandLine::Run) => session(alloc, host),
+        Some(CommandLine::Plan(k)) => plan(alloc, host, k),
         Some(CommandLine::Verify(k)) => verify(alloc, host, k),
         None => Status::Usage,
     }

@@ -53,6 +53,8 @@ pub enum CommandLine {
     Tidy,
     // A script is carried out over documents in memory.
     Run,
+    // A document is partitioned into parts that weigh at most so much.
+    Plan(u32),
     // A partitioning of a document is checked, whose parts weigh at most so much.
     Verify(u32),
 }
@@ -91,7 +93,9 @@ fn command_of_three(store: &str, command: &str, limit: &str) -> Option<CommandLi
     ensures limit { IfSome result IsLimited }
 {
     let limit = weight_limit(limit)?;
-    if is_store(store) && command == "verify" {
+    if is_store(store) && command == "plan" {
+        Some(CommandLine::Plan(limit))
+    } else if is_store(store) && command == "verify" {
         Some(CommandLine::Verify(limit))
     } else {
         None

@@ -8,6 +8,8 @@ mod endless;
 #[cfg(test)]
 mod host;
 #[cfg(test)]
+mod plans;
+#[cfg(test)]
 mod replies;
 #[cfg(test)]
 mod runs;

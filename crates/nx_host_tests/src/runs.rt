@@ -48,7 +48,7 @@ fn an_input_has_its_answer(rt: HostRuntime) -> Result<(), Fail> {
 #[test]
 fn other_words_are_misuse(rt: HostRuntime) -> Result<(), Fail> {
     let alloc = rt.alloc();
-    let others: [&[&str]; 20] = [
+    let others: [&[&str]; 24] = [
         &["run"],
         &["s", "run"],
         &["_", "run", "_"],
@@ -60,6 +60,10 @@ fn other_words_are_misuse(rt: HostRuntime) -> Result<(), Fail> {
         &["-x", "tidy"],
         &["_", ""],
         &["_", "tidy", "_"],
+        &["_", "plan"],
+        &["_", "plan", "0"],
+        &["s", "plan", "016"],
+        &["s", "plan", "257"],
         &["_", "verify"],
         &["_", "verify", "0"],
         &["_", "verify", "257"],

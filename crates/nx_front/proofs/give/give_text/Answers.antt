@@ -1,17 +1,13 @@
-use Rattle.std.proofs.Common.{List, ℕ, ◌++◌, ap, subst}
-use Rattle.nx_pyx.specs.Text.{text}
+use Rattle.std.proofs.Common.{List, ℕ, subst}
 use Rattle.nx_host.specs.Phase.{GivesAlone}
 use Rattle.nx_front.specs.Outcome.{Given}
-use Rattle.nx_front.proofs.GiveLemmas.{gave_rest, alone_rest}
 use Rattle.nx_front.proofs.give.give_text.Goals as goal
 
 pub returns-clause-given : goal.returns-clause-given
 returns-clause-given g c =
     let h = g.H.Disk in
-    subst (λ (t : List ℕ). Given t c.give_block.result (h.beside c.args.host.now) (h.beside c.give_block.new.host)) (ap (λ b. b ++ text c.args.tree.now) c.new-block.ensures)
-    (gave_rest c.give_block.result (h.beside c.give_block.new.host) c.give_into.ensures.alone.areas.out_faults_later c.in_ok-give_into.ensures.given c.give_block.ensures.given)
+    subst (λ (t : List ℕ). Given t c.give_all.result (h.beside c.args.host.now) (h.beside c.give_all.new.host)) c.in_ok-writer.ensures c.give_all.ensures.given
 
 pub returns-clause-alone : goal.returns-clause-alone
 returns-clause-alone g c =
-    subst (λ (t : List ℕ). GivesAlone g.H.Disk t c.args.host.now c.give_block.new.host) (ap (λ b. b ++ text c.args.tree.now) c.new-block.ensures)
-    (alone_rest c.in_ok-give_into.ensures.given c.give_into.ensures.alone c.give_block.ensures.alone)
+    subst (λ (t : List ℕ). GivesAlone g.H.Disk t c.args.host.now c.give_all.new.host) c.in_ok-writer.ensures c.give_all.ensures.alone

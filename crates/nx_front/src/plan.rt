@@ -1,0 +1,37 @@
+// A run that partitions a document.
+ghost use Rattle.std.specs.Prelude.{◌≤◌};
+ghost use Rattle.nx_host.specs.Phase.{TakesAlone};
+ghost use Rattle.nx_front.specs.Outcome.{ReadsTo, RunsBeside, TakesFew};
+ghost use Rattle.nx_front.specs.Plan.{plan};
+
+use crate::Status;
+use crate::give::{end_after, give_plan, status_of};
+use crate::read::read;
+use crate::stop::Stop;
+use nx_host::{Disk, Host};
+use nx_parts::Plan;
+use std::alloc::Global;
+
+// Reads a document and gives the text of a plan of it.
+pub fn plan<H: Host>(alloc: Global, host: &mut H, k: u32) -> Status
+    requires least { 1 ≤ k }
+    requires most { k ≤ 256 }
+    ensures { RunsBeside ⟦<H as Disk>⟧ (plan k) result host.old host.new }
+{
+    match read_planned(alloc, host, k) {
+        Ok(plan) => status_of(give_plan(alloc, host, &plan), Status::Done),
+        Err(stop) => end_after(alloc, host, stop),
+    }
+}
+
+// A plan of the input's document, which is let go.
+fn read_planned<H: Host>(alloc: Global, host: &mut H, k: u32) -> Result<Plan, Stop>
+    requires least { 1 ≤ k }
+    requires most { k ≤ 256 }
+    ensures reads { ReadsTo (plan k) result (H.beside host.old) (H.beside host.new) }
+    ensures bounded { TakesFew (H.beside host.old).input (H.beside host.new).input }
+    ensures alone { TakesAlone ⟦<H as Disk>⟧ host.old host.new }
+{
+    let tree = read(alloc, host)?;
+    Ok(nx_partition::plan(alloc, &tree, k)?)
+}
