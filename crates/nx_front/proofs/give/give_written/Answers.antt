@@ -30,7 +30,7 @@ loop-host-smaller g c =
 pub returns-in_err-fill_block-clause-given : goal.returns-in_err-fill_block-clause-given
 returns-in_err-fill_block-clause-given g c =
     let here = g.H.Disk.beside c.loop-host.host in
-    let p = err_from_is_err_and c.from_residual-in_err-fill_block.result c.from_residual-in_err-fill_block.ensures.1 in
+    let p = err_from_is_err_and c.from_residual.result c.from_residual.ensures.1 in
     rw (p.1, p.2)
     (gave_rest (Err NoMemory) here c.loop-host.invariant.alone.areas.out_faults_later c.loop-host.invariant.gave
     (given_nothing (c.loop-host.block ++ g.W.Writes.left c.loop-host.writer) here))

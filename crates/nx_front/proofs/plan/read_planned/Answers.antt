@@ -4,7 +4,7 @@ use Rattle.nx_front.proofs.plan.read_planned.Goals as goal
 
 pub returns-in_err-tree-clause-reads : goal.returns-in_err-tree-clause-reads
 returns-in_err-tree-clause-reads g c =
-    let p = err_from_is_err_and c.from_residual-in_err-tree.result c.from_residual-in_err-tree.ensures.1 in
+    let p = err_from_is_err_and c.from_residual.result c.from_residual.ensures.1 in
     rw (p.1, p.2) (document_stops c.args.k c.in_err-tree.field-0.0 (g.H.Disk.beside c.args.host.now) (g.H.Disk.beside c.read.new.host) c.in_err-tree.ensures.reads)
 
 pub plan-requires-clause-document : goal.plan-requires-clause-document
