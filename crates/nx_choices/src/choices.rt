@@ -17,11 +17,17 @@ use crate::{Child, Field, Stand};
 use nx_lists::NoMemory;
 use std::alloc::Global;
 
+// With more children the profiles' memory is given back once a choice is told. What the caller makes of the
+// choice then takes its place.
+const MANY: usize = 4096;
+
 /// The choices over the children of one node after another. It keeps the memory that it took for the nodes
 /// that come after: for the node with the most children 16 bytes a child, and two bytes for each number of
-/// their profiles, of which a child seldom has more than a few, and at most k + 1.
+/// their profiles, of which a child seldom has more than a few, and at most k + 1. `choose` gives back that
+/// of a node with more than 4,096 children.
 #[derive(Drop)]
 pub struct Choices {
+    alloc: Global,
     // What the choices may leave over all children.
     profile: Profile,
     // What they may leave over the last ones, where not all children fit into the node's part.
@@ -34,6 +40,7 @@ impl Choices {
     /// It takes no memory yet.
     pub fn new(alloc: Global) -> Choices {
         Choices {
+            alloc,
             profile: Profile::new(alloc),
             profiles: Profiles::new(alloc),
             lightest: Lightest::new(alloc),
@@ -126,7 +133,11 @@ impl Choices {
                 self.make(k, room, children)?;
                 let cost = self.profile.cheapest(room);
                 let (profiles, lightest) = (&self.profiles, &mut self.lightest);
-                follow(k, children, cost, room, profiles, lightest, stands)
+                follow(k, children, cost, room, profiles, lightest, stands)?;
+                if children.len() > MANY {
+                    self.profiles = Profiles::new(self.alloc);
+                }
+                Ok(())
             }
         }
     }

@@ -16,11 +16,14 @@ returns-in-Some c =
     (λ added. chooses_uncut c.args.k c.args.own c.args.most c.args.weight c.in-Some.field-0 c.args.children.now c.args.stands.now.items c.push_uncut.new.stands.items there t.0 (omega arith) (omega arith) added)
     c.push_uncut.ensures
 
-pub returns-in_ok-make-in-None : goal.returns-in_ok-make-in-None
-returns-in_ok-make-in-None c =
-    let k = c.args.k in let own = c.args.own in let children = c.args.children.now in
+pub returns-then-children-gt-MANY : goal.returns-then-children-gt-MANY
+returns-then-children-gt-MANY c =
     let there = c.requires.there in let root = there.admitted.root in let little = there.little in let m = c.min.ensures in
-    on_ok_weaker c.follow.result
-    (λ followed. followed_chooses k own c.args.most c.args.weight (c.min.result - own) c.cheapest-cost.result children c.args.stands.now.items c.follow.new.stands.items there (omega arith) (omega arith)
-    (λ w fits small. omega arith) (c.cheapest-cost.ensures.cheapest k children c.in_ok-make-in-None.ensures.profile) followed)
-    c.follow.ensures
+    followed_chooses c.args.k c.args.own c.args.most c.args.weight (c.min.result - c.args.own) c.cheapest-cost.result c.args.children.now c.args.stands.now.items c.follow.new.stands.items there (omega arith) (omega arith)
+    (λ w fits small. omega arith) (c.cheapest-cost.ensures.cheapest c.args.k c.args.children.now c.in_ok-make-in-None.ensures.profile) c.in_ok-follow-in-None.ensures
+
+pub returns-else-children-gt-MANY : goal.returns-else-children-gt-MANY
+returns-else-children-gt-MANY c =
+    let there = c.requires.there in let root = there.admitted.root in let little = there.little in let m = c.min.ensures in
+    followed_chooses c.args.k c.args.own c.args.most c.args.weight (c.min.result - c.args.own) c.cheapest-cost.result c.args.children.now c.args.stands.now.items c.follow.new.stands.items there (omega arith) (omega arith)
+    (λ w fits small. omega arith) (c.cheapest-cost.ensures.cheapest c.args.k c.args.children.now c.in_ok-make-in-None.ensures.profile) c.in_ok-follow-in-None.ensures
