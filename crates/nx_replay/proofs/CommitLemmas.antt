@@ -88,17 +88,17 @@ laid_written g end was now whole at low writes =
     )
 
 -- Step 3.
-pub opened_torn : (g : Group) (end : ℕ) (was i : Image) (rest : List ℕ) → IsWhole g → IsAtEnd end true was.log → IsStaged (2 ^ 63) g was.log rest
+pub opened_torn : {was i : Image} (g : Group) (end : ℕ) (rest : List ℕ) → IsWhole g → IsAtEnd end true was.log → IsStaged (2 ^ 63) g was.log rest
     → TearsIn Log end 1 was i → HasSame was i ⊎ HasGroup g was i
-opened_torn g end was i rest whole at staged tears =
+opened_torn {was = was} {i = i} g end rest whole at staged tears =
     elim (gate_written (2 ^ 63) g rest was.log i.log whole staged (subst (λ (e : ℕ). Torn e 1 was.log i.log) at.here tears.here)) [
       | inl none ↦ inl (record { area = tears.there; log = none.1 })
       | inr more ↦ inr (record { area = tears.there; log = more })
     ]
 
-pub opened_written : (g : Group) (end : ℕ) (was now : Image) (rest : List ℕ) → IsWhole g → IsAtEnd end true was.log → IsStaged (2 ^ 63) g was.log rest
+pub opened_written : {was now : Image} (g : Group) (end : ℕ) (rest : List ℕ) → IsWhole g → IsAtEnd end true was.log → IsStaged (2 ^ 63) g was.log rest
     → WritesTo Log end (1 ∷ []) was now → HasGroup g was now × IsAtEnd (end + size_of (length g.entries)) true now.log
-opened_written g end was now rest whole at staged writes =
+opened_written {was = was} {now = now} g end rest whole at staged writes =
     let w : Written end (1 ∷ []) was.log now.log = writes.here in
     let torn : Torn end 1 was.log now.log = written_torn w in
     let first = first_of_rest end 1 now.log _ (at_written end (1 ∷ []) was.log now.log w) in

@@ -230,11 +230,11 @@ pub record Begins (g : Group) (bytes rest : List ℕ) : Type 0 where
   pub count : count_of bytes ≡ length g.entries
   pub entries : drop 13 bytes ≡ entry_bytes g.entries ++ rest
 
-parts-begin : (g : Group) (gate : ℕ) (a b rest : List ℕ) → length a ≡ 8 → length b ≡ 4
+parts-begin : {rest : List ℕ} (g : Group) (gate : ℕ) (a b : List ℕ) → length a ≡ 8 → length b ≡ 4
     → big_number 8 (a ++ (b ++ (entry_bytes g.entries ++ rest))) ≡ g.number → big_number 4 (b ++ (entry_bytes g.entries ++ rest)) ≡ length g.entries
     → Begins g (gate ∷ (a ++ (b ++ (entry_bytes g.entries ++ rest)))) rest
 unfolding count_of
-parts-begin g gate a b rest eight four number count =
+parts-begin {rest = rest} g gate a b eight four number count =
     let tail = entry_bytes g.entries ++ rest in
     let behind : drop 8 (a ++ (b ++ tail)) ≡ b ++ tail = drop_at a (b ++ tail) 8 eight in
     record {
@@ -253,7 +253,7 @@ group-begins g gate rest whole =
     let number : g.number < 2 ^ 64 = whole.number in
     let few : length g.entries ≤ 16777216 = whole.few in
     subst (λ (x : List ℕ). Begins g (gate ∷ x) rest) (sym split) (
-    parts-begin g gate a b rest (length-bytes_high_first 8 g.number) (length-bytes_high_first 4 (length g.entries))
+    parts-begin g gate a b (length-bytes_high_first 8 g.number) (length-bytes_high_first 4 (length g.entries))
     (number-written 8 g.number (b ++ (es ++ rest)) (omega (arith, number)))
     (number-written 4 (length g.entries) (es ++ rest) (omega (arith, few)))
     )

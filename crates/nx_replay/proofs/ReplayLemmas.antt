@@ -52,12 +52,12 @@ replay-same was now same =
     ap (λ (area : List ℕ). over (logged (groups now.log)) (pages_of area)) same.area ∙ ap (λ (gs : List Group). over (logged gs) (pages_of was.pages)) same.log
 
 -- a write that a stop cuts short leaves a range that it doesn't touch
-pub torn_apart : (at n a m : ℕ) (old new : List ℕ) → Torn at n old new → a + m ≤ length old → (a + m ≤ at) ⊎ (at + n ≤ a) → take m (drop a new) ≡ take m (drop a old)
-torn_apart at n a m old new torn fits (inl below) =
+pub torn_apart : {at n : ℕ} {old new : List ℕ} (a m : ℕ) → Torn at n old new → a + m ≤ length old → (a + m ≤ at) ⊎ (at + n ≤ a) → take m (drop a new) ≡ take m (drop a old)
+torn_apart {at = at} {old = old} {new = new} a m torn fits (inl below) =
     let front : take (a + m) new ≡ take (a + m) old =
     sym (take-take (a + m) (min at (length old)) new (omega (arith, below, fits))) ∙ ap (λ (x : List ℕ). take (a + m) x) torn.before ∙ take-take (a + m) at old below in
     sym (drop-take a m new) ∙ ap (λ (x : List ℕ). drop a x) front ∙ drop-take a m old
-torn_apart at n a m old new torn fits (inr above) =
+torn_apart {at = at} {n = n} {old = old} {new = new} a m torn fits (inr above) =
     let back : drop a (take (length old) new) ≡ drop a old =
     ap (λ (k : ℕ). drop k (take (length old) new)) (let h : a ≡ at + n + (a - (at + n)) = omega (arith, above) in h)
     ∙ sym (drop-drop (a - (at + n)) (at + n) (take (length old) new)) ∙ ap (λ (x : List ℕ). drop (a - (at + n)) x) torn.after
@@ -86,7 +86,7 @@ moved_more q was old new so_far held log torn = record {
   no_shorter = let a = so_far.no_shorter in let b = torn.no_shorter in omega (arith, a, b);
   kept = λ p fits none.
       let a = so_far.no_shorter in
-      torn_apart (8192 * q) 8192 (8192 * p) 8192 old.pages new.pages torn (omega (arith, fits, a)) (apart (logged (groups was.log)) p q none held) ∙ so_far.kept p fits none;
+      torn_apart (8192 * p) 8192 torn (omega (arith, fits, a)) (apart (logged (groups was.log)) p q none held) ∙ so_far.kept p fits none;
   no_longer = λ p past there.
       elim (less_or_not (length old.pages) (8192 * p + 8192)) [
         | inl added ↦ (q, let c = torn.no_longer in omega (arith, added, there, c), held)

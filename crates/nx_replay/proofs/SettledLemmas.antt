@@ -20,8 +20,8 @@ pub told_still : {D : Type 0} {d : Ghosts D} {a b : D} (was : Image) → IsStill
 told_still was still told = still.contents_stay ∙ told
 
 -- where one image alone stood, an image that comes torn comes from it
-pub from_settled : {D : Type 0} (d : Ghosts D) (disk : D) (was i : Image) (area : Area) (at n : ℕ) → IsSettled d disk was → ComesTorn area at n (d.may_leave disk) i → TearsIn area at n was i
-from_settled d disk was i area at n settled torn = subst (λ o. TearsIn area at n o i) (settled.only torn.0 torn.1) torn.2
+pub from_settled : {D : Type 0} {d : Ghosts D} {disk : D} {was i : Image} (area : Area) (at n : ℕ) → IsSettled d disk was → ComesTorn area at n (d.may_leave disk) i → TearsIn area at n was i
+from_settled {i = i} area at n settled torn = subst (λ o. TearsIn area at n o i) (settled.only torn.0 torn.1) torn.2
 
 pub on_ok : {T E : Type 0} {P Q : Type 0} (r : Result T E) → OnOk r P → (P → Q) → OnOk r Q
 on_ok (Ok x) h f = f h

@@ -7,21 +7,21 @@ use Rattle.nx_wal.specs.Writing.{Writes, Lays}
 use Rattle.nx_wal.specs.Gathering.{Gathers, Adds, Reaches}
 use Rattle.nx_wal.proofs.WritingLemmas.{writes_none, writes_wider, writes_more, lays_none, lays_then}
 
-module _ {D : Type 0} (d : Ghosts D) where
+module _ {D : Type 0} {d : Ghosts D} where
   gathers_as : {start : ℕ} {xs ys : List ℕ} {block : Block} {a b : D} → xs ≡ ys → Gathers d start xs block a b → Gathers d start ys block a b
   gathers_as {start = start} {block = block} {a = a} {b = b} same so_far = subst (λ (x : List ℕ). Gathers d start x block a b) same so_far
 
   -- what waits was written
-  pub flushed_reaches : (block : Block) (items : List ℕ) (b c : D) → items ≡ block.bytes.items → Writes d block.at (length items) b c → Reaches d 0 block b c
-  flushed_reaches block items b c same writes start so_far first gathers =
+  pub flushed_reaches : {b c : D} (block : Block) (items : List ℕ) → items ≡ block.bytes.items → Writes d block.at (length items) b c → Reaches d 0 block b c
+  flushed_reaches block items same writes start so_far first gathers =
       let here : block.at ≡ start + length gathers.laid = gathers.here in
       let both : length gathers.laid + length block.bytes.items ≡ length so_far = sym (length-append gathers.laid block.bytes.items) ∙ ap length gathers.split in
       let long : length items ≡ length block.bytes.items = ap length same in
-      writes_more d start (length gathers.laid) block.at (length items) (length so_far + 0) first b c here (omega (arith, both, long)) gathers.writes writes
+      writes_more (length so_far + 0) gathers.writes writes here (omega (arith, both, long))
 
-  pub flushed_adds : (block after : Block) (items : List ℕ) (b c : D) → items ≡ block.bytes.items → after.bytes.items ≡ [] → after.at ≡ block.at + length items
+  pub flushed_adds : {b c : D} (block after : Block) (items : List ℕ) → items ≡ block.bytes.items → after.bytes.items ≡ [] → after.at ≡ block.at + length items
       → Writes d block.at (length items) b c → Lays d block.at items b c → Adds d [] block after b c
-  flushed_adds block after items b c same none there writes lays start so_far first gathers =
+  flushed_adds block after items same none there writes lays start so_far first gathers =
       let here : block.at ≡ start + length gathers.laid = gathers.here in
       let joined : gathers.laid ++ items ≡ so_far = ap (λ (x : List ℕ). gathers.laid ++ x) same ∙ gathers.split in
       let long : length (gathers.laid ++ items) ≡ length gathers.laid + length items = length-append gathers.laid items in
@@ -29,8 +29,8 @@ module _ {D : Type 0} (d : Ghosts D) where
         laid = gathers.laid ++ items;
         split = ap (λ (x : List ℕ). (gathers.laid ++ items) ++ x) none ∙ append-nil (gathers.laid ++ items) ∙ joined ∙ sym (append-nil so_far);
         here = omega (arith, there, here, long);
-        writes = writes_more d start (length gathers.laid) block.at (length items) (length (gathers.laid ++ items)) first b c here (sym long) gathers.writes writes;
-        lays = lays_then d start block.at (length items) gathers.laid items first b c here gathers.lays writes lays;
+        writes = writes_more (length (gathers.laid ++ items)) gathers.writes writes here (sym long);
+        lays = lays_then gathers.lays writes lays here;
       }
 
   pub kept_adds : (block : Block) (a : D) → Adds d [] block block a a
@@ -39,10 +39,10 @@ module _ {D : Type 0} (d : Ghosts D) where
   pub kept_reaches : (n : ℕ) (block : Block) (a : D) → Reaches d n block a a
   kept_reaches n block a start so_far first gathers =
       let both : length gathers.laid + length block.bytes.items ≡ length so_far = sym (length-append gathers.laid block.bytes.items) ∙ ap length gathers.split in
-      writes_wider d start (length gathers.laid) (length so_far + n) first a (omega (arith, both)) gathers.writes
+      writes_wider (length so_far + n) gathers.writes (omega (arith, both))
 
   pub reaches_wider : (m n : ℕ) (block : Block) (a b : D) → m ≤ n → Reaches d m block a b → Reaches d n block a b
-  reaches_wider m n block a b wider reaches start so_far first gathers = writes_wider d start (length so_far + m) (length so_far + n) first b (omega (arith, wider)) (reaches start so_far first gathers)
+  reaches_wider m n block a b wider reaches start so_far first gathers = writes_wider (length so_far + n) (reaches start so_far first gathers) (omega (arith, wider))
 
   -- bytes were put into the block
   pub filled_adds : (before after : Block) (bytes : List ℕ) (a : D) → after.bytes.items ≡ before.bytes.items ++ bytes → after.at ≡ before.at → Adds d bytes before after a a
@@ -70,8 +70,8 @@ module _ {D : Type 0} (d : Ghosts D) where
     laid = [];
     split = none;
     here = omega (arith, here);
-    writes = writes_none d at a;
-    lays = lays_none d at a;
+    writes = writes_none at a;
+    lays = lays_none at a;
   }
 
   -- all of it was written
@@ -83,5 +83,5 @@ module _ {D : Type 0} (d : Ghosts D) where
       )
 
   -- what was begun with nothing
-  pub reached : (n k at : ℕ) (block : Block) (a b : D) → (block.at ≡ at) × (block.bytes.items ≡ []) → n ≤ k → Reaches d n block a b → Writes d at k a b
-  reached n k at block a b begun few reaches = writes_wider d at (0 + n) k a b (omega (arith, few)) (reaches at [] a (gathers_none block at a begun.0 begun.1))
+  pub reached : {a b : D} (n k at : ℕ) (block : Block) → (block.at ≡ at) × (block.bytes.items ≡ []) → n ≤ k → Reaches d n block a b → Writes d at k a b
+  reached {a = a} n k at block begun few reaches = writes_wider k (reaches at [] a (gathers_none block at a begun.0 begun.1)) (omega (arith, few))

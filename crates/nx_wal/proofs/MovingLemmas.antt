@@ -53,8 +53,8 @@ all_found P (e ∷ es) p o all found =
     ]
 
 -- one page more was written, which leaves the others
-there_more : (log bytes old new : List ℕ) (page : ℕ) → Written (8192 * page) bytes old new → length bytes ≡ 8192 → logged (groups log) page ≡ Some bytes → (q : ℕ) → (page ≡ q → ⊥) → IsThere log old q → IsThere log new q
-there_more log bytes old new page written long held q other before some =
+there_more : {bytes old new : List ℕ} (log : List ℕ) (page : ℕ) → Written (8192 * page) bytes old new → length bytes ≡ 8192 → logged (groups log) page ≡ Some bytes → (q : ℕ) → (page ≡ q → ⊥) → IsThere log old q → IsThere log new q
+there_more {bytes = bytes} {old = old} {new = new} log page written long held q other before some =
     let was = before some in
     let w : length new ≡ max (length old) (8192 * page + length bytes) = written.long in
     let torn : Torn (8192 * page) 8192 old new = subst (λ (n : ℕ). Torn (8192 * page) n old new) long (written_torn written) in
@@ -64,24 +64,32 @@ there_more log bytes old new page written long held q other before some =
       | inr least ↦ elim (less_or_not page q) [ inl above ↦ inr (omega (arith, above)) | inr most ↦ absurd (other (omega (arith, least, most))) ]
     ] in (
       omega (arith, w, was.0),
-      was.1 ∙ ap (λ (x : List ℕ). Some x) (sym (torn_apart (8192 * page) 8192 (8192 * q) 8192 old new torn was.0 apart)),
+      was.1 ∙ ap (λ (x : List ℕ). Some x) (sym (torn_apart (8192 * q) 8192 torn was.0 apart)),
     )
 
-there_here : (log bytes old new : List ℕ) (page : ℕ) → Written (8192 * page) bytes old new → length bytes ≡ 8192 → logged (groups log) page ≡ Some bytes → IsThere log new page
-there_here log bytes old new page written long held some =
+there_here : {bytes old new : List ℕ} (log : List ℕ) (page : ℕ) → Written (8192 * page) bytes old new → length bytes ≡ 8192 → logged (groups log) page ≡ Some bytes → IsThere log new page
+there_here {bytes = bytes} {old = old} {new = new} log page written long held some =
     let w : length new ≡ max (length old) (8192 * page + length bytes) = written.long in (
       omega (arith, w, long),
       held ∙ ap (λ (x : List ℕ). Some x) (sym (subst (λ (n : ℕ). take n (drop (8192 * page) new) ≡ bytes) long written.here)),
     )
 
-there_either : (log bytes old new : List ℕ) (page : ℕ) → Written (8192 * page) bytes old new → length bytes ≡ 8192 → logged (groups log) page ≡ Some bytes → (q : ℕ) → IsThere log old q → IsThere log new q
-there_either log bytes old new page written long held q before =
+there_either : {bytes old new : List ℕ} (log : List ℕ) (page : ℕ) → Written (8192 * page) bytes old new → length bytes ≡ 8192 → logged (groups log) page ≡ Some bytes → (q : ℕ) → IsThere log old q → IsThere log new q
+there_either {new = new} log page written long held q before =
     elim (cases_Bool (page == q)) [
-      | inl holds ↦ subst (λ (n : ℕ). IsThere log new n) (eqb-true page q holds) (there_here log bytes old new page written long held)
-      | inr fails ↦ there_more log bytes old new page written long held q (eqb-false page q fails) before
+      | inl holds ↦ subst (λ (n : ℕ). IsThere log new n) (eqb-true page q holds) (there_here log page written long held)
+      | inr fails ↦ there_more log page written long held q (eqb-false page q fails) before
     ]
 
-module _ {D : Type 0} (d : Ghosts D) (places : Places) where
+-- These pages of the log stand in the area, where the contents are told.
+abbrev Stand : {D : Type 0} → Ghosts D → Places → List (ℕ × Option ℕ) → D → D → Type 0
+Stand d places es a c = (was now : Image) → IsLed d places a was → d.contents c ≡ Some now → (now.log ≡ was.log) × AllByRecursion (λ (e : ℕ × Option ℕ). IsThere was.log now.pages e.0) es
+
+-- what one write of a page did
+abbrev MovesTo : {D : Type 0} → Ghosts D → ℕ → Option ℕ → D → D → Type 0
+MovesTo d page place b c = (at : ℕ) → place ≡ Some at → (was now : Image) → d.contents b ≡ Some was → d.contents c ≡ Some now → at + 8192 ≤ length was.log → WritesTo Pages (8192 * page) (take 8192 (drop at was.log)) was now
+
+module _ {D : Type 0} {d : Ghosts D} {places : Places} where
   pub moves_none : (a : D) → Moves d places a a
   moves_none a = record {
     goes = none_goes;
@@ -94,75 +102,73 @@ module _ {D : Type 0} (d : Ghosts D) (places : Places) where
     there = λ was now led told. tt;
   }
 
-  module _ (page : ℕ) (place : Option ℕ) (a b c : D) (here : get nat_cmp places page ≡ Some place)
-      (none : place ≡ None → c ≡ b) (writes : (at : ℕ) → place ≡ Some at → WritesPage d page b c) (so_far : Moves d places a b) where
-    held : (at : ℕ) (was : Image) → place ≡ Some at → IsLed d places a was → logged (groups was.log) page ≡ Some (take 8192 (drop at was.log))
-    held at was is led = led.leads page ∙ ap (λ (o : Option (Option ℕ)). place_in o was.log) (here ∙ ap (λ (o : Option ℕ). Some o) is)
+  held : {place : Option ℕ} {a : D} (page : ℕ) → get nat_cmp places page ≡ Some place → (at : ℕ) (was : Image) → place ≡ Some at → IsLed d places a was
+      → logged (groups was.log) page ≡ Some (take 8192 (drop at was.log))
+  held page here at was is led = led.leads page ∙ ap (λ (o : Option (Option ℕ)). place_in o was.log) (here ∙ ap (λ (o : Option ℕ). Some o) is)
 
-    low : (at : ℕ) (was : Image) → place ≡ Some at → IsLed d places a was → at + 8192 ≤ length was.log
-    low at was is led = led.within page at (here ∙ ap (λ (o : Option ℕ). Some o) is)
+  low : {place : Option ℕ} {a : D} (page : ℕ) → get nat_cmp places page ≡ Some place → (at : ℕ) (was : Image) → place ≡ Some at → IsLed d places a was → at + 8192 ≤ length was.log
+  low page here at was is led = led.within page at (here ∙ ap (λ (o : Option ℕ). Some o) is)
 
-    torn_more : (at : ℕ) → place ≡ Some at → (i : Image) → ComesTorn Pages (8192 * page) 8192 (d.may_leave b) i → (was : Image) → IsLed d places a was → IsPartlyMoved was i
-    torn_more at is i torn was led =
-        let t : TearsIn Pages (8192 * page) 8192 torn.0 i = torn.2 in
-        moved_more page was torn.0 i (so_far.images torn.0 torn.1 was led) (is_some (logged (groups was.log) page) (held at was is led)) t.there t.here
+  torn_more : {place : Option ℕ} {a b : D} {was : Image} (page : ℕ) → get nat_cmp places page ≡ Some place → Moves d places a b → (at : ℕ) → place ≡ Some at → (i : Image)
+      → ComesTorn Pages (8192 * page) 8192 (d.may_leave b) i → IsLed d places a was → IsPartlyMoved was i
+  torn_more {was = was} page here so_far at is i torn led =
+      let t : TearsIn Pages (8192 * page) 8192 torn.0 i = torn.2 in
+      moved_more page was torn.0 i (so_far.images torn.0 torn.1 was led) (is_some (logged (groups was.log) page) (held page here at was is led)) t.there t.here
 
-    pub moves_more : Moves d places a c
-    moves_more =
-        elim place as (λ o. place ≡ o → Moves d places a c) [
-          | None ↦ λ is. subst (λ (x : D). Moves d places a x) (sym (none is)) so_far
-          | Some at ↦ λ is.
-              let w = writes at is in
-              record {
-                goes = goes_then so_far.goes w.goes (λ told i torn was led. torn_more at is i torn was led);
-                images = λ i left was led. torn_more at is i (w.images i left) was led;
-              }
-        ] refl
+  -- one page more
+  pub moves_more : {page : ℕ} {place : Option ℕ} {a b c : D} → get nat_cmp places page ≡ Some place → (place ≡ None → c ≡ b) → ((at : ℕ) → place ≡ Some at → WritesPage d page b c)
+      → Moves d places a b → Moves d places a c
+  moves_more {page = page} {place = place} {a = a} {c = c} here none writes so_far =
+      elim place as (λ o. place ≡ o → Moves d places a c) [
+        | None ↦ λ is. subst (λ (x : D). Moves d places a x) (sym (none is)) so_far
+        | Some at ↦ λ is.
+            let w = writes at is in
+            record {
+              goes = goes_then so_far.goes w.goes (λ told i torn was led. torn_more page here so_far at is i torn led);
+              images = λ i left was led. torn_more page here so_far at is i (w.images i left) led;
+            }
+      ] refl
 
-    module _ (es : List (ℕ × Option ℕ)) (done : HasMoved d places es a b)
-        (moved : (at : ℕ) → place ≡ Some at → (was now : Image) → d.contents b ≡ Some was → d.contents c ≡ Some now → at + 8192 ≤ length was.log → WritesTo Pages (8192 * page) (take 8192 (drop at was.log)) was now) where
-      moved_some : (at : ℕ) → place ≡ Some at → (was now : Image) → IsLed d places a was → d.contents c ≡ Some now
-          → (now.log ≡ was.log) × AllByRecursion (λ (e : ℕ × Option ℕ). IsThere was.log now.pages e.0) (es ++ (page, place) ∷ [])
-      moved_some at is was now led told =
-          let mid = some_of (d.contents b) (((writes at is).goes).told (is_some (d.contents c) told)) in
-          let same : (mid.0).log ≡ was.log = done.log was mid.0 led mid.1 in
-          let fits : at + 8192 ≤ length was.log = low at was is led in
-          let w : WritesTo Pages (8192 * page) (take 8192 (drop at was.log)) mid.0 now =
-          subst (λ (l : List ℕ). WritesTo Pages (8192 * page) (take 8192 (drop at l)) mid.0 now) same
-          (moved at is mid.0 now mid.1 told (subst (λ (l : List ℕ). at + 8192 ≤ length l) (sym same) fits)) in
-          let long : length (take 8192 (drop at was.log)) ≡ 8192 = omega (arith, fits, length-take 8192 (drop at was.log), length-drop at was.log) in
-          let holds = held at was is led in (
-            w.there ∙ same,
-            all_push (λ (e : ℕ × Option ℕ). IsThere was.log now.pages e.0) es (page, place)
-                (all_weaker (λ (e : ℕ × Option ℕ). IsThere was.log (mid.0).pages e.0) (λ (e : ℕ × Option ℕ). IsThere was.log now.pages e.0) es
-                (λ e before. there_either was.log (take 8192 (drop at was.log)) (mid.0).pages now.pages page w.here long holds e.0 before) (done.there was mid.0 led mid.1))
-                (there_here was.log (take 8192 (drop at was.log)) (mid.0).pages now.pages page w.here long holds),
-          )
+  moved_some : {es : List (ℕ × Option ℕ)} {page : ℕ} {place : Option ℕ} {a b c : D} → get nat_cmp places page ≡ Some place → ((at : ℕ) → place ≡ Some at → WritesPage d page b c)
+      → HasMoved d places es a b → MovesTo d page place b c → (at : ℕ) → place ≡ Some at → Stand d places (es ++ (page, place) ∷ []) a c
+  moved_some {es = es} {page = page} {place = place} {b = b} {c = c} here writes done moved at is was now led told =
+      let mid = some_of (d.contents b) (((writes at is).goes).told (is_some (d.contents c) told)) in
+      let same : (mid.0).log ≡ was.log = done.log was mid.0 led mid.1 in
+      let fits : at + 8192 ≤ length was.log = low page here at was is led in
+      let w : WritesTo Pages (8192 * page) (take 8192 (drop at was.log)) mid.0 now =
+      subst (λ (l : List ℕ). WritesTo Pages (8192 * page) (take 8192 (drop at l)) mid.0 now) same
+      (moved at is mid.0 now mid.1 told (subst (λ (l : List ℕ). at + 8192 ≤ length l) (sym same) fits)) in
+      let long : length (take 8192 (drop at was.log)) ≡ 8192 = omega (arith, fits, length-take 8192 (drop at was.log), length-drop at was.log) in
+      let holds = held page here at was is led in (
+        w.there ∙ same,
+        all_push (λ (e : ℕ × Option ℕ). IsThere was.log now.pages e.0) es (page, place)
+            (all_weaker (λ (e : ℕ × Option ℕ). IsThere was.log (mid.0).pages e.0) (λ (e : ℕ × Option ℕ). IsThere was.log now.pages e.0) es
+            (λ e before. there_either was.log page w.here long holds e.0 before) (done.there was mid.0 led mid.1))
+            (there_here was.log page w.here long holds),
+      )
 
-      moved_nothing : place ≡ None → (was now : Image) → IsLed d places a was → d.contents c ≡ Some now
-          → (now.log ≡ was.log) × AllByRecursion (λ (e : ℕ × Option ℕ). IsThere was.log now.pages e.0) (es ++ (page, place) ∷ [])
-      moved_nothing is was now led told =
-          let told_b : d.contents b ≡ Some now = subst (λ (x : D). d.contents x ≡ Some now) (none is) told in (
-            done.log was now led told_b,
-            all_push (λ (e : ℕ × Option ℕ). IsThere was.log now.pages e.0) es (page, place) (done.there was now led told_b)
-                (λ some. absurd (
-                let lacks : logged (groups was.log) page ≡ None = led.leads page ∙ ap (λ (o : Option (Option ℕ)). place_in o was.log) (here ∙ ap (λ (o : Option ℕ). Some o) is) in
-                false≢true (subst IsSome lacks some)
-                )),
-          )
+  moved_nothing : {es : List (ℕ × Option ℕ)} {place : Option ℕ} {a b c : D} (page : ℕ) → get nat_cmp places page ≡ Some place → (place ≡ None → c ≡ b) → HasMoved d places es a b → place ≡ None
+      → Stand d places (es ++ (page, place) ∷ []) a c
+  moved_nothing {es = es} {place = place} page here none done is was now led told =
+      let told_b : d.contents _ ≡ Some now = subst (λ (x : D). d.contents x ≡ Some now) (none is) told in (
+        done.log was now led told_b,
+        all_push (λ (e : ℕ × Option ℕ). IsThere was.log now.pages e.0) es (page, place) (done.there was now led told_b)
+            (λ some. absurd (
+            let lacks : logged (groups was.log) page ≡ None = led.leads page ∙ ap (λ (o : Option (Option ℕ)). place_in o was.log) (here ∙ ap (λ (o : Option ℕ). Some o) is) in
+            false≢true (subst IsSome lacks some)
+            )),
+      )
 
-      moved_either : (was now : Image) → IsLed d places a was → d.contents c ≡ Some now
-          → (now.log ≡ was.log) × AllByRecursion (λ (e : ℕ × Option ℕ). IsThere was.log now.pages e.0) (es ++ (page, place) ∷ [])
-      moved_either was now led told =
-          elim place as (λ o. place ≡ o → (now.log ≡ was.log) × AllByRecursion (λ (e : ℕ × Option ℕ). IsThere was.log now.pages e.0) (es ++ (page, place) ∷ [])) [
-            | None ↦ λ is. moved_nothing is was now led told
-            | Some at ↦ λ is. moved_some at is was now led told
-          ] refl
-
-      pub moved_push : HasMoved d places (es ++ (page, place) ∷ []) a c
-      moved_push = record {
-        log = λ was now led told. (moved_either was now led told).0;
-        there = λ was now led told. (moved_either was now led told).1;
+  pub moved_push : {es : List (ℕ × Option ℕ)} {page : ℕ} {place : Option ℕ} {a b c : D} → get nat_cmp places page ≡ Some place → (place ≡ None → c ≡ b)
+      → ((at : ℕ) → place ≡ Some at → WritesPage d page b c) → HasMoved d places es a b → MovesTo d page place b c → HasMoved d places (es ++ (page, place) ∷ []) a c
+  moved_push {es = es} {page = page} {place = place} {a = a} {c = c} here none writes done moved =
+      let stand : Stand d places (es ++ (page, place) ∷ []) a c = elim place as (λ o. place ≡ o → Stand d places (es ++ (page, place) ∷ []) a c) [
+        | None ↦ λ is. moved_nothing page here none done is
+        | Some at ↦ λ is. moved_some here writes done moved at is
+      ] refl in
+      record {
+        log = λ was now led told. (stand was now led told).0;
+        there = λ was now led told. (stand was now led told).1;
       }
 
 no_gate : (log : List ℕ) → get_or log 0 0 ≡ 0 → is_group (take (2 ^ 63) log) ≡ false
@@ -208,46 +214,49 @@ all_moved places was now leads same some all =
 stays_then : (a b c : Image) → Stays (replay a) (replay b) → replay c ≡ replay b → Stays (replay a) (replay c)
 stays_then a b c stays same = subst (λ (r : ℕ → Option (List ℕ)). Stays (replay a) r) (sym same) stays
 
-pub moves_goes : {D : Type 0} (d : Ghosts D) (places : Places) (a e : D) → Goes d a e (λ i. (was : Image) → IsLed d places a was → IsPartlyMoved was i)
+pub moves_goes : {D : Type 0} {d : Ghosts D} {places : Places} {a e : D} → Goes d a e (λ i. (was : Image) → IsLed d places a was → IsPartlyMoved was i)
     → Goes d a e (λ i. (was : Image) → IsLed d places a was → 0 < end_of (groups was.log) → Stays (replay was) (replay i))
-moves_goes d places a e first = goes_weaker first (λ told i partly was led some. moved_stays was i (partly was led))
+moves_goes first = goes_weaker first (λ told i partly was led some. moved_stays was i (partly was led))
 
-module _ {D : Type 0} (d : Ghosts D) (places : Places) (a b c : D) (moves : Moves d places a b) (goes : Goes d b c (d.may_leave b)) where
-  pub synced_goes : Goes d a c (λ i. (was : Image) → IsLed d places a was → IsPartlyMoved was i)
-  synced_goes = goes_then moves.goes goes (λ told i left was led. moves.images i left was led)
+-- What is durable once the pages are synced: each page of the log stands in the area.
+abbrev pub Settles : {D : Type 0} → Ghosts D → Places → D → D → Type 0
+Settles d places a c = (was now : Image) → IsLed d places a was → 0 < end_of (groups was.log) → d.contents c ≡ Some now → IsSettled d c now × IsMoved now × Stays (replay was) (replay now)
 
-  module _ (may_stay : (x : D) (i : Image) → d.contents x ≡ Some i → d.may_leave x i) (e : D) (moved : HasMoved d places places.entries a b) (images : (i : Image) → d.may_leave c i → d.may_leave b i)
-      (durable : (now : Image) → d.contents c ≡ Some now → (d.contents b ≡ Some now) × ((i : Image) → d.may_leave c i → i.pages ≡ now.pages)) where
-    -- what is durable then
-    settled_moved : (was now : Image) → IsLed d places a was → 0 < end_of (groups was.log) → d.contents c ≡ Some now → IsSettled d c now × IsMoved now × Stays (replay was) (replay now)
-    settled_moved was now led some told =
-        let done = durable now told in
-        let same : now.log ≡ was.log = moved.log was now led done.0 in (
-          record { here = told; only = λ i left. image_same i now (done.1 i left) ((moves.images i (images i left) was led).log ∙ sym same) },
-          all_moved places was now led.leads same some (moved.there was now led done.0),
-          moved_stays was now (moves.images now (may_stay b now done.0) was led),
-        )
+module _ {D : Type 0} {d : Ghosts D} {places : Places} where
+  pub synced_goes : {a b c : D} → Moves d places a b → Goes d b c (d.may_leave b) → Goes d a c (λ i. (was : Image) → IsLed d places a was → IsPartlyMoved was i)
+  synced_goes moves goes = goes_then moves.goes goes (λ told i left was led. moves.images i left was led)
 
-    module _ (gate : Goes d c e (ComesTorn Log 0 1 (d.may_leave c))) where
-      pub emptied_goes : Goes d a e (λ i. (was : Image) → IsLed d places a was → 0 < end_of (groups was.log) → Stays (replay was) (replay i))
-      emptied_goes = goes_then (moves_goes d places a c synced_goes) gate (λ told i torn was led some.
-          let mid = some_of (d.contents c) (gate.told told) in
-          let done = settled_moved was mid.0 led some mid.1 in
-          let t = from_settled d c mid.0 i Log 0 1 done.0 torn in
-          stays_then was mid.0 i done.2 (closed_torn mid.0 i done.1 t.there t.here))
+  pub settled_moved : {a b c : D} → Moves d places a b → HasMoved d places places.entries a b → ((x : D) (i : Image) → d.contents x ≡ Some i → d.may_leave x i)
+      → ((i : Image) → d.may_leave c i → d.may_leave b i) → ((now : Image) → d.contents c ≡ Some now → (d.contents b ≡ Some now) × ((i : Image) → d.may_leave c i → i.pages ≡ now.pages))
+      → Settles d places a c
+  settled_moved {b = b} moves moved may_stay images durable was now led some told =
+      let done = durable now told in
+      let same : now.log ≡ was.log = moved.log was now led done.0 in (
+        record { here = told; only = λ i left. image_same i now (done.1 i left) ((moves.images i (images i left) was led).log ∙ sym same) },
+        all_moved places was now led.leads same some (moved.there was now led done.0),
+        moved_stays was now (moves.images now (may_stay b now done.0) was led),
+      )
 
-      pub emptied : (was now : Image) → IsLed d places a was → 0 < end_of (groups was.log) → d.contents e ≡ Some now
-          → ((was : Image) → IsSettled d c was → 0 ≤ length was.log → (now : Image) → d.contents e ≡ Some now → WritesTo Log 0 (0 ∷ []) was now × IsSettled d e now)
-          → IsSettled d e now × Stays (replay was) (replay now) × IsAtEnd 0 true now.log
-      emptied was now led some told written =
-          let mid = some_of (d.contents c) (gate.told (is_some (d.contents e) told)) in
-          let done = settled_moved was mid.0 led some mid.1 in
-          let w = written mid.0 done.0 (omega arith) now told in
-          let wt : WritesTo Log 0 (0 ∷ []) mid.0 now = w.0 in
-          let t : Torn 0 1 (mid.0).log now.log = written_torn wt.here in
-          let first = first_of_rest 0 0 now.log _ (at_written 0 (0 ∷ []) (mid.0).log now.log wt.here) in
-          let none : groups now.log ≡ [] = groups-none (take (2 ^ 63) now.log) (no_gate now.log first.0) in (
-            w.1,
-            stays_then was mid.0 now done.2 (closed_torn mid.0 now done.1 wt.there t),
-            record { here = sym (ap end_of none); closed = λ h. (first.1, rw first.0 refl); opened = λ h. absurd (false≢true (sym h)) },
-          )
+  pub emptied_goes : {a b c e : D} → Moves d places a b → Goes d b c (d.may_leave b) → Settles d places a c → Goes d c e (ComesTorn Log 0 1 (d.may_leave c))
+      → Goes d a e (λ i. (was : Image) → IsLed d places a was → 0 < end_of (groups was.log) → Stays (replay was) (replay i))
+  emptied_goes {c = c} moves goes settles gate = goes_then (moves_goes (synced_goes moves goes)) gate (λ told i torn was led some.
+      let mid = some_of (d.contents c) (gate.told told) in
+      let done = settles was mid.0 led some mid.1 in
+      let t : TearsIn Log 0 1 mid.0 i = from_settled Log 0 1 done.0 torn in
+      stays_then was mid.0 i done.2 (closed_torn mid.0 i done.1 t.there t.here))
+
+  pub emptied : {a c e : D} {was now : Image} → Settles d places a c → (IsSome (d.contents e) → IsSome (d.contents c)) → IsLed d places a was → 0 < end_of (groups was.log) → d.contents e ≡ Some now
+      → ((was : Image) → IsSettled d c was → 0 ≤ length was.log → (now : Image) → d.contents e ≡ Some now → WritesTo Log 0 (0 ∷ []) was now × IsSettled d e now)
+      → IsSettled d e now × Stays (replay was) (replay now) × IsAtEnd 0 true now.log
+  emptied {c = c} {e = e} {was = was} {now = now} settles gate_told led some told written =
+      let mid = some_of (d.contents c) (gate_told (is_some (d.contents e) told)) in
+      let done = settles was mid.0 led some mid.1 in
+      let w = written mid.0 done.0 (omega arith) now told in
+      let wt : WritesTo Log 0 (0 ∷ []) mid.0 now = w.0 in
+      let t : Torn 0 1 (mid.0).log now.log = written_torn wt.here in
+      let first = first_of_rest 0 0 now.log _ (at_written 0 (0 ∷ []) (mid.0).log now.log wt.here) in
+      let none : groups now.log ≡ [] = groups-none (take (2 ^ 63) now.log) (no_gate now.log first.0) in (
+        w.1,
+        stays_then was mid.0 now done.2 (closed_torn mid.0 now done.1 wt.there t),
+        record { here = sym (ap end_of none); closed = λ h. (first.1, rw first.0 refl); opened = λ h. absurd (false≢true (sym h)) },
+      )

@@ -31,30 +31,34 @@ none_given n at into bytes gives short fits =
     let count : n ≡ length (take 8192 (drop at bytes)) = gives.count in
     omega (arith, count, short, fits, length-take 8192 (drop at bytes), length-drop at bytes)
 
+-- What was read at a place: a page where one is there whole, and none elsewhere.
+abbrev pub ReadsPage : Bool → List ℕ → List ℕ → ℕ → Type 0
+ReadsPage found bytes area at = (found ≡ true → (at + 8192 ≤ length area) × (bytes ≡ take 8192 (drop at area))) × (found ≡ false → at + 8192 ≤ length area → ⊥)
+
 page_as : (found : Bool) (bytes area : List ℕ) (at : ℕ) (o : Option (List ℕ)) → (at + 8192 ≤ length area → o ≡ Some (take 8192 (drop at area))) → ((at + 8192 ≤ length area → ⊥) → o ≡ None)
-    → (found ≡ true → (at + 8192 ≤ length area) × (bytes ≡ take 8192 (drop at area))) → (found ≡ false → at + 8192 ≤ length area → ⊥) → o ≡ page_found found bytes
-page_as true bytes area at o there lost whole missing = let w = whole refl in there w.0 ∙ ap (λ (x : List ℕ). Some x) (sym w.1)
-page_as false bytes area at o there lost whole missing = lost (missing refl)
+    → ReadsPage found bytes area at → o ≡ page_found found bytes
+page_as true bytes area at o there lost reads = let w = reads.0 refl in there w.0 ∙ ap (λ (x : List ℕ). Some x) (sym w.1)
+page_as false bytes area at o there lost reads = lost (reads.1 refl)
 
-pub page_in_log : (was : Image) (places : Places) (page at : ℕ) (found : Bool) (bytes : List ℕ) → LeadsTo (groups was.log) places was.log → get nat_cmp places page ≡ Some (Some at) → at + 8192 ≤ length was.log
-    → (found ≡ true → (at + 8192 ≤ length was.log) × (bytes ≡ take 8192 (drop at was.log))) → (found ≡ false → at + 8192 ≤ length was.log → ⊥) → replay was page ≡ page_found found bytes
-page_in_log was places page at found bytes leads place fits whole missing =
-    let held : logged (groups was.log) page ≡ Some (take 8192 (drop at was.log)) = leads page ∙ ap (λ (o : Option (Option ℕ)). place_in o was.log) place in
-    page_as found bytes was.log at (replay was page) (λ h. ap (λ (o : Option (List ℕ)). option_or o (pages_of was.pages page)) held) (λ out. absurd (out fits)) whole missing
+-- a page that has a place, and one that has none
+pub page_held : (was : Image) (places : Places) (page at : ℕ) → LeadsTo (groups was.log) places was.log → get nat_cmp places page ≡ Some (Some at)
+    → logged (groups was.log) page ≡ Some (take 8192 (drop at was.log))
+page_held was places page at leads place = leads page ∙ ap (λ (o : Option (Option ℕ)). place_in o was.log) place
 
-pub page_in_area : (was : Image) (places : Places) (page : ℕ) (found : Bool) (bytes : List ℕ) → LeadsTo (groups was.log) places was.log → ((at : ℕ) → get nat_cmp places page ≡ Some (Some at) → ⊥) → page < 16777216
-    → (found ≡ true → (8192 * page + 8192 ≤ length was.pages) × (bytes ≡ take 8192 (drop (8192 * page) was.pages))) → (found ≡ false → 8192 * page + 8192 ≤ length was.pages → ⊥) → replay was page ≡ page_found found bytes
-page_in_area was places page found bytes leads none low whole missing =
-    let lacks : logged (groups was.log) page ≡ None = leads page ∙ no_place (get nat_cmp places page) was.log none in
+pub page_lacking : (was : Image) (places : Places) (page : ℕ) → LeadsTo (groups was.log) places was.log → ((at : ℕ) → get nat_cmp places page ≡ Some (Some at) → ⊥) → logged (groups was.log) page ≡ None
+page_lacking was places page leads none = leads page ∙ no_place (get nat_cmp places page) was.log none
+
+pub page_in_log : (was : Image) (page at : ℕ) (found : Bool) (bytes : List ℕ) → logged (groups was.log) page ≡ Some (take 8192 (drop at was.log)) → at + 8192 ≤ length was.log
+    → ReadsPage found bytes was.log at → replay was page ≡ page_found found bytes
+page_in_log was page at found bytes held fits reads =
+    page_as found bytes was.log at (replay was page) (λ h. ap (λ (o : Option (List ℕ)). option_or o (pages_of was.pages page)) held) (λ out. absurd (out fits)) reads
+
+pub page_in_area : (was : Image) (page : ℕ) (found : Bool) (bytes : List ℕ) → logged (groups was.log) page ≡ None → page < 16777216
+    → ReadsPage found bytes was.pages (8192 * page) → replay was page ≡ page_found found bytes
+page_in_area was page found bytes lacks low reads =
     let base : replay was page ≡ pages_of was.pages page = ap (λ (o : Option (List ℕ)). option_or o (pages_of was.pages page)) lacks in
     page_as found bytes was.pages (8192 * page) (replay was page) (λ fits. base ∙ page-there was.pages page low fits)
-    (λ out. base ∙ elim (page-cases was.pages page) [ inl there ↦ absurd (out there.1) | inr lost ↦ lost ]) whole missing
-
-pub page_too_far : (was : Image) (places : Places) (page : ℕ) → LeadsTo (groups was.log) places was.log → ((at : ℕ) → get nat_cmp places page ≡ Some (Some at) → ⊥) → 16777216 ≤ page → replay was page ≡ None
-page_too_far was places page leads none far =
-    let lacks : logged (groups was.log) page ≡ None = leads page ∙ no_place (get nat_cmp places page) was.log none in
-    ap (λ (o : Option (List ℕ)). option_or o (pages_of was.pages page)) lacks
-    ∙ elim (page-cases was.pages page) [ inl there ↦ absurd (let low : page < 16777216 = there.0 in omega (arith, low, far)) | inr lost ↦ lost ]
+    (λ out. base ∙ elim (page-cases was.pages page) [ inl there ↦ absurd (out there.1) | inr lost ↦ lost ]) reads
 
 same_either : (x y : ℕ) → (x == y) ≡ (y == x)
 same_either x y = grind (arith, nat_tests)

@@ -180,8 +180,8 @@ module _ (at given limit : ℕ) (front log : List ℕ) (gives : Gives given 13 f
         let same : big_number 4 (drop 9 front) ≡ count_of (drop at (usable log)) = ones.1 in
         none zero_count full (ones.0 ∙ is.gate) (let s = is.some in omega (arith, s, same)) (let f = is.few in omega (arith, f, same)) (omega (arith, long, same))
 
-    pub head_said : IsHead at (record { shut = shut; count = count }) log
-    head_said = record {
+    head_is : IsHead at (record { shut = shut; count = count }) log
+    head_is = record {
       closed = λ h. let s = is_shut h in let b = byte_given s.0 in (b.1, ap (λ (x : ℕ). x == 1) (sym b.0) ∙ s.1);
       opened = λ h there. let given_some = byte_there there in sym ((byte_given given_some).0) ∙ is_open h given_some;
       none = λ h. elim (cases_Bool (is_group (drop at (usable log)))) [ inl some ↦ absurd (no_group h some) | inr nothing ↦ nothing ];
@@ -192,6 +192,18 @@ module _ (at given limit : ℕ) (front log : List ℕ) (gives : Gives given 13 f
           let ones = head_ones w.0 (omega (arith, room)) in
           record { gate = sym ones.0 ∙ c.0; counted = sym ones.1 ∙ sym c.1; few = c.2; whole = omega (arith, room, usable_long) };
     }
+
+-- What was read says of a gate, and of a count where the room behind it is as given.
+abbrev pub SaysShut : Bool → ℕ → List ℕ → Type 0
+SaysShut shut given front = (shut ≡ true → (0 < given) × ((slice_index front 0 == 1) ≡ false)) × (shut ≡ false → 0 < given → slice_index front 0 ≡ 1)
+
+abbrev pub SaysCount : ℕ → ℕ → List ℕ → ℕ → Type 0
+SaysCount count given front room = (0 < count → (13 ≤ given) × (13 + 8196 * count < room)) × (0 < count → (slice_index front 0 ≡ 1) × (count ≡ big_number 4 (drop 9 front)) × (count ≤ 16777216))
+    × (count ≡ 0 → 13 ≤ given → slice_index front 0 ≡ 1 → 1 ≤ big_number 4 (drop 9 front) → big_number 4 (drop 9 front) ≤ 16777216 → 13 + 8196 * big_number 4 (drop 9 front) < room → ⊥)
+
+pub head_said : {at count : ℕ} {shut : Bool} {log : List ℕ} (given limit : ℕ) (front : List ℕ) → Gives given 13 front (drop at log) → limit ≡ min (2 ^ 63) (length log) → SaysShut shut given front
+    → SaysCount count given front (limit - at) → IsHead at (record { shut = shut; count = count }) log
+head_said {at = at} {count = count} {shut = shut} {log = log} given limit front gives limit_is gate counts = head_is at given limit front log gives limit_is count shut gate.0 gate.1 counts.0 counts.1 counts.2
 
 -- Groups.
 
@@ -241,15 +253,15 @@ module _ (at count : ℕ) (log : List ℕ) (head : IsHeadOf count (drop at (usab
       ]
 
   -- one group more was read
-  pub read_more : (old new : Places) → 0 < count → true ≡ rise 0 (entries_of count (drop (at + 13) log)) → IsReadTo old at log
+  pub read_more : {old new : Places} → IsGroup (drop at (usable log)) → IsReadTo old at log
       → Notes (entries_of count (drop (at + 13) log)) log old new → IsReadTo new (at + (13 + 8196 * count)) log
-  read_more old new some rises so_far notes =
+  read_more there so_far notes =
       let rest = drop at (usable log) in
       let g = group_of rest in
       let entries : g.entries ≡ entries_of count (drop (at + 13) log) =
       ap (λ (n : ℕ). entries_of n (drop 13 rest)) head.counted ∙ entries_usable at count log low in
       let first : groups_behind 0 rest ≡ g ∷ groups_behind 0 (drop (size_of count) rest) =
-      groups-first rest (says_group rest (group_there some rises)) ∙ ap (λ (n : ℕ). g ∷ groups_behind 0 (drop (size_of n) rest)) head.counted in
+      groups-first rest (says_group rest there) ∙ ap (λ (n : ℕ). g ∷ groups_behind 0 (drop (size_of n) rest)) head.counted in
       let long : length g.entries ≡ count = ap (λ (es : List Entry). length es) entries ∙ length-entries_of count (drop (at + 13) log) in
       record {
         front = so_far.front ++ g ∷ [];

@@ -9,6 +9,7 @@ use Rattle.nx_host.specs.Disk.{Image, Torn, Written, TearsIn, WritesTo, ComesTor
 use Rattle.nx_host.specs.declared.disk.Disk.{Ghosts}
 use Rattle.nx_host.specs.Still.{IsSettled}
 use Rattle.nx_host.proofs.DiskLemmas.{goes_then, goes_weaker, none_goes}
+use Rattle.nx_replay.proofs.CommitMoments.{Shuts, LaysGroup}
 use Rattle.nx_replay.proofs.SettledLemmas.{some_of, is_some, from_settled}
 use Rattle.nx_replay.proofs.StepLemmas.{drop_taken}
 use Rattle.std.proofs.Common.{length-append}
@@ -18,7 +19,7 @@ use Rattle.byteorder.specs.Endian.{big_bytes}
 use Rattle.byteorder.specs.Numbers.{length-bytes_high_first}
 use Rattle.nx_replay.specs.Log.{Entry, entry_bytes, group_bytes, groups, end_of, IsAtEnd}
 use Rattle.nx_replay.proofs.GroupLemmas.{end-within, zero_or_more, front-less}
-use Rattle.nx_replay.specs.Log.{Group, HasSame}
+use Rattle.nx_replay.specs.Log.{Group}
 use Rattle.nx_replay.specs.Commit.{IsOpened, IsBody, IsLaid}
 use Rattle.nx_slots.specs.declared.page.PageBytes.{PageBytes}
 use Rattle.nx_wal.specs.Writing.{Writes, Lays, StandsBehind, entries_of, body_of, head_of}
@@ -85,38 +86,37 @@ written_then at x y old mid new first second =
       long = omega (arith, a, b, both);
     }
 
-module _ {D : Type 0} (d : Ghosts D) where
-  comes_then : (at n m : ℕ) (a b : D) (i : Image) → ((j : Image) → d.may_leave b j → ComesTorn Log at n (d.may_leave a) j) → ComesTorn Log (at + n) m (d.may_leave b) i
-      → ComesTorn Log at (n + m) (d.may_leave a) i
-  comes_then at n m a b i images torn =
-      let first = images torn.0 torn.1 in
+comes_wider : {D : Type 0} (d : Ghosts D) (at n m : ℕ) (a : D) (i : Image) → n ≤ m → ComesTorn Log at n (d.may_leave a) i → ComesTorn Log at m (d.may_leave a) i
+comes_wider d at n m a i wider torn =
+    let t : TearsIn Log at n torn.0 i = torn.2 in
+    (torn.0, torn.1, record { here = torn_wider at n m (torn.0).log i.log wider t.here; there = t.there })
+
+module _ {D : Type 0} {d : Ghosts D} where
+  comes_then : {at n : ℕ} {a b : D} (m : ℕ) (i : Image) → Writes d at n a b → ComesTorn Log (at + n) m (d.may_leave b) i → ComesTorn Log at (n + m) (d.may_leave a) i
+  comes_then {at = at} {n = n} m i writes torn =
+      let first = writes.images torn.0 torn.1 in
       let t : TearsIn Log at n first.0 torn.0 = first.2 in
       let u : TearsIn Log (at + n) m torn.0 i = torn.2 in
       (first.0, first.1, record { here = torn_then at n m (first.0).log (torn.0).log i.log t.here u.here; there = u.there ∙ t.there })
 
-  comes_wider : (at n m : ℕ) (a : D) (i : Image) → n ≤ m → ComesTorn Log at n (d.may_leave a) i → ComesTorn Log at m (d.may_leave a) i
-  comes_wider at n m a i wider torn =
-      let t : TearsIn Log at n torn.0 i = torn.2 in
-      (torn.0, torn.1, record { here = torn_wider at n m (torn.0).log i.log wider t.here; there = t.there })
-
-  pub writes_then : (at n m : ℕ) (a b c : D) → Writes d at n a b → Writes d (at + n) m b c → Writes d at (n + m) a c
-  writes_then at n m a b c first second = record {
-    goes = goes_then (goes_weaker first.goes (λ told i torn. comes_wider at n (n + m) a i (omega arith) torn)) second.goes (λ told i torn. comes_then at n m a b i first.images torn);
-    images = λ i left. comes_then at n m a b i first.images (second.images i left);
+  pub writes_then : {at n m : ℕ} {a b c : D} → Writes d at n a b → Writes d (at + n) m b c → Writes d at (n + m) a c
+  writes_then {at = at} {n = n} {m = m} {a = a} first second = record {
+    goes = goes_then (goes_weaker first.goes (λ told i torn. comes_wider d at n (n + m) a i (omega arith) torn)) second.goes (λ told i torn. comes_then m i first torn);
+    images = λ i left. comes_then m i first (second.images i left);
     reads_stay = second.reads_stay ∙ first.reads_stay;
   }
 
-  pub writes_wider : (at n m : ℕ) (a b : D) → n ≤ m → Writes d at n a b → Writes d at m a b
-  writes_wider at n m a b wider first = record {
-    goes = goes_weaker first.goes (λ told i torn. comes_wider at n m a i wider torn);
-    images = λ i left. comes_wider at n m a i wider (first.images i left);
+  pub writes_wider : {at n : ℕ} {a b : D} (m : ℕ) → Writes d at n a b → n ≤ m → Writes d at m a b
+  writes_wider {at = at} {n = n} {a = a} m first wider = record {
+    goes = goes_weaker first.goes (λ told i torn. comes_wider d at n m a i wider torn);
+    images = λ i left. comes_wider d at n m a i wider (first.images i left);
     reads_stay = first.reads_stay;
   }
 
   -- the same where the numbers are equal
-  pub writes_more : (at n there m k : ℕ) (a b c : D) → there ≡ at + n → n + m ≡ k → Writes d at n a b → Writes d there m b c → Writes d at k a c
-  writes_more at n there m k a b c there_is k_is first second =
-      subst (λ (j : ℕ). Writes d at j a c) k_is (writes_then at n m a b c first (subst (λ (j : ℕ). Writes d j m b c) there_is second))
+  pub writes_more : {at n there m : ℕ} {a b c : D} (k : ℕ) → Writes d at n a b → Writes d there m b c → there ≡ at + n → n + m ≡ k → Writes d at k a c
+  writes_more {at = at} {m = m} {a = a} {b = b} {c = c} k first second there_is k_is =
+      subst (λ (j : ℕ). Writes d at j a c) k_is (writes_then first (subst (λ (j : ℕ). Writes d j m b c) there_is second))
 
   pub writes_none : (at : ℕ) (a : D) → Writes d at 0 a a
   writes_none at a = record {
@@ -136,8 +136,8 @@ module _ {D : Type 0} (d : Ghosts D) where
         );
   }
 
-  pub lays_then : (at there n : ℕ) (x y : List ℕ) (a b c : D) → there ≡ at + length x → Lays d at x a b → Writes d there n b c → Lays d there y b c → Lays d at (x ++ y) a c
-  lays_then at there n x y a b c there_is first goes second = record {
+  pub lays_then : {at there n : ℕ} {x y : List ℕ} {a b c : D} → Lays d at x a b → Writes d there n b c → Lays d there y b c → there ≡ at + length x → Lays d at (x ++ y) a c
+  lays_then {at = at} {there = there} {x = x} {y = y} {b = b} {c = c} first goes second there_is = record {
     written = λ was now told_was told_now fits.
         let told = (goes.goes).told (is_some (d.contents c) told_now) in
         let mid = some_of (d.contents b) told in
@@ -175,17 +175,17 @@ pub image_same : (a b : Image) → a.pages ≡ b.pages → a.log ≡ b.log → a
 image_same a b pages log = λ i. record { pages = pages i; log = log i }
 
 -- what was written, once it is durable
-pub synced : {D : Type 0} (d : Ghosts D) (at n : ℕ) (bytes : List ℕ) (a b c : D) → Writes d at n a b → Lays d at bytes a b → ((i : Image) → d.may_leave c i → d.may_leave b i)
+pub synced : {D : Type 0} {d : Ghosts D} {at n : ℕ} {bytes : List ℕ} {a b c : D} {was now : Image} → Writes d at n a b → Lays d at bytes a b → ((i : Image) → d.may_leave c i → d.may_leave b i)
     → ((now : Image) → d.contents c ≡ Some now → (d.contents b ≡ Some now) × ((i : Image) → d.may_leave c i → i.log ≡ now.log))
-    → (was : Image) → IsSettled d a was → at ≤ length was.log → (now : Image) → d.contents c ≡ Some now → WritesTo Log at bytes was now × IsSettled d c now
-synced d at n bytes a b c writes lays images durable was settled fits now told =
+    → IsSettled d a was → at ≤ length was.log → d.contents c ≡ Some now → WritesTo Log at bytes was now × IsSettled d c now
+synced {at = at} {n = n} {bytes = bytes} {was = was} {now = now} writes lays images durable settled fits told =
     let done = durable now told in
     let w : WritesTo Log at bytes was now = lays.written was now settled.here done.0 fits in (
       w,
       record {
         here = told;
         only = λ i left.
-            let torn : TearsIn Log at n was i = from_settled d a was i Log at n settled (writes.images i (images i left)) in
+            let torn : TearsIn Log at n was i = from_settled Log at n settled (writes.images i (images i left)) in
             image_same i now (torn.there ∙ sym w.there) (done.1 i left);
       },
     )
@@ -228,26 +228,32 @@ stands_behind at bytes was now fits writes =
 pub told_once : {D : Type 0} (d : Ghosts D) (a : D) (was now : Image) → IsSettled d a was → d.contents a ≡ Some now → was ≡ now
 told_once d a was now settled told = some_same (sym settled.here ∙ told)
 
-module _ {D : Type 0} (d : Ghosts D) (a b c e : D) (end : ℕ) (shut : Bool) (body : List ℕ)
-    (first : (was now : Image) → IsOpened d end shut a was → d.contents b ≡ Some now → HasSame was now × IsOpened d end true b now)
-    (first_front : (was now : Image) → IsOpened d end shut a was → d.contents b ≡ Some now → take end now.log ≡ take end was.log)
-    (second_told : IsSome (d.contents c) → IsSome (d.contents b))
-    (second : (was now : Image) (g : Group) → IsOpened d end true b was → IsBody g end body → d.contents c ≡ Some now → HasSame was now × IsLaid d g end c now)
-    (second_front : (was now : Image) → IsOpened d end true b was → d.contents c ≡ Some now → StandsBehind end body was now)
-    (third_told : IsSome (d.contents e) → IsSome (d.contents c))
-    (third_front : (was now : Image) (g : Group) → IsLaid d g end c was → d.contents e ≡ Some now → (take end now.log ≡ take end was.log) × (drop (end + 1) now.log ≡ drop (end + 1) was.log)) where
-  pub group_stands : (was now : Image) (g : Group) → IsOpened d end shut a was → IsBody g end body → d.contents e ≡ Some now → StandsBehind end body was now
-  group_stands was now g opened is told =
-      let far = some_of (d.contents c) (third_told (is_some (d.contents e) told)) in
-      let mid = some_of (d.contents b) (second_told (is_some (d.contents c) far.1)) in
-      let one = first was mid.0 opened mid.1 in
-      let two = second mid.0 far.0 g one.1 is far.1 in
-      let laid = second_front mid.0 far.0 one.1 far.1 in
-      let done = third_front far.0 now g two.1 told in
-      record {
-        front = done.0 ∙ laid.front ∙ first_front was mid.0 opened mid.1;
-        behind = ap (λ (x : List ℕ). take (length body) x) done.1 ∙ laid.behind;
-      }
+-- What the steps of a commit leave of the log's bytes: its front, the bytes that were laid, and all but the gate.
+abbrev pub KeepsFront : {D : Type 0} → Ghosts D → ℕ → Bool → D → D → Type 0
+KeepsFront d end shut a b = (was now : Image) → IsOpened d end shut a was → d.contents b ≡ Some now → take end now.log ≡ take end was.log
+
+abbrev pub LaysBody : {D : Type 0} → Ghosts D → ℕ → List ℕ → D → D → Type 0
+LaysBody d end body b c = (was now : Image) → IsOpened d end true b was → d.contents c ≡ Some now → StandsBehind end body was now
+
+abbrev pub KeepsRest : {D : Type 0} → Ghosts D → ℕ → D → D → Type 0
+KeepsRest d end c e = (was now : Image) (g : Group) → IsLaid d g end c was → d.contents e ≡ Some now → (take end now.log ≡ take end was.log) × (drop (end + 1) now.log ≡ drop (end + 1) was.log)
+
+abbrev pub GroupStands : {D : Type 0} → Ghosts D → ℕ → Bool → List ℕ → D → D → Type 0
+GroupStands d end shut body a e = (was now : Image) (g : Group) → IsOpened d end shut a was → IsBody g end body → d.contents e ≡ Some now → StandsBehind end body was now
+
+pub group_stands : {D : Type 0} {d : Ghosts D} {a b c e : D} (end : ℕ) (shut : Bool) (body : List ℕ) → Shuts d end shut a b × KeepsFront d end shut a b → (IsSome (d.contents c) → IsSome (d.contents b))
+    → LaysGroup d end body b c × LaysBody d end body b c → (IsSome (d.contents e) → IsSome (d.contents c)) → KeepsRest d end c e → GroupStands d end shut body a e
+group_stands {d = d} {b = b} {c = c} {e = e} end shut body first second_told second third_told third was now g opened is told =
+    let far = some_of (d.contents c) (third_told (is_some (d.contents e) told)) in
+    let mid = some_of (d.contents b) (second_told (is_some (d.contents c) far.1)) in
+    let one = first.0 was mid.0 opened mid.1 in
+    let two = second.0 mid.0 far.0 g one.1 is far.1 in
+    let laid = second.1 mid.0 far.0 one.1 far.1 in
+    let done = third far.0 now g two.1 told in
+    record {
+      front = done.0 ∙ laid.front ∙ first.1 was mid.0 opened mid.1;
+      behind = ap (λ (x : List ℕ). take (length body) x) done.1 ∙ laid.behind;
+    }
 
 pub behind_written : (at gate : ℕ) (was now : Image) → WritesTo Log at (gate ∷ []) was now → drop (at + 1) now.log ≡ drop (at + 1) was.log
 behind_written at gate was now writes = let w : Written at (gate ∷ []) was.log now.log = writes.here in w.after

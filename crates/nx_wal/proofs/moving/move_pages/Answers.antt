@@ -10,8 +10,8 @@ pub loop-page-init : goal.loop-page-init
 loop-page-init g c = record {
   passed = [];
   split = search rules;
-  moves = moves_none g.D.Disk c.args.places.now c.args.disk.now;
-  moved = moved_none g.D.Disk c.args.places.now c.args.disk.now;
+  moves = moves_none c.args.disk.now;
+  moved = moved_none c.args.disk.now;
 }
 
 pub returns-in_err-move_from-clause-moves : goal.returns-in_err-move_from-clause-moves
@@ -19,7 +19,7 @@ returns-in_err-move_from-clause-moves g c =
     let start : c.into_iter-page-iterator.result ≡ c.args.places.now.entries = search rules in
     let here = btree_map_turn deref_pair c.loop-page.yielded c.into_iter-page-iterator.result c.loop-page.page-iterator c.next.new.self c.next.result (c.in-Some.page, c.in-Some.place)
     c.loop-page.yielded_by c.in-Some.is c.next.ensures.steps nat_cmp_total c.args.places.now start c.iter-page-items.ensures.ordered in
-    moves_more g.D.Disk c.args.places.now c.in-Some.page.now c.in-Some.place.now c.args.disk.now c.loop-page.disk c.move_from.new.disk here.1 c.move_from.ensures.none c.move_from.ensures.writes
+    moves_more here.1 c.move_from.ensures.none c.move_from.ensures.writes
     c.loop-page.invariant.moves
 
 pub loop-page-preserved : goal.loop-page-preserved
@@ -33,8 +33,7 @@ loop-page-preserved g c =
     record {
       passed = so_far.passed ++ item ∷ [];
       split = append_assoc so_far.passed (item ∷ []) c.next.new.self ∙ ap (λ (es : List (ℕ × Option ℕ)). so_far.passed ++ es) (sym more) ∙ so_far.split;
-      moves = moves_more g.D.Disk c.args.places.now c.in-Some.page.now c.in-Some.place.now c.args.disk.now c.loop-page.disk c.move_from.new.disk here.1 c.move_from.ensures.none c.move_from.ensures.writes
+      moves = moves_more here.1 c.move_from.ensures.none c.move_from.ensures.writes
           so_far.moves;
-      moved = moved_push g.D.Disk c.args.places.now c.in-Some.page.now c.in-Some.place.now c.args.disk.now c.loop-page.disk c.move_from.new.disk here.1 c.move_from.ensures.none c.move_from.ensures.writes
-          so_far.moves so_far.passed so_far.moved c.in_ok-move_from.ensures.moved;
+      moved = moved_push here.1 c.move_from.ensures.none c.move_from.ensures.writes so_far.moved c.in_ok-move_from.ensures.moved;
     }

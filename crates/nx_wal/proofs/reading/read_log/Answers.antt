@@ -1,10 +1,10 @@
-use Rattle.std.proofs.Common.{◌≡◌, ℕ, ◌+◌, ◌*◌, ◌<◌, ◌≤◌, length, drop, arith, sym, ap, subst, ◌∙◌}
+use Rattle.std.proofs.Common.{◌≡◌, ℕ, ◌+◌, ◌*◌, ◌^◌, ◌<◌, ◌≤◌, length, drop, arith, sym, ap, subst, ◌∙◌}
 use Rattle.nx_replay.specs.Log.{entries_of}
 use Rattle.nx_wal.specs.Reading.{numbers_of}
 use Rattle.nx_wal.specs.Places.{Notes}
 use Rattle.nx_host.proofs.DiskLemmas.{none_still, still_then}
 use Rattle.nx_replay.proofs.SettledLemmas.{told_still}
-use Rattle.nx_wal.proofs.ReadingLemmas.{none_within, nothing_read, no_rise, read_more, read_whole}
+use Rattle.nx_wal.proofs.ReadingLemmas.{none_within, nothing_read, no_rise, group_there, read_more, read_whole}
 use Rattle.nx_wal.proofs.reading.read_log.Goals as goal
 
 pub loop-head-init : goal.loop-head-init
@@ -64,7 +64,8 @@ loop-head-preserved g c =
           let bytes = drop (c.loop-head.at + 13) was.log in
           let same : numbers ≡ numbers_of (entries_of count bytes) = c.deref.ensures.value ∙ c.in_ok-rises.ensures.numbers c.if-not-rises.false was told_head fits in
           let notes = c.in_ok-note_pages.ensures.notes was.log (same ∙ ap (λ (n : ℕ). numbers_of (entries_of n bytes)) (sym long)) in
-          read_more c.loop-head.at count was.log (head.some some) (omega (arith, room, c.requires.limit)) c.loop-head.places c.note_pages.new.places some (sym c.if-not-rises.false ∙ rises)
+          let low : c.loop-head.at + 13 + 8196 * count < 2 ^ 63 = omega (arith, room, c.requires.limit) in
+          read_more c.loop-head.at count was.log (head.some some) low (group_there c.loop-head.at count was.log (head.some some) low some (sym c.if-not-rises.false ∙ rises))
           (so_far.so_far was told limit_is) (subst (λ (n : ℕ). Notes (entries_of n bytes) was.log c.loop-head.places c.note_pages.new.places) long notes);
       within = c.in_ok-note_pages.ensures.within (c.loop-head.at + (13 + 8196 * count)) (omega (arith, long)) (λ p at is. let low = so_far.within p at is in omega (arith, low));
     }

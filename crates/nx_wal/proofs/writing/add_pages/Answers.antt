@@ -16,7 +16,7 @@ loop-page-init g c = record {
   gone = [];
   split = search rules;
   ends = omega arith;
-  adds = kept_adds g.D.Disk c.args.block.now c.args.disk.now;
+  adds = kept_adds c.args.block.now c.args.disk.now;
   long = refl;
   faults = omega arith;
 }
@@ -35,8 +35,8 @@ returns-in_err-add_page-clause-reaches g c =
     let more = rest_more deref_pair c.loop-page.page-iterator c.next.new.self c.next.result (c.in-Some.page, c.in-Some.bytes) c.in-Some.is c.next.ensures.steps in
     let few : length so_far.gone + length c.loop-page.page-iterator ≡ length c.args.waiting.now.entries = sym (length-append so_far.gone c.loop-page.page-iterator) ∙ ap length so_far.split in
     let longer : 1 ≤ length c.loop-page.page-iterator = omega (arith, ap length more) in
-    reaches_wider g.D.Disk (8196 * length so_far.gone + 8196) (8196 * length c.args.waiting.now.entries) c.args.block.now c.args.disk.now c.add_page.new.disk (omega (arith, few, longer))
-    (reaches_then g.D.Disk (entry_bytes (entries_of so_far.gone)) 8196 (8196 * length so_far.gone + 8196) (omega (arith, so_far.long)) so_far.adds c.add_page.ensures.reaches)
+    reaches_wider (8196 * length so_far.gone + 8196) (8196 * length c.args.waiting.now.entries) c.args.block.now c.args.disk.now c.add_page.new.disk (omega (arith, few, longer))
+    (reaches_then (entry_bytes (entries_of so_far.gone)) 8196 (8196 * length so_far.gone + 8196) (omega (arith, so_far.long)) so_far.adds c.add_page.ensures.reaches)
 
 pub loop-page-preserved : goal.loop-page-preserved
 loop-page-preserved g c =
@@ -50,7 +50,7 @@ loop-page-preserved g c =
       gone = so_far.gone ++ item ∷ [];
       split = append_assoc so_far.gone (item ∷ []) c.next.new.self ∙ ap (λ (es : List (ℕ × PageBytes)). so_far.gone ++ es) (sym more) ∙ so_far.split;
       ends = omega (arith, so_far.ends, longer, c.in_ok-add_page.ensures.ends);
-      adds = subst (λ (x : List ℕ). Adds g.D.Disk x c.args.block.now c.add_page.new.block c.args.disk.now c.add_page.new.disk) (sym bytes) (adds_then g.D.Disk so_far.adds c.in_ok-add_page.ensures.adds);
+      adds = subst (λ (x : List ℕ). Adds g.D.Disk x c.args.block.now c.add_page.new.block c.args.disk.now c.add_page.new.disk) (sym bytes) (adds_then so_far.adds c.in_ok-add_page.ensures.adds);
       long = omega (arith, so_far.long, longer, page_long, ap length bytes, length-append (entry_bytes (entries_of so_far.gone)) (big_bytes 4 item.0 ++ item.1.bytes));
       faults = omega (arith, so_far.faults, c.add_page.ensures.faults);
     }
@@ -59,5 +59,5 @@ pub returns-clause-reaches : goal.returns-clause-reaches
 returns-clause-reaches g c =
     let so_far = c.loop-page.invariant in
     let all : so_far.gone ≡ c.args.waiting.now.entries = all_gone so_far.gone c.loop-page.page-iterator c.args.waiting.now.entries (c.in-None.ensures.steps).0 so_far.split in
-    reaches_wider g.D.Disk (8196 * length so_far.gone) (8196 * length c.args.waiting.now.entries) c.args.block.now c.args.disk.now c.loop-page.disk (omega (arith, ap length all))
-    (reaches_then g.D.Disk (entry_bytes (entries_of so_far.gone)) 0 (8196 * length so_far.gone) (omega (arith, so_far.long)) so_far.adds (kept_reaches g.D.Disk 0 c.loop-page.block c.loop-page.disk))
+    reaches_wider (8196 * length so_far.gone) (8196 * length c.args.waiting.now.entries) c.args.block.now c.args.disk.now c.loop-page.disk (omega (arith, ap length all))
+    (reaches_then (entry_bytes (entries_of so_far.gone)) 0 (8196 * length so_far.gone) (omega (arith, so_far.long)) so_far.adds (kept_reaches 0 c.loop-page.block c.loop-page.disk))

@@ -8,11 +8,11 @@ use Rattle.nx_wal.proofs.writing.lay_waiting.Goals as goal
 
 pub returns-in_err-write_body-clause-goes : goal.returns-in_err-write_body-clause-goes
 returns-in_err-write_body-clause-goes g c =
-    laid_goes g.D.Disk c.args.disk.now c.write_body.new.disk c.args.end (13 + 8196 * length c.args.waiting.now.entries) (c.write_body.ensures.writes).goes
+    laid_goes c.args.end (13 + 8196 * length c.args.waiting.now.entries) (c.write_body.ensures.writes).goes
 
 pub returns-clause-goes : goal.returns-clause-goes
 returns-clause-goes g c =
-    laid_goes g.D.Disk c.args.disk.now c.sync_log.new.disk c.args.end (13 + 8196 * length c.args.waiting.now.entries)
+    laid_goes c.args.end (13 + 8196 * length c.args.waiting.now.entries)
     (goes_then (c.write_body.ensures.writes).goes c.sync_log.ensures.goes (λ told i left. (c.write_body.ensures.writes).images i left))
 
 pub returns-clause-ok : goal.returns-clause-ok
@@ -20,15 +20,13 @@ returns-clause-ok g c = on_ok c.sync_log.result c.sync_log.ensures.durable (λ d
     let body = body_of c.args.number c.args.waiting.now.entries in
     let shut = (opened.at).closed refl in
     let here : c.args.end < length was.log = shut.0 in
-    let done = synced g.D.Disk (c.args.end + 1) (13 + 8196 * length c.args.waiting.now.entries) body c.args.disk.now c.write_body.new.disk c.sync_log.new.disk
-    c.write_body.ensures.writes c.in_ok-write_body.ensures.lays c.sync_log.ensures.images durable was opened.settled (omega (arith, here)) now told in
-    laid_done g.D.Disk c.args.disk.now c.sync_log.new.disk c.args.end group body was now opened is done.0 done.1)
+    let done = synced c.write_body.ensures.writes c.in_ok-write_body.ensures.lays c.sync_log.ensures.images durable opened.settled (omega (arith, here)) told in
+    laid_done c.args.end group body opened is done.0 done.1)
 
 pub returns-clause-front : goal.returns-clause-front
 returns-clause-front g c = on_ok c.sync_log.result c.sync_log.ensures.durable (λ durable was now opened told.
     let body = body_of c.args.number c.args.waiting.now.entries in
     let shut = (opened.at).closed refl in
     let here : c.args.end < length was.log = shut.0 in
-    let done = synced g.D.Disk (c.args.end + 1) (13 + 8196 * length c.args.waiting.now.entries) body c.args.disk.now c.write_body.new.disk c.sync_log.new.disk
-    c.write_body.ensures.writes c.in_ok-write_body.ensures.lays c.sync_log.ensures.images durable was opened.settled (omega (arith, here)) now told in
+    let done = synced c.write_body.ensures.writes c.in_ok-write_body.ensures.lays c.sync_log.ensures.images durable opened.settled (omega (arith, here)) told in
     stands_behind c.args.end body was now here done.0)

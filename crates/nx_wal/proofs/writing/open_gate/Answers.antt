@@ -6,12 +6,12 @@ use Rattle.nx_replay.proofs.CommitMoments.{opened_goes, opened_done}
 use Rattle.nx_wal.proofs.writing.open_gate.Goals as goal
 
 pub returns-clause-goes : goal.returns-clause-goes
-returns-clause-goes g c = opened_goes g.D.Disk c.args.disk.now c.write_gate.new.disk c.args.end c.write_gate.ensures.goes
+returns-clause-goes g c = opened_goes c.args.end c.write_gate.ensures.goes
 
 pub returns-clause-ok : goal.returns-clause-ok
 returns-clause-ok g c = on_ok c.write_gate.result c.write_gate.ensures.written (λ written was now group laid told.
     let done = written was ((laid.opened).settled) (end_fits c.args.end true was.log ((laid.opened).at)) now told in
-    opened_done g.D.Disk c.args.disk.now c.write_gate.new.disk c.args.end group was now laid done.0 done.1)
+    opened_done c.args.end group laid done.0 done.1)
 
 pub returns-clause-front : goal.returns-clause-front
 returns-clause-front g c = on_ok c.write_gate.result c.write_gate.ensures.written (λ written was now group laid told.

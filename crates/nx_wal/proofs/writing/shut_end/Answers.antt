@@ -6,12 +6,12 @@ use Rattle.nx_replay.proofs.CommitMoments.{shut_goes, shut_done}
 use Rattle.nx_wal.proofs.writing.shut_end.Goals as goal
 
 pub returns-clause-goes : goal.returns-clause-goes
-returns-clause-goes g c = shut_goes g.D.Disk c.args.disk.now c.write_gate.new.disk c.args.end c.args.shut c.if-shut.false c.write_gate.ensures.goes
+returns-clause-goes g c = shut_goes c.args.end c.args.shut c.if-shut.false c.write_gate.ensures.goes
 
 pub returns-clause-ok : goal.returns-clause-ok
 returns-clause-ok g c = on_ok c.write_gate.result c.write_gate.ensures.written (λ written was now opened told.
     let done = written was opened.settled (end_fits c.args.end c.args.shut was.log opened.at) now told in
-    shut_done g.D.Disk c.args.disk.now c.write_gate.new.disk c.args.end c.args.shut c.if-shut.false was now opened done.0 done.1)
+    shut_done c.args.end c.args.shut c.if-shut.false opened done.0 done.1)
 
 pub returns-then-shut-clause-front : goal.returns-then-shut-clause-front
 returns-then-shut-clause-front g c was now opened told = ap (λ (i : Image). take c.args.end i.log) (sym (told_once g.D.Disk c.args.disk.now was now opened.settled told))

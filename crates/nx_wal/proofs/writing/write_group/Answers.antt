@@ -5,29 +5,23 @@ use Rattle.nx_wal.proofs.WritingLemmas.{group_stands}
 use Rattle.nx_wal.proofs.writing.write_group.Goals as goal
 
 pub returns-in_err-shut_end-clause-goes : goal.returns-in_err-shut_end-clause-goes
-returns-in_err-shut_end-clause-goes g c =
-    one_step g.D.Disk c.args.disk.now c.shut_end.new.disk c.args.end c.args.shut (body_of c.args.number c.args.waiting.now.entries) c.shut_end.ensures.goes
+returns-in_err-shut_end-clause-goes g c = one_step c.args.end c.args.shut (body_of c.args.number c.args.waiting.now.entries) c.shut_end.ensures.goes
 
 pub returns-in_err-lay_waiting-clause-goes : goal.returns-in_err-lay_waiting-clause-goes
 returns-in_err-lay_waiting-clause-goes g c =
-    two_steps g.D.Disk c.args.disk.now c.shut_end.new.disk c.args.end c.args.shut (body_of c.args.number c.args.waiting.now.entries) c.shut_end.ensures.goes
-    c.lay_waiting.new.disk c.in_ok-shut_end.ensures.ok c.lay_waiting.ensures.goes
+    two_steps c.args.end c.args.shut (body_of c.args.number c.args.waiting.now.entries) c.shut_end.ensures.goes c.in_ok-shut_end.ensures.ok c.lay_waiting.ensures.goes
 
 pub returns-clause-goes : goal.returns-clause-goes
 returns-clause-goes g c =
-    three_steps g.D.Disk c.args.disk.now c.shut_end.new.disk c.args.end c.args.shut (body_of c.args.number c.args.waiting.now.entries) c.shut_end.ensures.goes
-    c.lay_waiting.new.disk c.in_ok-shut_end.ensures.ok c.lay_waiting.ensures.goes
-    c.open_gate.new.disk c.in_ok-lay_waiting.ensures.ok c.open_gate.ensures.goes
+    three_steps c.args.end c.args.shut (body_of c.args.number c.args.waiting.now.entries) c.shut_end.ensures.goes c.in_ok-shut_end.ensures.ok
+    c.lay_waiting.ensures.goes c.in_ok-lay_waiting.ensures.ok c.open_gate.ensures.goes
 
 pub returns-clause-ok : goal.returns-clause-ok
-returns-clause-ok g c = on_ok c.open_gate.result c.open_gate.ensures.ok (
-    steps_done g.D.Disk c.args.disk.now c.shut_end.new.disk c.args.end c.args.shut (body_of c.args.number c.args.waiting.now.entries) c.shut_end.ensures.goes
-    c.lay_waiting.new.disk c.in_ok-shut_end.ensures.ok c.lay_waiting.ensures.goes
-    c.open_gate.new.disk c.in_ok-lay_waiting.ensures.ok c.open_gate.ensures.goes
-    )
+returns-clause-ok g c = on_ok c.open_gate.result c.open_gate.ensures.ok (λ opens.
+    steps_done c.args.end c.args.shut (body_of c.args.number c.args.waiting.now.entries) c.in_ok-shut_end.ensures.ok (c.lay_waiting.ensures.goes).told
+    c.in_ok-lay_waiting.ensures.ok (c.open_gate.ensures.goes).told opens)
 
 pub returns-clause-front : goal.returns-clause-front
-returns-clause-front g c = on_ok c.open_gate.result c.open_gate.ensures.front (
-    group_stands g.D.Disk c.args.disk.now c.shut_end.new.disk c.lay_waiting.new.disk c.open_gate.new.disk c.args.end c.args.shut (body_of c.args.number c.args.waiting.now.entries)
-    c.in_ok-shut_end.ensures.ok c.in_ok-shut_end.ensures.front (c.lay_waiting.ensures.goes).told c.in_ok-lay_waiting.ensures.ok c.in_ok-lay_waiting.ensures.front (c.open_gate.ensures.goes).told
-    )
+returns-clause-front g c = on_ok c.open_gate.result c.open_gate.ensures.front (λ rest.
+    group_stands c.args.end c.args.shut (body_of c.args.number c.args.waiting.now.entries) (c.in_ok-shut_end.ensures.ok, c.in_ok-shut_end.ensures.front) (c.lay_waiting.ensures.goes).told
+    (c.in_ok-lay_waiting.ensures.ok, c.in_ok-lay_waiting.ensures.front) (c.open_gate.ensures.goes).told rest)
