@@ -1,5 +1,4 @@
-// A reader, a writer and an environment that fail where a test says.
-use std::env::{Env, FillError};
+// A reader and a writer that fail where a test says.
 use std::io;
 use std::io::{ErrorKind, Read, Write};
 
@@ -88,31 +87,5 @@ impl Write for FakeWriter {
 
     fn flush(&mut self) -> io::Result<()> {
         Ok(())
-    }
-}
-
-/// An environment of these arguments and no variable.
-#[derive(Clone, Copy)]
-pub struct FakeArguments(pub &'static [&'static [u8]]);
-
-impl Env for FakeArguments {
-    fn arg(&self, i: usize, buf: &mut [u8]) -> Result<usize, FillError> {
-        let Some(argument) = self.0.get(i) else {
-            return Err(FillError::NotPresent);
-        };
-        let count = argument.len();
-        if buf.len() < count {
-            return Err(FillError::TooLong);
-        }
-        buf[..count].copy_from_slice(argument);
-        Ok(count)
-    }
-
-    fn var(&self, _name: &str, _buf: &mut [u8]) -> Result<usize, FillError> {
-        Err(FillError::NotPresent)
-    }
-
-    fn var_at(&self, _i: usize, _buf: &mut [u8]) -> Result<usize, FillError> {
-        Err(FillError::NotPresent)
     }
 }

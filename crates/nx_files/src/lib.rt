@@ -1,0 +1,13 @@
+//! The outside of the program: the two files of a store, an input and an output, as a `Host`.
+//!
+//! `FileHost` tells nothing of what a file, a pipe or a terminal holds, so that no proof assumes
+//! anything of them. What its calls do to the system is said where they are; that the system does
+//! its part is trusted.
+#![tactic(auto)]
+
+mod cursor;
+mod host;
+mod store;
+mod stream;
+
+pub use host::FileHost;
