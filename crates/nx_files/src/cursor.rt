@@ -1,6 +1,7 @@
 // A file from an offset on, as a reader and a writer.
-ghost use Rattle.std.specs.Prelude.{◌≡◌, ◌+◌, ◌-◌, ◌^◌, min, IfOk, OnErr};
+ghost use Rattle.std.specs.Prelude.{◌≡◌, ◌+◌, ◌-◌, ◌^◌, min, None, IfOk, OnErr};
 ghost use Rattle.std.specs.Io.{ReadsAtMost, WritesAtMost};
+ghost use Rattle.std.specs.Io.KnownBytes.{ReadConsumes, WriteAppends};
 
 use std::fs::File;
 use std::io;
@@ -23,6 +24,7 @@ impl<'a> FileCursor<'a> {
 impl Read for FileCursor<'_> {
     fn read(&mut self, buf: &mut [u8]) -> io::Result<usize>
         ensures bound { ReadsAtMost result buf.new }
+        ensures bytes { ReadConsumes None None result buf.new }
         ensures moved { IfOk result (λ n. self.new.at ≡ min (self.old.at + n) (2 ^ 64 - 1)) }
         ensures failed { OnErr result (self.new ≡ self.old) }
     {
@@ -35,6 +37,7 @@ impl Read for FileCursor<'_> {
 impl Write for FileCursor<'_> {
     fn write(&mut self, buf: &[u8]) -> io::Result<usize>
         ensures bound { WritesAtMost result buf.now }
+        ensures bytes { WriteAppends None None result buf.now }
         ensures moved { IfOk result (λ n. self.new.at ≡ min (self.old.at + n) (2 ^ 64 - 1)) }
         ensures failed { OnErr result (self.new ≡ self.old) }
     {

@@ -1,8 +1,8 @@
 // The host over files.
-ghost use Rattle.std.specs.Prelude.{◌≡◌, ◌+◌, ◌-◌, ◌^◌, ◌<◌, ◌≤◌, ℕ, length, take, min, None, IfOk, IsSome, OnOk, OnErr, refl};
+ghost use Rattle.std.specs.Prelude.{◌≡◌, ◌+◌, ◌<◌, ◌≤◌, ℕ, length, take, None, IfOk, IsSome, OnOk, OnErr, refl};
 ghost use Rattle.std.specs.Io.KnownBytes.{Appends, Consumes, IsAtEnd, Keeps};
 ghost use Rattle.std.proofs.Common.{subst, sym};
-ghost use Rattle.nx_host.specs.Disk.{HoldsBytes, no_bytes};
+ghost use Rattle.nx_host.specs.Disk.{HoldsBytes, Rose, no_bytes};
 ghost use Rattle.nx_host.proofs.DiskLemmas.{no_bytes_hold_bytes, untold};
 
 use crate::store::Store;
@@ -131,8 +131,10 @@ impl<F: Files<File = File>, R: Read, W: Write> Host for FileHost<F, R, W> {
         ensures taken { IfOk result (λ n. Consumes (R.remaining self.old.reader) (R.remaining self.new.reader) (take n into.new)) }
         ensures end { IfOk result (λ n. n ≡ 0 → 0 < length into.old → IsAtEnd (R.remaining self.new.reader)) }
         ensures untaken { OnErr result (Keeps (R.remaining self.old.reader) (R.remaining self.new.reader)) }
-        ensures well { OnOk result (self.new ≡ record self.old { reader = self.new.reader }) }
-        ensures failed { OnErr result (self.new ≡ record self.old { reader = self.new.reader; in_faults = min (self.old.in_faults + 1) (2 ^ 64 - 1) }) }
+        ensures others { self.new ≡ record self.old { reader = self.new.reader; in_faults = self.new.in_faults } }
+        ensures well { OnOk result (self.new.in_faults ≡ self.old.in_faults) }
+        ensures in_faults { (self.old.in_faults ≤ self.new.in_faults) × (self.new.in_faults ≤ self.old.in_faults + 1) }
+        ensures cause { OnErr result (Rose self.old.in_faults self.new.in_faults) }
     {
         let taken = read_some(&mut self.reader, into);
         if taken.is_err() {
@@ -144,8 +146,10 @@ impl<F: Files<File = File>, R: Read, W: Write> Host for FileHost<F, R, W> {
     fn emit(&mut self, bytes: &[u8]) -> Result<(), Failed>
         ensures whole { OnOk result (Appends (W.contents self.old.writer) (W.contents self.new.writer) bytes.now) }
         ensures front { OnErr result ((n : ℕ) × Appends (W.contents self.old.writer) (W.contents self.new.writer) (take n bytes.now)) }
-        ensures well { OnOk result (self.new ≡ record self.old { writer = self.new.writer }) }
-        ensures failed { OnErr result (self.new ≡ record self.old { writer = self.new.writer; out_faults = min (self.old.out_faults + 1) (2 ^ 64 - 1) }) }
+        ensures others { self.new ≡ record self.old { writer = self.new.writer; out_faults = self.new.out_faults } }
+        ensures well { OnOk result (self.new.out_faults ≡ self.old.out_faults) }
+        ensures out_faults { (self.old.out_faults ≤ self.new.out_faults) × (self.new.out_faults ≤ self.old.out_faults + 1) }
+        ensures cause { OnErr result (Rose self.old.out_faults self.new.out_faults) }
     {
         let put = write_whole(&mut self.writer, bytes);
         if put.is_err() {
