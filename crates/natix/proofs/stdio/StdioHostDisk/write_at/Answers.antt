@@ -1,6 +1,0 @@
-use Rattle.nx_host.proofs.TornLemmas.{comes_self}
-use Rattle.nx_host.specs.Disk.{HoldsBytes}
-use Rattle.natix.proofs.stdio.StdioHostDisk.write_at.Goals as goal
-
-pub returns-clause-images : goal.returns-clause-images
-returns-clause-images g c image left = comes_self _ _ _ HoldsBytes image left
