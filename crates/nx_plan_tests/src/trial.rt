@@ -6,6 +6,7 @@ mod claims;
 mod documents;
 mod minima;
 mod plain;
+mod planned;
 mod random;
 
 use choices::{Child, claim, first_exceeded};
