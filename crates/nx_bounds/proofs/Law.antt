@@ -11,7 +11,8 @@ use Rattle.nx_parts.specs.declared.interval.Interval.{Interval}
 use Rattle.nx_parts.specs.declared.bounds.Bound.{Bound}
 use Rattle.nx_parts.specs.Partitioning.{IsFeasible, IsOptimal}
 use Rattle.nx_choices.specs.Claim.{IsSupported}
-use Rattle.nx_bounds.specs.Claim.{children, claimed_in, numbers, AreSupported}
+use Rattle.nx_minima.specs.Seen.{as_child}
+use Rattle.nx_bounds.specs.Claim.{claimed_children, claimed_in, AreSupported}
 use Rattle.nx_bounds.specs.Refusal.{root_least}
 use Rattle.nx_bounds.specs.Law.{IsTrueOf, LowerBound}
 use Rattle.nx_bounds.proofs.LawLemmas.{all_left, all_right, root_true}
@@ -20,11 +21,11 @@ use Rattle.nx_bounds.proofs.LawLemmas.{all_left, all_right, root_true}
 pub record IsSupportedAt (k : ℕ) (tree : OrderedTree) (bound : Bound) : Type 0 where
   pub others : List Bound
   pub enough : nodes tree.below ≤ length others
-  pub root : IsSupported k (record { own = weight tree.node; children = children k tree.below others; bound = numbers bound })
+  pub root : IsSupported k (record { own = weight tree.node; children = claimed_children k tree.below others; bound = as_child bound })
   pub below : AllByRecursion (IsSupported k) (claimed_in k tree.below others)
 
 -- A node with this path is found below the node at another path, from a position on: the bound for its tree is supported.
-record IsFound (k : ℕ) (path : List ℕ) (position : ℕ) (forest : Forest) (longer : List ℕ) (node : Node) (bound : Bound) : Type 0 where
+record FindsExceeded (k : ℕ) (path : List ℕ) (position : ℕ) (forest : Forest) (longer : List ℕ) (node : Node) (bound : Bound) : Type 0 where
   step : ℕ
   rest : List ℕ
   below : Forest
@@ -55,7 +56,7 @@ get_dropped (suc n) (x ∷ xs) (suc i) j e = get_dropped n xs i j (omega (arith,
 
 -- what is found at or below the first tree
 found_first : (k : ℕ) (path : List ℕ) (position : ℕ) (node : Node) (below beside : Forest) (longer : List ℕ) (other : Node) (bound : Bound) →
-    IsFound k (path ++ position ∷ []) 0 below longer other bound → IsFound k path position (Plant node below beside) longer other bound
+    FindsExceeded k (path ++ position ∷ []) 0 below longer other bound → FindsExceeded k path position (Plant node below beside) longer other bound
 found_first k path position node below beside longer other bound f =
     record {
       step = 0;
@@ -68,7 +69,7 @@ found_first k path position node below beside longer other bound f =
 
 -- what is found beside it
 found_beside : (k : ℕ) (path : List ℕ) (position : ℕ) (node : Node) (below beside : Forest) (longer : List ℕ) (other : Node) (bound : Bound) →
-    IsFound k path (position + 1) beside longer other bound → IsFound k path position (Plant node below beside) longer other bound
+    FindsExceeded k path (position + 1) beside longer other bound → FindsExceeded k path position (Plant node below beside) longer other bound
 found_beside k path position node below beside longer other bound f =
     record {
       step = suc f.step;
@@ -81,8 +82,8 @@ found_beside k path position node below beside longer other bound f =
 
 -- a later node is found below the first tree, or beside it
 found_later : (k : ℕ) (path : List ℕ) (position : ℕ) (node : Node) (below beside : Forest) (longer : List ℕ) (other : Node) (bound : Bound) (number : ℕ) →
-    (number < nodes below → IsFound k (path ++ position ∷ []) 0 below longer other bound) → (nodes below ≤ number → IsFound k path (position + 1) beside longer other bound) →
-    (number < nodes below) ⊎ (nodes below ≤ number) → IsFound k path position (Plant node below beside) longer other bound
+    (number < nodes below → FindsExceeded k (path ++ position ∷ []) 0 below longer other bound) → (nodes below ≤ number → FindsExceeded k path (position + 1) beside longer other bound) →
+    (number < nodes below) ⊎ (nodes below ≤ number) → FindsExceeded k path position (Plant node below beside) longer other bound
 found_later k path position node below beside longer other bound number first rest (inl less) = found_first k path position node below beside longer other bound (first less)
 found_later k path position node below beside longer other bound number first rest (inr most) = found_beside k path position node below beside longer other bound (rest most)
 
@@ -92,7 +93,7 @@ some_is x y e = ap (λ o. unwrap_or o x) e
 -- the tree of the node at this number of a forest
 found : (k : ℕ) (path : List ℕ) (position : ℕ) (forest : Forest) (bounds : List Bound) → nodes forest ≤ length bounds → AllByRecursion (IsSupported k) (claimed_in k forest bounds) →
     (number : ℕ) (longer : List ℕ) (node : Node) (bound : Bound) → slice_get (listed_in path position forest) number ≡ Some (longer, node) → slice_get bounds number ≡ Some bound →
-    IsFound k path position forest longer node bound
+    FindsExceeded k path position forest longer node bound
 found k path position Empty bounds enough s number longer node bound listed_there there = absurd (cc)
 found k path position (Plant first below beside) [] enough s number longer node bound listed_there there = absurd (omega (arith, enough))
 found k path position (Plant first below beside) (b ∷ bounds) enough s zero longer node bound listed_there there =
@@ -108,8 +109,8 @@ found k path position (Plant first below beside) (b ∷ bounds) enough s zero lo
       supported = record {
         others = bounds;
         enough = omega (arith, enough);
-        root = subst (λ (n : Node). IsSupported k (record { own = weight n; children = children k below bounds; bound = numbers bound })) same
-            (subst (λ (c : Bound). IsSupported k (record { own = weight first; children = children k below bounds; bound = numbers c })) same_bound s.0);
+        root = subst (λ (n : Node). IsSupported k (record { own = weight n; children = claimed_children k below bounds; bound = as_child bound })) same
+            (subst (λ (c : Bound). IsSupported k (record { own = weight first; children = claimed_children k below bounds; bound = as_child c })) same_bound s.0);
         below = all_left (IsSupported k) (claimed_in k below bounds) (claimed_in k beside (drop (nodes below) bounds)) s.1;
       };
     }

@@ -14,7 +14,7 @@ use Rattle.nx_minima.proofs.BoundLemmas.{within_bounds}
 use Rattle.nx_minima.proofs.MinimaLemmas.{least_choices, minima-tops}
 use Rattle.nx_bounds.specs.declared.error.BoundsError.{BoundsError}
 use Rattle.nx_bounds.specs.declared.error.BoundsError.TheVariants.{Parts, WrongWeight, Length, Unsupported, Count, BadPlanLine, Memory}
-use Rattle.nx_bounds.specs.Claim.{counts_as, child, children, claimed_in, numbers, AreSupported}
+use Rattle.nx_bounds.specs.Claim.{counts_as, claimed_child, claimed_children, claimed_in, AreSupported}
 use Rattle.nx_bounds.specs.Law.{MinimaAreSupported}
 use Rattle.nx_bounds.specs.Refusal.{IsNotSupported}
 use Rattle.nx_bounds.proofs.VerdictLemmas.{supported_spared, length_spared}
@@ -23,7 +23,7 @@ same_count : (k own claimed : ℕ) → own ≤ claimed → claimed ≤ k → min
 same_count k own claimed low high = omega arith
 
 -- minima count as they are
-child-minima : (k : ℕ) (tree : OrderedTree) (bound : Bound) → IsMinima k tree bound → child k tree.node bound ≡ as_child bound
+child-minima : (k : ℕ) (tree : OrderedTree) (bound : Bound) → IsMinima k tree bound → claimed_child k tree.node bound ≡ as_child bound
 child-minima k tree bound m =
     let w = within_bounds k tree bound m in
     let own = w.own in
@@ -35,15 +35,15 @@ child-minima k tree bound m =
     ∙ ap (λ (n : ℕ). let c : Child = record { least = bound.least; lean = bound.lean; nearly = n } in c) nearly
 
 -- the choices at a parent see minima as they are
-children-minima : (k : ℕ) (forest : Forest) (bounds : List Bound) → AreMinimaIn k forest bounds → children k forest bounds ≡ seen (tops forest bounds)
+children-minima : (k : ℕ) (forest : Forest) (bounds : List Bound) → AreMinimaIn k forest bounds → claimed_children k forest bounds ≡ seen (tops forest bounds)
 children-minima k Empty bounds m = refl
 children-minima k (Plant node below beside) [] m = absurd m
 children-minima k (Plant node below beside) (bound ∷ bounds) m =
-    ap (λ c. c ∷ children k beside (drop (nodes below) bounds)) (child-minima k (record { node = node; below = below }) bound m.0)
+    ap (λ c. c ∷ claimed_children k beside (drop (nodes below) bounds)) (child-minima k (record { node = node; below = below }) bound m.0)
     ∙ ap (λ l. as_child bound ∷ l) (children-minima k beside (drop (nodes below) bounds) m.2)
 
 -- what the least choices give is supported
-least_supported : (k own : ℕ) (children : List Child) (bound : Bound) → IsLeastChoice k own children (as_child bound) → IsSupported k (record { own = own; children = children; bound = numbers bound })
+least_supported : (k own : ℕ) (children : List Child) (bound : Bound) → IsLeastChoice k own children (as_child bound) → IsSupported k (record { own = own; children = children; bound = as_child bound })
 least_supported k own children bound l =
     record { least = λ cells a s. l.least.least cells a; lean = λ cells a s. l.lean.least cells (a, s); nearly = λ cells a s. l.nearly.least cells (a, s) }
 
@@ -54,7 +54,7 @@ supported_in k (Plant node below beside) (bound ∷ bounds) m =
     let tree : OrderedTree = record { node = node; below = below } in
     let own = tops below bounds in
     let l = (least_choices k tree bound own (minima-tops k below bounds m.1)).0 m.0 in (
-      subst (λ cs. IsSupported k (record { own = weight node; children = cs; bound = numbers bound })) (sym (children-minima k below bounds m.1)) (least_supported k (weight node) (seen own) bound l),
+      subst (λ cs. IsSupported k (record { own = weight node; children = cs; bound = as_child bound })) (sym (children-minima k below bounds m.1)) (least_supported k (weight node) (seen own) bound l),
       both (IsSupported k) (claimed_in k below bounds) (claimed_in k beside (drop (nodes below) bounds)) (supported_in k below bounds m.1) (supported_in k beside (drop (nodes below) bounds) m.2),
     )
 

@@ -7,7 +7,7 @@ use Rattle.std.proofs.lemmas.List.{map-append, length_push}
 use Rattle.std.proofs.lemmas.List.Folds.{fold-map}
 use Rattle.std.proofs.lemmas.List.Sums.{sum_by-cons, sum_by-append}
 use Rattle.nx_pyx.specs.Lines.{Pieces, cut, without_cr, last_line, lines, has_lf, EndsLine}
-use Rattle.nx_pyx.proofs.Shown.{onto, cut-append}
+use Rattle.nx_pyx.proofs.ShownFaultLemmas.{onto, cut-append}
 use Rattle.nx_pyx.proofs.StreamLemmas.{cut-none, cut-line}
 use Rattle.nx_parts.specs.declared.interval.Interval.{Interval}
 use Rattle.nx_parts.specs.declared.bounds.Bound.{Bound}

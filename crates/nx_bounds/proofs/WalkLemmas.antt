@@ -9,8 +9,9 @@ use Rattle.nx_choices.specs.declared.child.Field.{Field}
 use Rattle.nx_bounds.specs.declared.error.BoundsError.{BoundsError}
 use Rattle.nx_bounds.specs.declared.error.BoundsError.TheVariants.{Parts, WrongWeight, Length, Unsupported, Count, BadPlanLine, Memory}
 use Rattle.nx_choices.specs.declared.child.Child.{Child}
-use Rattle.nx_choices.specs.Claim.{Claimed, IsSupported, IsFound}
-use Rattle.nx_bounds.specs.Claim.{child, children, claimed_in, claimed, numbers, AreSupported}
+use Rattle.nx_choices.specs.Claim.{Claimed, IsSupported, FindsExceeded}
+use Rattle.nx_minima.specs.Seen.{as_child}
+use Rattle.nx_bounds.specs.Claim.{claimed_child, claimed_children, claimed_in, claimed, AreSupported}
 use Rattle.nx_choices.specs.Choice.{AreWeighed}
 use Rattle.nx_bounds.specs.Refusal.{IsNotSupported}
 use Rattle.nx_bounds.specs.Walk.{claim_at, IsFirstUnsupported, NodeFails, WalkFails}
@@ -144,10 +145,10 @@ first_behind k (c ∷ done) rest index field number found h f =
     subst (λ (j : ℕ). IsFirstUnsupported k (c ∷ done ++ rest) j field number found) n
     (first_cons k c (done ++ rest) (length done + index) field number found h.0 (first_behind k done rest index field number found h.1 f))
 
-get_front : (xs ys : List Claimed) (i : ℕ) (x : Claimed) → slice_get xs i ≡ Some x → slice_get (xs ++ ys) i ≡ Some x
-get_front [] ys i x e = absurd (cc)
-get_front (y ∷ xs) ys zero x e = e
-get_front (y ∷ xs) ys (suc i) x e = get_front xs ys i x e
+get_prefix : (xs ys : List Claimed) (i : ℕ) (x : Claimed) → slice_get xs i ≡ Some x → slice_get (xs ++ ys) i ≡ Some x
+get_prefix [] ys i x e = absurd (cc)
+get_prefix (y ∷ xs) ys zero x e = e
+get_prefix (y ∷ xs) ys (suc i) x e = get_prefix xs ys i x e
 
 get_within : (xs ys : List Claimed) (i j : ℕ) (x y : Claimed) → slice_get xs j ≡ Some y → i < j → slice_get (xs ++ ys) i ≡ Some x → slice_get xs i ≡ Some x
 get_within [] ys i j x y e lt g = absurd (cc)
@@ -159,7 +160,7 @@ first_before : (k : ℕ) (claims rest : List Claimed) (index : ℕ) (field : Fie
     → IsFirstUnsupported k (claims ++ rest) index field number found
 first_before k claims rest index field number found f = record {
   node = f.node;
-  there = get_front claims rest index f.node f.there;
+  there = get_prefix claims rest index f.node f.there;
   before = λ earlier other lt e. f.before earlier other lt (get_within claims rest earlier index other f.node f.there lt e);
   exceeded = f.exceeded;
 }
@@ -209,13 +210,13 @@ walk_fails_more k tree bounds place ts i next t error w e within h =
 
 -- The list of what is claimed of the children, as it grows.
 pub record Listed (k : ℕ) (tree : OrderedTree) (bounds : List Bound) (place : ℕ) (ts : List OrderedTree) (i next : ℕ) (list : List Child) : Type 0 where
-  pub parts : children k tree.below (drop (place + 1) bounds) ≡ list ++ children k (forest_of (drop i ts)) (drop next bounds)
+  pub parts : claimed_children k tree.below (drop (place + 1) bounds) ≡ list ++ claimed_children k (forest_of (drop i ts)) (drop next bounds)
   pub left : next + nodes (forest_of (drop i ts)) ≡ place + 1 + nodes tree.below
 
 pub list_start : (k : ℕ) (tree : OrderedTree) (bounds : List Bound) (place : ℕ) (ts : List OrderedTree) (list : List Child) → list ≡ [] → forest_of ts ≡ tree.below
     → Listed k tree bounds place ts 0 (place + 1) list
 list_start k tree bounds place ts list e f = record {
-  parts = ap (λ (g : Forest). children k g (drop (place + 1) bounds)) (sym f) ∙ ap (λ (cs : List Child). cs ++ children k (forest_of ts) (drop (place + 1) bounds)) (sym e);
+  parts = ap (λ (g : Forest). claimed_children k g (drop (place + 1) bounds)) (sym f) ∙ ap (λ (cs : List Child). cs ++ claimed_children k (forest_of ts) (drop (place + 1) bounds)) (sym e);
   left = ap (λ (g : Forest). place + 1 + nodes g) f;
 }
 
@@ -227,7 +228,7 @@ list_within k tree bounds place ts i next list t w e h =
     omega arith
 
 pub list_more : (k : ℕ) (tree : OrderedTree) (bounds : List Bound) (place : ℕ) (ts : List OrderedTree) (i next n : ℕ) (list new : List Child) (t : OrderedTree) (b : Bound)
-    → Listed k tree bounds place ts i next list → drop i ts ≡ t ∷ drop (i + 1) ts → slice_get bounds next ≡ Some b → n ≡ 1 + nodes t.below → new ≡ list ++ child k t.node b ∷ []
+    → Listed k tree bounds place ts i next list → drop i ts ≡ t ∷ drop (i + 1) ts → slice_get bounds next ≡ Some b → n ≡ 1 + nodes t.below → new ≡ list ++ claimed_child k t.node b ∷ []
     → Listed k tree bounds place ts (i + 1) (next + n) new
 list_more k tree bounds place ts i next n list new t b w e at is more =
     let below : nodes (forest_of (drop i ts)) ≡ 1 + nodes t.below + nodes (forest_of (drop (i + 1) ts)) = ap (λ (xs : List OrderedTree). nodes (forest_of xs)) e in
@@ -235,22 +236,22 @@ list_more k tree bounds place ts i next n list new t b w e at is more =
     let m : next + 1 + nodes t.below ≡ next + n = omega arith in
     record {
       parts = w.parts
-          ∙ ap (λ (xs : List OrderedTree). list ++ children k (forest_of xs) (drop next bounds)) e
-          ∙ ap (λ (bs : List Bound). list ++ children k (Plant t.node t.below (forest_of (drop (i + 1) ts))) bs) (drop-at bounds next b at)
-          ∙ ap (λ (bs : List Bound). list ++ (child k t.node b ∷ children k (forest_of (drop (i + 1) ts)) bs)) (drop-drop (nodes t.below) (next + 1) bounds)
-          ∙ ap (λ (j : ℕ). list ++ (child k t.node b ∷ children k (forest_of (drop (i + 1) ts)) (drop j bounds))) m
-          ∙ sym (append_assoc list (child k t.node b ∷ []) (children k (forest_of (drop (i + 1) ts)) (drop (next + n) bounds)))
-          ∙ ap (λ (cs : List Child). cs ++ children k (forest_of (drop (i + 1) ts)) (drop (next + n) bounds)) (sym more);
+          ∙ ap (λ (xs : List OrderedTree). list ++ claimed_children k (forest_of xs) (drop next bounds)) e
+          ∙ ap (λ (bs : List Bound). list ++ claimed_children k (Plant t.node t.below (forest_of (drop (i + 1) ts))) bs) (drop-at bounds next b at)
+          ∙ ap (λ (bs : List Bound). list ++ (claimed_child k t.node b ∷ claimed_children k (forest_of (drop (i + 1) ts)) bs)) (drop-drop (nodes t.below) (next + 1) bounds)
+          ∙ ap (λ (j : ℕ). list ++ (claimed_child k t.node b ∷ claimed_children k (forest_of (drop (i + 1) ts)) (drop j bounds))) m
+          ∙ sym (append_assoc list (claimed_child k t.node b ∷ []) (claimed_children k (forest_of (drop (i + 1) ts)) (drop (next + n) bounds)))
+          ∙ ap (λ (cs : List Child). cs ++ claimed_children k (forest_of (drop (i + 1) ts)) (drop (next + n) bounds)) (sym more);
       left = omega arith;
     }
 
 pub list_end : (k : ℕ) (tree : OrderedTree) (bounds : List Bound) (place : ℕ) (ts : List OrderedTree) (i next : ℕ) (list : List Child) → Listed k tree bounds place ts i next list
-    → drop i ts ≡ [] → list ≡ children k tree.below (drop (place + 1) bounds)
+    → drop i ts ≡ [] → list ≡ claimed_children k tree.below (drop (place + 1) bounds)
 list_end k tree bounds place ts i next list w e =
-    sym (w.parts ∙ ap (λ (xs : List OrderedTree). list ++ children k (forest_of xs) (drop next bounds)) e ∙ append-nil list)
+    sym (w.parts ∙ ap (λ (xs : List OrderedTree). list ++ claimed_children k (forest_of xs) (drop next bounds)) e ∙ append-nil list)
 
 -- each child weighs at least 1 and at most k as it is seen
-pub children_weighed : (k : ℕ) (f : Forest) (bounds : List Bound) → 1 ≤ k → AreWeighed k (children k f bounds)
+pub children_weighed : (k : ℕ) (f : Forest) (bounds : List Bound) → 1 ≤ k → AreWeighed k (claimed_children k f bounds)
 children_weighed k Empty bounds h = tt
 children_weighed k (Plant node below beside) [] h = tt
 children_weighed k (Plant node below beside) (bound ∷ bounds) h = (
@@ -258,7 +259,7 @@ children_weighed k (Plant node below beside) (bound ∷ bounds) h = (
   children_weighed k beside (drop (nodes below) bounds) h,
 )
 
-pub length-children : (k : ℕ) (f : Forest) (bounds : List Bound) → length (children k f bounds) ≤ nodes f
+pub length-children : (k : ℕ) (f : Forest) (bounds : List Bound) → length (claimed_children k f bounds) ≤ nodes f
 length-children k Empty bounds = omega arith
 length-children k (Plant node below beside) [] = omega arith
 length-children k (Plant node below beside) (bound ∷ bounds) = omega (arith, length-children k beside (drop (nodes below) bounds))
@@ -285,13 +286,13 @@ walk_refuses k tree bounds (BadPlanLine line) size h = absurd h
 
 -- what is found of a node is found of its claim
 pub found_same : (k own : ℕ) (tree : OrderedTree) (bounds : List Bound) (list : List Child) (got : Child) (b : Bound) (found : Option (Field × ℕ)) → own ≡ weight tree.node
-    → list ≡ children k tree.below bounds → got ≡ numbers b → IsFound k (record { own = own; children = list; bound = got }) found → IsFound k (claim_at k tree bounds b) found
+    → list ≡ claimed_children k tree.below bounds → got ≡ as_child b → FindsExceeded k (record { own = own; children = list; bound = got }) found → FindsExceeded k (claim_at k tree bounds b) found
 found_same k own tree bounds list got b found is same at h =
     let e : record { own = own; children = list; bound = got } ≡ claim_at k tree bounds b =
     ap (λ (w : ℕ). record { own = w; children = list; bound = got }) is
     ∙ ap (λ (l : List Child). record { own = weight tree.node; children = l; bound = got }) same
-    ∙ ap (λ (x : Child). record { own = weight tree.node; children = children k tree.below bounds; bound = x }) at in
-    subst (λ (c : Claimed). IsFound k c found) e h
+    ∙ ap (λ (x : Child). record { own = weight tree.node; children = claimed_children k tree.below bounds; bound = x }) at in
+    subst (λ (c : Claimed). FindsExceeded k c found) e h
 
 pub walk_supports : (k : ℕ) (tree : OrderedTree) (slice bounds : List Bound) → slice ≡ bounds → length slice ≡ 1 + nodes tree.below → AllByRecursion (IsSupported k) (claimed k tree slice)
     → AreSupported k tree bounds

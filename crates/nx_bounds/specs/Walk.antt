@@ -7,11 +7,12 @@ use Rattle.nx_choices.specs.declared.child.Field.{Field}
 use Rattle.nx_bounds.specs.declared.error.BoundsError.{BoundsError}
 use Rattle.nx_bounds.specs.declared.error.BoundsError.TheVariants.{WrongWeight, Unsupported, Count, Memory}
 use Rattle.nx_choices.specs.Claim.{Claimed, claim, IsSupported, IsExceeded, AreSupportedBefore}
-use Rattle.nx_bounds.specs.Claim.{children, numbers}
+use Rattle.nx_minima.specs.Seen.{as_child}
+use Rattle.nx_bounds.specs.Claim.{claimed_children}
 
 -- what is claimed of the root of a tree, where the bounds of the nodes below it come next
 abbrev pub claim_at : ℕ → OrderedTree → List Bound → Bound → Claimed
-claim_at k tree bounds bound = record { own = weight tree.node; children = children k tree.below bounds; bound = numbers bound }
+claim_at k tree bounds bound = record { own = weight tree.node; children = claimed_children k tree.below bounds; bound = as_child bound }
 
 -- this number of what is claimed of a node is the first that isn't supported
 pub record IsFirstExceeded (k : ℕ) (node : Claimed) (field : Field) (claimed_number found : ℕ) : Type 0 where

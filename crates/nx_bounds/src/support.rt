@@ -5,8 +5,9 @@ ghost use Rattle.nx_tree.specs.Forest.{nodes};
 ghost use Rattle.nx_tree.specs.Document.{IsDocument, most_nodes};
 ghost use Rattle.nx_weights.specs.Weight.{IsShort, IsWithinLimits};
 ghost use Rattle.nx_parts.specs.Minima.{AreMinima};
-ghost use Rattle.nx_choices.specs.Claim.{claim, IsSupported, IsFound};
-ghost use Rattle.nx_bounds.specs.Claim.{child, children, claimed, numbers, AreSupported};
+ghost use Rattle.nx_choices.specs.Claim.{claim, IsSupported, FindsExceeded};
+ghost use Rattle.nx_minima.specs.Seen.{as_child};
+ghost use Rattle.nx_bounds.specs.Claim.{claimed_child, claimed_children, claimed, AreSupported};
 ghost use Rattle.nx_bounds.specs.Refusal.{IsNotSupported};
 ghost use Rattle.nx_bounds.specs.Walk.{claim_at, NodeFails, WalkFails};
 
@@ -123,13 +124,13 @@ fn exceeded(
     requires limits { IsWithinLimits tree.now }
     requires few { length bounds.now ≤ most_nodes }
     requires enough { place + 1 + nodes tree.now.below ≤ length bounds.now }
-    ensures { IfOk result (λ found. (bound : Bound) → slice_get bounds.now place ≡ Some bound → IsFound k (claim_at k tree.now (drop (place + 1) bounds.now) bound) found) }
+    ensures { IfOk result (λ found. (bound : Bound) → slice_get bounds.now place ≡ Some bound → FindsExceeded k (claim_at k tree.now (drop (place + 1) bounds.now) bound) found) }
 {
     let bound = bounds[place as usize];
     let own = weight(&tree.node);
     let Scratch { choices, children } = scratch;
     claim_children(tree, k, bounds, place, children)?;
-    choices.exceeded(k, own, children.as_slice(), numbers(bound))
+    choices.exceeded(k, own, children.as_slice(), as_child(bound))
 }
 
 // Makes the list one of what is claimed of the children of the tree's root, whose bound stands at the
@@ -144,7 +145,7 @@ fn claim_children(
     requires limits { IsWithinLimits tree.now }
     requires few { length bounds.now ≤ most_nodes }
     requires enough { place + 1 + nodes tree.now.below ≤ length bounds.now }
-    ensures { OnOk result (list.new.items ≡ children k tree.now.below (drop (place + 1) bounds.now)) }
+    ensures { OnOk result (list.new.items ≡ claimed_children k tree.now.below (drop (place + 1) bounds.now)) }
 {
     list.clear();
     let mut next = place + 1;
@@ -158,7 +159,7 @@ fn claim_children(
 // A child as the choices at its parent see it.
 fn claimed_child(node: &Node, k: u32, bound: Bound) -> Child
     requires { IsShort node.now }
-    ensures { result ≡ child k node.now bound }
+    ensures { result ≡ claimed_child k node.now bound }
 {
     let own = weight(node);
     Child {
@@ -169,8 +170,8 @@ fn claimed_child(node: &Node, k: u32, bound: Bound) -> Child
 }
 
 // The numbers that are claimed of a node.
-fn numbers(bound: Bound) -> Child
-    ensures { result ≡ numbers bound }
+fn as_child(bound: Bound) -> Child
+    ensures { result ≡ as_child bound }
 {
     Child {
         least: bound.least,
@@ -181,7 +182,7 @@ fn numbers(bound: Bound) -> Child
 
 // The number of the bound.
 fn number(bound: Bound, field: Field) -> u32
-    ensures { result ≡ claim field (numbers bound) }
+    ensures { result ≡ claim field (as_child bound) }
 {
     match field {
         Field::Least => bound.least,

@@ -56,7 +56,7 @@ is_made_again bytes len next content is len_is =
 -- what stands up to the end of a number that was written
 take-through : (size at number : ℕ) (bytes : List ℕ) → at + size ≤ length bytes → take (at + size) (with_number size bytes at number) ≡ take at bytes ++ number_bytes size number
 take-through size at number bytes room =
-    let front = length-take-le at bytes (omega arith) in
+    let prefix = length-take-le at bytes (omega arith) in
     let back = length-number_bytes size number in
     let long : length (take at bytes ++ number_bytes size number) ≡ at + size = length-append (take at bytes) (number_bytes size number) ∙ omega arith in
     ap (λ (r : List ℕ). take (at + size) r) (sym (append_assoc (take at bytes) (number_bytes size number) (drop (at + size) bytes)))

@@ -8,7 +8,7 @@ use Rattle.nx_choices.specs.declared.profiles.Row.{Row}
 use Rattle.nx_choices.specs.declared.reach.Form.TheVariants.{Plain, Light}
 use Rattle.nx_choices.specs.declared.child.Child.{Child}
 use Rattle.nx_choices.specs.Choice.{AreWeighed}
-use Rattle.nx_choices.specs.Profile.{last, lefts_of, weigh, AreProfiles, IsDraftOf, IsLowered, IsProfile, IsReach, IsRowOf, IsStarted, IsWithin}
+use Rattle.nx_choices.specs.Profile.{last, lefts_of, weigh, AreProfiles, IsDraftOf, IsLowered, IsProfile, IsReach, IsRowOf, IsStarted, IsAchievable}
 use Rattle.nx_choices.specs.Lightest.{AreLightest}
 use Rattle.nx_choices.proofs.ChoiceLemmas.{plain_interval, wider}
 use Rattle.nx_choices.proofs.ReachLemmas.{len_weigh}
@@ -54,7 +54,7 @@ draft_short k room [] until base lefts d = absurd d
 draft_short k room (child ∷ children) until base lefts d = d.short
 
 -- with so many members in their second form a choice costs as much as to leave nothing
-idle : (k room : ℕ) (children : List Child) (number light end last_base : ℕ) (last : List ℕ) (extras extra most w : ℕ) → IsProfile k room (drop light children) last_base last → number ≤ light → end ≤ extras + (last_base + 1) → extras ≤ extra → 1 + extra ≤ most → w ≤ room → IsWithin k (drop number children) (most - (1 + extra)) w → end ≤ most
+idle : (k room : ℕ) (children : List Child) (number light end last_base : ℕ) (last : List ℕ) (extras extra most w : ℕ) → IsProfile k room (drop light children) last_base last → number ≤ light → end ≤ extras + (last_base + 1) → extras ≤ extra → 1 + extra ≤ most → w ≤ room → IsAchievable k (drop number children) (most - (1 + extra)) w → end ≤ most
 idle k room children number light end last_base last extras extra most w p less ends much enough small h =
     let l = (p.tells (most - (1 + extra)) w small).0 (drop_further k children number light (most - (1 + extra)) w less h) in
     let g = l.enough in omega arith

@@ -4,18 +4,18 @@ use Rattle.std.proofs.lemmas.List.{length-map, length-append, take-append-drop}
 use Rattle.nx_choices.specs.declared.reach.Form.TheVariants.{Plain, Light}
 use Rattle.nx_choices.specs.declared.child.Child.{Child}
 use Rattle.nx_choices.specs.Choice.{Member, First, Second, Cell, Uncut, Interval, child_of, covered, interval_weight, slots, left, AreLight}
-use Rattle.nx_choices.specs.Profile.{seconds, cost, IsWithin, IsInterval, weighs, weigh}
+use Rattle.nx_choices.specs.Profile.{seconds, cost, IsAchievable, IsInterval, weighs, weigh}
 
 -- with more to spend and to leave
-pub wider : (k : ℕ) (children : List Child) (most w most' w' : ℕ) → most ≤ most' → w ≤ w' → IsWithin k children most w → IsWithin k children most' w'
+pub wider : (k : ℕ) (children : List Child) (most w most' w' : ℕ) → most ≤ most' → w ≤ w' → IsAchievable k children most w → IsAchievable k children most' w'
 wider k children most w most' w' m l h =
     record { cells = h.cells; covers = h.covers; light = h.light; cheap = omega arith; little = omega arith }
 
 -- no children
-pub within_none : (k most w : ℕ) → IsWithin k [] most w
+pub within_none : (k most w : ℕ) → IsAchievable k [] most w
 within_none k most w = record { cells = []; covers = refl; light = tt; cheap = omega arith; little = omega arith }
 
-drop_cells : (k : ℕ) (child : Child) (children : List Child) (most w : ℕ) (cells : List Cell) → covered cells ≡ child ∷ children → AreLight k cells → cost cells ≤ most → left cells ≤ w → IsWithin k children most w
+drop_cells : (k : ℕ) (child : Child) (children : List Child) (most w : ℕ) (cells : List Cell) → covered cells ≡ child ∷ children → AreLight k cells → cost cells ≤ most → left cells ≤ w → IsAchievable k children most w
 drop_cells k child children most w [] e light cheap little = cc
 drop_cells k child children most w (Uncut other ∷ rest) e light cheap little =
     record { cells = rest; covers = cc; light = light.1; cheap = omega arith; little = omega arith }
@@ -25,27 +25,27 @@ drop_cells k child children most w (Interval member (next ∷ members) ∷ rest)
     record { cells = Interval next members ∷ rest; covers = cc; light = (omega arith, light.1); cheap = omega arith; little = omega arith }
 
 -- a choice without the first child
-pub drop_one : (k : ℕ) (child : Child) (children : List Child) (most w : ℕ) → IsWithin k (child ∷ children) most w → IsWithin k children most w
+pub drop_one : (k : ℕ) (child : Child) (children : List Child) (most w : ℕ) → IsAchievable k (child ∷ children) most w → IsAchievable k children most w
 drop_one k child children most w h = drop_cells k child children most w h.cells h.covers h.light h.cheap h.little
 
 -- without the first children
-pub drop_some : (k n : ℕ) (children : List Child) (most w : ℕ) → IsWithin k children most w → IsWithin k (drop n children) most w
+pub drop_some : (k n : ℕ) (children : List Child) (most w : ℕ) → IsAchievable k children most w → IsAchievable k (drop n children) most w
 drop_some k zero children most w h = h
 drop_some k (suc n) [] most w h = h
 drop_some k (suc n) (child ∷ children) most w h = drop_some k n children most w (drop_one k child children most w h)
 
 -- with the first child uncut
-pub add_uncut : (k : ℕ) (child : Child) (children : List Child) (most w : ℕ) → IsWithin k children most w → IsWithin k (child ∷ children) most (w + child.lean)
+pub add_uncut : (k : ℕ) (child : Child) (children : List Child) (most w : ℕ) → IsAchievable k children most w → IsAchievable k (child ∷ children) most (w + child.lean)
 add_uncut k child children most w h =
     record { cells = Uncut child ∷ h.cells; covers = ap (λ cs. child ∷ cs) h.covers; light = (tt, h.light); cheap = omega arith; little = omega arith }
 
-add_members : (k : ℕ) (child : Child) (children : List Child) (front : List Child) (extra most w : ℕ) (members : List Member) → map child_of members ≡ child ∷ front → seconds members ≤ extra → interval_weight members ≤ k → IsWithin k children most w → IsWithin k (child ∷ front ++ children) (1 + extra + most) w
-add_members k child children front extra most w [] e few light h = cc
-add_members k child children front extra most w (member ∷ members) e few light h =
-    record { cells = Interval member members ∷ h.cells; covers = ap (λ cs. cs ++ covered h.cells) e ∙ ap (λ cs. child ∷ front ++ cs) h.covers; light = (light, h.light); cheap = omega arith; little = omega arith }
+add_members : (k : ℕ) (child : Child) (children : List Child) (prefix : List Child) (extra most w : ℕ) (members : List Member) → map child_of members ≡ child ∷ prefix → seconds members ≤ extra → interval_weight members ≤ k → IsAchievable k children most w → IsAchievable k (child ∷ prefix ++ children) (1 + extra + most) w
+add_members k child children prefix extra most w [] e few light h = cc
+add_members k child children prefix extra most w (member ∷ members) e few light h =
+    record { cells = Interval member members ∷ h.cells; covers = ap (λ cs. cs ++ covered h.cells) e ∙ ap (λ cs. child ∷ prefix ++ cs) h.covers; light = (light, h.light); cheap = omega arith; little = omega arith }
 
 -- with the first children as an interval
-pub add_interval : (k n : ℕ) (child : Child) (children : List Child) (extra most w : ℕ) → 1 ≤ n → IsInterval k (take n (child ∷ children)) extra → IsWithin k (drop n (child ∷ children)) most w → IsWithin k (child ∷ children) (1 + extra + most) w
+pub add_interval : (k n : ℕ) (child : Child) (children : List Child) (extra most w : ℕ) → 1 ≤ n → IsInterval k (take n (child ∷ children)) extra → IsAchievable k (drop n (child ∷ children)) most w → IsAchievable k (child ∷ children) (1 + extra + most) w
 add_interval k zero child children extra most w some i h = absurd (omega arith)
 add_interval k (suc n) child children extra most w some i h =
     rw (sym (take-append-drop n children)) (add_members k child (drop n children) (take n children) extra most w i.members i.covers i.few i.light h)
@@ -58,7 +58,7 @@ pub record IsCut (k : ℕ) (children : List Child) (most w : ℕ) : Type 0 where
   pub some : 1 ≤ number
   pub within : number ≤ length children
   pub interval : IsInterval k (take number children) extra
-  pub rest : IsWithin k (drop number children) rest_most w
+  pub rest : IsAchievable k (drop number children) rest_most w
   pub sums : 1 + extra + rest_most ≤ most
 
 pub take_covered : (members : List Member) (others children : List Child) → map child_of members ++ others ≡ children → map child_of members ≡ take (length members) children
@@ -78,7 +78,7 @@ pub length_covered : (members : List Member) (others children : List Child) → 
 length_covered members others children e =
     let h = ap length e in let s = length-append (map child_of members) others in let m = length-map members child_of in omega arith
 
-split_cells : (k : ℕ) (child : Child) (children : List Child) (most w : ℕ) (cells : List Cell) → covered cells ≡ child ∷ children → AreLight k cells → cost cells ≤ most → left cells ≤ w → ((child.lean ≤ w) × IsWithin k children most (w - child.lean)) ⊎ IsCut k (child ∷ children) most w
+split_cells : (k : ℕ) (child : Child) (children : List Child) (most w : ℕ) (cells : List Cell) → covered cells ≡ child ∷ children → AreLight k cells → cost cells ≤ most → left cells ≤ w → ((child.lean ≤ w) × IsAchievable k children most (w - child.lean)) ⊎ IsCut k (child ∷ children) most w
 split_cells k child children most w [] e light cheap little = cc
 split_cells k child children most w (Uncut other ∷ rest) e light cheap little =
     let same : other ≡ child = cc in let leans : other.lean ≡ child.lean = ap (λ (c : Child). c.lean) same in
@@ -96,7 +96,7 @@ split_cells k child children most w (Interval member members ∷ rest) e light c
     })
 
 -- how a choice begins
-pub begins : (k : ℕ) (child : Child) (children : List Child) (most w : ℕ) → IsWithin k (child ∷ children) most w → ((child.lean ≤ w) × IsWithin k children most (w - child.lean)) ⊎ IsCut k (child ∷ children) most w
+pub begins : (k : ℕ) (child : Child) (children : List Child) (most w : ℕ) → IsAchievable k (child ∷ children) most w → ((child.lean ≤ w) × IsAchievable k children most (w - child.lean)) ⊎ IsCut k (child ∷ children) most w
 begins k child children most w h = split_cells k child children most w h.cells h.covers h.light h.cheap h.little
 
 abbrev firsts : List Child → List Member

@@ -7,7 +7,7 @@ use Rattle.nx_choices.specs.declared.child.Stand.{Stand}
 use Rattle.nx_choices.specs.declared.child.Stand.TheVariants.{Uncut as Alone}
 use Rattle.nx_choices.specs.declared.reach.Form.TheVariants.{Plain}
 use Rattle.nx_choices.specs.Choice.{Cell, Uncut, Interval, covered, left, AreLight, AreWeighed}
-use Rattle.nx_choices.specs.Profile.{cost, weigh, IsWithin, IsProfile}
+use Rattle.nx_choices.specs.Profile.{cost, weigh, IsAchievable, IsProfile}
 use Rattle.nx_choices.specs.Stand.{stands, HasChoice, AddsChoice}
 use Rattle.nx_choices.proofs.ChoiceLemmas.{wider, within_none, add_interval, plain_interval}
 use Rattle.nx_choices.proofs.FoundLemmas.{count_is}
@@ -38,7 +38,7 @@ alone_stands : (children : List Child) → stands (alone children) ≡ replicate
 alone_stands [] = refl
 alone_stands (child ∷ children) = ap (λ list. Alone ∷ list) (alone_stands children)
 
-within_uncut : (k : ℕ) (children : List Child) → IsWithin k children 0 (weigh Plain children)
+within_uncut : (k : ℕ) (children : List Child) → IsAchievable k children 0 (weigh Plain children)
 within_uncut k children = record {
   cells = alone children;
   covers = alone_covers children;
@@ -53,17 +53,17 @@ free_left [] h = omega arith
 free_left (Uncut child ∷ cells) h = let ih = free_left cells (omega arith) in omega arith
 free_left (Interval member members ∷ cells) h = absurd (omega arith)
 
-within_free : (k : ℕ) (children : List Child) (w : ℕ) → IsWithin k children 0 w → weigh Plain children ≤ w
+within_free : (k : ℕ) (children : List Child) (w : ℕ) → IsAchievable k children 0 w → weigh Plain children ≤ w
 within_free k children w h = let f = free_left h.cells h.cheap in let e = ap (weigh Plain) h.covers in let l = h.little in omega arith
 
 -- all children as one interval
-within_one : (k : ℕ) (child : Child) (children : List Child) → weigh Plain (child ∷ children) ≤ k → IsWithin k (child ∷ children) 1 0
+within_one : (k : ℕ) (child : Child) (children : List Child) → weigh Plain (child ∷ children) ≤ k → IsAchievable k (child ∷ children) 1 0
 within_one k child children h =
     let n = length (child ∷ children) in
     let all : take n (child ∷ children) ≡ child ∷ children = take_all n (child ∷ children) (omega arith) in
     let none : drop n (child ∷ children) ≡ [] = drop_all n (child ∷ children) (omega arith) in
     let i = plain_interval k (take n (child ∷ children)) (let e = ap (weigh Plain) all in omega arith) in
-    let rest = subst (λ (cs : List Child). IsWithin k cs 0 0) (sym none) (within_none k 0 0) in
+    let rest = subst (λ (cs : List Child). IsAchievable k cs 0 0) (sym none) (within_none k 0 0) in
     wider k (child ∷ children) (1 + 0 + 0) 0 1 0 (omega arith) (omega arith) (add_interval k n child children 0 0 0 (omega arith) i rest)
 
 profile_whole : (k room : ℕ) (child : Child) (children : List Child) (total : ℕ) → total ≡ weigh Plain (child ∷ children) → total ≤ room → room ≤ k → IsProfile k room (child ∷ children) 0 (total ∷ [])
@@ -76,7 +76,7 @@ profile_whole k room child children total is fits small = record {
         )
     | inr free ↦
         let e : most ≡ 0 = omega arith in let at : get_or (total ∷ []) (most - 0) 0 ≡ total = ap (λ n. get_or (total ∷ []) (n - 0) 0) e in (
-          λ h. let f = within_free k (child ∷ children) w (subst (λ n. IsWithin k (child ∷ children) n w) e h) in record { enough = omega arith; little = omega arith },
+          λ h. let f = within_free k (child ∷ children) w (subst (λ n. IsAchievable k (child ∷ children) n w) e h) in record { enough = omega arith; little = omega arith },
           λ l. let now = l.little in wider k (child ∷ children) 0 (weigh Plain (child ∷ children)) most w (omega arith) (omega arith) (within_uncut k (child ∷ children)),
         )
   ];

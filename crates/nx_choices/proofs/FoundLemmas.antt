@@ -6,13 +6,13 @@ use Rattle.nx_choices.specs.declared.child.Field.TheVariants.{Least, Lean, Nearl
 use Rattle.nx_choices.specs.declared.child.Child.{Child}
 use Rattle.nx_choices.specs.Choice.{Member, First, Second, Cell, Uncut, Interval, child_of, covered, intervals, numbers, numbers_of, left, count, IsAdmitted, leasts}
 use Rattle.nx_choices.specs.Claim.{IsFieldSupported, IsSupported, IsExceeded}
-use Rattle.nx_choices.specs.Profile.{seconds, cost, count_of, IsWithin, IsProfile, IsBudget, IsLeastLeft, IsCheapest, IsFirstLight, AreCounts, IsLeastWeight, IsExcess}
+use Rattle.nx_choices.specs.Profile.{seconds, cost, count_of, IsAchievable, IsProfile, IsBudget, IsLeastLeft, IsCheapest, IsFirstLight, AreCounts, IsLeastWeight, IsExcess}
 use Rattle.nx_choices.proofs.ProfileLemmas.{listed_end}
 use Rattle.nx_choices.proofs.ChoiceLemmas.{wider}
 
-leasts-append : (front back : List Child) → leasts (front ++ back) ≡ leasts front + leasts back
+leasts-append : (prefix back : List Child) → leasts (prefix ++ back) ≡ leasts prefix + leasts back
 leasts-append [] back = omega arith
-leasts-append (child ∷ front) back = let ih = leasts-append front back in omega arith
+leasts-append (child ∷ prefix) back = let ih = leasts-append prefix back in omega arith
 
 -- one child more
 pub leasts_more : (children : List Child) (index : ℕ) (child : Child) → index < length children → leasts (take (index + 1) children) ≡ leasts (take index children) + (get_or children index child).least
@@ -38,7 +38,7 @@ count_is cells children e =
     let n = cells_number cells in let l = ap leasts e in let len = ap length e in omega arith
 
 -- an admitted choice leaves what there is room for
-pub admitted_within : (k own room : ℕ) (children : List Child) (cells : List Cell) → own + room ≡ k → IsAdmitted k own children cells → IsWithin k children (cost cells) (left cells)
+pub admitted_within : (k own room : ℕ) (children : List Child) (cells : List Cell) → own + room ≡ k → IsAdmitted k own children cells → IsAchievable k children (cost cells) (left cells)
 admitted_within k own room children cells sums a = record { cells = cells; covers = a.covers; light = a.light; cheap = omega arith; little = omega arith }
 
 pub cheapest_some : (k room : ℕ) (children : List Child) (base : ℕ) (lefts : List ℕ) (index : ℕ) → IsProfile k room children base lefts → IsFirstLight room lefts (Some index) → IsCheapest k room children (base + index)

@@ -2,7 +2,8 @@
 use Rattle.std.proofs.Common.{◌≡◌, ℕ, ◌+◌, ◌≤◌, List, Some, None, refl, arith}
 use Rattle.nx_choices.specs.declared.child.Child.{Child}
 use Rattle.nx_choices.specs.Choice.{count, left, IsAdmitted}
-use Rattle.nx_choices.specs.Least.{IsLeast, IsLeastWithin}
+use Rattle.nx_lists.specs.Least.{IsLeast}
+use Rattle.nx_choices.specs.Least.{IsLeastWithin}
 use Rattle.nx_choices.specs.Profile.{cost, count_of, AreCounts, IsBudget, IsCheapest, IsLeastLeft}
 use Rattle.nx_choices.proofs.ChoiceLemmas.{wider}
 use Rattle.nx_choices.proofs.FoundLemmas.{counted, admitted_within, least_weight}

@@ -5,7 +5,7 @@ use Rattle.std.proofs.lemmas.Bool.{cases_lt}
 use Rattle.std.proofs.lemmas.Bool.Decides.{nat_tests}
 use Rattle.nx_choices.specs.declared.reach.Form.TheVariants.{Light}
 use Rattle.nx_choices.specs.declared.child.Child.{Child}
-use Rattle.nx_choices.specs.Profile.{IsWithin, IsInterval, left_at, IsListed, IsProfile, IsStarted, IsLowered, IsReach, IsDraft}
+use Rattle.nx_choices.specs.Profile.{IsAchievable, IsInterval, left_at, IsListed, IsProfile, IsStarted, IsLowered, IsReach, IsDraft}
 use Rattle.nx_choices.proofs.ChoiceLemmas.{wider, within_none, drop_one, drop_some, add_uncut, add_interval, begins, light_interval}
 
 pub left_at_before : (none base : ℕ) (lefts : List ℕ) (most : ℕ) → most < base → left_at none base lefts most ≡ none
@@ -124,17 +124,17 @@ profile_none k room = record {
 }
 
 -- a choice without the first child, which may be a member of an interval
-pub without : (k : ℕ) (child : Child) (children : List Child) (number extra most w : ℕ) → 1 ≤ number → 1 + extra ≤ most → IsInterval k (take number (child ∷ children)) extra → IsWithin k (drop number (child ∷ children)) (most - (1 + extra)) w → IsWithin k children most w
+pub without : (k : ℕ) (child : Child) (children : List Child) (number extra most w : ℕ) → 1 ≤ number → 1 + extra ≤ most → IsInterval k (take number (child ∷ children)) extra → IsAchievable k (drop number (child ∷ children)) (most - (1 + extra)) w → IsAchievable k children most w
 without k child children number extra most w some much i h =
     let whole = add_interval k number child children extra (most - (1 + extra)) w some i h in
     drop_one k child children most w (wider k (child ∷ children) (1 + extra + (most - (1 + extra))) w most w (omega arith) (omega arith) whole)
 
 -- a choice without the first `more` children, where there is one without the first `some`
-pub drop_further : (k : ℕ) (children : List Child) (some more most w : ℕ) → some ≤ more → IsWithin k (drop some children) most w → IsWithin k (drop more children) most w
+pub drop_further : (k : ℕ) (children : List Child) (some more most w : ℕ) → some ≤ more → IsAchievable k (drop some children) most w → IsAchievable k (drop more children) most w
 drop_further k children some more most w less h =
     let e : drop (more - some) (drop some children) ≡ drop more children =
     drop-drop (more - some) some children ∙ ap (λ n. drop n children) (omega arith) in
-    subst (λ (cs : List Child). IsWithin k cs most w) e (drop_some k (more - some) (drop some children) most w h)
+    subst (λ (cs : List Child). IsAchievable k cs most w) e (drop_some k (more - some) (drop some children) most w h)
 
 pub draft_start : (k room : ℕ) (child : Child) (children : List Child) (reach after_base : ℕ) (after : List ℕ) (beyond_base : ℕ) (beyond lefts : List ℕ) → IsStarted room child.lean after_base after beyond_base beyond lefts → IsProfile k room children after_base after → IsProfile k room (drop reach (child ∷ children)) beyond_base beyond → 1 ≤ reach → IsInterval k (take reach (child ∷ children)) 0 → IsDraft k room child children (reach + 1) after_base lefts
 draft_start k room child children reach after_base after beyond_base beyond lefts h a b some i = record {
@@ -176,7 +176,7 @@ draft_lowered k room child children until base lefts number extra beyond_base be
   small = lowered_small (room + 1) base lefts (beyond_base + (1 + extra)) beyond new h d.small;
 }
 
-pub draft_more : (k room : ℕ) (child : Child) (children : List Child) (until base : ℕ) (lefts : List ℕ) → IsDraft k room child children until base lefts → ((extra most w : ℕ) → w ≤ room → 1 + extra ≤ most → IsInterval k (take until (child ∷ children)) extra → IsWithin k (drop until (child ∷ children)) (most - (1 + extra)) w → base ≤ most → IsListed base lefts most w) → IsDraft k room child children (until + 1) base lefts
+pub draft_more : (k room : ℕ) (child : Child) (children : List Child) (until base : ℕ) (lefts : List ℕ) → IsDraft k room child children until base lefts → ((extra most w : ℕ) → w ≤ room → 1 + extra ≤ most → IsInterval k (take until (child ∷ children)) extra → IsAchievable k (drop until (child ∷ children)) (most - (1 + extra)) w → base ≤ most → IsListed base lefts most w) → IsDraft k room child children (until + 1) base lefts
 draft_more k room child children until base lefts d here = record {
   sound = d.sound;
   uncut = d.uncut;
@@ -184,7 +184,7 @@ draft_more k room child children until base lefts d here = record {
     | inl before ↦ d.taken number extra most w one before small much interval rest
     | inr last ↦
         let e : number ≡ until = omega arith in
-        here extra most w small much (subst (λ (n : ℕ). IsInterval k (take n (child ∷ children)) extra) e interval) (subst (λ (n : ℕ). IsWithin k (drop n (child ∷ children)) (most - (1 + extra)) w) e rest)
+        here extra most w small much (subst (λ (n : ℕ). IsInterval k (take n (child ∷ children)) extra) e interval) (subst (λ (n : ℕ). IsAchievable k (drop n (child ∷ children)) (most - (1 + extra)) w) e rest)
         (d.from most w small (without k child children number extra most w one much interval rest))
   ];
   from = d.from;

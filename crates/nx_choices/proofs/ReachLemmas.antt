@@ -28,9 +28,9 @@ weighed_at k [] index child all within = absurd (omega arith)
 weighed_at k (first ∷ children) zero child all within = all.0
 weighed_at k (first ∷ children) (suc index) child all within = weighed_at k children index child all.1 (omega arith)
 
-weigh-append : (form : Form) (front back : List Child) → weigh form (front ++ back) ≡ weigh form front + weigh form back
+weigh-append : (form : Form) (prefix back : List Child) → weigh form (prefix ++ back) ≡ weigh form prefix + weigh form back
 weigh-append form [] back = omega arith
-weigh-append form (child ∷ front) back = let ih = weigh-append form front back in omega arith
+weigh-append form (child ∷ prefix) back = let ih = weigh-append form prefix back in omega arith
 
 -- some of the children weigh no more than all
 pub weigh_take : (form : Form) (children : List Child) (number : ℕ) → weigh form (take number children) ≤ weigh form children

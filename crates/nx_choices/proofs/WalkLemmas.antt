@@ -10,7 +10,7 @@ use Rattle.nx_choices.specs.declared.walk.Walk.{Walk}
 use Rattle.nx_choices.specs.declared.reach.Form.TheVariants.{Light}
 use Rattle.nx_choices.specs.Choice.{Member, First, Second, Cell, Uncut, Interval, child_of, covered, slots, interval_weight, left, AreLight, AreWeighed}
 use Rattle.nx_choices.specs.declared.profiles.Row.{Row}
-use Rattle.nx_choices.specs.Profile.{second, seconds, cost, last, left_at, lefts_of, IsCheapest, IsInterval, IsListed, IsRowOf, IsWithin}
+use Rattle.nx_choices.specs.Profile.{second, seconds, cost, last, left_at, lefts_of, IsCheapest, IsInterval, IsListed, IsRowOf, IsAchievable}
 use Rattle.nx_choices.specs.Lightest.{AreLightest}
 use Rattle.nx_choices.specs.Stand.{is_second, joins, stands, AddsChoice, HasChoice}
 use Rattle.nx_choices.specs.Walk.{opened, stand_at, AddsInterval, AreFormed, IsCutAt, IsFollowed, IsForm, IsFormOf, IsPartly, IsTried, IsUncut}
@@ -51,7 +51,7 @@ left_push (first ∷ cells) cell = let ih = left_push cells cell in omega arith
 -- the walk goes on by one cell
 goes_by : (k : ℕ) (children : List Child) (most room : ℕ) (first : List Stand) (walk next : Walk) (old new : List Stand) (cell : Cell) → IsPartly k children most room first walk old
     → next.at ≤ length children → take walk.at children ++ covered (cell ∷ []) ≡ take next.at children → AreLight k (cell ∷ []) → cost (cell ∷ []) + next.cost ≤ walk.cost → left (cell ∷ []) + next.left ≤ walk.left
-    → IsWithin k (drop next.at children) next.cost next.left → new ≡ old ++ stands (cell ∷ []) → IsPartly k children most room first next new
+    → IsAchievable k (drop next.at children) next.cost next.left → new ≡ old ++ stands (cell ∷ []) → IsPartly k children most room first next new
 goes_by k children most room first walk next old new cell p inside covers light cheap little rest added =
     let c = cost_push p.cells cell in let l = left_push p.cells cell in let was = p.cheap in let had = p.little in
     record {
@@ -67,11 +67,11 @@ goes_by k children most room first walk next old new cell p inside covers light 
 
 -- by an uncut child
 pub goes_uncut : (k : ℕ) (children : List Child) (most room : ℕ) (first : List Stand) (walk next : Walk) (old new : List Stand) (child : Child) → walk.at < length children → next.at ≡ walk.at + 1 → next.cost ≡ walk.cost
-    → (get_or children walk.at child).lean + next.left ≤ walk.left → IsWithin k (drop (walk.at + 1) children) walk.cost next.left → new ≡ old ++ Alone ∷ [] → IsPartly k children most room first walk old → IsPartly k children most room first next new
+    → (get_or children walk.at child).lean + next.left ≤ walk.left → IsAchievable k (drop (walk.at + 1) children) walk.cost next.left → new ≡ old ++ Alone ∷ [] → IsPartly k children most room first walk old → IsPartly k children most room first next new
 goes_uncut k children most room first walk next old new child before at same little rest added p =
     goes_by k children most room first walk next old new (Uncut (get_or children walk.at child)) p (omega arith)
     (sym (take_more children walk.at child before) ∙ ap (λ n. take n children) (sym at)) (tt, tt) (omega arith) (omega arith)
-    (subst (λ n. IsWithin k (drop n children) next.cost next.left) (sym at) (subst (λ n. IsWithin k (drop (walk.at + 1) children) n next.left) (sym same) rest)) added
+    (subst (λ n. IsAchievable k (drop n children) next.cost next.left) (sym at) (subst (λ n. IsAchievable k (drop (walk.at + 1) children) n next.left) (sym same) rest)) added
 
 opened_is : (members : List Member) (number : ℕ) → length members ≡ number → 1 ≤ number → (member : Member) × (others : List Member) × (members ≡ member ∷ others) × (opened number members ≡ stands (Interval member others ∷ []))
 opened_is [] number len some = absurd (omega arith)
@@ -93,10 +93,10 @@ goes_cut k children most room first walk next old new number extra before at cos
     goes_by k children most room first walk next old new (Interval o.0 o.1) p (omega arith)
     (ap (λ cs. take walk.at children ++ cs) (append-nil (map child_of (o.0 ∷ o.1)) ∙ ap (λ ms. map child_of ms) (sym e) ∙ adds.covers) ∙ sym (take-add walk.at number children) ∙ ap (λ n. take n children) (sym at))
     (omega arith, tt) (omega arith) (omega arith)
-    (subst (λ cs. IsWithin k cs next.cost next.left) beyond (subst (λ n. IsWithin k (drop number (drop walk.at children)) n next.left) budget (subst (λ n. IsWithin k (drop number (drop walk.at children)) (walk.cost - (1 + extra)) n) (sym lefts) cut.rest)))
+    (subst (λ cs. IsAchievable k cs next.cost next.left) beyond (subst (λ n. IsAchievable k (drop number (drop walk.at children)) n next.left) budget (subst (λ n. IsAchievable k (drop number (drop walk.at children)) (walk.cost - (1 + extra)) n) (sym lefts) cut.rest)))
     (adds.added ∙ ap (λ list. old ++ list) o.3)
 
-pub partly_start : (k : ℕ) (children : List Child) (walk : Walk) (old : List Stand) → walk.at ≡ 0 → IsWithin k children walk.cost walk.left → IsPartly k children walk.cost walk.left old walk old
+pub partly_start : (k : ℕ) (children : List Child) (walk : Walk) (old : List Stand) → walk.at ≡ 0 → IsAchievable k children walk.cost walk.left → IsPartly k children walk.cost walk.left old walk old
 partly_start k children walk old none rest = record {
   cells = [];
   within = omega arith;
@@ -104,7 +104,7 @@ partly_start k children walk old none rest = record {
   light = tt;
   cheap = omega arith;
   little = omega arith;
-  rest = subst (λ n. IsWithin k (drop n children) walk.cost walk.left) (sym none) rest;
+  rest = subst (λ n. IsAchievable k (drop n children) walk.cost walk.left) (sym none) rest;
   added = sym (append-nil old);
 }
 
@@ -134,7 +134,7 @@ followed_chooses k own most most_weight room cheapest children old new has fits 
     }
 
 -- where the first child can't be uncut, a choice begins with an interval
-pub must_cut : (k : ℕ) (children : List Child) (child : Child) (most w : ℕ) → 1 ≤ length children → IsWithin k children most w → ((get_or children 0 child).lean ≤ w → ¬ IsWithin k (drop 1 children) most (w - (get_or children 0 child).lean))
+pub must_cut : (k : ℕ) (children : List Child) (child : Child) (most w : ℕ) → 1 ≤ length children → IsAchievable k children most w → ((get_or children 0 child).lean ≤ w → ¬ IsAchievable k (drop 1 children) most (w - (get_or children 0 child).lean))
     → (number : ℕ) × (extra : ℕ) × IsCutAt k children most w number extra
 must_cut k [] child most w some h uncut = absurd (omega arith)
 must_cut k (first ∷ children) child most w some h uncut = elim (begins k first children most w h) [
@@ -282,7 +282,7 @@ tried_next k children most w at extras tried before few number extra less cut = 
   | inl earlier ↦ before number extra (omega arith) cut
   | inr last ↦
       let e : number ≡ at + 1 = omega arith in
-      tried extra (few number extra cut) (subst (λ n. IsInterval k (take n children) extra) e cut.interval) cut.much (subst (λ n. IsWithin k (drop n children) (most - (1 + extra)) w) e cut.rest)
+      tried extra (few number extra cut) (subst (λ n. IsInterval k (take n children) extra) e cut.interval) cut.much (subst (λ n. IsAchievable k (drop n children) (most - (1 + extra)) w) e cut.rest)
 ]
 
 -- with as many members in their second form as the cost doesn't allow, not even the fewest children are left that there may be
@@ -306,7 +306,7 @@ uncut_some k room others lefts row lean most w rest sums small r fits =
 pub uncut_none : (k room : ℕ) (others : List Child) (lefts : List ℕ) (row : Row) (lean most w rest : ℕ) → w - lean ≡ rest → w ≤ room → IsRowOf k room others lefts row
     → rest < left_at (rest + 1) (row.base + 0) (lefts_of lefts row) most → IsUncut k others lean most w None
 uncut_none k room others lefts row lean most w rest is small r much = λ fits h.
-    let within = subst (λ n. IsWithin k others most n) is h in
+    let within = subst (λ n. IsAchievable k others most n) is h in
     let e : most ≡ most - 0 = omega arith in
     let here = subst (λ n. IsListed row.base (lefts_of lefts row) n rest) e ((r.profile.tells most rest (omega arith)).0 within) in
     let l = listed_at (rest + 1) (row.base + 0) (lefts_of lefts row) most rest (listed_on row.base 0 (lefts_of lefts row) most rest (omega arith) here) in

@@ -56,6 +56,6 @@ AreSupportedBefore k Lean node = IsFieldSupported k Least node
 AreSupportedBefore k Nearly node = IsFieldSupported k Least node × IsFieldSupported k Lean node
 
 -- what the check of a node finds: nothing, or its first number that isn't supported and the least that a choice gives
-abbrev pub IsFound : ℕ → Claimed → Option (Field × ℕ) → Type 0
-IsFound k node None = IsSupported k node
-IsFound k node (Some (field, found)) = AreSupportedBefore k field node × IsExceeded k field node found
+abbrev pub FindsExceeded : ℕ → Claimed → Option (Field × ℕ) → Type 0
+FindsExceeded k node None = IsSupported k node
+FindsExceeded k node (Some (field, found)) = AreSupportedBefore k field node × IsExceeded k field node found

@@ -1,14 +1,8 @@
 -- What the least choices over the children of a node give.
 use Rattle.std.specs.Prelude.{◌≡◌, ℕ, ◌+◌, ◌≤◌, List}
+use Rattle.nx_lists.specs.Least.{IsLeast}
 use Rattle.nx_choices.specs.declared.child.Child.{Child}
 use Rattle.nx_choices.specs.Choice.{IsAdmitted, count, left}
-
--- The number is the least value of all those that P holds of: one of them has it, and none has less.
-pub record IsLeast {A : Type 0} (P : A → Type 0) (value : A → ℕ) (number : ℕ) : Type 0 where
-  pub one : A
-  pub holds : P one
-  pub reached : value one ≡ number
-  pub least : (other : A) → P other → number ≤ value other
 
 -- the least weight of the node's part by the choices with at most this count
 abbrev pub IsLeastWithin : ℕ → ℕ → List Child → ℕ → ℕ → Type 0

@@ -28,7 +28,7 @@ cost [] = 0
 cost (cell ∷ cells) = cell_cost cell + cost cells
 
 -- some choice over these children costs and leaves at most so much
-pub record IsWithin (k : ℕ) (children : List Child) (most most_left : ℕ) : Type 0 where
+pub record IsAchievable (k : ℕ) (children : List Child) (most most_left : ℕ) : Type 0 where
   pub cells : List Cell
   pub covers : covered cells ≡ children
   pub light : AreLight k cells
@@ -53,7 +53,7 @@ pub record IsListed (base : ℕ) (lefts : List ℕ) (most most_left : ℕ) : Typ
 
 -- The list says what the choices over these children may leave, where up to `room` may be left.
 pub record IsProfile (k room : ℕ) (children : List Child) (base : ℕ) (lefts : List ℕ) : Type 0 where
-  pub tells : (most most_left : ℕ) → most_left ≤ room → IsWithin k children most most_left ↔ IsListed base lefts most most_left
+  pub tells : (most most_left : ℕ) → most_left ≤ room → IsAchievable k children most most_left ↔ IsListed base lefts most most_left
   pub short : base + length lefts ≤ length children
   pub small : (index : ℕ) → slice_index lefts index ≤ room + 1
 
@@ -110,10 +110,10 @@ IsFirstLight k weights (Some index) =
 
 -- A list of weights that says what choices leave which begin with an uncut child, or with an interval of fewer than `until` children.
 pub record IsDraft (k room : ℕ) (child : Child) (children : List Child) (until base : ℕ) (lefts : List ℕ) : Type 0 where
-  pub sound : (most w : ℕ) → w ≤ room → IsListed base lefts most w → IsWithin k (child ∷ children) most w
-  pub uncut : (most w : ℕ) → w ≤ room → child.lean ≤ w → IsWithin k children most (w - child.lean) → IsListed base lefts most w
-  pub taken : (number extra most w : ℕ) → 1 ≤ number → number < until → w ≤ room → 1 + extra ≤ most → IsInterval k (take number (child ∷ children)) extra → IsWithin k (drop number (child ∷ children)) (most - (1 + extra)) w → IsListed base lefts most w
-  pub from : (most w : ℕ) → w ≤ room → IsWithin k children most w → base ≤ most
+  pub sound : (most w : ℕ) → w ≤ room → IsListed base lefts most w → IsAchievable k (child ∷ children) most w
+  pub uncut : (most w : ℕ) → w ≤ room → child.lean ≤ w → IsAchievable k children most (w - child.lean) → IsListed base lefts most w
+  pub taken : (number extra most w : ℕ) → 1 ≤ number → number < until → w ≤ room → 1 + extra ≤ most → IsInterval k (take number (child ∷ children)) extra → IsAchievable k (drop number (child ∷ children)) (most - (1 + extra)) w → IsListed base lefts most w
+  pub from : (most w : ℕ) → w ≤ room → IsAchievable k children most w → base ≤ most
   pub short : base + length lefts ≤ length (child ∷ children)
   pub small : (index : ℕ) → slice_index lefts index ≤ room + 1
 
@@ -133,14 +133,14 @@ IsBudget sum number most (Some budget) = (cost : ℕ) → count_of sum number co
 
 -- the least that is left by choices of at most this cost, where it is at most `room`
 abbrev pub IsLeastLeft : ℕ → ℕ → List Child → ℕ → Option ℕ → Type 0
-IsLeastLeft k room children most None = (some_left : ℕ) → some_left ≤ room → ¬ IsWithin k children most some_left
+IsLeastLeft k room children most None = (some_left : ℕ) → some_left ≤ room → ¬ IsAchievable k children most some_left
 IsLeastLeft k room children most (Some least) =
-    (least ≤ room) × IsWithin k children most least × ((some_left : ℕ) → some_left ≤ room → IsWithin k children most some_left → least ≤ some_left)
+    (least ≤ room) × IsAchievable k children most least × ((some_left : ℕ) → some_left ≤ room → IsAchievable k children most some_left → least ≤ some_left)
 
 -- the least cost of a choice that leaves at most `room`
 pub record IsCheapest (k room : ℕ) (children : List Child) (cheapest : ℕ) : Type 0 where
-  pub enough : IsWithin k children cheapest room
-  pub least : (most : ℕ) → IsWithin k children most room → cheapest ≤ most
+  pub enough : IsAchievable k children cheapest room
+  pub least : (most : ℕ) → IsAchievable k children most room → cheapest ≤ most
 
 -- how many children there are, and their numbers in sum
 pub record AreCounts (children : List Child) (number sum : ℕ) : Type 0 where

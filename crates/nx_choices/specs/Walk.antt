@@ -6,7 +6,7 @@ use Rattle.nx_choices.specs.declared.child.Stand.TheVariants.{Uncut as Alone, Op
 use Rattle.nx_choices.specs.declared.walk.Walk.{Walk}
 use Rattle.nx_choices.specs.declared.reach.Form.TheVariants.{Plain}
 use Rattle.nx_choices.specs.Choice.{Member, Cell, child_of, covered, interval_weight, left, AreLight}
-use Rattle.nx_choices.specs.Profile.{seconds, cost, weigh, IsWithin, IsInterval}
+use Rattle.nx_choices.specs.Profile.{seconds, cost, weigh, IsAchievable, IsInterval}
 use Rattle.nx_choices.specs.Stand.{is_second, joins, stands}
 
 -- what the children weigh in their first form, if that is at most `most`
@@ -19,8 +19,8 @@ AddsUncut number old new = new ≡ old ++ replicate number Alone
 
 -- what may be left by the others where a child that weighs `lean` stays uncut, if it may
 abbrev pub IsUncut : ℕ → List Child → ℕ → ℕ → ℕ → Option ℕ → Type 0
-IsUncut k others lean most w None = lean ≤ w → ¬ IsWithin k others most (w - lean)
-IsUncut k others lean most w (Some rest) = (lean + rest ≡ w) × IsWithin k others most rest
+IsUncut k others lean most w None = lean ≤ w → ¬ IsAchievable k others most (w - lean)
+IsUncut k others lean most w (Some rest) = (lean + rest ≡ w) × IsAchievable k others most rest
 
 -- the first `number` children may be an interval with at most `extra` members in their second form, and some choice over the others takes at most what is left of the cost and leaves at most so much
 pub record IsCutAt (k : ℕ) (children : List Child) (most w number extra : ℕ) : Type 0 where
@@ -28,14 +28,14 @@ pub record IsCutAt (k : ℕ) (children : List Child) (most w number extra : ℕ)
   pub within : number ≤ length children
   pub interval : IsInterval k (take number children) extra
   pub much : 1 + extra ≤ most
-  pub rest : IsWithin k (drop number children) (most - (1 + extra)) w
+  pub rest : IsAchievable k (drop number children) (most - (1 + extra)) w
 
 -- the same for given members and others, where fewer than `extras` may be in their second form
 abbrev pub IsTried : ℕ → List Child → List Child → ℕ → ℕ → ℕ → Option ℕ → Type 0
 IsTried k members others most w extras None =
-    (extra : ℕ) → extra < extras → IsInterval k members extra → 1 + extra ≤ most → ¬ IsWithin k others (most - (1 + extra)) w
+    (extra : ℕ) → extra < extras → IsInterval k members extra → 1 + extra ≤ most → ¬ IsAchievable k others (most - (1 + extra)) w
 IsTried k members others most w extras (Some extra) =
-    IsInterval k members extra × (1 + extra ≤ most) × IsWithin k others (most - (1 + extra)) w
+    IsInterval k members extra × (1 + extra ≤ most) × IsAchievable k others (most - (1 + extra)) w
 
 -- whether the first of these members may be in its first form; otherwise it may be in its second
 abbrev pub IsFormOf : ℕ → Child → List Child → ℕ → Bool → Type 0
@@ -90,7 +90,7 @@ pub record IsPartly (k : ℕ) (children : List Child) (most room : ℕ) (old : L
   pub light : AreLight k cells
   pub cheap : cost cells + walk.cost ≤ most
   pub little : left cells + walk.left ≤ room
-  pub rest : IsWithin k (drop walk.at children) walk.cost walk.left
+  pub rest : IsAchievable k (drop walk.at children) walk.cost walk.left
   pub added : new ≡ old ++ stands cells
 
 -- the walk goes on from one place to the next, whatever came before

@@ -1,7 +1,7 @@
 // What the choices over the children of a node give.
 ghost use Rattle.std.specs.Prelude.{◌<◌, ◌≤◌, ◌^◌, length, IfOk, OnOk};
 ghost use Rattle.nx_choices.specs.Choice.{leasts, AreWeighed};
-ghost use Rattle.nx_choices.specs.Claim.{IsFound};
+ghost use Rattle.nx_choices.specs.Claim.{FindsExceeded};
 ghost use Rattle.nx_choices.specs.Least.{IsLeastChoice};
 ghost use Rattle.nx_choices.specs.Stand.{AddsChoice, HasChoice};
 ghost use Rattle.nx_choices.specs.Profile.{AreProfiles, IsProfile};
@@ -64,7 +64,7 @@ impl Choices {
         requires bound { k ≤ 256 }
         requires number { length children.now < 2 ^ 31 }
         requires weights { AreWeighed k children.now }
-        ensures { IfOk result (λ found. IsFound k (record { own = own; children = children.now; bound = claimed }) found) }
+        ensures { IfOk result (λ found. FindsExceeded k (record { own = own; children = children.now; bound = claimed }) found) }
     {
         let Some(room) = k.checked_sub(own) else {
             return Ok(None);

@@ -1,7 +1,7 @@
 // What the choices over all children of a node give.
 ghost use Rattle.std.specs.Prelude.{◌≡◌, ℕ, ◌+◌, ◌<◌, ◌≤◌, ◌^◌, List, length, vec_len, IfSome};
 ghost use Rattle.nx_choices.specs.Choice.{leasts};
-ghost use Rattle.nx_choices.specs.Claim.{IsFound};
+ghost use Rattle.nx_choices.specs.Claim.{FindsExceeded};
 ghost use Rattle.nx_choices.specs.Least.{IsLeastChoice, IsLeastWithin};
 ghost use Rattle.nx_choices.specs.Profile.{count_of, AreCounts, IsBudget, IsCheapest, IsExcess, IsLeastLeft, IsProfile};
 
@@ -124,7 +124,7 @@ impl Profile {
         requires sum { parent.counts.sum ≤ 2 ^ 63 }
         requires number { parent.counts.number < 2 ^ 31 }
         requires end { self.now.base + vec_len self.now.lefts < 2 ^ 32 }
-        ensures { (children : List Child) → IsProfile (parent.own + parent.room) parent.room children self.now.base self.now.lefts.items → AreCounts children parent.counts.number parent.counts.sum → IsFound (parent.own + parent.room) (record { own = parent.own; children = children; bound = claims }) result }
+        ensures { (children : List Child) → IsProfile (parent.own + parent.room) parent.room children self.now.base self.now.lefts.items → AreCounts children parent.counts.number parent.counts.sum → FindsExceeded (parent.own + parent.room) (record { own = parent.own; children = children; bound = claims }) result }
     {
         let claimed = u64::from(claims.least);
         let least = parent.counts.count(self.cheapest(parent.room));

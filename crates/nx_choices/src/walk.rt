@@ -1,7 +1,7 @@
 // A choice that gives a wanted cost and weight, child by child.
 ghost use Rattle.std.specs.Prelude.{◌≡◌, ℕ, ◌+◌, ◌<◌, ◌≤◌, ◌^◌, List, drop, length, vec_len, IfOk, OnOk};
 ghost use Rattle.nx_choices.specs.Choice.{AreWeighed};
-ghost use Rattle.nx_choices.specs.Profile.{AreProfiles, IsInterval, IsRowOf, IsWithin};
+ghost use Rattle.nx_choices.specs.Profile.{AreProfiles, IsInterval, IsRowOf, IsAchievable};
 ghost use Rattle.nx_choices.specs.Lightest.{AreLightest};
 ghost use Rattle.nx_choices.specs.Walk.{stand_at as stand_behind, AddsInterval, AddsUncut, IsCutAt, IsFollowed, IsForm, IsTaken, IsTotal, IsTried, IsUncut};
 
@@ -70,7 +70,7 @@ pub(crate) fn follow(
     requires weighed { AreWeighed k children.now }
     requires left { left ≤ 256 }
     requires profiles { AreProfiles k left children.now profiles.now }
-    requires within { IsWithin k children.now cost left }
+    requires within { IsAchievable k children.now cost left }
     ensures { OnOk result (IsFollowed k children.now cost left stands.old.items stands.new.items) }
 {
     let mut walk = Walk { at: 0, cost, left };
@@ -97,7 +97,7 @@ impl Walk {
         requires left { self.left ≤ 256 }
         requires rows { length children.now < vec_len profiles.now.rows }
         requires profiles { (room : ℕ) × (self.left ≤ room) × AreProfiles k room children.now profiles.now }
-        requires within { IsWithin k (drop self.at children.now) self.cost self.left }
+        requires within { IsAchievable k (drop self.at children.now) self.cost self.left }
         ensures { IfOk result (λ next. IsTaken k children.now self next stands.old.items stands.new.items) }
     {
         let rest = &children[self.at..];

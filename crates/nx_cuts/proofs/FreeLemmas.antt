@@ -49,10 +49,10 @@ free_run k above a l position (suc from) count (Kept u m s) h p q o w n =
       | inr e ↦ (e, free_run k above a l (position + width m) (suc from - width m) count s h.4 (omega arith) (omega arith) o (omega arith) (right (Run above a l) (intervals above position m) (intervals above (position + width m) s) n.1))
     ]
 
-child_front : (f g : Forest) (p : ℕ) → p < trees f → child (joined f g) p ≡ child f p
-child_front Empty g p h = absurd (omega arith)
-child_front (Plant n b s) g zero h = refl
-child_front (Plant n b s) g (suc p) h = child_front s g p (omega arith)
+child_prefix : (f g : Forest) (p : ℕ) → p < trees f → child (joined f g) p ≡ child f p
+child_prefix Empty g p h = absurd (omega arith)
+child_prefix (Plant n b s) g zero h = refl
+child_prefix (Plant n b s) g (suc p) h = child_prefix s g p (omega arith)
 
 child_back : (f g : Forest) (p : ℕ) → child (joined f g) (trees f + p) ≡ child g p
 child_back Empty g p = ap (child g) (let e : 0 + p ≡ p = omega arith in e)
@@ -89,7 +89,7 @@ free_row k path u from count a l ih above position p (Kept w m s) v h e f n =
     let tm = trees-forest m in
     choose_row (IsFreeAt path from count) p m s (nat_lt p (width m))
     (λ t. let g : p < width m = grind (arith, nat_tests) in
-    free_row k path u from count a l ih above position p m v h.3 (sym (child_front (forest m) (forest s) p (omega arith)) ∙ e) f (left x (intervals above position m) (intervals above (position + width m) s) n.1))
+    free_row k path u from count a l ih above position p m v h.3 (sym (child_prefix (forest m) (forest s) p (omega arith)) ∙ e) f (left x (intervals above position m) (intervals above (position + width m) s) n.1))
     (λ t. let g : width m ≤ p = grind (arith, nat_tests) in
     let z : trees (forest m) + (p - width m) ≡ p = omega arith in
     free_row k path u from count a l ih above (position + width m) (p - width m) s v h.4

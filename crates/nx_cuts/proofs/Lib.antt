@@ -11,3 +11,4 @@ pub mod WeightLemmas
 pub mod DrawnLaw
 pub mod OrderLemmas
 pub mod NumberLemmas
+pub mod AtMostLemmas

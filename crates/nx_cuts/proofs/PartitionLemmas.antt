@@ -54,7 +54,7 @@ joined_nothing : (a : Forest) → joined a Empty ≡ a
 joined_nothing Empty = refl
 joined_nothing (Plant n d s) = ap (Plant n d) (joined_nothing s)
 
-child-joined : (front : Forest) (n : Node) (b s : Forest) (p : ℕ) → p ≡ trees front → child (joined front (Plant n b s)) p ≡ Some (record { node = n; below = b })
+child-joined : (prefix : Forest) (n : Node) (b s : Forest) (p : ℕ) → p ≡ trees prefix → child (joined prefix (Plant n b s)) p ≡ Some (record { node = n; below = b })
 child-joined Empty n b s p e = ap (child (Plant n b s)) e
 child-joined (Plant m d t) n b s zero e = absurd (omega arith)
 child-joined (Plant m d t) n b s (suc p) e = child-joined t n b s p (omega arith)
@@ -86,22 +86,22 @@ lies tree t path first last e a b =
     let y : nat_lt last (length (trees_of t.below)) ≡ true = grind (arith, nat_tests) in
     rw (x, f, y) refl
 
-inside : (k : ℕ) (tree t : OrderedTree) (path : List ℕ) (position : ℕ) (front back : Forest) (c : CutForest) → AreParts k c
-    → at tree path ≡ Some t → t.below ≡ joined front (joined (forest c) back) → position ≡ trees front → AllByRecursion (λ x. IsTrue (is_in_tree tree x)) (intervals path position c)
-inside k tree t path position front back Bare h a b e = tt
-inside k tree t path position front back (Grown n d s) h a b e =
+inside : (k : ℕ) (tree t : OrderedTree) (path : List ℕ) (position : ℕ) (prefix back : Forest) (c : CutForest) → AreParts k c
+    → at tree path ≡ Some t → t.below ≡ joined prefix (joined (forest c) back) → position ≡ trees prefix → AllByRecursion (λ x. IsTrue (is_in_tree tree x)) (intervals path position c)
+inside k tree t path position prefix back Bare h a b e = tt
+inside k tree t path position prefix back (Grown n d s) h a b e =
     both _ (intervals (path ++ position ∷ []) 0 d) (intervals path (position + 1) s)
     (inside k tree (record { node = n; below = forest d }) (path ++ position ∷ []) 0 Empty Empty d h.0
-    (at-longer tree t path position a ∙ ap (λ f. child f position) b ∙ child-joined front n (forest d) (joined (forest s) back) position e) (sym (joined_nothing (forest d))) refl)
-    (inside k tree t path (position + 1) (joined front (Plant n (forest d) Empty)) back s h.1 a (b ∙ sym (joined_assoc front (Plant n (forest d) Empty) (joined (forest s) back))) (let x = trees-joined front (Plant n (forest d) Empty) in omega arith))
-inside k tree t path position front back (Kept u m s) h a b e =
+    (at-longer tree t path position a ∙ ap (λ f. child f position) b ∙ child-joined prefix n (forest d) (joined (forest s) back) position e) (sym (joined_nothing (forest d))) refl)
+    (inside k tree t path (position + 1) (joined prefix (Plant n (forest d) Empty)) back s h.1 a (b ∙ sym (joined_assoc prefix (Plant n (forest d) Empty) (joined (forest s) back))) (let x = trees-joined prefix (Plant n (forest d) Empty) in omega arith))
+inside k tree t path position prefix back (Kept u m s) h a b e =
     let w = h.0 in
-    let c1 : trees t.below ≡ trees front + (trees (joined (forest m) (forest s)) + trees back) = ap trees b ∙ trees-joined front (joined (joined (forest m) (forest s)) back) ∙ ap (λ i. trees front + i) (trees-joined (joined (forest m) (forest s)) back) in
+    let c1 : trees t.below ≡ trees prefix + (trees (joined (forest m) (forest s)) + trees back) = ap trees b ∙ trees-joined prefix (joined (joined (forest m) (forest s)) back) ∙ ap (λ i. trees prefix + i) (trees-joined (joined (forest m) (forest s)) back) in
     let c2 = trees-joined (forest m) (forest s) in let c3 = trees-forest m in (
       lies tree t path position (position + width m - 1) a (omega arith) (omega arith),
       both _ (intervals path position m) (intervals path (position + width m) s)
-          (inside k tree t path position front (joined (forest s) back) m h.3 a (b ∙ ap (joined front) (joined_assoc (forest m) (forest s) back)) e)
-          (inside k tree t path (position + width m) (joined front (forest m)) back s h.4 a (b ∙ ap (joined front) (joined_assoc (forest m) (forest s) back) ∙ sym (joined_assoc front (forest m) (joined (forest s) back))) (let x = trees-joined front (forest m) in omega arith)),
+          (inside k tree t path position prefix (joined (forest s) back) m h.3 a (b ∙ ap (joined prefix) (joined_assoc (forest m) (forest s) back)) e)
+          (inside k tree t path (position + width m) (joined prefix (forest m)) back s h.4 a (b ∙ ap (joined prefix) (joined_assoc (forest m) (forest s) back) ∙ sym (joined_assoc prefix (forest m) (joined (forest s) back))) (let x = trees-joined prefix (forest m) in omega arith)),
     )
 
 is_root : (q : List ℕ) → IsTrue (has_member Root q) → q ≡ []

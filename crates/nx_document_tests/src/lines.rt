@@ -77,8 +77,8 @@ const LENGTHS: [(&[u8], usize, bool); 7] = [
 #[test]
 fn lengths(rt: HostRuntime) -> Result<(), Fail> {
     let alloc = rt.alloc();
-    for (front, count, is_long) in LENGTHS {
-        let mut line = Bytes::from_slice(alloc, front)?;
+    for (prefix, count, is_long) in LENGTHS {
+        let mut line = Bytes::from_slice(alloc, prefix)?;
         for _ in 0..count {
             line.push(b'x')?;
         }

@@ -134,7 +134,7 @@ const FAULTS: [(&[u8], &[u8], u64, PyxFault); 61] = [
     (b"", b"", 0, PyxFault::Empty),
 ];
 
-// A stream at a limit or past it: a front, what comes behind it so many times, an end, and the number
+// A stream at a limit or past it: a prefix, what comes behind it so many times, an end, and the number
 // of end lines behind that. The last byte before those tells the fault, which is in that line.
 type Long = (
     &'static [u8],
@@ -211,7 +211,7 @@ const MANY: [Long; 2] = [
     ),
 ];
 
-// A front, as many x behind it as are allowed, and pieces behind those of which the last tells that
+// A prefix, as many x behind it as are allowed, and pieces behind those of which the last tells that
 // they are too many.
 const MOMENTS: [(&[u8], usize, &[&[u8]]); 5] = [
     (b"(a\n-", 1_048_576, &[b"x"]),
@@ -257,9 +257,9 @@ const LONG_AND_SLOW: [Cutting; 5] = [
 
 // The stream in a first piece of that length, and pieces of that size behind it.
 fn pieces(alloc: Global, stream: &[u8], first: usize, size: usize) -> Result<Vec<&[u8]>, Fail> {
-    let (front, back) = stream.split_at(first.min(stream.len()));
+    let (prefix, back) = stream.split_at(first.min(stream.len()));
     let mut cut = Vec::new(alloc);
-    cut.push(front)?;
+    cut.push(prefix)?;
     for piece in back.chunks(size.max(1)) {
         cut.push(piece)?;
     }
@@ -329,8 +329,8 @@ fn check_cutting(
             for cut in 0..=stream.len() {
                 let place = cut.abs_diff(told).min(stream.len() - cut);
                 if place.min(cut) <= distance {
-                    let (front, back) = stream.split_at(cut);
-                    check(rt, alloc, &[front, back], told, want)?;
+                    let (prefix, back) = stream.split_at(cut);
+                    check(rt, alloc, &[prefix, back], told, want)?;
                 }
             }
         }
@@ -373,8 +373,8 @@ fn faults(rt: HostRuntime) -> Result<(), Fail> {
 
 // The bytes of a stream at a limit.
 fn bytes_of(alloc: Global, long: Long) -> Result<Vec<u8>, Fail> {
-    let (front, unit, count, end, closed, _) = long;
-    let mut bytes = Vec::from_slice(alloc, front)?;
+    let (prefix, unit, count, end, closed, _) = long;
+    let mut bytes = Vec::from_slice(alloc, prefix)?;
     for _ in 0..count {
         bytes.extend_from_slice(unit)?;
     }
@@ -392,16 +392,16 @@ fn check_long(
     long: Long,
     cuttings: &[Cutting],
 ) -> Result<(), Fail> {
-    let (front, unit, count, end, closed, fault) = long;
+    let (prefix, unit, count, end, closed, fault) = long;
     let stream = bytes_of(alloc, long)?;
     if let Some((line, fault)) = fault {
-        let shown = bytes_of(alloc, (front, unit, count, end, 0, None))?;
+        let shown = bytes_of(alloc, (prefix, unit, count, end, 0, None))?;
         let told = shown.len().saturating_sub(1);
         let want = Err(PyxError { line, fault });
         return check_cuttings(rt, alloc, &stream, told, want, cuttings);
     }
     let read = end.strip_prefix(b"\r").unwrap_or(end);
-    let text = bytes_of(alloc, (front, unit, count, read, closed, None))?;
+    let text = bytes_of(alloc, (prefix, unit, count, read, closed, None))?;
     check_cuttings(rt, alloc, &stream, stream.len(), Ok(&text), cuttings)
 }
 
@@ -428,13 +428,13 @@ fn too_long_escaped_line(rt: HostRuntime) -> Result<(), Fail> {
 #[test]
 fn long_line_is_told_at_once(rt: HostRuntime) -> Result<(), Fail> {
     let alloc = rt.alloc();
-    for (front, count, behind) in MOMENTS {
-        let stream = bytes_of(alloc, (front, b"x", count, b"", 0, None))?;
+    for (prefix, count, behind) in MOMENTS {
+        let stream = bytes_of(alloc, (prefix, b"x", count, b"", 0, None))?;
         let mut cut = Vec::new(alloc);
         cut.push(stream.as_slice())?;
         cut.extend_from_slice(behind)?;
         let told = cut.concat(alloc)?.len().saturating_sub(1);
-        let line = if front.len() == 1 { 1 } else { 2 };
+        let line = if prefix.len() == 1 { 1 } else { 2 };
         let fault = PyxFault::LongLine;
         check(&rt, alloc, &cut, told, Err(PyxError { line, fault }))?;
     }

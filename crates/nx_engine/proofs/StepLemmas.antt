@@ -24,7 +24,7 @@ use Rattle.nx_script.specs.declared.reply.Reply.TheVariants as reply
 use Rattle.nx_script.specs.declared.reply.ReplyError.{ReplyError}
 use Rattle.nx_script.specs.declared.reply.ReplyError.TheVariants.{NoDocument, Exists, Pyx, NoNode}
 use Rattle.nx_engine.specs.Documents.{Documents}
-use Rattle.nx_engine.specs.Step.{worded, done_unless, by_document, loaded, shown, answer, edited, after, name_at, insert_fault, delete_fault, retext_fault}
+use Rattle.nx_engine.specs.Step.{worded, done_unless, by_document, loaded, shown, reply_to, edited, after, name_at, insert_fault, delete_fault, retext_fault}
 use Rattle.nx_engine.proofs.MapLemmas.{remove_absent}
 
 -- an answer that may be a refusal is worded as one without want of memory
@@ -65,7 +65,7 @@ refused_load documents name tree true e r = refl
 refused_load documents name tree false e r = cc
 
 -- a command that is refused changes nothing
-pub refused_after : (documents : Documents) (command : Command) (e : ReplyError) → answer documents command ≡ reply.Refused e → after documents command ≡ documents
+pub refused_after : (documents : Documents) (command : Command) (e : ReplyError) → reply_to documents command ≡ reply.Refused e → after documents command ≡ documents
 refused_after documents (Load name (load.Read tree)) e r = refused_load documents name tree (contains_key documents name) e r
 refused_after documents (Load name (load.Wrong error)) e r = refl
 refused_after documents (Discard name) e r = refused_discard documents name e r
@@ -93,11 +93,11 @@ pub load_absent : (documents : Documents) (name : List ℕ) (body : LoadBody) (t
 load_absent documents name body tree e is = ap (λ b. after documents (Load name b)) is ∙ cond-false _ documents (insert documents name tree) e
 
 pub shown_there : (documents : Documents) (name path : List ℕ) (tree found : OrderedTree) (node : Node) (n : ℕ) → get documents name ≡ Some tree → at tree path ≡ Some found →
-    node ≡ found.node → n ≡ length (trees_of found.below) → reply.Shown node n ≡ answer documents (Get name path)
+    node ≡ found.node → n ≡ length (trees_of found.below) → reply.Shown node n ≡ reply_to documents (Get name path)
 shown_there documents name path tree found node n g a e f =
     sym (by_found documents name tree _ g ∙ ap (λ o. option_map_or shown o (reply.Refused NoNode)) a ∙ ap (λ x. reply.Shown x (length (trees_of found.below))) (sym e) ∙ ap (reply.Shown node) (sym f))
 
-pub shown_nowhere : (documents : Documents) (name path : List ℕ) (tree : OrderedTree) → get documents name ≡ Some tree → at tree path ≡ None → reply.Refused NoNode ≡ answer documents (Get name path)
+pub shown_nowhere : (documents : Documents) (name path : List ℕ) (tree : OrderedTree) → get documents name ≡ Some tree → at tree path ≡ None → reply.Refused NoNode ≡ reply_to documents (Get name path)
 shown_nowhere documents name path tree g a = sym (by_found documents name tree _ g ∙ ap (λ o. option_map_or shown o (reply.Refused NoNode)) a)
 
 -- a content that is too long is refused so, whatever stands at the path

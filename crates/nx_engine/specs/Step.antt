@@ -76,16 +76,16 @@ abbrev pub listed : List ℕ × OrderedTree → DocLine
 listed entry = record { name = entry.0; nodes = 1 + nodes entry.1.below }
 
 -- what a command is answered
-abbrev pub answer : Documents → Command → Reply
-answer documents (Load name body) = if contains_key documents name then reply.Refused Exists else loaded body
-answer documents (Discard name) = by_document documents name (λ _. reply.Done)
-answer documents Names = reply.Names (map listed (entries documents))
-answer documents (Export name) = by_document documents name (λ tree. reply.Exported (text tree))
-answer documents (Insert name path body) = by_document documents name (λ tree. done_unless (insert_fault path body tree))
-answer documents (Delete name path) = by_document documents name (λ tree. done_unless (delete_fault path tree))
-answer documents (Retext name path body) = by_document documents name (λ tree. done_unless (retext_fault path body tree))
-answer documents (Get name path) = by_document documents name (λ tree. option_map_or shown (at tree path) (reply.Refused NoNode))
-answer documents Bad = reply.Refused Syntax
+abbrev pub reply_to : Documents → Command → Reply
+reply_to documents (Load name body) = if contains_key documents name then reply.Refused Exists else loaded body
+reply_to documents (Discard name) = by_document documents name (λ _. reply.Done)
+reply_to documents Names = reply.Names (map listed (entries documents))
+reply_to documents (Export name) = by_document documents name (λ tree. reply.Exported (text tree))
+reply_to documents (Insert name path body) = by_document documents name (λ tree. done_unless (insert_fault path body tree))
+reply_to documents (Delete name path) = by_document documents name (λ tree. done_unless (delete_fault path tree))
+reply_to documents (Retext name path body) = by_document documents name (λ tree. done_unless (retext_fault path body tree))
+reply_to documents (Get name path) = by_document documents name (λ tree. option_map_or shown (at tree path) (reply.Refused NoNode))
+reply_to documents Bad = reply.Refused Syntax
 
 -- the documents after an edit of one, unless there is none of that name or it is refused
 abbrev pub edited : Documents → List ℕ → (OrderedTree → Option ReplyError) → (OrderedTree → OrderedTree) → Documents
@@ -107,7 +107,7 @@ after documents _ = documents
 -- the replies to commands, one after the other
 abbrev pub replies : Documents → List Command → List Reply
 replies documents [] = []
-replies documents (command ∷ commands) = answer documents command ∷ replies (after documents command) commands
+replies documents (command ∷ commands) = reply_to documents command ∷ replies (after documents command) commands
 
 -- the documents after commands
 abbrev pub after_all : Documents → List Command → Documents

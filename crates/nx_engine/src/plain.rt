@@ -4,7 +4,7 @@ ghost use Rattle.std.specs.Result.{result_err};
 ghost use Rattle.std.specs.FinMap.{empty, get, insert, remove, contains_key, entries};
 ghost use Rattle.nx_tree.specs.Document.{IsDocument, IsNode, longest_node};
 ghost use Rattle.nx_script.specs.Commands.{CanCome};
-ghost use Rattle.nx_engine.specs.Step.{answer, after, name_at, done_unless, worded};
+ghost use Rattle.nx_engine.specs.Step.{reply_to, after, name_at, done_unless, worded};
 
 use nx_lists::LONGEST_NODE;
 use nx_pyx::{PyxError, PyxFault, write};
@@ -56,7 +56,7 @@ impl Plain {
     /// Errors: `NoMemory`. The documents are as they were then.
     pub fn apply(&mut self, command: Command) -> Result<Reply, NoMemory>
         requires { CanCome command }
-        ensures reply { IfOk result (λ reply. reply ≡ answer self.old command) }
+        ensures reply { IfOk result (λ reply. reply ≡ reply_to self.old command) }
         ensures ok { OnOk result (self.new ≡ after self.old command) }
         ensures refused { IfOk result (λ reply. (e : ReplyError) → reply ≡ Reply.Refused e → self.new ≡ self.old) }
         ensures err { OnErr result (self.new ≡ self.old) }
@@ -84,7 +84,7 @@ impl Plain {
 
     fn load(&mut self, name: Bytes, body: LoadBody) -> Result<Reply, NoMemory>
         requires { CanCome (Command.Load name body) }
-        ensures reply { IfOk result (λ reply. reply ≡ answer self.old (Command.Load name body)) }
+        ensures reply { IfOk result (λ reply. reply ≡ reply_to self.old (Command.Load name body)) }
         ensures ok { OnOk result (self.new ≡ after self.old (Command.Load name body)) }
         ensures err { OnErr result (self.new ≡ self.old) }
     {
@@ -105,7 +105,7 @@ impl Plain {
     }
 
     fn discard(&mut self, name: &Bytes) -> Reply
-        ensures reply { result ≡ answer self.old (Command.Discard name.now) }
+        ensures reply { result ≡ reply_to self.old (Command.Discard name.now) }
         ensures documents { self.new ≡ after self.old (Command.Discard name.now) }
     {
         match self.documents.remove(name.as_slice()) {
@@ -115,7 +115,7 @@ impl Plain {
     }
 
     fn names(&self) -> Result<Reply, NoMemory>
-        ensures { IfOk result (λ reply. reply ≡ answer self.now Command.Names) }
+        ensures { IfOk result (λ reply. reply ≡ reply_to self.now Command.Names) }
     {
         let mut lines = DocLines::new(self.alloc);
         for (name, tree) in &self.documents {
@@ -128,7 +128,7 @@ impl Plain {
     }
 
     fn export(&self, name: &Bytes) -> Result<Reply, NoMemory>
-        ensures { IfOk result (λ reply. reply ≡ answer self.now (Command.Export name.now)) }
+        ensures { IfOk result (λ reply. reply ≡ reply_to self.now (Command.Export name.now)) }
     {
         match self.documents.get(name.as_slice()) {
             Some(tree) => Ok(Reply::Exported(write(self.alloc, tree)?)),
@@ -138,7 +138,7 @@ impl Plain {
 
     fn insert(&mut self, name: &Bytes, path: &Path, line: LineBody) -> Result<Reply, NoMemory>
         requires { CanCome (Command.Insert name.now path.now line) }
-        ensures reply { IfOk result (λ reply. reply ≡ answer self.old (Command.Insert name.now path.now line)) }
+        ensures reply { IfOk result (λ reply. reply ≡ reply_to self.old (Command.Insert name.now path.now line)) }
         ensures ok { OnOk result (self.new ≡ after self.old (Command.Insert name.now path.now line)) }
         ensures err { OnErr result (self.new ≡ self.old) }
     {
@@ -153,7 +153,7 @@ impl Plain {
     }
 
     fn delete(&mut self, name: &Bytes, path: &Path) -> Result<Reply, NoMemory>
-        ensures reply { IfOk result (λ reply. reply ≡ answer self.old (Command.Delete name.now path.now)) }
+        ensures reply { IfOk result (λ reply. reply ≡ reply_to self.old (Command.Delete name.now path.now)) }
         ensures ok { OnOk result (self.new ≡ after self.old (Command.Delete name.now path.now)) }
         ensures err { OnErr result (self.new ≡ self.old) }
     {
@@ -165,7 +165,7 @@ impl Plain {
 
     fn retext(&mut self, name: &Bytes, path: &Path, text: TextBody) -> Result<Reply, NoMemory>
         requires { CanCome (Command.Retext name.now path.now text) }
-        ensures reply { IfOk result (λ reply. reply ≡ answer self.old (Command.Retext name.now path.now text)) }
+        ensures reply { IfOk result (λ reply. reply ≡ reply_to self.old (Command.Retext name.now path.now text)) }
         ensures ok { OnOk result (self.new ≡ after self.old (Command.Retext name.now path.now text)) }
         ensures err { OnErr result (self.new ≡ self.old) }
     {
@@ -187,7 +187,7 @@ impl Plain {
     }
 
     fn get(&self, name: &Bytes, path: &Path) -> Result<Reply, NoMemory>
-        ensures { IfOk result (λ reply. reply ≡ answer self.now (Command.Get name.now path.now)) }
+        ensures { IfOk result (λ reply. reply ≡ reply_to self.now (Command.Get name.now path.now)) }
     {
         let Some(tree) = self.documents.get(name.as_slice()) else {
             return Ok(Reply::Refused(ReplyError::NoDocument));

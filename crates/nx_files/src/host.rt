@@ -145,7 +145,7 @@ impl<F: Files<File = File>, R: Read, W: Write> Host for FileHost<F, R, W> {
 
     fn emit(&mut self, bytes: &[u8]) -> Result<(), Failed>
         ensures whole { OnOk result (Appends (W.contents self.old.writer) (W.contents self.new.writer) bytes.now) }
-        ensures front { OnErr result ((n : ℕ) × Appends (W.contents self.old.writer) (W.contents self.new.writer) (take n bytes.now)) }
+        ensures prefix { OnErr result ((n : ℕ) × Appends (W.contents self.old.writer) (W.contents self.new.writer) (take n bytes.now)) }
         ensures others { self.new ≡ record self.old { writer = self.new.writer; out_faults = self.new.out_faults } }
         ensures well { OnOk result (self.new.out_faults ≡ self.old.out_faults) }
         ensures out_faults { (self.old.out_faults ≤ self.new.out_faults) × (self.new.out_faults ≤ self.old.out_faults + 1) }

@@ -49,7 +49,7 @@ pub fn read_full<R: Read>(reader: &mut R, into: &mut [u8]) -> Result<usize, Fail
 fn write_some<W: Write>(writer: &mut W, bytes: &[u8]) -> Result<usize, Failed>
     ensures some { IfOk result (λ n. 0 < n) }
     ensures bound { IfOk result (λ n. n ≤ length bytes.now) }
-    ensures front { IfOk result (λ n. Appends (W.contents writer.old) (W.contents writer.new) (take n bytes.now)) }
+    ensures prefix { IfOk result (λ n. Appends (W.contents writer.old) (W.contents writer.new) (take n bytes.now)) }
     ensures nothing { OnErr result (Keeps (W.contents writer.old) (W.contents writer.new)) }
 {
     for _ in 0..TRIES {
@@ -66,10 +66,10 @@ fn write_some<W: Write>(writer: &mut W, bytes: &[u8]) -> Result<usize, Failed>
     Err(Failed)
 }
 
-// As many writes as the slice takes. After a failed one a front of the slice is written.
+// As many writes as the slice takes. After a failed one a prefix of the slice is written.
 pub fn write_whole<W: Write>(writer: &mut W, bytes: &[u8]) -> Result<(), Failed>
     ensures whole { OnOk result (Appends (W.contents writer.old) (W.contents writer.new) bytes.now) }
-    ensures front { OnErr result ((n : ℕ) × Appends (W.contents writer.old) (W.contents writer.new) (take n bytes.now)) }
+    ensures prefix { OnErr result ((n : ℕ) × Appends (W.contents writer.old) (W.contents writer.new) (take n bytes.now)) }
 {
     let mut rest = bytes;
     while !rest.is_empty() {

@@ -55,8 +55,8 @@ impl Read for FakeReader {
             return Err(io::Error::from(self.trouble.kind));
         }
         let count = buf.len().min(self.bytes.len()).min(3);
-        let (front, rest) = self.bytes.split_at(count);
-        buf[..count].copy_from_slice(front);
+        let (prefix, rest) = self.bytes.split_at(count);
+        buf[..count].copy_from_slice(prefix);
         self.bytes = rest;
         Ok(count)
     }

@@ -7,9 +7,9 @@ use Rattle.nx_host.specs.declared.input.Input.{Input}
 use Rattle.nx_host.specs.declared.input.InputError.{InputError}
 use Rattle.nx_host.specs.declared.input.InputError.TheVariants as input
 use Rattle.nx_front.specs.declared.refusal.Refusal.{Refusal}
-use Rattle.nx_front.specs.declared.stop.Stop.{Stop}
-use Rattle.nx_front.specs.declared.stop.Stop.TheVariants.{Refused, ReadFault, TooMuch, NoMemory}
-use Rattle.nx_front.specs.Stop.{stop_of_input}
+use Rattle.nx_front.specs.declared.take_error.TakeError.{TakeError}
+use Rattle.nx_front.specs.declared.take_error.TakeError.TheVariants.{Refused, ReadFault, TooMuch, NoMemory}
+use Rattle.nx_front.specs.TakeError.{take_error_of_input}
 use Rattle.nx_front.specs.Consumer.{StopsAt, StopsFeeding}
 use Rattle.nx_front.specs.Outcome.{Meaning, TakesFew, EndsWhole, StopsBy}
 use Rattle.nx_front.proofs.OutcomeLemmas.{rose_since}
@@ -90,7 +90,7 @@ came_few goes_on taken first had = let (more, had') = goes_on taken first had in
 -- the input gives no block
 pub stops_input : {old new : Input} {knew knows : List ℕ → Type 0} (shows : List ℕ → Result (List ℕ) Refusal → Type 0) (error : InputError) (was now : Beside) →
     Came old new knew knows was.input now.input → IsStopped error new.taken → (error ≡ input.Read → Rose was.in_faults now.in_faults) → ((s : List ℕ) → knows s → shows s (Ok [])) →
-    (taken : List ℕ) (first : Option (List ℕ)) → HasTaken old taken first was.input → knew taken → StopsFeeding shows (stop_of_input error) first was now
+    (taken : List ℕ) (first : Option (List ℕ)) → HasTaken old taken first was.input → knew taken → StopsFeeding shows (take_error_of_input error) first was now
 stops_input {new = new} shows input.Read was now came stopped rose none taken first had knew =
     let (more, all, knows) = came.goes taken first had in
     (rose refl, taken ++ more, short_of new.taken (length (taken ++ more)) all.counted stopped, record { takes = all.takes; few = few_had all; shows_so = none (taken ++ more) (knows knew) })
@@ -99,7 +99,7 @@ stops_input shows input.TooMuch was now came stopped rose none taken first had k
     (taken ++ more, sym all.counted ∙ stopped, record { takes = all.takes; few = few_had all; shows_so = none (taken ++ more) (knows knew) })
 
 -- the consumer stops
-pub stops_taking : {old new : Input} {knew : List ℕ → Type 0} (shows : List ℕ → Result (List ℕ) Refusal → Type 0) (stop : Stop) (was now : Beside) →
+pub stops_taking : {old new : Input} {knew : List ℕ → Type 0} (shows : List ℕ → Result (List ℕ) Refusal → Type 0) (stop : TakeError) (was now : Beside) →
     Came old new knew (λ s. StopsAt shows stop s) was.input now.input → (taken : List ℕ) (first : Option (List ℕ)) → HasTaken old taken first was.input → knew taken →
     StopsFeeding shows stop first was now
 stops_taking shows (Refused refusal) was now came taken first had knew =
@@ -109,7 +109,7 @@ stops_taking shows TooMuch was now came taken first had knew = let (more, all, s
 stops_taking shows NoMemory was now came taken first had knew = tt
 
 -- so does the run
-pub fed_stops : (m : Meaning) (stop : Stop) (old was now : Beside) → old.in_faults ≤ was.in_faults → StopsFeeding m.shows stop old.input was now → StopsBy m stop old now
+pub fed_stops : (m : Meaning) (stop : TakeError) (old was now : Beside) → old.in_faults ≤ was.in_faults → StopsFeeding m.shows stop old.input was now → StopsBy m stop old now
 fed_stops m (Refused refusal) old was now earlier (taken, shown) = (taken, record { takes = shown.takes; few = shown.few; refused = inl shown.shows_so })
 fed_stops m ReadFault old was now earlier (rose, taken, short, shown) =
     (rose_since old.in_faults was.in_faults now.in_faults earlier rose, taken, short, record { takes = shown.takes; few = shown.few; shows = shown.shows_so })

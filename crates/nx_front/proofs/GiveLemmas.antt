@@ -2,19 +2,19 @@
 use Rattle.std.proofs.Common.{◌≡◌, ℕ, ◌+◌, ◌≤◌, ◌<◌, List, [], ◌++◌, length, Result, Err, refl, sym, ap, ◌∙◌, subst, arith, append_assoc, append-nil, length-append}
 use Rattle.nx_host.specs.declared.disk.Disk.{Ghosts}
 use Rattle.nx_host.specs.Disk.{Beside, Rose}
-use Rattle.nx_host.specs.Host.{AppendsFront}
+use Rattle.nx_host.specs.Host.{AppendsPrefix}
 use Rattle.nx_host.specs.Phase.{GivesAlone}
 use Rattle.nx_host.proofs.DiskLemmas.{keeps_self}
-use Rattle.nx_host.proofs.OutputLemmas.{appends_nothing, keeps_front}
-use Rattle.nx_host.proofs.PhaseLemmas.{gives_front, gives_then}
-use Rattle.nx_front.specs.declared.give.Halt.{Halt}
-use Rattle.nx_front.specs.declared.give.Halt.TheVariants as halt
+use Rattle.nx_host.proofs.OutputLemmas.{appends_nothing, keeps_prefix}
+use Rattle.nx_host.proofs.PhaseLemmas.{gives_prefix, gives_then}
+use Rattle.nx_front.specs.declared.give.GiveError.{GiveError}
+use Rattle.nx_front.specs.declared.give.GiveError.TheVariants as give_error
 use Rattle.nx_front.specs.Outcome.{Gives, FailsGiving, Given, GivesBut}
 use Rattle.nx_front.proofs.OutcomeLemmas.{gives_appends, gives_more, given_then, given_more}
 
 -- nothing is a prefix of anything
-pub given_nothing : (bytes : List ℕ) (a : Beside) → Given bytes (Err halt.NoMemory) a a
-given_nothing bytes a = keeps_front bytes a.output a.output (keeps_self a.output)
+pub given_nothing : (bytes : List ℕ) (a : Beside) → Given bytes (Err give_error.NoMemory) a a
+given_nothing bytes a = keeps_prefix bytes a.output a.output (keeps_self a.output)
 
 -- there is less to come once a block is given
 pub less : (block left filled rest now : List ℕ) → filled ++ rest ≡ block ++ left → now ≡ [] → 65536 ≤ length filled → length now + length rest < length block + length left
@@ -24,7 +24,7 @@ less block left filled rest now same none enough =
     omega arith
 
 -- the rest is given
-pub gave_rest : {bytes left : List ℕ} {a b : Beside} (given : Result (Unit {0}) Halt) (c : Beside) → a.out_faults ≤ b.out_faults → GivesBut bytes left a b → Given left given b c →
+pub gave_rest : {bytes left : List ℕ} {a b : Beside} (given : Result (Unit {0}) GiveError) (c : Beside) → a.out_faults ≤ b.out_faults → GivesBut bytes left a b → Given left given b c →
     Given bytes given a c
 gave_rest {left = left} {a = a} {b = b} given c earlier gives gave =
     subst (λ (t : List ℕ). Given t given a c) gives.parts (given_then {x = gives.done} {a = a} {b = b} left given c (record { later = earlier; gives = gives.gives }) gave)
@@ -55,9 +55,9 @@ gave_all {all = all} {a = a} {b = b} gives none =
     subst (λ (t : List ℕ). Gives t a.output b.output) (sym (append-nil gives.done) ∙ ap (λ (l : List ℕ). gives.done ++ l) (sym none) ∙ gives.parts) gives.gives
 
 -- the first call fails
-pub fails_at_once : (bytes : List ℕ) (old new : Beside) → 0 < length bytes → Rose old.out_faults new.out_faults → AppendsFront bytes old.output new.output → FailsGiving bytes old new
-fails_at_once bytes old new some rose front =
-    record { rose = rose; done = []; others = bytes; parts = refl; some = some; middle = old.output; appends = appends_nothing old.output; front = front }
+pub fails_at_once : (bytes : List ℕ) (old new : Beside) → 0 < length bytes → Rose old.out_faults new.out_faults → AppendsPrefix bytes old.output new.output → FailsGiving bytes old new
+fails_at_once bytes old new some rose prefix =
+    record { rose = rose; done = []; others = bytes; parts = refl; some = some; middle = old.output; appends = appends_nothing old.output; prefix = prefix }
 
 -- a block is given, and the rest is to come
 pub giving_more : {all : List ℕ} {a b : Beside} (block rest : List ℕ) (c : Beside) → GivesBut all (block ++ rest) a b → Gives block b.output c.output → GivesBut all rest a c
@@ -68,7 +68,7 @@ giving_more {a = a} {b = b} block rest c gives gave = record {
 }
 
 -- or it isn't
-pub giving_stops : {all : List ℕ} {a b : Beside} (block rest : List ℕ) (stop : Halt) (c : Beside) → a.out_faults ≤ b.out_faults → GivesBut all (block ++ rest) a b →
+pub giving_stops : {all : List ℕ} {a b : Beside} (block rest : List ℕ) (stop : GiveError) (c : Beside) → a.out_faults ≤ b.out_faults → GivesBut all (block ++ rest) a b →
     Given block (Err stop) b c → Given all (Err stop) a c
 giving_stops {b = b} block rest stop c earlier gives gave = gave_rest (Err stop) c earlier gives (given_more block rest stop b c gave)
 
@@ -81,4 +81,4 @@ module _ {D : Type 0} {d : Ghosts D} where
 
   pub giving_alone : {a b c : D} {all : List ℕ} (block rest : List ℕ) → GivesBut all (block ++ rest) (d.beside a) (d.beside b) → GivesAlone d all a b → GivesAlone d block b c →
       GivesAlone d all a c
-  giving_alone block rest gives first second = alone_rest gives first (gives_front block rest second)
+  giving_alone block rest gives first second = alone_rest gives first (gives_prefix block rest second)

@@ -3,7 +3,7 @@ pub mod GiveLemmas
 pub mod ConsumerLemmas
 pub mod TidyLemmas
 pub mod PlanLemmas
-pub mod ClaimLemmas
+pub mod PlannedLemmas
 pub mod VerifyLemmas
 pub mod SessionLemmas
 pub mod TopLemmas

@@ -3,17 +3,17 @@ use Rattle.std.proofs.Common.{◌≡◌, ◌⊎◌, inl, inr, ℕ, ◌+◌, ◌<
 use Rattle.std.proofs.lemmas.List.{take_all}
 use Rattle.nx_host.specs.declared.disk.Disk.{Ghosts}
 use Rattle.nx_host.specs.Disk.{Beside, Keeps, Rose}
-use Rattle.nx_host.specs.Host.{Takes, IsAtEnd, Appends, AppendsFront}
+use Rattle.nx_host.specs.Host.{Takes, IsAtEnd, Appends, AppendsPrefix}
 use Rattle.nx_host.specs.Input.{most_input}
 use Rattle.nx_host.specs.Phase.{TakesAlone, GivesAlone, TalksAlone}
-use Rattle.nx_host.proofs.OutputLemmas.{appends_nothing, appends_then, front_more, front_then, keeps_front}
+use Rattle.nx_host.proofs.OutputLemmas.{appends_nothing, appends_then, prefix_more, prefix_then, keeps_prefix}
 use Rattle.nx_host.proofs.PhaseLemmas.{takes_talks, left_then}
 use Rattle.nx_front.specs.declared.status.Status.{Status}
 use Rattle.nx_front.specs.declared.status.Status.TheVariants.{Done, Usage, Refused, ReadFault, WriteFault, NoMemory, TooMuch}
-use Rattle.nx_front.specs.declared.stop.Stop.{Stop}
-use Rattle.nx_front.specs.declared.stop.Stop.TheVariants as stop
-use Rattle.nx_front.specs.declared.give.Halt.{Halt}
-use Rattle.nx_front.specs.declared.give.Halt.TheVariants as halt
+use Rattle.nx_front.specs.declared.take_error.TakeError.{TakeError}
+use Rattle.nx_front.specs.declared.take_error.TakeError.TheVariants as take_error
+use Rattle.nx_front.specs.declared.give.GiveError.{GiveError}
+use Rattle.nx_front.specs.declared.give.GiveError.TheVariants as give_error
 use Rattle.nx_front.specs.declared.refusal.Refusal.{Refusal}
 use Rattle.nx_front.specs.Refusal.{refusal_line}
 use Rattle.nx_front.specs.Outcome.{Meaning, TakesFew, EndsWhole, EndsRefused, StopsBy, ReadsTo, Gives, FailsGiving, Given, status_after, line_after, EndsAfter, output_of, HasToldOutcome, Ends, RunsBeside, IsUndisturbed, Completes, HoldsTogether}
@@ -40,17 +40,17 @@ gives_more (x ∷ xs) [] a b c first second =
 gives_more (x ∷ xs) (y ∷ ys) a b c first second = appends_then (x ∷ xs) (y ∷ ys) a b c first second
 
 -- all bytes are a prefix of them
-pub gives_all_front : (bytes : List ℕ) (old new : Option (List ℕ)) → Gives bytes old new → AppendsFront bytes old new
-gives_all_front bytes old new gives = front (new) (gives_appends bytes old new gives)
+pub gives_all_prefix : (bytes : List ℕ) (old new : Option (List ℕ)) → Gives bytes old new → AppendsPrefix bytes old new
+gives_all_prefix bytes old new gives = prefix (new) (gives_appends bytes old new gives)
   where
-    front : (now : Option (List ℕ)) → Appends bytes old now → AppendsFront bytes old now
-    front None appends = tt
-    front (Some now) (was, is, grew) = (was, length bytes, is, grew ∙ ap (λ (t : List ℕ). was ++ t) (sym (take_all (length bytes) bytes (omega arith))))
+    prefix : (now : Option (List ℕ)) → Appends bytes old now → AppendsPrefix bytes old now
+    prefix None appends = tt
+    prefix (Some now) (was, is, grew) = (was, length bytes, is, grew ∙ ap (λ (t : List ℕ). was ++ t) (sym (take_all (length bytes) bytes (omega arith))))
 
 -- bytes that weren't all given are a prefix
-pub fails_front : (bytes : List ℕ) (old new : Beside) → FailsGiving bytes old new → AppendsFront bytes old.output new.output
-fails_front bytes old new fails =
-    subst (λ (t : List ℕ). AppendsFront t old.output new.output) fails.parts (front_then fails.done fails.others old.output fails.middle new.output fails.appends fails.front)
+pub fails_prefix : (bytes : List ℕ) (old new : Beside) → FailsGiving bytes old new → AppendsPrefix bytes old.output new.output
+fails_prefix bytes old new fails =
+    subst (λ (t : List ℕ). AppendsPrefix t old.output new.output) fails.parts (prefix_then fails.done fails.others old.output fails.middle new.output fails.appends fails.prefix)
 
 -- they weren't behind others that were
 pub fails_then : (x y : List ℕ) (a b c : Beside) → a.out_faults ≤ b.out_faults → Appends x a.output b.output → FailsGiving y b c → FailsGiving (x ++ y) a c
@@ -62,7 +62,7 @@ fails_then x y a b c earlier appends fails = record {
   some = fails.some;
   middle = fails.middle;
   appends = appends_then x fails.done a.output b.output fails.middle appends fails.appends;
-  front = fails.front;
+  prefix = fails.prefix;
 }
 
 -- nor are more bytes
@@ -75,14 +75,14 @@ fails_more bytes more old new fails = record {
   some = let long : length (fails.others ++ more) ≡ length fails.others + length more = length-append fails.others more in let here : 0 < length fails.others = fails.some in omega arith;
   middle = fails.middle;
   appends = fails.appends;
-  front = front_more fails.others more fails.middle new.output fails.front;
+  prefix = prefix_more fails.others more fails.middle new.output fails.prefix;
 }
 
 -- however the giving ended, a prefix was given
-pub given_front : (bytes : List ℕ) (given : Result (Unit {0}) Halt) (old new : Beside) → Given bytes given old new → AppendsFront bytes old.output new.output
-given_front bytes (Ok _) old new gave = gives_all_front bytes old.output new.output gave
-given_front bytes (Err halt.WriteFault) old new gave = fails_front bytes old new gave
-given_front bytes (Err halt.NoMemory) old new gave = gave
+pub given_prefix : (bytes : List ℕ) (given : Result (Unit {0}) GiveError) (old new : Beside) → Given bytes given old new → AppendsPrefix bytes old.output new.output
+given_prefix bytes (Ok _) old new gave = gives_all_prefix bytes old.output new.output gave
+given_prefix bytes (Err give_error.WriteFault) old new gave = fails_prefix bytes old new gave
+given_prefix bytes (Err give_error.NoMemory) old new gave = gave
 
 -- Bytes were given, and the count of faults didn't fall.
 pub record HasGone (bytes : List ℕ) (old new : Beside) : Type 0 where
@@ -90,15 +90,15 @@ pub record HasGone (bytes : List ℕ) (old new : Beside) : Type 0 where
   pub gives : Gives bytes old.output new.output
 
 -- the same behind bytes that were given
-pub given_then : {x : List ℕ} {a b : Beside} (y : List ℕ) (given : Result (Unit {0}) Halt) (c : Beside) → HasGone x a b → Given y given b c → Given (x ++ y) given a c
+pub given_then : {x : List ℕ} {a b : Beside} (y : List ℕ) (given : Result (Unit {0}) GiveError) (c : Beside) → HasGone x a b → Given y given b c → Given (x ++ y) given a c
 given_then {x = x} {a = a} {b = b} y (Ok _) c gone gave = gives_more x y a.output b.output c.output gone.gives gave
-given_then {x = x} {a = a} {b = b} y (Err halt.WriteFault) c gone gave = fails_then x y a b c gone.later (gives_appends x a.output b.output gone.gives) gave
-given_then {x = x} {a = a} {b = b} y (Err halt.NoMemory) c gone gave = front_then x y a.output b.output c.output (gives_appends x a.output b.output gone.gives) gave
+given_then {x = x} {a = a} {b = b} y (Err give_error.WriteFault) c gone gave = fails_then x y a b c gone.later (gives_appends x a.output b.output gone.gives) gave
+given_then {x = x} {a = a} {b = b} y (Err give_error.NoMemory) c gone gave = prefix_then x y a.output b.output c.output (gives_appends x a.output b.output gone.gives) gave
 
 -- where it stopped, of more bytes
-pub given_more : (x y : List ℕ) (stop : Halt) (a b : Beside) → Given x (Err stop) a b → Given (x ++ y) (Err stop) a b
-given_more x y halt.WriteFault a b gave = fails_more x y a b gave
-given_more x y halt.NoMemory a b gave = front_more x y a.output b.output gave
+pub given_more : (x y : List ℕ) (stop : GiveError) (a b : Beside) → Given x (Err stop) a b → Given (x ++ y) (Err stop) a b
+given_more x y give_error.WriteFault a b gave = fails_more x y a b gave
+given_more x y give_error.NoMemory a b gave = prefix_more x y a.output b.output gave
 
 -- What was taken:
 
@@ -184,12 +184,12 @@ module _ {D : Type 0} {d : Ghosts D} where
   -- what was taken, and then bytes that are given
   takes_gives : {a b c : D} (bytes : List ℕ) → TakesAlone d a b → GivesAlone d bytes b c → TalksAlone d bytes a c
   takes_gives bytes took gave =
-      left_then (takes_talks bytes took) gave.areas (λ output h. subst (λ (o : Option (List ℕ)). AppendsFront bytes o output) took.output_stays h)
+      left_then (takes_talks bytes took) gave.areas (λ output h. subst (λ (o : Option (List ℕ)). AppendsPrefix bytes o output) took.output_stays h)
 
-  front_after : {a b : D} (c : D) (bytes : List ℕ) (given : Result (Unit {0}) Halt) → TakesAlone d a b → Given bytes given (d.beside b) (d.beside c) →
-      AppendsFront bytes (d.beside a).output (d.beside c).output
-  front_after {b = b} c bytes given took gave =
-      subst (λ (o : Option (List ℕ)). AppendsFront bytes o (d.beside c).output) took.output_stays (given_front bytes given (d.beside b) (d.beside c) gave)
+  prefix_after : {a b : D} (c : D) (bytes : List ℕ) (given : Result (Unit {0}) GiveError) → TakesAlone d a b → Given bytes given (d.beside b) (d.beside c) →
+      AppendsPrefix bytes (d.beside a).output (d.beside c).output
+  prefix_after {b = b} c bytes given took gave =
+      subst (λ (o : Option (List ℕ)). AppendsPrefix bytes o (d.beside c).output) took.output_stays (given_prefix bytes given (d.beside b) (d.beside c) gave)
 
   -- nothing was given before
   fails_after : {a b : D} (c : D) (bytes : List ℕ) → TakesAlone d a b → FailsGiving bytes (d.beside b) (d.beside c) → FailsGiving bytes (d.beside a) (d.beside c)
@@ -197,36 +197,36 @@ module _ {D : Type 0} {d : Ghosts D} where
       fails_then [] bytes (d.beside a) (d.beside b) (d.beside c) took.areas.out_faults_later (gives_appends [] (d.beside a).output (d.beside b).output took.output_stays) fails
 
   -- the answer was read, and its text given
-  answer_ends : (m : Meaning) {a b : D} (c : D) (answer : m.Answer) (given : Result (Unit {0}) Halt) →
+  answer_ends : (m : Meaning) {a b : D} (c : D) (answer : m.Answer) (given : Result (Unit {0}) GiveError) →
       (taken : List ℕ) × EndsWhole taken (d.beside a).input (d.beside c).input × m.says taken answer → TakesAlone d a b → Given (m.text_of answer) given (d.beside b) (d.beside c) →
       Ends m (Some (Ok answer)) (status_after Done given) (d.beside a) (d.beside c)
   answer_ends m c answer (Ok _) (taken, whole, says) took gave =
       (answer, taken, refl, whole, says, subst (λ (o : Option (List ℕ)). Gives (m.text_of answer) o (d.beside c).output) took.output_stays gave)
-  answer_ends m c answer (Err halt.WriteFault) (taken, whole, says) took gave =
+  answer_ends m c answer (Err give_error.WriteFault) (taken, whole, says) took gave =
       (m.text_of answer, taken, inl (answer, whole, says, refl), fails_after c (m.text_of answer) took gave)
-  answer_ends m c answer (Err halt.NoMemory) (taken, whole, says) took gave = tt
+  answer_ends m c answer (Err give_error.NoMemory) (taken, whole, says) took gave = tt
 
   -- it was refused, and the line was given that says so
-  refusal_ends : (m : Meaning) {a b : D} (c : D) (refusal : Refusal) (taken : List ℕ) (given : Result (Unit {0}) Halt) →
+  refusal_ends : (m : Meaning) {a b : D} (c : D) (refusal : Refusal) (taken : List ℕ) (given : Result (Unit {0}) GiveError) →
       EndsRefused m refusal taken (d.beside a).input (d.beside c).input → TakesAlone d a b → Given (refusal_line refusal) given (d.beside b) (d.beside c) →
       Ends m (Some (Err refusal)) (status_after Refused given) (d.beside a) (d.beside c)
   refusal_ends m c refusal taken (Ok _) ends took gave =
       (refusal, taken, refl, ends, subst (λ (o : Option (List ℕ)). Gives (refusal_line refusal) o (d.beside c).output) took.output_stays gave)
-  refusal_ends m c refusal taken (Err halt.WriteFault) ends took gave =
+  refusal_ends m c refusal taken (Err give_error.WriteFault) ends took gave =
       (refusal_line refusal, taken, inr (inl (refusal, ends, refl)), fails_after c (refusal_line refusal) took gave)
-  refusal_ends m c refusal taken (Err halt.NoMemory) ends took gave = tt
+  refusal_ends m c refusal taken (Err give_error.NoMemory) ends took gave = tt
 
   module _ {m : Meaning} where
     -- a run by what it left and what it gave
     pub runs_by : {a b : D} (outcome : Option (Result m.Answer Refusal)) (status : Status) → HasToldOutcome m outcome (d.beside a).input (d.beside b).input →
-        Ends m outcome status (d.beside a) (d.beside b) → AppendsFront (output_of m outcome) (d.beside a).output (d.beside b).output →
+        Ends m outcome status (d.beside a) (d.beside b) → AppendsPrefix (output_of m outcome) (d.beside a).output (d.beside b).output →
         TakesFew (d.beside a).input (d.beside b).input → TalksAlone d (output_of m outcome) a b → RunsBeside d m status a b
-    runs_by outcome status told ends front few talks = record {
+    runs_by outcome status told ends prefix few talks = record {
       run = record {
         outcome = outcome;
         told = told;
         ends = ends;
-        front = front;
+        prefix = prefix;
         time = talks.time;
         bounded = few;
         counts = record { read = talks.in_faults_later; written = talks.out_faults_later };
@@ -234,38 +234,38 @@ module _ {D : Type 0} {d : Ghosts D} where
       disk = record { contents_stay = talks.contents_stay; images_stay = talks.images_stay; faults_stay = talks.faults_stay; reads_stay = talks.reads_stay };
     }
 
-    pub runs_answer : {a b c : D} (answer : m.Answer) (given : Result (Unit {0}) Halt) → ReadsTo m (Ok answer) (d.beside a) (d.beside b) →
+    pub runs_answer : {a b c : D} (answer : m.Answer) (given : Result (Unit {0}) GiveError) → ReadsTo m (Ok answer) (d.beside a) (d.beside b) →
         TakesFew (d.beside a).input (d.beside b).input → TakesAlone d a b → Given (m.text_of answer) given (d.beside b) (d.beside c) → GivesAlone d (m.text_of answer) b c →
         RunsBeside d m (status_after Done given) a c
     runs_answer {a = a} {b = b} {c = c} answer given (taken, whole, says) few took gave gives =
         let ends : EndsWhole taken (d.beside a).input (d.beside c).input = subst (λ (i : Option (List ℕ)). EndsWhole taken (d.beside a).input i) (sym gives.input_stays) whole in
         runs_by (Some (Ok answer)) (status_after Done given) (told_answer m answer taken (d.beside a).input (d.beside c).input ends says)
-        (answer_ends m c answer given (taken, ends, says) took gave) (front_after c (m.text_of answer) given took gave)
+        (answer_ends m c answer given (taken, ends, says) took gave) (prefix_after c (m.text_of answer) given took gave)
         (few_then (d.beside a).input (d.beside b).input (d.beside c).input few gives.input_stays) (takes_gives (m.text_of answer) took gives)
 
     -- nothing was given
     runs_nothing : {a b c : D} (status : Status) → TakesFew (d.beside a).input (d.beside b).input → TakesAlone d a b → GivesAlone d [] b c → d.beside c ≡ d.beside b →
         Ends m None status (d.beside a) (d.beside b) → RunsBeside d m status a c
     runs_nothing {a = a} {b = b} {c = c} status few took gives same ends =
-        let Front : Beside → Type 0 = λ x. AppendsFront [] (d.beside a).output x.output in
+        let Prefix : Beside → Type 0 = λ x. AppendsPrefix [] (d.beside a).output x.output in
         runs_by None status (told_nothing m (d.beside a).input (d.beside c).input) (subst (λ (x : Beside). Ends m None status (d.beside a) x) (sym same) ends)
-        (subst Front (sym same) (keeps_front [] (d.beside a).output (d.beside b).output (keeps_of (d.beside a).output (d.beside b).output took.output_stays)))
+        (subst Prefix (sym same) (keeps_prefix [] (d.beside a).output (d.beside b).output (keeps_of (d.beside a).output (d.beside b).output took.output_stays)))
         (few_then (d.beside a).input (d.beside b).input (d.beside c).input few gives.input_stays) (takes_gives [] took gives)
 
-    pub runs_stopped : {a b c : D} (stopped : Stop) (status : Status) → HoldsTogether m → StopsBy m stopped (d.beside a) (d.beside b) →
+    pub runs_stopped : {a b c : D} (stopped : TakeError) (status : Status) → HoldsTogether m → StopsBy m stopped (d.beside a) (d.beside b) →
         TakesFew (d.beside a).input (d.beside b).input → TakesAlone d a b → EndsAfter stopped status (d.beside b) (d.beside c) → GivesAlone d (line_after stopped) b c →
         RunsBeside d m status a c
-    runs_stopped {a = a} {b = b} {c = c} (stop.Refused refusal) status together (taken, stops) few took (given, is, gave) gives =
+    runs_stopped {a = a} {b = b} {c = c} (take_error.Refused refusal) status together (taken, stops) few took (given, is, gave) gives =
         let ends : EndsRefused m refusal taken (d.beside a).input (d.beside c).input =
         subst (λ (i : Option (List ℕ)). EndsRefused m refusal taken (d.beside a).input i) (sym gives.input_stays) stops
         in
         subst (λ (s : Status). RunsBeside d m s a c) (sym is)
         (runs_by (Some (Err refusal)) (status_after Refused given) (told_refusal m together refusal taken (d.beside a).input (d.beside c).input ends)
-        (refusal_ends m c refusal taken given ends took gave) (front_after c (refusal_line refusal) given took gave)
+        (refusal_ends m c refusal taken given ends took gave) (prefix_after c (refusal_line refusal) given took gave)
         (few_then (d.beside a).input (d.beside b).input (d.beside c).input few gives.input_stays) (takes_gives (refusal_line refusal) took gives))
-    runs_stopped {a = a} {c = c} stop.ReadFault status together (rose, taken, short, early) few took (is, same) gives =
+    runs_stopped {a = a} {c = c} take_error.ReadFault status together (rose, taken, short, early) few took (is, same) gives =
         subst (λ (s : Status). RunsBeside d m s a c) (sym is) (runs_nothing ReadFault few took gives same (rose, [], taken, short, early, took.output_stays))
-    runs_stopped {a = a} {c = c} stop.TooMuch status together (taken, long, early) few took (is, same) gives =
+    runs_stopped {a = a} {c = c} take_error.TooMuch status together (taken, long, early) few took (is, same) gives =
         subst (λ (s : Status). RunsBeside d m s a c) (sym is) (runs_nothing TooMuch few took gives same ([], taken, long, early, took.output_stays))
-    runs_stopped {a = a} {c = c} stop.NoMemory status together stops few took (is, same) gives =
+    runs_stopped {a = a} {c = c} take_error.NoMemory status together stops few took (is, same) gives =
         subst (λ (s : Status). RunsBeside d m s a c) (sym is) (runs_nothing NoMemory few took gives same tt)

@@ -3,11 +3,11 @@ use Rattle.std.proofs.Common.{◌≡◌, inl, inr, ◌≤◌, ◌<◌, ℕ, true
 use Rattle.std.specs.FinMap.{empty}
 use Rattle.nx_host.specs.declared.disk.Disk.{Ghosts}
 use Rattle.nx_host.specs.Disk.{Beside, Keeps, Rose}
-use Rattle.nx_host.specs.Host.{Takes, Appends, AppendsFront}
+use Rattle.nx_host.specs.Host.{Takes, Appends, AppendsPrefix}
 use Rattle.nx_host.specs.Input.{most_input}
 use Rattle.nx_host.specs.Phase.{TakesAlone, GivesAlone, TalksAlone}
-use Rattle.nx_host.proofs.OutputLemmas.{front_more, front_then, keeps_front, takes_nothing}
-use Rattle.nx_host.proofs.PhaseLemmas.{none_talked, none_given, talks_front, talks_then, gives_front, gives_then, left_then}
+use Rattle.nx_host.proofs.OutputLemmas.{prefix_more, prefix_then, keeps_prefix, takes_nothing}
+use Rattle.nx_host.proofs.PhaseLemmas.{none_talked, none_given, talks_prefix, talks_then, gives_prefix, gives_then, left_then}
 use Rattle.nx_script.specs.declared.command.Command.{Command}
 use Rattle.nx_script.specs.declared.script.Script.{Script}
 use Rattle.nx_script.specs.declared.error.ScriptError.{ScriptError}
@@ -15,20 +15,20 @@ use Rattle.nx_script.specs.declared.error.ScriptError.TheVariants as scripts
 use Rattle.nx_script.specs.Commands.{AreCommands, AreWhole}
 use Rattle.nx_script.specs.Reply.{reply_text}
 use Rattle.nx_script.specs.Script.{HasGiven, HasGivenIn, Stops, unread}
-use Rattle.nx_script.proofs.OneList.{one_list, given_front, whole_more}
+use Rattle.nx_script.proofs.OneList.{one_list, given_prefix, whole_more}
 use Rattle.nx_script.proofs.ScriptLemmas.{in_input, looked, parsed_whole}
 use Rattle.nx_engine.specs.Documents.{Documents}
-use Rattle.nx_engine.specs.Step.{answer, after, after_all}
+use Rattle.nx_engine.specs.Step.{reply_to, after, after_all}
 use Rattle.nx_front.specs.declared.status.Status.{Status}
 use Rattle.nx_front.specs.declared.status.Status.TheVariants.{Done, NoMemory}
-use Rattle.nx_front.specs.declared.give.Halt.{Halt}
-use Rattle.nx_front.specs.declared.give.Halt.TheVariants as halt
+use Rattle.nx_front.specs.declared.give.GiveError.{GiveError}
+use Rattle.nx_front.specs.declared.give.GiveError.TheVariants as give_error
 use Rattle.nx_front.specs.declared.refusal.Refusal.{Refusal}
-use Rattle.nx_front.specs.Stop.{status_of_script, status_of_halt}
+use Rattle.nx_front.specs.TakeError.{status_of_script, status_of_give_error}
 use Rattle.nx_front.specs.Outcome.{Gives, FailsGiving, Given, GivesBut, IsDue, Ends, HasToldOutcome, RunsBeside, HoldsTogether, HasOneText}
 use Rattle.nx_front.specs.Session.{texts_from, texts, AreFirst, script_run, HasAnswered, HasStopped, IsAnswered}
 use Rattle.nx_front.proofs.GiveLemmas.{given_nothing, gave_rest, alone_rest}
-use Rattle.nx_front.proofs.OutcomeLemmas.{rose_since, gives_appends, gives_more, gives_all_front, given_front as front_given, given_then, fails_more, told_answer, told_nothing, runs_by}
+use Rattle.nx_front.proofs.OutcomeLemmas.{rose_since, gives_appends, gives_more, gives_all_prefix, given_prefix as prefix_given, given_then, fails_more, told_answer, told_nothing, runs_by}
 
 -- the documents after commands and more commands
 pub after_all-append : (documents : Documents) (commands more : List Command) → after_all documents (commands ++ more) ≡ after_all (after_all documents commands) more
@@ -40,16 +40,16 @@ pub texts_from-append : (documents : Documents) (commands more : List Command) �
     texts_from documents (commands ++ more) ≡ texts_from documents commands ++ texts_from (after_all documents commands) more
 texts_from-append documents [] more = refl
 texts_from-append documents (c ∷ commands) more =
-    ap (λ (t : List ℕ). reply_text (answer documents c) ++ t) (texts_from-append (after documents c) commands more)
-    ∙ sym (append_assoc (reply_text (answer documents c)) (texts_from (after documents c) commands) (texts_from (after_all (after documents c) commands) more))
+    ap (λ (t : List ℕ). reply_text (reply_to documents c) ++ t) (texts_from-append (after documents c) commands more)
+    ∙ sym (append_assoc (reply_text (reply_to documents c)) (texts_from (after documents c) commands) (texts_from (after_all (after documents c) commands) more))
 
 -- the reply to one command alone
-pub texts_from-one : (documents : Documents) (c : Command) → texts_from documents (c ∷ []) ≡ reply_text (answer documents c)
-texts_from-one documents c = append-nil (reply_text (answer documents c))
+pub texts_from-one : (documents : Documents) (c : Command) → texts_from documents (c ∷ []) ≡ reply_text (reply_to documents c)
+texts_from-one documents c = append-nil (reply_text (reply_to documents c))
 
 -- the replies to commands, and to one command more
 pub texts_from-more : (documents : Documents) (commands : List Command) (c : Command) →
-    texts_from documents (commands ++ c ∷ []) ≡ texts_from documents commands ++ reply_text (answer (after_all documents commands) c)
+    texts_from documents (commands ++ c ∷ []) ≡ texts_from documents commands ++ reply_text (reply_to (after_all documents commands) c)
 texts_from-more documents commands c =
     texts_from-append documents commands (c ∷ []) ∙ ap (λ (t : List ℕ). texts_from documents commands ++ t) (texts_from-one (after_all documents commands) c)
 
@@ -65,9 +65,9 @@ pub script_once : HasOneText script_run
 script_once input first second says says' = let one = one_list input in ap texts (one.only first says ∙ sym (one.only second says'))
 
 -- what is told no longer is behind what was given
-front_then_keeps : (bytes : List ℕ) (a b c : Option (List ℕ)) → Appends bytes a b → Keeps b c → AppendsFront bytes a c
-front_then_keeps bytes a b c appends keeps =
-    subst (λ (t : List ℕ). AppendsFront t a c) (append-nil bytes) (front_then bytes [] a b c appends (keeps_front [] b c keeps))
+prefix_then_keeps : (bytes : List ℕ) (a b c : Option (List ℕ)) → Appends bytes a b → Keeps b c → AppendsPrefix bytes a c
+prefix_then_keeps bytes a b c appends keeps =
+    subst (λ (t : List ℕ). AppendsPrefix t a c) (append-nil bytes) (prefix_then bytes [] a b c appends (keeps_prefix [] b c keeps))
 
 -- What came:
 
@@ -81,7 +81,7 @@ answer_told taken commands first (Some left) takes (rest, are) =
 -- the commands that a script gave are the first ones
 first_given : (script : Script) (taken : List ℕ) (commands : List Command) (first now : Option (List ℕ)) → HasGivenIn script taken commands first now → AreFirst taken commands now
 first_given script taken commands first None given = tt
-first_given script taken commands first (Some left) given = given_front script taken left commands first given
+first_given script taken commands first (Some left) given = given_prefix script taken left commands first given
 
 -- no more bytes were taken than a run takes
 few_given : (script : Script) (taken : List ℕ) (commands : List Command) (first now : Option (List ℕ)) → HasGivenIn script taken commands first now → length taken ≤ most_input
@@ -94,7 +94,7 @@ due_at_end : (script : Script) (taken : List ℕ) (commands : List Command) (fir
 due_at_end script taken commands first now given ended =
     let (end, few) = given.end ended in
     let here : HasGivenIn script taken commands (Some (taken ++ [])) (Some []) = record { given = given.given; takes = refl; end = λ is. (refl, few) } in
-    let (rest, are) = given_front script taken [] commands (Some (taken ++ [])) here in
+    let (rest, are) = given_prefix script taken [] commands (Some (taken ++ [])) here in
     (rest, inl (commands ++ rest, record { takes = given.takes; end = end; few = few }, subst (λ (l : List ℕ). AreCommands l (commands ++ rest)) (append-nil taken) are, refl))
 
 -- and else those that are whole do
@@ -123,16 +123,16 @@ due script taken commands first now given = by_end script.finished refl
 -- How a session ends:
 
 -- the giving stopped of the replies to commands that came
-halt_ends : {script : Script} {taken : List ℕ} {commands : List Command} (stop : Halt) (outcome : Option (Result (List Command) Refusal)) (a b : Beside) →
-    HasGivenIn script taken commands a.input b.input → Given (texts commands) (Err stop) a b → Ends script_run outcome (status_of_halt stop) a b
-halt_ends {script = script} {taken = taken} {commands = commands} halt.WriteFault outcome a b given gave =
+give_error_ends : {script : Script} {taken : List ℕ} {commands : List Command} (stop : GiveError) (outcome : Option (Result (List Command) Refusal)) (a b : Beside) →
+    HasGivenIn script taken commands a.input b.input → Given (texts commands) (Err stop) a b → Ends script_run outcome (status_of_give_error stop) a b
+give_error_ends {script = script} {taken = taken} {commands = commands} give_error.WriteFault outcome a b given gave =
     let (rest, is_due) = due script taken commands a.input b.input given in (
       texts (commands ++ rest),
       taken,
       is_due,
       subst (λ (t : List ℕ). FailsGiving t a b) (sym (texts_from-append empty commands rest)) (fails_more (texts commands) (texts_from (after_all empty commands) rest) a b gave),
     )
-halt_ends halt.NoMemory outcome a b given gave = tt
+give_error_ends give_error.NoMemory outcome a b given gave = tt
 
 -- the input gave no more
 stop_ends : (error : ScriptError) (script : Script) (commands : List Command) (outcome : Option (Result (List Command) Refusal)) (a c : Beside) →
@@ -154,18 +154,18 @@ module _ {D : Type 0} {d : Ghosts D} where
   -- a session that ends, where the replies to these commands, or a prefix of them, were given
   session_by : {a b : D} {status : Status} {script : Script} {taken : List ℕ} {commands : List Command} →
       ((outcome : Option (Result (List Command) Refusal)) → Ends script_run outcome status (d.beside a) (d.beside b)) →
-      HasGivenIn script taken commands (d.beside a).input (d.beside b).input → AppendsFront (texts commands) (d.beside a).output (d.beside b).output →
+      HasGivenIn script taken commands (d.beside a).input (d.beside b).input → AppendsPrefix (texts commands) (d.beside a).output (d.beside b).output →
       TalksAlone d (texts commands) a b → RunsBeside d script_run status a b
-  session_by {a = a} {b = b} {status = status} {script = script} {taken = taken} {commands = commands} ends given front talks =
+  session_by {a = a} {b = b} {status = status} {script = script} {taken = taken} {commands = commands} ends given prefix talks =
       let first = (d.beside a).input in
       let now = (d.beside b).input in
       let (rest, told) = answer_told taken commands first now given.takes (first_given script taken commands first now given) in
       let others = texts_from (after_all empty commands) rest in
       let all : texts commands ++ others ≡ texts (commands ++ rest) = sym (texts_from-append empty commands rest) in
       runs_by (Some (Ok (commands ++ rest))) status told (ends (Some (Ok (commands ++ rest))))
-      (subst (λ (t : List ℕ). AppendsFront t (d.beside a).output (d.beside b).output) all (front_more (texts commands) others (d.beside a).output (d.beside b).output front))
+      (subst (λ (t : List ℕ). AppendsPrefix t (d.beside a).output (d.beside b).output) all (prefix_more (texts commands) others (d.beside a).output (d.beside b).output prefix))
       (record { taken = taken; few = few_given script taken commands first now given; takes = given.takes })
-      (subst (λ (t : List ℕ). TalksAlone d t a b) all (talks_front (texts commands) others talks))
+      (subst (λ (t : List ℕ). TalksAlone d t a b) all (talks_prefix (texts commands) others talks))
 
   -- before the first command
   pub answered_none : {a : D} {script : Script} {plain : Documents} {block : List ℕ} → plain ≡ empty → block ≡ [] → HasGivenIn script [] [] (d.beside a).input (d.beside a).input →
@@ -182,10 +182,10 @@ module _ {D : Type 0} {d : Ghosts D} where
       (ap (λ (b : List ℕ). b ++ texts_from plain more) answered.none_left ∙ ap (λ (p : Documents). texts_from p more) answered.documents) gives
       in
       subst (λ (t : List ℕ). TalksAlone d t first last) (sym (texts_from-append empty commands more))
-      (talks_then (texts commands) rest (gives_appends (texts commands) (d.beside first).output (d.beside now).output answered.gives) (talks_front (texts commands) rest answered.alone) given.areas)
+      (talks_then (texts commands) rest (gives_appends (texts commands) (d.beside first).output (d.beside now).output answered.gives) (talks_prefix (texts commands) rest answered.alone) given.areas)
 
   -- what was given behind the replies to earlier commands
-  gave_then : {first now : D} {taken : List ℕ} {commands : List Command} {script : Script} {plain : Documents} {block : List ℕ} (last : D) (more : List Command) (given : Result (Unit {0}) Halt) →
+  gave_then : {first now : D} {taken : List ℕ} {commands : List Command} {script : Script} {plain : Documents} {block : List ℕ} (last : D) (more : List Command) (given : Result (Unit {0}) GiveError) →
       IsAnswered d taken commands script plain block first now → Given (block ++ texts_from plain more) given (d.beside now) (d.beside last) →
       Given (texts (commands ++ more)) given (d.beside first) (d.beside last)
   gave_then {first = first} {now = now} {commands = commands} {plain = plain} {block = block} last more given answered gave =
@@ -219,18 +219,18 @@ module _ {D : Type 0} {d : Ghosts D} where
     none_left = answered.none_left;
     gives = subst (λ (o : Option (List ℕ)). Gives (texts commands) (d.beside first).output o) (sym takes.output_stays) answered.gives;
     alone = left_then answered.alone takes.areas (λ output h.
-        front_then_keeps (texts commands) (d.beside first).output (d.beside now).output output (gives_appends (texts commands) (d.beside first).output (d.beside now).output answered.gives) h);
+        prefix_then_keeps (texts commands) (d.beside first).output (d.beside now).output output (gives_appends (texts commands) (d.beside first).output (d.beside now).output answered.gives) h);
   }
 
   -- the giving stopped while commands were answered
-  pub session_stopped : {first now last : D} {stop : Halt} {taken : List ℕ} {commands more : List Command} {script script' : Script} {plain : Documents} {block : List ℕ} →
+  pub session_stopped : {first now last : D} {stop : GiveError} {taken : List ℕ} {commands more : List Command} {script script' : Script} {plain : Documents} {block : List ℕ} →
       IsAnswered d taken commands script plain block first now → HasStopped d stop (d.beside first).input taken commands more script' plain block now last →
-      RunsBeside d script_run (status_of_halt stop) first last
+      RunsBeside d script_run (status_of_give_error stop) first last
   session_stopped {first = first} {now = now} {last = last} {stop = stop} {taken = taken} {commands = commands} {more = more} {script = script} {script' = script'} {plain = plain} {block = block} answered stopped =
       let gave = gave_then last more (Err stop) answered stopped.gave in
       session_by
-      (λ outcome. halt_ends stop outcome (d.beside first) (d.beside last) stopped.given gave)
-      stopped.given (front_given (texts (commands ++ more)) (Err stop) (d.beside first) (d.beside last) gave)
+      (λ outcome. give_error_ends stop outcome (d.beside first) (d.beside last) stopped.given gave)
+      stopped.given (prefix_given (texts (commands ++ more)) (Err stop) (d.beside first) (d.beside last) gave)
       (talked_then more answered stopped.alone)
 
   -- all commands are answered
@@ -240,7 +240,7 @@ module _ {D : Type 0} {d : Ghosts D} where
       let (end, few) = answered.given.end ended in
       runs_by (Some (Ok commands)) Done (told_answer script_run commands taken (d.beside first).input (d.beside now).input (record { takes = answered.given.takes; end = end; few = few }) are)
       (commands, taken, refl, record { takes = answered.given.takes; end = end; few = few }, are, answered.gives)
-      (gives_all_front (texts commands) (d.beside first).output (d.beside now).output answered.gives)
+      (gives_all_prefix (texts commands) (d.beside first).output (d.beside now).output answered.gives)
       (record { taken = taken; few = few_given script taken commands (d.beside first).input (d.beside now).input answered.given; takes = answered.given.takes })
       answered.alone
 
@@ -253,12 +253,12 @@ module _ {D : Type 0} {d : Ghosts D} where
       session_by
       (λ outcome. stop_ends error script commands outcome (d.beside first) (d.beside last)
       (λ is. rose_since (d.beside first).in_faults (d.beside now).in_faults (d.beside last).in_faults earlier (rose is), stops) answered.gives)
-      answered.given (gives_all_front (texts commands) (d.beside first).output (d.beside last).output answered.gives) answered.alone
+      answered.given (gives_all_prefix (texts commands) (d.beside first).output (d.beside last).output answered.gives) answered.alone
 
   -- a session that doesn't begin
   pub session_none : {a : D} → RunsBeside d script_run NoMemory a a
   session_none {a = a} =
-      runs_by None NoMemory (told_nothing script_run (d.beside a).input (d.beside a).input) tt (gives_all_front [] (d.beside a).output (d.beside a).output refl)
+      runs_by None NoMemory (told_nothing script_run (d.beside a).input (d.beside a).input) tt (gives_all_prefix [] (d.beside a).output (d.beside a).output refl)
       (record { taken = []; few = (let e : 0 ≤ most_input = omega arith in e); takes = takes_nothing (d.beside a).input }) (none_talked [])
 
   -- commands of a script before the first
@@ -273,35 +273,35 @@ module _ {D : Type 0} {d : Ghosts D} where
 
   -- what was given, then the block and then the reply to one command more
   with_reply : {a now : D} {first : Option (List ℕ)} {taken : List ℕ} {commands more : List Command} {script : Script} {p0 p : Documents} {b0 b : List ℕ} (c : Command) →
-      (did : HasAnswered d first taken commands more script p0 p b0 b a now) → did.gave.done ++ (b ++ reply_text (answer p c)) ≡ b0 ++ texts_from p0 (more ++ c ∷ [])
+      (did : HasAnswered d first taken commands more script p0 p b0 b a now) → did.gave.done ++ (b ++ reply_text (reply_to p c)) ≡ b0 ++ texts_from p0 (more ++ c ∷ [])
   with_reply {more = more} {p0 = p0} {p = p} {b0 = b0} {b = b} c did =
-      sym (append_assoc did.gave.done b (reply_text (answer p c)))
-      ∙ ap (λ (l : List ℕ). l ++ reply_text (answer p c)) did.gave.parts
-      ∙ append_assoc b0 (texts_from p0 more) (reply_text (answer p c))
-      ∙ ap (λ (q : Documents). b0 ++ (texts_from p0 more ++ reply_text (answer q c))) did.documents
+      sym (append_assoc did.gave.done b (reply_text (reply_to p c)))
+      ∙ ap (λ (l : List ℕ). l ++ reply_text (reply_to p c)) did.gave.parts
+      ∙ append_assoc b0 (texts_from p0 more) (reply_text (reply_to p c))
+      ∙ ap (λ (q : Documents). b0 ++ (texts_from p0 more ++ reply_text (reply_to q c))) did.documents
       ∙ ap (λ (l : List ℕ). b0 ++ l) (sym (texts_from-more p0 more c))
 
   -- the reply to one command more, or a prefix of it, is given behind what was
   answering : {a now next : D} {first : Option (List ℕ)} {taken : List ℕ} {commands more : List Command} {old : Script} {p0 p : Documents} {b0 b : List ℕ} (c : Command) →
-      HasAnswered d first taken commands more old p0 p b0 b a now → GivesAlone d (b ++ reply_text (answer p c)) now next → GivesAlone d (b0 ++ texts_from p0 (more ++ c ∷ [])) a next
+      HasAnswered d first taken commands more old p0 p b0 b a now → GivesAlone d (b ++ reply_text (reply_to p c)) now next → GivesAlone d (b0 ++ texts_from p0 (more ++ c ∷ [])) a next
   answering {a = a} {now = now} {next = next} {more = more} {p0 = p0} {p = p} {b0 = b0} {b = b} c did gives =
       let done = did.gave.done in
       let all = b0 ++ texts_from p0 (more ++ c ∷ []) in
-      let parts : done ++ (b ++ reply_text (answer p c)) ≡ all = with_reply c did in
-      let longer : (b0 ++ texts_from p0 more) ++ reply_text (answer p c) ≡ done ++ (b ++ reply_text (answer p c)) =
-      ap (λ (l : List ℕ). l ++ reply_text (answer p c)) (sym did.gave.parts) ∙ append_assoc done b (reply_text (answer p c))
+      let parts : done ++ (b ++ reply_text (reply_to p c)) ≡ all = with_reply c did in
+      let longer : (b0 ++ texts_from p0 more) ++ reply_text (reply_to p c) ≡ done ++ (b ++ reply_text (reply_to p c)) =
+      ap (λ (l : List ℕ). l ++ reply_text (reply_to p c)) (sym did.gave.parts) ∙ append_assoc done b (reply_text (reply_to p c))
       in
       subst (λ (t : List ℕ). GivesAlone d t a next) parts
-      (gives_then done (b ++ reply_text (answer p c)) (gives_appends done (d.beside a).output (d.beside now).output did.gave.gives)
-      (subst (λ (t : List ℕ). GivesAlone d t a now) longer (gives_front (b0 ++ texts_from p0 more) (reply_text (answer p c)) did.alone)) gives)
+      (gives_then done (b ++ reply_text (reply_to p c)) (gives_appends done (d.beside a).output (d.beside now).output did.gave.gives)
+      (subst (λ (t : List ℕ). GivesAlone d t a now) longer (gives_prefix (b0 ++ texts_from p0 more) (reply_text (reply_to p c)) did.alone)) gives)
 
   -- what was given of it
-  gave_reply : {a now : D} {first : Option (List ℕ)} {taken : List ℕ} {commands more : List Command} {old : Script} {p0 p : Documents} {b0 b : List ℕ} (next : D) (c : Command) (given : Result (Unit {0}) Halt) →
-      HasAnswered d first taken commands more old p0 p b0 b a now → Given (b ++ reply_text (answer p c)) given (d.beside now) (d.beside next) →
+  gave_reply : {a now : D} {first : Option (List ℕ)} {taken : List ℕ} {commands more : List Command} {old : Script} {p0 p : Documents} {b0 b : List ℕ} (next : D) (c : Command) (given : Result (Unit {0}) GiveError) →
+      HasAnswered d first taken commands more old p0 p b0 b a now → Given (b ++ reply_text (reply_to p c)) given (d.beside now) (d.beside next) →
       Given (b0 ++ texts_from p0 (more ++ c ∷ [])) given (d.beside a) (d.beside next)
   gave_reply {a = a} {now = now} {commands = commands} {more = more} {p0 = p0} {p = p} {b0 = b0} {b = b} next c given did gave =
       subst (λ (t : List ℕ). Given t given (d.beside a) (d.beside next)) (with_reply c did)
-      (given_then {x = did.gave.done} {a = d.beside a} {b = d.beside now} (b ++ reply_text (answer p c)) given (d.beside next) (record { later = did.alone.areas.out_faults_later; gives = did.gave.gives }) gave)
+      (given_then {x = did.gave.done} {a = d.beside a} {b = d.beside now} (b ++ reply_text (reply_to p c)) given (d.beside next) (record { later = did.alone.areas.out_faults_later; gives = did.gave.gives }) gave)
 
   -- the commands of a script with one more
   one_more : {a now next : D} {first : Option (List ℕ)} {taken : List ℕ} {commands more : List Command} {old new : Script} {p0 p : Documents} {b0 b : List ℕ} (c : Command) →
@@ -316,7 +316,7 @@ module _ {D : Type 0} {d : Ghosts D} where
   -- one command more is answered
   pub has_answered_more : {a now next : D} {first : Option (List ℕ)} {taken : List ℕ} {commands more : List Command} {old new : Script} {p0 p p' : Documents} {b0 b b' : List ℕ} (c : Command) →
       new.ended ≡ old.ended → HasAnswered d first taken commands more old p0 p b0 b a now → HasGiven new taken ((commands ++ more) ++ c ∷ []) → p' ≡ after p c →
-      GivesBut (b ++ reply_text (answer p c)) b' (d.beside now) (d.beside next) → GivesAlone d (b ++ reply_text (answer p c)) now next →
+      GivesBut (b ++ reply_text (reply_to p c)) b' (d.beside now) (d.beside next) → GivesAlone d (b ++ reply_text (reply_to p c)) now next →
       HasAnswered d first taken commands (more ++ c ∷ []) new p0 p' b0 b' a next
   has_answered_more {a = a} {now = now} {next = next} {first = first} {taken = taken} {commands = commands} {more = more} {old = old} {new = new} {p0 = p0} {p = p} {b0 = b0} {b = b} {b' = b'} c same did given documents part alone =
       record {
@@ -348,15 +348,15 @@ module _ {D : Type 0} {d : Ghosts D} where
 
   -- a stop where nothing was given since
   pub stopped_after : {a now : D} {first : Option (List ℕ)} {taken : List ℕ} {commands more : List Command} {script : Script} {p0 p : Documents} {b0 b : List ℕ} →
-      HasAnswered d first taken commands more script p0 p b0 b a now → HasStopped d halt.NoMemory first taken commands more script p0 b0 a now
+      HasAnswered d first taken commands more script p0 p b0 b a now → HasStopped d give_error.NoMemory first taken commands more script p0 b0 a now
   stopped_after {a = a} {now = now} {b = b} did = record {
     given = did.given;
-    gave = gave_rest (Err halt.NoMemory) (d.beside now) did.alone.areas.out_faults_later did.gave (given_nothing b (d.beside now));
+    gave = gave_rest (Err give_error.NoMemory) (d.beside now) did.alone.areas.out_faults_later did.gave (given_nothing b (d.beside now));
     alone = did.alone;
   }
 
   -- a stop while the block is given
-  pub stopped_giving : {a now next : D} {stop : Halt} {first : Option (List ℕ)} {taken : List ℕ} {commands more : List Command} {script : Script} {p0 p : Documents} {b0 b : List ℕ} →
+  pub stopped_giving : {a now next : D} {stop : GiveError} {first : Option (List ℕ)} {taken : List ℕ} {commands more : List Command} {script : Script} {p0 p : Documents} {b0 b : List ℕ} →
       HasAnswered d first taken commands more script p0 p b0 b a now → Given b (Err stop) (d.beside now) (d.beside next) → GivesAlone d b now next →
       HasStopped d stop first taken commands more script p0 b0 a next
   stopped_giving {next = next} {stop = stop} {first = first} {taken = taken} {commands = commands} {more = more} {script = script} did gave alone = record {
@@ -366,9 +366,9 @@ module _ {D : Type 0} {d : Ghosts D} where
   }
 
   -- a stop while a command is answered
-  pub stopped_answering : {a now next : D} {stop : Halt} {first : Option (List ℕ)} {taken : List ℕ} {commands more : List Command} {old new : Script} {p0 p : Documents} {b0 b : List ℕ} (c : Command) →
+  pub stopped_answering : {a now next : D} {stop : GiveError} {first : Option (List ℕ)} {taken : List ℕ} {commands more : List Command} {old new : Script} {p0 p : Documents} {b0 b : List ℕ} (c : Command) →
       new.ended ≡ old.ended → HasAnswered d first taken commands more old p0 p b0 b a now → HasGiven new taken ((commands ++ more) ++ c ∷ []) →
-      Given (b ++ reply_text (answer p c)) (Err stop) (d.beside now) (d.beside next) → GivesAlone d (b ++ reply_text (answer p c)) now next →
+      Given (b ++ reply_text (reply_to p c)) (Err stop) (d.beside now) (d.beside next) → GivesAlone d (b ++ reply_text (reply_to p c)) now next →
       HasStopped d stop first taken commands (more ++ c ∷ []) new p0 b0 a next
   stopped_answering {next = next} {stop = stop} {first = first} {taken = taken} {commands = commands} {more = more} {old = old} {new = new} {p0 = p0} {p = p} {b0 = b0} {b = b} c same did given gave alone = record {
     given = one_more c same did given alone.input_stays;

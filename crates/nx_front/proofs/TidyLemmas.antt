@@ -6,13 +6,13 @@ use Rattle.nx_tree.specs.Forest.{OrderedTree}
 use Rattle.nx_pyx.specs.declared.error.PyxError.{PyxError}
 use Rattle.nx_pyx.specs.Reading.{Reads}
 use Rattle.nx_pyx.specs.Text.{text}
-use Rattle.nx_pyx.proofs.Said.{no_fault}
-use Rattle.nx_pyx.proofs.Shown.{fault_shown}
+use Rattle.nx_pyx.proofs.DocumentLemmas.{no_fault}
+use Rattle.nx_pyx.proofs.ShownFaultLemmas.{fault_shown}
 use Rattle.nx_pyx.proofs.Reading.{one_reading}
 use Rattle.nx_front.specs.declared.refusal.Refusal.{Refusal}
 use Rattle.nx_front.specs.declared.refusal.Refusal.TheVariants.{Pyx, TooHeavy, Bounds}
-use Rattle.nx_front.specs.declared.stop.Stop.{Stop}
-use Rattle.nx_front.specs.declared.stop.Stop.TheVariants.{Refused, ReadFault, TooMuch, NoMemory}
+use Rattle.nx_front.specs.declared.take_error.TakeError.{TakeError}
+use Rattle.nx_front.specs.declared.take_error.TakeError.TheVariants.{Refused, ReadFault, TooMuch, NoMemory}
 use Rattle.nx_front.specs.Outcome.{HoldsTogether, HasOneText, EndsWhole, ReadsTo}
 use Rattle.nx_front.specs.Tidy.{RefusesDocument, ShowsDocument, Finishes, tidy}
 
@@ -40,7 +40,7 @@ pub tidy_once : HasOneText tidy
 tidy_once input first second reads reads' = ap text (one_reading input first second reads reads')
 
 -- the document of the whole input, or its fault
-pub finished : (taken : List ℕ) (result : Result OrderedTree Stop) (old new : Beside) → EndsWhole taken old.input new.input → Finishes taken result → ReadsTo tidy result old new
+pub finished : (taken : List ℕ) (result : Result OrderedTree TakeError) (old new : Beside) → EndsWhole taken old.input new.input → Finishes taken result → ReadsTo tidy result old new
 finished taken (Ok tree) old new whole reads = (taken, whole, reads)
 finished taken (Err (Refused (Pyx error))) old new whole is =
     (taken, record { takes = whole.takes; few = (let few : length taken < most_input = whole.few in omega arith); refused = inr (whole.end, whole.few, is) })

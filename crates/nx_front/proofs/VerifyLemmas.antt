@@ -6,7 +6,7 @@ use Rattle.nx_host.specs.Input.{most_input}
 use Rattle.nx_tree.specs.Forest.{OrderedTree}
 use Rattle.nx_pyx.specs.declared.error.PyxError.{PyxError}
 use Rattle.nx_pyx.specs.Lines.{cut, without_cr, last_line, lines}
-use Rattle.nx_pyx.proofs.Said.{no_fault}
+use Rattle.nx_pyx.proofs.DocumentLemmas.{no_fault}
 use Rattle.nx_pyx.proofs.Reading.{one_reading}
 use Rattle.nx_script.specs.Commands.{is_dot}
 use Rattle.nx_script.specs.BeforeDot.{joined, after_in, before_dot, after_dot}
@@ -22,8 +22,8 @@ use Rattle.nx_bounds.proofs.OnePlan.{same_plan, sound}
 use Rattle.nx_bounds.proofs.VerdictLemmas.{spared, one_refusal}
 use Rattle.nx_front.specs.declared.refusal.Refusal.{Refusal}
 use Rattle.nx_front.specs.declared.refusal.Refusal.TheVariants.{Pyx, TooHeavy, Bounds}
-use Rattle.nx_front.specs.Claimed.{IsClaimed}
-use Rattle.nx_front.specs.Stop.{stop_of_bounds}
+use Rattle.nx_front.specs.Planned.{IsPlanned}
+use Rattle.nx_front.specs.TakeError.{take_error_of_bounds}
 use Rattle.nx_front.specs.Outcome.{HoldsTogether, HasOneText, EndsWhole, EndsRefused, StopsBy, ReadsTo}
 use Rattle.nx_host.specs.Disk.{Beside}
 use Rattle.nx_front.specs.Verify.{certified_line, IsCertifiedText, IsRefusedText, IsCertifiedInput, IsSoundInput, IsRefusedInput, JudgesText, AreFew, verify}
@@ -95,9 +95,9 @@ after_short (piece ∷ pieces) rest = by_dot (is_dot (without_cr piece)) refl (a
         let more : length (joined (piece ∷ pieces) rest) ≡ length piece + (1 + length (joined pieces rest)) = longer in
         omega arith
 
-pub text_short : (tree : OrderedTree) (plan taken : List ℕ) → length taken < most_input → IsClaimed tree plan taken → length plan < 2 ^ 32
-text_short tree plan taken short claimed =
-    let is : length plan ≡ length (after_dot taken) = ap length claimed.behind in
+pub text_short : (tree : OrderedTree) (plan taken : List ℕ) → length taken < most_input → IsPlanned tree plan taken → length plan < 2 ^ 32
+text_short tree plan taken short planned =
+    let is : length plan ≡ length (after_dot taken) = ap length planned.behind in
     let all : length (joined (cut taken).ended (cut taken).rest) ≡ length taken = ap length (joined-cut taken) in
     omega (arith, after_short (cut taken).ended (cut taken).rest)
 
@@ -199,31 +199,31 @@ verify_once k input first second says says' = ap certified_line (one_certified k
 
 -- What is read of an input:
 
-error_reads : {tree : OrderedTree} {plan taken : List ℕ} (k : ℕ) (error : BoundsError) (old new : Beside) → EndsWhole taken old.input new.input → IsClaimed tree plan taken →
+error_reads : {tree : OrderedTree} {plan taken : List ℕ} (k : ℕ) (error : BoundsError) (old new : Beside) → EndsWhole taken old.input new.input → IsPlanned tree plan taken →
     IsRefusedText k tree plan error → (all : List ℕ) × EndsRefused (verify k) (Bounds error) all old.input new.input
-error_reads {tree = tree} {taken = taken} k error old new whole claimed refused = (
+error_reads {tree = tree} {taken = taken} k error old new whole planned refused = (
   taken,
   record {
     takes = whole.takes;
     few = (let few : length taken < most_input = whole.few in omega arith);
-    refused = inr (whole.end, whole.few, (tree, claimed.reads, subst (λ (t : List ℕ). IsRefusedText k tree t error) claimed.behind refused));
+    refused = inr (whole.end, whole.few, (tree, planned.reads, subst (λ (t : List ℕ). IsRefusedText k tree t error) planned.behind refused));
   },
 )
 
 -- how the reading ended, where this is the verdict
 abbrev pub JudgedReads : ℕ → Result ℕ BoundsError → Beside → Beside → Type 0
 JudgedReads k (Ok intervals) old new = ReadsTo (verify k) (Ok intervals) old new
-JudgedReads k (Err error) old new = StopsBy (verify k) (stop_of_bounds error) old new
+JudgedReads k (Err error) old new = StopsBy (verify k) (take_error_of_bounds error) old new
 
--- the verdict on what was claimed is that on the input
-pub judged_reads : {tree : OrderedTree} {plan taken : List ℕ} (k : ℕ) (verdict : Result ℕ BoundsError) (old new : Beside) → EndsWhole taken old.input new.input → IsClaimed tree plan taken →
+-- the verdict on what was planned is that on the input
+pub judged_reads : {tree : OrderedTree} {plan taken : List ℕ} (k : ℕ) (verdict : Result ℕ BoundsError) (old new : Beside) → EndsWhole taken old.input new.input → IsPlanned tree plan taken →
     JudgesText k tree plan verdict → JudgedReads k verdict old new
-judged_reads {tree = tree} {taken = taken} k (Ok intervals) old new whole claimed judged =
-    (taken, whole, record { tree = tree; reads = claimed.reads; certified = subst (λ (t : List ℕ). IsCertifiedText k tree t intervals) claimed.behind judged })
-judged_reads k (Err Memory) old new whole claimed judged = tt
-judged_reads k (Err (Parts e)) old new whole claimed judged = error_reads k (Parts e) old new whole claimed judged
-judged_reads k (Err (WrongWeight a b c)) old new whole claimed judged = error_reads k (WrongWeight a b c) old new whole claimed judged
-judged_reads k (Err (Length a b)) old new whole claimed judged = error_reads k (Length a b) old new whole claimed judged
-judged_reads k (Err (Unsupported a b c d)) old new whole claimed judged = error_reads k (Unsupported a b c d) old new whole claimed judged
-judged_reads k (Err (Count a b)) old new whole claimed judged = error_reads k (Count a b) old new whole claimed judged
-judged_reads k (Err (BadPlanLine line)) old new whole claimed judged = error_reads k (BadPlanLine line) old new whole claimed judged
+judged_reads {tree = tree} {taken = taken} k (Ok intervals) old new whole planned judged =
+    (taken, whole, record { tree = tree; reads = planned.reads; certified = subst (λ (t : List ℕ). IsCertifiedText k tree t intervals) planned.behind judged })
+judged_reads k (Err Memory) old new whole planned judged = tt
+judged_reads k (Err (Parts e)) old new whole planned judged = error_reads k (Parts e) old new whole planned judged
+judged_reads k (Err (WrongWeight a b c)) old new whole planned judged = error_reads k (WrongWeight a b c) old new whole planned judged
+judged_reads k (Err (Length a b)) old new whole planned judged = error_reads k (Length a b) old new whole planned judged
+judged_reads k (Err (Unsupported a b c d)) old new whole planned judged = error_reads k (Unsupported a b c d) old new whole planned judged
+judged_reads k (Err (Count a b)) old new whole planned judged = error_reads k (Count a b) old new whole planned judged
+judged_reads k (Err (BadPlanLine line)) old new whole planned judged = error_reads k (BadPlanLine line) old new whole planned judged

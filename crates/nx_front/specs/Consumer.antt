@@ -3,12 +3,12 @@ use Rattle.std.specs.Prelude.{◌≡◌, ℕ, ◌<◌, ◌≤◌, List, [], leng
 use Rattle.nx_host.specs.Disk.{Beside, Rose}
 use Rattle.nx_host.specs.Host.{Takes}
 use Rattle.nx_host.specs.Input.{most_input}
-use Rattle.nx_front.specs.declared.stop.Stop.{Stop}
-use Rattle.nx_front.specs.declared.stop.Stop.TheVariants.{Refused, ReadFault, TooMuch, NoMemory}
+use Rattle.nx_front.specs.declared.take_error.TakeError.{TakeError}
+use Rattle.nx_front.specs.declared.take_error.TakeError.TheVariants.{Refused, ReadFault, TooMuch, NoMemory}
 use Rattle.nx_front.specs.declared.refusal.Refusal.{Refusal}
 
 -- why a consumer stops that has taken these bytes, where `shows` says what bytes show
-abbrev pub StopsAt : (List ℕ → Result (List ℕ) Refusal → Type 0) → Stop → List ℕ → Type 0
+abbrev pub StopsAt : (List ℕ → Result (List ℕ) Refusal → Type 0) → TakeError → List ℕ → Type 0
 StopsAt shows (Refused refusal) taken = shows taken (Err refusal)
 StopsAt shows NoMemory taken = Unit {0}
 StopsAt shows _ taken = ⊥
@@ -20,7 +20,7 @@ pub record HasShown (shows : List ℕ → Result (List ℕ) Refusal → Type 0) 
   pub shows_so : shows taken shown
 
 -- how the reading of an input stops, of which the first bytes may have been taken before
-abbrev pub StopsFeeding : (List ℕ → Result (List ℕ) Refusal → Type 0) → Stop → Option (List ℕ) → Beside → Beside → Type 0
+abbrev pub StopsFeeding : (List ℕ → Result (List ℕ) Refusal → Type 0) → TakeError → Option (List ℕ) → Beside → Beside → Type 0
 StopsFeeding shows (Refused refusal) first old new = (taken : List ℕ) × HasShown shows (Err refusal) taken first new.input
 StopsFeeding shows ReadFault first old new =
     Rose old.in_faults new.in_faults × (taken : List ℕ) × (length taken < most_input) × HasShown shows (Ok []) taken first new.input

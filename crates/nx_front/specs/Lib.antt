@@ -1,11 +1,11 @@
 pub mod CommandLine
 pub mod Refusal
-pub mod Stop
+pub mod TakeError
 pub mod Outcome
 pub mod Consumer
 pub mod Tidy
 pub mod Session
-pub mod Claimed
+pub mod Planned
 pub mod Plan
 pub mod Verify
 pub mod Run

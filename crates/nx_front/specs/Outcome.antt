@@ -2,15 +2,15 @@
 use Rattle.std.specs.Prelude.{◌≡◌, ◌⊎◌, ◌↔◌, ℕ, ◌<◌, ◌≤◌, List, [], ◌∷◌, ◌++◌, length, Option, IfSome, IsSome, None, Some, Result, Ok, Err}
 use Rattle.nx_host.specs.declared.disk.Disk.{Ghosts}
 use Rattle.nx_host.specs.Disk.{Image, Beside, Keeps, Rose}
-use Rattle.nx_host.specs.Host.{Takes, IsAtEnd, Appends, AppendsFront}
+use Rattle.nx_host.specs.Host.{Takes, IsAtEnd, Appends, AppendsPrefix}
 use Rattle.nx_host.specs.Input.{most_input}
 use Rattle.nx_host.specs.Time.{Stood, Elapses}
 use Rattle.nx_front.specs.declared.status.Status.{Status}
 use Rattle.nx_front.specs.declared.status.Status.TheVariants.{Done, Usage, Refused, ReadFault, WriteFault, NoMemory, TooMuch}
-use Rattle.nx_front.specs.declared.stop.Stop.{Stop}
-use Rattle.nx_front.specs.declared.stop.Stop.TheVariants as stop
-use Rattle.nx_front.specs.declared.give.Halt.{Halt}
-use Rattle.nx_front.specs.declared.give.Halt.TheVariants as halt
+use Rattle.nx_front.specs.declared.take_error.TakeError.{TakeError}
+use Rattle.nx_front.specs.declared.take_error.TakeError.TheVariants as take_error
+use Rattle.nx_front.specs.declared.give.GiveError.{GiveError}
+use Rattle.nx_front.specs.declared.give.GiveError.TheVariants as give_error
 use Rattle.nx_front.specs.declared.refusal.Refusal.{Refusal}
 use Rattle.nx_front.specs.Refusal.{refusal_line}
 
@@ -53,14 +53,14 @@ pub record EndsEarly (m : Meaning) (shown taken : List ℕ) (first now : Option 
   pub shows : m.shows taken (Ok shown)
 
 -- how the reading of an input stops without an answer, where nothing is given before its end
-abbrev pub StopsBy : Meaning → Stop → Beside → Beside → Type 0
-StopsBy m (stop.Refused refusal) old new = (taken : List ℕ) × EndsRefused m refusal taken old.input new.input
-StopsBy m stop.ReadFault old new = Rose old.in_faults new.in_faults × (taken : List ℕ) × (length taken < most_input) × EndsEarly m [] taken old.input new.input
-StopsBy m stop.TooMuch old new = (taken : List ℕ) × (length taken ≡ most_input) × EndsEarly m [] taken old.input new.input
-StopsBy m stop.NoMemory old new = Unit {0}
+abbrev pub StopsBy : Meaning → TakeError → Beside → Beside → Type 0
+StopsBy m (take_error.Refused refusal) old new = (taken : List ℕ) × EndsRefused m refusal taken old.input new.input
+StopsBy m take_error.ReadFault old new = Rose old.in_faults new.in_faults × (taken : List ℕ) × (length taken < most_input) × EndsEarly m [] taken old.input new.input
+StopsBy m take_error.TooMuch old new = (taken : List ℕ) × (length taken ≡ most_input) × EndsEarly m [] taken old.input new.input
+StopsBy m take_error.NoMemory old new = Unit {0}
 
 -- how the reading of an input ended: at the input's end, with this answer, or by a stop
-abbrev pub ReadsTo : (m : Meaning) → Result m.Answer Stop → Beside → Beside → Type 0
+abbrev pub ReadsTo : (m : Meaning) → Result m.Answer TakeError → Beside → Beside → Type 0
 ReadsTo m (Ok answer) old new = (taken : List ℕ) × EndsWhole taken old.input new.input × m.says taken answer
 ReadsTo m (Err stop) old new = StopsBy m stop old new
 
@@ -87,13 +87,13 @@ pub record FailsGiving (bytes : List ℕ) (old new : Beside) : Type 0 where
   pub some : 0 < length others
   pub middle : Option (List ℕ)
   pub appends : Appends done old.output middle
-  pub front : AppendsFront others middle new.output
+  pub prefix : AppendsPrefix others middle new.output
 
 -- how the giving of these bytes ended
-abbrev pub Given : List ℕ → Result (Unit {0}) Halt → Beside → Beside → Type 0
+abbrev pub Given : List ℕ → Result (Unit {0}) GiveError → Beside → Beside → Type 0
 Given bytes (Ok _) old new = Gives bytes old.output new.output
-Given bytes (Err halt.WriteFault) old new = FailsGiving bytes old new
-Given bytes (Err halt.NoMemory) old new = AppendsFront bytes old.output new.output
+Given bytes (Err give_error.WriteFault) old new = FailsGiving bytes old new
+Given bytes (Err give_error.NoMemory) old new = AppendsPrefix bytes old.output new.output
 
 -- Of these bytes the first were given, and these are left.
 pub record GivesBut (bytes left : List ℕ) (old new : Beside) : Type 0 where
@@ -102,27 +102,27 @@ pub record GivesBut (bytes left : List ℕ) (old new : Beside) : Type 0 where
   pub gives : Gives done old.output new.output
 
 -- how the giving of these bytes ended, the last of which are left where it went well
-abbrev pub GivenBut : List ℕ → List ℕ → Result (Unit {0}) Halt → Beside → Beside → Type 0
+abbrev pub GivenBut : List ℕ → List ℕ → Result (Unit {0}) GiveError → Beside → Beside → Type 0
 GivenBut bytes left (Ok _) old new = GivesBut bytes left old new
 GivenBut bytes left (Err stop) old new = Given bytes (Err stop) old new
 
 -- the status where the output was given so far, of a run that ends with `whole` where it is whole
-abbrev pub status_after : Status → Result (Unit {0}) Halt → Status
+abbrev pub status_after : Status → Result (Unit {0}) GiveError → Status
 status_after whole (Ok _) = whole
-status_after whole (Err halt.WriteFault) = WriteFault
-status_after whole (Err halt.NoMemory) = NoMemory
+status_after whole (Err give_error.WriteFault) = WriteFault
+status_after whole (Err give_error.NoMemory) = NoMemory
 
 -- what is given where the reading has stopped: the line of a refusal
-abbrev pub line_after : Stop → List ℕ
-line_after (stop.Refused refusal) = refusal_line refusal
+abbrev pub line_after : TakeError → List ℕ
+line_after (take_error.Refused refusal) = refusal_line refusal
 line_after _ = []
 
 -- how a run ends whose reading has stopped
-abbrev pub EndsAfter : Stop → Status → Beside → Beside → Type 0
-EndsAfter (stop.Refused refusal) status old new = (given : Result (Unit {0}) Halt) × (status ≡ status_after Refused given) × Given (refusal_line refusal) given old new
-EndsAfter stop.ReadFault status old new = (status ≡ ReadFault) × (new ≡ old)
-EndsAfter stop.TooMuch status old new = (status ≡ TooMuch) × (new ≡ old)
-EndsAfter stop.NoMemory status old new = (status ≡ NoMemory) × (new ≡ old)
+abbrev pub EndsAfter : TakeError → Status → Beside → Beside → Type 0
+EndsAfter (take_error.Refused refusal) status old new = (given : Result (Unit {0}) GiveError) × (status ≡ status_after Refused given) × Given (refusal_line refusal) given old new
+EndsAfter take_error.ReadFault status old new = (status ≡ ReadFault) × (new ≡ old)
+EndsAfter take_error.TooMuch status old new = (status ≡ TooMuch) × (new ≡ old)
+EndsAfter take_error.NoMemory status old new = (status ≡ NoMemory) × (new ≡ old)
 
 -- How a run ends:
 
@@ -166,8 +166,8 @@ pub record Runs {D : Type 0} (d : Ghosts D) (m : Meaning) (Stands : Option (Resu
   pub outcome : Option (Result m.Answer Refusal)
   pub told : HasToldOutcome m outcome (d.beside old).input (d.beside new).input
   pub ends : Ends m outcome status (d.beside old) (d.beside new)
-  pub front : AppendsFront (output_of m outcome) (d.beside old).output (d.beside new).output
-  pub time : Elapses d.moment d.stood_since old new (λ s. AppendsFront (output_of m outcome) (d.beside old).output s.output × Stands outcome s)
+  pub prefix : AppendsPrefix (output_of m outcome) (d.beside old).output (d.beside new).output
+  pub time : Elapses d.moment d.stood_since old new (λ s. AppendsPrefix (output_of m outcome) (d.beside old).output s.output × Stands outcome s)
   pub bounded : TakesFew (d.beside old).input (d.beside new).input
   pub counts : CountsGrow (d.beside old) (d.beside new)
 

@@ -13,7 +13,7 @@ use Rattle.nx_engine.specs.Documents.{Documents}
 use Rattle.nx_engine.specs.Step.{replies, after_all}
 use Rattle.nx_front.specs.declared.status.Status.{Status}
 use Rattle.nx_front.specs.declared.status.Status.TheVariants.{Done}
-use Rattle.nx_front.specs.declared.give.Halt.{Halt}
+use Rattle.nx_front.specs.declared.give.GiveError.{GiveError}
 use Rattle.nx_front.specs.declared.refusal.Refusal.{Refusal}
 use Rattle.nx_front.specs.Outcome.{Meaning, Gives, Given, GivesBut}
 
@@ -56,7 +56,7 @@ pub record HasAnswered {D : Type 0} (d : Ghosts D) (first : Option (List ℕ)) (
   pub alone : GivesAlone d (old_block ++ texts_from old_plain more) old new
 
 -- These commands more came, and the giving of the replies to them stopped.
-pub record HasStopped {D : Type 0} (d : Ghosts D) (stop : Halt) (first : Option (List ℕ)) (taken : List ℕ) (commands more : List Command)
+pub record HasStopped {D : Type 0} (d : Ghosts D) (stop : GiveError) (first : Option (List ℕ)) (taken : List ℕ) (commands more : List Command)
     (script : Script) (plain : Documents) (block : List ℕ) (old new : D) : Type 0 where
   pub given : HasGivenIn script taken (commands ++ more) first (d.beside new).input
   pub gave : Given (block ++ texts_from plain more) (Err stop) (d.beside old) (d.beside new)

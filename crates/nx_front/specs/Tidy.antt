@@ -6,8 +6,8 @@ use Rattle.nx_pyx.specs.Reading.{Reads}
 use Rattle.nx_pyx.specs.Text.{text}
 use Rattle.nx_front.specs.declared.refusal.Refusal.{Refusal}
 use Rattle.nx_front.specs.declared.refusal.Refusal.TheVariants.{Pyx, TooHeavy, Bounds}
-use Rattle.nx_front.specs.declared.stop.Stop.{Stop}
-use Rattle.nx_front.specs.declared.stop.Stop.TheVariants.{Refused, NoMemory}
+use Rattle.nx_front.specs.declared.take_error.TakeError.{TakeError}
+use Rattle.nx_front.specs.declared.take_error.TakeError.TheVariants.{Refused, NoMemory}
 use Rattle.nx_front.specs.Outcome.{Meaning}
 
 -- the input has this fault
@@ -28,7 +28,7 @@ abbrev pub tidy : Meaning
 tidy = record { Answer = OrderedTree; text_of = text; says = Reads; refuses = RefusesDocument; shows = ShowsDocument }
 
 -- what a reader of these bytes gives at their end: the document that they say, or their fault
-abbrev pub Finishes : List ℕ → Result OrderedTree Stop → Type 0
+abbrev pub Finishes : List ℕ → Result OrderedTree TakeError → Type 0
 Finishes taken (Ok tree) = Reads taken tree
 Finishes taken (Err (Refused (Pyx error))) = fault_of taken ≡ Some error
 Finishes taken (Err NoMemory) = Unit {0}

@@ -7,7 +7,7 @@ ghost use Rattle.nx_host.specs.Phase.{TakesAlone};
 ghost use Rattle.nx_front.specs.Consumer.{StopsAt, StopsFeeding};
 ghost use Rattle.nx_front.specs.declared.refusal.Refusal.{Refusal};
 
-use crate::stop::Stop;
+use crate::take_error::TakeError;
 use nx_host::{Disk, Host, Input};
 
 // What reads an input block by block.
@@ -22,7 +22,7 @@ pub trait Consumer {
     ghost shows: { List ℕ → Result (List ℕ) Refusal → Type 0 };
 
     // Reads the next bytes, and says whether it reads on.
-    fn take(&mut self, block: &[u8]) -> Result<bool, Stop>
+    fn take(&mut self, block: &[u8]) -> Result<bool, TakeError>
         ensures ok { IfOk result (λ more. (s : List ℕ) → has_read self.old s → MatchBool more (has_read self.new (s ++ block.now)) (has_enough self.new (s ++ block.now))) }
         ensures err { IfErr result (λ stop. (s : List ℕ) → has_read self.old s → StopsAt shows stop (s ++ block.now)) };
 
@@ -35,7 +35,7 @@ pub fn feed<H: Host, C: Consumer>(
     host: &mut H,
     input: &mut Input,
     consumer: &mut C,
-) -> Result<bool, Stop>
+) -> Result<bool, TakeError>
     ensures ok { IfOk result (λ ended. (taken : List ℕ) (first : Option (List ℕ)) → HasTaken input.old taken first (H.beside host.old).input → C.has_read consumer.old taken →
         (more : List ℕ) × HasTaken input.new (taken ++ more) first (H.beside host.new).input
         × MatchBool ended (IsAtEnd (H.beside host.new).input × (length (taken ++ more) < most_input) × C.has_read consumer.new (taken ++ more)) (C.has_enough consumer.new (taken ++ more))) }

@@ -6,11 +6,11 @@ ghost use Rattle.nx_bounds.specs.PlanText.{plan_text};
 ghost use Rattle.nx_front.specs.Refusal.{refusal_line};
 ghost use Rattle.nx_front.specs.Verify.{certified_line};
 ghost use Rattle.nx_front.specs.Outcome.{Given, GivenBut, EndsAfter, line_after, status_after};
-ghost use Rattle.nx_front.specs.declared.give.Halt.TheVariants.{NoMemory, WriteFault};
+ghost use Rattle.nx_front.specs.declared.give.GiveError.TheVariants.{NoMemory, WriteFault};
 
 use crate::Status;
 use crate::refusal::{Refusal, refusal_line};
-use crate::stop::Stop;
+use crate::take_error::TakeError;
 use nx_bounds::PlanWriter;
 use nx_host::{Disk, Failed, Host};
 use nx_parts::Plan;
@@ -23,37 +23,37 @@ pub const BLOCK: usize = 65_536;
 
 // Why the output isn't whole.
 #[derive(Clone, Copy)]
-pub enum Halt {
+pub enum GiveError {
     WriteFault,
     NoMemory,
 }
 
-impl From<nx_tree::NoMemory> for Halt {
-    ghost from_gives = { λ _ halt. halt ≡ NoMemory };
+impl From<nx_tree::NoMemory> for GiveError {
+    ghost from_gives = { λ _ error. error ≡ NoMemory };
 
-    fn from(_: nx_tree::NoMemory) -> Halt {
-        Halt::NoMemory
+    fn from(_: nx_tree::NoMemory) -> GiveError {
+        GiveError::NoMemory
     }
 }
 
-impl From<AllocError> for Halt {
-    ghost from_gives = { λ _ halt. halt ≡ NoMemory };
+impl From<AllocError> for GiveError {
+    ghost from_gives = { λ _ error. error ≡ NoMemory };
 
-    fn from(_: AllocError) -> Halt {
-        Halt::NoMemory
+    fn from(_: AllocError) -> GiveError {
+        GiveError::NoMemory
     }
 }
 
-impl From<Failed> for Halt {
-    ghost from_gives = { λ _ halt. halt ≡ WriteFault };
+impl From<Failed> for GiveError {
+    ghost from_gives = { λ _ error. error ≡ WriteFault };
 
-    fn from(_: Failed) -> Halt {
-        Halt::WriteFault
+    fn from(_: Failed) -> GiveError {
+        GiveError::WriteFault
     }
 }
 
 // Gives the bytes, if there are any.
-pub fn give<H: Host>(host: &mut H, bytes: &[u8]) -> Result<(), Halt>
+pub fn give<H: Host>(host: &mut H, bytes: &[u8]) -> Result<(), GiveError>
     ensures given { Given bytes.now result (H.beside host.old) (H.beside host.new) }
     ensures alone { GivesAlone ⟦<H as Disk>⟧ bytes.now host.old host.new }
 {
@@ -64,7 +64,7 @@ pub fn give<H: Host>(host: &mut H, bytes: &[u8]) -> Result<(), Halt>
 }
 
 // Gives what the block has, and empties it.
-pub fn give_block<H: Host>(host: &mut H, block: &mut Bytes) -> Result<(), Halt>
+pub fn give_block<H: Host>(host: &mut H, block: &mut Bytes) -> Result<(), GiveError>
     ensures given { Given block.old result (H.beside host.old) (H.beside host.new) }
     ensures empty { OnOk result (block.new ≡ []) }
     ensures alone { GivesAlone ⟦<H as Disk>⟧ block.old host.old host.new }
@@ -108,7 +108,7 @@ fn give_written<H: Host, W: Writes>(
     host: &mut H,
     block: &mut Bytes,
     writer: &mut W,
-) -> Result<(), Halt>
+) -> Result<(), GiveError>
     ensures given { GivenBut (block.old ++ W.left writer.old) block.new result (H.beside host.old) (H.beside host.new) }
     ensures alone { GivesAlone ⟦<H as Disk>⟧ (block.old ++ W.left writer.old) host.old host.new }
 {
@@ -119,7 +119,11 @@ fn give_written<H: Host, W: Writes>(
 }
 
 // Gives what is written.
-fn give_all<H: Host, W: Writes>(alloc: Global, host: &mut H, writer: &mut W) -> Result<(), Halt>
+fn give_all<H: Host, W: Writes>(
+    alloc: Global,
+    host: &mut H,
+    writer: &mut W,
+) -> Result<(), GiveError>
     ensures given { Given (W.left writer.old) result (H.beside host.old) (H.beside host.new) }
     ensures alone { GivesAlone ⟦<H as Disk>⟧ (W.left writer.old) host.old host.new }
 {
@@ -135,7 +139,7 @@ pub fn give_into<H: Host>(
     host: &mut H,
     block: &mut Bytes,
     tree: &Tree,
-) -> Result<(), Halt>
+) -> Result<(), GiveError>
     ensures given { GivenBut (block.old ++ text tree.now) block.new result (H.beside host.old) (H.beside host.new) }
     ensures alone { GivesAlone ⟦<H as Disk>⟧ (block.old ++ text tree.now) host.old host.new }
 {
@@ -144,7 +148,7 @@ pub fn give_into<H: Host>(
 }
 
 // Gives the canonical text of the document.
-pub fn give_text<H: Host>(alloc: Global, host: &mut H, tree: &Tree) -> Result<(), Halt>
+pub fn give_text<H: Host>(alloc: Global, host: &mut H, tree: &Tree) -> Result<(), GiveError>
     ensures given { Given (text tree.now) result (H.beside host.old) (H.beside host.new) }
     ensures alone { GivesAlone ⟦<H as Disk>⟧ (text tree.now) host.old host.new }
 {
@@ -153,7 +157,7 @@ pub fn give_text<H: Host>(alloc: Global, host: &mut H, tree: &Tree) -> Result<()
 }
 
 // Gives the text of the plan.
-pub fn give_plan<H: Host>(alloc: Global, host: &mut H, plan: &Plan) -> Result<(), Halt>
+pub fn give_plan<H: Host>(alloc: Global, host: &mut H, plan: &Plan) -> Result<(), GiveError>
     ensures given { Given (plan_text plan.now) result (H.beside host.old) (H.beside host.new) }
     ensures alone { GivesAlone ⟦<H as Disk>⟧ (plan_text plan.now) host.old host.new }
 {
@@ -162,7 +166,7 @@ pub fn give_plan<H: Host>(alloc: Global, host: &mut H, plan: &Plan) -> Result<()
 }
 
 // Gives the line that refuses the input.
-fn give_refusal<H: Host>(alloc: Global, host: &mut H, refusal: Refusal) -> Result<(), Halt>
+fn give_refusal<H: Host>(alloc: Global, host: &mut H, refusal: Refusal) -> Result<(), GiveError>
     ensures given { Given (refusal_line refusal) result (H.beside host.old) (H.beside host.new) }
     ensures alone { GivesAlone ⟦<H as Disk>⟧ (refusal_line refusal) host.old host.new }
 {
@@ -171,7 +175,7 @@ fn give_refusal<H: Host>(alloc: Global, host: &mut H, refusal: Refusal) -> Resul
 }
 
 // Gives the line for a plan of so many intervals that is certified.
-pub fn give_count<H: Host>(alloc: Global, host: &mut H, intervals: usize) -> Result<(), Halt>
+pub fn give_count<H: Host>(alloc: Global, host: &mut H, intervals: usize) -> Result<(), GiveError>
     ensures given { Given (certified_line intervals) result (H.beside host.old) (H.beside host.new) }
     ensures alone { GivesAlone ⟦<H as Disk>⟧ (certified_line intervals) host.old host.new }
 {
@@ -187,25 +191,27 @@ fn certified_line(alloc: Global, intervals: usize) -> Result<String, AllocError>
 }
 
 // The status of a run that ends with `whole` where its output is whole.
-pub fn status_of(given: Result<(), Halt>, whole: Status) -> Status
+pub fn status_of(given: Result<(), GiveError>, whole: Status) -> Status
     ensures { result ≡ status_after whole given }
 {
     match given {
         Ok(()) => whole,
-        Err(Halt::WriteFault) => Status::WriteFault,
-        Err(Halt::NoMemory) => Status::NoMemory,
+        Err(GiveError::WriteFault) => Status::WriteFault,
+        Err(GiveError::NoMemory) => Status::NoMemory,
     }
 }
 
 // Ends a run whose reading has stopped: gives the line of a refusal.
-pub fn end_after<H: Host>(alloc: Global, host: &mut H, stop: Stop) -> Status
+pub fn end_after<H: Host>(alloc: Global, host: &mut H, stop: TakeError) -> Status
     ensures ends { EndsAfter stop result (H.beside host.old) (H.beside host.new) }
     ensures alone { GivesAlone ⟦<H as Disk>⟧ (line_after stop) host.old host.new }
 {
     match stop {
-        Stop::Refused(refusal) => { status_of(give_refusal(alloc, host, refusal), Status::Refused) }
-        Stop::ReadFault => Status::ReadFault,
-        Stop::TooMuch => Status::TooMuch,
-        Stop::NoMemory => Status::NoMemory,
+        TakeError::Refused(refusal) => {
+            status_of(give_refusal(alloc, host, refusal), Status::Refused)
+        }
+        TakeError::ReadFault => Status::ReadFault,
+        TakeError::TooMuch => Status::TooMuch,
+        TakeError::NoMemory => Status::NoMemory,
     }
 }

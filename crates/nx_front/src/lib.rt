@@ -1,16 +1,16 @@
 //! The top call: from the words of a command line, the input and a disk to the output and a status.
 #![tactic(auto)]
 
-mod claimed;
 mod consumer;
 mod give;
 pub mod laws;
 mod plan;
+mod planned;
 mod read;
 mod refusal;
 mod session;
 mod status;
-mod stop;
+mod take_error;
 mod top;
 mod verify;
 mod words;

@@ -7,7 +7,7 @@ ghost use Rattle.nx_front.specs.Plan.{plan};
 use crate::Status;
 use crate::give::{end_after, give_plan, status_of};
 use crate::read::read;
-use crate::stop::Stop;
+use crate::take_error::TakeError;
 use nx_host::{Disk, Host};
 use nx_parts::Plan;
 use std::alloc::Global;
@@ -18,14 +18,14 @@ pub fn plan<H: Host>(alloc: Global, host: &mut H, k: u32) -> Status
     requires most { k ≤ 256 }
     ensures { RunsBeside ⟦<H as Disk>⟧ (plan k) result host.old host.new }
 {
-    match read_planned(alloc, host, k) {
+    match read_and_plan(alloc, host, k) {
         Ok(plan) => status_of(give_plan(alloc, host, &plan), Status::Done),
         Err(stop) => end_after(alloc, host, stop),
     }
 }
 
 // A plan of the input's document, which is let go.
-fn read_planned<H: Host>(alloc: Global, host: &mut H, k: u32) -> Result<Plan, Stop>
+fn read_and_plan<H: Host>(alloc: Global, host: &mut H, k: u32) -> Result<Plan, TakeError>
     requires least { 1 ≤ k }
     requires most { k ≤ 256 }
     ensures reads { ReadsTo (plan k) result (H.beside host.old) (H.beside host.new) }

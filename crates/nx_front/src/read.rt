@@ -6,7 +6,7 @@ ghost use Rattle.nx_front.specs.Outcome.{ReadsTo, TakesFew};
 ghost use Rattle.nx_front.specs.Tidy.{ShowsDocument, tidy, Finishes};
 
 use crate::consumer::{Consumer, feed};
-use crate::stop::Stop;
+use crate::take_error::TakeError;
 use nx_host::{Disk, Host, Input};
 use nx_pyx::Reader;
 use nx_tree::Tree;
@@ -19,7 +19,7 @@ impl Consumer for Reader {
 
     ghost shows = { ShowsDocument };
 
-    fn take(&mut self, block: &[u8]) -> Result<bool, Stop> {
+    fn take(&mut self, block: &[u8]) -> Result<bool, TakeError> {
         self.feed(block)?;
         Ok(true)
     }
@@ -28,7 +28,7 @@ impl Consumer for Reader {
 }
 
 // The document that the whole input says.
-pub fn read<H: Host>(alloc: Global, host: &mut H) -> Result<Tree, Stop>
+pub fn read<H: Host>(alloc: Global, host: &mut H) -> Result<Tree, TakeError>
     ensures reads { ReadsTo tidy result (H.beside host.old) (H.beside host.new) }
     ensures bounded { TakesFew (H.beside host.old).input (H.beside host.new).input }
     ensures alone { TakesAlone ⟦<H as Disk>⟧ host.old host.new }
@@ -40,7 +40,7 @@ pub fn read<H: Host>(alloc: Global, host: &mut H) -> Result<Tree, Stop>
 }
 
 // The document of the whole input.
-fn finish(reader: Reader) -> Result<Tree, Stop>
+fn finish(reader: Reader) -> Result<Tree, TakeError>
     ensures { (taken : List ℕ) → HasRead reader taken → Finishes taken result }
 {
     Ok(reader.finish()?)

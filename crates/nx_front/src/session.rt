@@ -7,12 +7,12 @@ ghost use Rattle.nx_script.specs.declared.command.Command.{Command};
 ghost use Rattle.nx_script.specs.Commands.{AreCommands, AreWhole, CanCome};
 ghost use Rattle.nx_script.specs.Reply.{reply_text};
 ghost use Rattle.nx_script.specs.Script.{HasGivenIn, IsDrained};
-ghost use Rattle.nx_engine.specs.Step.{answer, after};
+ghost use Rattle.nx_engine.specs.Step.{reply_to, after};
 ghost use Rattle.nx_front.specs.Outcome.{GivenBut, RunsBeside};
 ghost use Rattle.nx_front.specs.Session.{HasAnswered, HasStopped, script_run, session_status};
 
 use crate::Status;
-use crate::give::{BLOCK, Halt, give_block, give_into};
+use crate::give::{BLOCK, GiveError, give_block, give_into};
 use nx_engine::Plain;
 use nx_host::{Disk, Host};
 use nx_script::{Command, Reply, ReplyError, Script, push_reply};
@@ -55,7 +55,7 @@ fn answer_ready<H: Host>(
     script: &mut Script,
     plain: &mut Plain,
     block: &mut Bytes,
-) -> Result<(), Halt>
+) -> Result<(), GiveError>
     requires { (first : Option (List ℕ)) × (taken : List ℕ) × (commands : List Command) × HasGivenIn script.old taken commands first (H.beside host.old).input }
     ensures ok { OnOk result ((first : Option (List ℕ)) (taken : List ℕ) (commands : List Command) → HasGivenIn script.old taken commands first (H.beside host.old).input →
         (more : List Command) × MatchBool script.new.ended (AreCommands taken (commands ++ more)) (AreWhole taken (commands ++ more))
@@ -63,12 +63,12 @@ fn answer_ready<H: Host>(
     ensures drained { OnOk result (IsDrained script.new) }
     ensures taken { OnOk result (script.new.input.taken ≡ script.old.input.taken) }
     ensures ended { OnOk result (script.new.ended ≡ script.old.ended) }
-    ensures err { IfErr result (λ halt. (first : Option (List ℕ)) (taken : List ℕ) (commands : List Command) → HasGivenIn script.old taken commands first (H.beside host.old).input →
-        (more : List Command) × (last : Script) × (last.ended ≡ script.old.ended) × HasStopped ⟦<H as Disk>⟧ halt first taken commands more last plain.old block.old host.old host.new) }
+    ensures err { IfErr result (λ error. (first : Option (List ℕ)) (taken : List ℕ) (commands : List Command) → HasGivenIn script.old taken commands first (H.beside host.old).input →
+        (more : List Command) × (last : Script) × (last.ended ≡ script.old.ended) × HasStopped ⟦<H as Disk>⟧ error first taken commands more last plain.old block.old host.old host.new) }
 {
     loop {
         let Ok(next) = script.ready() else {
-            return Err(Halt::NoMemory);
+            return Err(GiveError::NoMemory);
         };
         let Some(command) = next else {
             return Ok(());
@@ -88,11 +88,11 @@ fn answer<H: Host>(
     plain: &mut Plain,
     block: &mut Bytes,
     command: Command,
-) -> Result<(), Halt>
+) -> Result<(), GiveError>
     requires { CanCome command }
-    ensures given { GivenBut (block.old ++ reply_text (answer plain.old command)) block.new result (H.beside host.old) (H.beside host.new) }
+    ensures given { GivenBut (block.old ++ reply_text (reply_to plain.old command)) block.new result (H.beside host.old) (H.beside host.new) }
     ensures documents { OnOk result (plain.new ≡ after plain.old command) }
-    ensures alone { GivesAlone ⟦<H as Disk>⟧ (block.old ++ reply_text (answer plain.old command)) host.old host.new }
+    ensures alone { GivesAlone ⟦<H as Disk>⟧ (block.old ++ reply_text (reply_to plain.old command)) host.old host.new }
 {
     match command {
         Command::Export { name } => match plain.document(name.as_slice()) {
@@ -108,7 +108,12 @@ fn answer<H: Host>(
 
 // Gives a document's canonical text and a dot behind it, but for a last part, which is left in the
 // block.
-fn export<H: Host>(alloc: Global, host: &mut H, block: &mut Bytes, tree: &Tree) -> Result<(), Halt>
+fn export<H: Host>(
+    alloc: Global,
+    host: &mut H,
+    block: &mut Bytes,
+    tree: &Tree,
+) -> Result<(), GiveError>
     ensures given { GivenBut (block.old ++ (text tree.now ++ codes ".\n")) block.new result (H.beside host.old) (H.beside host.new) }
     ensures alone { GivesAlone ⟦<H as Disk>⟧ (block.old ++ (text tree.now ++ codes ".\n")) host.old host.new }
 {

@@ -1,8 +1,8 @@
 // How a run ends.
 ghost use Rattle.std.specs.Prelude.{◌≡◌};
-ghost use Rattle.nx_front.specs.Stop.{status_of_script, status_of_halt};
+ghost use Rattle.nx_front.specs.TakeError.{status_of_script, status_of_give_error};
 
-use crate::give::Halt;
+use crate::give::GiveError;
 use nx_script::ScriptError;
 
 /// The status that a run ends with.
@@ -36,13 +36,13 @@ impl From<ScriptError> for Status {
     }
 }
 
-impl From<Halt> for Status {
-    ghost from_gives = { λ halt status. status ≡ status_of_halt halt };
+impl From<GiveError> for Status {
+    ghost from_gives = { λ error status. status ≡ status_of_give_error error };
 
-    fn from(halt: Halt) -> Status {
-        match halt {
-            Halt::WriteFault => Status::WriteFault,
-            Halt::NoMemory => Status::NoMemory,
+    fn from(error: GiveError) -> Status {
+        match error {
+            GiveError::WriteFault => Status::WriteFault,
+            GiveError::NoMemory => Status::NoMemory,
         }
     }
 }

@@ -7,9 +7,9 @@ ghost use Rattle.nx_front.specs.Outcome.{ReadsTo, RunsBeside, TakesFew};
 ghost use Rattle.nx_front.specs.Verify.{JudgesText, AreFew, verify};
 
 use crate::Status;
-use crate::claimed::{Claimed, read_claimed};
 use crate::give::{end_after, give_count, status_of};
-use crate::stop::Stop;
+use crate::planned::{Planned, read_planned};
+use crate::take_error::TakeError;
 use nx_bounds::{BoundsError, certified, read_plan};
 use nx_host::{Disk, Host};
 use nx_parts::Plan;
@@ -30,26 +30,26 @@ pub fn verify<H: Host>(alloc: Global, host: &mut H, k: u32) -> Status
 }
 
 // The number of intervals of the input's plan, if it is certified for the input's document.
-fn read_verdict<H: Host>(alloc: Global, host: &mut H, k: u32) -> Result<usize, Stop>
+fn read_verdict<H: Host>(alloc: Global, host: &mut H, k: u32) -> Result<usize, TakeError>
     requires least { 1 ≤ k }
     requires most { k ≤ 256 }
     ensures reads { ReadsTo (verify k) result (H.beside host.old) (H.beside host.new) }
     ensures bounded { TakesFew (H.beside host.old).input (H.beside host.new).input }
     ensures alone { TakesAlone ⟦<H as Disk>⟧ host.old host.new }
 {
-    let claimed = read_claimed(alloc, host)?;
-    Ok(judge(alloc, claimed, k)?)
+    let planned = read_planned(alloc, host)?;
+    Ok(judge(alloc, planned, k)?)
 }
 
 // The number of intervals of the plan that the text is, if it is certified.
-fn judge(alloc: Global, claimed: Claimed, k: u32) -> Result<usize, BoundsError>
+fn judge(alloc: Global, planned: Planned, k: u32) -> Result<usize, BoundsError>
     requires least { 1 ≤ k }
     requires most { k ≤ 256 }
-    requires document { IsDocument claimed.tree }
-    requires few { length claimed.plan < 2 ^ 32 }
-    ensures { JudgesText k claimed.tree claimed.plan result }
+    requires document { IsDocument planned.tree }
+    requires few { length planned.plan < 2 ^ 32 }
+    ensures { JudgesText k planned.tree planned.plan result }
 {
-    let Claimed { tree, plan: text } = claimed;
+    let Planned { tree, plan: text } = planned;
     let plan = plan_of(alloc, text)?;
     certified(alloc, &tree, k, &plan)?;
     Ok(plan.parts.len())

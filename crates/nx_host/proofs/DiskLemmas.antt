@@ -4,7 +4,7 @@ use Rattle.std.specs.Prelude.{IsSome}
 use Rattle.std.proofs.lemmas.Bool.{false≢true}
 use Rattle.nx_host.specs.Disk.{Image, HoldsBytes, no_bytes, Beside, Keeps, LeavesBeside}
 use Rattle.nx_host.specs.Time.{none_elapsed, elapsed_then, elapsed_weaker}
-use Rattle.nx_host.specs.Still.{IsStill, Goes, IsSettled}
+use Rattle.nx_host.specs.Still.{IsStill, WritesAlone, IsSettled}
 use Rattle.nx_host.specs.declared.disk.Disk.{Ghosts}
 
 -- what isn't told is nothing
@@ -63,8 +63,8 @@ module _ {D : Type 0} {d : Ghosts D} where
   }
 
   -- before the first call
-  pub none_goes : {a : D} {P : Image → Type 0} → Goes d a a P
-  none_goes = record {
+  pub none_written : {a : D} {P : Image → Type 0} → WritesAlone d a a P
+  none_written = record {
     told = λ h. h;
     beside_stays = beside_self;
     faults_later = omega arith;
@@ -73,8 +73,8 @@ module _ {D : Type 0} {d : Ghosts D} where
   }
 
   -- one call more, whose images have Q
-  pub goes_then : {a b c : D} {P Q : Image → Type 0} → Goes d a b P → Goes d b c Q → (IsSome (d.contents c) → (i : Image) → Q i → P i) → Goes d a c P
-  goes_then {a = a} {b = b} {c = c} {P = P} first second weaker = record {
+  pub written_alone_then : {a b c : D} {P Q : Image → Type 0} → WritesAlone d a b P → WritesAlone d b c Q → (IsSome (d.contents c) → (i : Image) → Q i → P i) → WritesAlone d a c P
+  written_alone_then {a = a} {b = b} {c = c} {P = P} first second weaker = record {
     told = λ h. first.told (second.told h);
     beside_stays = beside_then first.beside_stays second.beside_stays;
     faults_later = let x : d.faults a ≤ d.faults b = first.faults_later in let y : d.faults b ≤ d.faults c = second.faults_later in omega (arith, x, y);
@@ -86,8 +86,8 @@ module _ {D : Type 0} {d : Ghosts D} where
   }
 
   -- what the images have may be weakened
-  pub goes_weaker : {a b : D} {P Q : Image → Type 0} → Goes d a b Q → (IsSome (d.contents b) → (i : Image) → Q i → P i) → Goes d a b P
-  goes_weaker first weaker = record {
+  pub written_alone_weaker : {a b : D} {P Q : Image → Type 0} → WritesAlone d a b Q → (IsSome (d.contents b) → (i : Image) → Q i → P i) → WritesAlone d a b P
+  written_alone_weaker first weaker = record {
     told = first.told;
     beside_stays = first.beside_stays;
     faults_later = first.faults_later;
@@ -96,7 +96,7 @@ module _ {D : Type 0} {d : Ghosts D} where
   }
 
   -- a disk that was asked alone has the images that it had
-  pub still_goes : {a b : D} → IsStill d a b → Goes d a b (d.may_leave a)
+  pub still_goes : {a b : D} → IsStill d a b → WritesAlone d a b (d.may_leave a)
   still_goes {a = a} {b = b} still = record {
     told = subst (λ o. IsSome o → IsSome (d.contents a)) (sym still.contents_stay) (λ told. told);
     beside_stays = still.beside_stays;

@@ -3,7 +3,7 @@ use Rattle.std.proofs.Common.{◌≡◌, ℕ, ◌+◌, List, [], ◌++◌, take,
 use Rattle.std.proofs.lemmas.List.{take_min, take-append-le}
 use Rattle.std.proofs.Math.Seq.{take-append-add}
 use Rattle.nx_host.specs.Disk.{Keeps}
-use Rattle.nx_host.specs.Host.{Appends, AppendsFront, Takes}
+use Rattle.nx_host.specs.Host.{Appends, AppendsPrefix, Takes}
 
 -- nothing is given
 pub appends_nothing : (output : Option (List ℕ)) → Appends [] output output
@@ -21,15 +21,15 @@ take-within : (n : ℕ) (x y : List ℕ) → take n x ≡ take (min n (length x)
 take-within n x y = sym (take_min n x) ∙ sym (take-append-le (min n (length x)) x y (omega arith))
 
 -- a prefix of a prefix
-pub front_more : (x y : List ℕ) (a b : Option (List ℕ)) → AppendsFront x a b → AppendsFront (x ++ y) a b
-front_more x y a None front = tt
-front_more x y a (Some now) (was, n, is, grew) = (was, min n (length x), is, grew ∙ ap (λ (t : List ℕ). was ++ t) (take-within n x y))
+pub prefix_more : (x y : List ℕ) (a b : Option (List ℕ)) → AppendsPrefix x a b → AppendsPrefix (x ++ y) a b
+prefix_more x y a None prefix = tt
+prefix_more x y a (Some now) (was, n, is, grew) = (was, min n (length x), is, grew ∙ ap (λ (t : List ℕ). was ++ t) (take-within n x y))
 
 -- a prefix behind what was given
-pub front_then : (x y : List ℕ) (a b c : Option (List ℕ)) → Appends x a b → AppendsFront y b c → AppendsFront (x ++ y) a c
-front_then x y a b None first second = tt
-front_then x y a None (Some now) first (was, n, is, grew) = cc
-front_then x y a (Some mid) (Some now) (was, is, grew) (was', n, is', grew') =
+pub prefix_then : (x y : List ℕ) (a b c : Option (List ℕ)) → Appends x a b → AppendsPrefix y b c → AppendsPrefix (x ++ y) a c
+prefix_then x y a b None first second = tt
+prefix_then x y a None (Some now) first (was, n, is, grew) = cc
+prefix_then x y a (Some mid) (Some now) (was, is, grew) (was', n, is', grew') =
     let same : mid ≡ was' = cc is' in (
       was,
       length x + n,
@@ -39,9 +39,9 @@ front_then x y a (Some mid) (Some now) (was, is, grew) (was', n, is', grew') =
     )
 
 -- nothing more is a prefix of anything
-pub keeps_front : (bytes : List ℕ) (old now : Option (List ℕ)) → Keeps old now → AppendsFront bytes old now
-keeps_front bytes old None keeps = tt
-keeps_front bytes old (Some was) keeps = (was, 0, keeps, sym (append-nil was))
+pub keeps_prefix : (bytes : List ℕ) (old now : Option (List ℕ)) → Keeps old now → AppendsPrefix bytes old now
+keeps_prefix bytes old None keeps = tt
+keeps_prefix bytes old (Some was) keeps = (was, 0, keeps, sym (append-nil was))
 
 -- nothing was taken
 pub takes_nothing : (input : Option (List ℕ)) → Takes [] input input

@@ -1,12 +1,12 @@
 -- Phases of a run, one after another.
 use Rattle.std.proofs.Common.{ℕ, ◌≤◌, List, [], ◌++◌, Option, refl, ◌∙◌, subst, arith, append-nil}
 use Rattle.nx_host.specs.Disk.{Keeps}
-use Rattle.nx_host.specs.Host.{Appends, AppendsFront}
+use Rattle.nx_host.specs.Host.{Appends, AppendsPrefix}
 use Rattle.nx_host.specs.Time.{none_elapsed, elapsed_then, elapsed_weaker}
 use Rattle.nx_host.specs.Phase.{LeavesAreas, TakesAlone, GivesAlone, TalksAlone}
 use Rattle.nx_host.specs.declared.disk.Disk.{Ghosts}
 use Rattle.nx_host.proofs.DiskLemmas.{keeps_self, keeps_then}
-use Rattle.nx_host.proofs.OutputLemmas.{front_more, front_then, keeps_front}
+use Rattle.nx_host.proofs.OutputLemmas.{prefix_more, prefix_then, keeps_prefix}
 
 module _ {D : Type 0} {d : Ghosts D} where
   -- before the first call
@@ -65,25 +65,25 @@ module _ {D : Type 0} {d : Ghosts D} where
 
   -- who takes alone gives a prefix of anything
   pub takes_talks : {a b : D} (bytes : List ℕ) → TakesAlone d a b → TalksAlone d bytes a b
-  takes_talks {a = a} bytes takes = left_weaker takes.areas (λ output h. keeps_front bytes (d.beside a).output output h)
+  takes_talks {a = a} bytes takes = left_weaker takes.areas (λ output h. keeps_prefix bytes (d.beside a).output output h)
 
   -- a prefix of these bytes is one of more bytes
-  pub talks_front : {a b : D} (bytes more : List ℕ) → TalksAlone d bytes a b → TalksAlone d (bytes ++ more) a b
-  talks_front {a = a} bytes more talks = left_weaker talks (λ output h. front_more bytes more (d.beside a).output output h)
+  pub talks_prefix : {a b : D} (bytes more : List ℕ) → TalksAlone d bytes a b → TalksAlone d (bytes ++ more) a b
+  talks_prefix {a = a} bytes more talks = left_weaker talks (λ output h. prefix_more bytes more (d.beside a).output output h)
 
   -- first some of the bytes, and then a prefix of the others
   pub talks_then : {a b c : D} (done rest : List ℕ) → Appends done (d.beside a).output (d.beside b).output → TalksAlone d (done ++ rest) a b → TalksAlone d rest b c →
       TalksAlone d (done ++ rest) a c
   talks_then {a = a} {b = b} done rest appends first second =
-      left_then first second (λ output h. front_then done rest (d.beside a).output (d.beside b).output output appends h)
+      left_then first second (λ output h. prefix_then done rest (d.beside a).output (d.beside b).output output appends h)
 
   -- before the first bytes are given
   pub none_given : {a : D} (bytes : List ℕ) → GivesAlone d bytes a a
   none_given bytes = record { areas = none_left; input_stays = refl; in_faults_stay = refl }
 
   -- a prefix of these bytes is one of more bytes
-  pub gives_front : {a b : D} (bytes more : List ℕ) → GivesAlone d bytes a b → GivesAlone d (bytes ++ more) a b
-  gives_front bytes more gives = record { areas = talks_front bytes more gives.areas; input_stays = gives.input_stays; in_faults_stay = gives.in_faults_stay }
+  pub gives_prefix : {a b : D} (bytes more : List ℕ) → GivesAlone d bytes a b → GivesAlone d (bytes ++ more) a b
+  gives_prefix bytes more gives = record { areas = talks_prefix bytes more gives.areas; input_stays = gives.input_stays; in_faults_stay = gives.in_faults_stay }
 
   -- first some of the bytes, and then a prefix of the others
   pub gives_then : {a b c : D} (done rest : List ℕ) → Appends done (d.beside a).output (d.beside b).output → GivesAlone d (done ++ rest) a b → GivesAlone d rest b c →
@@ -98,10 +98,10 @@ module _ {D : Type 0} {d : Ghosts D} where
   pub talks_takes : {a b c : D} (bytes : List ℕ) → Appends bytes (d.beside a).output (d.beside b).output → TalksAlone d bytes a b → TakesAlone d b c → TalksAlone d bytes a c
   talks_takes {a = a} {b = b} bytes appends first second =
       left_then first second.areas
-      (λ output h. subst (λ (l : List ℕ). AppendsFront l (d.beside a).output output) (append-nil bytes)
-      (front_then bytes [] (d.beside a).output (d.beside b).output output appends (keeps_front [] (d.beside b).output output h)))
+      (λ output h. subst (λ (l : List ℕ). AppendsPrefix l (d.beside a).output output) (append-nil bytes)
+      (prefix_then bytes [] (d.beside a).output (d.beside b).output output appends (keeps_prefix [] (d.beside b).output output h)))
 
   -- the bytes were given, and then more are
   pub talks_gives : {a b c : D} (bytes more : List ℕ) → Appends bytes (d.beside a).output (d.beside b).output → TalksAlone d bytes a b → GivesAlone d more b c →
       TalksAlone d (bytes ++ more) a c
-  talks_gives bytes more appends first second = talks_then bytes more appends (talks_front bytes more first) second.areas
+  talks_gives bytes more appends first second = talks_then bytes more appends (talks_prefix bytes more first) second.areas

@@ -6,8 +6,8 @@ abbrev pub Appends : List ℕ → Option (List ℕ) → Option (List ℕ) → Ty
 Appends bytes old new = IfSome new (λ now. (was : List ℕ) × (old ≡ Some was) × (now ≡ was ++ bytes))
 
 -- Where the output is still told, it has grown by a prefix of these bytes.
-abbrev pub AppendsFront : List ℕ → Option (List ℕ) → Option (List ℕ) → Type 0
-AppendsFront bytes old new = IfSome new (λ now. (was : List ℕ) × (n : ℕ) × (old ≡ Some was) × (now ≡ was ++ take n bytes))
+abbrev pub AppendsPrefix : List ℕ → Option (List ℕ) → Option (List ℕ) → Type 0
+AppendsPrefix bytes old new = IfSome new (λ now. (was : List ℕ) × (n : ℕ) × (old ≡ Some was) × (now ≡ was ++ take n bytes))
 
 -- Where the input is still told, these bytes were its first ones, and the others are left.
 abbrev pub Takes : List ℕ → Option (List ℕ) → Option (List ℕ) → Type 0

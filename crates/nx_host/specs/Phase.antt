@@ -1,7 +1,7 @@
 -- Phases of a run over a host: it takes from the input, or gives to the output, or both in turn. All of them leave the disk.
 use Rattle.std.specs.Prelude.{◌≡◌, ◌↔◌, ◌≤◌, ℕ, List, Option}
 use Rattle.nx_host.specs.Disk.{Image, Keeps}
-use Rattle.nx_host.specs.Host.{AppendsFront}
+use Rattle.nx_host.specs.Host.{AppendsPrefix}
 use Rattle.nx_host.specs.Time.{Elapses}
 use Rattle.nx_host.specs.declared.disk.Disk.{Ghosts}
 
@@ -17,7 +17,7 @@ pub record LeavesAreas {D : Type 0} (d : Ghosts D) (old new : D) (P : Option (Li
 
 -- From old to new the host was asked for input and given output alone, at every moment a prefix of these bytes.
 abbrev pub TalksAlone : {D : Type 0} → Ghosts D → List ℕ → D → D → Type 0
-TalksAlone d bytes old new = LeavesAreas d old new (AppendsFront bytes (d.beside old).output)
+TalksAlone d bytes old new = LeavesAreas d old new (AppendsPrefix bytes (d.beside old).output)
 
 -- From old to new the host was asked for input alone.
 pub record TakesAlone {D : Type 0} (d : Ghosts D) (old new : D) : Type 0 where

@@ -14,7 +14,7 @@ pub record IsStill {D : Type 0} (d : Ghosts D) (old new : D) : Type 0 where
   pub time : Elapses d.moment d.stood_since old new (λ s. Keeps (d.beside old).output s.output × d.may_leave old s.image)
 
 -- From old to new the areas alone were asked and written. Where the contents are still told, each image that stood has P.
-pub record Goes {D : Type 0} (d : Ghosts D) (old new : D) (P : Image → Type 0) : Type 0 where
+pub record WritesAlone {D : Type 0} (d : Ghosts D) (old new : D) (P : Image → Type 0) : Type 0 where
   pub told : IsSome (d.contents new) → IsSome (d.contents old)
   pub beside_stays : LeavesBeside (d.beside old) (d.beside new)
   pub faults_later : d.faults old ≤ d.faults new

@@ -1,7 +1,7 @@
 // A disk with input and output beside it.
 ghost use Rattle.std.specs.Prelude.{◌≡◌, ◌↔◌, ℕ, ◌+◌, ◌<◌, ◌≤◌, List, length, take, Option, Some, IfSome, IfOk, OnOk, OnErr};
 ghost use Rattle.nx_host.specs.Disk.{Image, Rose, Keeps};
-ghost use Rattle.nx_host.specs.Host.{Appends, AppendsFront, Takes, IsAtEnd};
+ghost use Rattle.nx_host.specs.Host.{Appends, AppendsPrefix, Takes, IsAtEnd};
 ghost use Rattle.nx_host.specs.Time.{Stood, Elapses};
 
 use crate::{Disk, Failed};
@@ -9,7 +9,7 @@ use crate::{Disk, Failed};
 /// A disk with an input and an output beside it. No call has an answer for want of memory.
 pub trait Host: Disk {
     /// Takes the first bytes of the input that is left, at most as many as the slice has, and gives
-    /// how many it wrote to the slice's front. 0 for a slice that isn't empty says that the input
+    /// how many it wrote to the slice's beginning. 0 for a slice that isn't empty says that the input
     /// has ended.
     ///
     /// Errors: `Failed`, only where `in_faults` rose. No byte of the input is taken then.
@@ -35,12 +35,12 @@ pub trait Host: Disk {
     /// the slice.
     fn emit(&mut self, bytes: &[u8]) -> Result<(), Failed>
         ensures ok { OnOk result (Appends bytes.now (Self.beside self.old).output (Self.beside self.new).output) }
-        ensures front { OnErr result (AppendsFront bytes.now (Self.beside self.old).output (Self.beside self.new).output) }
+        ensures prefix { OnErr result (AppendsPrefix bytes.now (Self.beside self.old).output (Self.beside self.new).output) }
         ensures input { (Self.beside self.new).input ≡ (Self.beside self.old).input }
         ensures contents { Keeps (Self.contents self.old) (Self.contents self.new) }
         ensures images { (i : Image) → Self.may_leave self.new i ↔ Self.may_leave self.old i }
         ensures time { Elapses Self.moment Self.stood_since self.old self.new
-            (λ s. AppendsFront bytes.now (Self.beside self.old).output s.output × Self.may_leave self.old s.image) }
+            (λ s. AppendsPrefix bytes.now (Self.beside self.old).output s.output × Self.may_leave self.old s.image) }
         ensures reads { Self.reads self.new ≡ Self.reads self.old }
         ensures faults { Self.faults self.new ≡ Self.faults self.old }
         ensures in_faults { (Self.beside self.new).in_faults ≡ (Self.beside self.old).in_faults }

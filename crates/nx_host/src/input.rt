@@ -29,7 +29,7 @@ pub enum InputError {
 /// in total.
 #[derive(Drop)]
 pub struct Input {
-    // The bytes that were taken last stand in its front.
+    // The bytes that were taken last stand at its beginning.
     buffer: Vec<u8>,
     // How many they are.
     len: usize,
@@ -112,7 +112,7 @@ impl Input {
     }
 }
 
-// Takes the next bytes of the input into the front of the buffer, at most as many as it has and there
+// Takes the next bytes of the input into the beginning of the buffer, at most as many as it has and there
 // is room for, and gives how many they were. 0 says that the input has ended.
 fn take_block<H: Host>(host: &mut H, buffer: &mut [u8], room: u64) -> Result<usize, Failed>
     requires buffer { 0 < length buffer.old }

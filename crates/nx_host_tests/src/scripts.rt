@@ -247,8 +247,8 @@ fn push(alloc: Global, text: &mut Bytes, command: &Command) -> Result<(), NoMemo
 }
 
 // The commands of a script of these bytes, the ones behind the others, that comes in pieces of so many.
-fn commands(alloc: Global, front: &[u8], back: &[u8], piece: usize) -> Result<Bytes, Fail> {
-    let mut input = Vec::from_slice(alloc, front)?;
+fn commands(alloc: Global, prefix: &[u8], back: &[u8], piece: usize) -> Result<Bytes, Fail> {
+    let mut input = Vec::from_slice(alloc, prefix)?;
     input.extend_from_slice(back)?;
     let mut host = DisklessHost::new(alloc, input, piece.max(1));
     let mut script = Script::new(alloc)?;
@@ -295,9 +295,9 @@ fn lines(rt: HostRuntime) -> Result<(), Fail> {
 #[test]
 fn lengths(rt: HostRuntime) -> Result<(), Fail> {
     let alloc = rt.alloc();
-    for (front, count, expected) in LENGTHS {
+    for (prefix, count, expected) in LENGTHS {
         let line = Vec::from_elem(alloc, b'9', count)?;
-        let text = commands(alloc, front, line.as_slice(), 65_536)?;
+        let text = commands(alloc, prefix, line.as_slice(), 65_536)?;
         assert_eq!(rt; text.len(), expected.saturating_add(1));
     }
     Ok(())

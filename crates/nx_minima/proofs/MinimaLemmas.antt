@@ -11,7 +11,8 @@ use Rattle.nx_choices.specs.declared.child.Child.{Child}
 use Rattle.nx_choices.specs.Choice.{Member, First, Second, Cell, Uncut, Interval, child_of, covered, IsAdmitted, count, left}
 use Rattle.nx_choices.specs.Least.{IsLeastChoice}
 use Rattle.nx_cuts.specs.Cut.{CutTree, tree_of, parts_of}
-use Rattle.nx_parts.specs.Minima.{IsLeast, IsMinima, AreMinimaOf, AreMinimaIn}
+use Rattle.nx_lists.specs.Least.{IsLeast}
+use Rattle.nx_parts.specs.Minima.{IsMinima, AreMinimaOf, AreMinimaIn}
 use Rattle.nx_minima.specs.Drawing.{forms, drawing, forest_under, Reaches, AreReached, IsReachable}
 use Rattle.nx_minima.specs.Seen.{as_child, seen, tops}
 use Rattle.nx_minima.specs.ChoiceLaw.{ChoicesAreReached, MinimaAreLeastChoices, DrawnIsLean, MinimaAreOne}

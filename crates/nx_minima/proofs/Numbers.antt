@@ -43,32 +43,32 @@ pub record Lowered (k : ℕ) (cells : List Cell) (claims : List Child) : Type 0 
 
 -- the same where the first interval isn't closed yet
 record Opened (k weight leaving most : ℕ) (claims : List Child) : Type 0 where
-  front : List Member
+  prefix : List Member
   behind : List Cell
-  covers : map child_of front ++ covered behind ≡ claims
-  weighs : interval_weight front ≤ weight
+  covers : map child_of prefix ++ covered behind ≡ claims
+  weighs : interval_weight prefix ≤ weight
   light : AreLight k behind
   leaves : left behind ≤ leaving
-  few : numbers_of front + intervals behind + numbers behind ≤ most
+  few : numbers_of prefix + intervals behind + numbers behind ≤ most
 
 abbrev closed : List Member → List Cell → List Cell
 closed [] cells = cells
 closed (member ∷ members) cells = Interval member members ∷ cells
 
-covered-closed : (front : List Member) (cells : List Cell) → covered (closed front cells) ≡ map child_of front ++ covered cells
+covered-closed : (prefix : List Member) (cells : List Cell) → covered (closed prefix cells) ≡ map child_of prefix ++ covered cells
 covered-closed [] cells = refl
 covered-closed (member ∷ members) cells = refl
 
-light-closed : (k : ℕ) (front : List Member) (cells : List Cell) → interval_weight front ≤ k → AreLight k cells → AreLight k (closed front cells)
+light-closed : (k : ℕ) (prefix : List Member) (cells : List Cell) → interval_weight prefix ≤ k → AreLight k cells → AreLight k (closed prefix cells)
 light-closed k [] cells weighs light = light
 light-closed k (member ∷ members) cells weighs light = (weighs, light)
 
-left-closed : (front : List Member) (cells : List Cell) → left (closed front cells) ≤ left cells
+left-closed : (prefix : List Member) (cells : List Cell) → left (closed prefix cells) ≤ left cells
 left-closed [] cells = omega arith
 left-closed (member ∷ members) cells = omega arith
 
-few-closed : (front : List Member) (cells : List Cell) →
-    intervals (closed front cells) + numbers (closed front cells) ≤ 1 + (numbers_of front + intervals cells + numbers cells)
+few-closed : (prefix : List Member) (cells : List Cell) →
+    intervals (closed prefix cells) + numbers (closed prefix cells) ≤ 1 + (numbers_of prefix + intervals cells + numbers cells)
 few-closed [] cells = omega arith
 few-closed (member ∷ members) cells = omega arith
 
@@ -78,17 +78,17 @@ extended : {k weight leaving most : ℕ} {claim actual : Child} {claims : List C
     Opened k (actual.lean + weight) leaving (actual.least + most) (claim ∷ claims)
 extended {claim = claim} true slight o (inl many) some =
     record {
-      front = [];
-      behind = Interval (First claim) [] ∷ closed o.front o.behind;
-      covers = ap (λ l. claim ∷ l) (covered-closed o.front o.behind ∙ o.covers);
+      prefix = [];
+      behind = Interval (First claim) [] ∷ closed o.prefix o.behind;
+      covers = ap (λ l. claim ∷ l) (covered-closed o.prefix o.behind ∙ o.covers);
       weighs = omega arith;
-      light = (omega (arith, true.light), light-closed _ o.front o.behind (omega (arith, o.weighs, slight)) o.light);
-      leaves = omega (arith, left-closed o.front o.behind, o.leaves);
-      few = omega (arith, few-closed o.front o.behind, o.few, many);
+      light = (omega (arith, true.light), light-closed _ o.prefix o.behind (omega (arith, o.weighs, slight)) o.light);
+      leaves = omega (arith, left-closed o.prefix o.behind, o.leaves);
+      few = omega (arith, few-closed o.prefix o.behind, o.few, many);
     }
 extended {claim = claim} true slight o (inr few) (inl some) =
     record {
-      front = Second claim ∷ o.front;
+      prefix = Second claim ∷ o.prefix;
       behind = o.behind;
       covers = ap (λ l. claim ∷ l) o.covers;
       weighs = omega (arith, true.nearly few, o.weighs);
@@ -98,7 +98,7 @@ extended {claim = claim} true slight o (inr few) (inl some) =
     }
 extended {claim = claim} true slight o (inr few) (inr none) =
     record {
-      front = First claim ∷ o.front;
+      prefix = First claim ∷ o.prefix;
       behind = o.behind;
       covers = ap (λ l. claim ∷ l) o.covers;
       weighs = omega (arith, true.lean none, o.weighs);
@@ -114,14 +114,14 @@ opened : (k : ℕ) (members : List Member) (cells : List Cell) (claims : List Ch
     Opened k (interval_weight members) (left cells) (numbers_of members + intervals cells + numbers cells) claims
 opened k [] cells claims first light true rest =
     let r = rest claims true in
-    record { front = []; behind = r.lowered; covers = r.covers; weighs = omega arith; light = r.light; leaves = r.leaves; few = omega (arith, r.few) }
+    record { prefix = []; behind = r.lowered; covers = r.covers; weighs = omega arith; light = r.light; leaves = r.leaves; few = omega (arith, r.few) }
 opened k (Second actual ∷ members) cells claims first light true rest = absurd first
 opened k (First actual ∷ members) cells [] first light true rest = absurd true
 opened k (First actual ∷ members) cells (claim ∷ claims) first light true rest =
     let o = opened k members cells claims first (omega (arith, light)) true.1 rest in
     let e = extended true.0 (omega (arith, light)) o
     (cases_lt (claim.least + 1) actual.least) (cases_lt claim.least actual.least) in
-    record { front = e.front; behind = e.behind; covers = e.covers; weighs = e.weighs; light = e.light; leaves = e.leaves; few = omega (arith, e.few) }
+    record { prefix = e.prefix; behind = e.behind; covers = e.covers; weighs = e.weighs; light = e.light; leaves = e.leaves; few = omega (arith, e.few) }
 
 -- an uncut child stays uncut, or becomes an interval of its own
 lowered_uncut : (k : ℕ) (claim actual : Child) (cells : List Cell) (claims : List Child) → IsTrueClaim k claim actual → Lowered k cells claims →
@@ -152,11 +152,11 @@ lowered_by_claims k (Uncut actual ∷ cells) (claim ∷ claims) first light true
 lowered_by_claims k (Interval member members ∷ cells) claims first light true =
     let o = opened k (member ∷ members) cells claims first.0 light.0 true (λ others t. lowered_by_claims k cells others first.1 light.1 t) in
     record {
-      lowered = closed o.front o.behind;
-      covers = covered-closed o.front o.behind ∙ o.covers;
-      light = light-closed k o.front o.behind (omega (arith, o.weighs, light.0)) o.light;
-      leaves = omega (arith, left-closed o.front o.behind, o.leaves);
-      few = omega (arith, few-closed o.front o.behind, o.few);
+      lowered = closed o.prefix o.behind;
+      covers = covered-closed o.prefix o.behind ∙ o.covers;
+      light = light-closed k o.prefix o.behind (omega (arith, o.weighs, light.0)) o.light;
+      leaves = omega (arith, left-closed o.prefix o.behind, o.leaves);
+      few = omega (arith, few-closed o.prefix o.behind, o.few);
     }
 
 pub length-claims : (k : ℕ) (claims actuals : List Child) → AreTrueClaims k claims actuals → length claims ≡ length actuals

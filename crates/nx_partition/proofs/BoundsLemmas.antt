@@ -22,17 +22,17 @@ enough k (Plant node below beside) [] m = absurd m
 enough k (Plant node below beside) (bound ∷ bounds) m =
     omega (arith, enough k below bounds m.1, enough k beside (drop (nodes below) bounds) m.2, length-drop (nodes below) bounds)
 
-pub drop_front : {X : Type 0} (n : ℕ) (xs ys : List X) → n ≤ length xs → drop n (xs ++ ys) ≡ drop n xs ++ ys
-drop_front zero xs ys h = refl
-drop_front (suc n) [] ys h = absurd (omega arith)
-drop_front (suc n) (x ∷ xs) ys h = drop_front n xs ys (omega arith)
+pub drop_prefix : {X : Type 0} (n : ℕ) (xs ys : List X) → n ≤ length xs → drop n (xs ++ ys) ≡ drop n xs ++ ys
+drop_prefix zero xs ys h = refl
+drop_prefix (suc n) [] ys h = absurd (omega arith)
+drop_prefix (suc n) (x ∷ xs) ys h = drop_prefix n xs ys (omega arith)
 
 -- others may come behind
 pub longer : (k : ℕ) (forest : Forest) (bounds others : List Bound) → AreMinimaIn k forest bounds → AreMinimaIn k forest (bounds ++ others)
 longer k Empty bounds others m = tt
 longer k (Plant node below beside) [] others m = absurd m
 longer k (Plant node below beside) (bound ∷ bounds) others m =
-    let e = drop_front (nodes below) bounds others (enough k below bounds m.1) in
+    let e = drop_prefix (nodes below) bounds others (enough k below bounds m.1) in
     (m.0, longer k below bounds others m.1, subst (AreMinimaIn k beside) (sym e) (longer k beside (drop (nodes below) bounds) others m.2))
 
 -- what the choices at a node require of the minima of its children

@@ -16,7 +16,7 @@ seen_start forest below list none = record { all = ap (λ l. l ++ seen (tops for
 
 pub seen_more : {forest rest : Forest} {below : List Bound} {next : ℕ} {list more : List Child} (t : OrderedTree) (n : ℕ) (bound : Bound) → IsSeen forest (Plant t.node t.below rest) below next list
     → drop next below ≡ bound ∷ drop (next + 1) below → n ≡ 1 + nodes t.below → more ≡ list ++ as_child bound ∷ [] → IsSeen forest rest below (next + n) more
-seen_more {forest} {rest} {below} {next} {list} {more} t n bound w front is push =
+seen_more {forest} {rest} {below} {next} {list} {more} t n bound w prefix is push =
     let jump : drop (nodes t.below) (drop (next + 1) below) ≡ drop (next + n) below =
     drop-drop (nodes t.below) (next + 1) below ∙ ap (λ m. drop m below) (let e : next + 1 + nodes t.below ≡ next + n = omega (arith, is) in e) in
     record {
@@ -24,7 +24,7 @@ seen_more {forest} {rest} {below} {next} {list} {more} t n bound w front is push
           ap (λ l. l ++ seen (tops rest (drop (next + n) below))) push
           ∙ append_assoc list (as_child bound ∷ []) (seen (tops rest (drop (next + n) below)))
           ∙ sym (ap (λ bs. list ++ as_child bound ∷ seen (tops rest bs)) jump)
-          ∙ sym (ap (λ bs. list ++ seen (tops (Plant t.node t.below rest) bs)) front)
+          ∙ sym (ap (λ bs. list ++ seen (tops (Plant t.node t.below rest) bs)) prefix)
           ∙ w.all;
       left = omega (arith, w.left, is);
     }

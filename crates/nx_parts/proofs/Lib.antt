@@ -6,3 +6,4 @@ pub mod MarkLemmas
 pub mod MemberLemmas
 pub mod WalkLemmas
 pub mod FeasibleLemmas
+pub mod MinimaLemmas

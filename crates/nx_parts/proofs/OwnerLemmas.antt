@@ -9,14 +9,14 @@ use Rattle.nx_tree.specs.declared.node.Node.{Node}
 use Rattle.nx_tree.specs.Forest.{OrderedTree, Forest, Empty, Plant}
 use Rattle.nx_weights.specs.Weight.{weight, listed_in}
 use Rattle.nx_parts.specs.declared.interval.Interval.{Interval}
-use Rattle.nx_parts.specs.Partitioning.{holder, fronts, owner, owns, part_weight}
+use Rattle.nx_parts.specs.Partitioning.{holder, prefixes, owner, owns, part_weight}
 use Rattle.nx_parts.proofs.Owned.{is_place, owned}
 
-fronts-longer : (path : List ℕ) (position : ℕ) → fronts (path ++ position ∷ []) ≡ fronts path ++ (path ++ position ∷ []) ∷ []
-fronts-longer [] position = refl
-fronts-longer (step ∷ path) position =
-    ap (λ fs. [] ∷ map (λ front. step ∷ front) fs) (fronts-longer path position)
-    ∙ ap (λ fs. [] ∷ fs) (map-append (λ front. step ∷ front) (fronts path) ((path ++ position ∷ []) ∷ []))
+prefixes-longer : (path : List ℕ) (position : ℕ) → prefixes (path ++ position ∷ []) ≡ prefixes path ++ (path ++ position ∷ []) ∷ []
+prefixes-longer [] position = refl
+prefixes-longer (step ∷ path) position =
+    ap (λ fs. [] ∷ map (λ prefix. step ∷ prefix) fs) (prefixes-longer path position)
+    ∙ ap (λ fs. [] ∷ fs) (map-append (λ prefix. step ∷ prefix) (prefixes path) ((path ++ position ∷ []) ∷ []))
 
 last_or_one : (o q : Option ℕ) → last_or o (cons_option q []) ≡ option_or q o
 last_or_one o None = refl
@@ -29,9 +29,9 @@ last_or-push o q (x ∷ xs) = last_or-push (Some x) q xs
 -- the owner of a child is the interval that has it as a member, or else its parent's
 pub owner-longer : (parts : List Interval) (path : List ℕ) (position : ℕ) → owner parts (path ++ position ∷ []) ≡ option_or (holder parts (path ++ position ∷ [])) (owner parts path)
 owner-longer parts path position =
-    ap (λ fs. last_or None (filter_map (holder parts) fs)) (fronts-longer path position)
-    ∙ ap (last_or None) (filter_map-append (holder parts) (fronts path) ((path ++ position ∷ []) ∷ []))
-    ∙ last_or-push None (holder parts (path ++ position ∷ [])) (filter_map (holder parts) (fronts path))
+    ap (λ fs. last_or None (filter_map (holder parts) fs)) (prefixes-longer path position)
+    ∙ ap (last_or None) (filter_map-append (holder parts) (prefixes path) ((path ++ position ∷ []) ∷ []))
+    ∙ last_or-push None (holder parts (path ++ position ∷ [])) (filter_map (holder parts) (prefixes path))
 
 option_or-None : (o : Option ℕ) → option_or o None ≡ o
 option_or-None None = refl

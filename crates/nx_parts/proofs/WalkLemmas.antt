@@ -11,7 +11,7 @@ use Rattle.nx_weights.proofs.SumLemmas.{tree_weight_most}
 use Rattle.nx_parts.specs.declared.interval.Interval.{Interval}
 use Rattle.nx_parts.specs.declared.marks.Mark.{Mark, out-Mark}
 use Rattle.nx_parts.specs.Partitioning.{holder, part_weight, part_weights}
-use Rattle.nx_parts.specs.Marks.{marked, marked_in, standing, owed}
+use Rattle.nx_parts.specs.Marks.{marked, marked_in, holder_by_marks, owed}
 use Rattle.nx_parts.proofs.Owned.{is_place, owned}
 use Rattle.nx_parts.proofs.OwnerLemmas.{part_weight-walk}
 use Rattle.nx_parts.proofs.OwedLemmas.{at_most_one, owed-total, owed-same, owed-owned}
@@ -21,7 +21,7 @@ pub record OwedSoFar (marks : List Mark) (above i : ℕ) (old now : List ℕ) (t
   pub len : length now ≡ length old
   pub short : AreShort (forest_of (drop i ts))
   pub room : (index : ℕ) → index < length old → get_or now index 0 + total (forest_of (drop i ts)) ≤ get_or old index 0 + total (forest_of ts)
-  pub sums : (index : ℕ) → index < length old → get_or now index 0 + owed (standing marks) index above i (forest_of (drop i ts)) ≡ get_or old index 0 + owed (standing marks) index above 0 (forest_of ts)
+  pub sums : (index : ℕ) → index < length old → get_or now index 0 + owed (holder_by_marks marks) index above i (forest_of (drop i ts)) ≡ get_or old index 0 + owed (holder_by_marks marks) index above 0 (forest_of ts)
 
 pub owed-start : (marks : List Mark) (above : ℕ) (old : List ℕ) (ts : List OrderedTree) → AreShort (forest_of ts) → OwedSoFar marks above 0 old old ts
 owed-start marks above old ts h = record { len = refl; short = h; room = λ index lt. omega arith; sums = λ index lt. refl }
@@ -90,7 +90,7 @@ module _ (marks : List Mark) (above i : ℕ) (old now : List ℕ) (ts : List Ord
         omega arith
 
     pub owed-more : (below : List Mark) (items : List OrderedTree) (after : List ℕ) → ((p : ℕ) (path : List ℕ) → marked_in below p path ≡ marked_in marks i (p ∷ path)) → forest_of items ≡ t.below → length after ≡ length mid
-        → ((index : ℕ) → index < length mid → get_or after index 0 ≡ get_or mid index 0 + owed (standing below) index owner 0 (forest_of items)) → OwedSoFar marks above (i + 1) old after ts
+        → ((index : ℕ) → index < length mid → get_or after index 0 ≡ get_or mid index 0 + owed (holder_by_marks below) index owner 0 (forest_of items)) → OwedSoFar marks above (i + 1) old after ts
     owed-more below items after same is_below len h = record {
       len = len ∙ mid_length;
       short = child_short.2;
@@ -100,7 +100,7 @@ module _ (marks : List Mark) (above i : ℕ) (old now : List ℕ) (ts : List Ord
           let r = s.room index lt in
           let l = left in
           let a = at_child index lt in
-          let o = owed-total (λ path. standing marks (i ∷ path)) index owner 0 t.below in
+          let o = owed-total (λ path. holder_by_marks marks (i ∷ path)) index owner 0 t.below in
           omega arith;
       sums = λ index lt.
           let m = mid_at index in
@@ -110,24 +110,24 @@ module _ (marks : List Mark) (above i : ℕ) (old now : List ℕ) (ts : List Ord
           omega arith;
     }
       where
-        at_child : (index : ℕ) → index < length old → get_or after index 0 ≡ get_or mid index 0 + owed (λ path. standing marks (i ∷ path)) index owner 0 t.below
+        at_child : (index : ℕ) → index < length old → get_or after index 0 ≡ get_or mid index 0 + owed (λ path. holder_by_marks marks (i ∷ path)) index owner 0 t.below
         at_child index lt =
             let n = mid_length in
             h index (omega arith)
             ∙ ap (λ (x : ℕ). get_or mid index 0 + x)
-            (owed-same (standing below) (λ path. standing marks (i ∷ path)) index owner 0 (forest_of items) same
-            ∙ ap (λ (f : Forest). owed (λ path. standing marks (i ∷ path)) index owner 0 f) is_below)
+            (owed-same (holder_by_marks below) (λ path. holder_by_marks marks (i ∷ path)) index owner 0 (forest_of items) same
+            ∙ ap (λ (f : Forest). owed (λ path. holder_by_marks marks (i ∷ path)) index owner 0 f) is_below)
 
-        parted : (index : ℕ) → owed (standing marks) index above i (forest_of (drop i ts)) ≡ (if owner == index then w else 0) + owed (λ path. standing marks (i ∷ path)) index owner 0 t.below + owed (standing marks) index above (i + 1) rest
+        parted : (index : ℕ) → owed (holder_by_marks marks) index above i (forest_of (drop i ts)) ≡ (if owner == index then w else 0) + owed (λ path. holder_by_marks marks (i ∷ path)) index owner 0 t.below + owed (holder_by_marks marks) index above (i + 1) rest
         parted index =
-            ap (owed (standing marks) index above i) split
-            ∙ ap (λ (o : ℕ). (if o == index then weight t.node else 0) + owed (λ path. standing marks (i ∷ path)) index o 0 t.below + owed (standing marks) index above (i + 1) rest) (sym own)
-            ∙ ap (λ (x : ℕ). (if owner == index then x else 0) + owed (λ path. standing marks (i ∷ path)) index owner 0 t.below + owed (standing marks) index above (i + 1) rest) (sym is)
+            ap (owed (holder_by_marks marks) index above i) split
+            ∙ ap (λ (o : ℕ). (if o == index then weight t.node else 0) + owed (λ path. holder_by_marks marks (i ∷ path)) index o 0 t.below + owed (holder_by_marks marks) index above (i + 1) rest) (sym own)
+            ∙ ap (λ (x : ℕ). (if owner == index then x else 0) + owed (λ path. holder_by_marks marks (i ∷ path)) index owner 0 t.below + owed (holder_by_marks marks) index above (i + 1) rest) (sym is)
 
-pub owed-end : (marks : List Mark) (above i : ℕ) (old now : List ℕ) (ts : List OrderedTree) → OwedSoFar marks above i old now ts → drop i ts ≡ [] → (index : ℕ) → index < length old → get_or now index 0 ≡ get_or old index 0 + owed (standing marks) index above 0 (forest_of ts)
+pub owed-end : (marks : List Mark) (above i : ℕ) (old now : List ℕ) (ts : List OrderedTree) → OwedSoFar marks above i old now ts → drop i ts ≡ [] → (index : ℕ) → index < length old → get_or now index 0 ≡ get_or old index 0 + owed (holder_by_marks marks) index above 0 (forest_of ts)
 owed-end marks above i old now ts s e index lt =
     let q = s.sums index lt in
-    let z : owed (standing marks) index above i (forest_of (drop i ts)) ≡ 0 = ap (λ (xs : List OrderedTree). owed (standing marks) index above i (forest_of xs)) e in
+    let z : owed (holder_by_marks marks) index above i (forest_of (drop i ts)) ≡ 0 = ap (λ (xs : List OrderedTree). owed (holder_by_marks marks) index above i (forest_of xs)) e in
     omega arith
 
 zeros_at : (n k : ℕ) → ◌≡◌ {A = ℕ} (get_or (replicate n 0) k 0) 0
@@ -156,20 +156,20 @@ written_over new old n len is =
     ap (λ (xs : List ℕ). take n (new ++ xs)) (drop_all (length new) old (omega arith)) ∙ ap (take n) (append-nil new) ∙ take_all n new (omega arith)
 
 pub whole_sums : (tree : OrderedTree) (zeros begun new : List ℕ) (marks : List Mark) (below : List Mark) (ts : List OrderedTree) (n len owner w index : ℕ) → zeros ≡ replicate n 0 → owner < length zeros → w ≡ weight tree.node → begun ≡ slice_set zeros owner w → forest_of ts ≡ tree.below → below ≡ marks
-    → length new ≡ length begun → len ≡ length zeros → get_or new index 0 ≡ get_or begun index 0 + owed (standing below) index owner 0 (forest_of ts)
-    → get_or (take len (new ++ drop (length new) (slice_set zeros owner w))) index 0 ≡ (if owner == index then weight tree.node else 0) + owed (standing marks) index owner 0 tree.below
+    → length new ≡ length begun → len ≡ length zeros → get_or new index 0 ≡ get_or begun index 0 + owed (holder_by_marks below) index owner 0 (forest_of ts)
+    → get_or (take len (new ++ drop (length new) (slice_set zeros owner w))) index 0 ≡ (if owner == index then weight tree.node else 0) + owed (holder_by_marks marks) index owner 0 tree.below
 whole_sums tree zeros begun new marks below ts n len owner w index zs within is e f m l k h =
     let count = length_sums zeros owner w in
     let same = ap length e in
     ap (λ (xs : List ℕ). get_or xs index 0) (written_over new (slice_set zeros owner w) len (omega arith) (omega arith))
     ∙ h
-    ∙ ap (λ (x : ℕ). x + owed (standing below) index owner 0 (forest_of ts)) (ap (λ (xs : List ℕ). get_or xs index 0) e ∙ root_sum zeros n owner w index zs within ∙ ap (λ (x : ℕ). if owner == index then x else 0) is)
-    ∙ ap (λ (x : Forest). (if owner == index then weight tree.node else 0) + owed (standing below) index owner 0 x) f
-    ∙ ap (λ (xs : List Mark). (if owner == index then weight tree.node else 0) + owed (standing xs) index owner 0 tree.below) m
+    ∙ ap (λ (x : ℕ). x + owed (holder_by_marks below) index owner 0 (forest_of ts)) (ap (λ (xs : List ℕ). get_or xs index 0) e ∙ root_sum zeros n owner w index zs within ∙ ap (λ (x : ℕ). if owner == index then x else 0) is)
+    ∙ ap (λ (x : Forest). (if owner == index then weight tree.node else 0) + owed (holder_by_marks below) index owner 0 x) f
+    ∙ ap (λ (xs : List Mark). (if owner == index then weight tree.node else 0) + owed (holder_by_marks xs) index owner 0 tree.below) m
 
 -- what the sums are after the walk over the whole tree
 pub weights_of : (tree : OrderedTree) (parts : List Interval) (root : Mark) (owner : ℕ) (sums : List ℕ) → ((path : List ℕ) → marked root path ≡ holder parts path) → (out-Mark root).holder ≡ Some owner → length sums ≡ length parts
-    → ((index : ℕ) → index < length parts → get_or sums index 0 ≡ (if owner == index then weight tree.node else 0) + owed (standing (out-Mark root).below.items) index owner 0 tree.below) → sums ≡ part_weights tree parts
+    → ((index : ℕ) → index < length parts → get_or sums index 0 ≡ (if owner == index then weight tree.node else 0) + owed (holder_by_marks (out-Mark root).below.items) index owner 0 tree.below) → sums ≡ part_weights tree parts
 weights_of tree parts root owner sums marks own len h = fill_by_all (part_weight tree parts) sums (length parts) 0 len pointwise
   where
     held : holder parts [] ≡ Some owner
@@ -178,7 +178,7 @@ weights_of tree parts root owner sums marks own len h = fill_by_all (part_weight
     pointwise : (k : ℕ) → k < length parts → get_or sums k 0 ≡ part_weight tree parts k
     pointwise k lt =
         let a = h k lt in
-        let o : owed (standing (out-Mark root).below.items) k owner 0 tree.below ≡ owned parts k (Some owner) [] 0 tree.below = owed-owned parts (standing (out-Mark root).below.items) k owner [] 0 tree.below (λ p rest. marks (p ∷ rest)) in
+        let o : owed (holder_by_marks (out-Mark root).below.items) k owner 0 tree.below ≡ owned parts k (Some owner) [] 0 tree.below = owed-owned parts (holder_by_marks (out-Mark root).below.items) k owner [] 0 tree.below (λ p rest. marks (p ∷ rest)) in
         let p = part_weight-walk tree parts k in
         let q : (if is_place k (holder parts []) then weight tree.node else 0) ≡ (if owner == k then weight tree.node else 0) = ap (λ (x : Option ℕ). if is_place k x then weight tree.node else 0) held in
         let r : owned parts k (holder parts []) [] 0 tree.below ≡ owned parts k (Some owner) [] 0 tree.below = ap (λ (x : Option ℕ). owned parts k x [] 0 tree.below) held in

@@ -44,9 +44,9 @@ IsOverlap parts NoRoot = ⊥
 IsOverlap parts (Heavy index slots) = ⊥
 
 -- the interval that holds the node at the path, whose first step is to one of these
-abbrev pub standing : List Mark → List ℕ → Option ℕ
-standing marks [] = None
-standing marks (position ∷ path) = marked_in marks position path
+abbrev pub holder_by_marks : List Mark → List ℕ → Option ℕ
+holder_by_marks marks [] = None
+holder_by_marks marks (position ∷ path) = marked_in marks position path
 
 -- what the interval at this place of the list owns of a forest that begins at a position below a node that `above` owns, where `holder` says which interval holds a node, by its path from there
 abbrev pub owed : (List ℕ → Option ℕ) → ℕ → ℕ → ℕ → Forest → ℕ

@@ -42,14 +42,14 @@ pub record IsPartitioning (tree : OrderedTree) (parts : List Interval) : Type 0 
 abbrev pub holder : List Interval → List ℕ → Option ℕ
 holder parts path = position (λ interval. has_member interval path) parts
 
--- the fronts of a path: the empty one first, the whole path last
-abbrev pub fronts : List ℕ → List (List ℕ)
-fronts [] = [] ∷ []
-fronts (step ∷ path) = [] ∷ map (λ front. step ∷ front) (fronts path)
+-- the prefixes of a path: the empty one first, the whole path last
+abbrev pub prefixes : List ℕ → List (List ℕ)
+prefixes [] = [] ∷ []
+prefixes (step ∷ path) = [] ∷ map (λ prefix. step ∷ prefix) (prefixes path)
 
 -- the interval that owns the node at the path: the one of its nearest member, upwards from the node itself
 abbrev pub owner : List Interval → List ℕ → Option ℕ
-owner parts path = last_or None (filter_map (holder parts) (fronts path))
+owner parts path = last_or None (filter_map (holder parts) (prefixes path))
 
 abbrev pub owns : List Interval → ℕ → List ℕ → Bool
 owns parts index path = option_map_or (λ place. place == index) (owner parts path) false

@@ -5,7 +5,7 @@ ghost use Rattle.nx_tree.specs.Forest.{forest_of};
 ghost use Rattle.nx_weights.specs.Weight.{AreShort, total, weight};
 ghost use Rattle.nx_parts.specs.Partitioning.{IsPartitioning, IsFeasible, part_weights};
 ghost use Rattle.nx_parts.specs.Refusal.{IsNoPartitioning, IsNotFeasible};
-ghost use Rattle.nx_parts.specs.Marks.{marked_in, standing, owed};
+ghost use Rattle.nx_parts.specs.Marks.{marked_in, holder_by_marks, owed};
 ghost use Rattle.nx_parts.specs.declared.marks.Mark.{out-Mark};
 
 use crate::check::{first_above, first_outside};
@@ -92,7 +92,7 @@ fn sum_owned(
     requires owner { owner < count }
     requires marks { (position : ℕ) (path : List ℕ) (place : ℕ) → marked_in (out-Mark root.now).below.items position path ≡ Some place → place < count }
     ensures len { IfOk result (λ sums. length sums.items ≡ count) }
-    ensures sums { IfOk result (λ sums. (index : ℕ) → index < count → slice_index sums.items index ≡ (if owner == index then weight tree.now.node else 0) + owed (standing (out-Mark root.now).below.items) index owner 0 tree.now.below) }
+    ensures sums { IfOk result (λ sums. (index : ℕ) → index < count → slice_index sums.items index ≡ (if owner == index then weight tree.now.node else 0) + owed (holder_by_marks (out-Mark root.now).below.items) index owner 0 tree.now.below) }
     ensures err { IfErr result (λ error. error ≡ PartsError.Memory) }
 {
     let mut sums = vec![in alloc; 0u64; count]?;
@@ -113,7 +113,7 @@ fn add_owned(children: &[Tree], marks: &[Mark], above: u32, sums: &mut [u64])
     requires above { above < length sums.old }
     requires marks { (position : ℕ) (path : List ℕ) (place : ℕ) → marked_in marks.now position path ≡ Some place → place < length sums.old }
     requires room { (index : ℕ) → index < length sums.old → slice_index sums.old index + total (forest_of children.now) < 2 ^ 64 }
-    ensures { (index : ℕ) → index < length sums.old → slice_index sums.new index ≡ slice_index sums.old index + owed (standing marks.now) index above 0 (forest_of children.now) }
+    ensures { (index : ℕ) → index < length sums.old → slice_index sums.new index ≡ slice_index sums.old index + owed (holder_by_marks marks.now) index above 0 (forest_of children.now) }
 {
     for (position, child) in children.iter().enumerate() {
         let owner = holder_in(marks, position).unwrap_or(above);

@@ -18,10 +18,10 @@ use Rattle.nx_pyx.specs.declared.builder.Builder.{Builder}
 use Rattle.nx_pyx.specs.Event.{Event, Start, End, Single, events, event_of}
 use Rattle.nx_pyx.specs.Fault.{Standing, after, attributes_after, standing, events_of, line_fault, first_fault, fault_at, refusal, is_outside, is_innermost, end_fault, fault_at_end}
 use Rattle.nx_pyx.specs.Builder.{level_events, open_names_over, IsBuilt, AreLevels, standing_at, standing_of, IsMade, Knows, HasBuilt, Makes, Refuses, Fails}
-use Rattle.nx_pyx.proofs.Running.{sound_goes}
-use Rattle.nx_pyx.proofs.Said.{events_single, document_from_goes}
+use Rattle.nx_pyx.proofs.GoesLemmas.{sound_goes}
+use Rattle.nx_pyx.proofs.DocumentLemmas.{events_single, document_from_goes}
 use Rattle.nx_pyx.proofs.Built.{forest_from_goes}
-use Rattle.nx_pyx.proofs.Shown.{first_fault-append}
+use Rattle.nx_pyx.proofs.ShownFaultLemmas.{first_fault-append}
 use Rattle.nx_pyx.proofs.EventLemmas.{events-planted, IsBuilt-planted, standing-more, events_of-append, first_fault-next, first_fault-one}
 
 pub level_events-more : (levels : List Level) (l : Level) → level_events (levels ++ l ∷ []) ≡ level_events levels ++ events l.before ++ Start l.name ∷ []

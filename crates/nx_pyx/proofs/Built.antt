@@ -16,8 +16,8 @@ use Rattle.nx_tree.specs.Document.{is_element, is_attribute, attribute_names, Ha
 use Rattle.nx_pyx.specs.Builder.{IsBuilt}
 use Rattle.nx_pyx.specs.Event.{Event, Start, End, Single, event_of, events}
 use Rattle.nx_pyx.specs.Fault.{Standing, at_first, attributes_after, standing, is_among, first_fault}
-use Rattle.nx_pyx.proofs.Running.{Goes, unrefused, sound_goes}
-use Rattle.nx_pyx.proofs.Said.{within, outside, kind_cases, events_element, events_single, AreNew, Suits, SuitsBy, leads_outside, said_events}
+use Rattle.nx_pyx.proofs.GoesLemmas.{Goes, unrefused, sound_goes}
+use Rattle.nx_pyx.proofs.DocumentLemmas.{within, outside, kind_cases, events_element, events_single, AreNew, Suits, SuitsBy, leads_outside, said_events}
 
 -- names that differ from those so far and from each other are distinct, and none is among those so far
 pub AreNew_parts : (names more : List (List ℕ)) → AreNew names more → AreDistinct more × ((name : List ℕ) → Contains more name → is_among name names ≡ false)

@@ -11,7 +11,7 @@ use Rattle.nx_pyx.specs.declared.error.PyxFault.TheVariants.{LongLine, BadName, 
 use Rattle.nx_pyx.specs.Event.{Event, Start, End, Single, events, event_of}
 use Rattle.nx_pyx.specs.Fault.{Standing, at_first, after, standing, events_of, line_fault, first_fault, fault_at, refusal, is_long, is_misnamed, is_misplaced, is_late, is_repeated, is_deep, is_surplus}
 use Rattle.nx_pyx.specs.Builder.{IsBuilt}
-use Rattle.nx_pyx.proofs.Running.{refusal_by}
+use Rattle.nx_pyx.proofs.GoesLemmas.{refusal_by}
 
 -- the events of a forest with one more tree
 pub events-planted : (f : Forest) (t : OrderedTree) → events (planted f t) ≡ events f ++ events (Plant t.node t.below forest.Empty)

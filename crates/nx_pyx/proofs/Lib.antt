@@ -1,7 +1,7 @@
-pub mod Running
-pub mod Said
+pub mod GoesLemmas
+pub mod DocumentLemmas
 pub mod Reading
-pub mod Shown
+pub mod ShownFaultLemmas
 pub mod Sizes
 pub mod Early
 pub mod Built
@@ -15,7 +15,7 @@ pub mod UnescapeLemmas
 pub mod NamesLemmas
 pub mod StreamLemmas
 pub mod EarlyLemmas
-pub mod Room
+pub mod HasRoomLemmas
 pub mod Outcome
 pub mod Open
 pub mod DoneLemmas

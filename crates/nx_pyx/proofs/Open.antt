@@ -17,7 +17,7 @@ use Rattle.nx_pyx.specs.Event.{Event, Start, End, Single, events}
 use Rattle.nx_pyx.specs.Fault.{Standing, at_first, after, attributes_after, standing, makes_node, events_of, first_fault}
 use Rattle.nx_pyx.specs.Open.{OpenAre, is_start, EndWithAttributes}
 use Rattle.nx_pyx.specs.Builder.{level_events, open_names_over}
-use Rattle.nx_pyx.proofs.Said.{kind_cases, events_element, events_single}
+use Rattle.nx_pyx.proofs.DocumentLemmas.{kind_cases, events_element, events_single}
 use Rattle.nx_pyx.proofs.EventLemmas.{standing-more}
 use Rattle.nx_pyx.proofs.Outcome.{form_of}
 

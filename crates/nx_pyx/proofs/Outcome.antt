@@ -19,8 +19,8 @@ use Rattle.nx_pyx.specs.Fault.{Standing, attributes_after, standing, is_text, re
 use Rattle.nx_pyx.specs.Reading.{Reads}
 use Rattle.nx_pyx.specs.Outcome.{HasOneReading, HasOneFault}
 use Rattle.nx_pyx.specs.Builder.{level_events, standing_at, IsMade}
-use Rattle.nx_pyx.proofs.Running.{Goes, Passes, unrefused, sound_goes}
-use Rattle.nx_pyx.proofs.Said.{document_from_goes, no_fault}
+use Rattle.nx_pyx.proofs.GoesLemmas.{Goes, Passes, unrefused, sound_goes}
+use Rattle.nx_pyx.proofs.DocumentLemmas.{document_from_goes, no_fault}
 use Rattle.nx_pyx.proofs.Built.{forest_from_goes}
 use Rattle.nx_pyx.proofs.Reading.{one_reading}
 use Rattle.nx_pyx.proofs.EventLemmas.{standing-more}

@@ -8,7 +8,7 @@ use Rattle.nx_tree.specs.Forest.{OrderedTree, Forest, Plant}
 use Rattle.nx_tree.specs.Document.{IsDocument, is_element, HasParts, IsForest}
 use Rattle.nx_pyx.specs.Event.{Event, Start, End, Single, events}
 use Rattle.nx_pyx.specs.Reading.{Reads}
-use Rattle.nx_pyx.proofs.Said.{kind_cases, events_element, events_single, nothing_below, same_events}
+use Rattle.nx_pyx.proofs.DocumentLemmas.{kind_cases, events_element, events_single, nothing_below, same_events}
 
 -- no event, or an element's end first
 abbrev pub Closes : List Event → Type 0

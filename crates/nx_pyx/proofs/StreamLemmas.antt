@@ -12,8 +12,8 @@ use Rattle.nx_pyx.specs.Fault.{first_fault, shown_fault, early_fault, fault_at, 
 use Rattle.nx_pyx.specs.Builder.{HasBuilt, Fails}
 use Rattle.nx_pyx.specs.Reader.{HasRead, HasRoom}
 use Rattle.nx_pyx.specs.Lines.{Pieces, prepend, cut, without_cr, last_line, ended_lines, lines, has_lf, EndsLine}
-use Rattle.nx_pyx.proofs.Shown.{onto, cut-append, cut-rest, first_fault-append, fault_shows}
-use Rattle.nx_pyx.proofs.Said.{no_fault}
+use Rattle.nx_pyx.proofs.ShownFaultLemmas.{onto, cut-append, cut-rest, first_fault-append, fault_shows}
+use Rattle.nx_pyx.proofs.DocumentLemmas.{no_fault}
 use Rattle.nx_pyx.proofs.Reading.{one_reading}
 use Rattle.nx_pyx.specs.Reading.{Reads}
 use Rattle.nx_tree.specs.Forest.{OrderedTree}

@@ -65,10 +65,10 @@ laid_written g end was now whole at low writes =
     let gate = at.closed refl in
     let w : Written (end + 1) bytes was.log now.log = writes.here in
     let least : min (end + 1) (length was.log) ≡ end + 1 = let here : end < length was.log = gate.0 in omega (arith, here) in
-    let front : take (end + 1) now.log ≡ take (end + 1) was.log = rw least at w.before in
+    let prefix : take (end + 1) now.log ≡ take (end + 1) was.log = rw least at w.before in
     let long : end < length now.log = let here : end < length was.log = gate.0 in let l = w.long in omega (arith, here, l) in
     let byte : get_or now.log end 0 ≡ get_or was.log end 0 =
-    sym (get_or-take (end + 1) now.log end 0 (omega arith)) ∙ ap (λ (x : List ℕ). get_or x end 0) front ∙ get_or-take (end + 1) was.log end 0 (omega arith) in
+    sym (get_or-take (end + 1) now.log end 0 (omega arith)) ∙ ap (λ (x : List ℕ). get_or x end 0) prefix ∙ get_or-take (end + 1) was.log end 0 (omega arith) in
     let rest = drop (end + 1 + length bytes) now.log in
     let here_now : end ≡ end_of (groups now.log) = at.here ∙ ap end_of (sym same.log) in
     let split : (group_bytes g ++ 0 ∷ []) ++ rest ≡ group_bytes g ++ 0 ∷ rest = append_assoc (group_bytes g) (0 ∷ []) rest in

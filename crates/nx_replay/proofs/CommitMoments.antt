@@ -4,10 +4,10 @@ use Rattle.std.specs.Prelude.{Some, IsSome}
 use Rattle.nx_host.specs.declared.disk.Area.TheVariants.{Log}
 use Rattle.nx_host.specs.Disk.{Image, ComesTorn, WritesTo}
 use Rattle.nx_host.specs.declared.disk.Disk.{Ghosts}
-use Rattle.nx_host.specs.Still.{Goes, IsSettled}
+use Rattle.nx_host.specs.Still.{WritesAlone, IsSettled}
 use Rattle.nx_replay.specs.Log.{Group, size_of, groups, group_bytes, end_of, IsAtEnd, HasGroup, HasSame}
 use Rattle.nx_replay.specs.Commit.{IsOpened, IsBody, IsStaged, IsLaid}
-use Rattle.nx_host.proofs.DiskLemmas.{goes_then, goes_weaker}
+use Rattle.nx_host.proofs.DiskLemmas.{written_alone_then, written_alone_weaker}
 use Rattle.nx_replay.proofs.SettledLemmas.{some_of, is_some, from_settled}
 use Rattle.nx_replay.proofs.CommitLemmas.{shut_torn, shut_written, laid_torn, laid_written, opened_torn, opened_written}
 use Rattle.nx_replay.proofs.StepLemmas as steps
@@ -30,9 +30,9 @@ at_end_of end g log at s = record {
 }
 
 module _ {D : Type 0} {d : Ghosts D} {old new : D} (end : ℕ) where
-  pub shut_goes : (shut : Bool) → shut ≡ false → Goes d old new (ComesTorn Log end 1 (d.may_leave old))
-      → Goes d old new (λ i. (was : Image) → IsOpened d end shut old was → HasSame was i)
-  shut_goes shut is goes = goes_weaker goes (λ told i torn was opened.
+  pub shut_goes : (shut : Bool) → shut ≡ false → WritesAlone d old new (ComesTorn Log end 1 (d.may_leave old))
+      → WritesAlone d old new (λ i. (was : Image) → IsOpened d end shut old was → HasSame was i)
+  shut_goes shut is goes = written_alone_weaker goes (λ told i torn was opened.
       shut_torn end was i (subst (λ s. IsAtEnd end s was.log) is opened.at) opened.low (from_settled Log end 1 opened.settled torn))
 
   pub shut_done : {was now : Image} (shut : Bool) → shut ≡ false → IsOpened d end shut old was → WritesTo Log end (0 ∷ []) was now → IsSettled d new now
@@ -41,8 +41,8 @@ module _ {D : Type 0} {d : Ghosts D} {old new : D} (end : ℕ) where
       let done = shut_written end was now (subst (λ s. IsAtEnd end s was.log) is opened.at) opened.low writes in
       (done.0, record { settled = settled; at = done.1; low = opened.low })
 
-  pub laid_goes : (n : ℕ) → Goes d old new (ComesTorn Log (end + 1) n (d.may_leave old)) → Goes d old new (λ i. (was : Image) → IsOpened d end true old was → HasSame was i)
-  laid_goes n goes = goes_weaker goes (λ told i torn was opened. laid_torn end n was i opened.at opened.low (from_settled Log (end + 1) n opened.settled torn))
+  pub laid_goes : (n : ℕ) → WritesAlone d old new (ComesTorn Log (end + 1) n (d.may_leave old)) → WritesAlone d old new (λ i. (was : Image) → IsOpened d end true old was → HasSame was i)
+  laid_goes n goes = written_alone_weaker goes (λ told i torn was opened. laid_torn end n was i opened.at opened.low (from_settled Log (end + 1) n opened.settled torn))
 
   pub laid_done : {was now : Image} (g : Group) (body : List ℕ) → IsOpened d end true old was → IsBody g end body → WritesTo Log (end + 1) body was now → IsSettled d new now
       → HasSame was now × IsLaid d g end new now
@@ -58,8 +58,8 @@ module _ {D : Type 0} {d : Ghosts D} {old new : D} (end : ℕ) where
         },
       )
 
-  pub opened_goes : Goes d old new (ComesTorn Log end 1 (d.may_leave old)) → Goes d old new (λ i. (was : Image) (g : Group) → IsLaid d g end old was → HasSame was i ⊎ HasGroup g was i)
-  opened_goes goes = goes_weaker goes (λ told i torn was g laid.
+  pub opened_goes : WritesAlone d old new (ComesTorn Log end 1 (d.may_leave old)) → WritesAlone d old new (λ i. (was : Image) (g : Group) → IsLaid d g end old was → HasSame was i ⊎ HasGroup g was i)
+  opened_goes goes = written_alone_weaker goes (λ told i torn was g laid.
       let at = (laid.opened).at in
       opened_torn g end (laid.staged).rest laid.whole at (at_end_of end g was.log at laid.staged) (from_settled Log end 1 (laid.opened).settled torn))
 
@@ -95,12 +95,12 @@ MayStand d end shut body a i = (was : Image) (g : Group) → IsOpened d end shut
 
 -- A commit's steps, one after the other.
 module _ {D : Type 0} {d : Ghosts D} {a b : D} (end : ℕ) (shut : Bool) (body : List ℕ) where
-  pub one_step : Goes d a b (λ i. (was : Image) → IsOpened d end shut a was → HasSame was i) → Goes d a b (MayStand d end shut body a)
-  one_step first = goes_weaker first (λ told i same was g opened is. inl (same was opened))
+  pub one_step : WritesAlone d a b (λ i. (was : Image) → IsOpened d end shut a was → HasSame was i) → WritesAlone d a b (MayStand d end shut body a)
+  one_step first = written_alone_weaker first (λ told i same was g opened is. inl (same was opened))
 
-  pub two_steps : {c : D} → Goes d a b (λ i. (was : Image) → IsOpened d end shut a was → HasSame was i) → Shuts d end shut a b
-      → Goes d b c (λ i. (was : Image) → IsOpened d end true b was → HasSame was i) → Goes d a c (MayStand d end shut body a)
-  two_steps first shuts second = goes_then (one_step first) second (λ told i same was g opened is.
+  pub two_steps : {c : D} → WritesAlone d a b (λ i. (was : Image) → IsOpened d end shut a was → HasSame was i) → Shuts d end shut a b
+      → WritesAlone d b c (λ i. (was : Image) → IsOpened d end true b was → HasSame was i) → WritesAlone d a c (MayStand d end shut body a)
+  two_steps first shuts second = written_alone_then (one_step first) second (λ told i same was g opened is.
       let mid = some_of (d.contents b) (second.told told) in
       let done = shuts was mid.0 opened mid.1 in
       inl (same_then done.0 (same mid.0 done.1)))
@@ -113,10 +113,10 @@ module _ {D : Type 0} {d : Ghosts D} {a b : D} (end : ℕ) (shut : Bool) (body :
       let two = lays mid.0 far.0 g one.1 is far.1 in
       (far.0, same_then one.0 two.0, two.1)
 
-  pub three_steps : {c e : D} → Goes d a b (λ i. (was : Image) → IsOpened d end shut a was → HasSame was i) → Shuts d end shut a b
-      → Goes d b c (λ i. (was : Image) → IsOpened d end true b was → HasSame was i) → LaysGroup d end body b c
-      → Goes d c e (λ i. (was : Image) (g : Group) → IsLaid d g end c was → HasSame was i ⊎ HasGroup g was i) → Goes d a e (MayStand d end shut body a)
-  three_steps first shuts second lays third = goes_then (two_steps first shuts second) third (λ told i outcome was g opened is.
+  pub three_steps : {c e : D} → WritesAlone d a b (λ i. (was : Image) → IsOpened d end shut a was → HasSame was i) → Shuts d end shut a b
+      → WritesAlone d b c (λ i. (was : Image) → IsOpened d end true b was → HasSame was i) → LaysGroup d end body b c
+      → WritesAlone d c e (λ i. (was : Image) (g : Group) → IsLaid d g end c was → HasSame was i ⊎ HasGroup g was i) → WritesAlone d a e (MayStand d end shut body a)
+  three_steps first shuts second lays third = written_alone_then (two_steps first shuts second) third (λ told i outcome was g opened is.
       let laid = stage shuts second.told lays was g (third.told told) opened is in
       elim (outcome laid.0 g laid.2) [ inl same ↦ inl (same_then laid.1 same) | inr more ↦ inr (same_group laid.1 more) ])
 

@@ -39,30 +39,30 @@ length-entries_of zero bytes = refl
 length-entries_of (suc n) bytes = ap suc (length-entries_of n (drop 8196 bytes))
 
 -- a number reads only its bytes
-pub number-front : (n m : ℕ) (c l : List ℕ) → n ≤ m → take m c ≡ take m l → big_number n c ≡ big_number n l
-number-front n m c l fits same =
+pub number-prefix : (n m : ℕ) (c l : List ℕ) → n ≤ m → take m c ≡ take m l → big_number n c ≡ big_number n l
+number-prefix n m c l fits same =
     sym (big_from-take 0 n m c (omega (arith, fits))) ∙ ap (λ (x : List ℕ). big_number n x) same ∙ big_from-take 0 n m l (omega (arith, fits))
 
 -- what begins alike, begins alike further on
-pub front-drop : (n m : ℕ) (c l : List ℕ) → take (n + m) c ≡ take (n + m) l → take m (drop n c) ≡ take m (drop n l)
-front-drop n m c l same = sym (drop-take n m c) ∙ ap (λ (x : List ℕ). drop n x) same ∙ drop-take n m l
+pub prefix-drop : (n m : ℕ) (c l : List ℕ) → take (n + m) c ≡ take (n + m) l → take m (drop n c) ≡ take m (drop n l)
+prefix-drop n m c l same = sym (drop-take n m c) ∙ ap (λ (x : List ℕ). drop n x) same ∙ drop-take n m l
 
-pub front-less : (n m : ℕ) (c l : List ℕ) → n ≤ m → take m c ≡ take m l → take n c ≡ take n l
-front-less n m c l less same = sym (take-take n m c less) ∙ ap (λ (x : List ℕ). take n x) same ∙ take-take n m l less
+pub prefix-less : (n m : ℕ) (c l : List ℕ) → n ≤ m → take m c ≡ take m l → take n c ≡ take n l
+prefix-less n m c l less same = sym (take-take n m c less) ∙ ap (λ (x : List ℕ). take n x) same ∙ take-take n m l less
 
-pub entries-front : (n m : ℕ) (c l : List ℕ) → 8196 * n ≤ m → take m c ≡ take m l → entries_of n c ≡ entries_of n l
-entries-front zero m c l fits same = refl
-entries-front (suc n) m c l fits same =
+pub entries-prefix : (n m : ℕ) (c l : List ℕ) → 8196 * n ≤ m → take m c ≡ take m l → entries_of n c ≡ entries_of n l
+entries-prefix zero m c l fits same = refl
+entries-prefix (suc n) m c l fits same =
     let more : 8196 + (m - 8196) ≡ m = omega (arith, fits) in
-    let page = number-front 4 m c l (omega (arith, fits)) same in
-    let bytes = front-drop 4 8192 c l (front-less 8196 m c l (omega (arith, fits)) same) in
-    let rest = entries-front n (m - 8196) (drop 8196 c) (drop 8196 l) (omega (arith, fits)) (front-drop 8196 (m - 8196) c l (rw more same)) in
+    let page = number-prefix 4 m c l (omega (arith, fits)) same in
+    let bytes = prefix-drop 4 8192 c l (prefix-less 8196 m c l (omega (arith, fits)) same) in
+    let rest = entries-prefix n (m - 8196) (drop 8196 c) (drop 8196 l) (omega (arith, fits)) (prefix-drop 8196 (m - 8196) c l (rw more same)) in
     rw (page, bytes, rest) refl
 
 pub number-one : (c l : List ℕ) → take 1 c ≡ take 1 l → slice_index c 0 ≡ slice_index l 0
 number-one c l same = sym (get_or-take 1 c 0 0 (omega arith)) ∙ ap (λ (x : List ℕ). get_or x 0 0) same ∙ get_or-take 1 l 0 0 (omega arith)
 
--- an open group stands at the front
+-- an open group stands at the beginning
 pub record IsGroup (bytes : List ℕ) : Type 0 where
   pub gate : slice_index bytes 0 ≡ 1
   pub some : 1 ≤ count_of bytes
@@ -83,18 +83,18 @@ says_group bytes is =
     let one : (slice_index bytes 0 == 1) ≡ true = rw is.gate refl in
     and_from _ _ one (and_from _ _ (le-leb _ _ is.some) (and_from _ _ (le-leb _ _ is.few) (and_from _ _ (lt-ltb _ _ is.whole) is.rises)))
 
-pub count-front : (c l : List ℕ) → take 13 c ≡ take 13 l → count_of c ≡ count_of l
+pub count-prefix : (c l : List ℕ) → take 13 c ≡ take 13 l → count_of c ≡ count_of l
 unfolding count_of
-count-front c l same = number-front 4 4 (drop 9 c) (drop 9 l) (omega arith) (front-drop 9 4 c l same)
+count-prefix c l same = number-prefix 4 4 (drop 9 c) (drop 9 l) (omega arith) (prefix-drop 9 4 c l same)
 
--- whether a group stands at the front, and which, its bytes tell
-pub group-front : (c l : List ℕ) → IsGroup l → take (size_of (count_of l)) c ≡ take (size_of (count_of l)) l → size_of (count_of l) < length c
+-- whether a group stands at the beginning, and which, its bytes tell
+pub group-prefix : (c l : List ℕ) → IsGroup l → take (size_of (count_of l)) c ≡ take (size_of (count_of l)) l → size_of (count_of l) < length c
     → IsGroup c × (group_of c ≡ group_of l) × (count_of c ≡ count_of l)
-group-front c l is same long =
-    let gate : slice_index c 0 ≡ slice_index l 0 = number-one c l (front-less 1 _ c l (omega arith) same) in
-    let number = number-front 8 8 (drop 1 c) (drop 1 l) (omega arith) (front-drop 1 8 c l (front-less 9 _ c l (omega arith) same)) in
-    let count : count_of c ≡ count_of l = count-front c l (front-less 13 _ c l (omega arith) same) in
-    let entries = entries-front (count_of l) (8196 * count_of l) (drop 13 c) (drop 13 l) (omega arith) (front-drop 13 (8196 * count_of l) c l same) in (
+group-prefix c l is same long =
+    let gate : slice_index c 0 ≡ slice_index l 0 = number-one c l (prefix-less 1 _ c l (omega arith) same) in
+    let number = number-prefix 8 8 (drop 1 c) (drop 1 l) (omega arith) (prefix-drop 1 8 c l (prefix-less 9 _ c l (omega arith) same)) in
+    let count : count_of c ≡ count_of l = count-prefix c l (prefix-less 13 _ c l (omega arith) same) in
+    let entries = entries-prefix (count_of l) (8196 * count_of l) (drop 13 c) (drop 13 l) (omega arith) (prefix-drop 13 (8196 * count_of l) c l same) in (
       record {
         gate = gate ∙ is.gate;
         some = rw count is.some;
@@ -115,7 +115,7 @@ abbrev Continues : List ℕ → List ℕ → Type 0
 Continues c l = groups_behind 0 c ≡ groups_behind 0 l ++ groups_behind 0 (drop (end_of (groups_behind 0 l)) c)
 
 -- They have what stands up to the end of l's groups, and the gate behind the last one.
-pub record HasFront (c l : List ℕ) : Type 0 where
+pub record HasPrefix (c l : List ℕ) : Type 0 where
   pub same : take (end_of (groups_behind 0 l)) c ≡ take (end_of (groups_behind 0 l)) l
   pub long : 0 < end_of (groups_behind 0 l) → end_of (groups_behind 0 l) < length c
 
@@ -123,9 +123,9 @@ end-first : (l : List ℕ) → is_group l ≡ true → end_of (groups_behind 0 l
 end-first l is = rw (groups-first l is, length-entries_of (count_of l) (drop 13 l)) refl
 
 -- what stands up to the end decides which groups come first
-pub groups-front : (fuel : ℕ) (c l : List ℕ) → length l ≤ fuel → HasFront c l → Continues c l
-groups-front zero c l fits front = rw (groups-none l (rw (nothing_short l fits) refl)) refl
-groups-front (suc fuel) c l fits front =
+pub groups-prefix : (fuel : ℕ) (c l : List ℕ) → length l ≤ fuel → HasPrefix c l → Continues c l
+groups-prefix zero c l fits prefix = rw (groups-none l (rw (nothing_short l fits) refl)) refl
+groups-prefix (suc fuel) c l fits prefix =
     elim (is_group l) as (λ b. is_group l ≡ b → Continues c l) [
       | false ↦ λ none. rw (groups-none l none) refl
       | true ↦ λ some.
@@ -133,12 +133,12 @@ groups-front (suc fuel) c l fits front =
           let is = group_says l some in
           let behind = groups_behind 0 (drop size l) in
           let ends : end_of (groups_behind 0 l) ≡ size + end_of behind = end-first l some in
-          let same : take (size + end_of behind) c ≡ take (size + end_of behind) l = rw ends at front.same in
-          let long : size + end_of behind < length c = let less = front.long (omega (arith, ends)) in omega (arith, less, ends) in
-          let first = group-front c l is (front-less size _ c l (omega arith) same) (omega (arith, long)) in
+          let same : take (size + end_of behind) c ≡ take (size + end_of behind) l = rw ends at prefix.same in
+          let long : size + end_of behind < length c = let less = prefix.long (omega (arith, ends)) in omega (arith, less, ends) in
+          let first = group-prefix c l is (prefix-less size _ c l (omega arith) same) (omega (arith, long)) in
           let rest : Continues (drop size c) (drop size l) =
-          groups-front fuel (drop size c) (drop size l) (omega (arith, fits, length-drop size l, is.whole)) (record {
-            same = front-drop size (end_of behind) c l same;
+          groups-prefix fuel (drop size c) (drop size l) (omega (arith, fits, length-drop size l, is.whole)) (record {
+            same = prefix-drop size (end_of behind) c l same;
             long = λ h. omega (arith, long, length-drop size c);
           }) in
           let here = groups-first c (says_group c first.0) in
@@ -198,13 +198,13 @@ length-entry_bytes (e ∷ es) are =
     let rest = length-entry_bytes es are.1 in
     omega (arith, rest, (are.0).long, length-append (big_bytes 4 e.page) (e.bytes ++ entry_bytes es), length-append e.bytes (entry_bytes es), length-bytes_high_first 4 e.page)
 
-entry-first : (n : ℕ) (front bytes tail : List ℕ) → length front ≡ 4 → length bytes ≡ 8192
-    → entries_of (suc n) (front ++ (bytes ++ tail)) ≡ record { page = big_number 4 (front ++ (bytes ++ tail)); bytes = bytes } ∷ entries_of n tail
-entry-first n front bytes tail four long =
-    let behind : drop 4 (front ++ (bytes ++ tail)) ≡ bytes ++ tail = drop_at front (bytes ++ tail) 4 four in
+entry-first : (n : ℕ) (prefix bytes tail : List ℕ) → length prefix ≡ 4 → length bytes ≡ 8192
+    → entries_of (suc n) (prefix ++ (bytes ++ tail)) ≡ record { page = big_number 4 (prefix ++ (bytes ++ tail)); bytes = bytes } ∷ entries_of n tail
+entry-first n prefix bytes tail four long =
+    let behind : drop 4 (prefix ++ (bytes ++ tail)) ≡ bytes ++ tail = drop_at prefix (bytes ++ tail) 4 four in
     let here : take 8192 (bytes ++ tail) ≡ bytes = take_at bytes tail 8192 long in
-    let next : drop 8196 (front ++ (bytes ++ tail)) ≡ tail =
-    sym (drop-drop 8192 4 (front ++ (bytes ++ tail))) ∙ ap (λ (x : List ℕ). drop 8192 x) behind ∙ drop_at bytes tail 8192 long in
+    let next : drop 8196 (prefix ++ (bytes ++ tail)) ≡ tail =
+    sym (drop-drop 8192 4 (prefix ++ (bytes ++ tail))) ∙ ap (λ (x : List ℕ). drop 8192 x) behind ∙ drop_at bytes tail 8192 long in
     rw (behind, here, next) refl
 
 entry-cons : (p q : ℕ) (bytes : List ℕ) (xs ys : List Entry) → p ≡ q → xs ≡ ys → record { page = p; bytes = bytes } ∷ xs ≡ record { page = q; bytes = bytes } ∷ ys
@@ -215,16 +215,16 @@ pub entries-written : (es : List Entry) (rest : List ℕ) → AllByRecursion IsE
 entries-written [] rest are = refl
 entries-written (e ∷ es) rest are =
     let tail = entry_bytes es ++ rest in
-    let front = big_bytes 4 e.page in
-    let split : (front ++ (e.bytes ++ entry_bytes es)) ++ rest ≡ front ++ (e.bytes ++ tail) =
-    append_assoc front (e.bytes ++ entry_bytes es) rest ∙ ap (λ (x : List ℕ). front ++ x) (append_assoc e.bytes (entry_bytes es) rest) in
+    let prefix = big_bytes 4 e.page in
+    let split : (prefix ++ (e.bytes ++ entry_bytes es)) ++ rest ≡ prefix ++ (e.bytes ++ tail) =
+    append_assoc prefix (e.bytes ++ entry_bytes es) rest ∙ ap (λ (x : List ℕ). prefix ++ x) (append_assoc e.bytes (entry_bytes es) rest) in
     let low : e.page < 16777216 = (are.0).low in
-    let page : big_number 4 (front ++ (e.bytes ++ tail)) ≡ e.page = number-written 4 e.page (e.bytes ++ tail) (omega (arith, low)) in
+    let page : big_number 4 (prefix ++ (e.bytes ++ tail)) ≡ e.page = number-written 4 e.page (e.bytes ++ tail) (omega (arith, low)) in
     ap (λ (x : List ℕ). entries_of (suc (length es)) x) split
-    ∙ entry-first (length es) front e.bytes tail (length-bytes_high_first 4 e.page) (are.0).long
+    ∙ entry-first (length es) prefix e.bytes tail (length-bytes_high_first 4 e.page) (are.0).long
     ∙ entry-cons _ e.page e.bytes _ es page (entries-written es rest are.1)
 
--- what stands at the front of a gate and a group
+-- what stands at the beginning of a gate and a group
 pub record Begins (g : Group) (bytes rest : List ℕ) : Type 0 where
   pub number : big_number 8 (drop 1 bytes) ≡ g.number
   pub count : count_of bytes ≡ length g.entries

@@ -54,9 +54,9 @@ replay-same was now same =
 -- a write that a stop cuts short leaves a range that it doesn't touch
 pub torn_apart : {at n : ℕ} {old new : List ℕ} (a m : ℕ) → Torn at n old new → a + m ≤ length old → (a + m ≤ at) ⊎ (at + n ≤ a) → take m (drop a new) ≡ take m (drop a old)
 torn_apart {at = at} {old = old} {new = new} a m torn fits (inl below) =
-    let front : take (a + m) new ≡ take (a + m) old =
+    let prefix : take (a + m) new ≡ take (a + m) old =
     sym (take-take (a + m) (min at (length old)) new (omega (arith, below, fits))) ∙ ap (λ (x : List ℕ). take (a + m) x) torn.before ∙ take-take (a + m) at old below in
-    sym (drop-take a m new) ∙ ap (λ (x : List ℕ). drop a x) front ∙ drop-take a m old
+    sym (drop-take a m new) ∙ ap (λ (x : List ℕ). drop a x) prefix ∙ drop-take a m old
 torn_apart {at = at} {n = n} {old = old} {new = new} a m torn fits (inr above) =
     let back : drop a (take (length old) new) ≡ drop a old =
     ap (λ (k : ℕ). drop k (take (length old) new)) (let h : a ≡ at + n + (a - (at + n)) = omega (arith, above) in h)

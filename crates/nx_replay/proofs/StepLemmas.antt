@@ -7,7 +7,7 @@ use Rattle.std.proofs.Math.Dec.{ltb}
 use Rattle.std.specs.Prelude.{◌==◌, min}
 use Rattle.nx_host.specs.Disk.{Torn}
 use Rattle.nx_replay.specs.Log.{Group, is_group, size_of, groups_behind, groups_to, end_of, group_bytes, IsWhole}
-use Rattle.nx_replay.proofs.GroupLemmas.{zero_or_more, group_says, groups-none, groups-front, groups-ended, end-within, groups-written, front-less, length-group_bytes}
+use Rattle.nx_replay.proofs.GroupLemmas.{zero_or_more, group_says, groups-none, groups-prefix, groups-ended, end-within, groups-written, prefix-less, length-group_bytes}
 
 -- where they end
 abbrev pub end_to : ℕ → List ℕ → ℕ
@@ -33,10 +33,10 @@ short_none bytes short =
 
 -- a write of one byte that a stop cuts short, and that left it as it was, changed nothing
 pub same_but : (e : ℕ) (c l : List ℕ) → e < length l → Torn e 1 l c → take e c ≡ take e l → get_or c e 0 ≡ get_or l e 0 → c ≡ l
-same_but e c l here torn front byte =
+same_but e c l here torn prefix byte =
     let long : length c ≤ length l = omega (arith, here, torn.no_longer) in
     let rest : drop (e + 1) c ≡ drop (e + 1) l = sym (ap (λ (x : List ℕ). drop (e + 1) x) (take_all (length l) c long)) ∙ torn.after in
-    sym (take-append-drop (e + 1) c) ∙ ap (λ (x : List ℕ). x ++ drop (e + 1) c) (take_more_same c l e 0 (omega (arith, here, torn.no_shorter)) here front byte)
+    sym (take-append-drop (e + 1) c) ∙ ap (λ (x : List ℕ). x ++ drop (e + 1) c) (take_more_same c l e 0 (omega (arith, here, torn.no_shorter)) here prefix byte)
     ∙ ap (λ (x : List ℕ). take (e + 1) l ++ x) rest ∙ take-append-drop (e + 1) l
 
 take-append-more : (xs ys : List ℕ) (n : ℕ) → take (length xs + n) (xs ++ ys) ≡ xs ++ take n ys
@@ -48,10 +48,10 @@ take-one-more : (n x : ℕ) (xs : List ℕ) → take (1 + n) (x ∷ xs) ≡ x �
 take-one-more n x xs = ap (λ (m : ℕ). take m (x ∷ xs)) (let m : 1 + n ≡ suc n = omega arith in m)
 
 module _ (limit : ℕ) where
-  -- the same front leaves the groups, and what stands at their end comes behind them
+  -- the same prefix leaves the groups, and what stands at their end comes behind them
   pub continues : (c l : List ℕ) → end_to limit l < limit → take (end_to limit l) c ≡ take (end_to limit l) l → (0 < end_to limit l → end_to limit l < length c)
       → groups_to limit c ≡ groups_to limit l ++ groups_behind 0 (drop (end_to limit l) (take limit c))
-  continues c l low same long = groups-front (length (take limit l)) (take limit c) (take limit l) (omega arith) (record {
+  continues c l low same long = groups-prefix (length (take limit l)) (take limit c) (take limit l) (omega arith) (record {
     same = take-take (end_to limit l) limit c (omega (arith, low)) ∙ same ∙ sym (take-take (end_to limit l) limit l (omega (arith, low)));
     long = λ h. let more = long h in omega (arith, more, low, length-take limit c);
   })
@@ -67,11 +67,11 @@ module _ (limit : ℕ) where
   written_behind n l c low here shut torn =
       let e = end_to limit l in
       let least : min (e + 1) (length l) ≡ e + 1 = omega (arith, here) in
-      let front : take (e + 1) c ≡ take (e + 1) l = rw least at torn.before in
+      let prefix : take (e + 1) c ≡ take (e + 1) l = rw least at torn.before in
       let long : e < length c = omega (arith, here, torn.no_shorter) in
-      let gate : get_or c e 0 ≡ get_or l e 0 = sym (get_or-take (e + 1) c e 0 (omega arith)) ∙ ap (λ (x : List ℕ). get_or x e 0) front ∙ get_or-take (e + 1) l e 0 (omega arith) in
+      let gate : get_or c e 0 ≡ get_or l e 0 = sym (get_or-take (e + 1) c e 0 (omega arith)) ∙ ap (λ (x : List ℕ). get_or x e 0) prefix ∙ get_or-take (e + 1) l e 0 (omega arith) in
       let none : groups_behind 0 (drop e (take limit c)) ≡ [] = ap (λ (x : List ℕ). groups_behind 0 x) (at_end c e low long) ∙ closed (get_or c e 0) (drop (e + 1) (take limit c)) (rw gate shut) in
-      continues c l low (front-less e (e + 1) c l (omega arith) front) (λ h. long) ∙ rw none (append-nil (groups_to limit l))
+      continues c l low (prefix-less e (e + 1) c l (omega arith) prefix) (λ h. long) ∙ rw none (append-nil (groups_to limit l))
 
   ends-within : (l : List ℕ) → 0 < end_to limit l → end_to limit l < length l
   ends-within l h = let less = end-within (length (take limit l)) (take limit l) (omega arith) h in omega (arith, less, length-take limit l)
@@ -83,7 +83,7 @@ module _ (limit : ℕ) where
       let e = end_to limit l in
       let fits : e ≤ length l = elim (zero_or_more e) [ inl none ↦ omega (arith, none) | inr more ↦ let less = ends-within l more in omega (arith, less) ] in
       let least : min e (length l) ≡ e = omega (arith, fits) in
-      let front : take e c ≡ take e l = rw least at torn.before in
+      let prefix : take e c ≡ take e l = rw least at torn.before in
       let none : groups_behind 0 (drop e (take limit c)) ≡ [] =
       elim (less_or_not e (length c)) [
         | inr short ↦ short_none (drop e (take limit c)) (omega (arith, short, length-drop e (take limit c), length-take limit c))
@@ -94,12 +94,12 @@ module _ (limit : ℕ) where
                   elim (get_or c e 0 == 1) as (λ b. (get_or c e 0 == 1) ≡ b → groups_behind 0 (drop e (take limit c)) ≡ []) [
                     | false ↦ λ shut. ap (λ (x : List ℕ). groups_behind 0 x) (at_end c e low long) ∙ closed (get_or c e 0) (drop (e + 1) (take limit c)) shut
                     | true ↦ λ stays.
-                        let same : c ≡ l = same_but e c l here torn front (eqb-true _ _ stays ∙ sym (was_open here)) in
+                        let same : c ≡ l = same_but e c l here torn prefix (eqb-true _ _ stays ∙ sym (was_open here)) in
                         rw same (groups-ended (length (take limit l)) (take limit l) (omega arith))
                   ] refl
             ]
       ] in
-      continues c l low front (λ h. let less = ends-within l h in omega (arith, less, torn.no_shorter)) ∙ rw none (append-nil (groups_to limit l))
+      continues c l low prefix (λ h. let less = ends-within l h in omega (arith, less, torn.no_shorter)) ∙ rw none (append-nil (groups_to limit l))
 
   -- A closed gate stands at the end, a group behind it and a gate behind that.
   pub record IsStaged (g : Group) (l rest : List ℕ) : Type 0 where
@@ -117,7 +117,7 @@ module _ (limit : ℕ) where
       let size : length (group_bytes g) ≡ 12 + 8196 * length g.entries = length-group_bytes g whole in
       let here : e < length l = omega (arith, length-drop e l, ap length staged.bytes) in
       let least : min e (length l) ≡ e = omega (arith, here) in
-      let front : take e c ≡ take e l = rw least at torn.before in
+      let prefix : take e c ≡ take e l = rw least at torn.before in
       let long : length c ≤ length l = omega (arith, here, torn.no_longer) in
       let same_long : length c ≡ length l = omega (arith, long, torn.no_shorter) in
       let rest_l : drop (e + 1) l ≡ behind = sym (drop-drop 1 e l) ∙ ap (λ (x : List ℕ). drop 1 x) staged.bytes in
@@ -131,7 +131,7 @@ module _ (limit : ℕ) where
       ∙ take-append-more (group_bytes g) (0 ∷ rest) (1 + left) ∙ ap (λ (x : List ℕ). group_bytes g ++ x) (take-one-more left 0 rest) in
       let at_gate : drop e (take limit c) ≡ get_or c e 0 ∷ (group_bytes g ++ 0 ∷ take left rest) =
       at_end c e (let low : e + size_of (length g.entries) < limit = staged.low in omega (arith, low)) (omega (arith, here, same_long)) ∙ ap (λ (x : List ℕ). get_or c e 0 ∷ x) (rest_taken ∙ whole_taken) in
-      let first = continues c l (let low : e + size_of (length g.entries) < limit = staged.low in omega (arith, low)) front (λ h. omega (arith, here, same_long)) in
+      let first = continues c l (let low : e + size_of (length g.entries) < limit = staged.low in omega (arith, low)) prefix (λ h. omega (arith, here, same_long)) in
       elim (get_or c e 0 == 1) as (λ b. (get_or c e 0 == 1) ≡ b → (((get_or c e 0 == 1) ≡ false) × (groups_to limit c ≡ groups_to limit l)) ⊎ (groups_to limit c ≡ groups_to limit l ++ g ∷ [])) [
         | false ↦ λ shut. inl (
             let none : groups_behind 0 (drop e (take limit c)) ≡ [] = ap (λ (x : List ℕ). groups_behind 0 x) at_gate ∙ closed (get_or c e 0) (group_bytes g ++ 0 ∷ take left rest) shut in

@@ -39,7 +39,7 @@ size_of count = 13 + 8196 * count
 abbrev pub group_of : List ℕ → Group
 group_of bytes = record { number = big_number 8 (drop 1 bytes); entries = entries_of (count_of bytes) (drop 13 bytes) }
 
--- an open group stands at the front, with the next gate behind it
+-- an open group stands at the beginning, with the next gate behind it
 abbrev pub is_group : List ℕ → Bool
 is_group bytes =
     (slice_index bytes 0 == 1) && (nat_le 1 (count_of bytes) && (nat_le (count_of bytes) 16777216 && (nat_lt (size_of (count_of bytes)) (length bytes) && rise 0 (group_of bytes).entries)))

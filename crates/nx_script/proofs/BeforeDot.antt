@@ -5,11 +5,11 @@ use Rattle.std.proofs.lemmas.Bool.{or_parts, eqb-true, false_from_ne_true}
 use Rattle.nx_pyx.specs.declared.error.PyxError.{PyxError}
 use Rattle.nx_pyx.specs.Lines.{Pieces, prepend_to, prepend, cut, without_cr, has_lf}
 use Rattle.nx_pyx.specs.Fault.{fault_of}
-use Rattle.nx_pyx.proofs.Shown.{onto, begun, cut-append, cut-rest, cut-begun, fault_shown}
+use Rattle.nx_pyx.proofs.ShownFaultLemmas.{onto, begun, cut-append, cut-rest, cut-begun, fault_shown}
 use Rattle.nx_pyx.proofs.StreamLemmas.{cut-held, cut-ended}
 use Rattle.nx_script.specs.Commands.{is_dot, has_dot}
 use Rattle.nx_script.specs.BeforeDot.{joined, before_in, after_in, before_dot, after_dot, shown_before_dot}
-use Rattle.nx_script.proofs.Fronts.{dot_before}
+use Rattle.nx_script.proofs.Prefixes.{dot_before}
 
 -- What is cut is joined again.
 
@@ -33,13 +33,13 @@ pub joined-cut : (s : List ℕ) → joined (cut s).ended (cut s).rest ≡ s
 joined-cut [] = refl
 joined-cut (b ∷ s) = joined_more b s (cut s) (b == 10) refl (joined-cut s)
 
--- the whole lines of a stream are its front before the last line
-pub joined-front : (front s : List ℕ) → s ≡ front ++ (cut s).rest → (cut front).rest ≡ [] → joined (cut s).ended [] ≡ front
-joined-front front s parts ended =
+-- the whole lines of a stream are its beginning before the last line
+pub joined-prefix : (prefix s : List ℕ) → s ≡ prefix ++ (cut s).rest → (cut prefix).rest ≡ [] → joined (cut s).ended [] ≡ prefix
+joined-prefix prefix s parts ended =
     ap (λ (l : List ℕ). joined (cut l).ended []) parts
-    ∙ ap (λ (p : Pieces). joined p.ended []) (cut-held front (cut s).rest (cut-rest s))
-    ∙ ap (joined (cut front).ended) (sym ended)
-    ∙ joined-cut front
+    ∙ ap (λ (p : Pieces). joined p.ended []) (cut-held prefix (cut s).rest (cut-rest s))
+    ∙ ap (joined (cut prefix).ended) (sym ended)
+    ∙ joined-cut prefix
 
 -- Where no line is a dot, or which is the first.
 
@@ -99,11 +99,11 @@ after_dot-ended s bytes more unbroken none dot =
 
 -- These bytes begin with those.
 abbrev Grows : List ℕ → List ℕ → Type 0
-Grows whole front = (z : List ℕ) × (whole ≡ front ++ z)
+Grows whole prefix = (z : List ℕ) × (whole ≡ prefix ++ z)
 
-grows_by : (t : Bool) (piece whole front : List ℕ) → Grows whole front → Grows (if t then [] else (piece ++ 10 ∷ whole)) (if t then [] else (piece ++ 10 ∷ front))
-grows_by true piece whole front grows = ([], refl)
-grows_by false piece whole front (z, is) = (z, ap (λ (l : List ℕ). piece ++ 10 ∷ l) is ∙ sym (append_assoc piece (10 ∷ front) z))
+grows_by : (t : Bool) (piece whole prefix : List ℕ) → Grows whole prefix → Grows (if t then [] else (piece ++ 10 ∷ whole)) (if t then [] else (piece ++ 10 ∷ prefix))
+grows_by true piece whole prefix grows = ([], refl)
+grows_by false piece whole prefix (z, is) = (z, ap (λ (l : List ℕ). piece ++ 10 ∷ l) is ∙ sym (append_assoc piece (10 ∷ prefix) z))
 
 grows_in : (pieces others : List (List ℕ)) (rest last : List ℕ) → Grows (before_in others last) (before_in [] rest) → Grows (before_in (pieces ++ others) last) (before_in pieces rest)
 grows_in [] others rest last grows = grows

@@ -19,7 +19,7 @@ use Rattle.nx_pyx.specs.Reading.{Reads}
 use Rattle.nx_pyx.specs.Lines.{Pieces, cut, without_cr, ended_lines, has_lf, EndsLine}
 use Rattle.nx_pyx.specs.Builder.{Fails}
 use Rattle.nx_pyx.specs.Reader.{HasRead, HasFailed}
-use Rattle.nx_pyx.proofs.Shown.{onto, cut-append, cut-rest, fault_shows, fault_shown}
+use Rattle.nx_pyx.proofs.ShownFaultLemmas.{onto, cut-append, cut-rest, fault_shows, fault_shown}
 use Rattle.nx_pyx.proofs.StreamLemmas.{cut-held, cut-ended, ended_lines-held, ended_lines-ended}
 use Rattle.nx_script.specs.declared.body.Body.{Body}
 use Rattle.nx_pyx.specs.Field.{begins_with}
@@ -27,11 +27,11 @@ use Rattle.nx_script.specs.declared.command.LoadBody.{LoadBody}
 use Rattle.nx_script.specs.declared.command.LoadBody.TheVariants.{Read, Wrong}
 use Rattle.nx_script.specs.Commands.{is_dot, has_dot, SaysBody}
 use Rattle.nx_script.specs.BeforeDot.{before_dot}
-use Rattle.nx_script.specs.Body.{HasReadOrFailed, HasReadLines, HasReadUpToDot, IsWithin, Stands, IsBeforeDot, Says, fault_in, unread}
+use Rattle.nx_script.specs.Body.{HasReadOrFailed, HasReadLines, HasReadUpToDot, AwaitsDot, AwaitsOrHasDot, IsBeforeDot, Says, fault_in, unread}
 use Rattle.nx_lists.proofs.CaseLemmas.{match_true, match_false}
-use Rattle.nx_script.proofs.Fronts.{dot_front, dot_before, dot_short, undotted_front, undotted_line}
-use Rattle.nx_script.proofs.Cuts.{rest-held, rest-ended, lines-whole}
-use Rattle.nx_script.proofs.BeforeDot.{joined-cut, joined-front, before_in-none, before_in-last, before_dot-ended, after_dot-ended}
+use Rattle.nx_script.proofs.Prefixes.{dot_prefix, dot_before, dot_short, undotted_prefix, undotted_line}
+use Rattle.nx_script.proofs.LinesLemmas.{rest-held, rest-ended, lines-whole}
+use Rattle.nx_script.proofs.BeforeDot.{joined-cut, joined-prefix, before_in-none, before_in-last, before_dot-ended, after_dot-ended}
 
 -- The lines before the first that begins with a dot.
 
@@ -45,7 +45,7 @@ pub record AreUndotted (bytes : List ℕ) (n : ℕ) : Type 0 where
 pub undotted_none : (bytes : List ℕ) → AreUndotted bytes 0
 undotted_none bytes = record { within = omega arith; undotted = refl; rest = refl }
 
--- a line with its LF is a front
+-- a line with its LF is a prefix
 pub line_taken : (bytes : List ℕ) (end : ℕ) → EndsLine bytes end → take (end + 1) bytes ≡ take end bytes ++ 10 ∷ []
 line_taken bytes end ends =
     let inside : end < length bytes = ends.inside in
@@ -67,9 +67,9 @@ pub undotted_more : (bytes : List ℕ) (n end : ℕ) → AreUndotted bytes n →
 undotted_more bytes n end undotted inside other ends' =
     let ends : EndsLine (drop n bytes) end = subst (λ (l : List ℕ). EndsLine l end) (all_left bytes n) ends' in
     let line : List ℕ = take end (drop n bytes) in
-    let front : take (end + 1) (drop n bytes) ≡ line ++ 10 ∷ [] = line_taken (drop n bytes) end ends in
+    let prefix : take (end + 1) (drop n bytes) ≡ line ++ 10 ∷ [] = line_taken (drop n bytes) end ends in
     let is : cut (take (n + (end + 1)) bytes) ≡ record { ended = (cut (take n bytes)).ended ++ ((cut (take n bytes)).rest ++ line) ∷ []; rest = [] } =
-    ap cut (take-add n (end + 1) bytes ∙ ap (λ (l : List ℕ). take n bytes ++ l) front) ∙ cut-ended (take n bytes) line ends.none_before in
+    ap cut (take-add n (end + 1) bytes ∙ ap (λ (l : List ℕ). take n bytes ++ l) prefix) ∙ cut-ended (take n bytes) line ends.none_before in
     let long : end < length (drop n bytes) = ends.inside in
     let size : length (drop n bytes) ≡ length bytes - n = length-drop n bytes in
     record {
@@ -78,7 +78,7 @@ undotted_more bytes n end undotted inside other ends' =
           ∙ list_any-append (begins_with 46) (cut (take n bytes)).ended (((cut (take n bytes)).rest ++ line) ∷ [])
           ∙ or_from _ _ undotted.undotted
           (or_from _ _
-          (ap (λ (r : List ℕ). begins_with 46 (r ++ line)) undotted.rest ∙ undotted_front end (drop n bytes) (other_first bytes n inside other))
+          (ap (λ (r : List ℕ). begins_with 46 (r ++ line)) undotted.rest ∙ undotted_prefix end (drop n bytes) (other_first bytes n inside other))
           refl);
       rest = ap (λ (p : Pieces). p.rest) is;
     }
@@ -122,7 +122,7 @@ before_dot_none bytes n undotted inside other unbroken' =
 
 -- What has been read where the line that comes may be the dot: all before it.
 abbrev UpToDot : Reader → List ℕ → Type 0
-UpToDot reader stream = (front : List ℕ) × (stream ≡ front ++ (cut stream).rest) × HasReadLines reader front
+UpToDot reader stream = (prefix : List ℕ) × (stream ≡ prefix ++ (cut stream).rest) × HasReadLines reader prefix
 
 -- the line that comes can't be the dot
 pub up_to_none : (reader : Reader) (stream : List ℕ) → is_dot (without_cr (cut stream).rest) ≡ false → HasReadOrFailed reader stream → HasReadUpToDot reader stream
@@ -132,29 +132,29 @@ pub from_none : (reader : Reader) (stream : List ℕ) → is_dot (without_cr (cu
 from_none reader stream other read = MatchBool-at_false (UpToDot reader stream) (HasReadOrFailed reader stream) other read
 
 -- The lines before one that may be the dot have been read.
-pub record HasReadFront (reader : Reader) (stream : List ℕ) : Type 0 where
-  pub front : List ℕ
-  pub parts : stream ≡ front ++ (cut stream).rest
-  pub read : HasReadLines reader front
+pub record HasReadPrefix (reader : Reader) (stream : List ℕ) : Type 0 where
+  pub prefix : List ℕ
+  pub parts : stream ≡ prefix ++ (cut stream).rest
+  pub read : HasReadLines reader prefix
 
 -- where the line that comes goes on to be the dot
-pub read_front : (reader : Reader) (stream bytes : List ℕ) → is_dot (without_cr ((cut stream).rest ++ bytes)) ≡ true → HasReadUpToDot reader stream → HasReadFront reader stream
-read_front reader stream bytes dot read = by_rest (dot_before (cut stream).rest bytes dot)
+pub read_prefix : (reader : Reader) (stream bytes : List ℕ) → is_dot (without_cr ((cut stream).rest ++ bytes)) ≡ true → HasReadUpToDot reader stream → HasReadPrefix reader stream
+read_prefix reader stream bytes dot read = by_rest (dot_before (cut stream).rest bytes dot)
   where
-    by_rest : ((cut stream).rest ≡ []) ⊎ (is_dot (without_cr (cut stream).rest) ≡ true) → HasReadFront reader stream
+    by_rest : ((cut stream).rest ≡ []) ⊎ (is_dot (without_cr (cut stream).rest) ≡ true) → HasReadPrefix reader stream
     by_rest (inl none) = record {
-      front = stream;
+      prefix = stream;
       parts = sym (append-nil stream) ∙ ap (λ (r : List ℕ). stream ++ r) (sym none);
       read = record { read = from_none reader stream (ap (λ (r : List ℕ). is_dot (without_cr r)) none) read; ended = none };
     }
     by_rest (inr is) =
-        let (front, parts, lines_read) = MatchBool-at_true (UpToDot reader stream) (HasReadOrFailed reader stream) is read in
-        record { front = front; parts = parts; read = lines_read }
+        let (prefix, parts, lines_read) = MatchBool-at_true (UpToDot reader stream) (HasReadOrFailed reader stream) is read in
+        record { prefix = prefix; parts = parts; read = lines_read }
 
-up_to_dot : (reader : Reader) (stream front : List ℕ) → is_dot (without_cr (cut stream).rest) ≡ true → stream ≡ front ++ (cut stream).rest → HasReadLines reader front →
+up_to_dot : (reader : Reader) (stream prefix : List ℕ) → is_dot (without_cr (cut stream).rest) ≡ true → stream ≡ prefix ++ (cut stream).rest → HasReadLines reader prefix →
     HasReadUpToDot reader stream
-up_to_dot reader stream front dot parts read =
-    match_true (UpToDot reader stream) (HasReadOrFailed reader stream) (is_dot (without_cr (cut stream).rest)) dot (front, parts, read)
+up_to_dot reader stream prefix dot parts read =
+    match_true (UpToDot reader stream) (HasReadOrFailed reader stream) (is_dot (without_cr (cut stream).rest)) dot (prefix, parts, read)
 
 -- the reader stays the same
 same_reader : (old new : Reader) (stream : List ℕ) → new ≡ old → HasReadLines old stream → HasReadLines new stream
@@ -175,48 +175,48 @@ undotted_lines (piece ∷ pieces) h =
     or_from (is_dot (without_cr piece)) (has_dot (map without_cr pieces)) (undotted_line piece p.0) (undotted_lines pieces p.1)
 
 -- before the first byte
-pub within_none : (body : Body) → body.held ≡ [] → HasRead body.reader [] → IsWithin body []
+pub within_none : (body : Body) → body.held ≡ [] → HasRead body.reader [] → AwaitsDot body []
 within_none body none read = record { undotted = refl; held = none; read = inl read }
 
 -- the bytes before the first line that begins with a dot are taken, where a line begins
 pub takes_lines : {old new : Body} {mid : Reader} {bytes : List ℕ} {n last : ℕ} → old.held ≡ [] → IsBeforeDot bytes n last →
     ((s : List ℕ) → HasReadOrFailed old.reader s → HasReadOrFailed mid (s ++ take n bytes)) → new.reader ≡ mid →
-    new.held ≡ take 3 (take (n - last) (drop last bytes)) → (s : List ℕ) → IsWithin old s → IsWithin new (s ++ take n bytes)
+    new.held ≡ take 3 (take (n - last) (drop last bytes)) → (s : List ℕ) → AwaitsDot old s → AwaitsDot new (s ++ take n bytes)
 takes_lines {old = old} {new = new} {mid = mid} {bytes = bytes} {n = n} {last = last} none before reads same held s within =
     let rest : (cut s).rest ≡ [] = none_held old.held (cut s).rest within.held none in
-    let front : List ℕ = take n bytes in
-    let is : cut (s ++ front) ≡ onto (cut s).ended (cut front) = cut-append s front ∙ ap (λ (r : List ℕ). onto (cut s).ended (cut (r ++ front))) rest in
-    let behind : (cut (s ++ front)).rest ≡ take (n - last) (drop last bytes) = ap (λ (p : Pieces). p.rest) is ∙ before.rest in
+    let prefix : List ℕ = take n bytes in
+    let is : cut (s ++ prefix) ≡ onto (cut s).ended (cut prefix) = cut-append s prefix ∙ ap (λ (r : List ℕ). onto (cut s).ended (cut (r ++ prefix))) rest in
+    let behind : (cut (s ++ prefix)).rest ≡ take (n - last) (drop last bytes) = ap (λ (p : Pieces). p.rest) is ∙ before.rest in
     record {
       undotted = ap (λ (p : Pieces). has_dot (map without_cr p.ended)) is
-          ∙ ap has_dot (map-append without_cr (cut s).ended (cut front).ended)
-          ∙ list_any-append is_dot (ended_lines s) (ended_lines front)
-          ∙ or_from _ _ within.undotted (undotted_lines (cut front).ended before.undotted);
+          ∙ ap has_dot (map-append without_cr (cut s).ended (cut prefix).ended)
+          ∙ list_any-append is_dot (ended_lines s) (ended_lines prefix)
+          ∙ or_from _ _ within.undotted (undotted_lines (cut prefix).ended before.undotted);
       held = held ∙ ap (take 3) (sym behind);
-      read = up_to_none new.reader (s ++ front) (ap (λ (l : List ℕ). is_dot (without_cr l)) behind ∙ undotted_line (take (n - last) (drop last bytes)) before.rest_undotted)
-          (subst (λ (r : Reader). HasReadOrFailed r (s ++ front)) (sym same) (reads s (from_none old.reader s (ap (λ (l : List ℕ). is_dot (without_cr l)) rest) within.read)));
+      read = up_to_none new.reader (s ++ prefix) (ap (λ (l : List ℕ). is_dot (without_cr l)) behind ∙ undotted_line (take (n - last) (drop last bytes)) before.rest_undotted)
+          (subst (λ (r : Reader). HasReadOrFailed r (s ++ prefix)) (sym same) (reads s (from_none old.reader s (ap (λ (l : List ℕ). is_dot (without_cr l)) rest) within.read)));
     }
 
--- what isn't read of the bytes that are held stands in their front, as they go on
+-- what isn't read of the bytes that are held stands in their prefix, as they go on
 unread_kept : (line more : List ℕ) → take (length (unread (take 3 line))) (take 3 (line ++ more)) ≡ unread (take 3 line)
 unread_kept line more = by_dot (is_dot (without_cr (take 3 line)))
   where
-    front_kept : (l : List ℕ) → take (length (take 3 l)) (take 3 (l ++ more)) ≡ take 3 l
-    front_kept [] = refl
-    front_kept (a ∷ []) = refl
-    front_kept (a ∷ b ∷ []) = refl
-    front_kept (a ∷ b ∷ c ∷ l) = refl
+    prefix_kept : (l : List ℕ) → take (length (take 3 l)) (take 3 (l ++ more)) ≡ take 3 l
+    prefix_kept [] = refl
+    prefix_kept (a ∷ []) = refl
+    prefix_kept (a ∷ b ∷ []) = refl
+    prefix_kept (a ∷ b ∷ c ∷ l) = refl
 
     by_dot : (t : Bool) → take (length (if t then take 3 line else [])) (take 3 (line ++ more)) ≡ (if t then take 3 line else [])
-    by_dot true = front_kept line
+    by_dot true = prefix_kept line
     by_dot false = refl
 
 -- where the line may be the dot nothing of it is read, and else all
 unread_dot : (line : List ℕ) → is_dot (without_cr line) ≡ true → unread (take 3 line) ≡ line
-unread_dot line is = ap (λ (t : Bool). if t then take 3 line else []) (dot_front line ∙ is) ∙ dot_short line is
+unread_dot line is = ap (λ (t : Bool). if t then take 3 line else []) (dot_prefix line ∙ is) ∙ dot_short line is
 
 unread_other : (line : List ℕ) → is_dot (without_cr line) ≡ false → unread (take 3 line) ≡ []
-unread_other line other = ap (λ (t : Bool). if t then take 3 line else []) (dot_front line ∙ other)
+unread_other line other = ap (λ (t : Bool). if t then take 3 line else []) (dot_prefix line ∙ other)
 
 -- A body has held these bytes more, in which is no LF, and has read none.
 pub record HoldsMore (old new : Body) (bytes : List ℕ) : Type 0 where
@@ -226,16 +226,16 @@ pub record HoldsMore (old new : Body) (bytes : List ℕ) : Type 0 where
 
 module _ {old mid : Body} {bytes : List ℕ} (held_more : HoldsMore old mid bytes) where
   -- what begins a line, with these bytes behind it
-  held_line : (s : List ℕ) → IsWithin old s → mid.held ≡ take 3 ((cut s).rest ++ bytes)
+  held_line : (s : List ℕ) → AwaitsDot old s → mid.held ≡ take 3 ((cut s).rest ++ bytes)
   held_line s within = held_more.holds (cut s).rest within.held
 
-  held_is_dot : (s : List ℕ) (b : Bool) → IsWithin old s → b ≡ is_dot (without_cr mid.held) → is_dot (without_cr ((cut s).rest ++ bytes)) ≡ b
-  held_is_dot s b within is = sym (is ∙ ap (λ (l : List ℕ). is_dot (without_cr l)) (held_line s within) ∙ dot_front ((cut s).rest ++ bytes))
+  held_is_dot : (s : List ℕ) (b : Bool) → AwaitsDot old s → b ≡ is_dot (without_cr mid.held) → is_dot (without_cr ((cut s).rest ++ bytes)) ≡ b
+  held_is_dot s b within is = sym (is ∙ ap (λ (l : List ℕ). is_dot (without_cr l)) (held_line s within) ∙ dot_prefix ((cut s).rest ++ bytes))
 
   -- bytes that go on are read, behind those that were held alone
   reads_all : {reader : Reader} (n : ℕ) (more : List ℕ) → n ≡ length (unread old.held) →
       ((s : List ℕ) → HasReadOrFailed mid.reader s → HasReadOrFailed reader (s ++ (take n mid.held ++ more))) →
-      (s : List ℕ) → IsWithin old s → HasReadOrFailed reader (s ++ more)
+      (s : List ℕ) → AwaitsDot old s → HasReadOrFailed reader (s ++ more)
   reads_all {reader = reader} n more count reads s within = by_dot (is_dot (without_cr (cut s).rest)) refl
     where
       kept : take n mid.held ≡ unread (take 3 (cut s).rest)
@@ -246,19 +246,19 @@ module _ {old mid : Body} {bytes : List ℕ} (held_more : HoldsMore old mid byte
 
       by_dot : (t : Bool) → is_dot (without_cr (cut s).rest) ≡ t → HasReadOrFailed reader (s ++ more)
       by_dot true is =
-          let f = read_front old.reader s [] (ap (λ (l : List ℕ). is_dot (without_cr l)) (append-nil (cut s).rest) ∙ is) within.read in
+          let f = read_prefix old.reader s [] (ap (λ (l : List ℕ). is_dot (without_cr l)) (append-nil (cut s).rest) ∙ is) within.read in
           subst (HasReadOrFailed reader)
-          (ap (λ (l : List ℕ). f.front ++ (l ++ more)) (kept ∙ unread_dot (cut s).rest is)
-          ∙ sym (append_assoc f.front (cut s).rest more)
+          (ap (λ (l : List ℕ). f.prefix ++ (l ++ more)) (kept ∙ unread_dot (cut s).rest is)
+          ∙ sym (append_assoc f.prefix (cut s).rest more)
           ∙ ap (λ (l : List ℕ). l ++ more) (sym f.parts))
-          (reads f.front (same_reader old.reader mid.reader f.front held_more.reader_stays f.read).read)
+          (reads f.prefix (same_reader old.reader mid.reader f.prefix held_more.reader_stays f.read).read)
       by_dot false other =
           subst (HasReadOrFailed reader) (ap (λ (l : List ℕ). s ++ (l ++ more)) (kept ∙ unread_other (cut s).rest other))
           (reads s (subst (λ (r : Reader). HasReadOrFailed r s) (sym held_more.reader_stays) (from_none old.reader s other within.read)))
 
   -- a line goes on that can't be the dot
   pub goes_on_read : {new : Body} {dot : Bool} → new.held ≡ mid.held → dot ≡ is_dot (without_cr mid.held) → dot ≡ false → (n : ℕ) → n ≡ length (unread old.held) →
-      ((s : List ℕ) → HasReadOrFailed mid.reader s → HasReadOrFailed new.reader (s ++ (take n mid.held ++ bytes))) → (s : List ℕ) → IsWithin old s → IsWithin new (s ++ bytes)
+      ((s : List ℕ) → HasReadOrFailed mid.reader s → HasReadOrFailed new.reader (s ++ (take n mid.held ++ bytes))) → (s : List ℕ) → AwaitsDot old s → AwaitsDot new (s ++ bytes)
   goes_on_read {new = new} {dot = dot} held is none n count reads s within =
       let rest : (cut (s ++ bytes)).rest ≡ (cut s).rest ++ bytes = rest-held s bytes held_more.unbroken in
       record {
@@ -268,27 +268,27 @@ module _ {old mid : Body} {bytes : List ℕ} (held_more : HoldsMore old mid byte
       }
 
   -- a line goes on that may be the dot
-  pub goes_on_dotted : {dot : Bool} → dot ≡ is_dot (without_cr mid.held) → dot ≡ true → (s : List ℕ) → IsWithin old s → IsWithin mid (s ++ bytes)
+  pub goes_on_dotted : {dot : Bool} → dot ≡ is_dot (without_cr mid.held) → dot ≡ true → (s : List ℕ) → AwaitsDot old s → AwaitsDot mid (s ++ bytes)
   goes_on_dotted {dot = dot} is some s within =
       let rest : (cut (s ++ bytes)).rest ≡ (cut s).rest ++ bytes = rest-held s bytes held_more.unbroken in
       let may : is_dot (without_cr ((cut s).rest ++ bytes)) ≡ true = held_is_dot s dot within is ∙ some in
-      let f = read_front old.reader s bytes may within.read in
+      let f = read_prefix old.reader s bytes may within.read in
       record {
         undotted = ap has_dot (ended_lines-held s bytes held_more.unbroken) ∙ within.undotted;
         held = held_line s within ∙ ap (take 3) (sym rest);
-        read = up_to_dot mid.reader (s ++ bytes) f.front (ap (λ (l : List ℕ). is_dot (without_cr l)) rest ∙ may)
-            (ap (λ (l : List ℕ). l ++ bytes) f.parts ∙ append_assoc f.front (cut s).rest bytes ∙ ap (λ (l : List ℕ). f.front ++ l) (sym rest))
-            (same_reader old.reader mid.reader f.front held_more.reader_stays f.read);
+        read = up_to_dot mid.reader (s ++ bytes) f.prefix (ap (λ (l : List ℕ). is_dot (without_cr l)) rest ∙ may)
+            (ap (λ (l : List ℕ). l ++ bytes) f.parts ∙ append_assoc f.prefix (cut s).rest bytes ∙ ap (λ (l : List ℕ). f.prefix ++ l) (sym rest))
+            (same_reader old.reader mid.reader f.prefix held_more.reader_stays f.read);
       }
 
   -- an LF ends a line that isn't the dot
   pub ends_read : {new : Body} {ended : Bool} → new.held ≡ [] → ended ≡ is_dot (without_cr mid.held) → ended ≡ false → (n : ℕ) → n ≡ length (unread old.held) →
       ((s : List ℕ) → HasReadOrFailed mid.reader s → HasReadOrFailed new.reader (s ++ (take n mid.held ++ (bytes ++ 10 ∷ [])))) →
-      (s : List ℕ) → IsWithin old s → Stands ended new (s ++ (bytes ++ 10 ∷ []))
+      (s : List ℕ) → AwaitsDot old s → AwaitsOrHasDot ended new (s ++ (bytes ++ 10 ∷ []))
   ends_read {new = new} {ended = ended} held is none n count reads s within =
       let other : is_dot (without_cr ((cut s).rest ++ bytes)) ≡ false = held_is_dot s ended within is ∙ none in
       let rest : (cut (s ++ (bytes ++ 10 ∷ []))).rest ≡ [] = rest-ended s bytes held_more.unbroken in
-      subst (λ (b : Bool). Stands b new (s ++ (bytes ++ 10 ∷ []))) (sym none)
+      subst (λ (b : Bool). AwaitsOrHasDot b new (s ++ (bytes ++ 10 ∷ []))) (sym none)
       (record {
         undotted = ap has_dot (ended_lines-ended s bytes held_more.unbroken)
             ∙ list_any-append is_dot (ended_lines s) (without_cr ((cut s).rest ++ bytes) ∷ [])
@@ -299,34 +299,34 @@ module _ {old mid : Body} {bytes : List ℕ} (held_more : HoldsMore old mid byte
 
   -- an LF ends the dot
   pub ends_dot : (new : Body) {ended : Bool} → new.reader ≡ mid.reader → ended ≡ is_dot (without_cr mid.held) → ended ≡ true →
-      (s : List ℕ) → IsWithin old s → Stands ended new (s ++ (bytes ++ 10 ∷ []))
+      (s : List ℕ) → AwaitsDot old s → AwaitsOrHasDot ended new (s ++ (bytes ++ 10 ∷ []))
   ends_dot new {ended = ended} same is dot s within =
       let last : is_dot (without_cr ((cut s).rest ++ bytes)) ≡ true = held_is_dot s ended within is ∙ dot in
-      let f = read_front old.reader s bytes last within.read in
-      let before : ended_lines s ≡ ended_lines f.front = ap ended_lines f.parts ∙ ended_lines-held f.front (cut s).rest (cut-rest s) in
-      subst (λ (b : Bool). Stands b new (s ++ (bytes ++ 10 ∷ []))) (sym dot)
+      let f = read_prefix old.reader s bytes last within.read in
+      let before : ended_lines s ≡ ended_lines f.prefix = ap ended_lines f.parts ∙ ended_lines-held f.prefix (cut s).rest (cut-rest s) in
+      subst (λ (b : Bool). AwaitsOrHasDot b new (s ++ (bytes ++ 10 ∷ []))) (sym dot)
       (record {
-        front = f.front;
-        before = λ more. before_dot-ended s bytes more held_more.unbroken within.undotted last ∙ joined-front f.front s f.parts f.read.ended;
+        prefix = f.prefix;
+        before = λ more. before_dot-ended s bytes more held_more.unbroken within.undotted last ∙ joined-prefix f.prefix s f.parts f.read.ended;
         after = λ more. after_dot-ended s bytes more held_more.unbroken within.undotted last;
         lines_are = ended_lines-ended s bytes held_more.unbroken
             ∙ ap (λ (l : List ℕ). ended_lines s ++ l ∷ []) ((bytes_eq-Decides (without_cr ((cut s).rest ++ bytes)) (codes ".")).0 last)
             ∙ ap (λ (ls : List (List ℕ)). ls ++ codes "." ∷ []) before;
         undotted = ap has_dot (sym before) ∙ within.undotted;
-        read = same_reader mid.reader new.reader f.front same (same_reader old.reader mid.reader f.front held_more.reader_stays f.read);
+        read = same_reader mid.reader new.reader f.prefix same (same_reader old.reader mid.reader f.prefix held_more.reader_stays f.read);
         ended = rest-ended s bytes held_more.unbroken;
       })
 
 -- What the lines say before the dot.
 
 -- what the reader has read is what stands before the dot, as far as it has come
-pub read_before : (body : Body) (s : List ℕ) → IsWithin body s → HasReadOrFailed body.reader (before_dot s)
+pub read_before : (body : Body) (s : List ℕ) → AwaitsDot body s → HasReadOrFailed body.reader (before_dot s)
 read_before body s within = by_dot (is_dot (without_cr (cut s).rest)) refl
   where
     by_dot : (t : Bool) → is_dot (without_cr (cut s).rest) ≡ t → HasReadOrFailed body.reader (before_dot s)
     by_dot true is =
-        let f = read_front body.reader s [] (ap (λ (l : List ℕ). is_dot (without_cr l)) (append-nil (cut s).rest) ∙ is) within.read in
-        subst (HasReadOrFailed body.reader) (sym (before_in-last (cut s).ended (cut s).rest within.undotted is ∙ joined-front f.front s f.parts f.read.ended)) f.read.read
+        let f = read_prefix body.reader s [] (ap (λ (l : List ℕ). is_dot (without_cr l)) (append-nil (cut s).rest) ∙ is) within.read in
+        subst (HasReadOrFailed body.reader) (sym (before_in-last (cut s).ended (cut s).rest within.undotted is ∙ joined-prefix f.prefix s f.parts f.read.ended)) f.read.read
     by_dot false other =
         subst (HasReadOrFailed body.reader) (sym (before_in-none (cut s).ended (cut s).rest within.undotted other ∙ joined-cut s)) (from_none body.reader s other within.read)
 
@@ -380,9 +380,9 @@ without_last line rest is =
     ap (take (length rest - 1)) is ∙ take_at line (10 ∷ []) (length rest - 1) size
 
 -- bytes of which a line and its LF consist
-pub stands_ended : {old : Body} (new : Body) (ended : Bool) (line : List ℕ) {rest : List ℕ} → rest ≡ line ++ 10 ∷ [] → ((s : List ℕ) → IsWithin old s → Stands ended new (s ++ (line ++ 10 ∷ []))) →
-    (s : List ℕ) → IsWithin old s → Stands ended new (s ++ rest)
-stands_ended {old = old} new ended line {rest = rest} is stands s within = subst (λ (l : List ℕ). Stands ended new (s ++ l)) (sym is) (stands s within)
+pub stands_ended : {old : Body} (new : Body) (ended : Bool) (line : List ℕ) {rest : List ℕ} → rest ≡ line ++ 10 ∷ [] → ((s : List ℕ) → AwaitsDot old s → AwaitsOrHasDot ended new (s ++ (line ++ 10 ∷ []))) →
+    (s : List ℕ) → AwaitsDot old s → AwaitsOrHasDot ended new (s ++ rest)
+stands_ended {old = old} new ended line {rest = rest} is stands s within = subst (λ (l : List ℕ). AwaitsOrHasDot ended new (s ++ l)) (sym is) (stands s within)
 
 pub reads_ended : {old : Reader} {mid new : Body} (unread line : List ℕ) {rest : List ℕ} → new ≡ mid → rest ≡ line ++ 10 ∷ [] →
     ((s : List ℕ) → HasReadOrFailed old s → HasReadOrFailed mid.reader (s ++ (unread ++ rest))) →
@@ -401,11 +401,11 @@ reads_both {old = old} {mid = mid} {new = new} held {unread = unread} {bytes = b
 
 -- a line that goes on with what stands before an LF
 pub holds_ended : {old new : List ℕ} (line : List ℕ) {rest : List ℕ} {n : ℕ} → n ≡ length rest - 1 → rest ≡ line ++ 10 ∷ [] →
-    ((front : List ℕ) → old ≡ take 3 front → new ≡ take 3 (front ++ take n rest)) → (front : List ℕ) → old ≡ take 3 front → new ≡ take 3 (front ++ line)
-holds_ended {old = old} {new = new} line {rest = rest} {n = n} size is holds front held =
-    holds front held ∙ ap (λ (l : List ℕ). take 3 (front ++ l)) (ap (λ (k : ℕ). take k rest) size ∙ without_last line rest is)
+    ((prefix : List ℕ) → old ≡ take 3 prefix → new ≡ take 3 (prefix ++ take n rest)) → (prefix : List ℕ) → old ≡ take 3 prefix → new ≡ take 3 (prefix ++ line)
+holds_ended {old = old} {new = new} line {rest = rest} {n = n} size is holds prefix held =
+    holds prefix held ∙ ap (λ (l : List ℕ). take 3 (prefix ++ l)) (ap (λ (k : ℕ). take k rest) size ∙ without_last line rest is)
 
 -- all bytes are taken
-pub takes_whole : (old new : Body) (bytes : List ℕ) → ((s : List ℕ) → IsWithin old s → IsWithin new (s ++ bytes)) →
-    (s : List ℕ) → IsWithin old s → IsWithin new (s ++ take (length bytes) bytes)
-takes_whole old new bytes within s h = subst (λ (l : List ℕ). IsWithin new (s ++ l)) (sym (take_all (length bytes) bytes (omega arith))) (within s h)
+pub takes_whole : (old new : Body) (bytes : List ℕ) → ((s : List ℕ) → AwaitsDot old s → AwaitsDot new (s ++ bytes)) →
+    (s : List ℕ) → AwaitsDot old s → AwaitsDot new (s ++ take (length bytes) bytes)
+takes_whole old new bytes within s h = subst (λ (l : List ℕ). AwaitsDot new (s ++ l)) (sym (take_all (length bytes) bytes (omega arith))) (within s h)

@@ -1,10 +1,10 @@
-pub mod Fronts
-pub mod Groups
-pub mod Cuts
+pub mod Prefixes
+pub mod SplitsIntoLemmas
+pub mod LinesLemmas
 pub mod BeforeDot
 pub mod DocumentLines
 pub mod ParserLemmas
 pub mod ScriptLemmas
-pub mod Coming
+pub mod CanComeLemmas
 pub mod BodyLemmas
 pub mod OneList

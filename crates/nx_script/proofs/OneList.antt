@@ -13,18 +13,18 @@ use Rattle.nx_pyx.specs.Fault.{first_fault, fault_at, fault_at_end, standing, en
 use Rattle.nx_pyx.specs.Lines.{cut, ended_lines, lines}
 use Rattle.nx_pyx.proofs.Outcome.{document_of, neither}
 use Rattle.nx_pyx.proofs.Reading.{one_document}
-use Rattle.nx_pyx.proofs.Said.{document_goes}
-use Rattle.nx_pyx.proofs.Shown.{lines-append, ended_lines-append}
+use Rattle.nx_pyx.proofs.DocumentLemmas.{document_goes}
+use Rattle.nx_pyx.proofs.ShownFaultLemmas.{lines-append, ended_lines-append}
 use Rattle.nx_script.specs.declared.command.Command.{Command}
 use Rattle.nx_script.specs.declared.command.Command.TheVariants.{Load, Bad}
 use Rattle.nx_script.specs.declared.command.LoadBody.{LoadBody}
 use Rattle.nx_script.specs.declared.command.LoadBody.TheVariants.{Read, Wrong}
 use Rattle.nx_script.specs.declared.script.Script.{Script}
 use Rattle.nx_script.specs.Line.{command_of}
-use Rattle.nx_script.specs.Commands.{begins_load, is_dot, has_dot, loaded_name, SaysBody, Loads, IsWhole, Gives, IsUnended, cut_off, AreWhole, AreCommands}
+use Rattle.nx_script.specs.Commands.{begins_load, is_dot, has_dot, loaded_name, SaysBody, Loads, IsWhole, SplitsInto, IsUnended, cut_off, AreWhole, AreCommands}
 use Rattle.nx_script.specs.Law.{HasOneList}
 use Rattle.nx_script.specs.Script.{unread, HasGivenIn}
-use Rattle.nx_script.proofs.Groups.{gives_longer, whole_line, whole_load}
+use Rattle.nx_script.proofs.SplitsIntoLemmas.{gives_longer, whole_line, whole_load}
 use Rattle.nx_script.proofs.ScriptLemmas.{HasLooked, looked, parsed_whole}
 
 -- A document's lines.
@@ -110,8 +110,8 @@ one_dot (line ∷ a) [] x y p q is =
 one_dot (line ∷ a) (other ∷ b) x y p q is =
     let first : line ≡ other = cc in
     let rest : a ++ codes "." ∷ x ≡ b ++ codes "." ∷ y = cc in
-    let (front, behind) = one_dot a b x y (or_parts (is_dot line) (has_dot a) p).1 (or_parts (is_dot other) (has_dot b) q).1 rest in
-    (ap (λ (l : List ℕ). l ∷ a) first ∙ ap (λ (l : List (List ℕ)). other ∷ l) front, behind)
+    let (prefix, behind) = one_dot a b x y (or_parts (is_dot line) (has_dot a) p).1 (or_parts (is_dot other) (has_dot b) q).1 rest in
+    (ap (λ (l : List ℕ). l ∷ a) first ∙ ap (λ (l : List (List ℕ)). other ∷ l) prefix, behind)
 
 -- a group is no document that isn't ended
 unended_whole : (own others : List (List ℕ)) (command : Command) → IsWhole own command → IsUnended (own ++ others) → ⊥
@@ -153,17 +153,17 @@ one_group (line ∷ a) (second ∷ b) {more = more} {behind = behind} {c = c} {d
 -- All groups.
 
 -- lines give one list of whole commands, and leave one list of lines
-one_giving : (ls : List (List ℕ)) (c d : List Command) {x y : List (List ℕ)} → Gives ls c x → Gives ls d y → IsUnended x → IsUnended y → (c ≡ d) × (x ≡ y)
+one_giving : (ls : List (List ℕ)) (c d : List Command) {x y : List (List ℕ)} → SplitsInto ls c x → SplitsInto ls d y → IsUnended x → IsUnended y → (c ≡ d) × (x ≡ y)
 one_giving ls [] [] {x = x} {y = y} p q u v = (refl, sym p ∙ q)
 one_giving ls [] (d ∷ ds) {x = x} {y = y} p (own, others, is, whole, gives) u v = absurd (unended_whole own others d whole (subst IsUnended (sym p ∙ is) u))
 one_giving ls (c ∷ cs) [] {x = x} {y = y} (own, others, is, whole, gives) q u v = absurd (unended_whole own others c whole (subst IsUnended (sym q ∙ is) v))
 one_giving ls (c ∷ cs) (d ∷ ds) {x = x} {y = y} (own, others, is, whole, gives) (own', others', is', whole', gives') u v =
     let (left, first) = one_group own own' whole whole' (sym is ∙ is') in
-    let (rest, ends) = one_giving others cs ds gives (subst (λ (l : List (List ℕ)). Gives l ds y) (sym left) gives') u v in
+    let (rest, ends) = one_giving others cs ds gives (subst (λ (l : List (List ℕ)). SplitsInto l ds y) (sym left) gives') u v in
     (ap (λ (h : Command). h ∷ cs) first ∙ ap (λ (t : List Command). d ∷ t) rest, ends)
 
 -- lines give whole commands, and then no line or a document that isn't ended
-some_giving : (n : ℕ) (ls : List (List ℕ)) → length ls ≤ n → (commands : List Command) × (rest : List (List ℕ)) × Gives ls commands rest × IsUnended rest
+some_giving : (n : ℕ) (ls : List (List ℕ)) → length ls ≤ n → (commands : List Command) × (rest : List (List ℕ)) × SplitsInto ls commands rest × IsUnended rest
 some_giving n [] few = ([], [], refl, tt)
 some_giving zero (line ∷ ls) few = absurd (omega arith)
 some_giving (suc n) (line ∷ ls) few =
@@ -193,8 +193,8 @@ some_giving (suc n) (line ∷ ls) few =
     (cases_Bool (begins_load line))
 
 -- some commands, and more behind them
-gives_append : (ls : List (List ℕ)) (commands others : List Command) (mid rest : List (List ℕ)) → Gives ls commands mid → Gives mid others rest → Gives ls (commands ++ others) rest
-gives_append ls [] others mid rest is gives = subst (λ (l : List (List ℕ)). Gives l others rest) (sym is) gives
+gives_append : (ls : List (List ℕ)) (commands others : List Command) (mid rest : List (List ℕ)) → SplitsInto ls commands mid → SplitsInto mid others rest → SplitsInto ls (commands ++ others) rest
+gives_append ls [] others mid rest is gives = subst (λ (l : List (List ℕ)). SplitsInto l others rest) (sym is) gives
 gives_append ls (command ∷ commands) others mid rest (own, left, is, whole, first) gives = (own, left, is, whole, gives_append left commands others mid rest first gives)
 
 -- each list of bytes is one list of commands
@@ -210,8 +210,8 @@ one_list bytes =
     }
 
 -- what is whole in the bytes so far begins the commands of all bytes
-pub whole_front : (taken more : List ℕ) (commands : List Command) → AreWhole taken commands → (rest : List Command) × AreCommands (taken ++ more) (commands ++ rest)
-whole_front taken more commands (left, gives, _) =
+pub whole_prefix : (taken more : List ℕ) (commands : List Command) → AreWhole taken commands → (rest : List Command) × AreCommands (taken ++ more) (commands ++ rest)
+whole_prefix taken more commands (left, gives, _) =
     let all : List (List ℕ) = left ++ lines ((cut taken).rest ++ more) in
     let (others, rest, gives', unended) = some_giving (length all) all (omega arith) in (
       others ++ cut_off rest,
@@ -219,7 +219,7 @@ whole_front taken more commands (left, gives, _) =
         commands ++ others,
         rest,
         gives_append (lines (taken ++ more)) commands others all rest
-            (subst (λ (l : List (List ℕ)). Gives l commands all) (sym (lines-append taken more)) (gives_longer (ended_lines taken) commands left (lines ((cut taken).rest ++ more)) gives))
+            (subst (λ (l : List (List ℕ)). SplitsInto l commands all) (sym (lines-append taken more)) (gives_longer (ended_lines taken) commands left (lines ((cut taken).rest ++ more)) gives))
             gives',
         unended,
         sym (append_assoc commands others (cut_off rest)),
@@ -227,9 +227,9 @@ whole_front taken more commands (left, gives, _) =
     )
 
 -- the commands that a script has given of an input begin those of the whole input
-pub given_front : (script : Script) (taken left : List ℕ) (commands : List Command) (first : Option (List ℕ)) → HasGivenIn script taken commands first (Some left) →
+pub given_prefix : (script : Script) (taken left : List ℕ) (commands : List Command) (first : Option (List ℕ)) → HasGivenIn script taken commands first (Some left) →
     (rest : List Command) × AreCommands (taken ++ left) (commands ++ rest)
-given_front script taken left commands first given =
+given_prefix script taken left commands first given =
     ⊎_elim
     (λ (finished : script.finished ≡ true).
     let end : left ≡ [] = (given.end (given.given.ended finished)).0 in (
@@ -241,7 +241,7 @@ given_front script taken left commands first given =
     ))
     (λ (unfinished : script.finished ≡ false).
     let (seen, parts, parsed) = looked script taken commands unfinished given.given in
-    let (rest, are) = whole_front seen (unread script ++ left) commands (parsed_whole script.parser seen commands parsed) in
+    let (rest, are) = whole_prefix seen (unread script ++ left) commands (parsed_whole script.parser seen commands parsed) in
     (rest, subst (λ (l : List ℕ). AreCommands l (commands ++ rest)) (sym (append_assoc seen (unread script) left) ∙ ap (λ (l : List ℕ). l ++ left) (sym parts)) are))
     (cases_Bool script.finished)
 
@@ -254,7 +254,7 @@ whole_more taken more commands (left, gives, _) =
       (
         rest,
         gives_append (ended_lines (taken ++ more)) commands others all rest
-            (subst (λ (l : List (List ℕ)). Gives l commands all) (sym (ended_lines-append taken more)) (gives_longer (ended_lines taken) commands left (ended_lines ((cut taken).rest ++ more)) gives))
+            (subst (λ (l : List (List ℕ)). SplitsInto l commands all) (sym (ended_lines-append taken more)) (gives_longer (ended_lines taken) commands left (ended_lines ((cut taken).rest ++ more)) gives))
             gives',
         unended,
       ),

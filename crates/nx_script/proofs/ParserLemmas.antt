@@ -5,7 +5,7 @@ use Rattle.std.proofs.lemmas.Bool.{or_from}
 use Rattle.std.proofs.lemmas.List.Folds.{list_any-append}
 use Rattle.std.proofs.lemmas.Slice.Eq.{bytes_eq-Decides}
 use Rattle.nx_pyx.specs.Lines.{cut, without_cr, last_line, ended_lines, lines, has_lf, EndsLine}
-use Rattle.nx_pyx.proofs.Shown.{cut-rest, ended_lines-append}
+use Rattle.nx_pyx.proofs.ShownFaultLemmas.{cut-rest, ended_lines-append}
 use Rattle.nx_pyx.proofs.StreamLemmas.{ended_lines-held, ended_lines-ended, nothing_held}
 use Rattle.nx_script.specs.declared.body.Body.{Body}
 use Rattle.nx_script.specs.declared.command.Command.{Command}
@@ -13,13 +13,13 @@ use Rattle.nx_script.specs.declared.command.Command.TheVariants.{Bad}
 use Rattle.nx_script.specs.declared.parser.Load.{Load}
 use Rattle.nx_script.specs.declared.parser.Parser.{Parser}
 use Rattle.nx_script.specs.Line.{command_of}
-use Rattle.nx_script.specs.Commands.{begins_load, is_dot, has_dot, loaded_name, Loads, IsWhole, Gives, AreCommands}
-use Rattle.nx_script.specs.Body.{HasReadLines, IsWithin, IsEndedBy}
-use Rattle.nx_script.specs.Parser.{most_held, with_command, IsLoading, Keeps, HasParsed, Adds, MeansSame}
-use Rattle.nx_script.proofs.Fronts.{means_same, dot_front}
-use Rattle.nx_script.proofs.Groups.{gives_longer, gives_then, whole_line, whole_load}
-use Rattle.nx_script.proofs.Cuts.{rest-held, rest-ended, rest-append, lines-whole}
-use Rattle.nx_script.proofs.DocumentLines.{read_front, line_taken}
+use Rattle.nx_script.specs.Commands.{begins_load, is_dot, has_dot, loaded_name, Loads, IsWhole, SplitsInto, AreCommands}
+use Rattle.nx_script.specs.Body.{HasReadLines, AwaitsDot, IsEndedBy}
+use Rattle.nx_script.specs.Parser.{most_held, with_command, IsLoading, HoldsRest, HasParsed, Adds, MeansSame}
+use Rattle.nx_script.proofs.Prefixes.{means_same, dot_prefix}
+use Rattle.nx_script.proofs.SplitsIntoLemmas.{gives_longer, gives_then, whole_line, whole_load}
+use Rattle.nx_script.proofs.LinesLemmas.{rest-held, rest-ended, rest-append, lines-whole}
+use Rattle.nx_script.proofs.DocumentLines.{read_prefix, line_taken}
 
 -- nothing is held: there was nothing
 pub none_held : (n : ℕ) (held rest : List ℕ) → 0 < n → held ≡ take n rest → held ≡ [] → rest ≡ []
@@ -29,16 +29,16 @@ none_held (suc n) held (b ∷ rest) some is none = absurd (let no_byte : [] ≡ 
 
 -- what is kept outside a document
 kept_outside : (parser : Parser) (seen : List ℕ) (commands : List Command) → parser.load ≡ None → HasParsed parser seen commands →
-    Gives (ended_lines seen) commands [] × (parser.held ≡ take most_held (cut seen).rest)
+    SplitsInto (ended_lines seen) commands [] × (parser.held ≡ take most_held (cut seen).rest)
 kept_outside parser seen commands outside parsed =
-    let (none, held) = subst (λ (l : Option Load). Keeps l parser.held seen parsed.rest) outside parsed.keeps in
-    (subst (λ (ls : List (List ℕ)). Gives (ended_lines seen) commands ls) none parsed.gives, held)
+    let (none, held) = subst (λ (l : Option Load). HoldsRest l parser.held seen parsed.rest) outside parsed.keeps in
+    (subst (λ (ls : List (List ℕ)). SplitsInto (ended_lines seen) commands ls) none parsed.gives, held)
 
 -- a parser outside a document that has parsed these bytes
-parsed_outside : (parser : Parser) (seen : List ℕ) (commands : List Command) → parser.load ≡ None → Gives (ended_lines seen) commands [] →
+parsed_outside : (parser : Parser) (seen : List ℕ) (commands : List Command) → parser.load ≡ None → SplitsInto (ended_lines seen) commands [] →
     parser.held ≡ take most_held (cut seen).rest → HasParsed parser seen commands
 parsed_outside parser seen commands outside gives held =
-    record { rest = []; gives = gives; keeps = subst (λ (l : Option Load). Keeps l parser.held seen []) (sym outside) (refl, held) }
+    record { rest = []; gives = gives; keeps = subst (λ (l : Option Load). HoldsRest l parser.held seen []) (sym outside) (refl, held) }
 
 -- more of a line is held
 pub holds_line : {old new : Parser} {bytes : List ℕ} → has_lf bytes ≡ false → old.load ≡ None → new.load ≡ old.load →
@@ -47,7 +47,7 @@ pub holds_line : {old new : Parser} {bytes : List ℕ} → has_lf bytes ≡ fals
 holds_line {old = old} {new = new} {bytes = bytes} unbroken outside same holds seen commands parsed =
     let (gives, held) = kept_outside old seen commands outside parsed in
     parsed_outside new (seen ++ bytes) commands (same ∙ outside)
-    (subst (λ (ls : List (List ℕ)). Gives ls commands []) (sym (ended_lines-held seen bytes unbroken)) gives)
+    (subst (λ (ls : List (List ℕ)). SplitsInto ls commands []) (sym (ended_lines-held seen bytes unbroken)) gives)
     (holds (cut seen).rest held ∙ ap (take most_held) (sym (rest-held seen bytes unbroken)))
 
 -- a line ends
@@ -58,11 +58,11 @@ adds_line {old = old} {new = new} {bytes = bytes} {line = line} command unbroken
     let (gives, held) = kept_outside old seen commands outside parsed in
     let whole : List ℕ = without_cr ((cut seen).rest ++ bytes) in
     by_command command (means (cut seen).rest held) adds
-    (subst (λ (ls : List (List ℕ)). Gives ls commands (whole ∷ [])) (sym (ended_lines-ended seen bytes unbroken))
+    (subst (λ (ls : List (List ℕ)). SplitsInto ls commands (whole ∷ [])) (sym (ended_lines-ended seen bytes unbroken))
     (gives_longer (ended_lines seen) commands [] (whole ∷ []) gives))
   where
     by_command : (c : Option Command) → MeansSame line (without_cr ((cut seen).rest ++ bytes)) → Adds line new c →
-        Gives (ended_lines (seen ++ (bytes ++ 10 ∷ []))) commands (without_cr ((cut seen).rest ++ bytes) ∷ []) →
+        SplitsInto (ended_lines (seen ++ (bytes ++ 10 ∷ []))) commands (without_cr ((cut seen).rest ++ bytes) ∷ []) →
         HasParsed new (seen ++ (bytes ++ 10 ∷ [])) (with_command commands c)
     by_command (Some c) same (begins, is, after) gives =
         let whole : List ℕ = without_cr ((cut seen).rest ++ bytes) in
@@ -74,7 +74,7 @@ adds_line {old = old} {new = new} {bytes = bytes} {line = line} command unbroken
         record {
           rest = whole ∷ [];
           gives = gives;
-          keeps = subst (λ (l : Option Load). Keeps l new.held (seen ++ (bytes ++ 10 ∷ [])) (whole ∷ [])) (sym is) (
+          keeps = subst (λ (l : Option Load). HoldsRest l new.held (seen ++ (bytes ++ 10 ∷ [])) (whole ∷ [])) (sym is) (
             none,
             record {
               begins = sym same.begins ∙ begins;
@@ -104,14 +104,14 @@ means_held line held whole is held_is =
 
 -- the lines behind the `load` as bytes come
 behind_more : (load : Load) (seen bytes head : List ℕ) (ls : List (List ℕ)) (commands : List Command) (loading : IsLoading load seen head ls) →
-    Gives (ended_lines seen) commands (head ∷ ls) → Gives (ended_lines (seen ++ bytes)) commands (head ∷ ended_lines (loading.stream ++ bytes))
+    SplitsInto (ended_lines seen) commands (head ∷ ls) → SplitsInto (ended_lines (seen ++ bytes)) commands (head ∷ ended_lines (loading.stream ++ bytes))
 behind_more load seen bytes head ls commands loading gives =
     let more : ended_lines (loading.stream ++ bytes) ≡ ls ++ ended_lines ((cut seen).rest ++ bytes) =
     ended_lines-append loading.stream bytes
     ∙ ap (λ (l : List (List ℕ)). l ++ ended_lines ((cut loading.stream).rest ++ bytes)) loading.lines_are
     ∙ ap (λ (rest : List ℕ). ls ++ ended_lines (rest ++ bytes)) loading.same_rest in
-    subst (λ (l : List (List ℕ)). Gives (ended_lines (seen ++ bytes)) commands (head ∷ l)) (sym more)
-    (subst (λ (l : List (List ℕ)). Gives l commands (head ∷ (ls ++ ended_lines ((cut seen).rest ++ bytes)))) (sym (ended_lines-append seen bytes))
+    subst (λ (l : List (List ℕ)). SplitsInto (ended_lines (seen ++ bytes)) commands (head ∷ l)) (sym more)
+    (subst (λ (l : List (List ℕ)). SplitsInto l commands (head ∷ (ls ++ ended_lines ((cut seen).rest ++ bytes)))) (sym (ended_lines-append seen bytes))
     (gives_longer (ended_lines seen) commands (head ∷ ls) (ended_lines ((cut seen).rest ++ bytes)) gives))
 
 same_rest-more : (load : Load) (seen bytes head : List ℕ) (ls : List (List ℕ)) (loading : IsLoading load seen head ls) →
@@ -122,16 +122,16 @@ same_rest-more load seen bytes head ls loading =
 module _ (old : Parser) {new : Parser} {load : Load} {body : Body} {bytes : List ℕ} where
   -- no dot has come
   pub body_goes_on : new.load ≡ Some (record { name = load.name; body = body }) → new.held ≡ old.held →
-      ((s : List ℕ) → IsWithin load.body s → IsWithin body (s ++ bytes)) →
+      ((s : List ℕ) → AwaitsDot load.body s → AwaitsDot body (s ++ bytes)) →
       (seen : List ℕ) (commands : List Command) → HasParsed (record old { load = Some load }) seen commands → HasParsed new (seen ++ bytes) commands
   body_goes_on is same within seen commands parsed = by_rest parsed.rest parsed.gives parsed.keeps
     where
-      by_rest : (rest : List (List ℕ)) → Gives (ended_lines seen) commands rest → Keeps (Some load) old.held seen rest → HasParsed new (seen ++ bytes) commands
+      by_rest : (rest : List (List ℕ)) → SplitsInto (ended_lines seen) commands rest → HoldsRest (Some load) old.held seen rest → HasParsed new (seen ++ bytes) commands
       by_rest [] gives keeps = absurd keeps
       by_rest (head ∷ ls) gives (none, loading) = record {
         rest = head ∷ ended_lines (loading.stream ++ bytes);
         gives = behind_more load seen bytes head ls commands loading gives;
-        keeps = subst (λ (l : Option Load). Keeps l new.held (seen ++ bytes) (head ∷ ended_lines (loading.stream ++ bytes))) (sym is) (
+        keeps = subst (λ (l : Option Load). HoldsRest l new.held (seen ++ bytes) (head ∷ ended_lines (loading.stream ++ bytes))) (sym is) (
           same ∙ none,
           record {
             begins = loading.begins;
@@ -146,38 +146,38 @@ module _ (old : Parser) {new : Parser} {load : Load} {body : Body} {bytes : List
 
   -- a dot has come
   pub body_ends : (command : Command) → (new.load ≡ None) × (new.held ≡ old.held) →
-      ((s : List ℕ) → IsWithin load.body s → IsEndedBy body (s ++ bytes)) →
+      ((s : List ℕ) → AwaitsDot load.body s → IsEndedBy body (s ++ bytes)) →
       ((line s : List ℕ) → load.name ≡ loaded_name line → HasReadLines body.reader s → Loads line (ended_lines s) command) →
       (seen : List ℕ) (commands : List Command) → HasParsed (record old { load = Some load }) seen commands → HasParsed new (seen ++ bytes) (commands ++ command ∷ [])
   body_ends command (outside, same) ends loads seen commands parsed = by_rest parsed.rest parsed.gives parsed.keeps
     where
-      by_rest : (rest : List (List ℕ)) → Gives (ended_lines seen) commands rest → Keeps (Some load) old.held seen rest → HasParsed new (seen ++ bytes) (commands ++ command ∷ [])
+      by_rest : (rest : List (List ℕ)) → SplitsInto (ended_lines seen) commands rest → HoldsRest (Some load) old.held seen rest → HasParsed new (seen ++ bytes) (commands ++ command ∷ [])
       by_rest [] gives keeps = absurd keeps
       by_rest (head ∷ ls) gives (none, loading) =
           let end = ends loading.stream loading.within in
-          let own : List (List ℕ) = head ∷ (ended_lines end.front ++ codes "." ∷ []) in
+          let own : List (List ℕ) = head ∷ (ended_lines end.prefix ++ codes "." ∷ []) in
           let left : (cut (seen ++ bytes)).rest ≡ [] = sym (same_rest-more load seen bytes head ls loading) ∙ end.ended in
           parsed_outside new (seen ++ bytes) (commands ++ command ∷ []) outside
           (gives_then (ended_lines (seen ++ bytes)) commands own [] command
-          (subst (λ (l : List (List ℕ)). Gives (ended_lines (seen ++ bytes)) commands l) (ap (λ (l : List (List ℕ)). head ∷ l) end.lines_are ∙ sym (append-nil own))
+          (subst (λ (l : List (List ℕ)). SplitsInto (ended_lines (seen ++ bytes)) commands l) (ap (λ (l : List (List ℕ)). head ∷ l) end.lines_are ∙ sym (append-nil own))
           (behind_more load seen bytes head ls commands loading gives))
-          (whole_load head (ended_lines end.front) command loading.begins end.undotted (loads head end.front loading.named end.read)))
+          (whole_load head (ended_lines end.prefix) command loading.begins end.undotted (loads head end.prefix loading.named end.read)))
           (same ∙ none ∙ ap (take most_held) (sym left))
 
 -- The end of all bytes.
 
 -- all that is left of the bytes is in the lines
-gives_lines : (seen : List ℕ) (commands : List Command) (rest : List (List ℕ)) → Gives (ended_lines seen) commands rest →
-    Gives (lines seen) commands (rest ++ last_line (cut seen).rest)
+gives_lines : (seen : List ℕ) (commands : List Command) (rest : List (List ℕ)) → SplitsInto (ended_lines seen) commands rest →
+    SplitsInto (lines seen) commands (rest ++ last_line (cut seen).rest)
 gives_lines seen commands rest gives = gives_longer (ended_lines seen) commands rest (last_line (cut seen).rest) gives
 
 -- the whole script is one command more than what was whole
-one_more : (seen : List ℕ) (commands : List Command) (own : List (List ℕ)) (command : Command) → Gives (lines seen) commands own → IsWhole own command →
+one_more : (seen : List ℕ) (commands : List Command) (own : List (List ℕ)) (command : Command) → SplitsInto (lines seen) commands own → IsWhole own command →
     AreCommands seen (commands ++ command ∷ [])
 one_more seen commands own command gives whole = (
   commands ++ command ∷ [],
   [],
-  gives_then (lines seen) commands own [] command (subst (λ (l : List (List ℕ)). Gives (lines seen) commands l) (sym (append-nil own)) gives) whole,
+  gives_then (lines seen) commands own [] command (subst (λ (l : List (List ℕ)). SplitsInto (lines seen) commands l) (sym (append-nil own)) gives) whole,
   tt,
   sym (append-nil (commands ++ command ∷ [])),
 )
@@ -188,7 +188,7 @@ pub last_none : (parser : Parser) → parser.load ≡ None → (length parser.he
 last_none parser outside empty seen commands parsed =
     let (gives, held) = kept_outside parser seen commands outside parsed in
     let none : (cut seen).rest ≡ [] = none_held most_held parser.held (cut seen).rest (omega arith) held (nothing_held parser.held parser.held refl empty) in
-    (commands, [], subst (λ (ls : List (List ℕ)). Gives ls commands []) (sym (lines-whole seen none)) gives, tt, sym (append-nil commands))
+    (commands, [], subst (λ (ls : List (List ℕ)). SplitsInto ls commands []) (sym (lines-whole seen none)) gives, tt, sym (append-nil commands))
 
 -- bytes are held, so there is a last line
 last_some : (held rest : List ℕ) → held ≡ take most_held rest → (length held == 0) ≡ false → last_line rest ≡ without_cr rest ∷ []
@@ -196,10 +196,10 @@ last_some held [] is some = absurd (let none : true ≡ false = sym (ap (λ (l :
 last_some held (b ∷ rest) is some = refl
 
 module _ (parser : Parser) (line : List ℕ) (outside : parser.load ≡ None) (some : (length parser.held == 0) ≡ false) (is : line ≡ without_cr parser.held) where
-  gives_last : (seen : List ℕ) (commands : List Command) → HasParsed parser seen commands → Gives (lines seen) commands (without_cr (cut seen).rest ∷ [])
+  gives_last : (seen : List ℕ) (commands : List Command) → HasParsed parser seen commands → SplitsInto (lines seen) commands (without_cr (cut seen).rest ∷ [])
   gives_last seen commands parsed =
       let (gives, held) = kept_outside parser seen commands outside parsed in
-      subst (λ (l : List (List ℕ)). Gives (lines seen) commands l) (last_some parser.held (cut seen).rest held some) (gives_lines seen commands [] gives)
+      subst (λ (l : List (List ℕ)). SplitsInto (lines seen) commands l) (last_some parser.held (cut seen).rest held some) (gives_lines seen commands [] gives)
 
   means_last : (seen : List ℕ) (commands : List Command) → HasParsed parser seen commands → MeansSame line (without_cr (cut seen).rest)
   means_last seen commands parsed =
@@ -231,12 +231,12 @@ last_other [] other = refl
 last_other (b ∷ rest) other = or_from (is_dot (without_cr (b ∷ rest))) false other refl
 
 module _ (parser : Parser) (load : Load) (inside : parser.load ≡ Some load) (ended : Bool) (is : ended ≡ is_dot (without_cr load.body.held)) where
-  kept_inside : (seen : List ℕ) (commands : List Command) (parsed : HasParsed parser seen commands) → Keeps (Some load) parser.held seen parsed.rest
-  kept_inside seen commands parsed = subst (λ (l : Option Load). Keeps l parser.held seen parsed.rest) inside parsed.keeps
+  kept_inside : (seen : List ℕ) (commands : List Command) (parsed : HasParsed parser seen commands) → HoldsRest (Some load) parser.held seen parsed.rest
+  kept_inside seen commands parsed = subst (λ (l : Option Load). HoldsRest l parser.held seen parsed.rest) inside parsed.keeps
 
   last_is : (seen head : List ℕ) (ls : List (List ℕ)) (loading : IsLoading load seen head ls) → is_dot (without_cr (cut loading.stream).rest) ≡ ended
   last_is seen head ls loading =
-      sym (is ∙ ap (λ (l : List ℕ). is_dot (without_cr l)) loading.within.held ∙ dot_front (cut loading.stream).rest)
+      sym (is ∙ ap (λ (l : List ℕ). is_dot (without_cr l)) loading.within.held ∙ dot_prefix (cut loading.stream).rest)
 
   -- a dot ends the document's lines at the end of all bytes
   pub last_ends : (command : Command) → ended ≡ true →
@@ -244,27 +244,27 @@ module _ (parser : Parser) (load : Load) (inside : parser.load ≡ Some load) (e
       (seen : List ℕ) (commands : List Command) → HasParsed parser seen commands → AreCommands seen (commands ++ command ∷ [])
   last_ends command dot loads seen commands parsed = by_rest parsed.rest parsed.gives (kept_inside seen commands parsed)
     where
-      by_rest : (rest : List (List ℕ)) → Gives (ended_lines seen) commands rest → Keeps (Some load) parser.held seen rest → AreCommands seen (commands ++ command ∷ [])
+      by_rest : (rest : List (List ℕ)) → SplitsInto (ended_lines seen) commands rest → HoldsRest (Some load) parser.held seen rest → AreCommands seen (commands ++ command ∷ [])
       by_rest [] gives keeps = absurd keeps
       by_rest (head ∷ ls) gives (none, loading) =
           let last : List ℕ = (cut loading.stream).rest in
           let is_last : is_dot (without_cr last) ≡ true = last_is seen head ls loading ∙ dot in
-          let f = read_front load.body.reader loading.stream [] (ap (λ (l : List ℕ). is_dot (without_cr l)) (append-nil last) ∙ is_last) loading.within.read in
-          let before : ls ≡ ended_lines f.front = sym loading.lines_are ∙ ap ended_lines f.parts ∙ ended_lines-held f.front last (cut-rest loading.stream) in
-          let own : (head ∷ ls) ++ last_line (cut seen).rest ≡ head ∷ (ended_lines f.front ++ codes "." ∷ []) =
+          let f = read_prefix load.body.reader loading.stream [] (ap (λ (l : List ℕ). is_dot (without_cr l)) (append-nil last) ∙ is_last) loading.within.read in
+          let before : ls ≡ ended_lines f.prefix = sym loading.lines_are ∙ ap ended_lines f.parts ∙ ended_lines-held f.prefix last (cut-rest loading.stream) in
+          let own : (head ∷ ls) ++ last_line (cut seen).rest ≡ head ∷ (ended_lines f.prefix ++ codes "." ∷ []) =
           ap (λ (r : List ℕ). head ∷ (ls ++ last_line r)) (sym loading.same_rest)
           ∙ ap (λ (l : List (List ℕ)). head ∷ (ls ++ l)) (last_dot last is_last)
           ∙ ap (λ (l : List (List ℕ)). head ∷ (l ++ codes "." ∷ [])) before in
-          one_more seen commands (head ∷ (ended_lines f.front ++ codes "." ∷ [])) command
-          (subst (λ (l : List (List ℕ)). Gives (lines seen) commands l) own (gives_lines seen commands (head ∷ ls) gives))
-          (whole_load head (ended_lines f.front) command loading.begins (ap has_dot (sym before ∙ sym loading.lines_are) ∙ loading.within.undotted)
-          (loads head f.front loading.named f.read))
+          one_more seen commands (head ∷ (ended_lines f.prefix ++ codes "." ∷ [])) command
+          (subst (λ (l : List (List ℕ)). SplitsInto (lines seen) commands l) own (gives_lines seen commands (head ∷ ls) gives))
+          (whole_load head (ended_lines f.prefix) command loading.begins (ap has_dot (sym before ∙ sym loading.lines_are) ∙ loading.within.undotted)
+          (loads head f.prefix loading.named f.read))
 
   -- the document's lines are cut off
   pub last_cut : ended ≡ false → (seen : List ℕ) (commands : List Command) → HasParsed parser seen commands → AreCommands seen (commands ++ Bad ∷ [])
   last_cut other seen commands parsed = by_rest parsed.rest parsed.gives (kept_inside seen commands parsed)
     where
-      by_rest : (rest : List (List ℕ)) → Gives (ended_lines seen) commands rest → Keeps (Some load) parser.held seen rest → AreCommands seen (commands ++ Bad ∷ [])
+      by_rest : (rest : List (List ℕ)) → SplitsInto (ended_lines seen) commands rest → HoldsRest (Some load) parser.held seen rest → AreCommands seen (commands ++ Bad ∷ [])
       by_rest [] gives keeps = absurd keeps
       by_rest (head ∷ ls) gives (none, loading) =
           let last : List ℕ = (cut loading.stream).rest in

@@ -14,7 +14,7 @@ use Rattle.nx_script.specs.declared.parser.Load.{Load}
 use Rattle.nx_script.specs.declared.parser.Parser.{Parser}
 use Rattle.nx_script.specs.declared.script.Script.{Script}
 use Rattle.nx_script.specs.Commands.{has_dot, IsUnended, AreWhole, AreCommands}
-use Rattle.nx_script.specs.Parser.{with_command, Keeps as ParserKeeps, HasParsed}
+use Rattle.nx_script.specs.Parser.{with_command, HoldsRest, HasParsed}
 use Rattle.nx_script.specs.Script.{unread, IsDrained, HasGiven, HasGivenIn, StopsIn, Stops}
 use Rattle.nx_lists.proofs.CaseLemmas.{match_true, match_false}
 
@@ -72,7 +72,7 @@ looks_at {old = old} {parser = parser} {bytes = bytes} n command some is parses 
 pub parsed_whole : (parser : Parser) (seen : List ℕ) (commands : List Command) → HasParsed parser seen commands → AreWhole seen commands
 parsed_whole parser seen commands parsed = (parsed.rest, parsed.gives, unended parser.load parsed.rest parsed.keeps)
   where
-    unended : (load : Option Load) (rest : List (List ℕ)) → ParserKeeps load parser.held seen rest → IsUnended rest
+    unended : (load : Option Load) (rest : List (List ℕ)) → HoldsRest load parser.held seen rest → IsUnended rest
     unended None rest (none, held) = subst IsUnended (sym none) tt
     unended (Some load) [] keeps = absurd keeps
     unended (Some load) (head ∷ ls) (none, loading) = (loading.begins, ap has_dot (sym loading.lines_are) ∙ loading.within.undotted)

@@ -31,23 +31,23 @@ pub record HasReadLines (reader : Reader) (stream : List ℕ) : Type 0 where
 abbrev pub HasReadUpToDot : Reader → List ℕ → Type 0
 HasReadUpToDot reader stream =
     MatchBool (is_dot (without_cr (cut stream).rest))
-    ((front : List ℕ) × (stream ≡ front ++ (cut stream).rest) × HasReadLines reader front)
+    ((prefix : List ℕ) × (stream ≡ prefix ++ (cut stream).rest) × HasReadLines reader prefix)
     (HasReadOrFailed reader stream)
 
 -- These bytes of the document's lines have come, and no dot has ended them yet.
-pub record IsWithin (body : Body) (stream : List ℕ) : Type 0 where
+pub record AwaitsDot (body : Body) (stream : List ℕ) : Type 0 where
   pub undotted : has_dot (ended_lines stream) ≡ false
   pub held : body.held ≡ take 3 (cut stream).rest
   pub read : HasReadUpToDot body.reader stream
 
 -- A dot has ended the document's lines: these bytes, and the dot's line. Whatever comes stands behind it.
 pub record IsEndedBy (body : Body) (stream : List ℕ) : Type 0 where
-  pub front : List ℕ
-  pub before : (more : List ℕ) → before_dot (stream ++ more) ≡ front
+  pub prefix : List ℕ
+  pub before : (more : List ℕ) → before_dot (stream ++ more) ≡ prefix
   pub after : (more : List ℕ) → after_dot (stream ++ more) ≡ more
-  pub lines_are : ended_lines stream ≡ ended_lines front ++ codes "." ∷ []
-  pub undotted : has_dot (ended_lines front) ≡ false
-  pub read : HasReadLines body.reader front
+  pub lines_are : ended_lines stream ≡ ended_lines prefix ++ codes "." ∷ []
+  pub undotted : has_dot (ended_lines prefix) ≡ false
+  pub read : HasReadLines body.reader prefix
   pub ended : (cut stream).rest ≡ []
 
 -- the bytes that are held and that the reader hasn't read: those of a line that may still be the dot
@@ -65,9 +65,9 @@ fault_in (Some (Pyx error)) = Some error
 fault_in _ = None
 
 -- where the document's lines stand after these bytes
-abbrev pub Stands : Bool → Body → List ℕ → Type 0
-Stands true body stream = IsEndedBy body stream
-Stands false body stream = IsWithin body stream
+abbrev pub AwaitsOrHasDot : Bool → Body → List ℕ → Type 0
+AwaitsOrHasDot true body stream = IsEndedBy body stream
+AwaitsOrHasDot false body stream = AwaitsDot body stream
 
 -- Of the first n bytes no line begins with a dot, and at the place `last` begins what stands behind their last LF.
 pub record IsBeforeDot (bytes : List ℕ) (n last : ℕ) : Type 0 where

@@ -56,10 +56,10 @@ IsWhole (line ∷ ls) command =
     ((ls ≡ []) × (command ≡ command_of line))
 
 -- the first of these lines are these whole commands, and these lines are left
-abbrev pub Gives : List (List ℕ) → List Command → List (List ℕ) → Type 0
-Gives ls [] rest = ls ≡ rest
-Gives ls (command ∷ commands) rest =
-    (own : List (List ℕ)) × (others : List (List ℕ)) × (ls ≡ own ++ others) × IsWhole own command × Gives others commands rest
+abbrev pub SplitsInto : List (List ℕ) → List Command → List (List ℕ) → Type 0
+SplitsInto ls [] rest = ls ≡ rest
+SplitsInto ls (command ∷ commands) rest =
+    (own : List (List ℕ)) × (others : List (List ℕ)) × (ls ≡ own ++ others) × IsWhole own command × SplitsInto others commands rest
 
 -- no line, or a `load` whose document isn't ended
 abbrev pub IsUnended : List (List ℕ) → Type 0
@@ -73,12 +73,12 @@ cut_off (line ∷ body) = Bad ∷ []
 
 -- the commands of which the bytes hold every line up to its LF
 abbrev pub AreWhole : List ℕ → List Command → Type 0
-AreWhole bytes commands = (rest : List (List ℕ)) × Gives (ended_lines bytes) commands rest × IsUnended rest
+AreWhole bytes commands = (rest : List (List ℕ)) × SplitsInto (ended_lines bytes) commands rest × IsUnended rest
 
 -- the commands of a whole script
 abbrev pub AreCommands : List ℕ → List Command → Type 0
 AreCommands bytes commands =
-    (whole : List Command) × (rest : List (List ℕ)) × Gives (lines bytes) whole rest × IsUnended rest × (commands ≡ whole ++ cut_off rest)
+    (whole : List Command) × (rest : List (List ℕ)) × SplitsInto (lines bytes) whole rest × IsUnended rest × (commands ≡ whole ++ cut_off rest)
 
 -- a command that a script can give: what it holds could be read
 abbrev pub CanCome : Command → Type 0

@@ -5,7 +5,7 @@ ghost use Rattle.nx_pyx.specs.Lines.{cut, ended_lines, has_lf, without_cr};
 ghost use Rattle.nx_pyx.specs.Field.{begins_with};
 ghost use Rattle.nx_script.specs.Commands.{SaysBody, is_dot};
 ghost use Rattle.nx_script.specs.BeforeDot.{before_dot, shown_before_dot};
-ghost use Rattle.nx_script.specs.Body.{HasReadOrFailed, HasReadLines, IsWithin, IsEndedBy, Stands, IsBeforeDot, Says, fault_in, unread};
+ghost use Rattle.nx_script.specs.Body.{HasReadOrFailed, HasReadLines, AwaitsDot, IsEndedBy, AwaitsOrHasDot, IsBeforeDot, Says, fault_in, unread};
 
 use crate::LoadBody;
 use crate::line::is_dot;
@@ -32,7 +32,7 @@ impl Body {
     ///
     /// Errors: `NoMemory`.
     pub fn new(alloc: Global) -> Result<Body, NoMemory>
-        ensures { IfOk result (λ body. IsWithin body []) }
+        ensures { IfOk result (λ body. AwaitsDot body []) }
     {
         let Ok(reader) = Reader::new(alloc) else {
             return Err(NoMemory);
@@ -43,7 +43,7 @@ impl Body {
         })
     }
 
-    /// Takes a front of the bytes that come, and gives how many they were, at least one, and whether
+    /// Takes a prefix of the bytes that come, and gives how many they were, at least one, and whether
     /// the dot has ended the document's lines with them. The bytes behind are then no longer the
     /// document's.
     ///
@@ -52,7 +52,7 @@ impl Body {
         requires { 0 < length bytes.now }
         ensures some { IfOk result (λ r. 0 < r.0) }
         ensures within { IfOk result (λ r. r.0 ≤ length bytes.now) }
-        ensures stands { IfOk result (λ r. (s : List ℕ) → IsWithin self.old s → Stands r.1 self.new (s ++ take r.0 bytes.now)) }
+        ensures stands { IfOk result (λ r. (s : List ℕ) → AwaitsDot self.old s → AwaitsOrHasDot r.1 self.new (s ++ take r.0 bytes.now)) }
     {
         if self.held.is_empty() && bytes[0] != b'.' {
             return Ok((self.take_lines(bytes)?, false));
@@ -69,7 +69,7 @@ impl Body {
     /// The fault that the bytes show which have come so far, if they show one. Of a line that may
     /// still be the dot nothing is told.
     pub fn fault(&self) -> Option<PyxError>
-        ensures { (s : List ℕ) → IsWithin self.now s → result ≡ shown_before_dot s }
+        ensures { (s : List ℕ) → AwaitsDot self.now s → result ≡ shown_before_dot s }
     {
         fault_in(self.reader.error())
     }
@@ -78,7 +78,7 @@ impl Body {
     /// document's lines.
     pub fn is_at_dot(&self) -> bool
         ensures held { result ≡ is_dot (without_cr self.now.held) }
-        ensures within { (s : List ℕ) → IsWithin self.now s → result ≡ is_dot (without_cr (cut s).rest) }
+        ensures within { (s : List ℕ) → AwaitsDot self.now s → result ≡ is_dot (without_cr (cut s).rest) }
     {
         is_dot(without_cr(self.held.as_slice()))
     }
@@ -89,7 +89,7 @@ impl Body {
     /// Errors: `NoMemory`.
     pub fn finish(self) -> Result<LoadBody, NoMemory>
         ensures lines { IfOk result (λ said. (s : List ℕ) → HasReadLines self.reader s → SaysBody (ended_lines s) said) }
-        ensures within { IfOk result (λ said. (s : List ℕ) → IsWithin self s → Says (before_dot s) said) }
+        ensures within { IfOk result (λ said. (s : List ℕ) → AwaitsDot self s → Says (before_dot s) said) }
         ensures ended { IfOk result (λ said. (s : List ℕ) → IsEndedBy self s → (more : List ℕ) → Says (before_dot (s ++ more)) said) }
     {
         let Body { reader, held: _ } = self;
@@ -104,7 +104,7 @@ impl Body {
         requires undotted { begins_with 46 bytes.now ≡ false }
         ensures some { IfOk result (λ n. 0 < n) }
         ensures within { IfOk result (λ n. n ≤ length bytes.now) }
-        ensures stands { IfOk result (λ n. (s : List ℕ) → IsWithin self.old s → IsWithin self.new (s ++ take n bytes.now)) }
+        ensures stands { IfOk result (λ n. (s : List ℕ) → AwaitsDot self.old s → AwaitsDot self.new (s ++ take n bytes.now)) }
     {
         let (len, last) = before_dot(bytes);
         feed(&mut self.reader, &bytes[..len])?;
@@ -116,7 +116,7 @@ impl Body {
     fn go_on(&mut self, bytes: &[u8]) -> Result<(), NoMemory>
         requires some { 0 < length bytes.now }
         requires unbroken { has_lf bytes.now ≡ false }
-        ensures { OnOk result ((s : List ℕ) → IsWithin self.old s → IsWithin self.new (s ++ bytes.now)) }
+        ensures { OnOk result ((s : List ℕ) → AwaitsDot self.old s → AwaitsDot self.new (s ++ bytes.now)) }
     {
         let unread = self.unread_len();
         self.hold(bytes)?;
@@ -129,7 +129,7 @@ impl Body {
     // Takes the rest of a line, with its LF, and says whether the line ends the document.
     fn end_line(&mut self, rest: &[u8]) -> Result<bool, NoMemory>
         requires { (line : List ℕ) × (rest.now ≡ line ++ 10 ∷ []) × (has_lf line ≡ false) }
-        ensures { IfOk result (λ ended. (s : List ℕ) → IsWithin self.old s → Stands ended self.new (s ++ rest.now)) }
+        ensures { IfOk result (λ ended. (s : List ℕ) → AwaitsDot self.old s → AwaitsOrHasDot ended self.new (s ++ rest.now)) }
     {
         let unread = self.unread_len();
         self.hold(&rest[..rest.len() - 1])?;
@@ -160,7 +160,7 @@ impl Body {
         feed(&mut self.reader, bytes)
     }
 
-    // Holds as many of the bytes as are needed of the line's front.
+    // Holds as many of the bytes as are needed of the line's beginning.
     fn hold(&mut self, bytes: &[u8]) -> Result<(), NoMemory>
         ensures held { OnOk result ((line : List ℕ) → self.old.held ≡ take 3 line → self.new.held ≡ take 3 (line ++ bytes.now)) }
         ensures longer { OnOk result (length self.old.held ≤ length self.new.held) }

@@ -48,7 +48,7 @@ impl Parser {
         }
     }
 
-    /// Takes a front of the bytes that come, and gives how many they were, at least one, and the
+    /// Takes a prefix of the bytes that come, and gives how many they were, at least one, and the
     /// command that they end, if they end one.
     ///
     /// Errors: `NoMemory`.
@@ -165,7 +165,7 @@ impl Parser {
         Ok(None)
     }
 
-    // Holds as many of the bytes as are needed of the line's front.
+    // Holds as many of the bytes as are needed of the line's beginning.
     fn hold(&mut self, bytes: &[u8]) -> Result<(), NoMemory>
         ensures held { OnOk result ((line : List ℕ) → self.old.held ≡ take most_held line → self.new.held ≡ take most_held (line ++ bytes.now)) }
         ensures load { self.new.load ≡ self.old.load }

@@ -37,7 +37,7 @@ pub fn push_reply(block: &mut Bytes, reply: &Reply) -> Result<(), NoMemory>
 // Adds the text of a reply. Want of memory may leave a part of it behind what the block had.
 fn push_text(block: &mut Bytes, reply: &Reply) -> Result<(), NoMemory>
     ensures ok { OnOk result (block.new ≡ block.old ++ reply_text reply.now) }
-    ensures front { (bytes : List ℕ) × (block.new ≡ block.old ++ bytes) }
+    ensures prefix { (bytes : List ℕ) × (block.new ≡ block.old ++ bytes) }
 {
     match reply {
         Reply::Done => block.extend_from_slice(b"ok\n"),
@@ -71,7 +71,7 @@ fn push_text(block: &mut Bytes, reply: &Reply) -> Result<(), NoMemory>
 // Adds the lines of documents.
 fn push_docs(block: &mut Bytes, docs: &DocLines) -> Result<(), NoMemory>
     ensures ok { OnOk result (block.new ≡ block.old ++ flat_map doc_line docs.now) }
-    ensures front { (bytes : List ℕ) × (block.new ≡ block.old ++ bytes) }
+    ensures prefix { (bytes : List ℕ) × (block.new ≡ block.old ++ bytes) }
 {
     for line in docs.as_slice() {
         push_doc(block, line)?;
@@ -82,7 +82,7 @@ fn push_docs(block: &mut Bytes, docs: &DocLines) -> Result<(), NoMemory>
 // Adds the line of a document.
 fn push_doc(block: &mut Bytes, line: &DocLine) -> Result<(), NoMemory>
     ensures ok { OnOk result (block.new ≡ block.old ++ doc_line line.now) }
-    ensures front { (bytes : List ℕ) × (block.new ≡ block.old ++ bytes) }
+    ensures prefix { (bytes : List ℕ) × (block.new ≡ block.old ++ bytes) }
 {
     block.extend_from_slice(b"doc ")?;
     block.extend_from_slice(line.name.as_slice())?;
@@ -93,7 +93,7 @@ fn push_doc(block: &mut Bytes, line: &DocLine) -> Result<(), NoMemory>
 // Adds why a command is refused, in words.
 fn push_cause(block: &mut Bytes, error: ReplyError) -> Result<(), NoMemory>
     ensures ok { OnOk result (block.new ≡ block.old ++ cause error) }
-    ensures front { (bytes : List ℕ) × (block.new ≡ block.old ++ bytes) }
+    ensures prefix { (bytes : List ℕ) × (block.new ≡ block.old ++ bytes) }
 {
     match error {
         ReplyError::Syntax => block.extend_from_slice(b"syntax"),

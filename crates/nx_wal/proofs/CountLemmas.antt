@@ -28,7 +28,7 @@ first_page (e ∷ es) some = (
   ],
 )
 
--- a group at the log's front has a page
+-- a group at the log's beginning has a page
 pub group_page : (count : ℕ) (was : Image) → IsHeadOf count (drop 0 (usable was.log)) → 13 + 8196 * count < 2 ^ 63 → 0 < count → rise 0 (entries_of count (drop 13 was.log)) ≡ true
     → (p : ℕ) × IsSome (replay was p)
 group_page count was head low some rises =
@@ -45,7 +45,7 @@ group_page count was head low some rises =
 pub area_page : (was : Image) (p : ℕ) → p < 16777216 → 8192 * p + 8192 ≤ length was.pages → IsSome (replay was p)
 area_page was p low fits = option_or-right (logged (groups was.log) p) (pages_of was.pages p) (is_some (pages_of was.pages p) (page-there was.pages p low fits))
 
--- no group stands at the log's front
+-- no group stands at the log's beginning
 pub none_there : (head : Head) (was : Image) → IsHead 0 head was.log → (0 < head.count → 13 + 8196 * head.count < 2 ^ 63) → (0 < head.count → rise 0 (entries_of head.count (drop 13 was.log)) ≡ false)
     → groups was.log ≡ []
 none_there head was is low falls =
@@ -104,6 +104,6 @@ no_area long count none counted =
       | inr fits ↦ absurd (let some : 0 < count = counted (omega arith, omega (arith, fits)) in omega (arith, none, some))
     ]
 
--- a log with no group ends at its front
-pub front_end : (head : Head) (was : Image) → groups was.log ≡ [] → IsHead 0 head was.log → IsAtEnd 0 head.shut was.log
-front_end head was none is = record { here = sym (ap end_of none); closed = is.closed; opened = is.opened }
+-- a log with no group ends at its beginning
+pub prefix_end : (head : Head) (was : Image) → groups was.log ≡ [] → IsHead 0 head was.log → IsAtEnd 0 head.shut was.log
+prefix_end head was none is = record { here = sym (ap end_of none); closed = is.closed; opened = is.opened }

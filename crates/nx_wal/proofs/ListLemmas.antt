@@ -22,9 +22,9 @@ pub all_middle : {T : Type 0} (P : T → Type 0) (xs ys : List T) (y : T) → Al
 all_middle P [] ys y all = all.0
 all_middle P (x ∷ xs) ys y all = all_middle P xs ys y all.1
 
-pub all_front : {T : Type 0} (P : T → Type 0) (xs ys : List T) → AllByRecursion P (xs ++ ys) → AllByRecursion P xs
-all_front P [] ys all = tt
-all_front P (x ∷ xs) ys all = (all.0, all_front P xs ys all.1)
+pub all_prefix : {T : Type 0} (P : T → Type 0) (xs ys : List T) → AllByRecursion P (xs ++ ys) → AllByRecursion P xs
+all_prefix P [] ys all = tt
+all_prefix P (x ∷ xs) ys all = (all.0, all_prefix P xs ys all.1)
 
 -- what holds of each key, and of each value
 pub all_keys : {T : Type 0} (P : ℕ → Type 0) (es : List (ℕ × T)) → All P (keys_of es) → AllByRecursion (λ (e : ℕ × T). P e.0) es

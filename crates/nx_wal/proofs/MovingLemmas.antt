@@ -14,12 +14,12 @@ use Rattle.nx_host.proofs.TornLemmas.{written_torn}
 use Rattle.nx_host.specs.declared.disk.Area.TheVariants.{Pages, Log}
 use Rattle.nx_host.specs.Disk.{Image, Torn, Written, TearsIn, WritesTo, ComesTorn}
 use Rattle.nx_host.specs.declared.disk.Disk.{Ghosts}
-use Rattle.nx_host.specs.Still.{Goes, IsSettled}
+use Rattle.nx_host.specs.Still.{WritesAlone, IsSettled}
 use Rattle.nx_replay.specs.Log.{is_group, end_of, groups, logged, replay, IsAtEnd, Stays, IsPartlyMoved}
 use Rattle.nx_replay.proofs.GroupLemmas.{group_says, groups-none}
 use Rattle.nx_replay.proofs.CommitLemmas.{at_written, first_of_rest}
 use Rattle.nx_wal.proofs.WritingLemmas.{image_same}
-use Rattle.nx_host.proofs.DiskLemmas.{goes_then, goes_weaker, none_goes}
+use Rattle.nx_host.proofs.DiskLemmas.{written_alone_then, written_alone_weaker, none_written}
 use Rattle.nx_replay.proofs.SettledLemmas.{some_of, is_some, from_settled}
 use Rattle.nx_replay.proofs.StepLemmas.{less_or_not}
 use Rattle.nx_replay.proofs.ReplayLemmas.{torn_apart, moved_more, moved_stays, page-there, closed_torn, IsMoved}
@@ -92,7 +92,7 @@ MovesTo d page place b c = (at : ℕ) → place ≡ Some at → (was now : Image
 module _ {D : Type 0} {d : Ghosts D} {places : Places} where
   pub moves_none : (a : D) → Moves d places a a
   moves_none a = record {
-    goes = none_goes;
+    goes = none_written;
     images = λ i left was led. subst (λ (j : Image). IsPartlyMoved was j) (sym ((led.settled).only i left)) (partly_self was);
   }
 
@@ -124,7 +124,7 @@ module _ {D : Type 0} {d : Ghosts D} {places : Places} where
         | Some at ↦ λ is.
             let w = writes at is in
             record {
-              goes = goes_then so_far.goes w.goes (λ told i torn was led. torn_more page here so_far at is i torn led);
+              goes = written_alone_then so_far.goes w.goes (λ told i torn was led. torn_more page here so_far at is i torn led);
               images = λ i left was led. torn_more page here so_far at is i (w.images i left) led;
             }
       ] refl
@@ -214,17 +214,17 @@ all_moved places was now leads same some all =
 stays_then : (a b c : Image) → Stays (replay a) (replay b) → replay c ≡ replay b → Stays (replay a) (replay c)
 stays_then a b c stays same = subst (λ (r : ℕ → Option (List ℕ)). Stays (replay a) r) (sym same) stays
 
-pub moves_goes : {D : Type 0} {d : Ghosts D} {places : Places} {a e : D} → Goes d a e (λ i. (was : Image) → IsLed d places a was → IsPartlyMoved was i)
-    → Goes d a e (λ i. (was : Image) → IsLed d places a was → 0 < end_of (groups was.log) → Stays (replay was) (replay i))
-moves_goes first = goes_weaker first (λ told i partly was led some. moved_stays was i (partly was led))
+pub moves_goes : {D : Type 0} {d : Ghosts D} {places : Places} {a e : D} → WritesAlone d a e (λ i. (was : Image) → IsLed d places a was → IsPartlyMoved was i)
+    → WritesAlone d a e (λ i. (was : Image) → IsLed d places a was → 0 < end_of (groups was.log) → Stays (replay was) (replay i))
+moves_goes first = written_alone_weaker first (λ told i partly was led some. moved_stays was i (partly was led))
 
 -- What is durable once the pages are synced: each page of the log stands in the area.
 abbrev pub Settles : {D : Type 0} → Ghosts D → Places → D → D → Type 0
 Settles d places a c = (was now : Image) → IsLed d places a was → 0 < end_of (groups was.log) → d.contents c ≡ Some now → IsSettled d c now × IsMoved now × Stays (replay was) (replay now)
 
 module _ {D : Type 0} {d : Ghosts D} {places : Places} where
-  pub synced_goes : {a b c : D} → Moves d places a b → Goes d b c (d.may_leave b) → Goes d a c (λ i. (was : Image) → IsLed d places a was → IsPartlyMoved was i)
-  synced_goes moves goes = goes_then moves.goes goes (λ told i left was led. moves.images i left was led)
+  pub synced_goes : {a b c : D} → Moves d places a b → WritesAlone d b c (d.may_leave b) → WritesAlone d a c (λ i. (was : Image) → IsLed d places a was → IsPartlyMoved was i)
+  synced_goes moves goes = written_alone_then moves.goes goes (λ told i left was led. moves.images i left was led)
 
   pub settled_moved : {a b c : D} → Moves d places a b → HasMoved d places places.entries a b → ((x : D) (i : Image) → d.contents x ≡ Some i → d.may_leave x i)
       → ((i : Image) → d.may_leave c i → d.may_leave b i) → ((now : Image) → d.contents c ≡ Some now → (d.contents b ≡ Some now) × ((i : Image) → d.may_leave c i → i.pages ≡ now.pages))
@@ -237,9 +237,9 @@ module _ {D : Type 0} {d : Ghosts D} {places : Places} where
         moved_stays was now (moves.images now (may_stay b now done.0) was led),
       )
 
-  pub emptied_goes : {a b c e : D} → Moves d places a b → Goes d b c (d.may_leave b) → Settles d places a c → Goes d c e (ComesTorn Log 0 1 (d.may_leave c))
-      → Goes d a e (λ i. (was : Image) → IsLed d places a was → 0 < end_of (groups was.log) → Stays (replay was) (replay i))
-  emptied_goes {c = c} moves goes settles gate = goes_then (moves_goes (synced_goes moves goes)) gate (λ told i torn was led some.
+  pub emptied_goes : {a b c e : D} → Moves d places a b → WritesAlone d b c (d.may_leave b) → Settles d places a c → WritesAlone d c e (ComesTorn Log 0 1 (d.may_leave c))
+      → WritesAlone d a e (λ i. (was : Image) → IsLed d places a was → 0 < end_of (groups was.log) → Stays (replay was) (replay i))
+  emptied_goes {c = c} moves goes settles gate = written_alone_then (moves_goes (synced_goes moves goes)) gate (λ told i torn was led some.
       let mid = some_of (d.contents c) (gate.told told) in
       let done = settles was mid.0 led some mid.1 in
       let t : TearsIn Log 0 1 mid.0 i = from_settled Log 0 1 done.0 torn in

@@ -11,7 +11,7 @@ use Rattle.byteorder.specs.Endian.{big_number}
 use Rattle.nx_host.specs.Disk.{Image}
 use Rattle.std.specs.Option.{option_or}
 use Rattle.nx_replay.specs.Log.{Pages, replay, pages_of, Entry, Group, entries_of, entry_pages, rise, logged, groups, groups_behind, end_of, count_of, size_of, group_of, is_group}
-use Rattle.nx_replay.proofs.GroupLemmas.{IsGroup, group_says, says_group, groups-first, groups-none, entries-front, number-one, count-front, length-entries_of}
+use Rattle.nx_replay.proofs.GroupLemmas.{IsGroup, group_says, says_group, groups-first, groups-none, entries-prefix, number-one, count-prefix, length-entries_of}
 use Rattle.nx_replay.proofs.StepLemmas.{drop_taken, end_more}
 use Rattle.nx_replay.proofs.ReplayLemmas.{logged-more, page-there}
 use Rattle.nx_wal.specs.declared.reading.Head.{Head}
@@ -127,7 +127,7 @@ unfold_count : (bytes : List ℕ) → count_of bytes ≡ big_number 4 (drop 9 by
 unfolding count_of
 unfold_count bytes = refl
 
-module _ (at given limit : ℕ) (front log : List ℕ) (gives : Gives given 13 front (drop at log)) (limit_is : limit ≡ min (2 ^ 63) (length log)) where
+module _ (at given limit : ℕ) (prefix log : List ℕ) (gives : Gives given 13 prefix (drop at log)) (limit_is : limit ≡ min (2 ^ 63) (length log)) where
   given_is : given ≡ min 13 (length log - at)
   given_is = let n = gives.count in omega (arith, n, length-take 13 (drop at log), length-drop at log)
 
@@ -138,12 +138,12 @@ module _ (at given limit : ℕ) (front log : List ℕ) (gives : Gives given 13 f
   usable_long = omega (arith, limit_is, length-drop at (usable log), length-take (2 ^ 63) log)
 
   -- the first byte is the one at the offset
-  byte_given : 0 < given → (slice_index front 0 ≡ slice_index log at) × (at < length log)
+  byte_given : 0 < given → (slice_index prefix 0 ≡ slice_index log at) × (at < length log)
   byte_given some =
       let n = given_is in
-      let one : take 1 front ≡ take 1 (drop at log) =
-      sym (take-take 1 given front (omega (arith, some))) ∙ ap (λ (x : List ℕ). take 1 x) gives.same ∙ take-take 1 13 (drop at log) (omega arith) in (
-        number-one front (drop at log) one ∙ get_or-drop at log 0 0 ∙ ap (λ (k : ℕ). get_or log k 0) (let h : at + 0 ≡ at = omega arith in h),
+      let one : take 1 prefix ≡ take 1 (drop at log) =
+      sym (take-take 1 given prefix (omega (arith, some))) ∙ ap (λ (x : List ℕ). take 1 x) gives.same ∙ take-take 1 13 (drop at log) (omega arith) in (
+        number-one prefix (drop at log) one ∙ get_or-drop at log 0 0 ∙ ap (λ (k : ℕ). get_or log k 0) (let h : at + 0 ≡ at = omega arith in h),
         omega (arith, some, n),
       )
 
@@ -151,25 +151,25 @@ module _ (at given limit : ℕ) (front log : List ℕ) (gives : Gives given 13 f
   byte_there there = let n = given_is in omega (arith, there, n)
 
   -- the head is the one below the limit
-  head_given : 13 ≤ given → 13 ≤ limit - at → take 13 front ≡ take 13 (drop at (usable log))
+  head_given : 13 ≤ given → 13 ≤ limit - at → take 13 prefix ≡ take 13 (drop at (usable log))
   head_given whole room =
       let n = given_is in
       let thirteen : given ≡ 13 = omega (arith, whole, n) in
-      ap (λ (k : ℕ). take k front) (sym thirteen) ∙ gives.same ∙ sym (take-take 13 (2 ^ 63 - at) (drop at log) (omega (arith, room, limit_is)))
+      ap (λ (k : ℕ). take k prefix) (sym thirteen) ∙ gives.same ∙ sym (take-take 13 (2 ^ 63 - at) (drop at log) (omega (arith, room, limit_is)))
       ∙ ap (λ (x : List ℕ). take 13 x) (sym usable_rest)
 
-  head_ones : 13 ≤ given → 13 ≤ limit - at → (slice_index front 0 ≡ slice_index (drop at (usable log)) 0) × (big_number 4 (drop 9 front) ≡ count_of (drop at (usable log)))
+  head_ones : 13 ≤ given → 13 ≤ limit - at → (slice_index prefix 0 ≡ slice_index (drop at (usable log)) 0) × (big_number 4 (drop 9 prefix) ≡ count_of (drop at (usable log)))
   head_ones whole room =
       let same = head_given whole room in
-      let first : take 1 front ≡ take 1 (drop at (usable log)) =
-      sym (take-take 1 13 front (omega arith)) ∙ ap (λ (x : List ℕ). take 1 x) same ∙ take-take 1 13 (drop at (usable log)) (omega arith) in
-      (number-one front (drop at (usable log)) first, sym (unfold_count front) ∙ count-front front (drop at (usable log)) same)
+      let first : take 1 prefix ≡ take 1 (drop at (usable log)) =
+      sym (take-take 1 13 prefix (omega arith)) ∙ ap (λ (x : List ℕ). take 1 x) same ∙ take-take 1 13 (drop at (usable log)) (omega arith) in
+      (number-one prefix (drop at (usable log)) first, sym (unfold_count prefix) ∙ count-prefix prefix (drop at (usable log)) same)
 
   module _ (count : ℕ) (shut : Bool)
-      (is_shut : shut ≡ true → (0 < given) × ((slice_index front 0 == 1) ≡ false)) (is_open : shut ≡ false → 0 < given → slice_index front 0 ≡ 1)
+      (is_shut : shut ≡ true → (0 < given) × ((slice_index prefix 0 == 1) ≡ false)) (is_open : shut ≡ false → 0 < given → slice_index prefix 0 ≡ 1)
       (whole : 0 < count → (13 ≤ given) × (13 + 8196 * count < limit - at))
-      (counted : 0 < count → (slice_index front 0 ≡ 1) × (count ≡ big_number 4 (drop 9 front)) × (count ≤ 16777216))
-      (none : count ≡ 0 → 13 ≤ given → slice_index front 0 ≡ 1 → 1 ≤ big_number 4 (drop 9 front) → big_number 4 (drop 9 front) ≤ 16777216 → 13 + 8196 * big_number 4 (drop 9 front) < limit - at → ⊥) where
+      (counted : 0 < count → (slice_index prefix 0 ≡ 1) × (count ≡ big_number 4 (drop 9 prefix)) × (count ≤ 16777216))
+      (none : count ≡ 0 → 13 ≤ given → slice_index prefix 0 ≡ 1 → 1 ≤ big_number 4 (drop 9 prefix) → big_number 4 (drop 9 prefix) ≤ 16777216 → 13 + 8196 * big_number 4 (drop 9 prefix) < limit - at → ⊥) where
     no_group : count ≡ 0 → is_group (drop at (usable log)) ≡ true → ⊥
     no_group zero_count some =
         let is = group_says (drop at (usable log)) some in
@@ -177,7 +177,7 @@ module _ (at given limit : ℕ) (front log : List ℕ) (gives : Gives given 13 f
         let long : size_of (count_of (drop at (usable log))) < limit - at = let w = is.whole in omega (arith, w, usable_long) in
         let full : 13 ≤ given = omega (arith, n, long, limit_is) in
         let ones = head_ones full (omega (arith, long)) in
-        let same : big_number 4 (drop 9 front) ≡ count_of (drop at (usable log)) = ones.1 in
+        let same : big_number 4 (drop 9 prefix) ≡ count_of (drop at (usable log)) = ones.1 in
         none zero_count full (ones.0 ∙ is.gate) (let s = is.some in omega (arith, s, same)) (let f = is.few in omega (arith, f, same)) (omega (arith, long, same))
 
     head_is : IsHead at (record { shut = shut; count = count }) log
@@ -195,22 +195,22 @@ module _ (at given limit : ℕ) (front log : List ℕ) (gives : Gives given 13 f
 
 -- What was read says of a gate, and of a count where the room behind it is as given.
 abbrev pub SaysShut : Bool → ℕ → List ℕ → Type 0
-SaysShut shut given front = (shut ≡ true → (0 < given) × ((slice_index front 0 == 1) ≡ false)) × (shut ≡ false → 0 < given → slice_index front 0 ≡ 1)
+SaysShut shut given prefix = (shut ≡ true → (0 < given) × ((slice_index prefix 0 == 1) ≡ false)) × (shut ≡ false → 0 < given → slice_index prefix 0 ≡ 1)
 
 abbrev pub SaysCount : ℕ → ℕ → List ℕ → ℕ → Type 0
-SaysCount count given front room = (0 < count → (13 ≤ given) × (13 + 8196 * count < room)) × (0 < count → (slice_index front 0 ≡ 1) × (count ≡ big_number 4 (drop 9 front)) × (count ≤ 16777216))
-    × (count ≡ 0 → 13 ≤ given → slice_index front 0 ≡ 1 → 1 ≤ big_number 4 (drop 9 front) → big_number 4 (drop 9 front) ≤ 16777216 → 13 + 8196 * big_number 4 (drop 9 front) < room → ⊥)
+SaysCount count given prefix room = (0 < count → (13 ≤ given) × (13 + 8196 * count < room)) × (0 < count → (slice_index prefix 0 ≡ 1) × (count ≡ big_number 4 (drop 9 prefix)) × (count ≤ 16777216))
+    × (count ≡ 0 → 13 ≤ given → slice_index prefix 0 ≡ 1 → 1 ≤ big_number 4 (drop 9 prefix) → big_number 4 (drop 9 prefix) ≤ 16777216 → 13 + 8196 * big_number 4 (drop 9 prefix) < room → ⊥)
 
-pub head_said : {at count : ℕ} {shut : Bool} {log : List ℕ} (given limit : ℕ) (front : List ℕ) → Gives given 13 front (drop at log) → limit ≡ min (2 ^ 63) (length log) → SaysShut shut given front
-    → SaysCount count given front (limit - at) → IsHead at (record { shut = shut; count = count }) log
-head_said {at = at} {count = count} {shut = shut} {log = log} given limit front gives limit_is gate counts = head_is at given limit front log gives limit_is count shut gate.0 gate.1 counts.0 counts.1 counts.2
+pub head_said : {at count : ℕ} {shut : Bool} {log : List ℕ} (given limit : ℕ) (prefix : List ℕ) → Gives given 13 prefix (drop at log) → limit ≡ min (2 ^ 63) (length log) → SaysShut shut given prefix
+    → SaysCount count given prefix (limit - at) → IsHead at (record { shut = shut; count = count }) log
+head_said {at = at} {count = count} {shut = shut} {log = log} given limit prefix gives limit_is gate counts = head_is at given limit prefix log gives limit_is count shut gate.0 gate.1 counts.0 counts.1 counts.2
 
 -- Groups.
 
 entries_usable : (at count : ℕ) (log : List ℕ) → at + 13 + 8196 * count < 2 ^ 63 → entries_of count (drop 13 (drop at (usable log))) ≡ entries_of count (drop (at + 13) log)
 entries_usable at count log low =
     ap (λ (x : List ℕ). entries_of count x) (drop-drop 13 at (usable log))
-    ∙ entries-front count (8196 * count) (drop (at + 13) (usable log)) (drop (at + 13) log) (omega arith)
+    ∙ entries-prefix count (8196 * count) (drop (at + 13) (usable log)) (drop (at + 13) log) (omega arith)
     (ap (λ (x : List ℕ). take (8196 * count) x) (drop_taken (at + 13) (2 ^ 63) log) ∙ take-take (8196 * count) (2 ^ 63 - (at + 13)) (drop (at + 13) log) (omega (arith, low)))
 
 nothing_at : (places : Places) → places.entries ≡ [] → (p : ℕ) → get nat_cmp places p ≡ None
@@ -225,7 +225,7 @@ leads_none places log none p = sym (ap (λ (o : Option (Option ℕ)). place_in o
 
 pub nothing_read : (places : Places) (log : List ℕ) → places.entries ≡ [] → IsReadTo places 0 log
 nothing_read places log none = record {
-  front = [];
+  prefix = [];
   split = refl;
   here = refl;
   leads = leads_none places log none;
@@ -264,12 +264,12 @@ module _ (at count : ℕ) (log : List ℕ) (head : IsHeadOf count (drop at (usab
       groups-first rest (says_group rest there) ∙ ap (λ (n : ℕ). g ∷ groups_behind 0 (drop (size_of n) rest)) head.counted in
       let long : length g.entries ≡ count = ap (λ (es : List Entry). length es) entries ∙ length-entries_of count (drop (at + 13) log) in
       record {
-        front = so_far.front ++ g ∷ [];
-        split = so_far.split ∙ ap (λ (gs : List Group). so_far.front ++ gs) (first ∙ ap (λ (x : List ℕ). g ∷ groups_behind 0 x) (drop-drop (size_of count) at (usable log)))
-            ∙ sym (append_assoc so_far.front (g ∷ []) (groups_behind 0 (drop (at + size_of count) (usable log))));
-        here = ap (λ (k : ℕ). k + (13 + 8196 * count)) so_far.here ∙ ap (λ (n : ℕ). end_of so_far.front + size_of n) (sym long) ∙ sym (end_more so_far.front g);
+        prefix = so_far.prefix ++ g ∷ [];
+        split = so_far.split ∙ ap (λ (gs : List Group). so_far.prefix ++ gs) (first ∙ ap (λ (x : List ℕ). g ∷ groups_behind 0 x) (drop-drop (size_of count) at (usable log)))
+            ∙ sym (append_assoc so_far.prefix (g ∷ []) (groups_behind 0 (drop (at + size_of count) (usable log))));
+        here = ap (λ (k : ℕ). k + (13 + 8196 * count)) so_far.here ∙ ap (λ (n : ℕ). end_of so_far.prefix + size_of n) (sym long) ∙ sym (end_more so_far.prefix g);
         leads = λ p.
-            ap (λ (f : ℕ → Option (List ℕ)). f p) (logged-more so_far.front g) ∙ ap (λ (es : List Entry). option_or (entry_pages es p) (logged so_far.front p)) entries
+            ap (λ (f : ℕ → Option (List ℕ)). f p) (logged-more so_far.prefix g) ∙ ap (λ (es : List Entry). option_or (entry_pages es p) (logged so_far.prefix p)) entries
             ∙ ap (λ (o : Option (List ℕ)). option_or (entry_pages (entries_of count (drop (at + 13) log)) p) o) (so_far.leads p) ∙ sym (notes p);
       }
 
@@ -277,7 +277,7 @@ module _ (at count : ℕ) (log : List ℕ) (head : IsHeadOf count (drop at (usab
 pub read_whole : (places : Places) (at : ℕ) (head : Head) (log : List ℕ) → IsReadTo places at log → is_group (drop at (usable log)) ≡ false → IsHead at head log → AreWithin at places
     → IsRead places (record { at = at; shut = head.shut }) log
 read_whole places at head log so_far none is within =
-    let all : groups log ≡ so_far.front = so_far.split ∙ ap (λ (gs : List Group). so_far.front ++ gs) (groups-none (drop at (usable log)) none) ∙ append-nil so_far.front in
+    let all : groups log ≡ so_far.prefix = so_far.split ∙ ap (λ (gs : List Group). so_far.prefix ++ gs) (groups-none (drop at (usable log)) none) ∙ append-nil so_far.prefix in
     record {
       at = record { here = so_far.here ∙ ap end_of (sym all); closed = is.closed; opened = is.opened };
       leads = λ p. ap (λ (gs : List Group). logged gs p) all ∙ so_far.leads p;

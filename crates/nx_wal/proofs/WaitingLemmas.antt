@@ -17,12 +17,12 @@ use Rattle.byteorder.specs.Numbers.{length-bytes_high_first}
 use Rattle.nx_host.specs.Disk.{Image}
 use Rattle.nx_slots.specs.declared.page.PageBytes.{PageBytes}
 use Rattle.nx_replay.specs.Log.{Entry, IsEntry, IsWhole, entry_bytes, entry_pages, rise}
-use Rattle.nx_replay.proofs.GroupLemmas.{front-drop, front-less}
+use Rattle.nx_replay.proofs.GroupLemmas.{prefix-drop, prefix-less}
 use Rattle.nx_replay.proofs.KnownLemmas.{rise_few, rise_apart}
 use Rattle.nx_wal.specs.Places.{Places, place_in, Notes, IsWholePage}
 use Rattle.nx_wal.specs.Writing.{StandsBehind, entries_of, group_with, body_of, head_of}
 use Rattle.nx_wal.proofs.ReadingLemmas.{at_number}
-use Rattle.nx_wal.proofs.ListLemmas.{all_front, all_middle, all_keys, all_values}
+use Rattle.nx_wal.proofs.ListLemmas.{all_prefix, all_middle, all_keys, all_values}
 use Rattle.nx_wal.proofs.WritingLemmas.{entry_bytes-append, pages_long, body_parts, head_long}
 
 abbrev entry_with : ℕ × PageBytes → Entry
@@ -79,18 +79,18 @@ module _ (at : ℕ) (gone es : List (ℕ × PageBytes)) (item : ℕ × PageBytes
 
   stands : take 8192 (drop (at + 8196 * length gone + 4) log) ≡ item.1.bytes
   stands =
-      let front = entry_bytes (entries_of gone) in
+      let prefix = entry_bytes (entries_of gone) in
       let more = entry_bytes (entries_of es) in
       let number = big_bytes 4 item.0 in
       let page = item.1.bytes in
-      let split : drop at log ≡ front ++ (number ++ (page ++ (more ++ rest))) =
+      let split : drop at log ≡ prefix ++ (number ++ (page ++ (more ++ rest))) =
       bytes ∙ ap (λ (x : List ℕ). x ++ rest) (ap entry_bytes parted ∙ entry_bytes-append (entries_of gone) (entry_with item ∷ entries_of es))
-      ∙ append_assoc front (number ++ (page ++ more)) rest
-      ∙ ap (λ (x : List ℕ). front ++ x) (append_assoc number (page ++ more) rest ∙ ap (λ (x : List ℕ). number ++ x) (append_assoc page more rest)) in
-      let long : length front ≡ 8196 * length gone = pages_long gone (all_front _ gone (item ∷ es) whole) in
+      ∙ append_assoc prefix (number ++ (page ++ more)) rest
+      ∙ ap (λ (x : List ℕ). prefix ++ x) (append_assoc number (page ++ more) rest ∙ ap (λ (x : List ℕ). number ++ x) (append_assoc page more rest)) in
+      let long : length prefix ≡ 8196 * length gone = pages_long gone (all_prefix _ gone (item ∷ es) whole) in
       let here : length page ≡ 8192 = all_middle (λ (e : ℕ × PageBytes). length e.1.bytes ≡ 8192) gone es item whole in
       let behind : drop (at + 8196 * length gone) log ≡ number ++ (page ++ (more ++ rest)) =
-      sym (drop-drop (8196 * length gone) at log) ∙ ap (λ (x : List ℕ). drop (8196 * length gone) x) split ∙ drop_at front (number ++ (page ++ (more ++ rest))) (8196 * length gone) long in
+      sym (drop-drop (8196 * length gone) at log) ∙ ap (λ (x : List ℕ). drop (8196 * length gone) x) split ∙ drop_at prefix (number ++ (page ++ (more ++ rest))) (8196 * length gone) long in
       ap (λ (x : List ℕ). take 8192 x) (sym (drop-drop 4 (at + 8196 * length gone) log) ∙ ap (λ (x : List ℕ). drop 4 x) behind ∙ drop_at number (page ++ (more ++ rest)) 4 (length-bytes_high_first 4 item.0))
       ∙ take_at page (more ++ rest) 8192 here
 
@@ -152,6 +152,6 @@ entries_stand end number es was now behind =
 
 -- a page below the log's old end stands as it did
 pub place_same : (o : Option (Option ℕ)) (end : ℕ) (was now : List ℕ) → ((at : ℕ) → o ≡ Some (Some at) → at + 8192 ≤ end) → take end now ≡ take end was → place_in o was ≡ place_in o now
-place_same (Some (Some at)) end was now within front = ap (λ (x : List ℕ). Some x) (sym (front-drop at 8192 now was (front-less (at + 8192) end now was (within at refl) front)))
-place_same (Some None) end was now within front = refl
-place_same None end was now within front = refl
+place_same (Some (Some at)) end was now within prefix = ap (λ (x : List ℕ). Some x) (sym (prefix-drop at 8192 now was (prefix-less (at + 8192) end now was (within at refl) prefix)))
+place_same (Some None) end was now within prefix = refl
+place_same None end was now within prefix = refl

@@ -13,8 +13,8 @@ use Rattle.nx_slots.specs.declared.page.PageBytes.{PageBytes}
 use Rattle.nx_wal.proofs.PageLemmas.{pending_found, pending_none}
 use Rattle.nx_host.specs.Disk.{Image}
 use Rattle.nx_host.specs.declared.disk.Disk.{Ghosts}
-use Rattle.nx_host.specs.Still.{Goes}
-use Rattle.nx_host.proofs.DiskLemmas.{goes_weaker}
+use Rattle.nx_host.specs.Still.{WritesAlone}
+use Rattle.nx_host.proofs.DiskLemmas.{written_alone_weaker}
 use Rattle.std.specs.Option.{option_or}
 use Rattle.nx_replay.specs.Log.{Group, entry_pages, replay, groups, logged, end_of, Stays, IsAtEnd, HasSame, HasGroup}
 use Rattle.nx_replay.specs.Commit.{IsOpened, IsBody}
@@ -78,9 +78,9 @@ follows_none wal log none at ends =
     }
 
 pub checkpoint_goes : {D : Type 0} (d : Ghosts D) (wal : Wal) (a b : D) → 0 < wal.end
-    → Goes d a b (λ i. (was : Image) → IsLed d wal.places a was → 0 < end_of (groups was.log) → Stays (replay was) (replay i))
-    → Goes d a b (λ i. (was : Image) → IsInStep d wal a was → Stays (replay was) (replay i))
-checkpoint_goes d wal a b some goes = goes_weaker goes (λ told i stays was step. stays was (led d wal a was step) (some_group d wal a was step some))
+    → WritesAlone d a b (λ i. (was : Image) → IsLed d wal.places a was → 0 < end_of (groups was.log) → Stays (replay was) (replay i))
+    → WritesAlone d a b (λ i. (was : Image) → IsInStep d wal a was → Stays (replay was) (replay i))
+checkpoint_goes d wal a b some goes = written_alone_weaker goes (λ told i stays was step. stays was (led d wal a was step) (some_group d wal a was step some))
 
 pub checkpoint_none : {D : Type 0} (d : Ghosts D) (wal : Wal) (a : D) (was now : Image) → wal.end ≡ 0 → IsInStep d wal a was → d.contents a ≡ Some now
     → IsInStep d wal a now × Stays (replay was) (replay now) × (groups now.log ≡ [])
@@ -152,15 +152,15 @@ pub opened_step : {D : Type 0} {d : Ghosts D} {wal : Wal} {a : D} {was : Image} 
 opened_step room step = record { settled = step.settled; at = (step.follows).at; low = omega (arith, room) }
 
 pub commit_goes : {D : Type 0} (d : Ghosts D) (wal : Wal) (number : ℕ) (a b : D) → wal.end ≤ 2 ^ 62 → IsBody (next_group number wal) wal.end (body_of number wal.waiting.entries)
-    → Goes d a b (λ i. (was : Image) (g : Group) → IsOpened d wal.end wal.shut a was → IsBody g wal.end (body_of number wal.waiting.entries) → HasSame was i ⊎ HasGroup g was i)
-    → Goes d a b (λ i. (was : Image) → IsInStep d wal a was → HasSame was i ⊎ HasGroup (next_group number wal) was i)
-commit_goes d wal number a b room body goes = goes_weaker goes (λ told i outcome was step. outcome was (next_group number wal) (opened_step room step) body)
+    → WritesAlone d a b (λ i. (was : Image) (g : Group) → IsOpened d wal.end wal.shut a was → IsBody g wal.end (body_of number wal.waiting.entries) → HasSame was i ⊎ HasGroup g was i)
+    → WritesAlone d a b (λ i. (was : Image) → IsInStep d wal a was → HasSame was i ⊎ HasGroup (next_group number wal) was i)
+commit_goes d wal number a b room body goes = written_alone_weaker goes (λ told i outcome was step. outcome was (next_group number wal) (opened_step room step) body)
 
 -- the places lead to the pages of one group more
 pub leads_more : {wal : Wal} {was now : Image} (number : ℕ) (new : Places) → Follows wal was.log → HasGroup (next_group number wal) was now → take wal.end now.log ≡ take wal.end was.log
     → Notes (pending wal) now.log wal.places new → LeadsTo (groups now.log) new now.log
-leads_more {wal = wal} {was = was} {now = now} number new follows more front notes p =
+leads_more {wal = wal} {was = was} {now = now} number new follows more prefix notes p =
     ap (λ (gs : List Group). logged gs p) more.log ∙ ap (λ (f : ℕ → Option (List ℕ)). f p) (logged-more (groups was.log) (next_group number wal))
     ∙ ap (λ (o : Option (List ℕ)). option_or (entry_pages (pending wal) p) o)
-    (follows.leads p ∙ place_same (get nat_cmp wal.places p) wal.end was.log now.log (λ at is. follows.within p at is) front)
+    (follows.leads p ∙ place_same (get nat_cmp wal.places p) wal.end was.log now.log (λ at is. follows.within p at is) prefix)
     ∙ sym (notes p)

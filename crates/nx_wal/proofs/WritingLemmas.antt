@@ -8,7 +8,7 @@ use Rattle.nx_host.specs.declared.disk.Area.TheVariants.{Log}
 use Rattle.nx_host.specs.Disk.{Image, Torn, Written, TearsIn, WritesTo, ComesTorn}
 use Rattle.nx_host.specs.declared.disk.Disk.{Ghosts}
 use Rattle.nx_host.specs.Still.{IsSettled}
-use Rattle.nx_host.proofs.DiskLemmas.{goes_then, goes_weaker, none_goes}
+use Rattle.nx_host.proofs.DiskLemmas.{written_alone_then, written_alone_weaker, none_written}
 use Rattle.nx_replay.proofs.CommitMoments.{Shuts, LaysGroup}
 use Rattle.nx_replay.proofs.SettledLemmas.{some_of, is_some, from_settled}
 use Rattle.nx_replay.proofs.StepLemmas.{drop_taken}
@@ -18,7 +18,7 @@ use Rattle.std.specs.List.{AllByRecursion}
 use Rattle.byteorder.specs.Endian.{big_bytes}
 use Rattle.byteorder.specs.Numbers.{length-bytes_high_first}
 use Rattle.nx_replay.specs.Log.{Entry, entry_bytes, group_bytes, groups, end_of, IsAtEnd}
-use Rattle.nx_replay.proofs.GroupLemmas.{end-within, zero_or_more, front-less}
+use Rattle.nx_replay.proofs.GroupLemmas.{end-within, zero_or_more, prefix-less}
 use Rattle.nx_replay.specs.Log.{Group}
 use Rattle.nx_replay.specs.Commit.{IsOpened, IsBody, IsLaid}
 use Rattle.nx_slots.specs.declared.page.PageBytes.{PageBytes}
@@ -71,13 +71,13 @@ written_then at x y old mid new first second =
     let a : length mid ≡ max (length old) (at + length x) = first.long in
     let b : length new ≡ max (length mid) (at + length x + length y) = second.long in
     let least : min (at + length x) (length mid) ≡ at + length x = omega (arith, a) in
-    let front : take (at + length x) new ≡ take (at + length x) mid = rw least at second.before in
+    let prefix : take (at + length x) new ≡ take (at + length x) mid = rw least at second.before in
     let both : length (x ++ y) ≡ length x + length y = length-append x y in
-    let here : take (length x) (drop at new) ≡ x = sym (drop-take at (length x) new) ∙ ap (λ (l : List ℕ). drop at l) front ∙ drop-take at (length x) mid ∙ first.here in
+    let here : take (length x) (drop at new) ≡ x = sym (drop-take at (length x) new) ∙ ap (λ (l : List ℕ). drop at l) prefix ∙ drop-take at (length x) mid ∙ first.here in
     let there : take (length y) (drop (length x) (drop at new)) ≡ y = ap (λ (l : List ℕ). take (length y) l) (drop-drop (length x) at new) ∙ second.here in
     let k_is : at + length (x ++ y) ≡ at + length x + length y = omega (arith, both) in
     record {
-      before = sym (take-take (min at (length old)) (at + length x) new (omega arith)) ∙ ap (λ (l : List ℕ). take (min at (length old)) l) front
+      before = sym (take-take (min at (length old)) (at + length x) new (omega arith)) ∙ ap (λ (l : List ℕ). take (min at (length old)) l) prefix
           ∙ take-take (min at (length old)) (at + length x) mid (omega arith) ∙ first.before;
       here = ap (λ (n : ℕ). take n (drop at new)) both ∙ take_both (length x) (length y) (drop at new) ∙ ap (λ (l : List ℕ). l ++ take (length y) (drop (length x) (drop at new))) here
           ∙ ap (λ (l : List ℕ). x ++ l) there;
@@ -101,14 +101,14 @@ module _ {D : Type 0} {d : Ghosts D} where
 
   pub writes_then : {at n m : ℕ} {a b c : D} → Writes d at n a b → Writes d (at + n) m b c → Writes d at (n + m) a c
   writes_then {at = at} {n = n} {m = m} {a = a} first second = record {
-    goes = goes_then (goes_weaker first.goes (λ told i torn. comes_wider d at n (n + m) a i (omega arith) torn)) second.goes (λ told i torn. comes_then m i first torn);
+    goes = written_alone_then (written_alone_weaker first.goes (λ told i torn. comes_wider d at n (n + m) a i (omega arith) torn)) second.goes (λ told i torn. comes_then m i first torn);
     images = λ i left. comes_then m i first (second.images i left);
     reads_stay = second.reads_stay ∙ first.reads_stay;
   }
 
   pub writes_wider : {at n : ℕ} {a b : D} (m : ℕ) → Writes d at n a b → n ≤ m → Writes d at m a b
   writes_wider {at = at} {n = n} {a = a} m first wider = record {
-    goes = goes_weaker first.goes (λ told i torn. comes_wider d at n m a i wider torn);
+    goes = written_alone_weaker first.goes (λ told i torn. comes_wider d at n m a i wider torn);
     images = λ i left. comes_wider d at n m a i wider (first.images i left);
     reads_stay = first.reads_stay;
   }
@@ -120,7 +120,7 @@ module _ {D : Type 0} {d : Ghosts D} where
 
   pub writes_none : (at : ℕ) (a : D) → Writes d at 0 a a
   writes_none at a = record {
-    goes = none_goes;
+    goes = none_written;
     images = λ i left. (i, left, record { here = torn_self at 0 i.log; there = refl });
     reads_stay = refl;
   }
@@ -211,8 +211,8 @@ pub head_long : (number count : ℕ) → length (head_of number count) ≡ 12
 head_long number count = omega (arith, length-append (big_bytes 8 number) (big_bytes 4 count), length-bytes_high_first 8 number, length-bytes_high_first 4 count)
 
 -- What stands before a write and behind it.
-pub front_written : (at : ℕ) (bytes : List ℕ) (was now : Image) → at ≤ length was.log → WritesTo Log at bytes was now → take at now.log ≡ take at was.log
-front_written at bytes was now fits writes =
+pub prefix_written : (at : ℕ) (bytes : List ℕ) (was now : Image) → at ≤ length was.log → WritesTo Log at bytes was now → take at now.log ≡ take at was.log
+prefix_written at bytes was now fits writes =
     let w : Written at bytes was.log now.log = writes.here in
     let least : min at (length was.log) ≡ at = omega (arith, fits) in
     rw least at w.before
@@ -221,16 +221,16 @@ pub stands_behind : (at : ℕ) (bytes : List ℕ) (was now : Image) → at < len
 stands_behind at bytes was now fits writes =
     let w : Written (at + 1) bytes was.log now.log = writes.here in
     record {
-      front = front-less at (at + 1) now.log was.log (omega arith) (front_written (at + 1) bytes was now (omega (arith, fits)) writes);
+      prefix = prefix-less at (at + 1) now.log was.log (omega arith) (prefix_written (at + 1) bytes was now (omega (arith, fits)) writes);
       behind = w.here;
     }
 
 pub told_once : {D : Type 0} (d : Ghosts D) (a : D) (was now : Image) → IsSettled d a was → d.contents a ≡ Some now → was ≡ now
 told_once d a was now settled told = some_same (sym settled.here ∙ told)
 
--- What the steps of a commit leave of the log's bytes: its front, the bytes that were laid, and all but the gate.
-abbrev pub KeepsFront : {D : Type 0} → Ghosts D → ℕ → Bool → D → D → Type 0
-KeepsFront d end shut a b = (was now : Image) → IsOpened d end shut a was → d.contents b ≡ Some now → take end now.log ≡ take end was.log
+-- What the steps of a commit leave of the log's bytes: its beginning, the bytes that were laid, and all but the gate.
+abbrev pub KeepsPrefix : {D : Type 0} → Ghosts D → ℕ → Bool → D → D → Type 0
+KeepsPrefix d end shut a b = (was now : Image) → IsOpened d end shut a was → d.contents b ≡ Some now → take end now.log ≡ take end was.log
 
 abbrev pub LaysBody : {D : Type 0} → Ghosts D → ℕ → List ℕ → D → D → Type 0
 LaysBody d end body b c = (was now : Image) → IsOpened d end true b was → d.contents c ≡ Some now → StandsBehind end body was now
@@ -241,7 +241,7 @@ KeepsRest d end c e = (was now : Image) (g : Group) → IsLaid d g end c was →
 abbrev pub GroupStands : {D : Type 0} → Ghosts D → ℕ → Bool → List ℕ → D → D → Type 0
 GroupStands d end shut body a e = (was now : Image) (g : Group) → IsOpened d end shut a was → IsBody g end body → d.contents e ≡ Some now → StandsBehind end body was now
 
-pub group_stands : {D : Type 0} {d : Ghosts D} {a b c e : D} (end : ℕ) (shut : Bool) (body : List ℕ) → Shuts d end shut a b × KeepsFront d end shut a b → (IsSome (d.contents c) → IsSome (d.contents b))
+pub group_stands : {D : Type 0} {d : Ghosts D} {a b c e : D} (end : ℕ) (shut : Bool) (body : List ℕ) → Shuts d end shut a b × KeepsPrefix d end shut a b → (IsSome (d.contents c) → IsSome (d.contents b))
     → LaysGroup d end body b c × LaysBody d end body b c → (IsSome (d.contents e) → IsSome (d.contents c)) → KeepsRest d end c e → GroupStands d end shut body a e
 group_stands {d = d} {b = b} {c = c} {e = e} end shut body first second_told second third_told third was now g opened is told =
     let far = some_of (d.contents c) (third_told (is_some (d.contents e) told)) in
@@ -251,7 +251,7 @@ group_stands {d = d} {b = b} {c = c} {e = e} end shut body first second_told sec
     let laid = second.1 mid.0 far.0 one.1 far.1 in
     let done = third far.0 now g two.1 told in
     record {
-      front = done.0 ∙ laid.front ∙ first.1 was mid.0 opened mid.1;
+      prefix = done.0 ∙ laid.prefix ∙ first.1 was mid.0 opened mid.1;
       behind = ap (λ (x : List ℕ). take (length body) x) done.1 ∙ laid.behind;
     }
 

@@ -4,13 +4,13 @@ use Rattle.std.specs.List.{AllByRecursion}
 use Rattle.nx_host.specs.Disk.{Image, ComesTorn}
 use Rattle.nx_host.specs.declared.disk.Area.TheVariants.{Pages}
 use Rattle.nx_host.specs.declared.disk.Disk.{Ghosts}
-use Rattle.nx_host.specs.Still.{Goes, IsSettled}
+use Rattle.nx_host.specs.Still.{WritesAlone, IsSettled}
 use Rattle.nx_replay.specs.Log.{groups, logged, IsPartlyMoved}
 use Rattle.nx_wal.specs.Places.{Places, LeadsTo, AreWithin}
 
 -- The range of one page was written, and no sync has made it durable.
 pub record WritesPage {D : Type 0} (d : Ghosts D) (page : ℕ) (old new : D) : Type 0 where
-  pub goes : Goes d old new (ComesTorn Pages (8192 * page) 8192 (d.may_leave old))
+  pub goes : WritesAlone d old new (ComesTorn Pages (8192 * page) 8192 (d.may_leave old))
   pub images : (i : Image) → d.may_leave new i → ComesTorn Pages (8192 * page) 8192 (d.may_leave old) i
 
 -- The disk has this image alone, and the places lead to the pages of its log.
@@ -21,7 +21,7 @@ pub record IsLed {D : Type 0} (d : Ghosts D) (places : Places) (disk : D) (image
 
 -- From old to new pages of the log were written to the pages area alone.
 pub record Moves {D : Type 0} (d : Ghosts D) (places : Places) (old new : D) : Type 0 where
-  pub goes : Goes d old new (λ i. (was : Image) → IsLed d places old was → IsPartlyMoved was i)
+  pub goes : WritesAlone d old new (λ i. (was : Image) → IsLed d places old was → IsPartlyMoved was i)
   pub images : (i : Image) → d.may_leave new i → (was : Image) → IsLed d places old was → IsPartlyMoved was i
 
 -- where the log has this page, the area has it so

@@ -16,10 +16,10 @@ numbers_of es = map (λ e. e.page) es
 abbrev pub usable : List ℕ → List ℕ
 usable log = take (2 ^ 63) log
 
--- the front has so many bytes of these, and they are all where the front had room for more
-pub record Gives (n room : ℕ) (front bytes : List ℕ) : Type 0 where
+-- the prefix has so many bytes of these, and they are all where the prefix had room for more
+pub record Gives (n room : ℕ) (prefix bytes : List ℕ) : Type 0 where
   pub count : n ≡ length (take room bytes)
-  pub same : take n front ≡ take room bytes
+  pub same : take n prefix ≡ take room bytes
 
 -- a group's gate, open, and its count, and there is room for so many pages and a gate
 pub record IsHeadOf (count : ℕ) (bytes : List ℕ) : Type 0 where
@@ -37,10 +37,10 @@ pub record IsHead (at : ℕ) (head : Head) (log : List ℕ) : Type 0 where
 
 -- The log was read up to an offset.
 pub record IsReadTo (places : Places) (at : ℕ) (log : List ℕ) : Type 0 where
-  pub front : List Group
-  pub split : groups log ≡ front ++ groups_behind 0 (drop at (usable log))
-  pub here : at ≡ end_of front
-  pub leads : LeadsTo front places log
+  pub prefix : List Group
+  pub split : groups log ≡ prefix ++ groups_behind 0 (drop at (usable log))
+  pub here : at ≡ end_of prefix
+  pub leads : LeadsTo prefix places log
 
 -- The log was read whole.
 pub record IsRead (places : Places) (end : End) (log : List ℕ) : Type 0 where

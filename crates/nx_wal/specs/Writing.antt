@@ -4,7 +4,7 @@ use Rattle.nx_host.specs.Disk.{Image, ComesTorn, WritesTo}
 use Rattle.nx_host.specs.declared.disk.Area.TheVariants.{Log}
 use Rattle.nx_host.specs.declared.disk.Disk.{Ghosts}
 use Rattle.byteorder.specs.Endian.{big_bytes}
-use Rattle.nx_host.specs.Still.{Goes}
+use Rattle.nx_host.specs.Still.{WritesAlone}
 use Rattle.nx_replay.specs.Log.{Entry, Group, group_bytes}
 use Rattle.nx_slots.specs.declared.page.PageBytes.{PageBytes}
 
@@ -26,7 +26,7 @@ head_of number count = big_bytes 8 number ++ big_bytes 4 count
 
 -- The log was written in one range, which no sync has made durable.
 pub record Writes {D : Type 0} (d : Ghosts D) (at n : ℕ) (old new : D) : Type 0 where
-  pub goes : Goes d old new (ComesTorn Log at n (d.may_leave old))
+  pub goes : WritesAlone d old new (ComesTorn Log at n (d.may_leave old))
   pub images : (i : Image) → d.may_leave new i → ComesTorn Log at n (d.may_leave old) i
   pub reads_stay : d.reads new ≡ d.reads old
 
@@ -36,5 +36,5 @@ pub record Lays {D : Type 0} (d : Ghosts D) (at : ℕ) (bytes : List ℕ) (old n
 
 -- The log is the same up to the offset, and these bytes stand behind one byte there.
 pub record StandsBehind (at : ℕ) (bytes : List ℕ) (was now : Image) : Type 0 where
-  pub front : take at now.log ≡ take at was.log
+  pub prefix : take at now.log ≡ take at was.log
   pub behind : take (length bytes) (drop (at + 1) now.log) ≡ bytes

@@ -3,7 +3,7 @@ ghost use Rattle.std.specs.Prelude.{◌≡◌, ◌+◌, ◌*◌, ◌^◌, ◌<�
 ghost use Rattle.std.specs.BTreeMap.{BTreeMap};
 ghost use Rattle.nx_host.specs.Disk.{Image, Rose, ComesTorn, WritesTo};
 ghost use Rattle.nx_host.specs.declared.disk.Area.TheVariants.{Pages};
-ghost use Rattle.nx_host.specs.Still.{Goes, IsSettled};
+ghost use Rattle.nx_host.specs.Still.{WritesAlone, IsSettled};
 ghost use Rattle.nx_replay.specs.Log.{replay, groups, end_of, IsAtEnd, Stays};
 ghost use Rattle.nx_wal.specs.Moving.{WritesPage, Moves, IsLed, HasMoved};
 
@@ -63,7 +63,7 @@ fn move_pages<D: Disk>(disk: &mut D, places: &BTreeMap<u32, Option<u64>>) -> Res
 
 // Makes durable what was written to the pages area.
 fn sync_pages<D: Disk>(disk: &mut D) -> Result<(), Failed>
-    ensures goes { Goes D.Disk disk.old disk.new (D.may_leave disk.old) }
+    ensures goes { WritesAlone D.Disk disk.old disk.new (D.may_leave disk.old) }
     ensures images { (i : Image) → D.may_leave disk.new i → D.may_leave disk.old i }
     ensures durable { OnOk result ((now : Image) → D.contents disk.new ≡ Some now → (D.contents disk.old ≡ Some now) × ((i : Image) → D.may_leave disk.new i → i.pages ≡ now.pages)) }
     ensures cause { OnErr result (Rose (D.faults disk.old) (D.faults disk.new)) }
@@ -76,7 +76,7 @@ pub(crate) fn empty_log<D: Disk>(
     disk: &mut D,
     places: &BTreeMap<u32, Option<u64>>,
 ) -> Result<(), Failed>
-    ensures goes { Goes D.Disk disk.old disk.new (λ i. (was : Image) → IsLed D.Disk places.now disk.old was → 0 < end_of (groups was.log) → Stays (replay was) (replay i)) }
+    ensures goes { WritesAlone D.Disk disk.old disk.new (λ i. (was : Image) → IsLed D.Disk places.now disk.old was → 0 < end_of (groups was.log) → Stays (replay was) (replay i)) }
     ensures ok { OnOk result ((was now : Image) → IsLed D.Disk places.now disk.old was → 0 < end_of (groups was.log) → D.contents disk.new ≡ Some now
         → IsSettled D.Disk disk.new now × Stays (replay was) (replay now) × IsAtEnd 0 true now.log) }
     ensures cause { OnErr result (Rose (D.faults disk.old) (D.faults disk.new)) }

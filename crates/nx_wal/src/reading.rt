@@ -248,7 +248,7 @@ pub(crate) fn open_log<D: Disk>(disk: &mut D, alloc: Global) -> Result<Opened, W
     Ok(Opened { places, end })
 }
 
-// Whether a group stands at a log's front.
+// Whether a group stands at a log's beginning.
 fn has_group<D: Disk>(disk: &mut D, head: Head, alloc: Global) -> Result<bool, WalError>
     ensures still { IsStill D.Disk disk.old disk.new }
     ensures some { IfOk result (λ has. has ≡ true → (0 < head.count) × ((was : Image) → D.contents disk.old ≡ Some was → 13 + 8196 * head.count ≤ length was.log
@@ -264,7 +264,7 @@ fn has_group<D: Disk>(disk: &mut D, head: Head, alloc: Global) -> Result<bool, W
     read_numbers(disk, 13, head.count, &mut numbers)
 }
 
-// Where the disk has no page, whether a closed byte stands at the log's front.
+// Where the disk has no page, whether a closed byte stands at the log's beginning.
 pub(crate) fn shut_of_none<D: Disk>(disk: &mut D, alloc: Global) -> Result<Option<bool>, WalError>
     ensures still { IsStill D.Disk disk.old disk.new }
     ensures some { IfOk result (λ found. (shut : Bool) → found ≡ Some shut → (was : Image) → D.contents disk.old ≡ Some was → IsAtEnd 0 shut was.log × ((p : ℕ) → replay was p ≡ None)) }

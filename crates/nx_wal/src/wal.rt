@@ -4,7 +4,7 @@ ghost use Rattle.std.specs.Option.{option_map};
 ghost use Rattle.std.specs.BTreeMap.{keys, values};
 ghost use Rattle.std.proofs.Props.{props};
 ghost use Rattle.nx_host.specs.Disk.{Image};
-ghost use Rattle.nx_host.specs.Still.{IsStill, IsSettled, Goes};
+ghost use Rattle.nx_host.specs.Still.{IsStill, IsSettled, WritesAlone};
 ghost use Rattle.nx_replay.specs.Log.{replay, over, groups, size_of, entry_pages, Stays, HasSame, HasGroup};
 ghost use Rattle.nx_wal.specs.Places.{MayWait, IsWholePage};
 
@@ -173,7 +173,7 @@ impl Wal {
     pub fn commit<D: Disk>(&mut self, disk: &mut D, number: u64) -> Result<(), WalError>
         requires some { pending self.old ≢ [] }
         requires room { length_of self.old ≤ 2 ^ 62 }
-        ensures goes { Goes D.Disk disk.old disk.new (λ i. (was : Image) → IsInStep D.Disk self.old disk.old was → HasSame was i ⊎ HasGroup (next_group number self.old) was i) }
+        ensures goes { WritesAlone D.Disk disk.old disk.new (λ i. (was : Image) → IsInStep D.Disk self.old disk.old was → HasSame was i ⊎ HasGroup (next_group number self.old) was i) }
         ensures ok { OnOk result ((was now : Image) → IsInStep D.Disk self.old disk.old was → D.contents disk.new ≡ Some now →
             IsInStep D.Disk self.new disk.new now × HasGroup (next_group number self.old) was now) }
         ensures none_left { OnOk result ((pending self.new ≡ []) × (has_ended self.old ≡ false) × (has_ended self.new ≡ false)) }
@@ -220,7 +220,7 @@ impl Wal {
     /// `Disk`.
     pub fn checkpoint<D: Disk>(&mut self, disk: &mut D) -> Result<(), WalError>
         requires none { pending self.old ≡ [] }
-        ensures goes { Goes D.Disk disk.old disk.new (λ i. (was : Image) → IsInStep D.Disk self.old disk.old was → Stays (replay was) (replay i)) }
+        ensures goes { WritesAlone D.Disk disk.old disk.new (λ i. (was : Image) → IsInStep D.Disk self.old disk.old was → Stays (replay was) (replay i)) }
         ensures ok { OnOk result ((was now : Image) → IsInStep D.Disk self.old disk.old was → D.contents disk.new ≡ Some now →
             IsInStep D.Disk self.new disk.new now × Stays (replay was) (replay now) × (groups now.log ≡ [])) }
         ensures empty { OnOk result ((length_of self.new ≡ 0) × (pending self.new ≡ []) × (has_ended self.old ≡ false) × (has_ended self.new ≡ false)) }

@@ -3,7 +3,7 @@ ghost use Rattle.std.specs.Prelude.{◌≡◌, ◌⊎◌, ◌+◌, ◌*◌, ◌^
 ghost use Rattle.std.specs.BTreeMap.{btree_map_len};
 ghost use Rattle.nx_host.specs.Disk.{Image, Rose, ComesTorn, WritesTo, TearsIn, Keeps, IsDurable};
 ghost use Rattle.nx_host.specs.declared.disk.Area.TheVariants.{Log};
-ghost use Rattle.nx_host.specs.Still.{Goes, IsSettled};
+ghost use Rattle.nx_host.specs.Still.{WritesAlone, IsSettled};
 ghost use Rattle.nx_replay.specs.Log.{Group, size_of, entry_bytes, HasGroup, HasSame};
 ghost use Rattle.nx_replay.specs.Commit.{IsOpened, IsBody, IsLaid};
 ghost use Rattle.byteorder.specs.Endian.{big_bytes};
@@ -203,7 +203,7 @@ fn write_body<D: Disk>(
 
 // Makes durable what was written to the log.
 fn sync_log<D: Disk>(disk: &mut D) -> Result<(), Failed>
-    ensures goes { Goes D.Disk disk.old disk.new (D.may_leave disk.old) }
+    ensures goes { WritesAlone D.Disk disk.old disk.new (D.may_leave disk.old) }
     ensures images { (i : Image) → D.may_leave disk.new i → D.may_leave disk.old i }
     ensures durable { OnOk result ((now : Image) → D.contents disk.new ≡ Some now → (D.contents disk.old ≡ Some now) × ((i : Image) → D.may_leave disk.new i → i.log ≡ now.log)) }
     ensures reads { D.reads disk.new ≡ D.reads disk.old }
@@ -215,7 +215,7 @@ fn sync_log<D: Disk>(disk: &mut D) -> Result<(), Failed>
 // Writes one byte to the log and makes it durable.
 pub(crate) fn write_gate<D: Disk>(disk: &mut D, at: u64, gate: u8) -> Result<(), Failed>
     requires { at + 1 ≤ 2 ^ 63 }
-    ensures goes { Goes D.Disk disk.old disk.new (ComesTorn Log at 1 (D.may_leave disk.old)) }
+    ensures goes { WritesAlone D.Disk disk.old disk.new (ComesTorn Log at 1 (D.may_leave disk.old)) }
     ensures written { OnOk result ((was : Image) → IsSettled D.Disk disk.old was → at ≤ length was.log → (now : Image) → D.contents disk.new ≡ Some now
         → WritesTo Log at (gate ∷ []) was now × IsSettled D.Disk disk.new now) }
     ensures reads { D.reads disk.new ≡ D.reads disk.old }
@@ -228,9 +228,9 @@ pub(crate) fn write_gate<D: Disk>(disk: &mut D, at: u64, gate: u8) -> Result<(),
 // Sees that a closed byte stands at the log's end.
 fn shut_end<D: Disk>(disk: &mut D, end: u64, shut: bool) -> Result<(), Failed>
     requires { end + 1 ≤ 2 ^ 63 }
-    ensures goes { Goes D.Disk disk.old disk.new (λ i. (was : Image) → IsOpened D.Disk end shut disk.old was → HasSame was i) }
+    ensures goes { WritesAlone D.Disk disk.old disk.new (λ i. (was : Image) → IsOpened D.Disk end shut disk.old was → HasSame was i) }
     ensures ok { OnOk result ((was now : Image) → IsOpened D.Disk end shut disk.old was → D.contents disk.new ≡ Some now → HasSame was now × IsOpened D.Disk end true disk.new now) }
-    ensures front { OnOk result ((was now : Image) → IsOpened D.Disk end shut disk.old was → D.contents disk.new ≡ Some now → take end now.log ≡ take end was.log) }
+    ensures prefix { OnOk result ((was now : Image) → IsOpened D.Disk end shut disk.old was → D.contents disk.new ≡ Some now → take end now.log ≡ take end was.log) }
     ensures reads { D.reads disk.new ≡ D.reads disk.old }
     ensures cause { OnErr result (Rose (D.faults disk.old) (D.faults disk.new)) }
 {
@@ -250,10 +250,10 @@ fn lay_waiting<D: Disk>(
 ) -> Result<(), Failed>
     requires low { end + 14 + 8196 * btree_map_len waiting.now ≤ 2 ^ 63 }
     requires few { btree_map_len waiting.now < 2 ^ 32 }
-    ensures goes { Goes D.Disk disk.old disk.new (λ i. (was : Image) → IsOpened D.Disk end true disk.old was → HasSame was i) }
+    ensures goes { WritesAlone D.Disk disk.old disk.new (λ i. (was : Image) → IsOpened D.Disk end true disk.old was → HasSame was i) }
     ensures ok { OnOk result ((was now : Image) (g : Group) → IsOpened D.Disk end true disk.old was → IsBody g end (body_of number waiting.now.entries) → D.contents disk.new ≡ Some now
         → HasSame was now × IsLaid D.Disk g end disk.new now) }
-    ensures front { OnOk result ((was now : Image) → IsOpened D.Disk end true disk.old was → D.contents disk.new ≡ Some now → StandsBehind end (body_of number waiting.now.entries) was now) }
+    ensures prefix { OnOk result ((was now : Image) → IsOpened D.Disk end true disk.old was → D.contents disk.new ≡ Some now → StandsBehind end (body_of number waiting.now.entries) was now) }
     ensures reads { D.reads disk.new ≡ D.reads disk.old }
     ensures cause { OnErr result (Rose (D.faults disk.old) (D.faults disk.new)) }
 {
@@ -264,10 +264,10 @@ fn lay_waiting<D: Disk>(
 // Opens the gate of a group that stands behind it.
 fn open_gate<D: Disk>(disk: &mut D, end: u64) -> Result<(), Failed>
     requires { end + 1 ≤ 2 ^ 63 }
-    ensures goes { Goes D.Disk disk.old disk.new (λ i. (was : Image) (g : Group) → IsLaid D.Disk g end disk.old was → HasSame was i ⊎ HasGroup g was i) }
+    ensures goes { WritesAlone D.Disk disk.old disk.new (λ i. (was : Image) (g : Group) → IsLaid D.Disk g end disk.old was → HasSame was i ⊎ HasGroup g was i) }
     ensures ok { OnOk result ((was now : Image) (g : Group) → IsLaid D.Disk g end disk.old was → D.contents disk.new ≡ Some now
         → HasGroup g was now × IsOpened D.Disk (end + size_of (length g.entries)) true disk.new now) }
-    ensures front { OnOk result ((was now : Image) (g : Group) → IsLaid D.Disk g end disk.old was → D.contents disk.new ≡ Some now
+    ensures prefix { OnOk result ((was now : Image) (g : Group) → IsLaid D.Disk g end disk.old was → D.contents disk.new ≡ Some now
         → (take end now.log ≡ take end was.log) × (drop (end + 1) now.log ≡ drop (end + 1) was.log)) }
     ensures reads { D.reads disk.new ≡ D.reads disk.old }
     ensures cause { OnErr result (Rose (D.faults disk.old) (D.faults disk.new)) }
@@ -286,10 +286,10 @@ pub(crate) fn write_group<D: Disk>(
 ) -> Result<(), Failed>
     requires low { end + 14 + 8196 * btree_map_len waiting.now ≤ 2 ^ 63 }
     requires few { btree_map_len waiting.now < 2 ^ 32 }
-    ensures goes { Goes D.Disk disk.old disk.new (λ i. (was : Image) (g : Group) → IsOpened D.Disk end shut disk.old was → IsBody g end (body_of number waiting.now.entries) → HasSame was i ⊎ HasGroup g was i) }
+    ensures goes { WritesAlone D.Disk disk.old disk.new (λ i. (was : Image) (g : Group) → IsOpened D.Disk end shut disk.old was → IsBody g end (body_of number waiting.now.entries) → HasSame was i ⊎ HasGroup g was i) }
     ensures ok { OnOk result ((was now : Image) (g : Group) → IsOpened D.Disk end shut disk.old was → IsBody g end (body_of number waiting.now.entries) → D.contents disk.new ≡ Some now
         → HasGroup g was now × IsOpened D.Disk (end + size_of (length g.entries)) true disk.new now) }
-    ensures front { OnOk result ((was now : Image) (g : Group) → IsOpened D.Disk end shut disk.old was → IsBody g end (body_of number waiting.now.entries) → D.contents disk.new ≡ Some now
+    ensures prefix { OnOk result ((was now : Image) (g : Group) → IsOpened D.Disk end shut disk.old was → IsBody g end (body_of number waiting.now.entries) → D.contents disk.new ≡ Some now
         → StandsBehind end (body_of number waiting.now.entries) was now) }
     ensures reads { D.reads disk.new ≡ D.reads disk.old }
     ensures cause { OnErr result (Rose (D.faults disk.old) (D.faults disk.new)) }

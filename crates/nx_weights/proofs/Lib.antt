@@ -1,3 +1,4 @@
 pub mod LimitLemmas
 pub mod SumLemmas
 pub mod HeavyLemmas
+pub mod AtMostLemmas

@@ -48,8 +48,8 @@ fn has_member(interval: &Interval, path: &[u32]) -> bool {
             first,
             last,
         } => match path.split_last() {
-            Some((position, front)) => {
-                parent.as_slice() == front && first <= position && position <= last
+            Some((position, prefix)) => {
+                parent.as_slice() == prefix && first <= position && position <= last
             }
             None => false,
         },
@@ -100,8 +100,8 @@ fn holder(parts: &[Interval], path: &[u32]) -> Option<usize> {
 // The index of the interval that has the node or the nearest one above it.
 fn owner(parts: &[Interval], path: &[u32]) -> Option<usize> {
     for len in (0..=path.len()).rev() {
-        if let Some(front) = path.get(..len)
-            && let Some(index) = holder(parts, front)
+        if let Some(prefix) = path.get(..len)
+            && let Some(index) = holder(parts, prefix)
         {
             return Some(index);
         }

@@ -2,7 +2,7 @@ use Rattle.std.proofs.Common.{arith, ◌≡◌, ◌+◌, ◌≤◌, [], ◌∷�
 use Rattle.std.proofs.lemmas.Option.{slice_get-get_or}
 use Rattle.nx_parts.specs.declared.bounds.Bound.{Bound}
 use Rattle.nx_choices.specs.declared.child.Child.{Child}
-use Rattle.nx_bounds.specs.Claim.{child}
+use Rattle.nx_bounds.specs.Claim.{claimed_child}
 use Rattle.std.proofs.lemmas.List.{drop_all}
 use Rattle.nx_tree.specs.Forest.{OrderedTree, nodes}
 use Rattle.nx_tree.proofs.TestLemmas.{next_left}
@@ -52,7 +52,7 @@ loop-child-preserved c =
     list_more c.args.k c.args.tree.now c.args.bounds.now c.args.place c.as_slice-child-items.result.now c.loop-child.child-index c.loop-child.next c.count-next.result c.loop-child.list.items
     c.push.new.self.items c.child-item.result b c.loop-child.invariant (next_left _ _ _ c.loop-child-test.true c.child-item.is)
     (slice_get-get_or c.args.bounds.now c.loop-child.next least (omega arith)) c.count-next.ensures
-    (c.in_ok-push.ensures.items ∙ ap (λ (x : Child). c.loop-child.list.items ++ x ∷ []) (c.claimed_child.ensures ∙ ap (λ (x : OrderedTree). child c.args.k x.node b) c.child.view_is))
+    (c.in_ok-push.ensures.items ∙ ap (λ (x : Child). c.loop-child.list.items ++ x ∷ []) (c.claimed_child.ensures ∙ ap (λ (x : OrderedTree). claimed_child c.args.k x.node b) c.child.view_is))
 
 pub returns : goal.returns
 returns c =

@@ -12,4 +12,4 @@ returns-in_err-emit-clause-given g c =
     let said = c.is_empty.ensures in
     let some : 0 < length c.args.bytes.now = grind (arith, nat_tests) in
     rw (p.1, p.2)
-    (fails_at_once c.args.bytes.now (h.beside c.args.host.now) (h.beside c.emit.new.self) some c.in_err-emit.ensures.cause c.in_err-emit.ensures.front)
+    (fails_at_once c.args.bytes.now (h.beside c.args.host.now) (h.beside c.emit.new.self) some c.in_err-emit.ensures.cause c.in_err-emit.ensures.prefix)

@@ -1,7 +1,7 @@
 use Rattle.std.proofs.Common.{◌++◌, Err, Ok, ap, refl, sym, subst}
 use Rattle.std.proofs.lemmas.Result.{err_from_is_err_and}
 use Rattle.nx_host.proofs.PhaseLemmas.{none_given}
-use Rattle.nx_front.specs.declared.give.Halt.TheVariants.{NoMemory}
+use Rattle.nx_front.specs.declared.give.GiveError.TheVariants.{NoMemory}
 use Rattle.nx_front.specs.Outcome.{Given}
 use Rattle.nx_front.proofs.GiveLemmas.{less, given_nothing, gave_rest, left_is, all_left, giving_more, giving_stops, giving_alone}
 use Rattle.nx_front.proofs.give.give_written.Goals as goal

@@ -3,7 +3,7 @@ use Rattle.std.proofs.lemmas.Result.{err_from_is_err_and}
 use Rattle.nx_script.specs.declared.command.Command.{Command}
 use Rattle.nx_script.specs.declared.script.Script.{Script}
 use Rattle.nx_script.specs.Script.{HasGiven}
-use Rattle.nx_script.proofs.Coming.{given_can}
+use Rattle.nx_script.proofs.CanComeLemmas.{given_can}
 use Rattle.nx_front.proofs.SessionLemmas.{has_answered_none, has_answered_more, has_answered_given, stopped_after, stopped_giving, stopped_answering}
 use Rattle.nx_front.proofs.session.answer_ready.Goals as goal
 

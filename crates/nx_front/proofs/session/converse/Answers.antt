@@ -5,7 +5,7 @@ use Rattle.nx_script.specs.Commands.{AreCommands, AreWhole}
 use Rattle.nx_script.proofs.ScriptLemmas.{stops}
 use Rattle.nx_front.specs.declared.status.Status.{Status}
 use Rattle.nx_front.specs.declared.status.Status.TheVariants.{NoMemory}
-use Rattle.nx_front.specs.Stop.{status_of_script, status_of_halt}
+use Rattle.nx_front.specs.TakeError.{status_of_script, status_of_give_error}
 use Rattle.nx_front.specs.Outcome.{RunsBeside}
 use Rattle.nx_front.specs.Session.{script_run, session_status}
 use Rattle.nx_front.proofs.SessionLemmas.{answered_none, answered_more, answered_filled, session_stopped, session_done, session_unfilled, session_none, stopped_giving}
@@ -25,8 +25,8 @@ pub returns-in_err-answer_ready : goal.returns-in_err-answer_ready
 returns-in_err-answer_ready g c =
     let h = g.H.Disk in
     let p = err_from_is_err_and c.from_residual-in_err-answer_ready.result c.from_residual-in_err-answer_ready.ensures.1 in
-    let halt = c.in_err-answer_ready.field-0.0 in
-    let is : session_status c.from_residual-in_err-answer_ready.result ≡ status_of_halt halt = ap session_status p.1 ∙ p.2 in
+    let error = c.in_err-answer_ready.field-0.0 in
+    let is : session_status c.from_residual-in_err-answer_ready.result ≡ status_of_give_error error = ap session_status p.1 ∙ p.2 in
     let (taken, commands, answered) = c.loop-block.invariant in
     let (more, last, ended, stopped) = c.in_err-answer_ready.ensures.err (h.beside c.args.host.now).input taken commands answered.given in
     subst (λ (s : Status). RunsBeside h script_run s c.args.host.now c.answer_ready.new.host) (sym is)
@@ -36,8 +36,8 @@ pub returns-in_err-give_block : goal.returns-in_err-give_block
 returns-in_err-give_block g c =
     let h = g.H.Disk in
     let p = err_from_is_err_and c.from_residual-in_err-give_block.result c.from_residual-in_err-give_block.ensures.1 in
-    let halt = c.in_err-give_block.field-0.0 in
-    let is : session_status c.from_residual-in_err-give_block.result ≡ status_of_halt halt = ap session_status p.1 ∙ p.2 in
+    let error = c.in_err-give_block.field-0.0 in
+    let is : session_status c.from_residual-in_err-give_block.result ≡ status_of_give_error error = ap session_status p.1 ∙ p.2 in
     let (taken, commands, answered) = c.loop-block.invariant in
     let first = (h.beside c.args.host.now).input in
     let (more, whole, did) = c.in_ok-answer_ready.ensures.ok first taken commands answered.given in

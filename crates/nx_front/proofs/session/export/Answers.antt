@@ -3,8 +3,8 @@ use Rattle.std.specs.Prelude.{codes}
 use Rattle.std.proofs.lemmas.Result.{err_from_is_err_and}
 use Rattle.nx_pyx.specs.Text.{text}
 use Rattle.nx_host.specs.Phase.{GivesAlone}
-use Rattle.nx_host.proofs.PhaseLemmas.{gives_front}
-use Rattle.nx_front.specs.declared.give.Halt.TheVariants.{NoMemory}
+use Rattle.nx_host.proofs.PhaseLemmas.{gives_prefix}
+use Rattle.nx_front.specs.declared.give.GiveError.TheVariants.{NoMemory}
 use Rattle.nx_front.specs.Outcome.{Given}
 use Rattle.nx_front.proofs.OutcomeLemmas.{given_more}
 use Rattle.nx_front.proofs.GiveLemmas.{given_nothing, gave_rest, left_is, left_more, all_is}
@@ -19,7 +19,7 @@ returns-clause-given g c =
 pub returns-clause-alone : goal.returns-clause-alone
 returns-clause-alone g c =
     subst (λ (t : List ℕ). GivesAlone g.H.Disk t c.args.host.now c.give_into.new.host) (append_assoc c.args.block.now (text c.args.tree.now) (codes ".\n"))
-    (gives_front (c.args.block.now ++ text c.args.tree.now) (codes ".\n") c.give_into.ensures.alone)
+    (gives_prefix (c.args.block.now ++ text c.args.tree.now) (codes ".\n") c.give_into.ensures.alone)
 
 pub returns-in_err-give_into-clause-given : goal.returns-in_err-give_into-clause-given
 returns-in_err-give_into-clause-given g c =
@@ -33,7 +33,7 @@ returns-in_err-give_into-clause-given g c =
 pub returns-in_err-give_into-clause-alone : goal.returns-in_err-give_into-clause-alone
 returns-in_err-give_into-clause-alone g c =
     subst (λ (t : List ℕ). GivesAlone g.H.Disk t c.args.host.now c.give_into.new.host) (append_assoc c.args.block.now (text c.args.tree.now) (codes ".\n"))
-    (gives_front (c.args.block.now ++ text c.args.tree.now) (codes ".\n") c.give_into.ensures.alone)
+    (gives_prefix (c.args.block.now ++ text c.args.tree.now) (codes ".\n") c.give_into.ensures.alone)
 
 pub returns-in_err-extend_from_slice-clause-given : goal.returns-in_err-extend_from_slice-clause-given
 returns-in_err-extend_from_slice-clause-given g c =
@@ -47,4 +47,4 @@ returns-in_err-extend_from_slice-clause-given g c =
 pub returns-in_err-extend_from_slice-clause-alone : goal.returns-in_err-extend_from_slice-clause-alone
 returns-in_err-extend_from_slice-clause-alone g c =
     subst (λ (t : List ℕ). GivesAlone g.H.Disk t c.args.host.now c.give_into.new.host) (append_assoc c.args.block.now (text c.args.tree.now) (codes ".\n"))
-    (gives_front (c.args.block.now ++ text c.args.tree.now) (codes ".\n") c.give_into.ensures.alone)
+    (gives_prefix (c.args.block.now ++ text c.args.tree.now) (codes ".\n") c.give_into.ensures.alone)

@@ -2,7 +2,7 @@ use Rattle.std.proofs.Common.{sym, ap, ◌∙◌, subst}
 use Rattle.nx_pyx.specs.Reader.{HasRoom}
 use Rattle.nx_pyx.specs.Event.{event_of}
 use Rattle.nx_pyx.specs.Line.{event_in}
-use Rattle.nx_pyx.proofs.Room.{room_few, room_left, too_long}
+use Rattle.nx_pyx.proofs.HasRoomLemmas.{room_few, room_left, too_long}
 use Rattle.nx_pyx.proofs.line.room.Goals as goal
 
 pub returns-then-bytes-le-LONGEST_NODE-clause-ok : goal.returns-then-bytes-le-LONGEST_NODE-clause-ok

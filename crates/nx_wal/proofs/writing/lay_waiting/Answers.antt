@@ -1,5 +1,5 @@
 use Rattle.std.proofs.Common.{◌+◌, ◌*◌, ◌<◌, arith, length, refl}
-use Rattle.nx_host.proofs.DiskLemmas.{goes_then}
+use Rattle.nx_host.proofs.DiskLemmas.{written_alone_then}
 use Rattle.nx_replay.proofs.SettledLemmas.{on_ok}
 use Rattle.nx_replay.proofs.CommitMoments.{laid_goes, laid_done}
 use Rattle.nx_wal.specs.Writing.{body_of}
@@ -13,7 +13,7 @@ returns-in_err-write_body-clause-goes g c =
 pub returns-clause-goes : goal.returns-clause-goes
 returns-clause-goes g c =
     laid_goes c.args.end (13 + 8196 * length c.args.waiting.now.entries)
-    (goes_then (c.write_body.ensures.writes).goes c.sync_log.ensures.goes (λ told i left. (c.write_body.ensures.writes).images i left))
+    (written_alone_then (c.write_body.ensures.writes).goes c.sync_log.ensures.goes (λ told i left. (c.write_body.ensures.writes).images i left))
 
 pub returns-clause-ok : goal.returns-clause-ok
 returns-clause-ok g c = on_ok c.sync_log.result c.sync_log.ensures.durable (λ durable was now group opened is told.
@@ -23,8 +23,8 @@ returns-clause-ok g c = on_ok c.sync_log.result c.sync_log.ensures.durable (λ d
     let done = synced c.write_body.ensures.writes c.in_ok-write_body.ensures.lays c.sync_log.ensures.images durable opened.settled (omega (arith, here)) told in
     laid_done c.args.end group body opened is done.0 done.1)
 
-pub returns-clause-front : goal.returns-clause-front
-returns-clause-front g c = on_ok c.sync_log.result c.sync_log.ensures.durable (λ durable was now opened told.
+pub returns-clause-prefix : goal.returns-clause-prefix
+returns-clause-prefix g c = on_ok c.sync_log.result c.sync_log.ensures.durable (λ durable was now opened told.
     let body = body_of c.args.number c.args.waiting.now.entries in
     let shut = (opened.at).closed refl in
     let here : c.args.end < length was.log = shut.0 in

@@ -1,5 +1,5 @@
 use Rattle.nx_replay.proofs.SettledLemmas.{on_ok}
-use Rattle.nx_wal.proofs.WritingLemmas.{end_fits, front_written, behind_written}
+use Rattle.nx_wal.proofs.WritingLemmas.{end_fits, prefix_written, behind_written}
 use Rattle.std.proofs.Common.{[], ◌∷◌}
 use Rattle.std.proofs.Common.{true}
 use Rattle.nx_replay.proofs.CommitMoments.{opened_goes, opened_done}
@@ -13,8 +13,8 @@ returns-clause-ok g c = on_ok c.write_gate.result c.write_gate.ensures.written (
     let done = written was ((laid.opened).settled) (end_fits c.args.end true was.log ((laid.opened).at)) now told in
     opened_done c.args.end group laid done.0 done.1)
 
-pub returns-clause-front : goal.returns-clause-front
-returns-clause-front g c = on_ok c.write_gate.result c.write_gate.ensures.written (λ written was now group laid told.
+pub returns-clause-prefix : goal.returns-clause-prefix
+returns-clause-prefix g c = on_ok c.write_gate.result c.write_gate.ensures.written (λ written was now group laid told.
     let fits = end_fits c.args.end true was.log ((laid.opened).at) in
     let done = written was ((laid.opened).settled) fits now told in
-    (front_written c.args.end (1 ∷ []) was now fits done.0, behind_written c.args.end 1 was now done.0))
+    (prefix_written c.args.end (1 ∷ []) was now fits done.0, behind_written c.args.end 1 was now done.0))

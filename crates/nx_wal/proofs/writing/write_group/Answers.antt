@@ -21,7 +21,7 @@ returns-clause-ok g c = on_ok c.open_gate.result c.open_gate.ensures.ok (λ open
     steps_done c.args.end c.args.shut (body_of c.args.number c.args.waiting.now.entries) c.in_ok-shut_end.ensures.ok (c.lay_waiting.ensures.goes).told
     c.in_ok-lay_waiting.ensures.ok (c.open_gate.ensures.goes).told opens)
 
-pub returns-clause-front : goal.returns-clause-front
-returns-clause-front g c = on_ok c.open_gate.result c.open_gate.ensures.front (λ rest.
-    group_stands c.args.end c.args.shut (body_of c.args.number c.args.waiting.now.entries) (c.in_ok-shut_end.ensures.ok, c.in_ok-shut_end.ensures.front) (c.lay_waiting.ensures.goes).told
-    (c.in_ok-lay_waiting.ensures.ok, c.in_ok-lay_waiting.ensures.front) (c.open_gate.ensures.goes).told rest)
+pub returns-clause-prefix : goal.returns-clause-prefix
+returns-clause-prefix g c = on_ok c.open_gate.result c.open_gate.ensures.prefix (λ rest.
+    group_stands c.args.end c.args.shut (body_of c.args.number c.args.waiting.now.entries) (c.in_ok-shut_end.ensures.ok, c.in_ok-shut_end.ensures.prefix) (c.lay_waiting.ensures.goes).told
+    (c.in_ok-lay_waiting.ensures.ok, c.in_ok-lay_waiting.ensures.prefix) (c.open_gate.ensures.goes).told rest)

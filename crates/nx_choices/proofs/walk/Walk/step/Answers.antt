@@ -3,7 +3,7 @@ use Rattle.std.proofs.lemmas.List.{drop-drop, get_or-drop, length-drop, length-t
 use Rattle.nx_choices.specs.declared.child.Child.{Child}
 use Rattle.nx_choices.specs.declared.walk.Walk.{Walk}
 use Rattle.nx_choices.specs.Choice.{AreWeighed}
-use Rattle.nx_choices.specs.Profile.{AreProfiles, IsWithin}
+use Rattle.nx_choices.specs.Profile.{AreProfiles, IsAchievable}
 use Rattle.nx_choices.specs.Walk.{AddsInterval, IsCutAt}
 use Rattle.nx_choices.proofs.BuildLemmas.{profiles_drop, row_fits, weighed_drop, weighed_take, weighed_more}
 use Rattle.nx_choices.proofs.WalkLemmas.{goes_cut, goes_uncut, interval_most, must_cut, row_behind}
@@ -64,8 +64,8 @@ find-requires-clause-there c =
     let row = row_behind k room children lefts c.of_last-after.result (at + 1) (length (take (length children - at) (drop at children)) - 1) (omega arith) (omega arith) (c.of_last-after.ensures k room children (omega arith) c.requires.profiles.2) in
     let u = c.in_default.ensures k room (drop (at + 1) children) c.requires.profiles.1 row in
     let behind : drop 1 (take (length children - at) (drop at children)) ≡ drop (at + 1) children = ap (drop 1) tail ∙ drop-drop 1 at children in
-    must_cut k (take (length children - at) (drop at children)) blank c.args.self.cost c.args.self.left (omega arith) (subst (λ (cs : List Child). IsWithin k cs c.args.self.cost c.args.self.left) (sym tail) c.requires.within)
-    (λ fits h. u fits (subst (λ (cs : List Child). IsWithin k cs c.args.self.cost (c.args.self.left - (get_or (take (length children - at) (drop at children)) 0 blank).lean)) behind h))
+    must_cut k (take (length children - at) (drop at children)) blank c.args.self.cost c.args.self.left (omega arith) (subst (λ (cs : List Child). IsAchievable k cs c.args.self.cost c.args.self.left) (sym tail) c.requires.within)
+    (λ fits h. u fits (subst (λ (cs : List Child). IsAchievable k cs c.args.self.cost (c.args.self.left - (get_or (take (length children - at) (drop at children)) 0 blank).lean)) behind h))
 
 pub push_interval-requires-clause-some : goal.push_interval-requires-clause-some
 push_interval-requires-clause-some c =

@@ -1,7 +1,7 @@
 use Rattle.std.proofs.Common.{refl, sym, ap, ◌∙◌, ◌++◌}
 use Rattle.std.proofs.lemmas.Result.{on_ok_weaker, IfErr-weaker, err_from_is_err_and}
 use Rattle.nx_pyx.proofs.StreamLemmas.{takes_line, fails_line, line_alone, still_none}
-use Rattle.nx_pyx.proofs.Room.{room_empty}
+use Rattle.nx_pyx.proofs.HasRoomLemmas.{room_empty}
 use Rattle.nx_pyx.proofs.reader.Reader.end_line.Goals as goal
 
 pub returns-then-is_empty-clause-ok : goal.returns-then-is_empty-clause-ok

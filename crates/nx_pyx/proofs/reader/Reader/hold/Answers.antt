@@ -1,7 +1,7 @@
 use Rattle.std.proofs.Common.{refl, ◌∙◌, subst, arith}
 use Rattle.nx_pyx.specs.Reader.{HasRoom}
 use Rattle.nx_pyx.proofs.StreamLemmas.{holds, shows}
-use Rattle.nx_pyx.proofs.Room.{room_less}
+use Rattle.nx_pyx.proofs.HasRoomLemmas.{room_less}
 use Rattle.nx_pyx.proofs.reader.Reader.hold.Goals as goal
 
 pub returns-then-bytes-self-clause-ok : goal.returns-then-bytes-self-clause-ok

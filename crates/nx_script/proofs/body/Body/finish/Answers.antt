@@ -13,4 +13,4 @@ returns-clause-within c = IfOk-weaker c.said.result _ _ (λ said h s within. h (
 
 pub returns-clause-ended : goal.returns-clause-ended
 returns-clause-ended c =
-    IfOk-weaker c.said.result _ _ (λ said h s ends more. subst (λ (l : List ℕ). Says l said) (sym (ends.before more)) (h ends.front ends.read.read)) c.said.ensures
+    IfOk-weaker c.said.result _ _ (λ said h s ends more. subst (λ (l : List ℕ). Says l said) (sym (ends.before more)) (h ends.prefix ends.read.read)) c.said.ensures

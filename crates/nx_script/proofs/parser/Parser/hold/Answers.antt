@@ -1,6 +1,6 @@
 use Rattle.std.proofs.Common.{ℕ, ◌-◌, ◌++◌, length, take, min, ap, ◌∙◌}
 use Rattle.nx_script.specs.Parser.{most_held}
-use Rattle.nx_script.proofs.Fronts.{held_more}
+use Rattle.nx_script.proofs.Prefixes.{held_more}
 use Rattle.nx_script.proofs.parser.Parser.hold.Goals as goal
 
 pub returns-clause-held : goal.returns-clause-held

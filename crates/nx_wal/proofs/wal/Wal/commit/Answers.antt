@@ -43,7 +43,7 @@ returns-clause-ok g c was now step told =
     let group = next_group c.args.number wal in
     let body = next_body wal c.len-count.ensures.ordered c.args.number c.ranges.number.fits c.requires.room c.requires.some in
     let done = c.in-Ok.ensures.ok was now group (opened_step c.requires.room step) body told in
-    let behind = c.in-Ok.ensures.front was now group (opened_step c.requires.room step) body told in
+    let behind = c.in-Ok.ensures.prefix was now group (opened_step c.requires.room step) body told in
     let stand = entries_stand wal.end c.args.number es was now behind in
     let mapped : length (entries_of es) ≡ length es = simp length-map in
     let count : c.len-count.result ≡ length es = c.len-count.ensures.len in
@@ -52,7 +52,7 @@ returns-clause-ok g c was now step told =
         settled = (done.1).settled;
         follows = record {
           at = subst (λ (e : ℕ). IsAtEnd e true now.log) ends (done.1).at;
-          leads = leads_more c.args.number c.set_places.new.places step.follows done.0 behind.front (c.set_places.ensures.notes now.log stand.0 stand.1);
+          leads = leads_more c.args.number c.set_places.new.places step.follows done.0 behind.prefix (c.set_places.ensures.notes now.log stand.0 stand.1);
           within = c.set_places.ensures.within (wal.end + (13 + 8196 * c.len-count.result)) (omega (arith, count)) (λ p at is. let low = (step.follows).within p at is in omega (arith, low));
         };
       },

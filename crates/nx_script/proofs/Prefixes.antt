@@ -9,12 +9,12 @@ use Rattle.std.proofs.lemmas.Slice.Eq.{bytes_eq-Decides}
 use Rattle.nx_pyx.specs.Lines.{without_cr}
 use Rattle.nx_script.specs.declared.command.Command.TheVariants.{Bad}
 use Rattle.nx_pyx.specs.Field.{begins_with}
-use Rattle.nx_pyx.proofs.Room.{one_dropped}
+use Rattle.nx_pyx.proofs.HasRoomLemmas.{one_dropped}
 use Rattle.nx_script.specs.Line.{longest_line, command_of}
 use Rattle.nx_script.specs.Commands.{begins_load, loaded_name, is_dot}
 use Rattle.nx_script.specs.Parser.{MeansSame}
 
--- a front of two lists
+-- a prefix of two lists
 pub take-append : (n : ℕ) (xs ys : List ℕ) → take n (xs ++ ys) ≡ take n xs ++ take (n - length xs) ys
 take-append n xs ys =
     ⊎_elim
@@ -39,17 +39,17 @@ held_more n line bytes held new is more =
     ∙ sym (take-append n line bytes)
 
 -- three bytes tell whether a line is the dot
-pub dot_front : (line : List ℕ) → is_dot (without_cr (take 3 line)) ≡ is_dot (without_cr line)
-dot_front [] = refl
-dot_front (a ∷ []) = refl
-dot_front (a ∷ b ∷ []) = refl
-dot_front (a ∷ b ∷ c ∷ []) = refl
-dot_front (a ∷ b ∷ c ∷ d ∷ line) = refl
+pub dot_prefix : (line : List ℕ) → is_dot (without_cr (take 3 line)) ≡ is_dot (without_cr line)
+dot_prefix [] = refl
+dot_prefix (a ∷ []) = refl
+dot_prefix (a ∷ b ∷ []) = refl
+dot_prefix (a ∷ b ∷ c ∷ []) = refl
+dot_prefix (a ∷ b ∷ c ∷ d ∷ line) = refl
 
 -- and one whether it begins with one
-pub begins_front : (line : List ℕ) → begins_with 46 (take 3 line) ≡ begins_with 46 line
-begins_front [] = refl
-begins_front (a ∷ line) = refl
+pub begins_prefix : (line : List ℕ) → begins_with 46 (take 3 line) ≡ begins_with 46 line
+begins_prefix [] = refl
+begins_prefix (a ∷ line) = refl
 
 -- the dot begins with a dot
 pub dot_begins : (line : List ℕ) → is_dot (without_cr line) ≡ true → begins_with 46 line ≡ true
@@ -61,11 +61,11 @@ dot_begins (a ∷ []) h = one (a == 13) h
     one false k = (and_parts (a == 46) true k).0
 dot_begins (a ∷ b ∷ line) h = (and_parts (a == 46) (bytes_eq (without_cr (b ∷ line)) []) h).0
 
--- a front of what doesn't begin with a dot doesn't either
-pub undotted_front : (n : ℕ) (line : List ℕ) → begins_with 46 line ≡ false → begins_with 46 (take n line) ≡ false
-undotted_front zero line h = refl
-undotted_front (suc n) [] h = refl
-undotted_front (suc n) (a ∷ line) h = h
+-- a prefix of what doesn't begin with a dot doesn't either
+pub undotted_prefix : (n : ℕ) (line : List ℕ) → begins_with 46 line ≡ false → begins_with 46 (take n line) ≡ false
+undotted_prefix zero line h = refl
+undotted_prefix (suc n) [] h = refl
+undotted_prefix (suc n) (a ∷ line) h = h
 
 -- nor does what it goes on from
 pub undotted_before : (line more : List ℕ) → begins_with 46 (line ++ more) ≡ false → begins_with 46 line ≡ false

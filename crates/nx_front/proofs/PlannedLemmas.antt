@@ -11,17 +11,17 @@ use Rattle.nx_pyx.specs.declared.error.PyxError.{PyxError}
 use Rattle.nx_pyx.specs.Fault.{shown_fault, fault_of}
 use Rattle.nx_pyx.specs.Lines.{cut}
 use Rattle.nx_pyx.specs.Reading.{Reads}
-use Rattle.nx_pyx.proofs.Said.{no_fault}
-use Rattle.nx_pyx.proofs.Shown.{fault_shown}
+use Rattle.nx_pyx.proofs.DocumentLemmas.{no_fault}
+use Rattle.nx_pyx.proofs.ShownFaultLemmas.{fault_shown}
 use Rattle.nx_script.specs.declared.body.Body.{Body}
 use Rattle.nx_script.specs.BeforeDot.{before_dot, after_dot, shown_before_dot}
-use Rattle.nx_script.specs.Body.{IsWithin, IsEndedBy}
+use Rattle.nx_script.specs.Body.{AwaitsDot, IsEndedBy}
 use Rattle.nx_script.proofs.BeforeDot.{after_in-none, shown_before}
 use Rattle.nx_front.specs.declared.refusal.Refusal.TheVariants.{Pyx, TooHeavy, Bounds}
-use Rattle.nx_front.specs.declared.stop.Stop.{Stop}
-use Rattle.nx_front.specs.declared.stop.Stop.TheVariants.{Refused, ReadFault, TooMuch, NoMemory}
+use Rattle.nx_front.specs.declared.take_error.TakeError.{TakeError}
+use Rattle.nx_front.specs.declared.take_error.TakeError.TheVariants.{Refused, ReadFault, TooMuch, NoMemory}
 use Rattle.nx_front.specs.Outcome.{EndsWhole, StopsBy}
-use Rattle.nx_front.specs.Claimed.{IsClaimed, HasLines, HasDot, HasDocument, StopsWhole}
+use Rattle.nx_front.specs.Planned.{IsPlanned, HasLines, HasDot, HasDocument, StopsWhole}
 use Rattle.nx_front.specs.Consumer.{StopsAt}
 use Rattle.nx_front.specs.Verify.{ShowsClaim, verify}
 use Rattle.nx_front.proofs.ConsumerLemmas.{few_had}
@@ -47,10 +47,10 @@ taken_within n m bytes here within =
 -- The lines of a document, up to the dot:
 
 -- lines without a dot show no fault
-lines_show : (body : Body) (taken : List ℕ) → IsWithin body taken → None ≡ shown_before_dot taken → ShowsClaim taken (Ok [])
+lines_show : (body : Body) (taken : List ℕ) → AwaitsDot body taken → None ≡ shown_before_dot taken → ShowsClaim taken (Ok [])
 lines_show body taken within none = (refl, sym none, λ dotted. absurd (let no_end : true ≡ false = sym dotted ∙ within.undotted in cc))
 
-pub lines_none : (body : Body) (behind : List ℕ) → IsWithin body [] → behind ≡ [] → HasLines body behind []
+pub lines_none : (body : Body) (behind : List ℕ) → AwaitsDot body [] → behind ≡ [] → HasLines body behind []
 lines_none body behind within none = record { within = within; shows = lines_show body [] within refl; none = none }
 
 -- they show a fault
@@ -78,24 +78,24 @@ pub document_dotted : (body : Body) (behind s : List ℕ) (tree : OrderedTree) �
     HasDocument tree behind s
 document_dotted body behind s tree dot reads =
     let before : (more : List ℕ) → Reads (before_dot (s ++ more)) tree =
-    λ more. subst (λ (l : List ℕ). Reads (before_dot l) tree) (sym (parts more)) (reads dot.front dot.ended (behind ++ more)) in
+    λ more. subst (λ (l : List ℕ). Reads (before_dot l) tree) (sym (parts more)) (reads dot.prefix dot.ended (behind ++ more)) in
     record { before = before; after = λ more. ap after_dot (parts more) ∙ dot.ended.after (behind ++ more); shows = document_shows tree s before }
   where
-    parts : (more : List ℕ) → s ++ more ≡ dot.front ++ (behind ++ more)
-    parts more = ap (λ (l : List ℕ). l ++ more) dot.parts ∙ append_assoc dot.front behind more
+    parts : (more : List ℕ) → s ++ more ≡ dot.prefix ++ (behind ++ more)
+    parts more = ap (λ (l : List ℕ). l ++ more) dot.parts ∙ append_assoc dot.prefix behind more
 
 -- or a fault
-pub faulty_dotted : (body : Body) (behind s : List ℕ) (stop : Stop) → HasDot body behind s → ((t : List ℕ) → IsEndedBy body t → (more : List ℕ) → StopsWhole stop (t ++ more)) → StopsAt ShowsClaim stop s
+pub faulty_dotted : (body : Body) (behind s : List ℕ) (stop : TakeError) → HasDot body behind s → ((t : List ℕ) → IsEndedBy body t → (more : List ℕ) → StopsWhole stop (t ++ more)) → StopsAt ShowsClaim stop s
 faulty_dotted body behind s (Refused (Pyx error)) dot faulty = λ more.
-    ap (λ (l : List ℕ). fault_of (before_dot l)) (ap (λ (l : List ℕ). l ++ more) dot.parts ∙ append_assoc dot.front behind more) ∙ faulty dot.front dot.ended (behind ++ more)
-faulty_dotted body behind s (Refused (TooHeavy path slots)) dot faulty = absurd (faulty dot.front dot.ended [])
-faulty_dotted body behind s (Refused (Bounds error)) dot faulty = absurd (faulty dot.front dot.ended [])
-faulty_dotted body behind s ReadFault dot faulty = absurd (faulty dot.front dot.ended [])
-faulty_dotted body behind s TooMuch dot faulty = absurd (faulty dot.front dot.ended [])
+    ap (λ (l : List ℕ). fault_of (before_dot l)) (ap (λ (l : List ℕ). l ++ more) dot.parts ∙ append_assoc dot.prefix behind more) ∙ faulty dot.prefix dot.ended (behind ++ more)
+faulty_dotted body behind s (Refused (TooHeavy path slots)) dot faulty = absurd (faulty dot.prefix dot.ended [])
+faulty_dotted body behind s (Refused (Bounds error)) dot faulty = absurd (faulty dot.prefix dot.ended [])
+faulty_dotted body behind s ReadFault dot faulty = absurd (faulty dot.prefix dot.ended [])
+faulty_dotted body behind s TooMuch dot faulty = absurd (faulty dot.prefix dot.ended [])
 faulty_dotted body behind s NoMemory dot faulty = tt
 
 -- without a dot
-pub document_whole : (body : Body) (behind s : List ℕ) (tree : OrderedTree) → HasLines body behind s → Reads (before_dot s) tree → IsClaimed tree behind s
+pub document_whole : (body : Body) (behind s : List ℕ) (tree : OrderedTree) → HasLines body behind s → Reads (before_dot s) tree → IsPlanned tree behind s
 document_whole body behind s tree lines reads = record { reads = reads; behind = lines.none ∙ sym (after_in-none (cut s).ended (cut s).rest lines.within.undotted) }
 
 -- more of the text behind the dot
@@ -110,8 +110,8 @@ document_more tree plan plan' block s document adds =
     }
 
 -- all of it
-pub document_claimed : (tree : OrderedTree) (plan s : List ℕ) → HasDocument tree plan s → IsClaimed tree plan s
-document_claimed tree plan s document = record {
+pub document_planned : (tree : OrderedTree) (plan s : List ℕ) → HasDocument tree plan s → IsPlanned tree plan s
+document_planned tree plan s document = record {
   reads = subst (λ (l : List ℕ). Reads (before_dot l) tree) (append-nil s) (document.before []);
   behind = sym (append-nil plan) ∙ sym (document.after []) ∙ ap after_dot (append-nil s);
 }
@@ -119,7 +119,7 @@ document_claimed tree plan s document = record {
 -- Where the reading stops:
 
 -- the whole input's lines have a fault
-pub whole_stops : (k : ℕ) (stop : Stop) (taken : List ℕ) (old new : Beside) → EndsWhole taken old.input new.input → StopsWhole stop taken → StopsBy (verify k) stop old new
+pub whole_stops : (k : ℕ) (stop : TakeError) (taken : List ℕ) (old new : Beside) → EndsWhole taken old.input new.input → StopsWhole stop taken → StopsBy (verify k) stop old new
 whole_stops k (Refused (Pyx error)) taken old new whole is =
     (taken, record { takes = whole.takes; few = (let few : length taken < most_input = whole.few in omega arith); refused = inr (whole.end, whole.few, is) })
 whole_stops k (Refused (TooHeavy path slots)) taken old new whole is = absurd is
@@ -129,7 +129,7 @@ whole_stops k TooMuch taken old new whole is = absurd is
 whole_stops k NoMemory taken old new whole is = tt
 
 -- so do those before a dot
-dotted_stops : (k : ℕ) (stop : Stop) (taken : List ℕ) (old new : Beside) → Takes taken old.input new.input → length taken ≤ most_input → StopsAt ShowsClaim stop taken →
+dotted_stops : (k : ℕ) (stop : TakeError) (taken : List ℕ) (old new : Beside) → Takes taken old.input new.input → length taken ≤ most_input → StopsAt ShowsClaim stop taken →
     StopsBy (verify k) stop old new
 dotted_stops k (Refused refusal) taken old new takes few shows = (taken, record { takes = takes; few = few; refused = inl shows })
 dotted_stops k ReadFault taken old new takes few shows = absurd shows
@@ -141,12 +141,12 @@ pub record HasLinesOr (ended : Bool) (body : Body) (behind taken : List ℕ) (no
   pub known : MatchBool ended (IsAtEnd now × (length taken < most_input) × HasLines body behind taken) (HasDot body behind taken)
 
 -- why they say no document
-abbrev pub StopsWholeOr : Stop → Body → List ℕ → Type 0
+abbrev pub StopsWholeOr : TakeError → Body → List ℕ → Type 0
 StopsWholeOr stop body behind = ((s : List ℕ) → HasLines body behind s → StopsWhole stop s) × ((s : List ℕ) → HasDot body behind s → StopsAt ShowsClaim stop s)
 
-pub claim_stops : {i : Input} {ended : Bool} {body : Body} {behind taken : List ℕ} (k : ℕ) (stop : Stop) (old new : Beside) → HasTaken i taken old.input new.input →
+pub planned_stops : {i : Input} {ended : Bool} {body : Body} {behind taken : List ℕ} (k : ℕ) (stop : TakeError) (old new : Beside) → HasTaken i taken old.input new.input →
     HasLinesOr ended body behind taken new.input → StopsWholeOr stop body behind → StopsBy (verify k) stop old new
-claim_stops {ended = ended} {body = body} {behind = behind} {taken = taken} k stop old new had lines stops = by_end ended lines.known
+planned_stops {ended = ended} {body = body} {behind = behind} {taken = taken} k stop old new had lines stops = by_end ended lines.known
   where
     by_end : (e : Bool) → MatchBool e (IsAtEnd new.input × (length taken < most_input) × HasLines body behind taken) (HasDot body behind taken) → StopsBy (verify k) stop old new
     by_end true (end, short, here) = whole_stops k stop taken old new (record { takes = had.takes; end = end; few = short }) (stops.0 taken here)

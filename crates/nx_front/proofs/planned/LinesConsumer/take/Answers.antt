@@ -1,12 +1,12 @@
 use Rattle.std.proofs.Common.{◌++◌, take, MatchOption, sym, ◌∙◌, subst}
-use Rattle.nx_script.specs.Body.{IsWithin, IsEndedBy}
-use Rattle.nx_front.proofs.ClaimLemmas.{lines_faulty}
-use Rattle.nx_front.proofs.claimed.LinesConsumer.take.Goals as goal
+use Rattle.nx_script.specs.Body.{AwaitsDot, IsEndedBy}
+use Rattle.nx_front.proofs.PlannedLemmas.{lines_faulty}
+use Rattle.nx_front.proofs.planned.LinesConsumer.take.Goals as goal
 
 pub returns-in-Some-fault-clause-err : goal.returns-in-Some-fault-clause-err
 returns-in-Some-fault-clause-err c = λ s lines.
     let within =
-    subst (λ start. MatchOption start (IsWithin c.take_lines.new.body (s ++ c.args.block.now)) (λ n. IsEndedBy c.take_lines.new.body (s ++ take n c.args.block.now))) c.in_default.is
+    subst (λ start. MatchOption start (AwaitsDot c.take_lines.new.body (s ++ c.args.block.now)) (λ n. IsEndedBy c.take_lines.new.body (s ++ take n c.args.block.now))) c.in_default.is
     (c.in_ok-start.ensures.stands s lines.within)
     in
     lines_faulty (s ++ c.args.block.now) c.in-Some-fault.error (sym c.in-Some-fault.is ∙ c.fault.ensures (s ++ c.args.block.now) within)

@@ -19,7 +19,7 @@ use Rattle.nx_pyx.specs.Lines.{lines}
 use Rattle.nx_pyx.specs.Event.{Event, Start, End, Single, event_of, events}
 use Rattle.nx_pyx.specs.Fault.{Standing, at_first, attributes_after, standing, is_outside, is_text, is_among, makes_node, refusal, events_of, fault_at, first_fault, end_fault, fault_at_end, fault_of}
 use Rattle.nx_pyx.specs.Reading.{Reads}
-use Rattle.nx_pyx.proofs.Running.{Goes, Goes-append, Passes, unrefused, not_refused, sound_goes, goes_sound}
+use Rattle.nx_pyx.proofs.GoesLemmas.{Goes, Goes-append, Passes, unrefused, not_refused, sound_goes, goes_sound}
 
 -- with these elements open, after the root element's start
 abbrev pub within : List (List ℕ) → ℕ → Option (List (List ℕ)) → Standing

@@ -26,7 +26,7 @@ use Rattle.nx_script.proofs.ScriptLemmas.{HasLooked, looked}
 use Rattle.nx_pyx.specs.Field.{field, behind}
 use Rattle.nx_script.specs.Field.{is_document_name}
 use Rattle.nx_script.specs.Line.{longest_line, line_body, place_of, ends_there, insert_at, retext_at, command_by, command_of}
-use Rattle.nx_script.specs.Commands.{begins_load, has_dot, Loads, IsWhole, Gives, cut_off, AreCommands, CanCome}
+use Rattle.nx_script.specs.Commands.{begins_load, has_dot, Loads, IsWhole, SplitsInto, cut_off, AreCommands, CanCome}
 
 -- what holds of both ways holds of the one that is taken
 either_way : {X : Type 0} (P : X → Type 0) (b : Bool) {x y : X} → P x → P y → P (if b then x else y)
@@ -169,7 +169,7 @@ whole_can (head ∷ ls) command whole = by_head (begins_load head) whole
     by_head false (none, is) = subst CanCome (sym is) (command_can head)
 
 -- what the commands of a script hold could be read
-pub gives_can : (ls : List (List ℕ)) (commands : List Command) (rest : List (List ℕ)) → Gives ls commands rest → All CanCome commands
+pub gives_can : (ls : List (List ℕ)) (commands : List Command) (rest : List (List ℕ)) → SplitsInto ls commands rest → All CanCome commands
 gives_can ls [] rest gives = All-nil CanCome
 gives_can ls (command ∷ commands) rest (own, others, is, whole, more) = All-cons CanCome command commands (whole_can own command whole) (gives_can others commands rest more)
 

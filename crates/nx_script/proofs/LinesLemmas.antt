@@ -1,7 +1,7 @@
 -- The lines of a stream that goes on.
 use Rattle.std.proofs.Common.{◌≡◌, ℕ, false, List, [], ◌∷◌, ◌++◌, ap, ◌∙◌, append-nil}
 use Rattle.nx_pyx.specs.Lines.{Pieces, cut, last_line, ended_lines, lines, has_lf}
-use Rattle.nx_pyx.proofs.Shown.{cut-append}
+use Rattle.nx_pyx.proofs.ShownFaultLemmas.{cut-append}
 use Rattle.nx_pyx.proofs.StreamLemmas.{cut-held, cut-ended}
 
 -- bytes without an LF stand behind the last one

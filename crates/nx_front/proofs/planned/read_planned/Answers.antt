@@ -3,11 +3,11 @@ use Rattle.std.proofs.lemmas.Bool.{MatchBool-at_true, MatchBool-at_false}
 use Rattle.std.proofs.lemmas.Result.{err_from_is_err_and}
 use Rattle.nx_host.specs.Host.{IsAtEnd}
 use Rattle.nx_host.specs.Input.{most_input}
-use Rattle.nx_front.specs.Claimed.{HasLines, HasDot, HasDocument}
+use Rattle.nx_front.specs.Planned.{HasLines, HasDot, HasDocument}
 use Rattle.nx_front.specs.Verify.{verify}
 use Rattle.nx_front.proofs.ConsumerLemmas.{came_few, fed_stops, fed_whole}
-use Rattle.nx_front.proofs.ClaimLemmas.{lines_none, claim_stops, document_claimed}
-use Rattle.nx_front.proofs.claimed.read_claimed.Goals as goal
+use Rattle.nx_front.proofs.PlannedLemmas.{lines_none, planned_stops, document_planned}
+use Rattle.nx_front.proofs.planned.read_planned.Goals as goal
 
 pub returns-in_err-ended-clause-err : goal.returns-in_err-ended-clause-err
 returns-in_err-ended-clause-err g c =
@@ -22,20 +22,20 @@ returns-in_err-ended-clause-bounded g c =
     let start = (g.H.Disk.beside c.args.host.now).input in
     came_few c.feed.ensures.taken [] start (c.in_ok-input.ensures.none start)
 
-pub returns-in_err-claimed-clause-err : goal.returns-in_err-claimed-clause-err
-returns-in_err-claimed-clause-err g c =
+pub returns-in_err-planned-clause-err : goal.returns-in_err-planned-clause-err
+returns-in_err-planned-clause-err g c =
     let start = g.H.Disk.beside c.args.host.now in
-    let p = err_from_is_err_and c.from_residual-in_err-claimed.result c.from_residual-in_err-claimed.ensures.1 in
+    let p = err_from_is_err_and c.from_residual-in_err-planned.result c.from_residual-in_err-planned.ensures.1 in
     let (taken, had, ends) =
     c.in_ok-ended.ensures.ok [] start.input (c.in_ok-input.ensures.none start.input) (lines_none c.in_ok-new.field-0 c.new-3.result c.in_ok-new.ensures c.new-3.ensures)
     in
     rw (p.1, p.2)
-    (λ k. claim_stops {ended = c.in_ok-ended.ended} {body = c.feed.new.consumer.body} {behind = c.feed.new.consumer.behind} k c.in_err-claimed.field-0.0 start (g.H.Disk.beside c.feed.new.host) had
+    (λ k. planned_stops {ended = c.in_ok-ended.ended} {body = c.feed.new.consumer.body} {behind = c.feed.new.consumer.behind} k c.in_err-planned.field-0.0 start (g.H.Disk.beside c.feed.new.host) had
     (record { known = ends })
-    (c.in_err-claimed.ensures.faulty, c.in_err-claimed.ensures.refused))
+    (c.in_err-planned.ensures.faulty, c.in_err-planned.ensures.refused))
 
-pub returns-in_err-claimed-clause-bounded : goal.returns-in_err-claimed-clause-bounded
-returns-in_err-claimed-clause-bounded g c =
+pub returns-in_err-planned-clause-bounded : goal.returns-in_err-planned-clause-bounded
+returns-in_err-planned-clause-bounded g c =
     let start = (g.H.Disk.beside c.args.host.now).input in
     came_few c.feed.ensures.taken [] start (c.in_ok-input.ensures.none start)
 
@@ -49,7 +49,7 @@ returns-then-ended-clause-ok g c =
     MatchBool-at_true (IsAtEnd (g.H.Disk.beside c.feed.new.host).input × (length taken < most_input) × HasLines c.feed.new.consumer.body c.feed.new.consumer.behind taken)
     (HasDot c.feed.new.consumer.body c.feed.new.consumer.behind taken) c.if-ended.true ends
     in
-    (taken, record { takes = had.takes; end = end; few = short }, c.in_ok-claimed.ensures.whole taken lines)
+    (taken, record { takes = had.takes; end = end; few = short }, c.in_ok-planned.ensures.whole taken lines)
 
 pub returns-then-ended-clause-bounded : goal.returns-then-ended-clause-bounded
 returns-then-ended-clause-bounded g c =
@@ -69,7 +69,7 @@ returns-in_err-feed-clause-err g c =
     in
     rw (p.1, p.2)
     (λ k. fed_stops (verify k) c.in_err-feed.field-0.0 start (g.H.Disk.beside c.feed.new.host) (g.H.Disk.beside c.feed-2.new.host) c.feed.ensures.alone.areas.in_faults_later
-    (c.in_err-feed.ensures.err taken start.input had (c.in_ok-claimed.ensures.dotted taken dot)))
+    (c.in_err-feed.ensures.err taken start.input had (c.in_ok-planned.ensures.dotted taken dot)))
 
 pub returns-in_err-feed-clause-bounded : goal.returns-in_err-feed-clause-bounded
 returns-in_err-feed-clause-bounded g c =
@@ -87,9 +87,9 @@ returns-clause-ok g c =
     MatchBool-at_false (IsAtEnd (g.H.Disk.beside c.feed.new.host).input × (length taken < most_input) × HasLines c.feed.new.consumer.body c.feed.new.consumer.behind taken)
     (HasDot c.feed.new.consumer.body c.feed.new.consumer.behind taken) c.if-ended.false ends
     in
-    let (more, all, last) = c.in_ok-feed.ensures.ok taken start had (c.in_ok-claimed.ensures.dotted taken dot) in
+    let (more, all, last) = c.in_ok-feed.ensures.ok taken start had (c.in_ok-planned.ensures.dotted taken dot) in
     let (whole, document) = fed_whole (HasDocument c.feed-2.new.consumer.tree c.feed-2.new.consumer.plan) c.in_ok-feed.field-0 all last in
-    (taken ++ more, whole, document_claimed c.feed-2.new.consumer.tree c.feed-2.new.consumer.plan (taken ++ more) document)
+    (taken ++ more, whole, document_planned c.feed-2.new.consumer.tree c.feed-2.new.consumer.plan (taken ++ more) document)
 
 pub returns-clause-bounded : goal.returns-clause-bounded
 returns-clause-bounded g c =

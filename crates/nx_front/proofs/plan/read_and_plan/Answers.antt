@@ -1,6 +1,6 @@
 use Rattle.std.proofs.lemmas.Result.{err_from_is_err_and}
 use Rattle.nx_front.proofs.PlanLemmas.{document_stops, plan_read, plan_stops}
-use Rattle.nx_front.proofs.plan.read_planned.Goals as goal
+use Rattle.nx_front.proofs.plan.read_and_plan.Goals as goal
 
 pub returns-in_err-tree-clause-reads : goal.returns-in_err-tree-clause-reads
 returns-in_err-tree-clause-reads g c =

@@ -5,28 +5,28 @@ use Rattle.nx_pyx.specs.Fault.{fault_of}
 use Rattle.nx_pyx.specs.Reading.{Reads}
 use Rattle.nx_script.specs.declared.body.Body.{Body}
 use Rattle.nx_script.specs.BeforeDot.{before_dot, after_dot}
-use Rattle.nx_script.specs.Body.{IsWithin, IsEndedBy}
-use Rattle.nx_front.specs.declared.stop.Stop.{Stop}
-use Rattle.nx_front.specs.declared.stop.Stop.TheVariants.{Refused, NoMemory}
+use Rattle.nx_script.specs.Body.{AwaitsDot, IsEndedBy}
+use Rattle.nx_front.specs.declared.take_error.TakeError.{TakeError}
+use Rattle.nx_front.specs.declared.take_error.TakeError.TheVariants.{Refused, NoMemory}
 use Rattle.nx_front.specs.declared.refusal.Refusal.TheVariants.{Pyx}
 use Rattle.nx_front.specs.Verify.{ShowsClaim}
 
 -- The lines before the dot of these bytes say this tree, and this text stands behind it.
-pub record IsClaimed (tree : OrderedTree) (plan taken : List ℕ) : Type 0 where
+pub record IsPlanned (tree : OrderedTree) (plan taken : List ℕ) : Type 0 where
   pub reads : Reads (before_dot taken) tree
   pub behind : plan ≡ after_dot taken
 
 -- These bytes were read, and are lines of a document without a fault so far.
 pub record HasLines (body : Body) (behind taken : List ℕ) : Type 0 where
-  pub within : IsWithin body taken
+  pub within : AwaitsDot body taken
   pub shows : ShowsClaim taken (Ok [])
   pub none : behind ≡ []
 
 -- These bytes were read, and a dot is among them, behind which these stand.
 pub record HasDot (body : Body) (behind taken : List ℕ) : Type 0 where
-  pub front : List ℕ
-  pub parts : taken ≡ front ++ behind
-  pub ended : IsEndedBy body front
+  pub prefix : List ℕ
+  pub parts : taken ≡ prefix ++ behind
+  pub ended : IsEndedBy body prefix
 
 -- The bytes hold the dot: the lines before it say this tree, and this text stands behind it so far.
 pub record HasDocument (tree : OrderedTree) (plan taken : List ℕ) : Type 0 where
@@ -35,7 +35,7 @@ pub record HasDocument (tree : OrderedTree) (plan taken : List ℕ) : Type 0 whe
   pub shows : ShowsClaim taken (Ok [])
 
 -- why the lines before the dot of a whole input say no document
-abbrev pub StopsWhole : Stop → List ℕ → Type 0
+abbrev pub StopsWhole : TakeError → List ℕ → Type 0
 StopsWhole (Refused (Pyx error)) taken = fault_of (before_dot taken) ≡ Some error
 StopsWhole NoMemory taken = Unit {0}
 StopsWhole _ taken = ⊥

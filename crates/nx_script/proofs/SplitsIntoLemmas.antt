@@ -3,11 +3,11 @@ use Rattle.std.proofs.Common.{◌≡◌, ℕ, true, false, List, [], ◌∷◌, 
 use Rattle.std.specs.Prelude.{codes}
 use Rattle.nx_script.specs.declared.command.Command.{Command}
 use Rattle.nx_script.specs.Line.{command_of}
-use Rattle.nx_script.specs.Commands.{begins_load, has_dot, Loads, IsWhole, Gives}
+use Rattle.nx_script.specs.Commands.{begins_load, has_dot, Loads, IsWhole, SplitsInto}
 use Rattle.nx_lists.proofs.CaseLemmas.{match_true, match_false}
 
 -- more lines behind
-pub gives_longer : (ls : List (List ℕ)) (commands : List Command) (rest more : List (List ℕ)) → Gives ls commands rest → Gives (ls ++ more) commands (rest ++ more)
+pub gives_longer : (ls : List (List ℕ)) (commands : List Command) (rest more : List (List ℕ)) → SplitsInto ls commands rest → SplitsInto (ls ++ more) commands (rest ++ more)
 gives_longer ls [] rest more is = ap (λ (l : List (List ℕ)). l ++ more) is
 gives_longer ls (command ∷ commands) rest more (own, others, is, whole, gives) = (
   own,
@@ -18,10 +18,10 @@ gives_longer ls (command ∷ commands) rest more (own, others, is, whole, gives)
 )
 
 -- one whole command more at the end
-pub gives_then : (ls : List (List ℕ)) (commands : List Command) (own more : List (List ℕ)) (command : Command) → Gives ls commands (own ++ more) → IsWhole own command →
-    Gives ls (commands ++ command ∷ []) more
+pub gives_then : (ls : List (List ℕ)) (commands : List Command) (own more : List (List ℕ)) (command : Command) → SplitsInto ls commands (own ++ more) → IsWhole own command →
+    SplitsInto ls (commands ++ command ∷ []) more
 gives_then ls [] own more command is whole = (own, more, is, whole, refl)
-gives_then ls (first ∷ commands) own more command (front, others, is, begun, gives) whole = (front, others, is, begun, gives_then others commands own more command gives whole)
+gives_then ls (first ∷ commands) own more command (prefix, others, is, begun, gives) whole = (prefix, others, is, begun, gives_then others commands own more command gives whole)
 
 -- a line alone
 pub whole_line : (line : List ℕ) (command : Command) → begins_load line ≡ false → command ≡ command_of line → IsWhole (line ∷ []) command

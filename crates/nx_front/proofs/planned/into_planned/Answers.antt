@@ -1,10 +1,10 @@
 use Rattle.std.proofs.Common.{◌++◌, subst}
 use Rattle.nx_script.specs.BeforeDot.{before_dot}
 use Rattle.nx_script.specs.Body.{Says}
-use Rattle.nx_front.specs.declared.stop.Stop.TheVariants.{Refused}
+use Rattle.nx_front.specs.declared.take_error.TakeError.TheVariants.{Refused}
 use Rattle.nx_front.specs.declared.refusal.Refusal.TheVariants.{Pyx}
-use Rattle.nx_front.proofs.ClaimLemmas.{document_whole, document_dotted, faulty_dotted}
-use Rattle.nx_front.proofs.claimed.claim.Goals as goal
+use Rattle.nx_front.proofs.PlannedLemmas.{document_whole, document_dotted, faulty_dotted}
+use Rattle.nx_front.proofs.planned.into_planned.Goals as goal
 
 pub returns-in-Read-clause-whole : goal.returns-in-Read-clause-whole
 returns-in-Read-clause-whole c = λ s lines.

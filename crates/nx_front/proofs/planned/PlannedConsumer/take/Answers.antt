@@ -1,5 +1,5 @@
-use Rattle.nx_front.proofs.ClaimLemmas.{document_more}
-use Rattle.nx_front.proofs.claimed.ClaimedConsumer.take.Goals as goal
+use Rattle.nx_front.proofs.PlannedLemmas.{document_more}
+use Rattle.nx_front.proofs.planned.PlannedConsumer.take.Goals as goal
 
 pub returns-clause-ok : goal.returns-clause-ok
 returns-clause-ok c = λ s document.
