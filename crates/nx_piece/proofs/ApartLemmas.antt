@@ -1,0 +1,174 @@
+-- No two items have one beginning of bytes in common, and no two rows of items.
+use Rattle.std.proofs.Common.{◌≡◌, ℕ, zero, suc, ◌+◌, ◌<◌, ◌≤◌, List, [], ◌∷◌, ◌++◌, length, take, drop, get_or, refl, sym, ap, ◌∙◌, arith, append_assoc}
+use Rattle.std.specs.Int.{w16, w32, from_be_bytes}
+use Rattle.std.proofs.lemmas.Nat.{from_be_bytes-to_be_bytes_2, from_be_bytes-to_be_bytes_4}
+use Rattle.std.proofs.lemmas.List.{length-append, length-replicate}
+use Rattle.nx_tree.specs.declared.node.Kind.{Kind}
+use Rattle.nx_tree.specs.declared.node.Kind.TheVariants.{Doc, Element, Attribute, Text, Instruction}
+use Rattle.nx_tree.specs.declared.node.Node.{Node}
+use Rattle.nx_weights.specs.Weight.{weight}
+use Rattle.nx_piece.specs.Gapped.{Gapped, End, Grow, Gap, width, gapped_weight, proxies_in}
+use Rattle.nx_piece.specs.Encoding.{two, four, kind_byte, padding, content_bytes, node_bytes, run_bytes, items_bytes}
+use Rattle.nx_piece.specs.Valid.{AreApart}
+use Rattle.nx_piece.proofs.WalkLemmas.{item_count_most, width_most}
+
+pub two_unique : (a b : ℕ) → a < 65536 → b < 65536 → two a ≡ two b → a ≡ b
+two_unique a b h k e = sym (from_be_bytes-to_be_bytes_2 a h) ∙ ap (from_be_bytes w16) e ∙ from_be_bytes-to_be_bytes_2 b k
+
+pub four_unique : (a b : ℕ) → a < 4294967296 → b < 4294967296 → four a ≡ four b → a ≡ b
+four_unique a b h k e = sym (from_be_bytes-to_be_bytes_4 a h) ∙ ap (from_be_bytes w32) e ∙ from_be_bytes-to_be_bytes_4 b k
+
+-- the kind of a byte
+pub kind_from : ℕ → Kind
+kind_from (suc (suc zero)) = Element
+kind_from (suc (suc (suc zero))) = Attribute
+kind_from (suc (suc (suc (suc zero)))) = Text
+kind_from (suc (suc (suc (suc (suc zero))))) = Instruction
+kind_from _ = Doc
+
+pub kind_back : (k : Kind) → kind_from (kind_byte k) ≡ k
+unfolding kind_from
+kind_back Doc = refl
+kind_back Element = refl
+kind_back Attribute = refl
+kind_back Text = refl
+kind_back Instruction = refl
+
+kind_unique : (k l : Kind) → kind_byte k ≡ kind_byte l → k ≡ l
+kind_unique k l e = sym (kind_back k) ∙ ap kind_from e ∙ kind_back l
+
+pub kind_no_run : (k : Kind) → kind_byte k ≡ 6 → ⊥
+kind_no_run Doc e = omega arith
+kind_no_run Element e = omega arith
+kind_no_run Attribute e = omega arith
+kind_no_run Text e = omega arith
+kind_no_run Instruction e = omega arith
+
+-- lists of one length are told apart in front of anything
+pub append_unique : {A : Type 0} (a b x y : List A) → length a ≡ length b → a ++ x ≡ b ++ y → (a ≡ b) × (x ≡ y)
+append_unique [] [] x y n e = (refl, e)
+append_unique [] (c ∷ b) x y n e = absurd (omega arith)
+append_unique (c ∷ a) [] x y n e = absurd (omega arith)
+append_unique (c ∷ a) (d ∷ b) x y n e =
+    let i = append_unique a b x y (omega arith) (ap (drop 1) e) in
+    let h : c ≡ d = cc in let t : a ≡ b = i.0 in (cc, i.1)
+
+abbrev pub IsLight : Node → Type 0
+IsLight node = weight node ≤ 256
+
+pub light_name : (n : Node) → IsLight n → (length n.name < 65536) × (length n.content < 65536)
+light_name n h = (omega arith, omega arith)
+
+same_node : (n m : Node) → n.kind ≡ m.kind → n.name ≡ m.name → n.content ≡ m.content → n ≡ m
+same_node n m k a c =
+    ap (λ (x : Kind). record { kind = x; name = n.name; content = n.content }) k
+    ∙ ap (λ (x : List ℕ). record { kind = m.kind; name = x; content = n.content }) a
+    ∙ ap (λ (x : List ℕ). record { kind = m.kind; name = m.name; content = x }) c
+
+pub content_length : (n : Node) → length (content_bytes n) ≡ length n.name + length n.content + padding (length n.name + length n.content)
+content_length n = simp (length-append, length-replicate)
+
+content_unique : (n m : Node) (x y : List ℕ) → length n.name ≡ length m.name → length n.content ≡ length m.content → content_bytes n ++ x ≡ content_bytes m ++ y → (n.name ≡ m.name) × (n.content ≡ m.content) × (x ≡ y)
+content_unique n m x y a c e =
+    let sum : length n.name + length n.content ≡ length m.name + length m.content = omega arith in
+    let whole = append_unique (content_bytes n) (content_bytes m) x y (content_length n ∙ ap (λ (k : ℕ). k + padding k) sum ∙ sym (content_length m)) e in
+    let front = append_unique (n.name ++ n.content) (m.name ++ m.content) _ _ (length-append n.name n.content ∙ sum ∙ sym (length-append m.name m.content)) whole.0 in
+    let both = append_unique n.name m.name n.content m.content a front.0 in
+    (both.0, both.1, whole.1)
+
+pub node_unique : {n m : Node} {i j : ℕ} {x y : List ℕ} → IsLight n → IsLight m → i < 65536 → j < 65536 → node_bytes n i ++ x ≡ node_bytes m j ++ y → (n ≡ m) × (i ≡ j) × (x ≡ y)
+node_unique {n} {m} {i} {j} {x} {y} hn hm hi hj e =
+    let kinds : n.kind ≡ m.kind = kind_unique n.kind m.kind (ap (λ (l : List ℕ). get_or l 0 0) e) in
+    let name : length n.name ≡ length m.name = two_unique _ _ (light_name n hn).0 (light_name m hm).0 (ap (λ (l : List ℕ). take 2 (drop 2 l)) e) in
+    let content : length n.content ≡ length m.content = two_unique _ _ (light_name n hn).1 (light_name m hm).1 (ap (λ (l : List ℕ). take 2 (drop 4 l)) e) in
+    let items : i ≡ j = two_unique i j hi hj (ap (λ (l : List ℕ). take 2 (drop 6 l)) e) in
+    let rest = content_unique n m x y name content (ap (drop 8) e) in
+    (same_node n m kinds rest.0 rest.1, items, rest.2)
+
+pub run_unique : (c d : ℕ) (x y : List ℕ) → c < 4294967296 → d < 4294967296 → run_bytes c ++ x ≡ run_bytes d ++ y → (c ≡ d) × (x ≡ y)
+run_unique c d x y hc hd e = (four_unique c d hc hd (ap (λ (l : List ℕ). take 4 (drop 4 l)) e), ap (drop 8) e)
+
+pub node_no_run : (n : Node) (i c : ℕ) (x y : List ℕ) → node_bytes n i ++ x ≡ run_bytes c ++ y → ⊥
+node_no_run n i c x y e = kind_no_run n.kind (ap (λ (l : List ℕ). get_or l 0 0) e)
+
+-- one row of trees and gaps before another
+abbrev pub row : Gapped → Gapped → Gapped
+row End last = last
+row (Grow node below beside) last = Grow node below (row beside last)
+row (Gap count beside) last = Gap count (row beside last)
+
+-- the trees and gaps of a piece, whose numbers fit their fields
+pub record IsStorable (f : Gapped) : Type 0 where
+  pub light : gapped_weight f ≤ 256
+  pub few : proxies_in f ≤ 524288
+  pub apart : AreApart f
+
+pub storable_node : (n : Node) (b s : Gapped) → IsStorable (Grow n b s) → IsLight n × (width b < 65536) × IsStorable b × IsStorable s
+storable_node n b s h =
+    let l = h.light in let p = h.few in
+    let k = item_count_most b h.apart.0 in let w = width_most b in
+    (omega arith, omega arith, record { light = omega arith; few = omega arith; apart = h.apart.0 }, record { light = omega arith; few = omega arith; apart = h.apart.1 })
+
+pub storable_gap : (c : ℕ) (s : Gapped) → IsStorable (Gap c s) → (c < 4294967296) × IsStorable s
+storable_gap c s h = let l = h.light in let p = h.few in (omega arith, record { light = omega arith; few = omega arith; apart = h.apart.2 })
+
+pub width_row : (f g : Gapped) → width (row f g) ≡ width f + width g
+width_row End g = omega arith
+width_row (Grow n b s) g = let h = width_row s g in omega (arith, h)
+width_row (Gap c s) g = let h = width_row s g in omega (arith, h)
+
+pub row_end : (f : Gapped) → row f End ≡ f
+row_end End = refl
+row_end (Grow n b s) = ap (Grow n b) (row_end s)
+row_end (Gap c s) = ap (Gap c) (row_end s)
+
+no_width : (f : Gapped) → width f ≡ 0 → f ≡ End
+no_width End h = refl
+no_width (Grow n b s) h = absurd (omega arith)
+no_width (Gap c s) h = absurd (omega arith)
+
+-- g begins with f, and so do the bytes
+pub record GoesOn (f g : Gapped) (x y : List ℕ) : Type 0 where
+  pub rest : Gapped
+  pub is : g ≡ row f rest
+  pub bytes : x ≡ items_bytes rest ++ y
+
+-- what goes on to the same width is the same
+pub goes_nowhere : (f g : Gapped) (x y : List ℕ) → GoesOn f g x y → width f ≡ width g → (g ≡ f) × (x ≡ y)
+goes_nowhere f g x y h w =
+    let sum = width_row f h.rest in let is = ap width h.is in
+    let none : h.rest ≡ End = no_width h.rest (omega arith) in
+    (h.is ∙ ap (row f) none ∙ row_end f, h.bytes ∙ ap (λ (r : Gapped). items_bytes r ++ y) none)
+
+-- the bytes of a tree before others
+pub grow_bytes : (n : Node) (b s : Gapped) (x : List ℕ) → node_bytes n (width b) ++ (items_bytes b ++ (items_bytes s ++ x)) ≡ items_bytes (Grow n b s) ++ x
+grow_bytes n b s x =
+    sym (append_assoc (node_bytes n (width b) ++ items_bytes b) (items_bytes s) x ∙ append_assoc (node_bytes n (width b)) (items_bytes b) (items_bytes s ++ x))
+
+-- of two rows with one beginning of bytes in common the narrower one begins the wider one
+pub goes_on : (f g : Gapped) (x y : List ℕ) → IsStorable f → IsStorable g → width f ≤ width g → items_bytes f ++ x ≡ items_bytes g ++ y → GoesOn f g x y
+goes_on End g x y hf hg w e = record { rest = g; is = refl; bytes = e }
+goes_on (Grow n b s) End x y hf hg w e = absurd (omega arith)
+goes_on (Gap c s) End x y hf hg w e = absurd (omega arith)
+goes_on (Grow n b s) (Gap d t) x y hf hg w e = absurd (node_no_run n (width b) d (items_bytes b ++ (items_bytes s ++ x)) (items_bytes t ++ y) (grow_bytes n b s x ∙ e))
+goes_on (Gap c s) (Grow m d t) x y hf hg w e = absurd (node_no_run m (width d) c (items_bytes d ++ (items_bytes t ++ y)) (items_bytes s ++ x) (grow_bytes m d t y ∙ sym e))
+goes_on (Gap c s) (Gap d t) x y hf hg w e =
+    let told = run_unique c d (items_bytes s ++ x) (items_bytes t ++ y) (storable_gap c s hf).0 (storable_gap d t hg).0 e in
+    let on = goes_on s t x y (storable_gap c s hf).1 (storable_gap d t hg).1 (omega arith) told.1 in
+    record { rest = on.rest; is = ap (λ (k : ℕ). Gap k t) (sym told.0) ∙ ap (Gap c) on.is; bytes = on.bytes }
+goes_on (Grow n b s) (Grow m d t) x y hf hg w e =
+    let p = storable_node n b s hf in let q = storable_node m d t hg in
+    let told : (n ≡ m) × (width b ≡ width d) × (items_bytes b ++ (items_bytes s ++ x) ≡ items_bytes d ++ (items_bytes t ++ y)) =
+    node_unique p.0 q.0 p.1 q.1 (grow_bytes n b s x ∙ e ∙ sym (grow_bytes m d t y)) in
+    let same : width b ≡ width d = told.1 in
+    let below = goes_nowhere b d _ _ (goes_on b d (items_bytes s ++ x) (items_bytes t ++ y) p.2 q.2 (omega arith) told.2) same in
+    let on = goes_on s t x y p.3 q.3 (omega arith) below.1 in
+    record {
+      rest = on.rest;
+      is = ap (λ (k : Node). Grow k d t) (sym told.0) ∙ ap (λ (k : Gapped). Grow n k t) below.0 ∙ ap (Grow n b) on.is;
+      bytes = on.bytes;
+    }
+
+-- two rows of one width with one beginning of bytes in common are one
+pub one_row : (f g : Gapped) (x y : List ℕ) → IsStorable f → IsStorable g → width f ≡ width g → items_bytes f ++ x ≡ items_bytes g ++ y → (g ≡ f) × (x ≡ y)
+one_row f g x y hf hg w e = goes_nowhere f g x y (goes_on f g x y hf hg (omega arith) e) w

@@ -1,0 +1,9 @@
+pub mod GappedLemmas
+pub mod WalkLemmas
+pub mod ApartLemmas
+pub mod ContentLemmas
+pub mod ReadLemmas
+pub mod BodyLemmas
+pub mod Laws
+pub mod LocateLemmas
+pub mod StoredOf

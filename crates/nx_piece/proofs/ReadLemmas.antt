@@ -1,0 +1,239 @@
+-- Items read one after another.
+use Rattle.std.proofs.Common.{◌≡◌, ℕ, ◌+◌, ◌<◌, ◌≤◌, Bool, true, false, List, ◌++◌, refl, sym, ap, ◌∙◌, subst, arith, append_assoc}
+use Rattle.nx_tree.specs.declared.node.Node.{Node}
+use Rattle.nx_weights.specs.Weight.{weight}
+use Rattle.nx_piece.specs.declared.reading.Left.{Left}
+use Rattle.nx_piece.specs.declared.piece.Item.{Item}
+use Rattle.nx_piece.specs.declared.piece.Item.TheVariants.{Tree, Run}
+use Rattle.nx_piece.specs.Gapped.{Gapped, GappedTree, End, Grow, Gap, item_count, width, gapped_weight, proxies_in}
+use Rattle.nx_piece.specs.Items.{with_last, with_last_tree}
+use Rattle.nx_piece.specs.Encoding.{node_bytes, run_bytes, items_bytes}
+use Rattle.nx_piece.specs.Valid.{AreApart, BeginsNoGap}
+use Rattle.nx_piece.specs.Reading.{alone, HasTaken, Begins, BeginsNoTree, BeginsNoRun, HasTakenNode, IsLeft}
+use Rattle.nx_piece.proofs.WalkLemmas.{item_count_most, width_most}
+use Rattle.nx_piece.proofs.ApartLemmas.{row, width_row, IsStorable, node_unique, grow_bytes, goes_on}
+
+-- the last one is a gap
+abbrev pub ends_in_gap : Gapped → Bool
+ends_in_gap End = false
+ends_in_gap (Grow n b End) = false
+ends_in_gap (Grow n b (Grow m c s)) = ends_in_gap (Grow m c s)
+ends_in_gap (Grow n b (Gap c s)) = ends_in_gap (Gap c s)
+ends_in_gap (Gap d End) = true
+ends_in_gap (Gap d (Grow m c s)) = ends_in_gap (Grow m c s)
+ends_in_gap (Gap d (Gap c s)) = ends_in_gap (Gap c s)
+
+abbrev pub one : Item → Gapped
+one (Tree t) = alone t
+one (Run c) = Gap c End
+
+pub with_last-row : (f : Gapped) (item : Item) → with_last f item ≡ row f (one item)
+with_last-row End (Tree t) = refl
+with_last-row End (Run c) = refl
+with_last-row (Grow n b s) item = ap (Grow n b) (with_last-row s item)
+with_last-row (Gap c s) item = ap (Gap c) (with_last-row s item)
+
+pub with_last_tree-row : (f : Gapped) (t : GappedTree) → with_last_tree f t ≡ row f (alone t)
+with_last_tree-row End t = refl
+with_last_tree-row (Grow n b s) t = ap (Grow n b) (with_last_tree-row s t)
+with_last_tree-row (Gap c s) t = ap (Gap c) (with_last_tree-row s t)
+
+row_bytes : (f g : Gapped) → items_bytes (row f g) ≡ items_bytes f ++ items_bytes g
+row_bytes End g = refl
+row_bytes (Grow n b s) g =
+    ap (λ (r : List ℕ). (node_bytes n (width b) ++ items_bytes b) ++ r) (row_bytes s g)
+    ∙ sym (append_assoc (node_bytes n (width b) ++ items_bytes b) (items_bytes s) (items_bytes g))
+row_bytes (Gap c s) g = ap (λ (r : List ℕ). run_bytes c ++ r) (row_bytes s g)
+
+row_weight : (f g : Gapped) → gapped_weight (row f g) ≡ gapped_weight f + gapped_weight g
+row_weight End g = omega arith
+row_weight (Grow n b s) g = let h = row_weight s g in omega (arith, h)
+row_weight (Gap c s) g = row_weight s g
+
+row_proxies : (f g : Gapped) → proxies_in (row f g) ≡ proxies_in f + proxies_in g
+row_proxies End g = omega arith
+row_proxies (Grow n b s) g = let h = row_proxies s g in omega (arith, h)
+row_proxies (Gap c s) g = let h = row_proxies s g in omega (arith, h)
+
+row_item_count : (f g : Gapped) → item_count (row f g) ≡ item_count f + item_count g
+row_item_count End g = omega arith
+row_item_count (Grow n b s) g = let h = row_item_count s g in omega (arith, h)
+row_item_count (Gap c s) g = let h = row_item_count s g in omega (arith, h)
+
+pub row_apart : (f g : Gapped) → AreApart f → AreApart g → (ends_in_gap f ≡ true → BeginsNoGap g) → AreApart (row f g)
+row_apart End g hf hg h = hg
+row_apart (Grow n b End) g hf hg h = (hf.0, hg)
+row_apart (Grow n b (Grow m c s)) g hf hg h = (hf.0, row_apart (Grow m c s) g hf.1 hg h)
+row_apart (Grow n b (Gap c s)) g hf hg h = (hf.0, row_apart (Gap c s) g hf.1 hg h)
+row_apart (Gap d End) g hf hg h = (hf.0, h refl, hg)
+row_apart (Gap d (Grow m c s)) g hf hg h = (hf.0, tt, row_apart (Grow m c s) g hf.2 hg h)
+row_apart (Gap d (Gap c s)) g hf hg h = absurd hf.1
+
+pub apart_row : (f g : Gapped) → AreApart (row f g) → AreApart g × (ends_in_gap f ≡ true → BeginsNoGap g)
+apart_row End g h = (h, λ e. absurd (cc))
+apart_row (Grow n b End) g h = (h.1, λ e. absurd (cc))
+apart_row (Grow n b (Grow m c s)) g h = apart_row (Grow m c s) g h.1
+apart_row (Grow n b (Gap c s)) g h = apart_row (Gap c s) g h.1
+apart_row (Gap d End) g h = (h.2, λ e. h.1)
+apart_row (Gap d (Grow m c s)) g h = apart_row (Grow m c s) g h.2
+apart_row (Gap d (Gap c s)) g h = absurd h.1
+
+-- more is read behind what is read
+pub read_more : {bytes rest behind : List ℕ} {before between after : Left} {f g : Gapped} → HasTaken bytes before f rest between → HasTaken rest between g behind after → (ends_in_gap f ≡ true → BeginsNoGap g) → HasTaken bytes before (row f g) behind after
+read_more {bytes} {rest} {behind} {before} {between} {after} {f} {g} h k next = record {
+  same = h.same ∙ ap (λ (r : List ℕ). items_bytes f ++ r) k.same ∙ sym (ap (λ (r : List ℕ). r ++ behind) (row_bytes f g) ∙ append_assoc (items_bytes f) (items_bytes g) behind);
+  room = let a = h.room in let b = k.room in let c = row_weight f g in omega arith;
+  proxies = let a = h.proxies in let b = k.proxies in let c = row_proxies f g in omega arith;
+  items = let a = h.items in let b = k.items in let c = row_item_count f g in omega arith;
+  apart = row_apart f g h.apart k.apart next;
+}
+
+-- nothing is read yet
+pub read_none : (bytes : List ℕ) (left : Left) → HasTaken bytes left End bytes left
+read_none bytes left = record { same = refl; room = omega arith; proxies = omega arith; items = omega arith; apart = tt }
+
+pub read_storable : (bytes behind : List ℕ) (before after : Left) (f : Gapped) → HasTaken bytes before f behind after → IsLeft before → IsStorable f
+read_storable bytes behind before after f h l =
+    let a = h.room in let b = h.proxies in let r = l.room in let p = l.proxies in
+    record { light = omega arith; few = omega arith; apart = h.apart }
+
+pub begins_storable : (bytes behind : List ℕ) (left : Left) (f : Gapped) → Begins bytes left f behind → IsLeft left → IsStorable f
+begins_storable bytes behind left f h l =
+    let a = h.room in let b = h.proxies in let r = l.room in let p = l.proxies in
+    record { light = omega arith; few = omega arith; apart = h.apart }
+
+-- what the bytes begin with goes on behind what is read of it
+pub record Remains (rest : List ℕ) (left : Left) (f g : Gapped) (behind : List ℕ) : Type 0 where
+  pub last : Gapped
+  pub is : g ≡ row f last
+  pub begins : Begins rest left last behind
+  pub next : ends_in_gap f ≡ true → BeginsNoGap last
+
+pub remains : {bytes rest behind : List ℕ} {before left : Left} {f g : Gapped} → HasTaken bytes before f rest left → Begins bytes before g behind → IsLeft before → width f ≤ width g → Remains rest left f g behind
+remains {bytes} {rest} {behind} {before} {left} {f} {g} h k l w =
+    let on = goes_on f g rest behind (read_storable _ _ _ _ f h l) (begins_storable _ _ _ g k l) w (sym h.same ∙ k.same) in
+    let parts = apart_row f on.rest (subst AreApart on.is k.apart) in
+    let a = h.room in let b = h.proxies in let c = h.items in
+    let d = k.room in let e = k.proxies in let i = k.items in
+    let x = ap gapped_weight on.is ∙ row_weight f on.rest in
+    let y = ap proxies_in on.is ∙ row_proxies f on.rest in
+    let z = ap item_count on.is ∙ row_item_count f on.rest in
+    record {
+      last = on.rest;
+      is = on.is;
+      begins = record { same = on.bytes; room = omega arith; proxies = omega arith; items = omega arith; apart = parts.0 };
+      next = parts.1;
+    }
+
+-- where neither a tree nor a run begins nothing does
+pub nothing_begins : {rest behind : List ℕ} {left : Left} {last : Gapped} {after_run : Bool} → Begins rest left last behind → 0 < width last → BeginsNoTree rest left → BeginsNoRun rest left after_run → (after_run ≡ true → BeginsNoGap last) → ⊥
+nothing_begins {rest} {behind} {left} {last = End} {after_run} h w trees runs next = omega arith
+nothing_begins {rest} {behind} {left} {last = (Grow n b s)} {after_run} h w trees runs next =
+    let r = h.room in let p = h.proxies in let i = h.items in
+    trees (record { node = n; below = b }) (items_bytes s ++ behind) (record {
+      same = h.same ∙ sym (grow_bytes n b s behind) ∙ grow_bytes n b End (items_bytes s ++ behind);
+      room = omega arith;
+      proxies = omega arith;
+      items = omega arith;
+      apart = (h.apart.0, tt);
+    })
+nothing_begins {rest} {behind} {left} {last = (Gap c s)} {after_run = true} h w trees runs next = next refl
+nothing_begins {rest} {behind} {left} {last = (Gap c s)} {after_run = false} h w trees runs next =
+    let r = h.room in let p = h.proxies in let i = h.items in
+    runs c (items_bytes s ++ behind) refl (record {
+      same = h.same;
+      room = omega arith;
+      proxies = omega arith;
+      items = omega arith;
+      apart = (h.apart.0, tt, tt);
+    })
+
+-- what a loop has read, and whether a run was the last
+pub record ItemsRead (bytes : List ℕ) (before : Left) (f : Gapped) (rest : List ℕ) (left : Left) (i : ℕ) (after_run : Bool) : Type 0 where
+  pub read : HasTaken bytes before f rest left
+  pub counted : width f ≡ i
+  pub run : ends_in_gap f ≡ after_run
+
+ends_one : (f : Gapped) (n : Node) (b : Gapped) → ends_in_gap (row f (Grow n b End)) ≡ false
+ends_one End n b = refl
+ends_one (Grow m c End) n b = refl
+ends_one (Grow m c (Grow k d s)) n b = ends_one (Grow k d s) n b
+ends_one (Grow m c (Gap k s)) n b = ends_one (Gap k s) n b
+ends_one (Gap m End) n b = refl
+ends_one (Gap m (Grow k d s)) n b = ends_one (Grow k d s) n b
+ends_one (Gap m (Gap k s)) n b = ends_one (Gap k s) n b
+
+ends_gap : (f : Gapped) (c : ℕ) → ends_in_gap (row f (Gap c End)) ≡ true
+ends_gap End c = refl
+ends_gap (Grow m k End) c = refl
+ends_gap (Grow m k (Grow n d s)) c = ends_gap (Grow n d s) c
+ends_gap (Grow m k (Gap n s)) c = ends_gap (Gap n s) c
+ends_gap (Gap m End) c = refl
+ends_gap (Gap m (Grow n d s)) c = ends_gap (Grow n d s) c
+ends_gap (Gap m (Gap n s)) c = ends_gap (Gap n s) c
+
+pub no_item_read : (bytes : List ℕ) (left : Left) → ItemsRead bytes left End bytes left 0 false
+no_item_read bytes left = record { read = read_none bytes left; counted = refl; run = refl }
+
+pub tree_read : {bytes rest behind : List ℕ} {before between after : Left} {f g : Gapped} {t : GappedTree} {i : ℕ} {after_run : Bool} → ItemsRead bytes before f rest between i after_run → HasTaken rest between (alone t) behind after → g ≡ with_last f (Tree t)
+    → ItemsRead bytes before g behind after (i + 1) false
+tree_read {bytes} {rest} {behind} {before} {between} {after} {f} {g} {t} {i} {after_run} h k e =
+    let is : g ≡ row f (alone t) = e ∙ with_last-row f (Tree t) in
+    let w = width_row f (alone t) in let c = h.counted in
+    subst (λ (x : Gapped). ItemsRead bytes before x behind after (i + 1) false) (sym is)
+    (record { read = read_more h.read k (λ _. tt); counted = omega arith; run = ends_one f t.node t.below })
+
+pub run_read : {bytes rest behind : List ℕ} {before between after : Left} {f g : Gapped} {c i : ℕ} {after_run : Bool} → ItemsRead bytes before f rest between i after_run → (after_run ≡ false) × HasTaken rest between (Gap c End) behind after → g ≡ with_last f (Run c)
+    → ItemsRead bytes before g behind after (i + 1) true
+run_read {bytes} {rest} {behind} {before} {between} {after} {f} {g} {c} {i} {after_run} h k e =
+    let is : g ≡ row f (Gap c End) = e ∙ with_last-row f (Run c) in
+    let w = width_row f (Gap c End) in let n = h.counted in
+    let none : ends_in_gap f ≡ false = h.run ∙ k.0 in
+    subst (λ (x : Gapped). ItemsRead bytes before x behind after (i + 1) true) (sym is)
+    (record { read = read_more h.read k.1 (λ y. absurd (cc)); counted = omega arith; run = ends_gap f c })
+
+pub head_left : (bytes behind : List ℕ) (before left : Left) (node : Node) (count : ℕ) → HasTakenNode bytes before node count behind left → IsLeft before → IsLeft left
+head_left bytes behind before left node count h l =
+    let a = h.room in let b = h.proxies in let r = l.room in let p = l.proxies in record { room = omega arith; proxies = omega arith }
+
+-- a head and all its items are a tree
+pub whole_tree : {bytes behind rest : List ℕ} {before left after : Left} {node : Node} {count i : ℕ} {f : Gapped} {after_run : Bool} → HasTakenNode bytes before node count behind left → ItemsRead behind left f rest after i after_run → i ≡ count
+    → HasTaken bytes before (Grow node f End) rest after
+whole_tree {bytes} {behind} {rest} {before} {left} {after} {node} {count} {i} {f} {after_run} h k e =
+    let w : count ≡ width f = sym e ∙ sym k.counted in
+    record {
+      same = h.same ∙ ap (λ (n : ℕ). node_bytes node n ++ behind) w ∙ ap (λ (r : List ℕ). node_bytes node (width f) ++ r) k.read.same ∙ grow_bytes node f End rest;
+      room = let a = h.room in let b = k.read.room in omega arith;
+      proxies = let a = h.proxies in let b = k.read.proxies in omega arith;
+      items = let a = h.items in let b = k.read.items in omega arith;
+      apart = (k.read.apart, tt);
+    }
+
+-- where an item of a tree doesn't begin there is no tree
+pub no_tree : {bytes behind rest : List ℕ} {before left between : Left} {node : Node} {count i : ℕ} {f : Gapped} {after_run : Bool} → HasTakenNode bytes before node count behind left → IsLeft before → count < 65536
+    → ItemsRead behind left f rest between i after_run → i < count → BeginsNoTree rest between → BeginsNoRun rest between after_run → BeginsNoTree bytes before
+no_tree {bytes} {behind} {rest} {before} {left} {between} {node} {count} {i} {f} {after_run} h l fits k within trees runs t last b =
+    let own : weight t.node ≤ 256 = let r = b.room in let q = l.room in omega arith in
+    let mine : weight node ≤ 256 = let r = h.room in let q = l.room in omega arith in
+    let few : width t.below < 65536 = let r = b.room in let q = l.room in let s = item_count_most t.below b.apart.0 in let w = width_most t.below in omega arith in
+    let told = node_unique mine own fits few (sym h.same ∙ b.same ∙ sym (grow_bytes t.node t.below End last)) in
+    let same_count : count ≡ width t.below = told.1 in
+    let same_weight : weight node ≡ weight t.node = ap weight told.0 in
+    let w = k.counted in
+    let left_is = head_left _ _ _ _ _ _ h l in
+    let r = remains k.read
+    (record {
+      same = told.2;
+      room = let x = b.room in let y = h.room in omega arith;
+      proxies = let x = b.proxies in let y = h.proxies in omega arith;
+      items = let x = b.items in let y = h.items in omega arith;
+      apart = b.apart.0;
+    }) left_is (omega arith) in
+    let wide : 0 < width r.last = let x = ap width r.is ∙ width_row f r.last in omega arith in
+    nothing_begins r.begins wide trees runs (λ e. r.next (k.run ∙ e))
+
+-- where no node begins there is no tree
+pub no_head : (bytes : List ℕ) (left : Left) → IsLeft left → ((node : Node) (items : ℕ) (behind : List ℕ) → weight node ≤ left.room → items < 65536 → bytes ≡ node_bytes node items ++ behind → ⊥) → BeginsNoTree bytes left
+no_head bytes left l none t behind b =
+    let r = b.room in let q = l.room in let s = item_count_most t.below b.apart.0 in let w = width_most t.below in
+    none t.node (width t.below) (items_bytes t.below ++ behind) (omega arith) (omega arith) (b.same ∙ sym (grow_bytes t.node t.below End behind))

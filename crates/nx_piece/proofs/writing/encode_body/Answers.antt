@@ -1,0 +1,17 @@
+use Rattle.std.proofs.Common.{arith, ap, ◌∙◌, ◌≤◌}
+use Rattle.nx_piece.specs.Gapped.{item_count, width}
+use Rattle.nx_piece.proofs.WalkLemmas.{width_trees, whole_body}
+use Rattle.nx_piece.proofs.writing.encode_body.Goals as goal
+
+pub overflow_cast-roots : goal.overflow_cast-roots
+overflow_cast-roots c =
+    let w = width_trees c.args.body.now.roots c.as_slice-roots.result.now c.as_slice-roots.ensures in
+    let f : width c.args.body.now.roots ≤ 256 = c.requires.valid.few in
+    omega arith
+
+pub returns : goal.returns
+returns c =
+    whole_body c.args.proxies c.args.chain
+    c.in_ok-push_trees.ensures c.in_ok-push_head.ensures c.in_ok-out.ensures c.as_slice-roots.ensures
+    (width_trees c.args.body.now.roots c.as_slice-roots.result.now c.as_slice-roots.ensures)
+    (c.measure_all-size.ensures.items ∙ ap item_count c.as_slice-roots.ensures)

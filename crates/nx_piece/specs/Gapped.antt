@@ -1,0 +1,90 @@
+-- A forest with gaps. A gap stands for so many intervals, which are kept elsewhere.
+use Rattle.std.specs.Prelude.{◌≡◌, ℕ, ◌+◌, List, [], ◌∷◌, Option, None, Some, refl, ◌⊎◌}
+use Rattle.std.specs.Coded.{Coded, code_by, coded×, coded_ℕ, coded_list, coded_option, coded⊎}
+use Rattle.std.proofs.Common.{inl, inr, ap, ◌∙◌}
+use Rattle.nx_tree.specs.declared.node.Node.{Node}
+use Rattle.nx_tree.specs.Forest.{node_code}
+use Rattle.nx_weights.specs.Weight.{weight}
+
+-- the forest below a node, where some of the trees may be kept elsewhere
+pub data Gapped : Type 0 where
+  End : Gapped
+  Grow : (node : Node) (below beside : Gapped) → Gapped
+  Gap : (count : ℕ) (beside : Gapped) → Gapped
+
+pub record GappedTree : Type 0 where
+  pub node : Node
+  pub below : Gapped
+
+-- how many nodes and gaps
+abbrev pub item_count : Gapped → ℕ
+item_count End = 0
+item_count (Grow node below beside) = 1 + item_count below + item_count beside
+item_count (Gap count beside) = 1 + item_count beside
+
+-- how many trees and gaps stand beside each other
+abbrev pub width : Gapped → ℕ
+width End = 0
+width (Grow node below beside) = 1 + width beside
+width (Gap count beside) = 1 + width beside
+
+-- the sum of the weights of the nodes
+abbrev pub gapped_weight : Gapped → ℕ
+gapped_weight End = 0
+gapped_weight (Grow node below beside) = weight node + gapped_weight below + gapped_weight beside
+gapped_weight (Gap count beside) = gapped_weight beside
+
+-- how many proxies the gaps stand for
+abbrev pub proxies_in : Gapped → ℕ
+proxies_in End = 0
+proxies_in (Grow node below beside) = proxies_in below + proxies_in beside
+proxies_in (Gap count beside) = count + proxies_in beside
+
+-- how many groups of 8 bytes the items take
+abbrev pub slots_in : Gapped → ℕ
+slots_in End = 0
+slots_in (Grow node below beside) = weight node + slots_in below + slots_in beside
+slots_in (Gap count beside) = 1 + slots_in beside
+
+-- the trees alone, without gaps between them
+abbrev pub grown_of : List GappedTree → Gapped
+grown_of [] = End
+grown_of (t ∷ ts) = Grow t.node t.below (grown_of ts)
+
+-- as a list: a node or a gap before what follows it, and a mark at each end
+abbrev pub spelled : Gapped → List (Option (Node ⊎ ℕ)) → List (Option (Node ⊎ ℕ))
+spelled End rest = None ∷ rest
+spelled (Grow node below beside) rest = Some (inl node) ∷ spelled below (spelled beside rest)
+spelled (Gap count beside) rest = Some (inr count) ∷ spelled beside rest
+
+abbrev pub grow_first : Node → List Gapped → List Gapped
+grow_first node (below ∷ beside ∷ rest) = Grow node below beside ∷ rest
+grow_first node _ = []
+
+abbrev pub gap_first : ℕ → List Gapped → List Gapped
+gap_first count (beside ∷ rest) = Gap count beside ∷ rest
+gap_first count [] = []
+
+abbrev pub unspelled : List (Option (Node ⊎ ℕ)) → List Gapped
+unspelled [] = []
+unspelled (None ∷ rest) = End ∷ unspelled rest
+unspelled (Some (inl node) ∷ rest) = grow_first node (unspelled rest)
+unspelled (Some (inr count) ∷ rest) = gap_first count (unspelled rest)
+
+pub unspelled-spelled : (f : Gapped) (rest : List (Option (Node ⊎ ℕ))) → unspelled (spelled f rest) ≡ f ∷ unspelled rest
+unspelled-spelled End rest = refl
+unspelled-spelled (Grow node below beside) rest =
+    ap (grow_first node) (unspelled-spelled below (spelled beside rest) ∙ ap (λ r. below ∷ r) (unspelled-spelled beside rest))
+unspelled-spelled (Gap count beside) rest = ap (gap_first count) (unspelled-spelled beside rest)
+
+abbrev pub first_gapped : List Gapped → Gapped
+first_gapped [] = End
+first_gapped (f ∷ fs) = f
+
+abbrev pub gapped_code : Coded Gapped
+gapped_code = code_by (List (Option (Node ⊎ ℕ))) (coded_list (coded_option (coded⊎ node_code coded_ℕ))) (λ f. spelled f [])
+    (λ s. first_gapped (unspelled s)) (λ f. ap first_gapped (unspelled-spelled f []))
+
+abbrev pub gapped_tree_code : Coded GappedTree
+gapped_tree_code = code_by (Node × Gapped) (coded× node_code gapped_code) (λ t. (t.node, t.below))
+    (λ p. record { node = p.0; below = p.1 }) (λ _. refl)

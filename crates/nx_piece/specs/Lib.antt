@@ -1,0 +1,10 @@
+pub mod Gapped
+pub mod Items
+pub mod Falls
+pub mod Encoding
+pub mod Valid
+pub mod Reading
+pub mod Decoded
+pub mod Locate
+pub mod Found
+pub mod Weight

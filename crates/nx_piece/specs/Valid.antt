@@ -1,0 +1,92 @@
+-- Which pieces may be stored, and in which of the two forms.
+use Rattle.std.specs.Prelude.{◌≡◌, ℕ, ◌+◌, ◌*◌, ◌<◌, ◌≤◌, List, [], ◌∷◌, length}
+use Rattle.nx_weights.specs.Weight.{weight}
+use Rattle.nx_piece.specs.declared.piece.Piece.{Piece}
+use Rattle.nx_piece.specs.declared.piece.Proxy.{Proxy}
+use Rattle.nx_piece.specs.declared.piece.Stored.{Stored}
+use Rattle.nx_piece.specs.declared.piece.Stored.TheVariants.{Inline, Chained}
+use Rattle.nx_piece.specs.Gapped.{Gapped, GappedTree, End, Grow, Gap, width, gapped_weight, proxies_in, slots_in}
+
+-- no gap is the first
+abbrev pub BeginsNoGap : Gapped → Type 0
+BeginsNoGap End = Unit {0}
+BeginsNoGap (Grow node below beside) = Unit {0}
+BeginsNoGap (Gap count beside) = ⊥
+
+-- each gap stands for at least one proxy, and no two gaps are neighbours
+abbrev pub AreApart : Gapped → Type 0
+AreApart End = Unit {0}
+AreApart (Grow node below beside) = AreApart below × AreApart beside
+AreApart (Gap count beside) = (1 ≤ count) × BeginsNoGap beside × AreApart beside
+
+-- the roots are trees
+abbrev pub AreTrees : Gapped → Type 0
+AreTrees End = Unit {0}
+AreTrees (Grow node below beside) = AreTrees beside
+AreTrees (Gap count beside) = ⊥
+
+-- the nodes of a piece with so many proxies, which has at most so many roots and weighs at most so many slots
+pub record IsBodyWithin (most_roots most_slots : ℕ) (roots : Gapped) (proxies : ℕ) : Type 0 where
+  pub trees : AreTrees roots
+  pub some : 1 ≤ width roots
+  pub few : width roots ≤ most_roots
+  pub light : gapped_weight roots ≤ most_slots
+  pub apart : AreApart roots
+  pub counted : proxies_in roots ≡ proxies
+  pub few_proxies : proxies ≤ 524288
+
+-- the nodes of a piece that may be stored, with so many proxies
+abbrev pub IsValidBody : Gapped → ℕ → Type 0
+IsValidBody roots proxies = IsBodyWithin 256 256 roots proxies
+
+-- each proxy has 1 to 256 roots
+abbrev pub HaveRoots : List Proxy → Type 0
+HaveRoots [] = Unit {0}
+HaveRoots (proxy ∷ proxies) = (1 ≤ proxy.roots) × (proxy.roots ≤ 256) × HaveRoots proxies
+
+-- how many bytes the inline form takes
+abbrev pub inline_length : Gapped → ℕ → ℕ
+inline_length roots proxies = 16 + 8 * slots_in roots + 8 * proxies
+
+-- the most bytes of an inline form
+abbrev pub longest_inline : ℕ
+longest_inline = 8176
+
+pub record IsValidInline (roots : Gapped) (proxies : List Proxy) : Type 0 where
+  pub body : IsValidBody roots (length proxies)
+  pub ranged : HaveRoots proxies
+  pub fits : inline_length roots (length proxies) ≤ longest_inline
+
+pub record IsValidChained (roots : Gapped) (proxies : ℕ) : Type 0 where
+  pub body : IsValidBody roots proxies
+  pub long : longest_inline < inline_length roots proxies
+
+-- the piece is valid and has the form that its size asks for; of proxies that stand elsewhere only the number is looked at
+abbrev pub IsValid : Stored → Type 0
+IsValid (Inline piece) = IsValidInline piece.body.roots piece.proxies
+IsValid (Chained body count chain) = IsValidChained body.roots count
+
+-- the pages and slots of the proxies fit their fields
+abbrev pub HaveNumbers : List Proxy → Type 0
+HaveNumbers [] = Unit {0}
+HaveNumbers (proxy ∷ proxies) = (proxy.page < 4294967296) × (proxy.slot < 65536) × HaveNumbers proxies
+
+-- the numbers fit their fields, as those of a program's values do
+abbrev pub HasNumbers : Stored → Type 0
+HasNumbers (Inline piece) = HaveNumbers piece.proxies
+HasNumbers (Chained body count chain) = chain < 4294967296
+
+-- trees and gaps of a piece
+pub record IsSmall (f : Gapped) : Type 0 where
+  pub light : gapped_weight f ≤ 256
+  pub apart : AreApart f
+
+-- a tree of a piece
+pub record IsSmallTree (tree : GappedTree) : Type 0 where
+  pub light : weight tree.node + gapped_weight tree.below ≤ 256
+  pub apart : AreApart tree.below
+
+-- a piece as it may be in memory: one that is about to be split may have one root more, and weigh up to twice as much
+pub record IsPiece (piece : Piece) : Type 0 where
+  pub body : IsBodyWithin 257 512 piece.body.roots (length piece.proxies)
+  pub ranged : HaveRoots piece.proxies

@@ -1,0 +1,19 @@
+//! Pieces of documents: the nodes of one record, with runs in the place of the parts that other
+//! records keep, and the bytes of the record. It stands on the trees of `nx_tree` and their weights.
+//!
+//! Contracts see a `PieceTree` as a node with what is below it, and `Items` and `PieceTrees` as a forest
+//! with gaps (`specs/Gapped.antt`). The bytes of a piece are said in `specs/Encoding.antt`, which
+//! pieces may be stored in `specs/Valid.antt`, and where a path leads in `specs/Locate.antt`.
+#![tactic(auto)]
+
+mod locating;
+mod piece;
+mod reading;
+mod weighing;
+mod writing;
+
+pub use locating::{Located, children, locate};
+pub use piece::{Body, Item, Items, Piece, PieceTree, PieceTrees, Proxies, Proxy, Stored};
+pub use reading::decode;
+pub use weighing::weight;
+pub use writing::encode;

@@ -1,0 +1,191 @@
+// Where a path leads in a piece, and how many children a node has there.
+ghost use Rattle.std.specs.Prelude.{◌≡◌, ◌+◌, ◌≤◌, List, None, Some, length, MatchOption, IfOk, IfErr};
+ghost use Rattle.std.specs.List.{slice_get, sum_by};
+ghost use Rattle.nx_piece.specs.declared.piece.Proxy.{Proxy};
+ghost use Rattle.nx_piece.specs.Gapped.{grown_of, proxies_in};
+ghost use Rattle.nx_piece.specs.Items.{gapped_of};
+ghost use Rattle.nx_piece.specs.Valid.{HaveRoots, IsPiece};
+ghost use Rattle.nx_piece.specs.Locate.{Own, Kept, kept_from, children_of, reached_in, IsPartOf, IsLocated};
+ghost use Rattle.nx_piece.specs.Found.{IsFound};
+
+use crate::{Item, Piece, PieceTree, Proxy};
+
+/// Where a path leads.
+#[derive(Clone, Copy)]
+pub enum Located<'a> {
+    /// To this tree of the piece. Before its own items stand runs of `first` proxies.
+    Here {
+        tree: &'a PieceTree,
+        first: u32,
+    },
+    /// After `used` positions into the record of the proxy with this index, to the root `member` there.
+    Away {
+        proxy: Proxy,
+        index: u32,
+        member: u16,
+        used: u32,
+    },
+    /// To no child of a node.
+    Nowhere,
+}
+
+// A child of a node, as `Located` has it.
+#[derive(Clone, Copy)]
+enum Found<'a> {
+    Tree(&'a PieceTree, u32),
+    Root(u32, u16),
+}
+
+/// Where the path leads that begins at the root `member` of the piece. A proxy counts as as many children
+/// as it has roots. It takes no memory.
+pub fn locate<'a>(piece: &'a Piece, member: u16, path: &[u32]) -> Located<'a>
+    requires { IsPiece piece.now }
+    ensures { IsLocated piece.now (reached_in piece.now member path.now) result }
+{
+    let proxies = piece.proxies.as_slice();
+    let Some((mut tree, mut first)) = root_at(piece.body.roots.as_slice(), member) else {
+        return Located::Nowhere;
+    };
+    for (used, position) in path.iter().enumerate() {
+        match child_at(tree.children.as_slice(), proxies, first, *position) {
+            None => return Located::Nowhere,
+            Some(Found::Tree(child, before)) => {
+                tree = child;
+                first = before;
+            }
+            Some(Found::Root(index, member)) => {
+                return Located::Away {
+                    proxy: proxies[index as usize],
+                    index,
+                    member,
+                    used: used as u32 + 1,
+                };
+            }
+        }
+    }
+    Located::Here { tree, first }
+}
+
+/// How many children the node has, a proxy counted as as many as it has roots. The node is one of the
+/// piece, and `first` proxies stand in runs before its own items. It takes no memory.
+pub fn children(piece: &Piece, at: &PieceTree, first: u32) -> u32
+    requires piece { IsPiece piece.now }
+    requires node { IsPartOf piece.now at.now first }
+    ensures { result ≡ length (children_of piece.now.proxies first at.now.below) }
+{
+    let proxies = piece.proxies.as_slice();
+    let mut children = 0;
+    let mut before = first;
+    for item in at.children.as_slice() {
+        match item {
+            Item::Tree(tree) => {
+                children += 1;
+                before += proxies_below(tree);
+            }
+            Item::Run { count } => {
+                let behind = before + *count;
+                children += roots_of(&proxies[before as usize..behind as usize]);
+                before = behind;
+            }
+        }
+    }
+    children
+}
+
+// The root with this index, and how many proxies stand before its own items.
+fn root_at(roots: &[PieceTree], member: u16) -> Option<(&PieceTree, u32)>
+    requires { proxies_in (grown_of roots.now) ≤ 524288 }
+    ensures { MatchOption result ((proxies : List Proxy) → slice_get (children_of proxies 0 (grown_of roots.now)) member ≡ None) (λ found. (proxies : List Proxy) → slice_get (children_of proxies 0 (grown_of roots.now)) member ≡ Some (Own found.0.now found.1)) }
+{
+    let mut first = 0;
+    let mut left = member;
+    for root in roots {
+        if left == 0 {
+            return Some((root, first));
+        }
+        left -= 1;
+        first += proxies_below(root);
+    }
+    None
+}
+
+// The child at a position among items that have so many proxies before them.
+fn child_at<'a>(
+    items: &'a [Item],
+    proxies: &[Proxy],
+    first: u32,
+    position: u32,
+) -> Option<Found<'a>>
+    requires fits { first + proxies_in (gapped_of items.now) ≤ length proxies.now }
+    requires few { length proxies.now ≤ 524288 }
+    ensures { IsFound (children_of proxies.now first (gapped_of items.now)) position result }
+{
+    let mut before = first;
+    let mut left = position;
+    for item in items {
+        match item {
+            Item::Tree(tree) => {
+                if left == 0 {
+                    return Some(Found::Tree(tree, before));
+                }
+                left -= 1;
+                before += proxies_below(tree);
+            }
+            Item::Run { count } => {
+                let behind = before + *count;
+                match member_at(&proxies[before as usize..behind as usize], before, left) {
+                    Ok((index, member)) => return Some(Found::Root(index, member)),
+                    Err(rest) => left = rest,
+                }
+                before = behind;
+            }
+        }
+    }
+    None
+}
+
+// The proxy, by its index, and the root of it at a position among all roots of these proxies, of which the
+// first has the index `first`; or how many positions are left behind them.
+fn member_at(proxies: &[Proxy], first: u32, position: u32) -> Result<(u32, u16), u32>
+    requires { first + length proxies.now ≤ 4294967295 }
+    ensures found { IfOk result (λ found. slice_get (kept_from first proxies.now) position ≡ Some (Kept found.0 found.1)) }
+    ensures behind { IfErr result (λ left. position ≡ length (kept_from first proxies.now) + left) }
+{
+    let mut left = position;
+    for (offset, proxy) in proxies.iter().enumerate() {
+        let roots = u32::from(proxy.roots);
+        if left < roots {
+            return Ok((first + offset as u32, left as u16));
+        }
+        left -= roots;
+    }
+    Err(left)
+}
+
+// How many proxies stand in the runs below a node.
+fn proxies_below(tree: &PieceTree) -> u32
+    requires { proxies_in tree.now.below ≤ 524288 }
+    ensures { result ≡ proxies_in tree.now.below }
+{
+    let mut proxies = 0;
+    for item in tree.children.as_slice() {
+        match item {
+            Item::Tree(child) => proxies += proxies_below(child),
+            Item::Run { count } => proxies += *count,
+        }
+    }
+    proxies
+}
+
+// How many roots the proxies have together.
+fn roots_of(proxies: &[Proxy]) -> u32
+    requires few { length proxies.now ≤ 524288 }
+    requires ranged { HaveRoots proxies.now }
+    ensures { result ≡ sum_by (λ proxy. proxy.roots) proxies.now }
+{
+    let mut roots = 0;
+    for proxy in proxies {
+        roots += u32::from(proxy.roots);
+    }
+    roots
+}

@@ -1,0 +1,393 @@
+// The bytes of a stored piece, read.
+ghost use Rattle.std.specs.Prelude.{◌≡◌, ℕ, false, ◌+◌, ◌*◌, ◌<◌, ◌≤◌, List, ◌∷◌, ◌++◌, length, IfOk, IfSome, MatchOption};
+ghost use Rattle.std.proofs.Math.ListN.{replicate};
+ghost use Rattle.std.specs.Bool.{MatchBool};
+ghost use Rattle.nx_tree.specs.declared.node.Node.{Node};
+ghost use Rattle.nx_tree.specs.declared.node.Kind.{Kind};
+ghost use Rattle.nx_weights.specs.Weight.{weight};
+ghost use Rattle.nx_piece.specs.Encoding.{kind_byte, node_head_bytes, node_bytes, content_bytes, run_bytes, items_head_bytes, proxies_head_bytes, head_bytes, proxy_bytes, proxies_bytes};
+ghost use Rattle.nx_piece.specs.Gapped.{Gapped, End, Gap, width};
+ghost use Rattle.nx_piece.specs.declared.piece.Proxy.{Proxy};
+ghost use Rattle.nx_piece.specs.Valid.{AreTrees, HaveRoots, HaveNumbers};
+ghost use Rattle.nx_piece.specs.Decoded.{IsDecoded};
+ghost use Rattle.nx_piece.specs.Reading.{alone, HasTaken, AreNoProxies, BeginsNoTree, BeginsNoRun, BeginsNoTrees, BeginsNoProxy, BeginsNoBody, BeginsNoNode, BeginsNoNodeHead, BeginsNoContent, BeginsNoRunItem, BeginsNoHead, BeginsNoItemsHead, BeginsNoProxiesHead, IsHeadRead, IsReadBody, HasTakenNode, IsLeft};
+
+use crate::{Body, Item, Items, Piece, PieceTree, PieceTrees, Proxies, Proxy, Stored};
+use nx_tree::{Bytes, Kind, NoMemory, Node};
+use nx_weights::weight;
+use std::alloc::Global;
+
+// The most bytes of a record with its proxies.
+const LONGEST_INLINE: usize = 8176;
+
+/// What a record of these bytes holds: `Some` of a valid piece exactly where they are the bytes of it, and else
+/// `None`. Of a piece whose proxies stand in a chain only the number of them is looked at.
+///
+/// Errors: `NoMemory`.
+pub fn decode(alloc: Global, bytes: &[u8]) -> Result<Option<Stored>, NoMemory>
+    ensures { IfOk result (λ read. IsDecoded bytes.now read) }
+{
+    let Some((head, body, rest, length)) = read_body(alloc, bytes)? else {
+        return Ok(None);
+    };
+    let chain = head.chain;
+    let count = head.proxies;
+    match head.form {
+        1 => {
+            if chain != 0 {
+                return Ok(None);
+            }
+            if length > LONGEST_INLINE {
+                return Ok(None);
+            }
+            let Some(proxies) = read_proxies(alloc, rest, count)? else {
+                return Ok(None);
+            };
+            Ok(Some(Stored::Inline(Piece { body, proxies })))
+        }
+        2 => {
+            if length <= LONGEST_INLINE {
+                return Ok(None);
+            }
+            if !rest.is_empty() {
+                return Ok(None);
+            }
+            Ok(Some(Stored::Chained { body, count, chain }))
+        }
+        _ => Ok(None),
+    }
+}
+
+// The head, the nodes, what stands behind them, and how many bytes the inline form takes.
+fn read_body(alloc: Global, bytes: &[u8]) -> Result<Option<(Head, Body, &[u8], usize)>, NoMemory>
+    ensures { IfOk result (λ read. MatchOption read (BeginsNoBody bytes.now) (λ found. IsReadBody bytes.now found.0.form found.1.roots found.0.proxies found.0.chain found.2.now found.3)) }
+{
+    let Some((head, behind)) = read_head(bytes) else {
+        return Ok(None);
+    };
+    let roots = head.roots;
+    let proxies = head.proxies;
+    if roots == 0 {
+        return Ok(None);
+    }
+    if roots > 256 {
+        return Ok(None);
+    }
+    if proxies > 524288 {
+        return Ok(None);
+    }
+    let before = Left {
+        room: 256,
+        proxies,
+        items: head.items,
+    };
+    let Some((trees, rest, left)) = read_roots(alloc, behind, roots, before)? else {
+        return Ok(None);
+    };
+    if left.proxies != 0 {
+        return Ok(None);
+    }
+    if left.items != 0 {
+        return Ok(None);
+    }
+    let length = 16 + (behind.len() - rest.len()) + 8 * proxies as usize;
+    Ok(Some((head, Body { roots: trees }, rest, length)))
+}
+
+// So many trees, and what stands behind them.
+fn read_roots(
+    alloc: Global,
+    bytes: &[u8],
+    count: u16,
+    left: Left,
+) -> Result<Option<(PieceTrees, &[u8], Left)>, NoMemory>
+    requires { IsLeft left }
+    ensures { IfOk result (λ read. MatchOption read (BeginsNoTrees bytes.now left count) (λ found. HasTaken bytes.now left found.0 found.1.now found.2 × AreTrees found.0 × (width found.0 ≡ count))) }
+{
+    let mut trees = PieceTrees::new(alloc);
+    let mut rest = bytes;
+    let mut left = left;
+    for _ in 0..count {
+        let Some((tree, behind, after)) = read_tree(alloc, rest, left)? else {
+            return Ok(None);
+        };
+        trees.push(tree)?;
+        rest = behind;
+        left = after;
+    }
+    Ok(Some((trees, rest, left)))
+}
+
+// A tree, to any depth, and what stands behind it.
+fn read_tree(
+    alloc: Global,
+    bytes: &[u8],
+    left: Left,
+) -> Result<Option<(PieceTree, &[u8], Left)>, NoMemory>
+    requires { IsLeft left }
+    ensures { IfOk result (λ read. MatchOption read (BeginsNoTree bytes.now left) (λ found. HasTaken bytes.now left (alone found.0) found.1.now found.2)) }
+{
+    let Some((node, count, behind, between)) = take_node(alloc, bytes, left)? else {
+        return Ok(None);
+    };
+    let mut rest = behind;
+    let mut left = between;
+    let mut children = Items::new(alloc);
+    let mut after_run = false;
+    for _ in 0..count {
+        if let Some((run, behind, after)) = take_run(rest, left, after_run) {
+            children.push(Item::Run { count: run })?;
+            rest = behind;
+            left = after;
+            after_run = true;
+        } else {
+            let Some((tree, behind, after)) = read_tree(alloc, rest, left)? else {
+                return Ok(None);
+            };
+            children.push(Item::Tree(tree))?;
+            rest = behind;
+            left = after;
+            after_run = false;
+        }
+    }
+    Ok(Some((PieceTree { node, children }, rest, left)))
+}
+
+// The head of a tree that may come here, with its number of child items, and what stands behind it.
+fn take_node(
+    alloc: Global,
+    bytes: &[u8],
+    left: Left,
+) -> Result<Option<(Node, u16, &[u8], Left)>, NoMemory>
+    requires { IsLeft left }
+    ensures { IfOk result (λ read. MatchOption read (BeginsNoTree bytes.now left) (λ found. HasTakenNode bytes.now left found.0 found.1 found.2.now found.3 × (found.1 < 65536))) }
+{
+    if left.items == 0 {
+        return Ok(None);
+    }
+    let Some((node, count, behind)) = read_node(alloc, bytes, left.room)? else {
+        return Ok(None);
+    };
+    let left = Left {
+        room: left.room - weight(&node),
+        proxies: left.proxies,
+        items: left.items - 1,
+    };
+    Ok(Some((node, count, behind, left)))
+}
+
+// What the rest of a piece may have: weight, proxies and items.
+#[derive(Clone, Copy)]
+struct Left {
+    room: u32,
+    proxies: u32,
+    items: u32,
+}
+
+// A run that may come here, and what stands behind it.
+fn take_run(bytes: &[u8], left: Left, after_run: bool) -> Option<(u32, &[u8], Left)>
+    ensures { MatchOption result (BeginsNoRun bytes.now left after_run) (λ read. (after_run ≡ false) × HasTaken bytes.now left (Gap read.0 End) read.1.now read.2) }
+{
+    if after_run || left.items == 0 {
+        return None;
+    }
+    let (count, behind) = read_run(bytes)?;
+    if count == 0 || left.proxies < count {
+        return None;
+    }
+    let left = Left {
+        room: left.room,
+        proxies: left.proxies - count,
+        items: left.items - 1,
+    };
+    Some((count, behind, left))
+}
+
+// A node with its number of child items, and what stands behind it.
+fn read_node(alloc: Global, bytes: &[u8], room: u32) -> Result<Option<(Node, u16, &[u8])>, NoMemory>
+    requires { room ≤ 256 }
+    ensures { IfOk result (λ read. MatchOption read (BeginsNoNode bytes.now room) (λ found. (bytes.now ≡ node_bytes found.0 found.1 ++ found.2.now) × (weight found.0 ≤ room) × (found.1 < 65536))) }
+{
+    let Some((kind, name, content, items, behind)) = read_node_head(bytes) else {
+        return Ok(None);
+    };
+    let slots = (usize::from(name) + usize::from(content)).div_ceil(8);
+    if slots as u32 >= room {
+        return Ok(None);
+    }
+    let Some((node, rest)) = read_content(alloc, behind, kind, name, content)? else {
+        return Ok(None);
+    };
+    Ok(Some((node, items, rest)))
+}
+
+fn read_node_head(bytes: &[u8]) -> Option<(Kind, u16, u16, u16, &[u8])>
+    ensures { MatchOption result (BeginsNoNodeHead bytes.now) (λ read. (bytes.now ≡ node_head_bytes read.0 read.1 read.2 read.3 ++ read.4.now) × (read.1 < 65536) × (read.2 < 65536) × (read.3 < 65536)) }
+{
+    match bytes {
+        [byte, 0, n1, n0, c1, c0, i1, i0, rest @ ..] => Some((
+            kind_from(*byte)?,
+            u16::from_be_bytes([*n1, *n0]),
+            u16::from_be_bytes([*c1, *c0]),
+            u16::from_be_bytes([*i1, *i0]),
+            rest,
+        )),
+        _ => None,
+    }
+}
+
+fn kind_from(byte: u8) -> Option<Kind>
+    ensures { MatchOption result ((kind : Kind) → byte ≡ kind_byte kind → ⊥) (λ kind. byte ≡ kind_byte kind) }
+{
+    match byte {
+        1 => Some(Kind::Doc),
+        2 => Some(Kind::Element),
+        3 => Some(Kind::Attribute),
+        4 => Some(Kind::Text),
+        5 => Some(Kind::Instruction),
+        _ => None,
+    }
+}
+
+// The name, the content and the zero bytes behind them.
+fn read_content(
+    alloc: Global,
+    bytes: &[u8],
+    kind: Kind,
+    name: u16,
+    content: u16,
+) -> Result<Option<(Node, &[u8])>, NoMemory>
+    ensures { IfOk result (λ read. MatchOption read (BeginsNoContent bytes.now name content) (λ found. (bytes.now ≡ content_bytes found.0 ++ found.1.now) × (found.0.kind ≡ kind) × (length found.0.name ≡ name) × (length found.0.content ≡ content))) }
+{
+    let name = usize::from(name);
+    let end = name + usize::from(content);
+    let size = 8 * end.div_ceil(8);
+    if bytes.len() < size {
+        return Ok(None);
+    }
+    if !is_zero(&bytes[end..size]) {
+        return Ok(None);
+    }
+    let node = Node {
+        kind,
+        name: Bytes::from_slice(alloc, &bytes[..name])?,
+        content: Bytes::from_slice(alloc, &bytes[name..end])?,
+    };
+    Ok(Some((node, &bytes[size..])))
+}
+
+fn is_zero(bytes: &[u8]) -> bool
+    ensures { MatchBool result (bytes.now ≡ replicate (length bytes.now) 0) (bytes.now ≡ replicate (length bytes.now) 0 → ⊥) }
+{
+    for byte in bytes {
+        if *byte != 0 {
+            return false;
+        }
+    }
+    true
+}
+
+// A run of proxies, and what stands behind it.
+fn read_run(bytes: &[u8]) -> Option<(u32, &[u8])>
+    ensures { MatchOption result (BeginsNoRunItem bytes.now) (λ read. bytes.now ≡ run_bytes read.0 ++ read.1.now) }
+{
+    match bytes {
+        [6, 0, 0, 0, n3, n2, n1, n0, rest @ ..] => Some((
+            u32::from_be_bytes([*n3, *n2, *n1, *n0]),
+            rest,
+        )),
+        _ => None,
+    }
+}
+
+// The numbers that a record begins with.
+#[derive(Clone, Copy)]
+struct Head {
+    form: u8,
+    roots: u16,
+    items: u32,
+    proxies: u32,
+    chain: u32,
+}
+
+// The numbers of a head, and what stands behind it.
+fn read_head(bytes: &[u8]) -> Option<(Head, &[u8])>
+    ensures { MatchOption result (BeginsNoHead bytes.now) (λ read. IsHeadRead bytes.now read.0 read.1.now) }
+{
+    let Some((form, roots, items, behind)) = read_counts(bytes) else {
+        return None;
+    };
+    let Some((proxies, chain, rest)) = read_chain(behind) else {
+        return None;
+    };
+    let head = Head {
+        form,
+        roots,
+        items,
+        proxies,
+        chain,
+    };
+    Some((head, rest))
+}
+
+fn read_counts(bytes: &[u8]) -> Option<(u8, u16, u32, &[u8])>
+    ensures { MatchOption result (BeginsNoItemsHead bytes.now) (λ read. (bytes.now ≡ items_head_bytes read.0 read.1 read.2 ++ read.3.now) × (read.1 < 65536) × (read.2 < 4294967296)) }
+{
+    match bytes {
+        [form, 0, r1, r0, i3, i2, i1, i0, rest @ ..] => Some((
+            *form,
+            u16::from_be_bytes([*r1, *r0]),
+            u32::from_be_bytes([*i3, *i2, *i1, *i0]),
+            rest,
+        )),
+        _ => None,
+    }
+}
+
+fn read_chain(bytes: &[u8]) -> Option<(u32, u32, &[u8])>
+    ensures { MatchOption result (BeginsNoProxiesHead bytes.now) (λ read. (bytes.now ≡ proxies_head_bytes read.0 read.1 ++ read.2.now) × (read.0 < 4294967296) × (read.1 < 4294967296)) }
+{
+    let [p3, p2, p1, p0, c3, c2, c1, c0, rest @ ..] = bytes else {
+        return None;
+    };
+    let proxies = u32::from_be_bytes([*p3, *p2, *p1, *p0]);
+    let chain = u32::from_be_bytes([*c3, *c2, *c1, *c0]);
+    Some((proxies, chain, rest))
+}
+
+// All the bytes as so many proxies.
+fn read_proxies(alloc: Global, bytes: &[u8], count: u32) -> Result<Option<Proxies>, NoMemory>
+    ensures { IfOk result (λ read. MatchOption read (AreNoProxies bytes.now count) (λ proxies. (bytes.now ≡ proxies_bytes proxies) × HaveRoots proxies × (length proxies ≡ count) × HaveNumbers proxies)) }
+{
+    let mut proxies = Proxies::with_capacity(alloc, count as usize)?;
+    let mut rest = bytes;
+    for _ in 0..count {
+        let Some((proxy, behind)) = read_proxy(rest) else {
+            return Ok(None);
+        };
+        proxies.push(proxy)?;
+        rest = behind;
+    }
+    if !rest.is_empty() {
+        return Ok(None);
+    }
+    Ok(Some(proxies))
+}
+
+// A proxy of 1 to 256 roots, and what stands behind it.
+fn read_proxy(bytes: &[u8]) -> Option<(Proxy, &[u8])>
+    ensures { MatchOption result (BeginsNoProxy bytes.now) (λ read. (bytes.now ≡ proxy_bytes read.0 ++ read.1.now) × (1 ≤ read.0.roots) × (read.0.roots ≤ 256) × (read.0.page < 4294967296) × (read.0.slot < 65536)) }
+{
+    let [p3, p2, p1, p0, s1, s0, r1, r0, rest @ ..] = bytes else {
+        return None;
+    };
+    let proxy = Proxy {
+        page: u32::from_be_bytes([*p3, *p2, *p1, *p0]),
+        slot: u16::from_be_bytes([*s1, *s0]),
+        roots: u16::from_be_bytes([*r1, *r0]),
+    };
+    if proxy.roots == 0 || proxy.roots > 256 {
+        return None;
+    }
+    Some((proxy, rest))
+}

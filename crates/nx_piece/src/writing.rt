@@ -1,0 +1,246 @@
+// The bytes of a stored piece, written.
+ghost use Rattle.std.specs.Prelude.{◌≡◌, ◌+◌, ◌*◌, ◌<◌, ◌≤◌, ◌∷◌, ◌++◌, length, IfOk, OnOk};
+ghost use Rattle.std.proofs.Math.ListN.{replicate};
+ghost use Rattle.nx_weights.specs.Weight.{weight};
+ghost use Rattle.nx_piece.specs.Gapped.{item_count, grown_of, width, slots_in};
+ghost use Rattle.nx_piece.specs.Encoding.{two, four, kind_byte, items_head_bytes, proxies_head_bytes, node_head_bytes, node_bytes, run_bytes, tree_bytes, items_bytes, proxies_bytes, head_bytes, body_bytes, encoding};
+ghost use Rattle.nx_piece.specs.Valid.{IsValid, HasNumbers, HaveNumbers, IsValidBody, IsSmall, IsSmallTree};
+
+use crate::{Body, Item, PieceTree, Proxy, Stored};
+use nx_tree::{Bytes, Kind, NoMemory, Node};
+use nx_weights::weight;
+use std::alloc::Global;
+
+/// The bytes of the record that holds the piece, which has to be valid.
+///
+/// Errors: `NoMemory`.
+pub fn encode(alloc: Global, stored: &Stored) -> Result<Bytes, NoMemory>
+    requires { IsValid stored.now }
+    ensures bytes { IfOk result (λ bytes. bytes ≡ encoding stored.now) }
+    ensures numbers { IfOk result (λ _. HasNumbers stored.now) }
+{
+    match stored {
+        Stored::Inline(piece) => {
+            let proxies = piece.proxies.as_slice();
+            let mut out = encode_body(
+                alloc,
+                1,
+                &piece.body,
+                proxies.len() as u32,
+                0,
+                proxies.len(),
+            )?;
+            push_proxies(proxies, &mut out)?;
+            Ok(out)
+        }
+        Stored::Chained { body, count, chain } => encode_body(alloc, 2, body, *count, *chain, 0),
+    }
+}
+
+// The head and the items, with room for so many slots of 8 bytes behind them.
+fn encode_body(
+    alloc: Global,
+    form: u8,
+    body: &Body,
+    proxies: u32,
+    chain: u32,
+    beside: usize,
+) -> Result<Bytes, NoMemory>
+    requires valid { IsValidBody body.now.roots proxies }
+    requires room { beside ≤ 524288 }
+    ensures { IfOk result (λ bytes. bytes ≡ body_bytes form body.now.roots proxies chain) }
+{
+    let roots = body.roots.as_slice();
+    let size = measure_all(roots);
+    let mut out = Bytes::with_capacity(alloc, 16 + 8 * size.slots as usize + 8 * beside)?;
+    push_head(
+        form,
+        roots.len() as u16,
+        size.items,
+        proxies,
+        chain,
+        &mut out,
+    )?;
+    push_trees(roots, &mut out)?;
+    Ok(out)
+}
+
+// The items of a tree, and how many groups of 8 bytes they take.
+#[derive(Clone, Copy)]
+struct Size {
+    items: u32,
+    slots: u32,
+}
+
+fn measure_all(trees: &[PieceTree]) -> Size
+    requires { IsSmall (grown_of trees.now) }
+    ensures items { result.items ≡ item_count (grown_of trees.now) }
+    ensures slots { result.slots ≡ slots_in (grown_of trees.now) }
+{
+    let mut size = Size { items: 0, slots: 0 };
+    for tree in trees {
+        let more = measure(tree);
+        size.items += more.items;
+        size.slots += more.slots;
+    }
+    size
+}
+
+fn measure(tree: &PieceTree) -> Size
+    requires { IsSmallTree tree.now }
+    ensures items { result.items ≡ 1 + item_count tree.now.below }
+    ensures slots { result.slots ≡ weight tree.now.node + slots_in tree.now.below }
+{
+    let mut size = Size {
+        items: 1,
+        slots: weight(&tree.node),
+    };
+    for item in tree.children.as_slice() {
+        match item {
+            Item::Tree(child) => {
+                let more = measure(child);
+                size.items += more.items;
+                size.slots += more.slots;
+            }
+            Item::Run { .. } => {
+                size.items += 1;
+                size.slots += 1;
+            }
+        }
+    }
+    size
+}
+
+fn push_head(
+    form: u8,
+    roots: u16,
+    items: u32,
+    proxies: u32,
+    chain: u32,
+    out: &mut Bytes,
+) -> Result<(), NoMemory>
+    ensures { OnOk result (out.new ≡ out.old ++ head_bytes form roots items proxies chain) }
+{
+    push_counts(form, roots, items, out)?;
+    push_chain(proxies, chain, out)
+}
+
+fn push_counts(form: u8, roots: u16, items: u32, out: &mut Bytes) -> Result<(), NoMemory>
+    ensures { OnOk result (out.new ≡ out.old ++ items_head_bytes form roots items) }
+{
+    let [r1, r0] = roots.to_be_bytes();
+    let [i3, i2, i1, i0] = items.to_be_bytes();
+    out.extend_from_slice(&[form, 0, r1, r0, i3, i2, i1, i0])
+}
+
+fn push_chain(proxies: u32, chain: u32, out: &mut Bytes) -> Result<(), NoMemory>
+    ensures { OnOk result (out.new ≡ out.old ++ proxies_head_bytes proxies chain) }
+{
+    let [p3, p2, p1, p0] = proxies.to_be_bytes();
+    let [c3, c2, c1, c0] = chain.to_be_bytes();
+    out.extend_from_slice(&[p3, p2, p1, p0, c3, c2, c1, c0])
+}
+
+fn push_trees(trees: &[PieceTree], out: &mut Bytes) -> Result<(), NoMemory>
+    requires { IsSmall (grown_of trees.now) }
+    ensures { OnOk result (out.new ≡ out.old ++ items_bytes (grown_of trees.now)) }
+{
+    for tree in trees {
+        push_tree(tree, out)?;
+    }
+    Ok(())
+}
+
+// A node before its child items, to any depth.
+fn push_tree(tree: &PieceTree, out: &mut Bytes) -> Result<(), NoMemory>
+    requires { IsSmallTree tree.now }
+    ensures { OnOk result (out.new ≡ out.old ++ tree_bytes tree.now) }
+{
+    let items = tree.children.as_slice();
+    push_node(&tree.node, items.len() as u16, out)?;
+    for item in items {
+        match item {
+            Item::Tree(child) => push_tree(child, out)?,
+            Item::Run { count } => push_run(*count, out)?,
+        }
+    }
+    Ok(())
+}
+
+fn push_node(node: &Node, items: u16, out: &mut Bytes) -> Result<(), NoMemory>
+    requires { weight node.now ≤ 256 }
+    ensures { OnOk result (out.new ≡ out.old ++ node_bytes node.now items) }
+{
+    push_node_head(
+        node.kind,
+        node.name.len() as u16,
+        node.content.len() as u16,
+        items,
+        out,
+    )?;
+    out.extend_from_slice(node.name.as_slice())?;
+    out.extend_from_slice(node.content.as_slice())?;
+    let bytes = node.name.len() + node.content.len();
+    push_zeros(8 * bytes.div_ceil(8) - bytes, out)
+}
+
+fn push_node_head(
+    kind: Kind,
+    name: u16,
+    content: u16,
+    items: u16,
+    out: &mut Bytes,
+) -> Result<(), NoMemory>
+    ensures { OnOk result (out.new ≡ out.old ++ node_head_bytes kind name content items) }
+{
+    let [n1, n0] = name.to_be_bytes();
+    let [c1, c0] = content.to_be_bytes();
+    let [i1, i0] = items.to_be_bytes();
+    out.extend_from_slice(&[kind_byte(kind), 0, n1, n0, c1, c0, i1, i0])
+}
+
+fn push_zeros(count: usize, out: &mut Bytes) -> Result<(), NoMemory>
+    requires { count ≤ 8 }
+    ensures { OnOk result (out.new ≡ out.old ++ replicate count 0) }
+{
+    out.extend_from_slice(&[0; 8][..count])
+}
+
+fn push_run(count: u32, out: &mut Bytes) -> Result<(), NoMemory>
+    ensures { OnOk result (out.new ≡ out.old ++ run_bytes count) }
+{
+    let [n3, n2, n1, n0] = count.to_be_bytes();
+    out.extend_from_slice(&[6, 0, 0, 0, n3, n2, n1, n0])
+}
+
+fn push_proxies(proxies: &[Proxy], out: &mut Bytes) -> Result<(), NoMemory>
+    ensures bytes { OnOk result (out.new ≡ out.old ++ proxies_bytes proxies.now) }
+    ensures numbers { OnOk result (HaveNumbers proxies.now) }
+{
+    for proxy in proxies {
+        push_proxy(proxy.page, proxy.slot, proxy.roots, out)?;
+    }
+    Ok(())
+}
+
+fn push_proxy(page: u32, slot: u16, roots: u16, out: &mut Bytes) -> Result<(), NoMemory>
+    ensures bytes { OnOk result (out.new ≡ out.old ++ (four page ++ two slot ++ two roots)) }
+    ensures numbers { (page < 4294967296) × (slot < 65536) }
+{
+    let [p3, p2, p1, p0] = page.to_be_bytes();
+    let [s1, s0] = slot.to_be_bytes();
+    let [r1, r0] = roots.to_be_bytes();
+    out.extend_from_slice(&[p3, p2, p1, p0, s1, s0, r1, r0])
+}
+
+fn kind_byte(kind: Kind) -> u8
+    ensures { result ≡ kind_byte kind }
+{
+    match kind {
+        Kind::Doc => 1,
+        Kind::Element => 2,
+        Kind::Attribute => 3,
+        Kind::Text => 4,
+        Kind::Instruction => 5,
+    }
+}
