@@ -1,0 +1,11 @@
+pub mod History
+pub mod Memory
+pub mod Laws
+pub mod Source
+pub mod Writing
+pub mod Calls
+pub mod Host
+pub mod Quiet
+pub mod Crash
+pub mod Undo
+pub mod QuietHost
