@@ -1,0 +1,10 @@
+use Rattle.std.proofs.Common.{◌≡◌, ◌++◌, drop, map, string_bytes}
+use Rattle.std.specs.Vec.Iter.{into_iter_items, into_iter_len}
+use Rattle.nx_wal_driver.proofs.words.Given as goal
+
+-- the words so far, and those of the arguments that are left
+abbrev pub invariant-loop-argument : goal.invariant-loop-argument
+invariant-loop-argument l = map string_bytes l.words ++ map string_bytes (into_iter_items l.arguments) ≡ map string_bytes (drop 1 (into_iter_items l.fn.arguments))
+
+abbrev pub decreases-loop-argument : goal.decreases-loop-argument
+decreases-loop-argument l = into_iter_len l.arguments
