@@ -1,0 +1,9 @@
+pub mod HeaderLemmas
+pub mod FreeLemmas
+pub mod TimesLemmas
+pub mod SharedLemmas
+pub mod HeldLemmas
+pub mod DenseLemmas
+pub mod ChainLemmas
+pub mod OneLemmas
+pub mod CountLemmas

@@ -1,0 +1,4 @@
+pub mod Header
+pub mod Holdings
+pub mod Free
+pub mod Laws

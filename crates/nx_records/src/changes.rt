@@ -1,0 +1,140 @@
+// Putting records into pages, and taking them out.
+ghost use Rattle.std.specs.Prelude.{◌≡◌, ◌≢◌, ◌+◌, ◌<◌, ◌≤◌, ℕ, [], length, true, false, Some, None, IfOk, IfErr, IfSome, IfNone, OnOk};
+ghost use Rattle.nx_host.specs.Still.{IsStill};
+ghost use Rattle.nx_wal.specs.Wal.{pending};
+ghost use Rattle.nx_slots.specs.Edits.{HasRecord};
+
+use crate::{Records, Rid, StoreError};
+use nx_host::Disk;
+use nx_slots::Page;
+
+impl Records {
+    ghost use Rattle.nx_records.specs.Records.{has_ended, KeepsLog};
+    ghost use Rattle.nx_records.specs.Changes.{AddsRecord, RemovesRecord, UpdatesRecord, update_needs};
+    ghost use Rattle.nx_records.specs.Pages.{HasSlots, SeesSo, StepsTo, NotPut};
+
+    // IsPageTaken a record out of a slotted page, which is given back where that was its last.
+    pub(crate) fn drop_record<D: Disk>(
+        &mut self,
+        disk: &D,
+        mut page: Page,
+        rid: Rid,
+    ) -> Result<(), StoreError>
+        requires runs { has_ended self.old ≡ false }
+        requires low { rid.page < self.old.head.pages }
+        requires there { HasRecord page rid.slot }
+        ensures keeps { KeepsLog self.old self.new }
+        ensures ok { OnOk result (SeesSo D.Disk self.old disk.now (λ pages. HasSlots pages rid.page page) → StepsTo D.Disk self.old self.new disk.now (λ was now. RemovesRecord rid.page rid.slot was now)) }
+        ensures refused { IfErr result (λ e. e ≡ StoreError.Memory) }
+    {
+        page.clear(rid.slot);
+        if page.free_bytes() == 8_184 {
+            self.release(rid.page)
+        } else {
+            self.store(rid.page, page.bytes())
+        }
+    }
+
+    // Puts a record into the room page, where there is one and the record fits.
+    fn put_in_room<D: Disk>(
+        &mut self,
+        disk: &mut D,
+        bytes: &[u8],
+        named: u32,
+    ) -> Result<Option<Rid>, StoreError>
+        requires runs { has_ended self.old ≡ false }
+        requires some { 1 ≤ length bytes.now }
+        requires few { length bytes.now ≤ 8176 }
+        ensures still { IsStill D.Disk disk.old disk.new }
+        ensures ok { IfOk result (λ found. IfSome found (λ rid. KeepsLog self.old self.new × StepsTo D.Disk self.old self.new disk.old (λ was now. AddsRecord rid.page rid.slot bytes.now was now))) }
+        ensures none { IfOk result (λ found. IfNone found (self.new ≡ self.old)) }
+        ensures refused { IfErr result (λ e. NotPut D.Disk (λ held. ⊥) named e self.old self.new disk.old disk.new) }
+    {
+        let room = self.head.room;
+        if room == 0 {
+            return Ok(None);
+        }
+        let mut page = self.slotted(disk, room, named)?;
+        let Ok(slot) = page.put(bytes) else {
+            return Ok(None);
+        };
+        self.store(room, page.bytes())?;
+        Ok(Some(Rid { page: room, slot }))
+    }
+
+    // Puts a record into a page that was free, which becomes the room page.
+    fn put_in_new<D: Disk>(
+        &mut self,
+        disk: &mut D,
+        bytes: &[u8],
+        named: u32,
+    ) -> Result<Rid, StoreError>
+        requires runs { has_ended self.old ≡ false }
+        requires some { 1 ≤ length bytes.now }
+        requires few { length bytes.now ≤ 8176 }
+        ensures still { IsStill D.Disk disk.old disk.new }
+        ensures ok { IfOk result (λ rid. KeepsLog self.old self.new × StepsTo D.Disk self.old self.new disk.old (λ was now. AddsRecord rid.page rid.slot bytes.now was now)) }
+        ensures refused { IfErr result (λ e. NotPut D.Disk (λ held. held.free ≡ 0) named e self.old self.new disk.old disk.new) }
+    {
+        let page = self.take(disk, named)?;
+        let mut slots = Page::new();
+        let Ok(slot) = slots.put(bytes) else {
+            unreachable!();
+        };
+        self.store(page, slots.bytes())?;
+        self.head.room = page;
+        Ok(Rid { page, slot })
+    }
+
+    // Puts a record into the room page, or else into one that was free.
+    pub(crate) fn place<D: Disk>(
+        &mut self,
+        disk: &mut D,
+        bytes: &[u8],
+        named: u32,
+    ) -> Result<Rid, StoreError>
+        requires runs { has_ended self.old ≡ false }
+        requires some { 1 ≤ length bytes.now }
+        requires few { length bytes.now ≤ 8176 }
+        ensures still { IsStill D.Disk disk.old disk.new }
+        ensures ok { IfOk result (λ rid. KeepsLog self.old self.new × StepsTo D.Disk self.old self.new disk.old (λ was now. AddsRecord rid.page rid.slot bytes.now was now)) }
+        ensures refused { IfErr result (λ e. NotPut D.Disk (λ held. held.free ≡ 0) named e self.old self.new disk.old disk.new) }
+    {
+        if let Some(rid) = self.put_in_room(disk, bytes, named)? {
+            return Ok(rid);
+        }
+        self.put_in_new(disk, bytes, named)
+    }
+
+    // Puts other bytes in the place of a record of a slotted page, or elsewhere where they don't fit.
+    pub(crate) fn replace<D: Disk>(
+        &mut self,
+        disk: &mut D,
+        mut page: Page,
+        rid: Rid,
+        bytes: &[u8],
+    ) -> Result<Rid, StoreError>
+        requires runs { has_ended self.old ≡ false }
+        requires low { rid.page < self.old.head.pages }
+        requires there { HasRecord page rid.slot }
+        requires some { 1 ≤ length bytes.now }
+        requires few { length bytes.now ≤ 8176 }
+        ensures still { IsStill D.Disk disk.old disk.new }
+        ensures keeps { IfOk result (λ place. KeepsLog self.old self.new) }
+        ensures ok { IfOk result (λ place. SeesSo D.Disk self.old disk.old (λ pages. HasSlots pages rid.page page)
+            → StepsTo D.Disk self.old self.new disk.old (λ was now. UpdatesRecord rid.page rid.slot bytes.now place.page place.slot was now)) }
+        ensures refused { IfErr result (λ e. SeesSo D.Disk self.old disk.old (λ pages. HasSlots pages rid.page page)
+            → NotPut D.Disk (λ held. held.free < update_needs rid.page rid.slot bytes.now held) rid.page e self.old self.new disk.old disk.new) }
+    {
+        match page.set(rid.slot, bytes) {
+            Ok(()) => {
+                self.store(rid.page, page.bytes())?;
+                Ok(rid)
+            }
+            Err(_) => {
+                self.drop_record(disk, page, rid)?;
+                self.place(disk, bytes, rid.page)
+            }
+        }
+    }
+}

@@ -1,0 +1,174 @@
+// Reading pages, taking them and giving them back.
+ghost use Rattle.std.specs.Prelude.{◌≡◌, ◌≢◌, ◌+◌, ◌<◌, ◌≤◌, ℕ, [], true, false, Some, None, IfOk, IfErr, OnOk};
+ghost use Rattle.nx_host.specs.Disk.{Image};
+ghost use Rattle.nx_host.specs.Still.{IsStill};
+ghost use Rattle.nx_wal.specs.Wal.{IsInStep, current, pending};
+ghost use Rattle.nx_wal.specs.Reading.{page_found};
+ghost use Rattle.nx_holdings.specs.Header.{header_bytes};
+ghost use Rattle.nx_holdings.specs.Holdings.{with_page, free_bytes};
+ghost use Rattle.nx_records.specs.Numbering.{number_behind as behind};
+
+use crate::{Records, StoreError};
+use nx_holdings::{free_page, header_page, read_free_page};
+use nx_host::Disk;
+use nx_slots::{Page, PageBytes};
+
+// The number of the group behind one with this number.
+fn number_behind(number: u64) -> u64
+    ensures { result ≡ behind number }
+{
+    if number == 18_446_744_073_709_551_615 {
+        0
+    } else {
+        number + 1
+    }
+}
+
+impl Records {
+    ghost use Rattle.nx_records.specs.Records.{has_ended, KeepsLog, has_free, next_number};
+    ghost use Rattle.nx_records.specs.Pages.{HasSlots, IsFreeAt, SeesSo, NotLoaded, NotFound, NotTaken, IsPageTaken, IsFirstUnused, numbered, released};
+
+    // Ends the records, and answers that the page that a call names is damaged.
+    pub(crate) fn damaged(&mut self, page: u32) -> StoreError
+        ensures result { result ≡ StoreError.Damaged page }
+        ensures ended { (has_ended self.new ≡ true) × (self.new.wal ≡ self.old.wal) × (self.new.saved ≡ self.old.saved) × (self.new.head ≡ self.old.head) }
+    {
+        self.ended = true;
+        StoreError::Damaged { page }
+    }
+
+    // Reads a page, where one is there.
+    pub(crate) fn load<D: Disk>(
+        &mut self,
+        disk: &mut D,
+        page: u32,
+        into: &mut PageBytes,
+    ) -> Result<bool, StoreError>
+        requires { has_ended self.old ≡ false }
+        ensures still { IsStill D.Disk disk.old disk.new }
+        ensures reads { D.reads disk.new ≤ D.reads disk.old + 1 }
+        ensures ok { IfOk result (λ found. (self.new ≡ self.old) × SeesSo D.Disk self.old disk.old (λ pages. pages page ≡ page_found found into.new.bytes)) }
+        ensures refused { IfErr result (λ e. NotLoaded D.Disk e self.old self.new disk.old disk.new) }
+    {
+        let Ok(found) = self.wal.page(disk, page, into) else {
+            self.ended = true;
+            return Err(StoreError::Disk);
+        };
+        Ok(found)
+    }
+
+    // The slotted page with this number.
+    pub(crate) fn slotted<D: Disk>(
+        &mut self,
+        disk: &mut D,
+        page: u32,
+        named: u32,
+    ) -> Result<Page, StoreError>
+        requires { has_ended self.old ≡ false }
+        ensures still { IsStill D.Disk disk.old disk.new }
+        ensures reads { D.reads disk.new ≤ D.reads disk.old + 1 }
+        ensures ok { IfOk result (λ slots. (self.new ≡ self.old) × (page < self.old.head.pages) × SeesSo D.Disk self.old disk.old (λ pages. HasSlots pages page slots)) }
+        ensures refused { IfErr result (λ e. NotFound D.Disk (λ pages. page < self.old.head.pages → (slots : _) → HasSlots pages page slots → ⊥) named e self.old self.new disk.old disk.new) }
+    {
+        if page >= self.head.pages {
+            return Err(self.damaged(named));
+        }
+        let mut bytes = PageBytes { bytes: [0; 8192] };
+        if !self.load(disk, page, &mut bytes)? {
+            return Err(self.damaged(named));
+        }
+        let Some(slotted) = Page::from_bytes(&bytes) else {
+            return Err(self.damaged(named));
+        };
+        Ok(slotted)
+    }
+
+    // Makes a page wait for the next commit, and gives the header that commit's number.
+    pub(crate) fn store(&mut self, page: u32, bytes: &PageBytes) -> Result<(), StoreError>
+        requires runs { has_ended self.old ≡ false }
+        requires low { page < 16777216 }
+        ensures keeps { KeepsLog self.old self.new }
+        ensures ok { OnOk result ((self.new.head ≡ numbered (next_number self.old) self.old.head) × (pending self.new.wal ≢ [])
+            × ((was : Image) → current self.new.wal was ≡ with_page (current self.old.wal was) page bytes.now.bytes)) }
+        ensures refused { IfErr result (λ e. e ≡ StoreError.Memory) }
+    {
+        let Ok(_) = self.wal.put(page, bytes) else {
+            return Err(StoreError::Memory);
+        };
+        self.head.number = number_behind(self.saved.number);
+        Ok(())
+    }
+
+    // Makes the header wait for the next commit.
+    pub(crate) fn store_header(&mut self) -> Result<(), StoreError>
+        requires runs { has_ended self.old ≡ false }
+        ensures keeps { KeepsLog self.old self.new }
+        ensures ok { OnOk result ((self.new.head ≡ numbered (next_number self.old) self.old.head) × (pending self.new.wal ≢ [])
+            × ((was : Image) → current self.new.wal was ≡ with_page (current self.old.wal was) 0 (header_bytes self.new.head))) }
+        ensures refused { IfErr result (λ e. e ≡ StoreError.Memory) }
+    {
+        self.head.number = number_behind(self.saved.number);
+        let page = header_page(&self.head);
+        self.store(0, &page)
+    }
+
+    // A page that was free: the first of the free list, else the first that was never used.
+    pub(crate) fn take<D: Disk>(&mut self, disk: &mut D, named: u32) -> Result<u32, StoreError>
+        requires { has_ended self.old ≡ false }
+        ensures still { IsStill D.Disk disk.old disk.new }
+        ensures reads { D.reads disk.new ≤ D.reads disk.old + 1 }
+        ensures keeps { IfOk result (λ page. KeepsLog self.old self.new × (self.new.wal ≡ self.old.wal) × (page < 16777216)) }
+        ensures ok { IfOk result (λ page. SeesSo D.Disk self.old disk.old (λ pages. IsPageTaken pages page self.old.head self.new.head)) }
+        ensures refused { IfErr result (λ e. NotTaken D.Disk named e self.old self.new disk.old disk.new) }
+    {
+        let page = self.head.free;
+        if page == 0 {
+            return self.take_new();
+        }
+        if page >= self.head.pages {
+            return Err(self.damaged(named));
+        }
+        let mut bytes = PageBytes { bytes: [0; 8192] };
+        if !self.load(disk, page, &mut bytes)? {
+            return Err(self.damaged(named));
+        }
+        let Some(next) = read_free_page(&bytes) else {
+            return Err(self.damaged(named));
+        };
+        self.head.free = next;
+        Ok(page)
+    }
+
+    // The first page that was never used.
+    fn take_new(&mut self) -> Result<u32, StoreError>
+        requires none { self.old.head.free ≡ 0 }
+        requires runs { has_ended self.old ≡ false }
+        ensures ok { IfOk result (λ page. KeepsLog self.old self.new × (self.new.wal ≡ self.old.wal) × (page < 16777216) × IsFirstUnused page self.old.head self.new.head) }
+        ensures refused { IfErr result (λ e. (e ≡ StoreError.Full) × (self.new ≡ self.old) × (has_free self.old ≡ false)) }
+    {
+        let page = self.head.pages;
+        if page >= self.head.settings.limit {
+            return Err(StoreError::Full);
+        }
+        self.head.pages = page + 1;
+        Ok(page)
+    }
+
+    // Gives a page back to the free list.
+    pub(crate) fn release(&mut self, page: u32) -> Result<(), StoreError>
+        requires runs { has_ended self.old ≡ false }
+        requires low { page < 16777216 }
+        ensures keeps { KeepsLog self.old self.new }
+        ensures ok { OnOk result ((self.new.head ≡ numbered (next_number self.old) (released page self.old.head)) × (pending self.new.wal ≢ [])
+            × ((was : Image) → current self.new.wal was ≡ with_page (current self.old.wal was) page (free_bytes self.old.head.free))) }
+        ensures refused { IfErr result (λ e. e ≡ StoreError.Memory) }
+    {
+        let free = free_page(self.head.free);
+        self.store(page, &free)?;
+        self.head.free = page;
+        if self.head.room == page {
+            self.head.room = 0;
+        }
+        Ok(())
+    }
+}

@@ -1,0 +1,325 @@
+// Records, byte lists and a catalog over pages under a log.
+ghost use Rattle.std.specs.Prelude.{List as Items, ◌≡◌, ◌≢◌, ◌⊎◌, ◌+◌, ◌*◌, ◌/◌, ◌^◌, ◌<◌, ◌≤◌, [], ℕ, length, true, false, Some, None, IfOk, IfErr, IfSome, OnOk};
+ghost use Rattle.std.proofs.Props.{props};
+ghost use Rattle.nx_host.specs.Disk.{Image};
+ghost use Rattle.nx_host.specs.Still.{IsStill, IsSettled, WritesAlone};
+ghost use Rattle.nx_replay.specs.Log.{groups, replay, size_of, Stays, HasSame, HasGroup};
+ghost use Rattle.nx_wal.specs.Reading.{HasMark};
+ghost use Rattle.nx_wal.specs.Wal.{IsInStep, Follows, pending, next_group, has_ended as wal_ended};
+ghost use Rattle.nx_holdings.specs.Header.{AreSettings, IsInRange};
+ghost use Rattle.nx_holdings.specs.Holdings.{Held, Holds};
+ghost use Rattle.nx_records.specs.Numbering.{number_behind};
+
+use crate::StoreError;
+use crate::first::{first_header, put_first};
+use nx_holdings::{Header, Settings, read_header};
+use nx_host::Disk;
+use nx_lists::List;
+use nx_slots::PageBytes;
+use nx_wal::{Wal, WalError};
+use std::alloc::Global;
+
+/// The place of a record.
+#[derive(Clone, Copy, Debug, PartialEq, Eq)]
+pub struct Rid {
+    /// The number of a slotted page.
+    pub page: u32,
+    /// A slot of it.
+    pub slot: u16,
+}
+
+/// Records at places, byte lists at first pages, and a catalog, over the pages of a disk.
+///
+/// Of the pages it keeps those alone that were changed since the last commit. It stands for the disk
+/// that the last call was handed, as that call left it.
+#[derive(Drop)]
+pub struct Records {
+    pub(crate) wal: Wal,
+    // The header of the last commit, and that of the next one.
+    pub(crate) saved: Header,
+    pub(crate) head: Header,
+    pub(crate) ended: bool,
+    ghost saved_range: { IsInRange saved } by { Prim.hlevel props },
+    ghost head_range: { IsInRange head } by { Prim.hlevel props },
+    ghost numbered: { pending wal ≢ [] → head.number ≡ number_behind saved.number } by { Prim.hlevel props },
+    ghost runs: { ended ≡ false → wal_ended wal ≡ false } by { Prim.hlevel props },
+}
+
+impl Records {
+    ghost use Rattle.nx_records.specs.Records.{HasSaved, StandsFor, KeepsSaved, KeepsLog, ComesTo, has_ended, has_free, settings_of, log_length_of, next_number};
+    ghost use Rattle.nx_records.specs.Changes.{nothing_held, AddsRecord, UpdatesRecord, RemovesRecord, update_needs};
+    ghost use Rattle.nx_records.specs.Refusals.{IsCreated, NotRead, NotChanged, NotStored, NotWritten, NotCreated, NotOpened, RunsOn};
+
+    /// A store on a disk that has no pages, committed: with these settings, and without records,
+    /// lists, and documents in its catalog.
+    ///
+    /// Errors: `Exists` exactly where the disk has a page; `Disk`, only where `faults` rose;
+    /// `Memory`.
+    pub fn create<D: Disk>(
+        alloc: Global,
+        disk: &mut D,
+        settings: Settings,
+    ) -> Result<Records, StoreError>
+        requires { AreSettings settings }
+        ensures goes { WritesAlone D.Disk disk.old disk.new (λ i. (was : Image) → IsSettled D.Disk disk.old was → HasSame was i ⊎ IsCreated settings was i) }
+        ensures ok { IfOk result (λ records. (was now : Image) → IsSettled D.Disk disk.old was → D.contents disk.new ≡ Some now →
+            StandsFor D.Disk records disk.new (nothing_held settings) (nothing_held settings) × IsInStep D.Disk records.wal disk.new now × IsCreated settings was now) }
+        ensures fresh { IfOk result (λ records. (has_ended records ≡ false) × (pending records.wal ≡ []) × (settings_of records ≡ settings)) }
+        ensures refused { IfErr result (λ e. NotCreated D.Disk e disk.old disk.new) }
+    {
+        let mut wal = match Wal::create(disk, alloc) {
+            Ok(wal) => wal,
+            Err(WalError::Exists) => return Err(StoreError::Exists),
+            Err(WalError::Disk) => return Err(StoreError::Disk),
+            Err(_) => return Err(StoreError::Memory),
+        };
+        let header = first_header(settings);
+        put_first(&mut wal, &header)?;
+        let Ok(_) = wal.commit(disk, 0) else {
+            return Err(StoreError::Disk);
+        };
+        Ok(Records {
+            wal,
+            saved: header,
+            head: header,
+            ended: false,
+        })
+    }
+
+    /// The records of a disk that has a store. It reads the log by its heads and page numbers, and
+    /// one page. Nothing is written.
+    ///
+    /// Errors: `NotAStore` exactly where page 0 is missing or doesn't begin with the eight bytes
+    /// `NATIXST1`; `Damaged` with page 0, only where the pages aren't sound; `Disk`, only where
+    /// `faults` rose; `Memory`.
+    pub fn open<D: Disk>(alloc: Global, disk: &mut D) -> Result<Records, StoreError>
+        ensures still { IsStill D.Disk disk.old disk.new }
+        ensures ok { IfOk result (λ records. (was : Image) (held : Held) → IsSettled D.Disk disk.old was → Holds (replay was) held → StandsFor D.Disk records disk.new held held) }
+        ensures step { IfOk result (λ records. (was : Image) → IsSettled D.Disk disk.old was → IsInStep D.Disk records.wal disk.new was × HasMark (replay was)) }
+        ensures fresh { IfOk result (λ records. (has_ended records ≡ false) × (pending records.wal ≡ [])) }
+        ensures reads { IfSome (D.contents disk.old) (λ was. D.reads disk.new ≤ D.reads disk.old + (3 * (length was.log / 8196 + 1) + 2)) }
+        ensures refused { IfErr result (λ e. NotOpened D.Disk e disk.old disk.new) }
+    {
+        let mut wal = match Wal::open(disk, alloc) {
+            Ok(wal) => wal,
+            Err(WalError::NotAStore) => return Err(StoreError::NotAStore),
+            Err(WalError::Disk) => return Err(StoreError::Disk),
+            Err(_) => return Err(StoreError::Memory),
+        };
+        let mut page = PageBytes { bytes: [0; 8192] };
+        let Ok(found) = wal.page(disk, 0, &mut page) else {
+            return Err(StoreError::Disk);
+        };
+        if !found {
+            return Err(StoreError::Damaged { page: 0 });
+        }
+        let Some(header) = read_header(&page) else {
+            return Err(StoreError::Damaged { page: 0 });
+        };
+        Ok(Records {
+            wal,
+            saved: header,
+            head: header,
+            ended: false,
+        })
+    }
+
+    /// What the store was set to when it was made. It takes no memory.
+    pub fn settings(&self) -> Settings
+        ensures { result ≡ settings_of self.now }
+    {
+        self.head.settings
+    }
+
+    /// Whether a page is free: one of the free list, or one that was never used. The header alone
+    /// tells. It takes no memory.
+    pub fn has_free_page(&self) -> bool
+        ensures { result ≡ has_free self.now }
+    {
+        self.head.free != 0 || self.head.pages < self.head.settings.limit
+    }
+
+    /// The length of the log: how many bytes its groups take. It takes no memory.
+    pub fn log_length(&self) -> u64
+        ensures { result ≡ log_length_of self.now }
+    {
+        self.wal.log_length()
+    }
+
+    /// Ends the records: each later call answers `Ended`. A layer above calls it where it answers
+    /// `Damaged` by itself. It takes no memory.
+    pub fn end(&mut self)
+        ensures { (has_ended self.new ≡ true) × (self.new.wal ≡ self.old.wal) × (self.new.saved ≡ self.old.saved) × (self.new.head ≡ self.old.head) }
+    {
+        self.ended = true;
+    }
+
+    /// The record at a place.
+    ///
+    /// Errors: `Damaged` with the place's page, only where the pages aren't sound or no record is
+    /// there; `Disk`, only where `faults` rose; `Ended` exactly where the records had ended;
+    /// `Memory`.
+    pub fn read<D: Disk>(
+        &mut self,
+        alloc: Global,
+        disk: &mut D,
+        rid: Rid,
+    ) -> Result<List<u8>, StoreError>
+        ensures still { IsStill D.Disk disk.old disk.new }
+        ensures reads { D.reads disk.new ≤ D.reads disk.old + 1 }
+        ensures ok { IfOk result (λ bytes. (has_ended self.old ≡ false) × (self.new ≡ self.old)
+            × ((saved now : Held) → StandsFor D.Disk self.old disk.old saved now → now.records rid.page rid.slot ≡ Some bytes)) }
+        ensures refused { IfErr result (λ e. NotRead D.Disk (λ now. now.records rid.page rid.slot ≡ None) rid.page e self.old self.new disk.old disk.new) }
+    {
+        if self.ended {
+            return Err(StoreError::Ended);
+        }
+        let page = self.slotted(disk, rid.page, rid.page)?;
+        let Some(bytes) = page.read(rid.slot) else {
+            return Err(self.damaged(rid.page));
+        };
+        match List::from_slice(alloc, bytes) {
+            Ok(bytes) => Ok(bytes),
+            Err(_) => Err(StoreError::Memory),
+        }
+    }
+
+    /// Adds a record of 1 to 8,176 bytes, and answers its place.
+    ///
+    /// Errors: `Full`, over sound pages only where no page was free; `Damaged` with page 0, only
+    /// where the pages aren't sound; `Disk`, only where `faults` rose; `Ended` exactly where the
+    /// records had ended; `Memory`. After `Full` and `Memory` the caller calls `abandon`.
+    pub fn add<D: Disk>(&mut self, disk: &mut D, bytes: &[u8]) -> Result<Rid, StoreError>
+        requires some { 1 ≤ length bytes.now }
+        requires few { length bytes.now ≤ 8176 }
+        ensures still { IsStill D.Disk disk.old disk.new }
+        ensures ok { IfOk result (λ rid. ComesTo D.Disk self.old self.new disk.old disk.new (λ was now. AddsRecord rid.page rid.slot bytes.now was now)) }
+        ensures keeps { IfOk result (λ rid. RunsOn self.old self.new × KeepsSaved D.Disk self.old self.new disk.old disk.new × (pending self.new.wal ≢ [])) }
+        ensures refused { IfErr result (λ e. NotStored D.Disk (λ was. 1) (λ was. ⊥) 0 e self.old self.new disk.old disk.new) }
+    {
+        if self.ended {
+            return Err(StoreError::Ended);
+        }
+        let rid = self.place(disk, bytes, 0)?;
+        self.store_header()?;
+        Ok(rid)
+    }
+
+    /// Puts 1 to 8,176 bytes in the place of a record, and answers its place, which is another where
+    /// they don't fit there.
+    ///
+    /// Errors: `Full`, over sound pages only where the bytes are longer than the old ones and no page
+    /// was free; `Damaged` with the place's page, only where the pages aren't sound or no record is
+    /// there; `Disk`, only where `faults` rose; `Ended` exactly where the records had ended;
+    /// `Memory`. After `Full` and `Memory` the caller calls `abandon`.
+    pub fn update<D: Disk>(
+        &mut self,
+        disk: &mut D,
+        rid: Rid,
+        bytes: &[u8],
+    ) -> Result<Rid, StoreError>
+        requires some { 1 ≤ length bytes.now }
+        requires few { length bytes.now ≤ 8176 }
+        ensures still { IsStill D.Disk disk.old disk.new }
+        ensures ok { IfOk result (λ place. ComesTo D.Disk self.old self.new disk.old disk.new (λ was now. UpdatesRecord rid.page rid.slot bytes.now place.page place.slot was now)) }
+        ensures keeps { IfOk result (λ place. RunsOn self.old self.new × KeepsSaved D.Disk self.old self.new disk.old disk.new × (pending self.new.wal ≢ [])) }
+        ensures refused { IfErr result (λ e. NotStored D.Disk (update_needs rid.page rid.slot bytes.now) (λ was. was.records rid.page rid.slot ≡ None) rid.page e self.old self.new disk.old disk.new) }
+    {
+        if self.ended {
+            return Err(StoreError::Ended);
+        }
+        let page = self.slotted(disk, rid.page, rid.page)?;
+        let Some(_) = page.read(rid.slot) else {
+            return Err(self.damaged(rid.page));
+        };
+        let place = self.replace(disk, page, rid, bytes)?;
+        self.store_header()?;
+        Ok(place)
+    }
+
+    /// IsPageTaken the record of a place away.
+    ///
+    /// Errors: `Damaged` with the place's page, only where the pages aren't sound or no record is
+    /// there; `Disk`, only where `faults` rose; `Ended` exactly where the records had ended;
+    /// `Memory`, after which the caller calls `abandon`.
+    pub fn remove<D: Disk>(&mut self, disk: &mut D, rid: Rid) -> Result<(), StoreError>
+        ensures still { IsStill D.Disk disk.old disk.new }
+        ensures ok { OnOk result (ComesTo D.Disk self.old self.new disk.old disk.new (λ was now. RemovesRecord rid.page rid.slot was now)) }
+        ensures keeps { OnOk result (RunsOn self.old self.new × KeepsSaved D.Disk self.old self.new disk.old disk.new × (pending self.new.wal ≢ [])) }
+        ensures refused { IfErr result (λ e. NotChanged D.Disk (λ was. was.records rid.page rid.slot ≡ None) rid.page e self.old self.new disk.old disk.new) }
+    {
+        if self.ended {
+            return Err(StoreError::Ended);
+        }
+        let page = self.slotted(disk, rid.page, rid.page)?;
+        let Some(_) = page.read(rid.slot) else {
+            return Err(self.damaged(rid.page));
+        };
+        self.drop_record(disk, page, rid)?;
+        self.store_header()
+    }
+
+    /// Commits what was changed. At every moment the disk holds what it held after the last commit,
+    /// or what is held now, and after Ok the latter, with one group more in its log. It takes no
+    /// memory.
+    ///
+    /// Errors: `Disk`, only where `faults` rose; `Ended` exactly where the records had ended.
+    pub fn commit<D: Disk>(&mut self, disk: &mut D) -> Result<(), StoreError>
+        requires changed { pending self.old.wal ≢ [] }
+        requires room { log_length_of self.old ≤ 2 ^ 62 }
+        ensures goes { WritesAlone D.Disk disk.old disk.new (λ i. (saved now : Held) → StandsFor D.Disk self.old disk.old saved now → Holds (replay i) saved ⊎ Holds (replay i) now) }
+        ensures groups_go { WritesAlone D.Disk disk.old disk.new (λ i. (was : Image) → IsInStep D.Disk self.old.wal disk.old was → HasSame was i ⊎ HasGroup (next_group (next_number self.old) self.old.wal) was i) }
+        ensures ok { OnOk result ((saved now : Held) (image : Image) → StandsFor D.Disk self.old disk.old saved now → D.contents disk.new ≡ Some image → StandsFor D.Disk self.new disk.new now now) }
+        ensures group { OnOk result ((was now : Image) → IsInStep D.Disk self.old.wal disk.old was → D.contents disk.new ≡ Some now → HasGroup (next_group (next_number self.old) self.old.wal) was now) }
+        ensures none_left { OnOk result ((has_ended self.old ≡ false) × (has_ended self.new ≡ false) × (pending self.new.wal ≡ [])) }
+        ensures header { OnOk result ((self.new.saved ≡ self.old.head) × (self.new.head ≡ self.old.head) × ((self.new.saved).number ≡ next_number self.old)) }
+        ensures length { OnOk result (log_length_of self.new ≡ log_length_of self.old + size_of (length (pending self.old.wal))) }
+        ensures reads { D.reads disk.new ≡ D.reads disk.old }
+        ensures refused { IfErr result (λ e. NotWritten D.Disk e self.old self.new disk.old disk.new) }
+    {
+        if self.ended {
+            return Err(StoreError::Ended);
+        }
+        let Ok(_) = self.wal.commit(disk, self.head.number) else {
+            self.ended = true;
+            return Err(StoreError::Disk);
+        };
+        self.saved = self.head;
+        Ok(())
+    }
+
+    /// Drops what was changed since the last commit. It takes no memory.
+    pub fn abandon(&mut self)
+        ensures follows { (log : Items ℕ) → Follows self.old.wal log → Follows self.new.wal log }
+        ensures none_left { pending self.new.wal ≡ [] }
+        ensures saved { (self.new.saved ≡ self.old.saved) × (self.new.head ≡ self.old.saved) }
+        ensures stays { (has_ended self.new ≡ has_ended self.old) × (log_length_of self.new ≡ log_length_of self.old) }
+    {
+        self.wal.abandon();
+        self.head = self.saved;
+    }
+
+    /// Moves the pages of the log to the pages area, and empties the log. At every moment the disk
+    /// holds the same. It takes no memory.
+    ///
+    /// Errors: `Disk`, only where `faults` rose; `Ended` exactly where the records had ended.
+    pub fn checkpoint<D: Disk>(&mut self, disk: &mut D) -> Result<(), StoreError>
+        requires none { pending self.old.wal ≡ [] }
+        ensures goes { WritesAlone D.Disk disk.old disk.new (λ i. (saved : Held) → HasSaved D.Disk self.old disk.old saved → Holds (replay i) saved) }
+        ensures ok { OnOk result ((saved now : Held) (image : Image) → StandsFor D.Disk self.old disk.old saved now → D.contents disk.new ≡ Some image → StandsFor D.Disk self.new disk.new saved now) }
+        ensures stays { WritesAlone D.Disk disk.old disk.new (λ i. (was : Image) → IsInStep D.Disk self.old.wal disk.old was → Stays (replay was) (replay i)) }
+        ensures header { (self.new.saved ≡ self.old.saved) × (self.new.head ≡ self.old.head) }
+        ensures empty { OnOk result ((has_ended self.old ≡ false) × (has_ended self.new ≡ false) × (log_length_of self.new ≡ 0) × (pending self.new.wal ≡ [])
+            × ((was now : Image) → IsInStep D.Disk self.old.wal disk.old was → D.contents disk.new ≡ Some now → groups now.log ≡ [])) }
+        ensures refused { IfErr result (λ e. NotWritten D.Disk e self.old self.new disk.old disk.new) }
+    {
+        if self.ended {
+            return Err(StoreError::Ended);
+        }
+        let Ok(_) = self.wal.checkpoint(disk) else {
+            self.ended = true;
+            return Err(StoreError::Disk);
+        };
+        Ok(())
+    }
+}
