@@ -1,0 +1,94 @@
+-- One interval replaced by several, in the proxies and in what is held.
+use Rattle.std.proofs.Common.{◌≡◌, ℕ, zero, suc, ◌+◌, ◌-◌, ◌<◌, ◌≤◌, nat_lt, if◌then◌else◌, Bool, true, false, List, ◌∷◌, ◌++◌, length, take, drop, Option, Some, refl, sym, ap, ◌∙◌, arith, length-append, append_assoc}
+use Rattle.std.proofs.lemmas.Grind.{common_steps}
+use Rattle.std.proofs.lemmas.Bool.Decides.{nat_tests}
+use Rattle.std.proofs.Math.Seq.{take-append-add, drop-append-add}
+use Rattle.nx_tree.specs.declared.node.Node.{Node}
+use Rattle.nx_tree.specs.Forest.{Forest, Empty, Plant}
+use Rattle.nx_piece.specs.declared.piece.Proxy.{Proxy}
+use Rattle.nx_piece.specs.declared.piece.Piece.{Piece}
+use Rattle.nx_cuts.specs.Cut.{Bare, Grown, Kept, joined, forest, width}
+use Rattle.nx_layouts.specs.Layout.{RecordPlace, Layout, proxies_of, AreHeld}
+use Rattle.nx_layouts.specs.Replace.{joined_layout, replaced_at, kept_at, Replaces}
+
+joined_assoc : (a b c : Forest) → joined (joined a b) c ≡ joined a (joined b c)
+joined_assoc Empty b c = refl
+joined_assoc (Plant n d s) b c = ap (Plant n d) (joined_assoc s b c)
+
+pub forest-joined_layout : (a b : Layout) → forest (joined_layout a b) ≡ joined (forest a) (forest b)
+forest-joined_layout Bare b = refl
+forest-joined_layout (Grown n d s) b = ap (Plant n (forest d)) (forest-joined_layout s b)
+forest-joined_layout (Kept p m s) b = ap (joined (forest m)) (forest-joined_layout s b) ∙ sym (joined_assoc (forest m) (forest s) (forest b))
+
+proxies-joined_layout : (a b : Layout) → proxies_of (joined_layout a b) ≡ proxies_of a ++ proxies_of b
+proxies-joined_layout Bare b = refl
+proxies-joined_layout (Grown n d s) b = ap (λ l. proxies_of d ++ l) (proxies-joined_layout s b) ∙ sym (append_assoc (proxies_of d) (proxies_of s) (proxies_of b))
+proxies-joined_layout (Kept p m s) b = ap (λ l. record { page = p.page; slot = p.slot; roots = width m } ∷ l) (proxies-joined_layout s b)
+
+pub held-joined_layout : (pieces : RecordPlace → Option Piece) (a b : Layout) → AreHeld pieces a → AreHeld pieces b → AreHeld pieces (joined_layout a b)
+held-joined_layout pieces Bare b p q = q
+held-joined_layout pieces (Grown n d s) b p q = (p.0, held-joined_layout pieces s b p.1 q)
+held-joined_layout pieces (Kept r m s) b p q = (p.0, p.1, held-joined_layout pieces s b p.2 q)
+
+held_replaced : (pieces : RecordPlace → Option Piece) (index : ℕ) (new old : Layout) → AreHeld pieces old → AreHeld pieces new → AreHeld pieces (replaced_at index new old)
+held_replaced pieces index new Bare p q = p
+held_replaced pieces index new (Grown n b s) p q =
+    elim (nat_lt index (length (proxies_of b))) as (λ t. AreHeld pieces (if t then Grown n (replaced_at index new b) s else Grown n b (replaced_at (index - length (proxies_of b)) new s))) [
+      | true ↦ (held_replaced pieces index new b p.0 q, p.1)
+      | false ↦ (p.0, held_replaced pieces (index - length (proxies_of b)) new s p.1 q)
+    ]
+held_replaced pieces zero new (Kept r m s) p q = held-joined_layout pieces new s q p.2
+held_replaced pieces (suc index) new (Kept r m s) p q = (p.0, p.1, held_replaced pieces index new s p.2 q)
+
+same_replaced : (index : ℕ) (new old members : Layout) → kept_at index old ≡ Some members → forest new ≡ forest members → forest (replaced_at index new old) ≡ forest old
+same_replaced index new Bare members e f = refl
+same_replaced index new (Grown n b s) members e f =
+    (elim (nat_lt index (length (proxies_of b))) as (λ t. (if t then kept_at index b else kept_at (index - length (proxies_of b)) s) ≡ Some members → forest (if t then Grown n (replaced_at index new b) s else Grown n b (replaced_at (index - length (proxies_of b)) new s)) ≡ Plant n (forest b) (forest s)) [
+      | true ↦ λ h. ap (λ g. Plant n g (forest s)) (same_replaced index new b members h f)
+      | false ↦ λ h. ap (Plant n (forest b)) (same_replaced (index - length (proxies_of b)) new s members h f)
+    ]) e
+same_replaced zero new (Kept r m s) members e f = let h : m ≡ members = cc in forest-joined_layout new s ∙ ap (λ g. joined g (forest s)) (f ∙ ap forest (sym h))
+same_replaced (suc index) new (Kept r m s) members e f = ap (joined (forest m)) (same_replaced index new s members e f)
+
+in_front : {A : Type 0} (i : ℕ) (a n b : List A) → i < length a → (take i a ++ n ++ drop (i + 1) a) ++ b ≡ take i (a ++ b) ++ n ++ drop (i + 1) (a ++ b)
+in_front i a n b h = grind (arith, common_steps)
+
+behind : {A : Type 0} (j : ℕ) (a n b : List A) → a ++ (take j b ++ n ++ drop (j + 1) b) ≡ take (length a + j) (a ++ b) ++ n ++ drop (length a + j + 1) (a ++ b)
+behind j a n b =
+    let t = take-append-add a b j in
+    let d : drop (length a + j + 1) (a ++ b) ≡ drop (j + 1) b = ap (λ k. drop k (a ++ b)) (let e : length a + j + 1 ≡ length a + (j + 1) = omega arith in e) ∙ drop-append-add a b (j + 1) in
+    rw (t, d) (grind (arith, common_steps))
+
+abbrev pub WithProxies : List Proxy → ℕ → Layout → Layout → Type 0
+WithProxies old index new now = proxies_of now ≡ take index old ++ proxies_of new ++ drop (index + 1) old
+
+choose : {t : Bool} (index : ℕ) (n : Node) (new b s : Layout) → nat_lt index (length (proxies_of b)) ≡ t
+    → (index < length (proxies_of b) → WithProxies (proxies_of b) index new (replaced_at index new b))
+    → (length (proxies_of b) ≤ index → WithProxies (proxies_of s) (index - length (proxies_of b)) new (replaced_at (index - length (proxies_of b)) new s))
+    → WithProxies (proxies_of b ++ proxies_of s) index new (if t then Grown n (replaced_at index new b) s else Grown n b (replaced_at (index - length (proxies_of b)) new s))
+choose {t = true} index n new b s e here there =
+    let h : index < length (proxies_of b) = grind (arith, nat_tests) in
+    ap (λ l. l ++ proxies_of s) (here h) ∙ in_front index (proxies_of b) (proxies_of new) (proxies_of s) h
+choose {t = false} index n new b s e here there =
+    let h : length (proxies_of b) ≤ index = grind (arith, nat_tests) in
+    let k : length (proxies_of b) + (index - length (proxies_of b)) ≡ index = omega arith in
+    ap (λ l. proxies_of b ++ l) (there h) ∙ behind (index - length (proxies_of b)) (proxies_of b) (proxies_of new) (proxies_of s)
+    ∙ ap (λ i. take i (proxies_of b ++ proxies_of s) ++ proxies_of new ++ drop (i + 1) (proxies_of b ++ proxies_of s)) k
+
+pub proxies_replaced : (index : ℕ) (new old : Layout) → index < length (proxies_of old) → WithProxies (proxies_of old) index new (replaced_at index new old)
+proxies_replaced index new Bare h = absurd (omega arith)
+proxies_replaced index new (Grown n b s) h =
+    let l = length-append (proxies_of b) (proxies_of s) in
+    choose index n new b s refl (λ k. proxies_replaced index new b k) (λ k. proxies_replaced (index - length (proxies_of b)) new s (omega arith))
+proxies_replaced zero new (Kept r m s) h = proxies-joined_layout new s
+proxies_replaced (suc index) new (Kept r m s) h =
+    let one : Proxy = record { page = r.page; slot = r.slot; roots = width m } in
+    let k : suc index + 1 ≡ suc (index + 1) = omega arith in
+    ap (λ l. one ∷ l) (proxies_replaced index new s (omega arith)) ∙ ap (λ i. one ∷ (take index (proxies_of s) ++ proxies_of new ++ drop i (one ∷ proxies_of s))) (sym k)
+
+pub replaces : (pieces : RecordPlace → Option Piece) (index : ℕ) (old new : Layout) → index < length (proxies_of old) → Replaces pieces index old new
+replaces pieces index old new h = record {
+  proxies_are = proxies_replaced index new old h;
+  held = held_replaced pieces index new old;
+  same = same_replaced index new old;
+}

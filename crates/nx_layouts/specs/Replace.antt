@@ -1,0 +1,37 @@
+-- One interval replaced by several.
+use Rattle.std.specs.Prelude.{◌≡◌, ℕ, zero, suc, ◌+◌, ◌-◌, ◌<◌, nat_lt, if◌then◌else◌, ◌++◌, length, take, drop, Option, None, Some}
+use Rattle.nx_piece.specs.declared.piece.Piece.{Piece}
+use Rattle.nx_cuts.specs.Cut.{Bare, Grown, Kept, forest}
+use Rattle.nx_layouts.specs.Layout.{RecordPlace, Layout, proxies_of, AreHeld}
+
+-- trees with others beside them
+abbrev pub joined_layout : Layout → Layout → Layout
+joined_layout Bare last = last
+joined_layout (Grown node below beside) last = Grown node below (joined_layout beside last)
+joined_layout (Kept place members beside) last = Kept place members (joined_layout beside last)
+
+-- with the interval of the proxy at that index replaced by these trees
+abbrev pub replaced_at : ℕ → Layout → Layout → Layout
+replaced_at index new Bare = Bare
+replaced_at index new (Grown node below beside) =
+    if nat_lt index (length (proxies_of below)) then Grown node (replaced_at index new below) beside
+    else Grown node below (replaced_at (index - length (proxies_of below)) new beside)
+replaced_at zero new (Kept place members beside) = joined_layout new beside
+replaced_at (suc index) new (Kept place members beside) = Kept place members (replaced_at index new beside)
+
+-- the members of the interval of the proxy at that index
+abbrev pub kept_at : ℕ → Layout → Option Layout
+kept_at index Bare = None
+kept_at index (Grown node below beside) =
+    if nat_lt index (length (proxies_of below)) then kept_at index below else kept_at (index - length (proxies_of below)) beside
+kept_at zero (Kept place members beside) = Some members
+kept_at (suc index) (Kept place members beside) = kept_at index beside
+
+-- What a record has after one of its proxies was replaced by several, where these hold the same trees.
+pub record Replaces (pieces : RecordPlace → Option Piece) (index : ℕ) (old new : Layout) : Type 0 where
+  pub proxies_are : proxies_of (replaced_at index new old) ≡ take index (proxies_of old) ++ proxies_of new ++ drop (index + 1) (proxies_of old)
+  pub held : AreHeld pieces old → AreHeld pieces new → AreHeld pieces (replaced_at index new old)
+  pub same : (members : Layout) → kept_at index old ≡ Some members → forest new ≡ forest members → forest (replaced_at index new old) ≡ forest old
+
+abbrev pub OneForSeveral : Type 0
+OneForSeveral = (pieces : RecordPlace → Option Piece) (index : ℕ) (old new : Layout) → index < length (proxies_of old) → Replaces pieces index old new
