@@ -1,0 +1,4 @@
+pub mod Sketch
+pub mod Plan
+pub mod Separator
+pub mod Split
