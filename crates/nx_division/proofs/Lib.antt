@@ -1,0 +1,15 @@
+pub mod LookLemmas
+pub mod SpotLemmas
+pub mod CoreLemmas
+pub mod NumberLemmas
+pub mod WeightLemmas
+pub mod PlanLemmas
+pub mod NeighbourLemmas
+pub mod SettleLemmas
+pub mod DrawnLemmas
+pub mod SeparatedLemmas
+pub mod SeparateLemmas
+pub mod RunLemmas
+pub mod PlannedLemmas
+pub mod ComponentLemmas
+pub mod SplitLemmas

@@ -1,0 +1,5 @@
+pub mod Parts
+pub mod Drawn
+pub mod Settled
+pub mod Separated
+pub mod Divided

@@ -1,0 +1,15 @@
+//! The split of a part of a document that became too heavy, over the list of its nodes.
+//!
+//! What a split is stands in `nx_sketch`. Here it is drawn, node by node, and then written as intervals.
+#![tactic(auto)]
+
+mod cut;
+mod division;
+mod parts;
+mod separate;
+mod settle;
+mod weigh;
+mod wish;
+mod write;
+
+pub use division::split;
