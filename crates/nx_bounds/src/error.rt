@@ -6,7 +6,7 @@ ghost use Rattle.nx_bounds.specs.Refusal.{error_of_parts};
 use nx_choices::Field;
 use nx_parts::PartsError;
 use nx_tree::NoMemory;
-use std::alloc::{AllocError, AllocFailed};
+use std::alloc::AllocFailed;
 use thiserror::Error;
 
 /// Why a plan isn't certified, or a text is no plan. Each index, node and line is the first one for
@@ -80,14 +80,6 @@ impl From<NoMemory> for BoundsError {
     ghost from_gives = { λ _ e. e ≡ Memory };
 
     fn from(_: NoMemory) -> BoundsError {
-        BoundsError::Memory
-    }
-}
-
-impl From<AllocError> for BoundsError {
-    ghost from_gives = { λ _ e. e ≡ Memory };
-
-    fn from(_: AllocError) -> BoundsError {
         BoundsError::Memory
     }
 }

@@ -3,7 +3,7 @@ ghost use Rattle.std.specs.Prelude.{◌≡◌};
 ghost use Rattle.nx_matrix.specs.declared.error.MatrixError.TheVariants.{Memory};
 
 use nx_lists::NoMemory;
-use std::alloc::{AllocError, AllocFailed};
+use std::alloc::AllocFailed;
 use thiserror::Error;
 
 /// Why a matrix isn't changed or its rules aren't listed.
@@ -21,14 +21,6 @@ impl From<NoMemory> for MatrixError {
     ghost from_gives = { λ _ e. e ≡ Memory };
 
     fn from(_: NoMemory) -> MatrixError {
-        MatrixError::Memory
-    }
-}
-
-impl From<AllocError> for MatrixError {
-    ghost from_gives = { λ _ e. e ≡ Memory };
-
-    fn from(_: AllocError) -> MatrixError {
         MatrixError::Memory
     }
 }

@@ -4,7 +4,7 @@ ghost use Rattle.nx_partition.specs.declared.error.PlanError.TheVariants.{Memory
 
 use nx_lists::NoMemory;
 use nx_tree::Path;
-use std::alloc::{AllocError, AllocFailed};
+use std::alloc::AllocFailed;
 
 /// Why a tree has no feasible partitioning, or none was found.
 #[derive(Drop)]
@@ -24,14 +24,6 @@ impl From<NoMemory> for PlanError {
     ghost from_gives = { λ _ e. e ≡ Memory };
 
     fn from(_: NoMemory) -> PlanError {
-        PlanError::Memory
-    }
-}
-
-impl From<AllocError> for PlanError {
-    ghost from_gives = { λ _ e. e ≡ Memory };
-
-    fn from(_: AllocError) -> PlanError {
         PlanError::Memory
     }
 }

@@ -4,7 +4,7 @@ ghost use Rattle.nx_pyx.specs.Word.{word_of};
 ghost use Rattle.nx_pyx.specs.declared.error.ReadError.TheVariants.{Memory};
 
 use nx_tree::NoMemory;
-use std::alloc::{AllocError, AllocFailed};
+use std::alloc::AllocFailed;
 use thiserror::Error;
 
 /// What is wrong with a text in PYX lines.
@@ -76,14 +76,6 @@ impl From<NoMemory> for ReadError {
     ghost from_gives = { λ _ e. e ≡ Memory };
 
     fn from(_: NoMemory) -> ReadError {
-        ReadError::Memory
-    }
-}
-
-impl From<AllocError> for ReadError {
-    ghost from_gives = { λ _ e. e ≡ Memory };
-
-    fn from(_: AllocError) -> ReadError {
         ReadError::Memory
     }
 }

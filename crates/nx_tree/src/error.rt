@@ -3,7 +3,7 @@ ghost use Rattle.std.specs.Prelude.{◌≡◌};
 ghost use Rattle.nx_tree.specs.declared.error.TreeError.TheVariants.{Memory};
 
 use crate::NoMemory;
-use std::alloc::{AllocError, AllocFailed};
+use std::alloc::AllocFailed;
 use thiserror::Error;
 
 /// Why a tree wasn't edited, or a node not found.
@@ -36,14 +36,6 @@ impl From<NoMemory> for TreeError {
     ghost from_gives = { λ _ e. e ≡ Memory };
 
     fn from(_: NoMemory) -> TreeError {
-        TreeError::Memory
-    }
-}
-
-impl From<AllocError> for TreeError {
-    ghost from_gives = { λ _ e. e ≡ Memory };
-
-    fn from(_: AllocError) -> TreeError {
         TreeError::Memory
     }
 }
