@@ -33,12 +33,12 @@ zero_none : (p : ℕ) → (p ≡ 0 → ⊥) → times p (0 ∷ []) ≡ 0
 zero_none p apart = times_other p 0 [] apart
 
 -- a page that is named, and isn't loose, is no slotted page
-pub named_other : {pages : Pages} {h : Header} {s : Shares} {loose : List ℕ} (front : Header) → pages 0 ≡ Some (header_bytes front) → IsShared pages h s loose
+pub named_other : {pages : Pages} {h : Header} {s : Shares} {loose : List ℕ} (first : Header) → pages 0 ≡ Some (header_bytes first) → IsShared pages h s loose
     → (p : ℕ) → 1 ≤ times p (named s loose) → (1 ≤ times p loose) ⊎ IsOther pages p
-named_other {pages = pages} {h = h} {s = s} {loose = loose} front here is p some =
+named_other {pages = pages} {h = h} {s = s} {loose = loose} first here is p some =
     let e = named_parts p s loose in
     elim (equal_or p 0) [
-      | inl zero ↦ inr (record { bytes = header_bytes front; there = ap pages zero ∙ here; kind = header_kind front })
+      | inl zero ↦ inr (record { bytes = header_bytes first; there = ap pages zero ∙ here; kind = header_kind first })
       | inr apart ↦ elim (some_or (times p s.free)) [
         | inl free ↦ let f = free_there pages h.free s.free p is.free free in inr (record { bytes = free_bytes f.0; there = f.1; kind = free_kind f.0 })
         | inr no_free ↦ elim (some_or (times p (pages_of_chains s.chains))) [
@@ -67,7 +67,7 @@ pub slotted_free : {pages : Pages} {h : Header} {held : Held} (holds : HoldsBehi
     → times p (named holds.shares []) ≡ 0
 slotted_free {pages = pages} holds p bytes there slotted = elim (some_or (times p (named holds.shares []))) [
   | inr none ↦ none
-  | inl some ↦ elim (named_other holds.front.0 holds.front.1 holds.shared p some) [
+  | inl some ↦ elim (named_other holds.header.0 holds.header.1 holds.shared p some) [
     | inl loose ↦ absurd (omega (arith, loose))
     | inr other ↦
         let same : other.bytes ≡ bytes = some_is (sym other.there ∙ there) in
@@ -82,7 +82,7 @@ unslotted_none {pages = pages} {h = h} holds p slot lacks = holds.records p slot
   | inr past ↦ ap (λ (o : Option (List ℕ)). record_in o slot) ((holds.shared).none_past p past)
   | inl low ↦ elim (some_or (times p (named holds.shares []))) [
     | inr none ↦ let used = (holds.shared).slotted p low none in absurd (lacks low used.bytes used.there used.slotted)
-    | inl some ↦ elim (named_other holds.front.0 holds.front.1 holds.shared p some) [
+    | inl some ↦ elim (named_other holds.header.0 holds.header.1 holds.shared p some) [
       | inl loose ↦ absurd (omega (arith, loose))
       | inr other ↦ other_record pages p slot other
     ]
@@ -96,7 +96,7 @@ unslotted_none {pages = pages} {h = h} holds p slot lacks = holds.records p slot
 pub holds_dense : {pages : Pages} {h : Header} {held : Held} → HoldsBehind pages h held → IsDense pages
 holds_dense {pages = pages} {h = h} holds p q below some = elim (some_or (times p (named holds.shares []))) [
   | inr none ↦ let used = (holds.shared).slotted p p_low none in subst IsSome (sym used.there) refl
-  | inl named_one ↦ elim (named_other holds.front.0 holds.front.1 holds.shared p named_one) [
+  | inl named_one ↦ elim (named_other holds.header.0 holds.header.1 holds.shared p named_one) [
     | inl loose ↦ absurd (omega (arith, loose))
     | inr other ↦ subst IsSome (sym other.there) refl
   ]
@@ -115,13 +115,13 @@ holds_all {pages = pages} {h = h} {held = held} range holds = record {
   range = range;
   behind = record {
     shares = holds.shares;
-    front = (h, with_page-here pages 0 (header_bytes h));
+    header = (h, with_page-here pages 0 (header_bytes h));
     shared = write_aside holds.shared 0 (header_bytes h) (inr refl);
     settings = holds.settings;
     records = λ page slot. elim (equal_or page 0) [
       | inl zero ↦
           holds.records page slot ∙ ap (λ (p : ℕ). record_in (pages p) slot) zero
-          ∙ other_record pages 0 slot (record { bytes = header_bytes holds.front.0; there = holds.front.1; kind = header_kind holds.front.0 })
+          ∙ other_record pages 0 slot (record { bytes = header_bytes holds.header.0; there = holds.header.1; kind = header_kind holds.header.0 })
           ∙ sym (other_record (with_page pages 0 (header_bytes h)) 0 slot (record { bytes = header_bytes h; there = with_page-here pages 0 (header_bytes h); kind = header_kind h }))
           ∙ ap (λ (p : ℕ). record_in (with_page pages 0 (header_bytes h) p) slot) (sym zero)
       | inr apart ↦ holds.records page slot ∙ ap (λ (o : Option (List ℕ)). record_in o slot) (sym (with_page-other pages 0 (header_bytes h) page apart))
@@ -137,7 +137,7 @@ holds_all {pages = pages} {h = h} {held = held} range holds = record {
 pub holds_numbered : {pages : Pages} {h : Header} {held : Held} (number : ℕ) → HoldsBehind pages h held → HoldsBehind pages (record h { number = number }) held
 holds_numbered {h = h} number holds = record {
   shares = holds.shares;
-  front = holds.front;
+  header = holds.header;
   shared = named_else holds.shared (record h { number = number }) holds.shares [] refl refl (holds.shared).free (holds.shared).chains (λ p. refl);
   settings = holds.settings;
   records = holds.records;
@@ -152,7 +152,7 @@ pub holds_room : {pages : Pages} {h : Header} {held : Held} (page : ℕ) (bytes 
     → HoldsBehind pages (record h { room = page }) held
 holds_room {h = h} page bytes holds low there slotted = record {
   shares = holds.shares;
-  front = holds.front;
+  header = holds.header;
   shared = room_else holds.shared (record h { room = page }) refl refl (λ some. (low, slotted_free holds page bytes there slotted));
   settings = holds.settings;
   records = holds.records;
@@ -169,14 +169,14 @@ module _ {pages : Pages} {h : Header} {held : Held} (page : ℕ) (old bytes : Li
 
   not_zero : page < h.pages → pages page ≡ Some old → IsSlotted old → 0 ≡ page → ⊥
   not_zero low there slotted zero =
-      let same : header_bytes holds.front.0 ≡ old = some_is (sym holds.front.1 ∙ ap pages zero ∙ there) in
-      absurd (false≢true (sym (header_kind holds.front.0) ∙ ap (λ (b : List ℕ). slice_index b 0 == 1) same ∙ eq-eqb (slice_index old 0) 1 (slotted.headed).kind))
+      let same : header_bytes holds.header.0 ≡ old = some_is (sym holds.header.1 ∙ ap pages zero ∙ there) in
+      absurd (false≢true (sym (header_kind holds.header.0) ∙ ap (λ (b : List ℕ). slice_index b 0 == 1) same ∙ eq-eqb (slice_index old 0) 1 (slotted.headed).kind))
 
   pub holds_changed : page < h.pages → pages page ≡ Some old → IsSlotted old → IsSlotted bytes → slots_of bytes ≢ [] → (records : ℕ → ℕ → Option (List ℕ))
       → ((p slot : ℕ) → records p slot ≡ record_in (now p) slot) → HoldsBehind now h (record held { records = records })
   holds_changed low there slotted slotted_now some records are = record {
     shares = holds.shares;
-    front = (holds.front.0, with_page-other pages page bytes 0 (not_zero low there slotted) ∙ holds.front.1);
+    header = (holds.header.0, with_page-other pages page bytes 0 (not_zero low there slotted) ∙ holds.header.1);
     shared = write_used holds.shared page bytes (slotted_free holds page old there slotted) low
         (record { bytes = bytes; there = with_page-here pages page bytes; slotted = slotted_now; some = some });
     settings = holds.settings;
@@ -205,7 +205,7 @@ module _ {pages : Pages} {h : Header} {held : Held} (page : ℕ) (old : List ℕ
       let written : IsShared freed no_room holds.shares (page ∷ []) = write_aside loose page (free_bytes h.free) (inl (let one = times_one page [] in omega (arith, one))) in
       record {
         shares = record holds.shares { free = page ∷ (holds.shares).free };
-        front = (holds.front.0, with_page-other pages page (free_bytes h.free) 0 (not_zero page old (free_bytes h.free) holds low there slotted) ∙ holds.front.1);
+        header = (holds.header.0, with_page-other pages page (free_bytes h.free) 0 (not_zero page old (free_bytes h.free) holds low there slotted) ∙ holds.header.1);
         shared = free_loose page released written (with_page-here pages page (free_bytes h.free)) refl refl refl;
         settings = holds.settings;
         records = are;
@@ -250,8 +250,8 @@ module _ {pages : Pages} {h : Header} {held : Held} (page : ℕ) (bytes : List �
       let one = times_one page [] in
       room_else used (record h1 { room = page }) refl refl (λ some_room. (low (omega (arith, e, one)), omega (arith, e, one, once)))
 
-  front_stays : {h1 : Header} {s : Shares} → IsShared pages h1 s (page ∷ []) → 0 ≡ page → ⊥
-  front_stays {s = s} loose zero =
+  header_stays : {h1 : Header} {s : Shares} → IsShared pages h1 s (page ∷ []) → 0 ≡ page → ⊥
+  header_stays {s = s} loose zero =
       let e = named_parts page s (page ∷ []) in
       let once = loose.once page in
       let one = times_one page [] in
@@ -269,7 +269,7 @@ module _ {pages : Pages} {h : Header} {held : Held} (page : ℕ) (bytes : List �
       let e = holds.free in (
         record {
           shares = record holds.shares { free = taken.rest };
-          front = (holds.front.0, with_page-other pages page bytes 0 (front_stays taken.shared) ∙ holds.front.1);
+          header = (holds.header.0, with_page-other pages page bytes 0 (header_stays taken.shared) ∙ holds.header.1);
           shared = settle taken.shared slotted nonempty;
           settings = holds.settings;
           records = are;
@@ -290,7 +290,7 @@ module _ {pages : Pages} {h : Header} {held : Held} (page : ℕ) (bytes : List �
       let e = holds.free in (
         record {
           shares = holds.shares;
-          front = (holds.front.0, with_page-other pages page bytes 0 (front_stays grown) ∙ holds.front.1);
+          header = (holds.header.0, with_page-other pages page bytes 0 (header_stays grown) ∙ holds.header.1);
           shared = settle grown slotted nonempty;
           settings = holds.settings;
           records = are;

@@ -214,7 +214,7 @@ use_loose {pages = pages} {h = h} {s = s} {loose = loose} page is used = record 
   none_past = is.none_past;
 }
 
--- A loose page that has become a free page goes to the front of the free list.
+-- A loose page that has become a free page becomes the first of the free list.
 pub free_loose : {pages : Pages} {h : Header} {s : Shares} {loose : List ℕ} (page : ℕ) (h' : Header) → IsShared pages h s (page ∷ loose) → pages page ≡ Some (free_bytes h.free)
     → h'.pages ≡ h.pages → h'.room ≡ h.room → h'.free ≡ page → IsShared pages h' (record s { free = page ∷ s.free }) loose
 free_loose {pages = pages} {h = h} {s = s} {loose = loose} page h' is there same_pages same_room same_free =

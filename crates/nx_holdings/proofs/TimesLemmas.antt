@@ -46,8 +46,8 @@ stay_first old new q qs same = same q (let e = times_one q qs in omega arith)
 stay_rest : (old new : Pages) (q : ℕ) (qs : List ℕ) → StaySame old new (q ∷ qs) → StaySame old new qs
 stay_rest old new q qs same p some = same p (let e = times-cons p q qs in omega arith)
 
-stay_front : (old new : Pages) (xs ys : List ℕ) → StaySame old new (xs ++ ys) → StaySame old new xs
-stay_front old new xs ys same p some = same p (let e = times-append p xs ys in omega arith)
+first_stay : (old new : Pages) (xs ys : List ℕ) → StaySame old new (xs ++ ys) → StaySame old new xs
+first_stay old new xs ys same p some = same p (let e = times-append p xs ys in omega arith)
 
 stay_back : (old new : Pages) (xs ys : List ℕ) → StaySame old new (xs ++ ys) → StaySame old new ys
 stay_back old new xs ys same p some = same p (let e = times-append p xs ys in omega arith)
@@ -69,7 +69,7 @@ pub chains_same : (old new : Pages) (cs : List Chain) → StaySame old new (page
     → AllByRecursion (λ c. AreLinked new (links_of c)) cs
 chains_same old new [] same are = tt
 chains_same old new (c ∷ cs) same are = (
-  links_same old new (links_of c) (stay_front old new (pages_of_links (links_of c)) (pages_of_chains cs) same) are.0,
+  links_same old new (links_of c) (first_stay old new (pages_of_links (links_of c)) (pages_of_chains cs) same) are.0,
   chains_same old new cs (stay_back old new (pages_of_links (links_of c)) (pages_of_chains cs) same) are.1,
 )
 

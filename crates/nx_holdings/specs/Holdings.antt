@@ -120,7 +120,7 @@ pub record Held : Type 0 where
 -- Page 0 is a header, and behind it the pages are shared out by this header and hold this.
 pub record HoldsBehind (pages : Pages) (head : Header) (held : Held) : Type 0 where
   pub shares : Shares
-  pub front : (h : Header) × (pages 0 ≡ Some (header_bytes h))
+  pub header : (h : Header) × (pages 0 ≡ Some (header_bytes h))
   pub shared : IsShared pages head shares []
   pub settings : held.settings ≡ head.settings
   pub records : (page slot : ℕ) → held.records page slot ≡ record_in (pages page) slot

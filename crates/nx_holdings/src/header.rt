@@ -112,7 +112,8 @@ fn lay_u64(page: &mut PageBytes, at: usize, number: u64)
     set_u64_at(&mut page.bytes, at, number);
 }
 
-/// The page with this header. It takes no memory.
+/// The page with this header, whose fields are in their ranges: settings as a store has them, 2 pages to
+/// their limit, and a catalog of at least 8 bytes. It takes no memory.
 pub fn header_page(header: &Header) -> PageBytes
     requires { IsInRange header.now }
     ensures { result.bytes ≡ header_bytes header.now }

@@ -8,14 +8,14 @@ pub fn one_document()
     ensures { OneDocument }
 {}
 
-/// Where one interval of a piece is replaced by others, just its proxy is replaced by theirs. What was held stays
-/// held, and with the same trees in them the forest is the same.
+/// Where one interval of a piece is replaced by others, just its proxy is replaced by theirs. With all of them held
+/// the new layout is held, and with the same trees in them the forest is the same.
 pub fn one_for_several()
     ensures { OneForSeveral }
 {}
 
-/// The members of an interval, where no part weighs more than `k` and `k` is at most 256, have a piece that may be
-/// stored.
+/// The members of an interval, one at least, have a piece that may be stored, where no part weighs more than `k`, `k`
+/// is at most 256, and at most 524,288 intervals are below them.
 pub fn piece_is_valid()
     ensures { PieceIsValid }
 {}

@@ -39,9 +39,9 @@ impl MemoryHost {
     ghost use Rattle.std.specs.List.{list_any};
 
     /// A host of these areas, with nothing unsynced, and this input, which it gives in pieces of at
-    /// most `piece` bytes. The output is empty, all counts are 0, and no call is to fail.
+    /// most `piece` bytes, at least 1. The output is empty, all counts are 0, and no call is to fail.
     ///
-    /// Each area may grow by `room` bytes, the output and the history of the calls take at most
+    /// Each area may grow by `room` bytes, at most 4,294,967,296, the output and the history of the calls take at most
     /// `room` each: the history takes 32 bytes for each `write_at`, `sync` and `emit` that succeeded,
     /// and for a `write_at` also those that it wrote over. A call for which there is no room fails.
     ///

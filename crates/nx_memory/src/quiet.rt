@@ -32,7 +32,7 @@ impl QuietHost {
 
     /// A host of these areas, with nothing unsynced, and this input. The output is empty.
     ///
-    /// Each area may grow by `room` bytes, the output and the history of the calls take at most
+    /// Each area may grow by `room` bytes, at most 4,294,967,296, the output and the history of the calls take at most
     /// `room` each, as those of `MemoryHost` do.
     ///
     /// Errors: `NoMemory`.

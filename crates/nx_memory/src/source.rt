@@ -25,7 +25,7 @@ impl Source {
     }
 
     /// Gives the first bytes that are left, at most so many, and says how many it wrote to the
-    /// slice's front.
+    /// slice's beginning.
     pub(crate) fn give(&mut self, most: usize, into: &mut [u8]) -> usize
         ensures count { result ≡ min (min most (length into.old)) (length (bytes_left self.old)) }
         ensures bytes { take result into.new ≡ take result (bytes_left self.old) }
