@@ -15,7 +15,7 @@ use Rattle.nx_replay.specs.Log.{entry_pages, groups, logged, pages_of, replay}
 use Rattle.nx_replay.proofs.ReplayLemmas.{page-there, page-cases}
 use Rattle.nx_slots.specs.declared.page.PageBytes.{PageBytes}
 use Rattle.nx_wal.specs.Reading.{Gives, page_found}
-use Rattle.nx_wal.specs.Places.{Places, place_in, LeadsTo}
+use Rattle.nx_wal.specs.Places.{Kept, Places, place_in, LeadsTo}
 use Rattle.nx_wal.specs.Writing.{entries_of}
 use Rattle.nx_wal.proofs.ReadingLemmas.{at_number, no_place, some_same}
 
@@ -64,24 +64,24 @@ same_either : (x y : ℕ) → (x == y) ≡ (y == x)
 same_either x y = grind (arith, nat_tests)
 
 -- the pages that wait, by their numbers
-pub pending_found : (es : List (ℕ × PageBytes)) (p : ℕ) (bytes : PageBytes) → lookup (is_at (nat_cmp p)) es ≡ Some bytes → entry_pages (entries_of es) p ≡ Some bytes.bytes
-pending_found [] p bytes found = absurd (let lost : None ≡ Some bytes = found in cc)
-pending_found (e ∷ es) p bytes found =
-    let found_by = λ (b : Bool). (if b then Some e.1.bytes else entry_pages (entries_of es) p) in
+pub pending_found : (es : List (ℕ × Kept)) (p : ℕ) (kept : Kept) → lookup (is_at (nat_cmp p)) es ≡ Some kept → entry_pages (entries_of es) p ≡ Some kept.value.bytes
+pending_found [] p kept found = absurd (let lost : None ≡ Some kept = found in cc)
+pending_found (e ∷ es) p kept found =
+    let found_by = λ (b : Bool). (if b then Some e.1.value.bytes else entry_pages (entries_of es) p) in
     elim (cases_Bool (p == e.0)) [
       | inl holds ↦
           let here : is_at (nat_cmp p) e.0 ≡ true = at_number p e.0 ∙ same_either e.0 p ∙ holds in
-          let same : e.1 ≡ bytes = some_same (sym (ap (λ (b : Bool). cond b (Some e.1) (lookup (is_at (nat_cmp p)) es)) here) ∙ found) in
-          ap found_by holds ∙ ap (λ (x : PageBytes). Some x.bytes) same
+          let same : e.1 ≡ kept = some_same (sym (ap (λ (b : Bool). cond b (Some e.1) (lookup (is_at (nat_cmp p)) es)) here) ∙ found) in
+          ap found_by holds ∙ ap (λ (x : Kept). Some x.value.bytes) same
       | inr fails ↦
           let there : is_at (nat_cmp p) e.0 ≡ false = at_number p e.0 ∙ same_either e.0 p ∙ fails in
-          ap found_by fails ∙ pending_found es p bytes (sym (ap (λ (b : Bool). cond b (Some e.1) (lookup (is_at (nat_cmp p)) es)) there) ∙ found)
+          ap found_by fails ∙ pending_found es p kept (sym (ap (λ (b : Bool). cond b (Some e.1) (lookup (is_at (nat_cmp p)) es)) there) ∙ found)
     ]
 
-pub pending_none : (es : List (ℕ × PageBytes)) (p : ℕ) → lookup (is_at (nat_cmp p)) es ≡ None → entry_pages (entries_of es) p ≡ None
+pub pending_none : (es : List (ℕ × Kept)) (p : ℕ) → lookup (is_at (nat_cmp p)) es ≡ None → entry_pages (entries_of es) p ≡ None
 pending_none [] p found = refl
 pending_none (e ∷ es) p found =
-    let found_by = λ (b : Bool). (if b then Some e.1.bytes else entry_pages (entries_of es) p) in
+    let found_by = λ (b : Bool). (if b then Some e.1.value.bytes else entry_pages (entries_of es) p) in
     elim (cases_Bool (p == e.0)) [
       | inl holds ↦
           let here : is_at (nat_cmp p) e.0 ≡ true = at_number p e.0 ∙ same_either e.0 p ∙ holds in
@@ -92,13 +92,30 @@ pending_none (e ∷ es) p found =
     ]
 
 -- the page that waits under a number
-pub pending_page : (es : List (ℕ × PageBytes)) (p : ℕ) → entry_pages (entries_of es) p ≡ option_map (λ (b : PageBytes). b.bytes) (lookup (is_at (nat_cmp p)) es)
+pub pending_page : (es : List (ℕ × Kept)) (p : ℕ) → entry_pages (entries_of es) p ≡ option_map (λ (kept : Kept). kept.value.bytes) (lookup (is_at (nat_cmp p)) es)
 pending_page es p =
-    elim (lookup (is_at (nat_cmp p)) es) as (λ o. lookup (is_at (nat_cmp p)) es ≡ o → entry_pages (entries_of es) p ≡ option_map (λ (b : PageBytes). b.bytes) o) [
+    elim (lookup (is_at (nat_cmp p)) es) as (λ o. lookup (is_at (nat_cmp p)) es ≡ o → entry_pages (entries_of es) p ≡ option_map (λ (kept : Kept). kept.value.bytes) o) [
       | None ↦ λ none. pending_none es p none
-      | Some b ↦ λ found. pending_found es p b found
+      | Some kept ↦ λ found. pending_found es p kept found
     ] refl
 
-pub copied_page : (o : Option (Bor PageBytes)) → option_map (λ (b : Bor PageBytes). b.now.bytes) o ≡ option_map (λ (b : PageBytes). b.bytes) (option_copied o)
-copied_page None = refl
-copied_page (Some b) = refl
+bytes_copied : (o : Option (Bor PageBytes)) → option_map (λ (b : Bor PageBytes). b.now.bytes) o ≡ option_map (λ (b : PageBytes). b.bytes) (option_copied o)
+bytes_copied None = refl
+bytes_copied (Some b) = refl
+
+bytes_kept : (o : Option Kept) → option_map (λ (b : PageBytes). b.bytes) (option_map (λ (kept : Kept). kept.value) o) ≡ option_map (λ (kept : Kept). kept.value.bytes) o
+bytes_kept None = refl
+bytes_kept (Some kept) = refl
+
+-- what was lent of the pages that wait
+module _ (es : List (ℕ × Kept)) (p : ℕ) where
+  pub lent_page : (o : Option (Bor PageBytes)) → option_copied o ≡ option_map (λ (kept : Kept). kept.value) (lookup (is_at (nat_cmp p)) es)
+      → option_map (λ (b : Bor PageBytes). b.now.bytes) o ≡ entry_pages (entries_of es) p
+  lent_page o is = bytes_copied o ∙ ap (λ (x : Option PageBytes). option_map (λ (b : PageBytes). b.bytes) x) is ∙ bytes_kept (lookup (is_at (nat_cmp p)) es) ∙ sym (pending_page es p)
+
+  pub page_waits : {o : Option (Bor PageBytes)} (bytes : Bor PageBytes) → option_copied o ≡ option_map (λ (kept : Kept). kept.value) (lookup (is_at (nat_cmp p)) es) → o ≡ Some bytes
+      → entry_pages (entries_of es) p ≡ Some bytes.now.bytes
+  page_waits {o = o} bytes is some = sym (lent_page o is) ∙ ap (λ (x : Option (Bor PageBytes)). option_map (λ (b : Bor PageBytes). b.now.bytes) x) some
+
+  pub none_waits : None ≡ option_map (λ (kept : Kept). kept.value) (lookup (is_at (nat_cmp p)) es) → entry_pages (entries_of es) p ≡ None
+  none_waits is = sym (lent_page None is)

@@ -15,21 +15,20 @@ use Rattle.std.specs.Ordering.{nat_cmp}
 use Rattle.byteorder.specs.Endian.{big_bytes}
 use Rattle.byteorder.specs.Numbers.{length-bytes_high_first}
 use Rattle.nx_host.specs.Disk.{Image}
-use Rattle.nx_slots.specs.declared.page.PageBytes.{PageBytes}
 use Rattle.nx_replay.specs.Log.{Entry, IsEntry, IsWhole, entry_bytes, entry_pages, rise}
 use Rattle.nx_replay.proofs.GroupLemmas.{prefix-drop, prefix-less}
 use Rattle.nx_replay.proofs.KnownLemmas.{rise_few, rise_apart}
-use Rattle.nx_wal.specs.Places.{Places, place_in, Notes, IsWholePage}
+use Rattle.nx_wal.specs.Places.{Kept, Places, place_in, Notes, IsWholePage}
 use Rattle.nx_wal.specs.Writing.{StandsBehind, entries_of, group_with, body_of, head_of}
 use Rattle.nx_wal.proofs.ReadingLemmas.{at_number}
 use Rattle.nx_wal.proofs.ListLemmas.{all_prefix, all_middle, all_keys, all_values}
 use Rattle.nx_wal.proofs.WritingLemmas.{entry_bytes-append, pages_long, body_parts, head_long}
 
-abbrev entry_with : ℕ × PageBytes → Entry
-entry_with e = record { page = e.0; bytes = e.1.bytes }
+abbrev entry_with : ℕ × Kept → Entry
+entry_with e = record { page = e.0; bytes = e.1.value.bytes }
 
 -- numbers that ascend rise
-pub rises_from : (es : List (ℕ × PageBytes)) (least : ℕ) → IsStrictlySortedBy nat_cmp (keys_of es) → All (λ k. k < 16777216) (keys_of es) → All (λ k. least ≤ k) (keys_of es)
+pub rises_from : (es : List (ℕ × Kept)) (least : ℕ) → IsStrictlySortedBy nat_cmp (keys_of es) → All (λ k. k < 16777216) (keys_of es) → All (λ k. least ≤ k) (keys_of es)
     → rise least (entries_of es) ≡ true
 rises_from [] least sorted low from = refl
 rises_from (e ∷ es) least sorted low from =
@@ -37,12 +36,12 @@ rises_from (e ∷ es) least sorted low from =
     (λ k d within. let below = below_from_sorted (e.0 ∷ keys_of es) 0 (suc k) d sorted (omega arith) (omega (arith, within)) in omega (arith, below)) in
     and_from _ _ (and_from _ _ (le-leb _ _ (All-head (λ k. least ≤ k) e.0 (keys_of es) from)) (lt-ltb _ _ (All-head (λ k. k < 16777216) e.0 (keys_of es) low))) rest
 
-entries_are : (es : List (ℕ × PageBytes)) → AllByRecursion (λ (e : ℕ × PageBytes). e.0 < 16777216) es → AllByRecursion (λ (e : ℕ × PageBytes). length e.1.bytes ≡ 8192) es
+entries_are : (es : List (ℕ × Kept)) → AllByRecursion (λ (e : ℕ × Kept). e.0 < 16777216) es → AllByRecursion (λ (e : ℕ × Kept). length e.1.value.bytes ≡ 8192) es
     → AllByRecursion IsEntry (entries_of es)
 entries_are [] low whole = tt
 entries_are (e ∷ es) low whole = (record { long = whole.0; low = low.0 }, entries_are es low.1 whole.1)
 
-module _ (es : List (ℕ × PageBytes)) (sorted : IsStrictlySortedBy nat_cmp (keys_of es)) (low : All (λ k. k < 16777216) (keys_of es)) where
+module _ (es : List (ℕ × Kept)) (sorted : IsStrictlySortedBy nat_cmp (keys_of es)) (low : All (λ k. k < 16777216) (keys_of es)) where
   pub waiting_rise : rise 0 (entries_of es) ≡ true
   waiting_rise = rises_from es 0 sorted low (λ k d within. omega arith)
 
@@ -71,24 +70,24 @@ entry_pages-append (e ∷ es) fs p =
     ]
 
 -- One page more is noted.
-module _ (at : ℕ) (gone es : List (ℕ × PageBytes)) (item : ℕ × PageBytes) (log rest : List ℕ)
-    (whole : AllByRecursion (λ (e : ℕ × PageBytes). length e.1.bytes ≡ 8192) (gone ++ item ∷ es))
+module _ (at : ℕ) (gone es : List (ℕ × Kept)) (item : ℕ × Kept) (log rest : List ℕ)
+    (whole : AllByRecursion (λ (e : ℕ × Kept). length e.1.value.bytes ≡ 8192) (gone ++ item ∷ es))
     (bytes : drop at log ≡ entry_bytes (entries_of (gone ++ item ∷ es)) ++ rest) where
   parted : entries_of (gone ++ item ∷ es) ≡ entries_of gone ++ entry_with item ∷ entries_of es
-  parted = map-append (λ (e : ℕ × PageBytes). record { page = e.0; bytes = e.1.bytes }) gone (item ∷ es)
+  parted = map-append (λ (e : ℕ × Kept). record { page = e.0; bytes = e.1.value.bytes }) gone (item ∷ es)
 
-  stands : take 8192 (drop (at + 8196 * length gone + 4) log) ≡ item.1.bytes
+  stands : take 8192 (drop (at + 8196 * length gone + 4) log) ≡ item.1.value.bytes
   stands =
       let prefix = entry_bytes (entries_of gone) in
       let more = entry_bytes (entries_of es) in
       let number = big_bytes 4 item.0 in
-      let page = item.1.bytes in
+      let page = item.1.value.bytes in
       let split : drop at log ≡ prefix ++ (number ++ (page ++ (more ++ rest))) =
       bytes ∙ ap (λ (x : List ℕ). x ++ rest) (ap entry_bytes parted ∙ entry_bytes-append (entries_of gone) (entry_with item ∷ entries_of es))
       ∙ append_assoc prefix (number ++ (page ++ more)) rest
       ∙ ap (λ (x : List ℕ). prefix ++ x) (append_assoc number (page ++ more) rest ∙ ap (λ (x : List ℕ). number ++ x) (append_assoc page more rest)) in
       let long : length prefix ≡ 8196 * length gone = pages_long gone (all_prefix _ gone (item ∷ es) whole) in
-      let here : length page ≡ 8192 = all_middle (λ (e : ℕ × PageBytes). length e.1.bytes ≡ 8192) gone es item whole in
+      let here : length page ≡ 8192 = all_middle (λ (e : ℕ × Kept). length e.1.value.bytes ≡ 8192) gone es item whole in
       let behind : drop (at + 8196 * length gone) log ≡ number ++ (page ++ (more ++ rest)) =
       sym (drop-drop (8196 * length gone) at log) ∙ ap (λ (x : List ℕ). drop (8196 * length gone) x) split ∙ drop_at prefix (number ++ (page ++ (more ++ rest))) (8196 * length gone) long in
       ap (λ (x : List ℕ). take 8192 x) (sym (drop-drop 4 (at + 8196 * length gone) log) ∙ ap (λ (x : List ℕ). drop 4 x) behind ∙ drop_at number (page ++ (more ++ rest)) 4 (length-bytes_high_first 4 item.0))
@@ -100,17 +99,17 @@ module _ (at : ℕ) (gone es : List (ℕ × PageBytes)) (item : ℕ × PageBytes
     pub notes_more : Notes (entries_of (gone ++ item ∷ [])) log old new
     notes_more p =
         let place = at + 8196 * length gone + 4 in
-        let last : entries_of (gone ++ item ∷ []) ≡ entries_of gone ++ entry_with item ∷ [] = map-append (λ (e : ℕ × PageBytes). record { page = e.0; bytes = e.1.bytes }) gone (item ∷ []) in
+        let last : entries_of (gone ++ item ∷ []) ≡ entries_of gone ++ entry_with item ∷ [] = map-append (λ (e : ℕ × Kept). record { page = e.0; bytes = e.1.value.bytes }) gone (item ∷ []) in
         let all : entry_pages (entries_of (gone ++ item ∷ [])) p ≡ option_or (entry_pages (entries_of gone) p) (entry_pages (entry_with item ∷ []) p) =
         ap (λ (es : List Entry). entry_pages es p) last ∙ entry_pages-append (entries_of gone) (entry_with item ∷ []) p in
-        let chosen = λ (b : Bool). (if b then Some item.1.bytes else None) in
+        let chosen = λ (b : Bool). (if b then Some item.1.value.bytes else None) in
         let base = place_in (get nat_cmp old p) log in
         elim (cases_Bool (p == item.0)) [
           | inl holds ↦
               let none : entry_pages (entries_of gone) p ≡ None =
               subst (λ (k : ℕ). entry_pages (entries_of gone) k ≡ None) (sym (eqb-true p item.0 holds))
               (rise_apart (entries_of gone) (entries_of es) (entry_with item) 0 (sym (ap (λ (es : List Entry). rise 0 es) parted) ∙ rises)).1 in
-              let found : entry_pages (entries_of (gone ++ item ∷ [])) p ≡ Some item.1.bytes =
+              let found : entry_pages (entries_of (gone ++ item ∷ [])) p ≡ Some item.1.value.bytes =
               all ∙ ap (λ (o : Option (List ℕ)). option_or o (entry_pages (entry_with item ∷ []) p)) none ∙ ap chosen holds in
               ap (λ (o : Option (Option ℕ)). place_in o log) (updates p ∙ ap (λ (b : Bool). cond b (Some (Some place)) (get nat_cmp mid p)) (at_number item.0 p ∙ holds))
               ∙ ap (λ (x : List ℕ). Some x) stands ∙ sym (ap (λ (o : Option (List ℕ)). option_or o base) found)
@@ -135,7 +134,7 @@ keeps_more number place mid new updates q some =
     ]
 
 -- the pages of the group stand behind its head
-pub entries_stand : (end number : ℕ) (es : List (ℕ × PageBytes)) (was now : Image) → StandsBehind end (body_of number es) was now
+pub entries_stand : (end number : ℕ) (es : List (ℕ × Kept)) (was now : Image) → StandsBehind end (body_of number es) was now
     → (rest : List ℕ) × (drop (end + 13) now.log ≡ entry_bytes (entries_of es) ++ rest)
 entries_stand end number es was now behind =
     let body = body_of number es in

@@ -1,21 +1,20 @@
 -- What a log and its disk stand for, from what was read.
-use Rattle.std.proofs.Common.{◌≡◌, ◌⊎◌, ℕ, ◌^◌, ◌<◌, ◌≤◌, List, [], ◌∷◌, length, take, Bool, refl, sym, ap, subst, ◌∙◌, arith, inl, inr}
+use Rattle.std.proofs.Common.{◌≡◌, ◌⊎◌, ℕ, ◌+◌, ◌^◌, ◌<◌, ◌≤◌, List, [], ◌∷◌, length, take, Bool, refl, sym, ap, subst, ◌∙◌, arith, inl, inr}
 use Rattle.std.proofs.Common.{cond}
 use Rattle.std.proofs.lemmas.Bool.{cases_Bool}
-use Rattle.std.specs.Prelude.{Option, Some, None, ◌==◌, if◌then◌else◌}
+use Rattle.std.specs.Prelude.{Option, Some, None, ◌==◌, if◌then◌else◌, is_some}
 use Rattle.std.proofs.lemmas.List.{length-map}
 use Rattle.std.specs.Prelude.{All}
 use Rattle.std.specs.List.Sorted.{IsStrictlySortedBy}
 use Rattle.std.specs.Map.{lookup, keys_of}
 use Rattle.std.specs.BTreeMap.{BTreeMap, get, is_at}
 use Rattle.std.specs.Ordering.{nat_cmp}
-use Rattle.nx_slots.specs.declared.page.PageBytes.{PageBytes}
-use Rattle.nx_wal.proofs.PageLemmas.{pending_found, pending_none}
+use Rattle.nx_wal.proofs.PageLemmas.{pending_found, pending_none, pending_page}
 use Rattle.nx_host.specs.Disk.{Image}
 use Rattle.nx_host.specs.declared.disk.Disk.{Ghosts}
 use Rattle.nx_host.specs.Still.{WritesAlone}
 use Rattle.nx_host.proofs.DiskLemmas.{written_alone_weaker}
-use Rattle.std.specs.Option.{option_or}
+use Rattle.std.specs.Option.{option_or, option_map}
 use Rattle.nx_replay.specs.Log.{Group, entry_pages, replay, groups, logged, end_of, Stays, IsAtEnd, HasSame, HasGroup}
 use Rattle.nx_replay.specs.Commit.{IsOpened, IsBody}
 use Rattle.nx_replay.proofs.ReplayLemmas.{logged-more}
@@ -24,7 +23,7 @@ use Rattle.nx_wal.specs.declared.error.WalError.{WalError}
 use Rattle.nx_wal.specs.declared.error.WalError.TheVariants.{Disk, Exists, NotAStore, Ended, Memory}
 use Rattle.nx_wal.specs.declared.reading.End.{End}
 use Rattle.nx_wal.specs.Reading.{IsRead, IsNotOpened, HasMark}
-use Rattle.nx_wal.specs.Places.{Places, place_in, AreWithin, LeadsTo, Notes}
+use Rattle.nx_wal.specs.Places.{Kept, Places, place_in, AreWithin, LeadsTo, Notes}
 use Rattle.nx_wal.specs.Writing.{entries_of, body_of}
 use Rattle.nx_wal.specs.Wal.{Follows, IsInStep, NotOpened, pending, next_group}
 use Rattle.nx_wal.proofs.WaitingLemmas.{waiting_few, waiting_group, place_same}
@@ -107,43 +106,58 @@ pub option_cases : {T : Type 0} (o : Option T) → (o ≡ None) ⊎ ((x : T) × 
 option_cases None = inl refl
 option_cases (Some x) = inr (x, refl)
 
-pub put_at : (old new : BTreeMap ℕ PageBytes) (page : ℕ) (bytes : PageBytes)
-    → ((q : ℕ) → get nat_cmp new q ≡ cond (is_at (nat_cmp page) q) (Some bytes) (get nat_cmp old q)) → (p : ℕ)
-    → entry_pages (entries_of new.entries) p ≡ option_or (entry_pages (record { page = page; bytes = bytes.bytes } ∷ []) p) (entry_pages (entries_of old.entries) p)
-put_at old new page bytes updates p =
-    let right = λ (b : Bool). option_or (if b then Some bytes.bytes else None) (entry_pages (entries_of old.entries) p) in
+pub put_at : (old new : BTreeMap ℕ Kept) (page : ℕ) (kept : Kept)
+    → ((q : ℕ) → get nat_cmp new q ≡ cond (is_at (nat_cmp page) q) (Some kept) (get nat_cmp old q)) → (p : ℕ)
+    → entry_pages (entries_of new.entries) p ≡ option_or (entry_pages (record { page = page; bytes = kept.value.bytes } ∷ []) p) (entry_pages (entries_of old.entries) p)
+put_at old new page kept updates p =
+    let right = λ (b : Bool). option_or (if b then Some kept.value.bytes else None) (entry_pages (entries_of old.entries) p) in
     elim (cases_Bool (p == page)) [
       | inl holds ↦
-          let here : get nat_cmp new p ≡ Some bytes = updates p ∙ ap (λ (b : Bool). cond b (Some bytes) (get nat_cmp old p)) (at_number page p ∙ holds) in
-          pending_found new.entries p bytes here ∙ sym (ap right holds)
+          let here : get nat_cmp new p ≡ Some kept = updates p ∙ ap (λ (b : Bool). cond b (Some kept) (get nat_cmp old p)) (at_number page p ∙ holds) in
+          pending_found new.entries p kept here ∙ sym (ap right holds)
       | inr fails ↦
-          let there : get nat_cmp new p ≡ get nat_cmp old p = updates p ∙ ap (λ (b : Bool). cond b (Some bytes) (get nat_cmp old p)) (at_number page p ∙ fails) in
+          let there : get nat_cmp new p ≡ get nat_cmp old p = updates p ∙ ap (λ (b : Bool). cond b (Some kept) (get nat_cmp old p)) (at_number page p ∙ fails) in
           elim (option_cases (get nat_cmp old p)) [
             | inl none ↦ pending_none new.entries p (there ∙ none) ∙ sym (ap right fails ∙ pending_none old.entries p none)
             | inr some ↦ pending_found new.entries p some.0 (there ∙ some.1) ∙ sym (ap right fails ∙ pending_found old.entries p some.0 some.1)
           ]
     ]
 
-pub some_waits : (es : List (ℕ × PageBytes)) (p : ℕ) (b : PageBytes) → lookup (is_at (nat_cmp p)) es ≡ Some b → entries_of es ≡ [] → ⊥
+pub some_waits : (es : List (ℕ × Kept)) (p : ℕ) (b : Kept) → lookup (is_at (nat_cmp p)) es ≡ Some b → entries_of es ≡ [] → ⊥
 some_waits [] p b found none = let lost : None ≡ Some b = found in absurd (cc)
 some_waits (e ∷ es) p b found none = omega (arith, ap length none)
 
+map_some : {A B : Type 0} (f : A → B) (o : Option A) → is_some (option_map f o) ≡ is_some o
+map_some f None = refl
+map_some f (Some x) = refl
+
+-- how many pages wait
+pub count_more : (old new : List (ℕ × Kept)) (p : ℕ) → length new ≡ length old + (if is_some (lookup (is_at (nat_cmp p)) old) then 0 else 1)
+    → length (entries_of new) ≡ length (entries_of old) + (if is_some (entry_pages (entries_of old) p) then 0 else 1)
+count_more old new p counted =
+    let more = λ (b : Bool). (if b then 0 else 1) in
+    let now : length (entries_of new) ≡ length new = simp length-map in
+    let before : length (entries_of old) ≡ length old = simp length-map in
+    let same : is_some (entry_pages (entries_of old) p) ≡ is_some (lookup (is_at (nat_cmp p)) old) =
+    ap (λ (o : Option (List ℕ)). is_some o) (pending_page old p) ∙ map_some (λ (kept : Kept). kept.value.bytes) (lookup (is_at (nat_cmp p)) old) in
+    now ∙ counted ∙ ap (λ (b : Bool). length old + more b) (sym same) ∙ ap (λ (n : ℕ). n + more (is_some (entry_pages (entries_of old) p))) (sym before)
+
 -- A commit.
 
-module _ (wal : Wal) (ordered : IsStrictlySortedBy nat_cmp (keys_of wal.waiting.entries)) where
-  low_keys : All (λ k. k < 16777216) (keys_of wal.waiting.entries)
+module _ (wal : Wal) (ordered : IsStrictlySortedBy nat_cmp (keys_of wal.waiting.pages.entries)) where
+  low_keys : All (λ k. k < 16777216) (keys_of wal.waiting.pages.entries)
   low_keys k d within = (wal.numbers k d within).0
 
-  pub few_wait : length wal.waiting.entries ≤ 16777216
-  few_wait = waiting_few wal.waiting.entries ordered low_keys
+  pub few_wait : length wal.waiting.pages.entries ≤ 16777216
+  few_wait = waiting_few wal.waiting.pages.entries ordered low_keys
 
   -- what waits is a group that can be written at the log's end
-  pub next_body : (number : ℕ) → number < 2 ^ 64 → wal.end ≤ 2 ^ 62 → (pending wal ≡ [] → ⊥) → IsBody (next_group number wal) wal.end (body_of number wal.waiting.entries)
+  pub next_body : (number : ℕ) → number < 2 ^ 64 → wal.end ≤ 2 ^ 62 → (pending wal ≡ [] → ⊥) → IsBody (next_group number wal) wal.end (body_of number wal.waiting.pages.entries)
   next_body number fits room some =
-      let few : length wal.waiting.entries ≤ 16777216 = few_wait in
-      let count : length (entries_of wal.waiting.entries) ≡ length wal.waiting.entries = simp length-map in
+      let few : length wal.waiting.pages.entries ≤ 16777216 = few_wait in
+      let count : length (entries_of wal.waiting.pages.entries) ≡ length wal.waiting.pages.entries = simp length-map in
       record {
-        whole = waiting_group wal.waiting.entries ordered low_keys number fits some wal.whole;
+        whole = waiting_group wal.waiting.pages.entries ordered low_keys number fits some wal.waiting.whole;
         bytes = refl;
         low = omega (arith, few, count, room);
       }
@@ -151,8 +165,8 @@ module _ (wal : Wal) (ordered : IsStrictlySortedBy nat_cmp (keys_of wal.waiting.
 pub opened_step : {D : Type 0} {d : Ghosts D} {wal : Wal} {a : D} {was : Image} → wal.end ≤ 2 ^ 62 → IsInStep d wal a was → IsOpened d wal.end wal.shut a was
 opened_step room step = record { settled = step.settled; at = (step.follows).at; low = omega (arith, room) }
 
-pub commit_goes : {D : Type 0} (d : Ghosts D) (wal : Wal) (number : ℕ) (a b : D) → wal.end ≤ 2 ^ 62 → IsBody (next_group number wal) wal.end (body_of number wal.waiting.entries)
-    → WritesAlone d a b (λ i. (was : Image) (g : Group) → IsOpened d wal.end wal.shut a was → IsBody g wal.end (body_of number wal.waiting.entries) → HasSame was i ⊎ HasGroup g was i)
+pub commit_goes : {D : Type 0} (d : Ghosts D) (wal : Wal) (number : ℕ) (a b : D) → wal.end ≤ 2 ^ 62 → IsBody (next_group number wal) wal.end (body_of number wal.waiting.pages.entries)
+    → WritesAlone d a b (λ i. (was : Image) (g : Group) → IsOpened d wal.end wal.shut a was → IsBody g wal.end (body_of number wal.waiting.pages.entries) → HasSame was i ⊎ HasGroup g was i)
     → WritesAlone d a b (λ i. (was : Image) → IsInStep d wal a was → HasSame was i ⊎ HasGroup (next_group number wal) was i)
 commit_goes d wal number a b room body goes = written_alone_weaker goes (λ told i outcome was step. outcome was (next_group number wal) (opened_step room step) body)
 

@@ -21,7 +21,7 @@ use Rattle.nx_replay.specs.Log.{Entry, entry_bytes, group_bytes, groups, end_of,
 use Rattle.nx_replay.proofs.GroupLemmas.{end-within, zero_or_more, prefix-less}
 use Rattle.nx_replay.specs.Log.{Group}
 use Rattle.nx_replay.specs.Commit.{IsOpened, IsBody, IsLaid}
-use Rattle.nx_slots.specs.declared.page.PageBytes.{PageBytes}
+use Rattle.nx_wal.specs.Places.{Kept}
 use Rattle.nx_wal.specs.Writing.{Writes, Lays, StandsBehind, entries_of, body_of, head_of}
 use Rattle.nx_wal.proofs.ReadingLemmas.{some_same}
 
@@ -157,19 +157,19 @@ entry_bytes-append (e ∷ es) fs =
     ∙ ap (λ (x : List ℕ). big_bytes 4 e.page ++ x) (sym (append_assoc e.bytes (entry_bytes es) (entry_bytes fs)))
     ∙ sym (append_assoc (big_bytes 4 e.page) (e.bytes ++ entry_bytes es) (entry_bytes fs))
 
-pub page_more : (es : List (ℕ × PageBytes)) (e : ℕ × PageBytes) → entry_bytes (entries_of (es ++ e ∷ [])) ≡ entry_bytes (entries_of es) ++ (big_bytes 4 e.0 ++ e.1.bytes)
+pub page_more : (es : List (ℕ × Kept)) (e : ℕ × Kept) → entry_bytes (entries_of (es ++ e ∷ [])) ≡ entry_bytes (entries_of es) ++ (big_bytes 4 e.0 ++ e.1.value.bytes)
 page_more es e =
-    ap entry_bytes (map-append (λ (e : ℕ × PageBytes). record { page = e.0; bytes = e.1.bytes }) es (e ∷ []))
+    ap entry_bytes (map-append (λ (e : ℕ × Kept). record { page = e.0; bytes = e.1.value.bytes }) es (e ∷ []))
     ∙ entry_bytes-append (entries_of es) (entries_of (e ∷ []))
-    ∙ ap (λ (x : List ℕ). entry_bytes (entries_of es) ++ (big_bytes 4 e.0 ++ x)) (append-nil e.1.bytes)
+    ∙ ap (λ (x : List ℕ). entry_bytes (entries_of es) ++ (big_bytes 4 e.0 ++ x)) (append-nil e.1.value.bytes)
 
 -- so many pages' bytes, each page being whole
-pub pages_long : (es : List (ℕ × PageBytes)) → AllByRecursion (λ (e : ℕ × PageBytes). length e.1.bytes ≡ 8192) es → length (entry_bytes (entries_of es)) ≡ 8196 * length es
+pub pages_long : (es : List (ℕ × Kept)) → AllByRecursion (λ (e : ℕ × Kept). length e.1.value.bytes ≡ 8192) es → length (entry_bytes (entries_of es)) ≡ 8196 * length es
 pages_long [] are = refl
 pages_long (e ∷ es) are =
     let rest = pages_long es are.1 in
-    let here : length e.1.bytes ≡ 8192 = are.0 in
-    omega (arith, rest, here, length-append (big_bytes 4 e.0) (e.1.bytes ++ entry_bytes (entries_of es)), length-append e.1.bytes (entry_bytes (entries_of es)), length-bytes_high_first 4 e.0)
+    let here : length e.1.value.bytes ≡ 8192 = are.0 in
+    omega (arith, rest, here, length-append (big_bytes 4 e.0) (e.1.value.bytes ++ entry_bytes (entries_of es)), length-append e.1.value.bytes (entry_bytes (entries_of es)), length-bytes_high_first 4 e.0)
 
 pub image_same : (a b : Image) → a.pages ≡ b.pages → a.log ≡ b.log → a ≡ b
 image_same a b pages log = λ i. record { pages = pages i; log = log i }
@@ -200,7 +200,7 @@ end_fits end shut log at =
     ]
 
 -- Group bytes.
-pub body_parts : (number : ℕ) (es : List (ℕ × PageBytes)) → (head_of number (length es) ++ entry_bytes (entries_of es)) ++ 0 ∷ [] ≡ body_of number es
+pub body_parts : (number : ℕ) (es : List (ℕ × Kept)) → (head_of number (length es) ++ entry_bytes (entries_of es)) ++ 0 ∷ [] ≡ body_of number es
 unfolding group_bytes
 body_parts number es =
     let count : length (entries_of es) ≡ length es = simp length-map in

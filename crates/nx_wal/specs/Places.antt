@@ -1,8 +1,9 @@
 -- Where the pages of a log stand.
-use Rattle.std.specs.Prelude.{ℕ, ◌+◌, ◌≡◌, ◌<◌, ◌≤◌, List, length, take, drop, Option, Some, None, IsSome}
+use Rattle.std.specs.Prelude.{ℕ, ◌+◌, ◌≡◌, ◌<◌, ◌≤◌, List, length, take, drop, Option, Some, None, IsSome, Box}
 use Rattle.std.specs.Option.{option_or}
 use Rattle.std.specs.BTreeMap.{BTreeMap, get}
 use Rattle.std.specs.Ordering.{nat_cmp}
+use Rattle.std.specs.declared.alloc.Global.{Global}
 use Rattle.nx_slots.specs.declared.page.PageBytes.{PageBytes}
 use Rattle.nx_replay.specs.Log.{Entry, Group, entry_pages, logged}
 
@@ -32,6 +33,10 @@ AreWithin limit places = (p at : ℕ) → get nat_cmp places p ≡ Some (Some at
 abbrev pub MayWait : Places → ℕ → Type 0
 MayWait places page = (page < 16777216) × IsSome (get nat_cmp places page)
 
+-- a page in room of its own
+abbrev pub Kept : Type 0
+Kept = Box PageBytes Global
+
 -- all bytes of a page are there
-abbrev pub IsWholePage : PageBytes → Type 0
-IsWholePage page = length page.bytes ≡ 8192
+abbrev pub IsWholePage : Kept → Type 0
+IsWholePage kept = length kept.value.bytes ≡ 8192

@@ -21,11 +21,11 @@ length_of wal = wal.end
 
 -- the pages that wait for a commit, as the entries of its group, by their numbers
 abbrev pub pending : Wal → List Entry
-pending wal = entries_of wal.waiting.entries
+pending wal = entries_of wal.waiting.pages.entries
 
 -- the group that a commit with this number writes
 abbrev pub next_group : ℕ → Wal → Group
-next_group number wal = group_with number wal.waiting.entries
+next_group number wal = group_with number wal.waiting.pages.entries
 
 -- The object follows this log: it knows where the log ends, and where each of its pages stands.
 pub record Follows (wal : Wal) (log : List ℕ) : Type 0 where
@@ -57,7 +57,7 @@ pub record Ends (old new : Wal) : Type 0 where
 -- Why a call that goes to the disk gave up.
 abbrev pub Refused : {D : Type 0} → Ghosts D → WalError → Wal → Wal → D → D → Type 0
 Refused d error.Disk old new before after = Rose (d.faults before) (d.faults after) × Ends old new
-Refused d error.Ended old new before after = (has_ended old ≡ true) × (new ≡ old)
+Refused d error.Ended old new before after = (has_ended old ≡ true) × (new ≡ old) × (after ≡ before)
 Refused d error.Exists old new before after = ⊥
 Refused d error.NotAStore old new before after = ⊥
 Refused d error.Memory old new before after = ⊥

@@ -6,18 +6,18 @@ use Rattle.nx_host.specs.declared.disk.Disk.{Ghosts}
 use Rattle.byteorder.specs.Endian.{big_bytes}
 use Rattle.nx_host.specs.Still.{WritesAlone}
 use Rattle.nx_replay.specs.Log.{Entry, Group, group_bytes}
-use Rattle.nx_slots.specs.declared.page.PageBytes.{PageBytes}
+use Rattle.nx_wal.specs.Places.{Kept}
 
 -- pages as the entries of a group
-abbrev pub entries_of : List (ℕ × PageBytes) → List Entry
-entries_of es = map (λ e. record { page = e.0; bytes = e.1.bytes }) es
+abbrev pub entries_of : List (ℕ × Kept) → List Entry
+entries_of es = map (λ e. record { page = e.0; bytes = e.1.value.bytes }) es
 
 -- the group that these pages make
-abbrev pub group_with : ℕ → List (ℕ × PageBytes) → Group
+abbrev pub group_with : ℕ → List (ℕ × Kept) → Group
 group_with number es = record { number = number; entries = entries_of es }
 
 -- its bytes behind its gate, and the closed gate behind them
-abbrev pub body_of : ℕ → List (ℕ × PageBytes) → List ℕ
+abbrev pub body_of : ℕ → List (ℕ × Kept) → List ℕ
 body_of number es = group_bytes (group_with number es) ++ 0 ∷ []
 
 -- its number and the count of its pages

@@ -9,6 +9,7 @@ mod moving;
 mod pages;
 mod places;
 mod reading;
+mod waiting;
 mod wal;
 mod writing;
 

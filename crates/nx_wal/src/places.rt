@@ -20,31 +20,6 @@ pub(crate) fn place_of(places: &BTreeMap<u32, Option<u64>>, page: u32) -> Option
     }
 }
 
-// Gives a page that waits for a commit.
-pub(crate) fn read_waiting(
-    waiting: &BTreeMap<u32, PageBytes>,
-    page: u32,
-    into: &mut PageBytes,
-) -> bool
-    ensures found { result ≡ true → get nat_cmp waiting.now page ≡ Some into.new }
-    ensures none { result ≡ false → get nat_cmp waiting.now page ≡ None }
-    ensures untouched { result ≡ false → into.new ≡ into.old }
-{
-    if let Some(bytes) = waiting.get(&page) {
-        *into = *bytes;
-        return true;
-    }
-    false
-}
-
-// A page, all of whose bytes are there.
-pub(crate) fn copy_of(page: &PageBytes) -> PageBytes
-    ensures same { result ≡ page.now }
-    ensures whole { IsWholePage result }
-{
-    PageBytes { bytes: page.bytes }
-}
-
 // Makes an entry for a page that is to wait, where it has none.
 pub(crate) fn make_place(places: &mut BTreeMap<u32, Option<u64>>, page: u32) -> bool
     ensures leads { (q : ℕ) (log : List ℕ) → place_in (get nat_cmp places.new q) log ≡ place_in (get nat_cmp places.old q) log }
@@ -65,7 +40,7 @@ pub(crate) fn make_place(places: &mut BTreeMap<u32, Option<u64>>, page: u32) -> 
 // an entry, so that this takes no memory.
 pub(crate) fn set_places(
     places: &mut BTreeMap<u32, Option<u64>>,
-    waiting: &BTreeMap<u32, PageBytes>,
+    waiting: &BTreeMap<u32, Box<PageBytes>>,
     at: u64,
 )
     requires numbers { All (MayWait places.old) (keys waiting.now) }

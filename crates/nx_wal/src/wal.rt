@@ -1,18 +1,19 @@
 // Pages under a log.
-ghost use Rattle.std.specs.Prelude.{◌≡◌, ◌≢◌, ◌⊎◌, ◌++◌, ◌∷◌, [], ℕ, List, ◌+◌, ◌*◌, ◌/◌, ◌^◌, ◌<◌, ◌≤◌, length, true, false, All, Some, None, IsSome, IfSome, IfOk, IfErr, OnOk, OnErr};
+ghost use Rattle.std.specs.Prelude.{◌≡◌, ◌≢◌, ◌⊎◌, ◌++◌, ◌∷◌, [], ℕ, List, ◌+◌, ◌*◌, ◌/◌, ◌^◌, ◌<◌, ◌≤◌, length, true, false, is_some, if◌then◌else◌, All, Some, None, IsSome, IfSome, IfOk, IfErr, OnOk, OnErr};
 ghost use Rattle.std.specs.Option.{option_map};
-ghost use Rattle.std.specs.BTreeMap.{keys, values};
+ghost use Rattle.std.specs.BTreeMap.{keys};
 ghost use Rattle.std.proofs.Props.{props};
 ghost use Rattle.nx_host.specs.Disk.{Image};
 ghost use Rattle.nx_host.specs.Still.{IsStill, IsSettled, WritesAlone};
 ghost use Rattle.nx_replay.specs.Log.{replay, over, groups, size_of, entry_pages, Stays, HasSame, HasGroup};
-ghost use Rattle.nx_wal.specs.Places.{MayWait, IsWholePage};
+ghost use Rattle.nx_wal.specs.Places.{MayWait};
 
 use crate::block::Block;
 use crate::moving::empty_log;
 use crate::pages::{area_count, read_page};
-use crate::places::{copy_of, logged_count, make_place, read_waiting, set_places};
+use crate::places::{logged_count, make_place, set_places};
 use crate::reading::{open_log, shut_of_none};
+use crate::waiting::Waiting;
 use crate::writing::write_group;
 use crate::{PageBytes, WalError};
 use nx_host::Disk;
@@ -28,14 +29,13 @@ use std::collections::BTreeMap;
 pub struct Wal {
     // Where the log has a page, or none where it only waits.
     places: BTreeMap<u32, Option<u64>>,
-    waiting: BTreeMap<u32, PageBytes>,
+    waiting: Waiting,
     block: Block,
     // Where the log ends, and whether a closed byte stands there.
     end: u64,
     shut: bool,
     ended: bool,
-    ghost numbers: { All (MayWait places) (keys waiting) } by { Prim.hlevel props },
-    ghost whole: { All IsWholePage (values waiting) } by { Prim.hlevel props },
+    ghost numbers: { All (MayWait places) (keys waiting.pages) } by { Prim.hlevel props },
 }
 
 impl Wal {
@@ -64,7 +64,7 @@ impl Wal {
         };
         Ok(Wal {
             places: BTreeMap::new(alloc),
-            waiting: BTreeMap::new(alloc),
+            waiting: Waiting::new(alloc),
             block,
             end: 0,
             shut,
@@ -92,7 +92,7 @@ impl Wal {
         };
         Ok(Wal {
             places: opened.places,
-            waiting: BTreeMap::new(alloc),
+            waiting: Waiting::new(alloc),
             block,
             end: opened.end.at,
             shut: opened.end.shut,
@@ -121,7 +121,8 @@ impl Wal {
         if self.ended {
             return Err(WalError::Ended);
         }
-        if read_waiting(&self.waiting, page, into) {
+        if let Some(bytes) = self.waiting.get(page) {
+            *into = *bytes;
             return Ok(true);
         }
         let Ok(found) = read_page(disk, &self.places, page, into) else {
@@ -135,11 +136,12 @@ impl Wal {
     pub fn waiting(&self, page: u32) -> Option<&PageBytes>
         ensures { option_map (λ bytes. bytes.now.bytes) result ≡ entry_pages (pending self.now) page }
     {
-        self.waiting.get(&page)
+        self.waiting.get(page)
     }
 
-    /// Makes a page wait for a commit, in place of one that waits under the same number. It takes
-    /// all the memory that the commit needs.
+    /// Makes a page wait for a commit, in place of one that waits under the same number, which is
+    /// below 16,777,216. It takes all the memory that the commit needs, and keeps that of a page for
+    /// later ones.
     ///
     /// Errors: `Memory`; `Ended` exactly where an earlier call answered `Disk`. The pages that wait
     /// stay then.
@@ -148,6 +150,7 @@ impl Wal {
         ensures follows { (log : List ℕ) → Follows self.old log → Follows self.new log }
         ensures pending { OnOk result (entry_pages (pending self.new) ≡ over (entry_pages (record { page = page; bytes = bytes.now.bytes } ∷ [])) (entry_pages (pending self.old))) }
         ensures some { OnOk result (pending self.new ≢ []) }
+        ensures count { OnOk result (length (pending self.new) ≡ length (pending self.old) + (if is_some (entry_pages (pending self.old) page) then 0 else 1)) }
         ensures stays { (length_of self.new ≡ length_of self.old) × (has_ended self.new ≡ has_ended self.old) }
         ensures open { OnOk result (has_ended self.old ≡ false) }
         ensures refused { IfErr result (λ e. (e ≡ WalError.Memory ⊎ (e ≡ WalError.Ended) × (has_ended self.old ≡ true)) × (pending self.new ≡ pending self.old)) }
@@ -158,7 +161,7 @@ impl Wal {
         if !make_place(&mut self.places, page) {
             return Err(WalError::Memory);
         }
-        let Ok(_) = self.waiting.insert(page, copy_of(bytes)) else {
+        let Ok(()) = self.waiting.put(page, bytes) else {
             return Err(WalError::Memory);
         };
         Ok(())
@@ -184,19 +187,19 @@ impl Wal {
         if self.ended {
             return Err(WalError::Ended);
         }
-        let count = self.waiting.len() as u64;
+        let count = self.waiting.pages.len() as u64;
         let Ok(_) = write_group(
             disk,
             &mut self.block,
             self.end,
             self.shut,
             number,
-            &self.waiting,
+            &self.waiting.pages,
         ) else {
             self.ended = true;
             return Err(WalError::Disk);
         };
-        set_places(&mut self.places, &self.waiting, self.end + 13);
+        set_places(&mut self.places, &self.waiting.pages, self.end + 13);
         self.waiting.clear();
         self.end += 13 + 8_196 * count;
         self.shut = true;

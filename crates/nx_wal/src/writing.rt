@@ -156,7 +156,7 @@ fn add_page<D: Disk>(
 fn add_pages<D: Disk>(
     disk: &mut D,
     block: &mut Block,
-    waiting: &BTreeMap<u32, PageBytes>,
+    waiting: &BTreeMap<u32, Box<PageBytes>>,
 ) -> Result<(), Failed>
     requires { block.old.at + length block.old.bytes.items + 8196 * btree_map_len waiting.now ≤ 2 ^ 63 }
     ensures adds { OnOk result (Adds D.Disk (entry_bytes (entries_of waiting.now.entries)) block.old block.new disk.old disk.new) }
@@ -167,7 +167,7 @@ fn add_pages<D: Disk>(
     ensures cause { OnErr result (Rose (D.faults disk.old) (D.faults disk.new)) }
 {
     for (page, bytes) in waiting {
-        add_page(disk, block, *page, bytes)?;
+        add_page(disk, block, *page, bytes.as_ref())?;
     }
     Ok(())
 }
@@ -186,7 +186,7 @@ fn write_body<D: Disk>(
     block: &mut Block,
     at: u64,
     number: u64,
-    waiting: &BTreeMap<u32, PageBytes>,
+    waiting: &BTreeMap<u32, Box<PageBytes>>,
 ) -> Result<(), Failed>
     requires low { at + 13 + 8196 * btree_map_len waiting.now ≤ 2 ^ 63 }
     requires few { btree_map_len waiting.now < 2 ^ 32 }
@@ -246,7 +246,7 @@ fn lay_waiting<D: Disk>(
     block: &mut Block,
     end: u64,
     number: u64,
-    waiting: &BTreeMap<u32, PageBytes>,
+    waiting: &BTreeMap<u32, Box<PageBytes>>,
 ) -> Result<(), Failed>
     requires low { end + 14 + 8196 * btree_map_len waiting.now ≤ 2 ^ 63 }
     requires few { btree_map_len waiting.now < 2 ^ 32 }
@@ -282,7 +282,7 @@ pub(crate) fn write_group<D: Disk>(
     end: u64,
     shut: bool,
     number: u64,
-    waiting: &BTreeMap<u32, PageBytes>,
+    waiting: &BTreeMap<u32, Box<PageBytes>>,
 ) -> Result<(), Failed>
     requires low { end + 14 + 8196 * btree_map_len waiting.now ≤ 2 ^ 63 }
     requires few { btree_map_len waiting.now < 2 ^ 32 }

@@ -2,8 +2,9 @@ use Rattle.std.proofs.Common.{◌≡◌, ◌+◌, ◌*◌, ◌≤◌, ◌++◌, 
 use Rattle.std.specs.Map.Iter.{deref_pair}
 use Rattle.std.proofs.lemmas.Map.Iter.{rest_more}
 use Rattle.byteorder.specs.Endian.{big_bytes}
-use Rattle.nx_slots.specs.declared.page.PageBytes.{PageBytes}
 use Rattle.nx_replay.specs.Log.{entry_bytes}
+use Rattle.nx_slots.specs.declared.page.PageBytes.{PageBytes}
+use Rattle.nx_wal.specs.Places.{Kept}
 use Rattle.nx_wal.specs.Writing.{entries_of}
 use Rattle.nx_wal.specs.Gathering.{Adds}
 use Rattle.nx_wal.proofs.WritingLemmas.{page_more}
@@ -41,17 +42,19 @@ returns-in_err-add_page-clause-reaches g c =
 pub loop-page-preserved : goal.loop-page-preserved
 loop-page-preserved g c =
     let so_far = c.loop-page.invariant in
-    let item : ℕ × PageBytes = (c.in-Some.page.now, c.in-Some.bytes.now) in
+    let item : ℕ × Kept = (c.in-Some.page.now, c.in-Some.bytes.now) in
     let more = rest_more deref_pair c.loop-page.page-iterator c.next.new.self c.next.result (c.in-Some.page, c.in-Some.bytes) c.in-Some.is c.next.ensures.steps in
     let longer : length (so_far.gone ++ item ∷ []) ≡ length so_far.gone + 1 = length-append so_far.gone (item ∷ []) in
-    let bytes : entry_bytes (entries_of (so_far.gone ++ item ∷ [])) ≡ entry_bytes (entries_of so_far.gone) ++ (big_bytes 4 item.0 ++ item.1.bytes) = page_more so_far.gone item in
-    let page_long : length (big_bytes 4 item.0 ++ item.1.bytes) ≡ 8196 = let long = c.in_ok-add_page.ensures.long in omega (arith, long) in
+    let page = c.as_ref.result.now in
+    let bytes : entry_bytes (entries_of (so_far.gone ++ item ∷ [])) ≡ entry_bytes (entries_of so_far.gone) ++ (big_bytes 4 item.0 ++ page.bytes) =
+    page_more so_far.gone item ∙ ap (λ (p : PageBytes). entry_bytes (entries_of so_far.gone) ++ (big_bytes 4 item.0 ++ p.bytes)) (sym c.as_ref.ensures) in
+    let page_long : length (big_bytes 4 item.0 ++ page.bytes) ≡ 8196 = let long = c.in_ok-add_page.ensures.long in omega (arith, long) in
     record {
       gone = so_far.gone ++ item ∷ [];
-      split = append_assoc so_far.gone (item ∷ []) c.next.new.self ∙ ap (λ (es : List (ℕ × PageBytes)). so_far.gone ++ es) (sym more) ∙ so_far.split;
+      split = append_assoc so_far.gone (item ∷ []) c.next.new.self ∙ ap (λ (es : List (ℕ × Kept)). so_far.gone ++ es) (sym more) ∙ so_far.split;
       ends = omega (arith, so_far.ends, longer, c.in_ok-add_page.ensures.ends);
       adds = subst (λ (x : List ℕ). Adds g.D.Disk x c.args.block.now c.add_page.new.block c.args.disk.now c.add_page.new.disk) (sym bytes) (adds_then so_far.adds c.in_ok-add_page.ensures.adds);
-      long = omega (arith, so_far.long, longer, page_long, ap length bytes, length-append (entry_bytes (entries_of so_far.gone)) (big_bytes 4 item.0 ++ item.1.bytes));
+      long = omega (arith, so_far.long, longer, page_long, ap length bytes, length-append (entry_bytes (entries_of so_far.gone)) (big_bytes 4 item.0 ++ page.bytes));
       faults = omega (arith, so_far.faults, c.add_page.ensures.faults);
     }
 

@@ -1,13 +1,13 @@
 use Rattle.std.proofs.Common.{ℕ, ◌≡◌, ◌+◌, ◌*◌, ◌≤◌, ◌++◌, List, length}
-use Rattle.nx_slots.specs.declared.page.PageBytes.{PageBytes}
 use Rattle.nx_replay.specs.Log.{entry_bytes}
+use Rattle.nx_wal.specs.Places.{Kept}
 use Rattle.nx_wal.specs.Writing.{entries_of}
 use Rattle.nx_wal.specs.Gathering.{Adds}
 use Rattle.nx_wal.proofs.writing.add_pages.Given as goal
 
 abbrev pub invariant-loop-page : goal.invariant-loop-page
 invariant-loop-page g l = record {
-  gone : List (ℕ × PageBytes);
+  gone : List (ℕ × Kept);
   split : gone ++ l.page-iterator ≡ l.waiting.entries;
   ends : l.block.at + length l.block.bytes.items ≡ l.initial.block.at + length l.initial.block.bytes.items + 8196 * length gone;
   adds : Adds g.D.Disk (entry_bytes (entries_of gone)) l.initial.block l.block l.initial.disk l.disk;

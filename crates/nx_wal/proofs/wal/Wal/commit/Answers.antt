@@ -39,7 +39,7 @@ returns-clause-goes g c =
 pub returns-clause-ok : goal.returns-clause-ok
 returns-clause-ok g c was now step told =
     let wal = c.args.self.now in
-    let es = wal.waiting.entries in
+    let es = wal.waiting.pages.entries in
     let group = next_group c.args.number wal in
     let body = next_body wal c.len-count.ensures.ordered c.args.number c.ranges.number.fits c.requires.room c.requires.some in
     let done = c.in-Ok.ensures.ok was now group (opened_step c.requires.room step) body told in
@@ -61,7 +61,7 @@ returns-clause-ok g c was now step told =
 
 pub returns-clause-length : goal.returns-clause-length
 returns-clause-length g c =
-    let es = c.args.self.now.waiting.entries in
+    let es = c.args.self.now.waiting.pages.entries in
     let mapped : length (entries_of es) ≡ length es = simp length-map in
     let count : c.len-count.result ≡ length es = c.len-count.ensures.len in
     omega (arith, mapped, count)

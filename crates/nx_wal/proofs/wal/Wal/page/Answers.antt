@@ -3,15 +3,14 @@ use Rattle.std.specs.Prelude.{Option}
 use Rattle.std.specs.Option.{option_or}
 use Rattle.nx_replay.specs.Log.{replay}
 use Rattle.nx_wal.proofs.WalLemmas.{led}
-use Rattle.nx_wal.proofs.PageLemmas.{pending_found, pending_none}
+use Rattle.nx_wal.proofs.PageLemmas.{page_waits, none_waits}
 use Rattle.nx_wal.proofs.wal.Wal.page.Goals as goal
 
-pub returns-then-read_waiting-clause-ok : goal.returns-then-read_waiting-clause-ok
-returns-then-read_waiting-clause-ok g c = (
+pub returns-in-Some-clause-ok : goal.returns-in-Some-clause-ok
+returns-in-Some-clause-ok g c = (
   refl,
   c.if-self.false,
-  λ was step. ap (λ (o : Option (List ℕ)). option_or o (replay was c.args.page))
-      (pending_found c.args.self.now.waiting.entries c.args.page c.read_waiting.new.into (c.read_waiting.ensures.found c.if-read_waiting.true)),
+  λ was step. ap (λ (o : Option (List ℕ)). option_or o (replay was c.args.page)) (page_waits c.args.self.now.waiting.pages.entries c.args.page c.in-Some.bytes c.get.ensures c.in-Some.is),
 )
 
 pub returns-clause-ok : goal.returns-clause-ok
@@ -20,6 +19,6 @@ returns-clause-ok g c = (
   c.if-self.false,
   λ was step.
       let here = led g.D.Disk c.args.self.now c.args.disk.now was step in
-      ap (λ (o : Option (List ℕ)). option_or o (replay was c.args.page)) (pending_none c.args.self.now.waiting.entries c.args.page (c.read_waiting.ensures.none c.if-read_waiting.false))
+      ap (λ (o : Option (List ℕ)). option_or o (replay was c.args.page)) (none_waits c.args.self.now.waiting.pages.entries c.args.page c.in_default.ensures)
       ∙ c.in-Ok.ensures.found was (step.settled).here here.leads here.within,
 )

@@ -1,15 +1,15 @@
-use Rattle.std.proofs.Common.{[], ◌∷◌, refl, sym, ap, subst, ◌∙◌}
+use Rattle.std.proofs.Common.{[], ◌∷◌, ℕ, List, refl, sym, ap, subst, ◌∙◌}
 use Rattle.std.specs.Option.{option_or}
 use Rattle.nx_slots.specs.declared.page.PageBytes.{PageBytes}
 use Rattle.nx_replay.specs.Log.{entry_pages}
 use Rattle.nx_wal.specs.Writing.{entries_of}
 use Rattle.std.specs.Prelude.{All}
-use Rattle.std.specs.Map.{keys_of, values_of}
+use Rattle.std.specs.Map.{keys_of}
 use Rattle.std.specs.Ordering.{nat_cmp}
-use Rattle.std.proofs.lemmas.Map.Views.{All-keys-insert_entry, All-values-insert_entry}
-use Rattle.nx_wal.specs.Places.{MayWait, IsWholePage}
+use Rattle.std.proofs.lemmas.Map.Views.{All-keys-insert_entry}
+use Rattle.nx_wal.specs.Places.{Kept, MayWait}
 use Rattle.nx_wal.proofs.ListLemmas.{either_way}
-use Rattle.nx_wal.proofs.WalLemmas.{follows_same, put_at, some_waits}
+use Rattle.nx_wal.proofs.WalLemmas.{follows_same, put_at, some_waits, count_more}
 use Rattle.nx_wal.proofs.wal.Wal.put.Goals as goal
 
 pub returns-then-not-make_place-clause-follows : goal.returns-then-not-make_place-clause-follows
@@ -23,25 +23,23 @@ returns-clause-follows c log = follows_same c.args.self.now _ log refl refl c.ma
 
 pub returns-clause-pending : goal.returns-clause-pending
 returns-clause-pending c = λ i p. (
-    put_at c.args.self.now.waiting c.insert.new.self c.args.page c.copy_of.result c.in-Ok.ensures.updates.0 p
-    ∙ ap (λ (b : PageBytes). option_or (entry_pages (record { page = c.args.page; bytes = b.bytes } ∷ []) p) (entry_pages (entries_of c.args.self.now.waiting.entries) p)) c.copy_of.ensures.same
+    put_at c.args.self.now.waiting.pages c.put.new.self.pages c.args.page c.in-Ok.ensures.ok.0 c.in-Ok.ensures.ok.2.0 p
+    ∙ ap (λ (b : PageBytes). option_or (entry_pages (record { page = c.args.page; bytes = b.bytes } ∷ []) p) (entry_pages (entries_of c.args.self.now.waiting.pages.entries) p)) c.in-Ok.ensures.ok.1
     ) i
 
-pub invariant_of-self-2-clause-numbers : goal.invariant_of-self-2-clause-numbers
-invariant_of-self-2-clause-numbers c =
-    let can = MayWait c.make_place.new.places in
-    let were : All can (keys_of c.args.self.now.waiting.entries) = λ k d within. let was = c.args.self.now.numbers k d within in (was.0, c.make_place.ensures.keeps _ was.1) in
-    either_way c.insert.result c.insert.ensures.entries c.insert.ensures.err
-    (λ same. subst (λ es. All can (keys_of es)) (sym same)
-    (All-keys-insert_entry nat_cmp c.args.page c.copy_of.result can c.args.self.now.waiting.entries were (c.requires, c.make_place.ensures.made c.if-not-make_place.false)))
-    (λ same. subst (λ es. All can (keys_of es)) (sym same) were)
+pub returns-clause-count : goal.returns-clause-count
+returns-clause-count c = count_more c.args.self.now.waiting.pages.entries c.put.new.self.pages.entries c.args.page c.in-Ok.ensures.count
 
-pub invariant_of-self-2-clause-whole : goal.invariant_of-self-2-clause-whole
-invariant_of-self-2-clause-whole c =
-    either_way c.insert.result c.insert.ensures.entries c.insert.ensures.err
-    (λ same. subst (λ es. All IsWholePage (values_of es)) (sym same)
-    (All-values-insert_entry nat_cmp c.args.page c.copy_of.result IsWholePage c.args.self.now.waiting.entries c.args.self.now.whole c.copy_of.ensures.whole))
-    (λ same. subst (λ es. All IsWholePage (values_of es)) (sym same) c.args.self.now.whole)
+pub invariant_of-self-2 : goal.invariant_of-self-2
+invariant_of-self-2 c =
+    let can = MayWait c.make_place.new.places in
+    let were : All can (keys_of c.args.self.now.waiting.pages.entries) = λ k d within. let was = c.args.self.now.numbers k d within in (was.0, c.make_place.ensures.keeps _ was.1) in
+    let stay : All can (keys_of c.put.new.self.pages.entries) =
+    either_way c.put.result c.put.ensures.ok c.put.ensures.err
+    (λ done. subst (λ (es : List (ℕ × Kept)). All can (keys_of es)) (sym done.3)
+    (All-keys-insert_entry nat_cmp c.args.page done.0 can c.args.self.now.waiting.pages.entries were (c.requires, c.make_place.ensures.made c.if-not-make_place.false)))
+    (λ same. subst (λ (es : List (ℕ × Kept)). All can (keys_of es)) (sym same) were) in
+    record { numbers = stay }
 
 pub returns-clause-some : goal.returns-clause-some
-returns-clause-some c none = some_waits c.insert.new.self.entries c.args.page c.copy_of.result c.in-Ok.ensures.updates.1 none
+returns-clause-some c none = some_waits c.put.new.self.pages.entries c.args.page c.in-Ok.ensures.ok.0 c.in-Ok.ensures.ok.2.1 none
