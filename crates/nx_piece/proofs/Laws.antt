@@ -10,7 +10,7 @@ use Rattle.nx_piece.specs.declared.piece.Stored.TheVariants.{Inline, Chained}
 use Rattle.nx_piece.specs.Decoded.{IsDecoded}
 use Rattle.nx_piece.specs.Gapped.{Gapped, End, Grow, Gap, width, gapped_weight, slots_in}
 use Rattle.nx_piece.specs.Encoding.{proxy_bytes, proxies_bytes, body_bytes, encoding}
-use Rattle.nx_piece.specs.Valid.{IsValid, IsValidBody, IsValidInline, IsValidChained, IsPiece, HaveRoots, HaveNumbers, HasNumbers, inline_length}
+use Rattle.nx_piece.specs.Valid.{AreApart, AreTrees, BeginsNoGap, IsValid, IsValidBody, IsValidInline, IsValidChained, IsPiece, HaveRoots, HaveNumbers, HasNumbers, inline_length}
 use Rattle.nx_piece.specs.Weight.{HaveShortNodes}
 use Rattle.nx_piece.proofs.ApartLemmas.{two_unique, four_unique}
 use Rattle.nx_piece.proofs.BodyLemmas.{body_unique, items_length, proxies_length}
@@ -88,3 +88,26 @@ pub are_short : (f : Gapped) → gapped_weight f ≤ 512 → HaveShortNodes f
 are_short End h = tt
 are_short (Grow n b s) h = (omega arith, are_short b (omega arith), are_short s (omega arith))
 are_short (Gap c s) h = are_short s h
+
+slots_apart : (f : Gapped) → AreApart f → (slots_in f ≤ 3 * gapped_weight f + 1) × (BeginsNoGap f → slots_in f ≤ 3 * gapped_weight f)
+slots_apart End h = (omega arith, λ _. omega arith)
+slots_apart (Grow n b s) h =
+    let p = slots_apart b h.0 in let q = slots_apart s h.1 in
+    let x : slots_in b ≤ 3 * gapped_weight b + 1 = p.0 in let y : slots_in s ≤ 3 * gapped_weight s + 1 = q.0 in
+    (omega arith, λ _. omega arith)
+slots_apart (Gap c s) h =
+    let q = slots_apart s h.2 in
+    let y : slots_in s ≤ 3 * gapped_weight s = q.1 h.1 in
+    (omega arith, λ bad. absurd bad)
+
+begins_no_gap : (f : Gapped) → AreTrees f → BeginsNoGap f
+begins_no_gap End h = tt
+begins_no_gap (Grow n b s) h = tt
+begins_no_gap (Gap c s) h = absurd h
+
+-- without its proxies a piece fits in a record
+pub body_fits : (f : Gapped) (count : ℕ) → IsValidBody f count → 16 + 8 * slots_in f ≤ 6160
+body_fits f count h =
+    let light : gapped_weight f ≤ 256 = h.light in
+    let few : slots_in f ≤ 3 * gapped_weight f = (slots_apart f h.apart).1 (begins_no_gap f h.trees) in
+    omega (arith, light, few)

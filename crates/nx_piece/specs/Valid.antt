@@ -1,5 +1,5 @@
 -- Which pieces may be stored, and in which of the two forms.
-use Rattle.std.specs.Prelude.{◌≡◌, ℕ, ◌+◌, ◌*◌, ◌<◌, ◌≤◌, List, [], ◌∷◌, length}
+use Rattle.std.specs.Prelude.{◌≡◌, ℕ, ◌+◌, ◌*◌, ◌<◌, ◌≤◌, nat_le, Bool, List, [], ◌∷◌, length}
 use Rattle.nx_weights.specs.Weight.{weight}
 use Rattle.nx_piece.specs.declared.piece.Piece.{Piece}
 use Rattle.nx_piece.specs.declared.piece.Proxy.{Proxy}
@@ -65,6 +65,15 @@ pub record IsValidChained (roots : Gapped) (proxies : ℕ) : Type 0 where
 abbrev pub IsValid : Stored → Type 0
 IsValid (Inline piece) = IsValidInline piece.body.roots piece.proxies
 IsValid (Chained body count chain) = IsValidChained body.roots count
+
+-- the piece may be stored, in one form or the other
+pub record IsValidPiece (piece : Piece) : Type 0 where
+  pub body : IsValidBody piece.body.roots (length piece.proxies)
+  pub ranged : HaveRoots piece.proxies
+
+-- its proxies stand in its record
+abbrev pub is_inline : Piece → Bool
+is_inline piece = nat_le (inline_length piece.body.roots (length piece.proxies)) longest_inline
 
 -- the pages and slots of the proxies fit their fields
 abbrev pub HaveNumbers : List Proxy → Type 0

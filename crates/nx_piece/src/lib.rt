@@ -14,6 +14,6 @@ mod writing;
 
 pub use locating::{Located, children, locate};
 pub use piece::{Body, Item, Items, Piece, PieceTree, PieceTrees, Proxies, Proxy, Stored};
-pub use reading::decode;
+pub use reading::{decode, decode_proxies};
 pub use weighing::weight;
-pub use writing::encode;
+pub use writing::{encode, encode_chained, encode_inline, encode_proxies, fits_inline};

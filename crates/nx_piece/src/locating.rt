@@ -36,8 +36,8 @@ enum Found<'a> {
     Root(u32, u16),
 }
 
-/// Where the path leads that begins at the root `member` of the piece. A proxy counts as as many children
-/// as it has roots. It takes no memory.
+/// Where the path leads that begins at the root `member` of a piece of at most 512 slots and 257
+/// roots; to no child where it has no such root. A proxy counts as as many children as it has roots. It takes no memory.
 pub fn locate<'a>(piece: &'a Piece, member: u16, path: &[u32]) -> Located<'a>
     requires { IsPiece piece.now }
     ensures { IsLocated piece.now (reached_in piece.now member path.now) result }

@@ -18,7 +18,7 @@ use nx_weights::weight;
 use std::alloc::Global;
 
 // The most bytes of a record with its proxies.
-const LONGEST_INLINE: usize = 8176;
+pub(crate) const LONGEST_INLINE: usize = 8176;
 
 /// What a record of these bytes holds: `Some` of a valid piece exactly where they are the bytes of it, and else
 /// `None`. Of a piece whose proxies stand in a chain only the number of them is looked at.
@@ -40,7 +40,7 @@ pub fn decode(alloc: Global, bytes: &[u8]) -> Result<Option<Stored>, NoMemory>
             if length > LONGEST_INLINE {
                 return Ok(None);
             }
-            let Some(proxies) = read_proxies(alloc, rest, count)? else {
+            let Some(proxies) = decode_proxies(alloc, rest, count)? else {
                 return Ok(None);
             };
             Ok(Some(Stored::Inline(Piece { body, proxies })))
@@ -56,6 +56,28 @@ pub fn decode(alloc: Global, bytes: &[u8]) -> Result<Option<Stored>, NoMemory>
         }
         _ => Ok(None),
     }
+}
+
+/// So many proxies, each with 1 to 256 roots, exactly where the bytes are those of them, and else
+/// `None`. A chain holds proxies so.
+///
+/// Errors: `NoMemory`.
+pub fn decode_proxies(alloc: Global, bytes: &[u8], count: u32) -> Result<Option<Proxies>, NoMemory>
+    ensures { IfOk result (λ read. MatchOption read (AreNoProxies bytes.now count) (λ proxies. (bytes.now ≡ proxies_bytes proxies) × HaveRoots proxies × (length proxies ≡ count) × HaveNumbers proxies)) }
+{
+    let mut proxies = Proxies::with_capacity(alloc, count as usize)?;
+    let mut rest = bytes;
+    for _ in 0..count {
+        let Some((proxy, behind)) = read_proxy(rest) else {
+            return Ok(None);
+        };
+        proxies.push(proxy)?;
+        rest = behind;
+    }
+    if !rest.is_empty() {
+        return Ok(None);
+    }
+    Ok(Some(proxies))
 }
 
 // The head, the nodes, what stands behind them, and how many bytes the inline form takes.
@@ -353,25 +375,6 @@ fn read_chain(bytes: &[u8]) -> Option<(u32, u32, &[u8])>
     let proxies = u32::from_be_bytes([*p3, *p2, *p1, *p0]);
     let chain = u32::from_be_bytes([*c3, *c2, *c1, *c0]);
     Some((proxies, chain, rest))
-}
-
-// All the bytes as so many proxies.
-fn read_proxies(alloc: Global, bytes: &[u8], count: u32) -> Result<Option<Proxies>, NoMemory>
-    ensures { IfOk result (λ read. MatchOption read (AreNoProxies bytes.now count) (λ proxies. (bytes.now ≡ proxies_bytes proxies) × HaveRoots proxies × (length proxies ≡ count) × HaveNumbers proxies)) }
-{
-    let mut proxies = Proxies::with_capacity(alloc, count as usize)?;
-    let mut rest = bytes;
-    for _ in 0..count {
-        let Some((proxy, behind)) = read_proxy(rest) else {
-            return Ok(None);
-        };
-        proxies.push(proxy)?;
-        rest = behind;
-    }
-    if !rest.is_empty() {
-        return Ok(None);
-    }
-    Ok(Some(proxies))
 }
 
 // A proxy of 1 to 256 roots, and what stands behind it.

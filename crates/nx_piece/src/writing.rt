@@ -4,9 +4,10 @@ ghost use Rattle.std.proofs.Math.ListN.{replicate};
 ghost use Rattle.nx_weights.specs.Weight.{weight};
 ghost use Rattle.nx_piece.specs.Gapped.{item_count, grown_of, width, slots_in};
 ghost use Rattle.nx_piece.specs.Encoding.{two, four, kind_byte, items_head_bytes, proxies_head_bytes, node_head_bytes, node_bytes, run_bytes, tree_bytes, items_bytes, proxies_bytes, head_bytes, body_bytes, encoding};
-ghost use Rattle.nx_piece.specs.Valid.{IsValid, HasNumbers, HaveNumbers, IsValidBody, IsSmall, IsSmallTree};
+ghost use Rattle.nx_piece.specs.Valid.{IsValid, IsValidPiece, is_inline, HasNumbers, HaveNumbers, IsValidBody, IsSmall, IsSmallTree};
 
-use crate::{Body, Item, PieceTree, Proxy, Stored};
+use crate::reading::LONGEST_INLINE;
+use crate::{Body, Item, Piece, PieceTree, Proxy, Stored};
 use nx_tree::{Bytes, Kind, NoMemory, Node};
 use nx_weights::weight;
 use std::alloc::Global;
@@ -20,21 +21,65 @@ pub fn encode(alloc: Global, stored: &Stored) -> Result<Bytes, NoMemory>
     ensures numbers { IfOk result (λ _. HasNumbers stored.now) }
 {
     match stored {
-        Stored::Inline(piece) => {
-            let proxies = piece.proxies.as_slice();
-            let mut out = encode_body(
-                alloc,
-                1,
-                &piece.body,
-                proxies.len() as u32,
-                0,
-                proxies.len(),
-            )?;
-            push_proxies(proxies, &mut out)?;
-            Ok(out)
-        }
-        Stored::Chained { body, count, chain } => encode_body(alloc, 2, body, *count, *chain, 0),
+        Stored::Inline(piece) => encode_inline(alloc, piece),
+        Stored::Chained { body, count, chain } => encode_chained(alloc, body, *count, *chain),
     }
+}
+
+/// Whether a valid piece is stored with its proxies in its record, which then has at most 8,176
+/// bytes. It takes no memory.
+pub fn fits_inline(piece: &Piece) -> bool
+    requires { IsValidPiece piece.now }
+    ensures { result ≡ is_inline piece.now }
+{
+    let slots = measure_all(piece.body.roots.as_slice()).slots as usize + piece.proxies.len();
+    16 + 8 * slots <= LONGEST_INLINE
+}
+
+/// The bytes of the record that holds the piece with its proxies.
+///
+/// Errors: `NoMemory`.
+pub fn encode_inline(alloc: Global, piece: &Piece) -> Result<Bytes, NoMemory>
+    requires { IsValid (Stored.Inline piece.now) }
+    ensures bytes { IfOk result (λ bytes. bytes ≡ encoding (Stored.Inline piece.now)) }
+    ensures numbers { IfOk result (λ _. HasNumbers (Stored.Inline piece.now)) }
+{
+    let proxies = piece.proxies.as_slice();
+    let mut out = encode_body(
+        alloc,
+        1,
+        &piece.body,
+        proxies.len() as u32,
+        0,
+        proxies.len(),
+    )?;
+    push_proxies(proxies, &mut out)?;
+    Ok(out)
+}
+
+/// The bytes of the record that holds the nodes of a piece, with the number of its proxies and the
+/// first page of the chain that holds them.
+///
+/// Errors: `NoMemory`.
+pub fn encode_chained(alloc: Global, body: &Body, count: u32, chain: u32) -> Result<Bytes, NoMemory>
+    requires { IsValid (Stored.Chained body.now count chain) }
+    ensures bytes { IfOk result (λ bytes. bytes ≡ encoding (Stored.Chained body.now count chain)) }
+    ensures numbers { IfOk result (λ _. HasNumbers (Stored.Chained body.now count chain)) }
+{
+    encode_body(alloc, 2, body, count, chain, 0)
+}
+
+/// The bytes of proxies as a chain holds them. There are at most 524,288.
+///
+/// Errors: `NoMemory`.
+pub fn encode_proxies(alloc: Global, proxies: &[Proxy]) -> Result<Bytes, NoMemory>
+    requires { length proxies.now ≤ 524288 }
+    ensures bytes { IfOk result (λ bytes. bytes ≡ proxies_bytes proxies.now) }
+    ensures numbers { IfOk result (λ _. HaveNumbers proxies.now) }
+{
+    let mut out = Bytes::with_capacity(alloc, 8 * proxies.len())?;
+    push_proxies(proxies, &mut out)?;
+    Ok(out)
 }
 
 // The head and the items, with room for so many slots of 8 bytes behind them.

@@ -1,7 +1,7 @@
 use Rattle.std.proofs.Common.{arith, ◌<◌, length}
 use Rattle.std.proofs.lemmas.Bool.Decides.{nat_tests}
 use Rattle.nx_piece.proofs.BodyLemmas.{proxy_read, no_proxies, more_bytes}
-use Rattle.nx_piece.proofs.reading.read_proxies.Goals as goal
+use Rattle.nx_piece.proofs.reading.decode_proxies.Goals as goal
 
 pub returns-in_default : goal.returns-in_default
 returns-in_default c =
