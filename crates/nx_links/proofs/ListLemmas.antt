@@ -1,19 +1,18 @@
 -- Reading byte lists page by page.
-use Rattle.std.proofs.Common.{◌≡◌, ◌⊎◌, ℕ, ◌+◌, ◌-◌, ◌<◌, ◌≤◌, List, [], ◌∷◌, ◌++◌, length, refl, sym, ap, subst, ◌∙◌, arith, Bool, true, false, inl, inr, length-append}
-use Rattle.std.specs.Prelude.{◌==◌, ◌≢◌, ◌^◌, min, if◌then◌else◌, Option, Some, None}
+use Rattle.std.proofs.Common.{◌≡◌, ◌⊎◌, ℕ, ◌+◌, ◌<◌, ◌≤◌, List, [], ◌∷◌, ◌++◌, length, refl, sym, ap, subst, ◌∙◌, arith, Bool, false, inl, inr, length-append}
+use Rattle.std.specs.Prelude.{◌==◌, ◌≢◌, ◌^◌, if◌then◌else◌, Option, Some, None}
 use Rattle.std.proofs.lemmas.List.{append_assoc, append-nil}
 use Rattle.nx_replay.specs.Log.{Pages}
 use Rattle.nx_links.specs.Lists.{IsLinkAt, IsListFrom, IsListStep, IsNamed, IsReadTo}
-use Rattle.nx_chain.specs.Chain.{chain_bytes, IsChainPage}
-use Rattle.nx_chain.proofs.Chain.{says_next, says_content, says_length}
+use Rattle.nx_chain.specs.Chain.{chain_bytes}
 use Rattle.std.proofs.lemmas.Bool.{cases_Bool, eqb-true, eq-eqb, false≢true}
 use Rattle.std.specs.List.{AllByRecursion}
 use Rattle.nx_holdings.specs.declared.header.Header.{Header}
-use Rattle.nx_holdings.specs.Holdings.{Link, IsLink, AreLinked, Chain, links_of, list_at, next_of, content_of, pages_of_links, pages_of_chains, times, Held, HoldsBy}
+use Rattle.nx_holdings.specs.Holdings.{Link, AreLinked, Chain, links_of, list_at, next_of, content_of, pages_of_links, pages_of_chains, times, Held, HoldsBy}
 use Rattle.nx_holdings.proofs.SharedLemmas.{named_parts}
 use Rattle.nx_holdings.proofs.OneLemmas.{chain_numbers, chain_is_chained}
 use Rattle.nx_holdings.proofs.TimesLemmas.{times_one, times-cons, times-append, first_or}
-use Rattle.nx_holdings.proofs.ChainLemmas.{IsNumber, Names, Begins, one_begins, one_next, one_content, first_or_named, list_of_first}
+use Rattle.nx_holdings.proofs.ChainLemmas.{Names, Begins, one_begins, one_next, one_content, first_or_named, list_of_first}
 
 -- no list begins nowhere but the empty one
 pub none_from : (limit : ℕ) (pages : Pages) → IsListFrom limit pages 0 []

@@ -1,5 +1,5 @@
 -- Byte lists on chain pages.
-use Rattle.std.specs.Prelude.{◌≡◌, ◌≢◌, ◌⊎◌, ◌++◌, ℕ, ◌<◌, ◌≤◌, List, [], Some}
+use Rattle.std.specs.Prelude.{◌≡◌, ◌≢◌, ◌⊎◌, ◌++◌, ℕ, ◌<◌, ◌≤◌, List, Some}
 use Rattle.nx_replay.specs.Log.{Pages}
 use Rattle.nx_chain.specs.Chain.{IsChainPage, chain_bytes}
 use Rattle.nx_holdings.specs.declared.header.Header.{Header}

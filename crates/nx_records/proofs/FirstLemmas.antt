@@ -58,8 +58,8 @@ module _ (settings : Settings) (range : IsInRange (first_head settings)) where
   abbrev shares : Shares
   shares = record { free = []; chains = catalog ∷ [] }
 
-  front_page : first_pages head 0 ≡ Some (header_bytes head)
-  front_page = refl
+  first_is_header : first_pages head 0 ≡ Some (header_bytes head)
+  first_is_header = refl
 
   catalog_page : first_pages head 1 ≡ Some (chain_bytes 0 zeros)
   catalog_page = refl
@@ -80,7 +80,7 @@ module _ (settings : Settings) (range : IsInRange (first_head settings)) where
 
   none_there : (p slot : ℕ) → record_in (first_pages head p) slot ≡ None
   none_there p slot = elim (counts p) [
-    | inl zero ↦ ap (λ (q : ℕ). record_in (first_pages head q) slot) zero.0 ∙ other_record (first_pages head) 0 slot (record { bytes = header_bytes head; there = front_page; kind = header_kind head })
+    | inl zero ↦ ap (λ (q : ℕ). record_in (first_pages head q) slot) zero.0 ∙ other_record (first_pages head) 0 slot (record { bytes = header_bytes head; there = first_is_header; kind = header_kind head })
     | inr rest ↦ elim rest [
       | inl one ↦ ap (λ (q : ℕ). record_in (first_pages head q) slot) one.0 ∙ other_record (first_pages head) 1 slot (record { bytes = chain_bytes 0 zeros; there = catalog_page; kind = chain_kind 0 zeros })
       | inr past ↦ ap (λ (o : Option (List ℕ)). record_in o slot) (past_page p past.0)
@@ -89,11 +89,11 @@ module _ (settings : Settings) (range : IsInRange (first_head settings)) where
 
   pub first_holds : HoldsBy (first_pages head) head (nothing_held settings)
   first_holds = record {
-    here = front_page;
+    here = first_is_header;
     range = range;
     behind = record {
       shares = shares;
-      front = (head, front_page);
+      header = (head, first_is_header);
       shared = record {
         free = refl;
         chains = ((record { there = catalog_page; some = omega arith; few = omega arith }, λ more. absurd (omega (arith, more)), tt), tt);

@@ -2,3 +2,5 @@ pub mod StandLemmas
 pub mod StepLemmas
 pub mod RefusalLemmas
 pub mod FirstLemmas
+pub mod ChainLemmas
+pub mod WritingLemmas

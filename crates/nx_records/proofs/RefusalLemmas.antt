@@ -65,13 +65,13 @@ module _ {D : Type 0} (d : Ghosts D) (r0 r1 : Records) (x0 x1 : D) (named : ℕ)
     refused.1,
     λ was held step holds.
         let none = refused.2 was step in
-        let first = first_free holds none.0 few in
+        let first = first_free holds.shared none.0 few in
         none.1 first.0 first.1.0 first.1.1,
   )
   take_refused error.Full runs few refused = (
     keeps_self r0 r1 runs refused.0,
     ap (λ (r : Records). has_free r) refused.0 ∙ refused.1,
-    λ was held step holds. none_free holds refused.1,
+    λ was held step holds. none_free holds.shared holds.free refused.1,
   )
   take_refused error.Memory runs few refused = absurd refused
   take_refused error.Ended runs few refused = absurd refused
@@ -178,28 +178,24 @@ ended_now runs same ended = record {
   settings_stay = ap (λ (h : Header). h.settings) ended.3 ∙ ap (λ (r : Records). settings_of r) same;
 }
 
+-- records that were ended behind steps
+pub ends_later : {r0 r1 r2 : Records} → has_ended r0 ≡ false → KeepsLog r0 r1 → EndNow r1 r2 → EndNow r0 r2
+ends_later runs keeps ends = record {
+  before = runs;
+  after = ends.after;
+  length_stays = ends.length_stays ∙ keeps.length_stays;
+  settings_stay = ends.settings_stay ∙ keeps.settings_stay;
+}
+
 -- a record was taken out, and putting it elsewhere gave up
 module _ {D : Type 0} (d : Ghosts D) (r0 r1 r2 : Records) (x0 x2 : D) (Comes : Held → Held → Type 0) where
   pub moved_refused : (Few : Held → Type 0) (named : ℕ) (e : StoreError) → has_ended r0 ≡ false → KeepsLog r0 r1 → StepsTo d r0 r1 x0 Comes
       → ((was : Image) (held mid : Held) → IsInStep d r0.wal x0 was → HoldsBehind (current r0.wal was) r0.head held → Comes held mid → mid.free ≡ 0 → Few held)
       → NotPut d (λ held. held.free ≡ 0) named e r1 r2 x0 x2 → NotPut d Few named e r0 r2 x0 x2
-  moved_refused Few named error.Disk runs keeps steps few refused = (refused.0, ends_before refused.1)
-    where
-      ends_before : EndNow r1 r2 → EndNow r0 r2
-      ends_before ends = record {
-        before = runs;
-        after = ends.after;
-        length_stays = ends.length_stays ∙ keeps.length_stays;
-        settings_stay = ends.settings_stay ∙ keeps.settings_stay;
-      }
+  moved_refused Few named error.Disk runs keeps steps few refused = (refused.0, ends_later {r0 = r0} {r1 = r1} {r2 = r2} runs keeps refused.1)
   moved_refused Few named (error.Damaged page) runs keeps steps few refused = (
     refused.0,
-    record {
-      before = runs;
-      after = (refused.1).after;
-      length_stays = (refused.1).length_stays ∙ keeps.length_stays;
-      settings_stay = (refused.1).settings_stay ∙ keeps.settings_stay;
-    },
+    ends_later {r0 = r0} {r1 = r1} {r2 = r2} runs keeps refused.1,
     λ was held step holds. let mid = steps was held step holds in refused.2 was mid.0 (step_kept {r0 = r0} {r1 = r1} keeps none_still step) mid.1,
   )
   moved_refused Few named error.Full runs keeps steps few refused = (

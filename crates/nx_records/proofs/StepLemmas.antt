@@ -15,7 +15,7 @@ use Rattle.nx_host.specs.Disk.{Image}
 use Rattle.nx_wal.specs.declared.wal.Wal.{Wal}
 use Rattle.nx_wal.specs.Wal.{IsInStep, current}
 use Rattle.nx_holdings.specs.declared.header.Header.{Header}
-use Rattle.nx_holdings.specs.Holdings.{with_page, free_bytes, record_in, Held, HoldsBehind, times, IsFreeList}
+use Rattle.nx_holdings.specs.Holdings.{with_page, free_bytes, record_in, Held, HoldsBehind, times, IsFreeList, Shares, IsShared}
 use Rattle.nx_holdings.proofs.TimesLemmas.{times_one, times-cons}
 use Rattle.nx_holdings.proofs.SharedLemmas.{named_parts}
 use Rattle.nx_holdings.proofs.HeldLemmas.{slotted_record, other_record, holds_numbered, holds_changed, holds_released, holds_first, holds_unused, free_kind}
@@ -259,11 +259,11 @@ room_slotted holds some =
     (room.0, (slots_of used.bytes, record { bytes = used.bytes; there = used.there; slotted = used.slotted; are = refl }))
 
 -- the first free page is one
-pub first_free : {pages : Pages} {h : Header} {held : Held} → HoldsBehind pages h held → h.free ≢ 0 → h.pages ≤ 2 ^ 32 → (h.free < h.pages) × ((next : ℕ) × IsFreeAt pages h.free next)
-first_free {pages = pages} {h = h} holds some few = go (holds.shares).free refl (holds.shared).free
+pub first_free : {pages : Pages} {h : Header} {s : Shares} → IsShared pages h s [] → h.free ≢ 0 → h.pages ≤ 2 ^ 32 → (h.free < h.pages) × ((next : ℕ) × IsFreeAt pages h.free next)
+first_free {pages = pages} {h = h} {s = s} shared some few = go s.free refl shared.free
   where
-    below : (p : ℕ) → 1 ≤ times p (holds.shares).free → p < h.pages
-    below p among = (holds.shared).below p (let e = named_parts p holds.shares [] in omega (arith, e, among))
+    below : (p : ℕ) → 1 ≤ times p s.free → p < h.pages
+    below p among = shared.below p (let e = named_parts p s [] in omega (arith, e, among))
 
     next_low : (first : ℕ) (ps : List ℕ) → IsFreeList pages first ps → ((p : ℕ) → 1 ≤ times p ps → p < h.pages) → first < 2 ^ 32
     next_low first [] list under = let zero : first ≡ 0 = list in omega (arith, zero)
@@ -272,7 +272,7 @@ first_free {pages = pages} {h = h} holds some few = go (holds.shares).free refl 
         let low = under p (let one = times_one p ps in omega (arith, one)) in
         omega (arith, same, low, few)
 
-    go : (ps : List ℕ) → (holds.shares).free ≡ ps → IsFreeList pages h.free ps → (h.free < h.pages) × ((next : ℕ) × IsFreeAt pages h.free next)
+    go : (ps : List ℕ) → s.free ≡ ps → IsFreeList pages h.free ps → (h.free < h.pages) × ((next : ℕ) × IsFreeAt pages h.free next)
     go [] are list = absurd (some list)
     go (p ∷ ps) are list =
         let first : h.free ≡ p = list.0 in
@@ -289,12 +289,11 @@ first_free {pages = pages} {h = h} holds some few = go (holds.shares).free refl 
         )
 
 -- where the header tells of no free page, none is free
-pub none_free : {pages : Pages} {h : Header} {held : Held} → HoldsBehind pages h held → has_free_by h ≡ false → held.free ≡ 0
-none_free {pages = pages} {h = h} {held = held} holds none = elim (cases_Bool (h.free == 0)) [
+pub none_free : {pages : Pages} {h : Header} {s : Shares} {count : ℕ} → IsShared pages h s [] → count ≡ length s.free + (h.settings.limit - h.pages) → has_free_by h ≡ false → count ≡ 0
+none_free {pages = pages} {h = h} {s = s} shared count none = elim (cases_Bool (h.free == 0)) [
   | inl zero ↦
       let few : nat_lt h.pages h.settings.limit ≡ false = sym (ap (λ (b : Bool). if b then nat_lt h.pages h.settings.limit else true) zero) ∙ none in
-      let count = holds.free in
-      let no_list = go (holds.shares).free refl (holds.shared).free (eqb-true h.free 0 zero) in
+      let no_list = go s.free refl shared.free (eqb-true h.free 0 zero) in
       elim (cases_lt h.pages h.settings.limit) [
         | inl low ↦ absurd (false≢true (sym few ∙ lt-ltb h.pages h.settings.limit low))
         | inr past ↦ omega (arith, count, no_list, past)
@@ -302,12 +301,12 @@ none_free {pages = pages} {h = h} {held = held} holds none = elim (cases_Bool (h
   | inr some ↦ absurd (false≢true (sym none ∙ ap (λ (b : Bool). if b then nat_lt h.pages h.settings.limit else true) some))
 ]
   where
-    go : (ps : List ℕ) → (holds.shares).free ≡ ps → IsFreeList pages h.free ps → h.free ≡ 0 → length (holds.shares).free ≡ 0
+    go : (ps : List ℕ) → s.free ≡ ps → IsFreeList pages h.free ps → h.free ≡ 0 → length s.free ≡ 0
     go [] are list zero = ap length are
     go (p ∷ ps) are list zero =
         let here : p ≡ 0 = sym list.0 ∙ zero in
-        let e = named_parts 0 holds.shares [] in
-        let once = (holds.shared).once 0 in
+        let e = named_parts 0 s [] in
+        let once = shared.once 0 in
         let f = ap (λ (r : List ℕ). times 0 r) are in
         let one : times 0 (p ∷ ps) ≡ 1 + times 0 ps = ap (λ (q : ℕ). times 0 (q ∷ ps)) here ∙ times_one 0 ps in
         let head : times 0 (0 ∷ []) ≡ 1 = times_one 0 [] in

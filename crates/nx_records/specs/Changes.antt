@@ -1,8 +1,11 @@
 -- What a call makes of what records hold.
-use Rattle.std.specs.Prelude.{◌≡◌, ◌==◌, ◌&&◌, if◌then◌else◌, nat_lt, ℕ, ◌+◌, ◌-◌, ◌≤◌, List, length, Option, Some, None, IsSome}
+use Rattle.std.specs.Prelude.{◌≡◌, ◌==◌, ◌&&◌, if◌then◌else◌, nat_lt, ℕ, ◌+◌, ◌-◌, ◌≤◌, List, length, Option, Some, None, IsSome, MatchOption}
 use Rattle.std.proofs.Math.ListN.{replicate}
 use Rattle.nx_holdings.specs.declared.header.Settings.{Settings}
-use Rattle.nx_holdings.specs.Holdings.{Held}
+use Rattle.nx_holdings.specs.Holdings.{Held, chain_count}
+use Rattle.nx_holdings.specs.Laws.{pages_of_list}
+use Rattle.nx_replay.specs.Log.{Pages}
+use Rattle.nx_links.specs.Lists.{IsNamed}
 
 -- the records, with this at one place
 abbrev pub records_with : (ℕ → ℕ → Option (List ℕ)) → ℕ → ℕ → Option (List ℕ) → ℕ → ℕ → Option (List ℕ)
@@ -51,3 +54,41 @@ pub record RemovesRecord (page slot : ℕ) (was now : Held) : Type 0 where
   pub was_there : IsSome (was.records page slot)
   pub changes : ChangesRecords was now (records_with was.records page slot None)
   pub free : was.free ≤ now.free
+
+-- no list of this length is at the first page
+abbrev pub LacksList : Held → (first len : ℕ) → Type 0
+LacksList held first len = (list : List ℕ) → held.lists first ≡ Some list → length list ≡ len → ⊥
+
+-- The bytes are the list at the first page. Where none is there, the page is one behind the first of a chain, and another page names it.
+abbrev pub IsListRead : Pages → Held → (first : ℕ) → (bytes : List ℕ) → Type 0
+IsListRead pages held first bytes = MatchOption (held.lists first) (IsNamed pages first) (λ list. bytes ≡ list)
+
+-- the lists alone are changed
+pub record ChangesLists (was now : Held) (changed : ℕ → Option (List ℕ)) : Type 0 where
+  pub lists : now.lists ≡ changed
+  pub records : now.records ≡ was.records
+  pub catalog : now.catalog ≡ was.catalog
+  pub settings : now.settings ≡ was.settings
+
+-- A list was put at a first page that had none, and at most its chain pages fewer are free.
+pub record WritesList (first : ℕ) (bytes : List ℕ) (was now : Held) : Type 0 where
+  pub was_none : was.lists first ≡ None
+  pub changes : ChangesLists was now (lists_with was.lists first (Some bytes))
+  pub free : was.free ≤ now.free + chain_count (length bytes)
+
+-- The list at a first page was taken away, and its chain pages are free.
+pub record FreesList (first : ℕ) (was now : Held) : Type 0 where
+  pub changes : ChangesLists was now (lists_with was.lists first None)
+  pub free : was.free + pages_of_list (was.lists first) ≤ now.free
+
+-- The catalog was replaced. Its old chain pages are free, and at most so many fewer as the new ones are.
+pub record SetsCatalog (bytes : List ℕ) (was now : Held) : Type 0 where
+  pub catalog : now.catalog ≡ bytes
+  pub records : now.records ≡ was.records
+  pub lists : now.lists ≡ was.lists
+  pub settings : now.settings ≡ was.settings
+  pub free : was.free + chain_count (length was.catalog) ≤ now.free + chain_count (length bytes)
+
+-- how many chain pages a new catalog may need beyond those of the old one
+abbrev pub catalog_needs : List ℕ → Held → ℕ
+catalog_needs bytes was = chain_count (length bytes) - chain_count (length was.catalog)

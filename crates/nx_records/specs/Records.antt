@@ -17,6 +17,10 @@ has_ended records = records.ended
 abbrev pub settings_of : Records → Settings
 settings_of records = records.head.settings
 
+-- how many bytes the catalog has, by the header
+abbrev pub catalog_length_of : Records → ℕ
+catalog_length_of records = (records.head).catalog_length
+
 -- where the log ends
 abbrev pub log_length_of : Records → ℕ
 log_length_of records = length_of records.wal

@@ -13,7 +13,7 @@ impl Records {
     ghost use Rattle.nx_records.specs.Changes.{AddsRecord, RemovesRecord, UpdatesRecord, update_needs};
     ghost use Rattle.nx_records.specs.Pages.{HasSlots, SeesSo, StepsTo, NotPut};
 
-    // IsPageTaken a record out of a slotted page, which is given back where that was its last.
+    // Takes a record out of a slotted page, which is given back where that was its last.
     pub(crate) fn drop_record<D: Disk>(
         &mut self,
         disk: &D,
@@ -62,31 +62,7 @@ impl Records {
         Ok(Some(Rid { page: room, slot }))
     }
 
-    // Puts a record into a page that was free, which becomes the room page.
-    fn put_in_new<D: Disk>(
-        &mut self,
-        disk: &mut D,
-        bytes: &[u8],
-        named: u32,
-    ) -> Result<Rid, StoreError>
-        requires runs { has_ended self.old ≡ false }
-        requires some { 1 ≤ length bytes.now }
-        requires few { length bytes.now ≤ 8176 }
-        ensures still { IsStill D.Disk disk.old disk.new }
-        ensures ok { IfOk result (λ rid. KeepsLog self.old self.new × StepsTo D.Disk self.old self.new disk.old (λ was now. AddsRecord rid.page rid.slot bytes.now was now)) }
-        ensures refused { IfErr result (λ e. NotPut D.Disk (λ held. held.free ≡ 0) named e self.old self.new disk.old disk.new) }
-    {
-        let page = self.take(disk, named)?;
-        let mut slots = Page::new();
-        let Ok(slot) = slots.put(bytes) else {
-            unreachable!();
-        };
-        self.store(page, slots.bytes())?;
-        self.head.room = page;
-        Ok(Rid { page, slot })
-    }
-
-    // Puts a record into the room page, or else into one that was free.
+    // Puts a record into the room page, or else into one that was free, which becomes the room page.
     pub(crate) fn place<D: Disk>(
         &mut self,
         disk: &mut D,
@@ -103,7 +79,14 @@ impl Records {
         if let Some(rid) = self.put_in_room(disk, bytes, named)? {
             return Ok(rid);
         }
-        self.put_in_new(disk, bytes, named)
+        let page = self.take(disk, named)?;
+        let mut slots = Page::new();
+        let Ok(slot) = slots.put(bytes) else {
+            unreachable!();
+        };
+        self.store(page, slots.bytes())?;
+        self.head.room = page;
+        Ok(Rid { page, slot })
     }
 
     // Puts other bytes in the place of a record of a slotted page, or elsewhere where they don't fit.

@@ -51,7 +51,8 @@ impl Records {
     ghost use Rattle.nx_records.specs.Refusals.{IsCreated, NotRead, NotChanged, NotStored, NotWritten, NotCreated, NotOpened, RunsOn};
 
     /// A store on a disk that has no pages, committed: with these settings, and without records,
-    /// lists, and documents in its catalog.
+    /// lists, and documents in its catalog. The settings are in range: K from 1 to 256, a target of at
+    /// most 100, a tolerance of at most 256, and a limit from 64 to 16,777,216 pages.
     ///
     /// Errors: `Exists` exactly where the disk has a page; `Disk`, only where `faults` rose;
     /// `Memory`.
@@ -146,8 +147,16 @@ impl Records {
         self.wal.log_length()
     }
 
-    /// Ends the records: each later call answers `Ended`. A layer above calls it where it answers
-    /// `Damaged` by itself. It takes no memory.
+    /// Whether the records have ended, so that each later call that needs the disk answers `Ended`. It
+    /// takes no memory.
+    pub fn is_ended(&self) -> bool
+        ensures { result ≡ has_ended self.now }
+    {
+        self.ended
+    }
+
+    /// Ends the records: each later call that answers a `Result` answers `Ended`; the others go on. A
+    /// layer above calls it where it answers `Damaged` by itself. It takes no memory.
     pub fn end(&mut self)
         ensures { (has_ended self.new ≡ true) × (self.new.wal ≡ self.old.wal) × (self.new.saved ≡ self.old.saved) × (self.new.head ≡ self.old.head) }
     {
@@ -237,7 +246,7 @@ impl Records {
         Ok(place)
     }
 
-    /// IsPageTaken the record of a place away.
+    /// Takes the record of a place away.
     ///
     /// Errors: `Damaged` with the place's page, only where the pages aren't sound or no record is
     /// there; `Disk`, only where `faults` rose; `Ended` exactly where the records had ended;
@@ -259,9 +268,9 @@ impl Records {
         self.store_header()
     }
 
-    /// Commits what was changed. At every moment the disk holds what it held after the last commit,
-    /// or what is held now, and after Ok the latter, with one group more in its log. It takes no
-    /// memory.
+    /// Commits what was changed. Something was, since the last commit or `abandon`, and the log has at
+    /// most 2^62 bytes. At every moment the disk holds what it held after the last commit, or what is
+    /// held now, and after Ok the latter, with one group more in its log. It takes no memory.
     ///
     /// Errors: `Disk`, only where `faults` rose; `Ended` exactly where the records had ended.
     pub fn commit<D: Disk>(&mut self, disk: &mut D) -> Result<(), StoreError>
@@ -299,8 +308,8 @@ impl Records {
         self.head = self.saved;
     }
 
-    /// Moves the pages of the log to the pages area, and empties the log. At every moment the disk
-    /// holds the same. It takes no memory.
+    /// Moves the pages of the log to the pages area, and empties the log. Nothing was changed since the
+    /// last commit or `abandon`. At every moment the disk holds the same. It takes no memory.
     ///
     /// Errors: `Disk`, only where `faults` rose; `Ended` exactly where the records had ended.
     pub fn checkpoint<D: Disk>(&mut self, disk: &mut D) -> Result<(), StoreError>

@@ -1,0 +1,92 @@
+use Rattle.std.proofs.Common.{◌≡◌, ◌∙◌, ◌-◌, ◌+◌, ◌<◌, ◌≤◌, List, [], ℕ, length, refl, sym, ap, subst, arith}
+use Rattle.std.proofs.lemmas.Result.{err_from_is_err_and}
+use Rattle.nx_host.proofs.DiskLemmas.{none_still, still_then}
+use Rattle.nx_holdings.specs.Holdings.{Link, next_of, content_of}
+use Rattle.nx_links.proofs.BesideLemmas.{no_first}
+use Rattle.nx_records.specs.declared.error.StoreError.{StoreError}
+use Rattle.nx_records.specs.Chains.{IsLeft, Nowhere, NotGiven, link_before}
+use Rattle.nx_records.proofs.StandLemmas.{keeps_then, step_kept}
+use Rattle.nx_records.proofs.RefusalLemmas.{err_passed, keeps_self}
+use Rattle.nx_records.proofs.WritingLemmas.{steps_none, steps_on, steps_weaker, led_later, left_ends, left_past, given_damaged, ended_behind}
+use Rattle.nx_records.proofs.records.Records.give_chain.Goals as goal
+
+pub loop-page-init : goal.loop-page-init
+loop-page-init g c = record {
+  keeps = keeps_self c.args.self.now c.args.self.now c.requires refl;
+  still = none_still;
+  within = omega arith;
+  steps = steps_none c.args.self.now (λ (links : List Link). next_of links ≡ c.args.first) (λ (links more : List Link). IsLeft c.args.first c.args.len c.args.len links more) (λ links starts. record { first = starts; count = omega arith });
+}
+
+pub returns-in_err-link-clause-refused : goal.returns-in_err-link-clause-refused
+returns-in_err-link-clause-refused g c =
+    let one = c.loop-page.invariant in
+    err_passed c.from_residual.result (λ (e : StoreError). NotGiven g.D.Disk (λ links. (next_of links ≡ c.args.first) × (length (content_of links) ≡ c.args.len)) c.args.named e c.args.self.now c.give_link.new.self c.args.disk.now c.give_link.new.disk)
+    c.in_err-link.field-0.0 (err_from_is_err_and c.from_residual.result c.from_residual.ensures.1) (
+      led_later g.D.Disk c.args.self.now c.loop-page.self c.give_link.new.self c.args.disk.now c.loop-page.disk c.give_link.new.disk c.args.named (λ (links : List Link). (next_of links ≡ c.args.first) × (length (content_of links) ≡ c.args.len))
+          (λ (links more : List Link). IsLeft c.loop-page.page c.loop-page.left c.args.len links more) (λ (links : List Link). next_of links ≡ c.loop-page.page) Nowhere Nowhere c.in_err-link.field-0.0
+          c.requires (one.keeps, one.still, λ was links held step holds starts. one.steps was links held step holds starts.0)
+          (λ links mid starts comes. comes.first, λ links mid held next starts comes keeps none. none) c.in_err-link.ensures.refused.0,
+      c.in_err-link.ensures.refused.1,
+    )
+
+pub returns-in_err-link-clause-still : goal.returns-in_err-link-clause-still
+returns-in_err-link-clause-still g c = still_then c.loop-page.invariant.still c.give_link.ensures.still
+
+pub loop-page-preserved : goal.loop-page-preserved
+loop-page-preserved g c =
+    let one = c.loop-page.invariant in
+    let taken = c.len-taken.ensures in
+    let low : length c.in_ok-link.link.content ≤ c.loop-page.left = let low = c.if-taken-left.false in omega (arith, low, taken) in
+    record {
+      keeps = keeps_then {r0 = c.args.self.now} {r1 = c.loop-page.self} {r2 = c.give_link.new.self} one.keeps c.in_ok-link.ensures.keeps.0;
+      still = still_then one.still c.give_link.ensures.still;
+      within = let within = one.within in omega (arith, within);
+      steps = steps_on g.D.Disk c.args.self.now c.loop-page.self c.give_link.new.self c.args.disk.now c.loop-page.disk (λ (links : List Link). next_of links ≡ c.args.first)
+          (λ (links more : List Link). IsLeft c.loop-page.page c.loop-page.left c.args.len links more) (λ (links : List Link). next_of links ≡ c.loop-page.page)
+          (λ (links more : List Link). (links ≡ link_before c.loop-page.page c.in_ok-link.link.content more) × (next_of more ≡ c.in_ok-link.link.next))
+          (λ (links more : List Link). IsLeft c.in_ok-link.link.next (c.loop-page.left - c.len-taken.result) c.args.len links more)
+          one.keeps one.still one.steps c.in_ok-link.ensures.ok (λ links mid comes. comes.first)
+          (λ links mid more comes goes.
+          subst (λ (n : ℕ). IsLeft c.in_ok-link.link.next (c.loop-page.left - n) c.args.len links more) (sym taken)
+          (left_ends c.in_ok-link.link.next c.in_ok-link.link.content more low comes goes));
+    }
+
+pub returns-then-taken-left-clause-refused : goal.returns-then-taken-left-clause-refused
+returns-then-taken-left-clause-refused g c =
+    let one = c.loop-page.invariant in
+    let keeps = keeps_then {r0 = c.args.self.now} {r1 = c.loop-page.self} {r2 = c.give_link.new.self} one.keeps c.in_ok-link.ensures.keeps.0 in
+    let past : c.loop-page.left < length c.in_ok-link.link.content = let more = c.if-taken-left.true in let taken = c.len-taken.ensures in omega (arith, more, taken) in
+    given_damaged g.D.Disk c.args.self.now c.damaged.new.self c.args.disk.now c.give_link.new.disk c.args.named (λ (links : List Link). (next_of links ≡ c.args.first) × (length (content_of links) ≡ c.args.len))
+    c.damaged.result c.damaged.ensures.result (ended_behind {r0 = c.args.self.now} {r1 = c.give_link.new.self} {r2 = c.damaged.new.self} c.requires keeps c.damaged.ensures.ended)
+    (λ was links held step holds starts.
+    let mid = one.steps was links held step holds starts.0 in
+    let more = c.in_ok-link.ensures.ok was mid.more mid.next (step_kept {r0 = c.args.self.now} {r1 = c.loop-page.self} one.keeps one.still step) mid.holds (mid.comes).first in
+    left_past c.in_ok-link.link.next c.in_ok-link.link.content more.more past mid.comes more.comes starts.1)
+
+pub returns-then-taken-left-clause-still : goal.returns-then-taken-left-clause-still
+returns-then-taken-left-clause-still g c = still_then c.loop-page.invariant.still c.give_link.ensures.still
+
+pub returns-then-left-ne0-clause-refused : goal.returns-then-left-ne0-clause-refused
+returns-then-left-ne0-clause-refused g c =
+    let one = c.loop-page.invariant in
+    given_damaged g.D.Disk c.args.self.now c.damaged-then-left-ne0.new.self c.args.disk.now c.loop-page.disk c.args.named
+    (λ (links : List Link). (next_of links ≡ c.args.first) × (length (content_of links) ≡ c.args.len)) c.damaged-then-left-ne0.result c.damaged-then-left-ne0.ensures.result
+    (ended_behind {r0 = c.args.self.now} {r1 = c.loop-page.self} {r2 = c.damaged-then-left-ne0.new.self} c.requires one.keeps c.damaged-then-left-ne0.ensures.ended)
+    (λ was links held step holds starts.
+    let mid = one.steps was links held step holds starts.0 in
+    let none = ap (λ (ls : List Link). length (content_of ls)) (no_first mid.more mid.holds ((mid.comes).first ∙ c.loop-page-test.false)) in
+    let count = (mid.comes).count in
+    let long = starts.1 in
+    c.if-left-ne0.true (omega (arith, none, count, long)))
+
+pub returns-clause-ok : goal.returns-clause-ok
+returns-clause-ok g c =
+    steps_weaker c.args.self.now c.loop-page.self (λ (links : List Link). next_of links ≡ c.args.first) (λ (links more : List Link). IsLeft c.loop-page.page c.loop-page.left c.args.len links more)
+    (λ (links more : List Link). (more ≡ []) × (length (content_of links) ≡ c.args.len)) c.loop-page.invariant.steps
+    (λ pages next links more holds starts comes.
+    let none = no_first more holds (comes.first ∙ c.loop-page-test.false) in
+    let empty = ap (λ (ls : List Link). length (content_of ls)) none in
+    let count = comes.count in
+    let left = c.if-left-ne0.false in
+    (none, omega (arith, empty, count, left)))

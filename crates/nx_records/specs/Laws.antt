@@ -1,0 +1,24 @@
+-- The laws of records.
+use Rattle.std.specs.Prelude.{◌≡◌, nat_lt, ℕ, [], List}
+use Rattle.nx_host.specs.declared.disk.Disk.{Ghosts}
+use Rattle.nx_replay.specs.Log.{Pages}
+use Rattle.nx_wal.specs.Wal.{Follows, pending}
+use Rattle.nx_holdings.specs.declared.header.Header.{Header}
+use Rattle.nx_holdings.specs.Holdings.{Held, HoldsBy}
+use Rattle.nx_records.specs.Records.{has_ended, has_free_by, HasSaved, StandsFor}
+use Rattle.nx_records.specs.declared.records.Records.{Records}
+
+-- Of sound pages the header tells exactly whether a page is free.
+abbrev pub HeaderTells : Type 0
+HeaderTells = (pages : Pages) (head : Header) (held : Held) → HoldsBy pages head held → has_free_by head ≡ nat_lt 0 held.free
+
+-- What was changed since the last commit was dropped.
+pub record IsAbandoned (old new : Records) : Type 0 where
+  pub follows : (log : List ℕ) → Follows old.wal log → Follows new.wal log
+  pub none_left : pending new.wal ≡ []
+  pub saved : (new.saved ≡ old.saved) × (new.head ≡ old.saved)
+  pub stays : has_ended new ≡ has_ended old
+
+-- Then what the last commit holds is what the records stand for.
+abbrev pub AbandonLeadsBack : {D : Type 0} → Ghosts D → Type 0
+AbandonLeadsBack {D = D} d = (old new : Records) (disk : D) (saved : Held) → IsAbandoned old new → HasSaved d old disk saved → StandsFor d new disk saved saved

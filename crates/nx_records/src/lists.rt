@@ -1,0 +1,142 @@
+// Byte lists on chain pages, and the catalog.
+ghost use Rattle.std.specs.Prelude.{List as Items, ◌≡◌, ◌≢◌, ◌+◌, ◌≤◌, [], ℕ, length, false, Some, IfOk, IfErr, OnOk};
+ghost use Rattle.nx_host.specs.Still.{IsStill};
+ghost use Rattle.nx_wal.specs.Wal.{current, pending};
+ghost use Rattle.nx_holdings.specs.Holdings.{Held, chain_count};
+
+use crate::{Records, StoreError};
+use nx_host::Disk;
+use nx_lists::List;
+use std::alloc::Global;
+
+impl Records {
+    ghost use Rattle.nx_records.specs.Records.{StandsFor, KeepsSaved, ComesTo, has_ended, catalog_length_of};
+    ghost use Rattle.nx_records.specs.Changes.{LacksList, IsListRead, WritesList, FreesList, SetsCatalog, catalog_needs};
+    ghost use Rattle.nx_records.specs.Refusals.{NotRead, NotChanged, NotStored, RunsOn};
+
+    /// The byte list of so many bytes at a first page. It reads its chain pages. Where the page is one
+    /// behind the first of a chain, it may give what stands from there on.
+    ///
+    /// Errors: `Damaged` with the first page, only where the pages aren't sound or no list of that
+    /// length is there; `Disk`, only where `faults` rose; `Ended` exactly where the records had ended;
+    /// `Memory`.
+    pub fn read_list<D: Disk>(
+        &mut self,
+        alloc: Global,
+        disk: &mut D,
+        first: u32,
+        len: u64,
+    ) -> Result<List<u8>, StoreError>
+        ensures still { IsStill D.Disk disk.old disk.new }
+        ensures reads { D.reads disk.new ≤ D.reads disk.old + chain_count len }
+        ensures ok { IfOk result (λ bytes. (has_ended self.old ≡ false) × (self.new ≡ self.old) × (length bytes ≡ len)
+            × ((saved now : Held) (stands : StandsFor D.Disk self.old disk.old saved now) → IsListRead (current self.old.wal (stands.keeps).image) now first bytes)) }
+        ensures refused { IfErr result (λ e. NotRead D.Disk (λ now. LacksList now first len) first e self.old self.new disk.old disk.new) }
+    {
+        if self.ended {
+            return Err(StoreError::Ended);
+        }
+        if !self.may_begin(first, len) {
+            return Err(self.damaged(first));
+        }
+        self.read_chain(alloc, disk, first, len, first)
+    }
+
+    /// The catalog's bytes. It reads the catalog's chain pages.
+    ///
+    /// Errors: `Damaged` with page 0, only where the pages aren't sound; `Disk`, only where `faults`
+    /// rose; `Ended` exactly where the records had ended; `Memory`.
+    pub fn read_catalog<D: Disk>(
+        &mut self,
+        alloc: Global,
+        disk: &mut D,
+    ) -> Result<List<u8>, StoreError>
+        ensures still { IsStill D.Disk disk.old disk.new }
+        ensures reads { D.reads disk.new ≤ D.reads disk.old + chain_count (catalog_length_of self.old) }
+        ensures ok { IfOk result (λ bytes. (has_ended self.old ≡ false) × (self.new ≡ self.old) × (length bytes ≡ catalog_length_of self.old)
+            × ((saved now : Held) → StandsFor D.Disk self.old disk.old saved now → now.catalog ≡ bytes)) }
+        ensures refused { IfErr result (λ e. NotRead D.Disk (λ now. ⊥) 0 e self.old self.new disk.old disk.new) }
+    {
+        if self.ended {
+            return Err(StoreError::Ended);
+        }
+        self.read_chain(alloc, disk, self.head.catalog, self.head.catalog_length, 0)
+    }
+
+    /// Adds a byte list of at least one byte, and answers its first page.
+    ///
+    /// Errors: `Full`, over sound pages only where fewer pages were free than the list takes chain
+    /// pages, one for each 8,184 bytes begun; `Damaged` with page 0, only where the pages aren't
+    /// sound; `Disk`, only where `faults` rose; `Ended` exactly where the records had ended; `Memory`.
+    /// After `Full` and `Memory` the caller calls `abandon`.
+    pub fn write_list<D: Disk>(&mut self, disk: &mut D, bytes: &[u8]) -> Result<u32, StoreError>
+        requires { 1 ≤ length bytes.now }
+        ensures still { IsStill D.Disk disk.old disk.new }
+        ensures ok { IfOk result (λ first. ComesTo D.Disk self.old self.new disk.old disk.new (λ was now. WritesList first bytes.now was now)) }
+        ensures keeps { IfOk result (λ first. RunsOn self.old self.new × KeepsSaved D.Disk self.old self.new disk.old disk.new × (pending self.new.wal ≢ [])) }
+        ensures refused { IfErr result (λ e. NotStored D.Disk (λ was. chain_count (length bytes.now)) (λ was. ⊥) 0 e self.old self.new disk.old disk.new) }
+    {
+        if self.ended {
+            return Err(StoreError::Ended);
+        }
+        let first = self.write_chain(disk, bytes, 0)?;
+        self.store_header()?;
+        Ok(first)
+    }
+
+    /// Takes the byte list of so many bytes at a first page away, and gives its chain pages back. What
+    /// it leaves is said only where a list begins at that page, not where the page is one behind.
+    ///
+    /// Errors: `Damaged` with the first page, only where the pages aren't sound or no list of that
+    /// length is there; `Disk`, only where `faults` rose; `Ended` exactly where the records had ended;
+    /// `Memory`, after which the caller calls `abandon`.
+    pub fn free_list<D: Disk>(
+        &mut self,
+        alloc: Global,
+        disk: &mut D,
+        first: u32,
+        len: u64,
+    ) -> Result<(), StoreError>
+        ensures still { IsStill D.Disk disk.old disk.new }
+        ensures ok { OnOk result ((saved now : Held) (list : Items ℕ) → StandsFor D.Disk self.old disk.old saved now → now.lists first ≡ Some list
+            → (length list ≡ len) × ((next : Held) × StandsFor D.Disk self.new disk.new saved next × FreesList first now next)) }
+        ensures keeps { OnOk result (RunsOn self.old self.new × KeepsSaved D.Disk self.old self.new disk.old disk.new × (pending self.new.wal ≢ [])) }
+        ensures refused { IfErr result (λ e. NotChanged D.Disk (λ was. LacksList was first len) first e self.old self.new disk.old disk.new) }
+    {
+        if self.ended {
+            return Err(StoreError::Ended);
+        }
+        if !self.may_begin(first, len) {
+            return Err(self.damaged(first));
+        }
+        self.give_chain(alloc, disk, first, len, first)?;
+        self.store_header()
+    }
+
+    /// Replaces the catalog by at least 8 bytes. The old one's chain pages are given back first.
+    ///
+    /// Errors: `Full`, over sound pages only where fewer pages were free than the new catalog takes
+    /// chain pages beyond those of the old one; `Damaged` with page 0, only where the pages aren't
+    /// sound; `Disk`, only where `faults` rose; `Ended` exactly where the records had ended; `Memory`.
+    /// After `Full` and `Memory` the caller calls `abandon`.
+    pub fn set_catalog<D: Disk>(
+        &mut self,
+        alloc: Global,
+        disk: &mut D,
+        bytes: &[u8],
+    ) -> Result<(), StoreError>
+        requires { 8 ≤ length bytes.now }
+        ensures still { IsStill D.Disk disk.old disk.new }
+        ensures ok { OnOk result (ComesTo D.Disk self.old self.new disk.old disk.new (λ was now. SetsCatalog bytes.now was now)) }
+        ensures keeps { OnOk result (RunsOn self.old self.new × KeepsSaved D.Disk self.old self.new disk.old disk.new × (pending self.new.wal ≢ [])) }
+        ensures refused { IfErr result (λ e. NotStored D.Disk (λ was. catalog_needs bytes.now was) (λ was. ⊥) 0 e self.old self.new disk.old disk.new) }
+    {
+        if self.ended {
+            return Err(StoreError::Ended);
+        }
+        self.give_chain(alloc, disk, self.head.catalog, self.head.catalog_length, 0)?;
+        let first = self.write_chain(disk, bytes, 0)?;
+        self.name_catalog(first, bytes.len() as u64);
+        self.store_header()
+    }
+}

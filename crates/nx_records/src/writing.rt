@@ -1,0 +1,144 @@
+// Writing chains and giving them back, page by page. A chain is written from its last page on, so that each step
+// puts a page in front of a chain that is whole, and given back from its first page on.
+ghost use Rattle.std.specs.Prelude.{List as Items, ◌≡◌, ◌≢◌, ◌+◌, ◌^◌, ◌<◌, ◌≤◌, [], ℕ, length, false, IfOk, IfErr, OnOk};
+ghost use Rattle.nx_host.specs.Still.{IsStill};
+ghost use Rattle.nx_holdings.specs.Holdings.{chain_count, next_of, content_of};
+ghost use Rattle.nx_records.specs.Chains.{IsContentAt};
+
+use crate::{Records, StoreError};
+use nx_chain::{ChainPage, chain_page};
+use nx_host::Disk;
+use std::alloc::Global;
+
+// How many chain pages so many bytes take.
+fn chain_pages(len: usize) -> usize
+    requires { len < 2 ^ 63 }
+    ensures { result ≡ chain_count len }
+{
+    (len + 8_183) / 8_184
+}
+
+// The bytes that stand on the chain page with this index.
+fn content_at(bytes: &[u8], index: usize) -> &[u8]
+    requires { index < chain_count (length bytes.now) }
+    ensures { IsContentAt bytes.now index result.now }
+{
+    let start = index * 8_184;
+    let end = bytes.len().min(start + 8_184);
+    &bytes[start..end]
+}
+
+impl Records {
+    ghost use Rattle.nx_records.specs.Records.{has_ended, KeepsLog};
+    ghost use Rattle.nx_records.specs.Chains.{MayLead, ChainStepsTo, NotLed, NotGiven, link_before, with_catalog};
+
+    // Puts a page with these bytes, which was free, in front of a chain that begins at a page, 0 for none, and
+    // answers its number.
+    fn put_link<D: Disk>(
+        &mut self,
+        disk: &mut D,
+        next: u32,
+        content: &[u8],
+        named: u32,
+    ) -> Result<u32, StoreError>
+        requires runs { has_ended self.old ≡ false }
+        requires some { 1 ≤ length content.now }
+        requires few { length content.now ≤ 8184 }
+        ensures still { IsStill D.Disk disk.old disk.new }
+        ensures keeps { IfOk result (λ page. KeepsLog self.old self.new) }
+        ensures ok { IfOk result (λ page. ChainStepsTo D.Disk self.old self.new disk.old (MayLead next content.now) (λ links more. more ≡ link_before page content.now links)) }
+        ensures refused { IfErr result (λ e. NotLed D.Disk (MayLead next content.now) (λ links held. held.free ≡ 0) named e self.old self.new disk.old disk.new) }
+    {
+        let page = self.take(disk, named)?;
+        let bytes = chain_page(next, content);
+        self.store(page, &bytes)?;
+        Ok(page)
+    }
+
+    // Puts bytes on pages that were free, and answers the first of them.
+    pub(crate) fn write_chain<D: Disk>(
+        &mut self,
+        disk: &mut D,
+        bytes: &[u8],
+        named: u32,
+    ) -> Result<u32, StoreError>
+        requires { has_ended self.old ≡ false }
+        ensures still { IsStill D.Disk disk.old disk.new }
+        ensures keeps { IfOk result (λ first. KeepsLog self.old self.new) }
+        ensures ok { IfOk result (λ first. ChainStepsTo D.Disk self.old self.new disk.old (λ links. links ≡ []) (λ links more. (next_of more ≡ first) × (content_of more ≡ bytes.now))) }
+        ensures refused { IfErr result (λ e. NotLed D.Disk (λ links. links ≡ []) (λ links held. held.free < chain_count (length bytes.now)) named e self.old self.new disk.old disk.new) }
+    {
+        let mut left = chain_pages(bytes.len());
+        let mut next = 0;
+        while left > 0 {
+            let content = content_at(bytes, left - 1);
+            let page = self.put_link(disk, next, content, named)?;
+            next = page;
+            left -= 1;
+        }
+        Ok(next)
+    }
+
+    // Gives the first page of a chain back, and answers what it said.
+    fn give_link<D: Disk>(
+        &mut self,
+        alloc: Global,
+        disk: &mut D,
+        page: u32,
+        named: u32,
+    ) -> Result<ChainPage, StoreError>
+        requires runs { has_ended self.old ≡ false }
+        requires some { page ≢ 0 }
+        ensures still { IsStill D.Disk disk.old disk.new }
+        ensures keeps { IfOk result (λ link. KeepsLog self.old self.new × (1 ≤ length link.content)) }
+        ensures ok { IfOk result (λ link. ChainStepsTo D.Disk self.old self.new disk.old (λ links. next_of links ≡ page)
+            (λ links more. (links ≡ link_before page link.content more) × (next_of more ≡ link.next))) }
+        ensures refused { IfErr result (λ e. NotGiven D.Disk (λ links. next_of links ≡ page) named e self.old self.new disk.old disk.new) }
+    {
+        let link = self.link(alloc, disk, page, named)?;
+        self.release(page)?;
+        Ok(link)
+    }
+
+    // Gives the pages of a chain back, which has so many bytes.
+    pub(crate) fn give_chain<D: Disk>(
+        &mut self,
+        alloc: Global,
+        disk: &mut D,
+        first: u32,
+        len: u64,
+        named: u32,
+    ) -> Result<(), StoreError>
+        requires { has_ended self.old ≡ false }
+        ensures still { IsStill D.Disk disk.old disk.new }
+        ensures keeps { OnOk result (KeepsLog self.old self.new) }
+        ensures ok { OnOk result (ChainStepsTo D.Disk self.old self.new disk.old (λ links. next_of links ≡ first) (λ links more. (more ≡ []) × (length (content_of links) ≡ len))) }
+        ensures refused { IfErr result (λ e. NotGiven D.Disk (λ links. (next_of links ≡ first) × (length (content_of links) ≡ len)) named e self.old self.new disk.old disk.new) }
+    {
+        let mut left = len;
+        let mut page = first;
+        while page != 0 {
+            let link = self.give_link(alloc, disk, page, named)?;
+            let taken = link.content.len() as u64;
+            if taken > left {
+                return Err(self.damaged(named));
+            }
+            left -= taken;
+            page = link.next;
+        }
+        if left != 0 {
+            return Err(self.damaged(named));
+        }
+        Ok(())
+    }
+
+    // Names another chain as the catalog.
+    pub(crate) fn name_catalog(&mut self, first: u32, len: u64)
+        requires { 8 ≤ len }
+        ensures head { self.new.head ≡ with_catalog first len self.old.head }
+        ensures stays { (self.new.wal ≡ self.old.wal) × (self.new.saved ≡ self.old.saved) × (has_ended self.new ≡ has_ended self.old) }
+    {
+        self.head.catalog = first;
+        self.head.catalog_length = len;
+    }
+}
