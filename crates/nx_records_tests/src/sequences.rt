@@ -1,0 +1,108 @@
+// Long runs of random calls, and a crash after each five hundred of them.
+use crate::pages::{counts_of, has_map};
+use crate::runs::{Call, Run};
+use crate::stores::{LIMIT, Store, host_of};
+use nx_memory::Choice;
+use nx_records::StoreError;
+use std::process::Abort;
+use std::test::Fail;
+
+// How many times so many calls a run has.
+const TIMES: u32 = 40;
+
+const CALLS: u32 = 500;
+
+// Makes calls, and says how many were refused since all pages were in use.
+fn make_calls(rt: &impl Abort, run: &mut Run, grows: bool) -> Result<u32, Fail> {
+    let mut full = 0u32;
+    for _ in 0..CALLS {
+        let call = Call::random(&mut run.random, grows);
+        match run.take(rt, call) {
+            Ok(_) => {}
+            Err(StoreError::Full) => {
+                full = full.saturating_add(1);
+                let most = run
+                    .now
+                    .entries
+                    .len()
+                    .saturating_add(run.needs(call) as usize);
+                assert!(rt;
+                    run.needs(call) > 0 && most > 62,
+                    "{call:?} at {most} records"
+                );
+                run.forget()?;
+            }
+            Err(error) => return Err(Fail::new(error)),
+        }
+    }
+    Ok(full)
+}
+
+// Goes on behind a crash, with the records of the last commit, and says how many pages are free: not
+// fewer than before, less those that were taken since then.
+fn crash(rt: &impl Abort, run: &mut Run, choice: Choice, free: u32) -> Result<u32, Fail> {
+    let mut host = host_of(run.alloc, run.host.image(choice)?)?;
+    let same = has_map(rt, run.alloc, &mut host, &run.noise, &run.saved)?;
+    assert!(rt; same, "{choice:?}");
+    let counts = counts_of(rt, run.alloc, &mut host)?;
+    let least = free.saturating_sub(run.saved.taken);
+    assert!(rt; counts.free >= least, "{counts:?}, and not {least} free");
+    run.store = Store::open(run.alloc, &mut host)?;
+    run.host = host;
+    run.saved.taken = 0;
+    run.forget()?;
+    Ok(counts.free)
+}
+
+// Removes all records: all pages but the header and the catalog are free then.
+fn remove_all(rt: &impl Abort, run: &mut Run) -> Result<(), Fail> {
+    for _ in 0..run.now.entries.len() {
+        run.take(rt, Call::Remove { number: 0 })?;
+    }
+    run.take(rt, Call::Commit)?;
+    let free = crash(rt, run, Choice::Lost, 0)?;
+    assert_eq!(rt; free, LIMIT - 2);
+    Ok(())
+}
+
+fn check_run(rt: &impl Abort, mut run: Run) -> Result<(), Fail> {
+    let mut full = 0u32;
+    let mut free = LIMIT - 2;
+    for time in 0..TIMES {
+        let grows = time / 5 % 2 == 0;
+        full = full.saturating_add(make_calls(rt, &mut run, grows)?);
+        let choice = match time % 3 {
+            0 => Choice::Kept,
+            1 => Choice::Lost,
+            _ => Choice::Ones,
+        };
+        free = crash(rt, &mut run, choice, free)?;
+    }
+    assert!(rt; full > 100, "{full} calls found all pages full");
+    remove_all(rt, &mut run)
+}
+
+#[test]
+fn first_run(rt: HostRuntime) -> Result<(), Fail> {
+    check_run(&rt, Run::new(rt.alloc(), 1)?)
+}
+
+#[test]
+fn second_run(rt: HostRuntime) -> Result<(), Fail> {
+    check_run(&rt, Run::new(rt.alloc(), 2)?)
+}
+
+#[test]
+fn third_run(rt: HostRuntime) -> Result<(), Fail> {
+    check_run(&rt, Run::new(rt.alloc(), 3)?)
+}
+
+#[test]
+fn fourth_run(rt: HostRuntime) -> Result<(), Fail> {
+    check_run(&rt, Run::new(rt.alloc(), 4)?)
+}
+
+#[test]
+fn fifth_run(rt: HostRuntime) -> Result<(), Fail> {
+    check_run(&rt, Run::new(rt.alloc(), 5)?)
+}
