@@ -1,2 +1,6 @@
 pub mod PieceLemmas
 pub mod MapLemmas
+pub mod TidyLemmas
+pub mod PutLemmas
+pub mod RefusalLemmas
+pub mod CallLemmas

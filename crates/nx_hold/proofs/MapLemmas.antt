@@ -7,11 +7,13 @@ use Rattle.nx_piece.specs.declared.piece.Piece.{Piece}
 use Rattle.nx_piece.specs.declared.piece.Proxy.{Proxy}
 use Rattle.nx_piece.specs.declared.piece.Stored.{Stored}
 use Rattle.nx_piece.specs.declared.piece.Stored.TheVariants.{Inline, Chained}
+use Rattle.nx_piece.specs.Decoded.{IsDecoded}
 use Rattle.nx_piece.specs.Encoding.{proxies_bytes}
 use Rattle.nx_piece.proofs.StoredOf.{stored_of, decoded_is, is_stored_of, AreListed, list_of, is_list_of, list_is}
 use Rattle.nx_layouts.specs.Layout.{RecordPlace}
 use Rattle.nx_hold.specs.Pieces.{record_at, IsStored, HoldsPiece, HoldsNone, PieceMap}
-use Rattle.nx_hold.proofs.PieceLemmas.{some_same, no_value, chain_same, count_same, no_both}
+use Rattle.nx_hold.specs.Changes.{IsAdded, HasGrown}
+use Rattle.nx_hold.proofs.PieceLemmas.{one_piece, some_same, no_value, chain_same, count_same, no_both}
 
 with_proxies : Body → Option (List Proxy) → Option Piece
 with_proxies body None = None
@@ -41,6 +43,9 @@ told {held} {place} {bytes} s there h = decoded_is bytes (Some s) (h.valid, h.nu
 none_decoded : {held : Held} {place : RecordPlace} {bytes : List ℕ} → record_at held place ≡ Some bytes → stored_of bytes ≡ None → HoldsNone held place
 none_decoded there e piece (inl h) = no_value (sym (told (Inline piece) there h) ∙ e)
 none_decoded there e piece (inr h) = no_value (sym (told (Chained piece.body (length piece.proxies) h.chain) there h.stored) ∙ e)
+
+pub undecoded : {held : Held} {place : RecordPlace} {bytes : List ℕ} → record_at held place ≡ Some bytes → IsDecoded bytes None → HoldsNone held place
+undecoded {bytes = bytes} there none = none_decoded there (decoded_is bytes None none)
 
 -- where the record names a list, a piece is only one whose proxies that list has
 none_listed : {held : Held} {place : RecordPlace} {bytes : List ℕ} {body : Body} {count chain : ℕ} → record_at held place ≡ Some bytes → stored_of bytes ≡ Some (Chained body count chain)
@@ -82,7 +87,7 @@ at_stored {place} {bytes} held (Some (Inline piece)) there e =
     inl (record { bytes = there ∙ ap Some got.2; valid = got.0; numbers = got.1 })
 at_stored held (Some (Chained body count chain)) there e = at_list held body count chain (held.lists chain) there e refl
 
-no_record : {held : Held} {place : RecordPlace} → record_at held place ≡ None → HoldsNone held place
+pub no_record : {held : Held} {place : RecordPlace} → record_at held place ≡ None → HoldsNone held place
 no_record e piece (inl h) = no_value (sym h.bytes ∙ e)
 no_record e piece (inr h) = no_value (sym h.stored.bytes ∙ e)
 
@@ -96,3 +101,21 @@ piece_map held = record {
   piece_at = λ place. by_record held (record_at held place);
   are = λ place. at_record held place (record_at held place) refl;
 }
+
+told_some : (held : Held) (place : RecordPlace) (piece : Piece) (o : Option Piece) → IsAt held place o → HoldsPiece held place piece → o ≡ Some piece
+told_some held place piece None none holds = absurd (none piece holds)
+told_some held place piece (Some other) there holds = ap Some (one_piece held place other piece there holds)
+
+told_none : (held : Held) (place : RecordPlace) (o : Option Piece) → IsAt held place o → HoldsNone held place → o ≡ None
+told_none held place None at none = refl
+told_none held place (Some piece) there none = absurd (none piece there)
+
+pub map_grows : (place : RecordPlace) (piece : Piece) (was now : Held) (before : PieceMap was) (after : PieceMap now) → IsAdded place piece was now → HasGrown place piece before.piece_at after.piece_at
+map_grows place piece was now before after added = record {
+  none = told_none was place (before.piece_at place) (before.are place) added.was_none;
+  there = told_some now place piece (after.piece_at place) (after.are place) added.there;
+  stay = λ other earlier e. told_some now other earlier (after.piece_at other) (after.are other) (added.stay other earlier (held_before other earlier e));
+}
+  where
+    held_before : (other : RecordPlace) (earlier : Piece) → before.piece_at other ≡ Some earlier → HoldsPiece was other earlier
+    held_before other earlier e = let there : IsAt was other (Some earlier) = subst (λ (o : Option Piece). IsAt was other o) e (before.are other) in there

@@ -14,7 +14,7 @@ use Rattle.nx_hold.specs.Pieces.{record_at, IsStored, HoldsPiece, NamesList, Nam
 pub some_same : {A : Type 0} {x y : A} → Some x ≡ Some y → x ≡ y
 some_same e = cc
 
-one_at : (held : Held) (place : RecordPlace) (a b : Stored) → IsStored held place a → IsStored held place b → a ≡ b
+pub one_at : (held : Held) (place : RecordPlace) (a b : Stored) → IsStored held place a → IsStored held place b → a ≡ b
 one_at held place a b h k = one_stored a b h.valid k.valid h.numbers k.numbers (some_same (sym h.bytes ∙ k.bytes))
 
 inline_same : (a b : Piece) → Inline a ≡ Inline b → a ≡ b
@@ -51,7 +51,7 @@ one_piece held place piece other (inr h) (inr k) =
 pub no_value : {A : Type 0} {x : A} → Some x ≡ None → ⊥
 no_value e = cc
 
-stays_stored : (was now : Held) (place : RecordPlace) (stored : Stored) → record_at now place ≡ record_at was place → IsStored was place stored → IsStored now place stored
+pub stays_stored : (was now : Held) (place : RecordPlace) (stored : Stored) → record_at now place ≡ record_at was place → IsStored was place stored → IsStored now place stored
 stays_stored was now place stored same h = record { bytes = same ∙ h.bytes; valid = h.valid; numbers = h.numbers }
 
 pub pieces_stay : (was now : Held) (place : RecordPlace) (piece : Piece) → record_at now place ≡ record_at was place
@@ -66,7 +66,7 @@ pieces_stay was now place piece same lists (inr h) = inr (record {
 })
 
 -- a list that another record names stays
-lists_stay : {old new : Option RecordPlace} {needs : ℕ} {was now : Held} {place : RecordPlace} → IsTidy was → ChangesOne old new needs was now → (Some place ≡ old → ⊥)
+pub lists_stay : {old new : Option RecordPlace} {needs : ℕ} {was now : Held} {place : RecordPlace} → IsTidy was → ChangesOne old new needs was now → (Some place ≡ old → ⊥)
     → (count chain : ℕ) → NamesList was place count chain → now.lists chain ≡ was.lists chain
 lists_stay {old} {new} {needs} {was} {now} {place} tidy h not_old count chain names = h.lists chain free_of_old free_of_new
   where

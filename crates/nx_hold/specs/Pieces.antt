@@ -80,6 +80,14 @@ OthersStay = (old new : Option RecordPlace) (needs : ℕ) (was now : Held) → I
     → (place : RecordPlace) → (Some place ≡ old → ⊥) → (Some place ≡ new → ⊥)
     → (piece : Piece) → (HoldsPiece was place piece → HoldsPiece now place piece) × (HoldsPiece now place piece → HoldsPiece was place piece)
 
+-- where a record comes, it holds a piece
+abbrev pub ComesPiece : Held → Option RecordPlace → Type 0
+ComesPiece now new = (place : RecordPlace) → Some place ≡ new → (piece : Piece) × HoldsPiece now place piece
+
+-- Lists stay in order where one record changes, and the one that comes holds a piece.
+abbrev pub TidyStays : Type 0
+TidyStays = (old new : Option RecordPlace) (needs : ℕ) (was now : Held) → IsTidy was → ChangesOne old new needs was now → ComesPiece now new → IsTidy now
+
 -- no piece is held by the record at the place, or no record is there
 abbrev pub HoldsNone : Held → RecordPlace → Type 0
 HoldsNone held place = (piece : Piece) → HoldsPiece held place piece → ⊥

@@ -1,5 +1,6 @@
 //! What holds of the pieces that records hold.
-ghost use Rattle.nx_hold.specs.Pieces.{HavePieceMap, OnePiece, OthersStay, PiecesStay};
+ghost use Rattle.nx_hold.specs.Pieces.{HavePieceMap, OnePiece, OthersStay, PiecesStay, TidyStays};
+ghost use Rattle.nx_hold.specs.Changes.{AddsStay, MapGrows};
 
 /// The record at a place holds one piece at most.
 pub fn one_piece()
@@ -20,4 +21,21 @@ pub fn others_stay()
 /// The pieces of a store are a map from the places of their records.
 pub fn have_piece_map()
     ensures { HavePieceMap }
+{}
+
+/// Where each list that a record names is there and named once, that stays so when one record changes, and the one
+/// that comes holds a piece.
+pub fn tidy_stays()
+    ensures { TidyStays }
+{}
+
+/// A piece that was added is where none was, and all earlier ones stay.
+pub fn adds_stay()
+    ensures { AddsStay }
+{}
+
+/// An added piece makes the map of pieces grow: it had nothing at the place, has the piece there, and
+/// all that it had.
+pub fn map_grows()
+    ensures { MapGrows }
 {}

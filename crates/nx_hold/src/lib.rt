@@ -1,7 +1,9 @@
-//! Pieces in records: which piece the record at a place holds, and what a change of one of them leaves.
-//!
-//! It has definitions and their laws alone so far (`specs/Pieces.antt`); the calls that read and write pieces
-//! stand on them.
+//! Pieces in records: which piece the record at a place holds, and the calls that read, add, replace and take away
+//! one. A piece's proxies stand in its record, or in a byte list that the record names.
 #![tactic(auto)]
 
 pub mod laws;
+mod lists;
+mod pieces;
+
+pub use pieces::{add_piece, read_piece, remove_piece, update_piece};

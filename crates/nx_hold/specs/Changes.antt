@@ -1,0 +1,75 @@
+-- What a call makes of the pieces that records hold.
+use Rattle.std.specs.Prelude.{◌≡◌, ℕ, ◌+◌, ◌*◌, if◌then◌else◌, length, Option, None, Some}
+use Rattle.nx_host.specs.declared.disk.Disk.{Ghosts}
+use Rattle.nx_holdings.specs.Holdings.{Held, chain_count}
+use Rattle.nx_records.specs.Records.{StandsFor}
+use Rattle.nx_records.specs.declared.records.Records.{Records}
+use Rattle.nx_records.specs.declared.records.Rid.{Rid}
+use Rattle.nx_piece.specs.declared.piece.Piece.{Piece}
+use Rattle.nx_piece.specs.declared.piece.Proxy.{Proxy}
+use Rattle.nx_piece.specs.declared.piece.Stored.{Stored}
+use Rattle.nx_piece.specs.Valid.{is_inline}
+use Rattle.nx_layouts.specs.Layout.{RecordPlace}
+use Rattle.nx_hold.specs.Pieces.{record_at, IsStored, HoldsPiece, HoldsNone, IsTidy, ChangesOne, PieceMap}
+
+abbrev pub place_of : Rid → RecordPlace
+place_of rid = record { page = rid.page; slot = rid.slot }
+
+-- the place that a proxy names
+abbrev pub place_named : Proxy → RecordPlace
+place_named proxy = record { page = proxy.page; slot = proxy.slot }
+
+-- how many chain pages the proxies of a piece take
+abbrev pub chain_pages : Piece → ℕ
+chain_pages piece = if is_inline piece then 0 else chain_count (8 * length piece.proxies)
+
+-- how many pages a call may need that puts the piece: one, and those of the chain
+abbrev pub piece_needs : Piece → ℕ
+piece_needs piece = 1 + chain_pages piece
+
+-- the record at the place has the bytes of a valid piece
+abbrev pub IsPieceRecord : Held → RecordPlace → Type 0
+IsPieceRecord held place = (stored : Stored) × IsStored held place stored
+
+-- A piece came to a place that was free.
+pub record AddsPiece (place : RecordPlace) (piece : Piece) (was now : Held) : Type 0 where
+  pub was_free : record_at was place ≡ None
+  pub holds : HoldsPiece now place piece
+  pub alone : ChangesOne None (Some place) (piece_needs piece) was now
+
+-- A piece came in the place of another, or came to a place that was free and the other went.
+pub record UpdatesPiece (old new : RecordPlace) (piece : Piece) (was now : Held) : Type 0 where
+  pub was_there : IsPieceRecord was old
+  pub was_free : (old ≡ new → ⊥) → record_at was new ≡ None
+  pub holds : HoldsPiece now new piece
+  pub alone : ChangesOne (Some old) (Some new) (piece_needs piece) was now
+
+-- A piece went.
+pub record RemovesPiece (place : RecordPlace) (was now : Held) : Type 0 where
+  pub was_there : IsPieceRecord was place
+  pub alone : ChangesOne (Some place) None 0 was now
+
+-- Of what they stood for, where its lists are in order, the records now stand for something that came of it so, and its lists are in order.
+abbrev pub ComesTidy : {D : Type 0} → Ghosts D → Records → Records → D → D → (Held → Held → Type 0) → Type 0
+ComesTidy d old new before after Comes =
+    (saved now : Held) → StandsFor d old before saved now → IsTidy now → (next : Held) × StandsFor d new after saved next × IsTidy next × Comes now next
+
+-- An added piece is where no piece was, and all earlier ones stay.
+pub record IsAdded (place : RecordPlace) (piece : Piece) (was now : Held) : Type 0 where
+  pub was_none : HoldsNone was place
+  pub there : HoldsPiece now place piece
+  pub stay : (other : RecordPlace) (earlier : Piece) → HoldsPiece was other earlier → HoldsPiece now other earlier
+  pub tidy : IsTidy now
+
+abbrev pub AddsStay : Type 0
+AddsStay = (place : RecordPlace) (piece : Piece) (was now : Held) → IsTidy was → AddsPiece place piece was now → IsAdded place piece was now
+
+-- a map that had nothing at the place has the piece there, and all that it had
+pub record HasGrown (place : RecordPlace) (piece : Piece) (before after : RecordPlace → Option Piece) : Type 0 where
+  pub none : before place ≡ None
+  pub there : after place ≡ Some piece
+  pub stay : (other : RecordPlace) (earlier : Piece) → before other ≡ Some earlier → after other ≡ Some earlier
+
+-- An added piece makes the map of pieces grow.
+abbrev pub MapGrows : Type 0
+MapGrows = (place : RecordPlace) (piece : Piece) (was now : Held) (before : PieceMap was) (after : PieceMap now) → IsAdded place piece was now → HasGrown place piece before.piece_at after.piece_at

@@ -1,0 +1,136 @@
+// The pieces that records hold: reading them, adding, replacing and taking away.
+ghost use Rattle.std.specs.Prelude.{◌≡◌, ◌≢◌, ◌+◌, ◌≤◌, [], true, false, length, IfOk, IfErr, OnOk};
+ghost use Rattle.nx_host.specs.Still.{IsStill};
+ghost use Rattle.nx_wal.specs.Wal.{pending};
+ghost use Rattle.nx_holdings.specs.Holdings.{Held};
+ghost use Rattle.nx_records.specs.Records.{StandsFor, KeepsSaved, has_ended};
+ghost use Rattle.nx_records.specs.Refusals.{NotRead, NotChanged, NotStored, RunsOn};
+ghost use Rattle.nx_piece.specs.Gapped.{width};
+ghost use Rattle.nx_piece.specs.Valid.{IsValidPiece, HaveNumbers};
+ghost use Rattle.nx_hold.specs.Pieces.{HoldsPiece, HoldsNone, IsTidy};
+ghost use Rattle.nx_hold.specs.Changes.{place_of, place_named, chain_pages, piece_needs, AddsPiece, UpdatesPiece, RemovesPiece, ComesTidy};
+
+use crate::lists::{free_proxies, proxies_at, record_bytes, stored_at};
+use nx_host::Disk;
+use nx_piece::{Piece, Proxy, Stored};
+use nx_records::{Records, Rid, StoreError};
+use std::alloc::Global;
+
+/// The piece of the record at a place, with its proxies. It reads the record's page, and the chain
+/// pages of the proxies that don't stand in the record.
+///
+/// Errors: `Damaged` with the place's page, only where the pages aren't sound or the record at the
+/// place holds no piece: there is none, its bytes are those of none, or the list that it names
+/// doesn't hold its proxies, each with 1 to 256 roots; `Disk`, only where `faults` rose; `Ended`
+/// exactly where the records had ended; `Memory`.
+pub fn read_piece<D: Disk>(
+    alloc: Global,
+    records: &mut Records,
+    disk: &mut D,
+    rid: Rid,
+) -> Result<Piece, StoreError>
+    ensures still { IsStill D.Disk disk.old disk.new }
+    ensures reads { IfOk result (λ piece. D.reads disk.new ≤ D.reads disk.old + (1 + chain_pages piece)) }
+    ensures valid { IfOk result (λ piece. IsValidPiece piece × HaveNumbers piece.proxies) }
+    ensures ok { IfOk result (λ piece. (has_ended records.old ≡ false) × (records.new ≡ records.old)
+        × ((saved now : Held) → StandsFor D.Disk records.old disk.old saved now → IsTidy now → HoldsPiece now (place_of rid) piece)) }
+    ensures refused { IfErr result (λ e. NotRead D.Disk (λ now. HoldsNone now (place_of rid)) rid.page e records.old records.new disk.old disk.new) }
+{
+    match stored_at(alloc, records, disk, rid)? {
+        Stored::Inline(piece) => Ok(piece),
+        Stored::Chained { body, count, chain } => {
+            let proxies = proxies_at(alloc, records, disk, count, chain, rid.page)?;
+            Ok(Piece { body, proxies })
+        }
+    }
+}
+
+/// Adds a piece at a place that was free, and answers its proxy. Its proxies stand in its record
+/// exactly where that then has at most 8,176 bytes, and else in a list of their own.
+///
+/// Errors: `Full`, over sound pages only where fewer pages were free than one, and one for each
+/// chain page of that list; `Damaged` with page 0, only where the pages aren't sound; `Disk`, only
+/// where `faults` rose; `Ended` exactly where the records had ended; `Memory`. After `Full` and
+/// `Memory` the caller calls `abandon`.
+pub fn add_piece<D: Disk>(
+    alloc: Global,
+    records: &mut Records,
+    disk: &mut D,
+    piece: &Piece,
+) -> Result<Proxy, StoreError>
+    requires { IsValidPiece piece.now }
+    ensures still { IsStill D.Disk disk.old disk.new }
+    ensures roots { IfOk result (λ proxy. proxy.roots ≡ width piece.now.body.roots) }
+    ensures ok { IfOk result (λ proxy. ComesTidy D.Disk records.old records.new disk.old disk.new (λ was now. AddsPiece (place_named proxy) piece.now was now)) }
+    ensures keeps { IfOk result (λ proxy. RunsOn records.old records.new × KeepsSaved D.Disk records.old records.new disk.old disk.new × (pending records.new.wal ≢ [])) }
+    ensures refused { IfErr result (λ e. NotStored D.Disk (λ was. piece_needs piece.now) (λ was. ⊥) 0 e records.old records.new disk.old disk.new) }
+{
+    if records.is_ended() {
+        return Err(StoreError::Ended);
+    }
+    let bytes = record_bytes(alloc, records, disk, piece, 0)?;
+    let rid = records.add(disk, bytes.as_slice())?;
+    Ok(proxy_of(rid, piece))
+}
+
+/// Puts a piece in the place of another, and answers its proxy, whose place is another one where the
+/// record doesn't fit there. The list of the old piece goes, and that of the new one comes.
+///
+/// Errors: `Full`, over sound pages only where fewer pages were free than one, and one for each
+/// chain page of the new list; `Damaged` with the place's page, only where the pages aren't sound or
+/// the record at the place holds no piece; `Disk`, only where `faults` rose; `Ended` exactly where
+/// the records had ended; `Memory`. After `Full` and `Memory` the caller calls `abandon`.
+pub fn update_piece<D: Disk>(
+    alloc: Global,
+    records: &mut Records,
+    disk: &mut D,
+    rid: Rid,
+    piece: &Piece,
+) -> Result<Proxy, StoreError>
+    requires { IsValidPiece piece.now }
+    ensures still { IsStill D.Disk disk.old disk.new }
+    ensures roots { IfOk result (λ proxy. proxy.roots ≡ width piece.now.body.roots) }
+    ensures ok { IfOk result (λ proxy. ComesTidy D.Disk records.old records.new disk.old disk.new (λ was now. UpdatesPiece (place_of rid) (place_named proxy) piece.now was now)) }
+    ensures keeps { IfOk result (λ proxy. RunsOn records.old records.new × KeepsSaved D.Disk records.old records.new disk.old disk.new × (pending records.new.wal ≢ [])) }
+    ensures refused { IfErr result (λ e. NotStored D.Disk (λ was. piece_needs piece.now) (λ was. HoldsNone was (place_of rid)) rid.page e records.old records.new disk.old disk.new) }
+{
+    let old = stored_at(alloc, records, disk, rid)?;
+    let bytes = record_bytes(alloc, records, disk, piece, rid.page)?;
+    let place = records.update(disk, rid, bytes.as_slice())?;
+    free_proxies(alloc, records, disk, &old, rid.page)?;
+    Ok(proxy_of(place, piece))
+}
+
+/// Takes the piece of the record at a place away, and the list of its proxies.
+///
+/// Errors: `Damaged` with the place's page, only where the pages aren't sound or the record at the
+/// place holds no piece; `Disk`, only where `faults` rose; `Ended` exactly where the records had
+/// ended; `Memory`, after which the caller calls `abandon`.
+pub fn remove_piece<D: Disk>(
+    alloc: Global,
+    records: &mut Records,
+    disk: &mut D,
+    rid: Rid,
+) -> Result<(), StoreError>
+    ensures still { IsStill D.Disk disk.old disk.new }
+    ensures ok { OnOk result (ComesTidy D.Disk records.old records.new disk.old disk.new (λ was now. RemovesPiece (place_of rid) was now)) }
+    ensures keeps { OnOk result (RunsOn records.old records.new × KeepsSaved D.Disk records.old records.new disk.old disk.new × (pending records.new.wal ≢ [])) }
+    ensures refused { IfErr result (λ e. NotChanged D.Disk (λ was. HoldsNone was (place_of rid)) rid.page e records.old records.new disk.old disk.new) }
+{
+    let old = stored_at(alloc, records, disk, rid)?;
+    records.remove(disk, rid)?;
+    free_proxies(alloc, records, disk, &old, rid.page)
+}
+
+// The proxy of a piece at a place.
+fn proxy_of(rid: Rid, piece: &Piece) -> Proxy
+    requires { width piece.now.body.roots ≤ 256 }
+    ensures place { place_named result ≡ place_of rid }
+    ensures roots { result.roots ≡ width piece.now.body.roots }
+{
+    Proxy {
+        page: rid.page,
+        slot: rid.slot,
+        roots: piece.body.roots.len() as u16,
+    }
+}
