@@ -1,0 +1,15 @@
+//! Tests of `nx_hold` over a host in memory. It has nothing but tests, so that all of it is proved once.
+#![tactic(auto)]
+
+#[cfg(test)]
+mod forms;
+#[cfg(test)]
+mod made;
+#[cfg(test)]
+mod pages;
+#[cfg(test)]
+mod random;
+#[cfg(test)]
+mod sequences;
+#[cfg(test)]
+mod stores;

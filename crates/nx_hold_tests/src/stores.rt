@@ -1,0 +1,154 @@
+// Pieces over a host in memory, which are asked for nothing that they don't promise to do.
+ghost use Rattle.std.specs.Prelude.{◌≡◌, ◌≢◌, [], true};
+ghost use Rattle.nx_piece.specs.Valid.{IsValidPiece};
+ghost use Rattle.nx_wal.specs.Wal.{pending};
+
+use nx_hold::{add_piece, read_piece, remove_piece, update_piece};
+use nx_lists::{List, NoMemory};
+use nx_memory::{Image, MemoryHost};
+use nx_piece::{Piece, Proxy};
+use nx_records::{Records, Rid, Settings, StoreError};
+use std::alloc::Global;
+use std::process::Abort;
+
+/// How many pages there may be.
+pub const LIMIT: u32 = 64;
+
+/// A host with empty areas, and with room for some commits of many pages.
+pub fn empty_host(alloc: Global) -> Result<MemoryHost, NoMemory> {
+    let image = Image {
+        pages: List::new(alloc),
+        log: List::new(alloc),
+    };
+    MemoryHost::new(alloc, image, List::new(alloc), 1, 67_108_864)
+}
+
+/// Records, and whether they were changed since the last commit. What a refused call changed is
+/// dropped at once.
+#[derive(Drop)]
+pub struct Store {
+    records: Records,
+    changed: bool,
+    ghost waits: { changed ≡ true → pending records.wal ≢ [] },
+}
+
+impl Store {
+    pub fn create(alloc: Global, host: &mut MemoryHost) -> Result<Store, StoreError> {
+        let settings = Settings {
+            k: 16,
+            target: 50,
+            tolerance: 4,
+            limit: LIMIT,
+        };
+        let records = Records::create(alloc, host, settings)?;
+        Ok(Store {
+            records,
+            changed: false,
+        })
+    }
+
+    pub fn has_free_page(&self) -> bool {
+        self.records.has_free_page()
+    }
+
+    pub fn is_ended(&self) -> bool {
+        self.records.is_ended()
+    }
+
+    pub fn read(
+        &mut self,
+        alloc: Global,
+        host: &mut MemoryHost,
+        place: Rid,
+    ) -> Result<Piece, StoreError> {
+        match read_piece(alloc, &mut self.records, host, place) {
+            Ok(piece) => Ok(piece),
+            Err(error) => {
+                self.changed = false;
+                self.records.abandon();
+                Err(error)
+            }
+        }
+    }
+
+    pub fn add(
+        &mut self,
+        alloc: Global,
+        host: &mut MemoryHost,
+        piece: &Piece,
+    ) -> Result<Proxy, StoreError>
+        requires { IsValidPiece piece.now }
+    {
+        match add_piece(alloc, &mut self.records, host, piece) {
+            Ok(proxy) => {
+                self.changed = true;
+                Ok(proxy)
+            }
+            Err(error) => {
+                self.changed = false;
+                self.records.abandon();
+                Err(error)
+            }
+        }
+    }
+
+    pub fn update(
+        &mut self,
+        alloc: Global,
+        host: &mut MemoryHost,
+        place: Rid,
+        piece: &Piece,
+    ) -> Result<Proxy, StoreError>
+        requires { IsValidPiece piece.now }
+    {
+        match update_piece(alloc, &mut self.records, host, place, piece) {
+            Ok(proxy) => {
+                self.changed = true;
+                Ok(proxy)
+            }
+            Err(error) => {
+                self.changed = false;
+                self.records.abandon();
+                Err(error)
+            }
+        }
+    }
+
+    pub fn remove(
+        &mut self,
+        alloc: Global,
+        host: &mut MemoryHost,
+        place: Rid,
+    ) -> Result<(), StoreError> {
+        match remove_piece(alloc, &mut self.records, host, place) {
+            Ok(()) => {
+                self.changed = true;
+                Ok(())
+            }
+            Err(error) => {
+                self.changed = false;
+                self.records.abandon();
+                Err(error)
+            }
+        }
+    }
+
+    /// Commits, where something was changed.
+    pub fn commit(&mut self, rt: &impl Abort, host: &mut MemoryHost) -> Result<(), StoreError> {
+        if !self.changed {
+            return Ok(());
+        }
+        assert!(rt; self.records.log_length() <= 1 << 62);
+        match self.records.commit(host) {
+            Ok(()) => {
+                self.changed = false;
+                Ok(())
+            }
+            Err(error) => {
+                self.changed = false;
+                self.records.abandon();
+                Err(error)
+            }
+        }
+    }
+}
