@@ -4,7 +4,7 @@ use Rattle.std.proofs.lemmas.List.{take-append-drop, length-take-le, length-drop
 use Rattle.nx_matrix.specs.declared.rule.Entry.{Entry}
 use Rattle.nx_parts.specs.declared.interval.Interval.{Interval}
 use Rattle.nx_sketch.specs.declared.spot.Spot.{Spot}
-use Rattle.nx_sketch.specs.Sketch.{Sketch, Empty, Plant, nodes, spots_of, total}
+use Rattle.nx_sketch.specs.Sketch.{Sketch, Empty, Plant, nodes, spots_of, total, IsFlat}
 use Rattle.nx_division.specs.declared.cut.Cut.{Cut}
 use Rattle.nx_division.specs.declared.cut.Cut.TheVariants.{Stays, Begins, GoesOn}
 use Rattle.nx_division.specs.Parts.{IsParted}
@@ -107,6 +107,23 @@ module _ (spot : Spot) (below beside : List Spot) (cuts : List Cut) (cut : Cut) 
         omega (arith, i.stays, j.stays, p.weight, left-total b xs, left-total s ys),
         omega (arith, i.stays, j.goes_on, p.weight, left-total b xs, goes-total s ys),
       )
+
+-- a list with its cuts, of which the first node is taken apart
+pub record IsTakenApart (spots : List Spot) (cuts : List Cut) (spot : Spot) (below beside : List Spot) : Type 0 where
+  pub flat : IsFlat spots
+  pub cases : (s : Sketch) → spots ≡ spots_of s → IsParted spot below beside s
+  pub shorter : length spots ≡ 1 + length below + length beside
+  pub len : length cuts ≡ length spots
+
+-- no sum of what the parts weigh is too great
+pub sums_fit : {l g h m n o : ℕ} {spots : List Spot} {cuts : List Cut} {spot : Spot} {below beside : List Spot} → IsTakenApart spots cuts spot below beside → Weighs below (cuts_below cuts below) l g h → Weighs beside (cuts_beside cuts below) m n o
+    → (spot.weight + l + m < 2 ^ 24) × (spot.weight + l + n < 2 ^ 24)
+sums_fit {l} {g} {h} {m} {n} {o} {spots} {cuts} {spot} {below} {beside} is inner others =
+    let flat = is.flat in
+    let shorter = is.shorter in
+    let len = is.len in
+    let apart = cut_apart cuts Stays below (omega arith) in
+    weigh_small spot below beside cuts (get_or cuts 0 Stays) (cuts_below cuts below) (cuts_beside cuts below) l g h m n o apart inner others flat.sketch (is.cases flat.sketch flat.is) flat.small
 
 -- where an interval ends that is gone on with
 abbrev pub EndsAt : List Spot → List Cut → ℕ → ℕ → Type 0

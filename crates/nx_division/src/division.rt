@@ -1,6 +1,5 @@
 // The split of a part that is too heavy.
-ghost use Rattle.std.specs.Prelude.{◌≡◌, ◌≤◌, ◌<◌, ◌^◌, length, IfOk, OnOk};
-ghost use Rattle.std.specs.List.{sum_by};
+ghost use Rattle.std.specs.Prelude.{◌≡◌, ◌<◌, ◌^◌, length, IfOk, OnOk};
 ghost use Rattle.nx_sketch.specs.Sketch.{Sketch, AreAtMost, IsSketch, placed, spots_of};
 ghost use Rattle.nx_sketch.specs.Split.{IsSplit};
 ghost use Rattle.nx_division.specs.Drawn.{drawn};
@@ -14,14 +13,14 @@ use crate::wish::wish;
 use crate::write::write;
 use nx_lists::NoMemory;
 use nx_parts::Partitioning;
-use nx_sketch::Spot;
+use nx_sketch::{Spot, point};
 use std::alloc::Global;
 
 /// The intervals that replace a part, in document order of their first members: the separator's plan
 /// where none of its parts weighs more than `k`, and else a plan of which that holds, whose neighbours
 /// don't fit together, and that cuts no cluster edge where no cluster component weighs more than `k`.
-/// Paths begin at a helper above the roots. The part is divided at its weight times `target`, which is at
-/// most 100, divided by 100; `tolerance` is what the subtree of a node of the separator weighs more than.
+/// Paths begin at a helper above the roots. The part is divided at its weight times `target`, divided by
+/// 100; `tolerance` is what the subtree of a node of the separator weighs more than.
 /// The list has to be that of a sketch which weighs less than 2^24 and each of whose nodes weighs 1 to `k`;
 /// its positions have to rise, and no root may be a cluster child.
 ///
@@ -34,11 +33,10 @@ pub fn split(
     tolerance: u32,
 ) -> Result<Partitioning, NoMemory>
     requires k { k < 2 ^ 24 }
-    requires target { target ≤ 100 }
     requires sketch { IsSplittable k spots.now }
     ensures { IfOk result (λ parts. (s : Sketch) → spots.now ≡ spots_of s → IsSketch s → AreAtMost k s → IsSplit k (placed s) target tolerance parts) }
 {
-    let t = weight(spots) * target / 100;
+    let t = point(spots, target);
     let mut cuts = vec![in alloc; Cut::Stays; spots.len()]?;
     draw(alloc, k, t, tolerance, spots, &mut cuts)?;
     let mut path = Vec::new(alloc);
@@ -47,19 +45,11 @@ pub fn split(
     Ok(parts)
 }
 
-// What the nodes weigh.
-fn weight(spots: &[Spot]) -> u32
-    requires { sum_by (λ spot. spot.weight) spots.now < 2 ^ 24 }
-    ensures { result ≡ sum_by (λ spot. spot.weight) spots.now }
-{
-    spots.iter().map(|spot| spot.weight).sum()
-}
-
 // Draws the split of a part that is divided at `t`.
 fn draw(
     alloc: Global,
     k: u32,
-    t: u32,
+    t: u64,
     tolerance: u32,
     spots: &[Spot],
     cuts: &mut [Cut],

@@ -96,18 +96,17 @@ fn side_of(kind: Kind, position: u32, left: bool) -> Option<Side>
 }
 
 // Whether a subtree of that weight, which so much comes before, is of the separator.
-fn is_marked(t: u32, tolerance: u32, before: u64, within: u64) -> bool
+fn is_marked(t: u64, tolerance: u32, before: u64, within: u64) -> bool
     requires before { before < 2 ^ 63 }
     requires within { within < 2 ^ 32 }
     ensures { result ≡ mark_by t tolerance before within }
 {
-    let t = u64::from(t);
     before <= t && t < before + within && u64::from(tolerance) < within
 }
 
 // Draws these nodes and all below them, where so much comes before.
 pub(crate) fn separate(
-    t: u32,
+    t: u64,
     tolerance: u32,
     before: u64,
     root: bool,
@@ -128,7 +127,7 @@ pub(crate) fn separate(
     let within = u64::from(spot.within);
     let end = before + within;
     let marked = is_marked(t, tolerance, before, within);
-    let left = end <= u64::from(t);
+    let left = end <= t;
     let kind = Kind::new(spot.entry, root, wide, marked);
     let inner = before + u64::from(spot.weight);
     separate(

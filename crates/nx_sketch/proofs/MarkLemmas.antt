@@ -242,5 +242,5 @@ all_marked t tolerance spots index before found h end =
     let none : drop index spots ≡ [] = drop_all index spots end in
     sym (append-nil found) ∙ ap (λ l. found ++ marks_from t tolerance before l) (sym none) ∙ h.rest
 
-pub small_product : (weight target : ℕ) → weight < 2 ^ 24 → target ≤ 100 → weight * target < 2 ^ 31
-small_product weight target a b = let m : weight * target ≤ 2 ^ 24 * 100 = mul-le-mul {n₁ = weight} {m₁ = target} {n₂ = 2 ^ 24} {m₂ = 100} (omega arith) b in omega arith
+pub small_product : (weight target : ℕ) → weight < 2 ^ 24 → target < 2 ^ 32 → weight * target < 2 ^ 64
+small_product weight target a b = let m : weight * target ≤ 2 ^ 24 * 2 ^ 32 = mul-le-mul {n₁ = weight} {m₁ = target} {n₂ = 2 ^ 24} {m₂ = 2 ^ 32} (omega arith) (omega arith) in omega arith

@@ -9,5 +9,5 @@
 mod marks;
 mod spot;
 
-pub use marks::{Marks, separator};
+pub use marks::{Marks, point, separator};
 pub use spot::Spot;

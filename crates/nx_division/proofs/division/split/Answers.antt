@@ -1,8 +1,7 @@
-use Rattle.std.proofs.Common.{◌≡◌, ◌*◌, ◌/◌, ◌++◌, [], ℕ, List, ap, sym, subst, ◌∙◌, arith}
+use Rattle.std.proofs.Common.{◌≡◌, ◌++◌, [], List, sym, subst, ◌∙◌}
 use Rattle.nx_sketch.specs.Sketch.{placed}
 use Rattle.nx_sketch.specs.Separator.{point}
 use Rattle.nx_sketch.specs.Split.{IsSplit}
-use Rattle.nx_sketch.proofs.MarkLemmas.{point_is, small_product, weight_small}
 use Rattle.nx_division.specs.declared.cut.Cut.{Cut}
 use Rattle.nx_division.specs.Drawn.{drawn, intervals}
 use Rattle.nx_division.specs.Divided.{IsDivided}
@@ -10,22 +9,15 @@ use Rattle.nx_division.proofs.SpotLemmas.{bare-drawn, take-front}
 use Rattle.nx_division.proofs.SplitLemmas.{divided_split, flat_of}
 use Rattle.nx_division.proofs.division.split.Goals as goal
 
-pub weight-requires : goal.weight-requires
-weight-requires c = weight_small c.args.spots.now (flat_of c.args.k c.args.spots.now c.requires.sketch)
-
-pub overflow_mul-t : goal.overflow_mul-t
-overflow_mul-t c =
-    let small = weight_small c.args.spots.now (flat_of c.args.k c.args.spots.now c.requires.sketch) in
-    let e = c.weight.ensures in
-    let p = small_product c.weight.result c.args.target (omega arith) c.requires.target in
-    omega arith
+pub point-t-requires : goal.point-t-requires
+point-t-requires c = flat_of c.args.k c.args.spots.now c.requires.sketch
 
 pub returns : goal.returns
 returns c = λ s is sketch light.
     let cuts = c.deref.result.now in
     let same : cuts ≡ c.draw.new.cuts = c.deref.ensures.value ∙ take-front c.draw.new.cuts _ c.in_ok-cuts.cuts.len (c.draw.auto.cuts ∙ c.deref_mut.ensures.len) in
-    let t = c.weight.result * c.args.target / 100 in
-    let t_is : t ≡ point (placed s) c.args.target = ap (λ (n : ℕ). n * c.args.target / 100) c.weight.ensures ∙ point_is s c.args.spots.now c.args.target is in
+    let t = c.point-t.result in
+    let t_is : t ≡ point (placed s) c.args.target = c.point-t.ensures s is in
     let divided : IsDivided c.args.k (point (placed s) c.args.target) c.args.tolerance s (drawn s cuts) =
     subst (λ n. IsDivided c.args.k n c.args.tolerance s (drawn s cuts)) t_is (subst (λ (q : List Cut). IsDivided c.args.k t c.args.tolerance s (drawn s q)) (sym same) (c.in_ok-draw.ensures s is sketch light)) in
     let found : c.write.new.found ≡ intervals [] (drawn s cuts) = c.in_ok-write.ensures.found s is ∙ (λ i. c.new-parts.ensures i ++ intervals (c.new-path.ensures.items i) (drawn s cuts)) in

@@ -11,7 +11,7 @@ separate-requires t c =
     let shorter = c.in-Some.ensures.shorter in
     let room = parts_room c.args.before (2 ^ 62) c.args.spots.now c.in-Some.spot.now c.in-Some.below.now c.in-Some.beside.now flat.sketch flat.is part c.requires.room in
     let r = room.0 in
-    let w = c.from-2.ensures in
+    let w = c.from.ensures in
     (omega arith, (below_flat c.in-Some.spot.now c.in-Some.below.now c.in-Some.beside.now flat.sketch part flat.small, (mid_len c.args.cuts.now (length c.in-Some.below.now) (length c.in-Some.beside.now) (c.requires.len ∙ shorter), omega arith)))
 
 pub separate-requires-2 : goal.separate-requires-2
@@ -42,7 +42,7 @@ returns t c = λ s is.
     let before = c.args.before in
     let marked = c.is_marked-marked.ensures ∙ ap (mark_by c.args.t c.args.tolerance before) c.from-within.ensures in
     separate_parts c.args.t c.args.tolerance before c.args.root c.args.wide c.args.side c.in-Some.spot.now c.in-Some.below.now c.in-Some.beside.now c.separate.new.cuts c.separate-2.new.cuts _ c.cut_of.result c.is_marked-marked.result _ c.new-kind.result
-    xs w marked (λ i. nat_le (before + c.from-within.ensures i) (c.from.ensures i)) c.new-kind.ensures c.cut_of.ensures
-    (λ u e. c.separate.ensures u e ∙ ap (λ n. separated c.args.t c.args.tolerance (before + n) false c.is_marked-marked.result None u) c.from-2.ensures)
+    xs w marked (λ i. nat_le (before + c.from-within.ensures i) c.args.t) c.new-kind.ensures c.cut_of.ensures
+    (λ u e. c.separate.ensures u e ∙ ap (λ n. separated c.args.t c.args.tolerance (before + n) false c.is_marked-marked.result None u) c.from.ensures)
     (λ u e. c.separate-2.ensures u e ∙ (λ i. separated c.args.t c.args.tolerance (before + c.from-within.ensures i) c.args.root c.args.wide (c.side_of-side.ensures i) u))
     s (c.in-Some.ensures.cases s is)

@@ -1,7 +1,7 @@
 use Rattle.std.proofs.Common.{◌≡◌, ◌+◌, ◌≤◌, length, get_or, ◌∙◌, arith}
 use Rattle.nx_division.specs.declared.cut.Cut.TheVariants.{Stays, Begins, GoesOn}
 use Rattle.nx_division.proofs.SpotLemmas.{below_flat, beside_flat, mid_len, rest_len}
-use Rattle.nx_division.proofs.DrawnLemmas.{cut_apart, cuts_below, cuts_beside, weigh_none, weigh_stays, weigh_begins, weigh_goes, weigh_small}
+use Rattle.nx_division.proofs.DrawnLemmas.{IsTakenApart, cut_apart, cuts_below, cuts_beside, weigh_none, weigh_stays, weigh_begins, weigh_goes, sums_fit}
 use Rattle.nx_division.proofs.weigh.+weigh.Goals as goal
 
 pub weigh-inner-requires : goal.weigh-inner-requires
@@ -21,48 +21,36 @@ returns-in_default t c = weigh_none c.args.spots.now c.args.cuts.now c.in_defaul
 
 pub overflow_add-own : goal.overflow_add-own
 overflow_add-own t c =
-    let flat = c.requires.flat in
-    let shorter = c.in-Some.ensures.shorter in
-    let len = c.requires.len in
-    let within : 1 + length c.in-Some.below.now ≤ length c.args.cuts.now = omega arith in
-    let apart = cut_apart c.args.cuts.now Stays c.in-Some.below.now within in
-    let small = weigh_small c.in-Some.spot.now c.in-Some.below.now c.in-Some.beside.now c.args.cuts.now (get_or c.args.cuts.now 0 Stays) (cuts_below c.args.cuts.now c.in-Some.below.now) (cuts_beside c.args.cuts.now c.in-Some.below.now) _ _ _ _ _ _ apart c.weigh-inner.ensures c.weigh-others.ensures flat.sketch (c.in-Some.ensures.cases flat.sketch flat.is) flat.small in
+    let parts : IsTakenApart c.args.spots.now c.args.cuts.now c.in-Some.spot.now c.in-Some.below.now c.in-Some.beside.now =
+    record { flat = c.requires.flat; cases = c.in-Some.ensures.cases; shorter = c.in-Some.ensures.shorter; len = c.requires.len } in
+    let small = sums_fit parts c.weigh-inner.ensures c.weigh-others.ensures in
     let x = small.0 in
     let y = small.1 in
     omega arith
 
 pub overflow_add-result : goal.overflow_add-result
 overflow_add-result t c =
-    let flat = c.requires.flat in
-    let shorter = c.in-Some.ensures.shorter in
-    let len = c.requires.len in
-    let within : 1 + length c.in-Some.below.now ≤ length c.args.cuts.now = omega arith in
-    let apart = cut_apart c.args.cuts.now Stays c.in-Some.below.now within in
-    let small = weigh_small c.in-Some.spot.now c.in-Some.below.now c.in-Some.beside.now c.args.cuts.now (get_or c.args.cuts.now 0 Stays) (cuts_below c.args.cuts.now c.in-Some.below.now) (cuts_beside c.args.cuts.now c.in-Some.below.now) _ _ _ _ _ _ apart c.weigh-inner.ensures c.weigh-others.ensures flat.sketch (c.in-Some.ensures.cases flat.sketch flat.is) flat.small in
+    let parts : IsTakenApart c.args.spots.now c.args.cuts.now c.in-Some.spot.now c.in-Some.below.now c.in-Some.beside.now =
+    record { flat = c.requires.flat; cases = c.in-Some.ensures.cases; shorter = c.in-Some.ensures.shorter; len = c.requires.len } in
+    let small = sums_fit parts c.weigh-inner.ensures c.weigh-others.ensures in
     let x = small.0 in
     let y = small.1 in
     omega arith
 
 pub overflow_add-own-in-Begins : goal.overflow_add-own-in-Begins
 overflow_add-own-in-Begins t c =
-    let flat = c.requires.flat in
-    let shorter = c.in-Some.ensures.shorter in
-    let len = c.requires.len in
-    let within : 1 + length c.in-Some.below.now ≤ length c.args.cuts.now = omega arith in
-    let apart = cut_apart c.args.cuts.now Stays c.in-Some.below.now within in
-    let small = weigh_small c.in-Some.spot.now c.in-Some.below.now c.in-Some.beside.now c.args.cuts.now (get_or c.args.cuts.now 0 Stays) (cuts_below c.args.cuts.now c.in-Some.below.now) (cuts_beside c.args.cuts.now c.in-Some.below.now) _ _ _ _ _ _ apart c.weigh-inner.ensures c.weigh-others.ensures flat.sketch (c.in-Some.ensures.cases flat.sketch flat.is) flat.small in
+    let parts : IsTakenApart c.args.spots.now c.args.cuts.now c.in-Some.spot.now c.in-Some.below.now c.in-Some.beside.now =
+    record { flat = c.requires.flat; cases = c.in-Some.ensures.cases; shorter = c.in-Some.ensures.shorter; len = c.requires.len } in
+    let small = sums_fit parts c.weigh-inner.ensures c.weigh-others.ensures in
     let x = small.0 in
     let y = small.1 in
     omega arith
 
 pub overflow_add-result-in-GoesOn : goal.overflow_add-result-in-GoesOn
 overflow_add-result-in-GoesOn t c =
-    let flat = c.requires.flat in
-    let shorter = c.in-Some.ensures.shorter in
-    let len = c.requires.len in
-    let within : 1 + length c.in-Some.below.now ≤ length c.args.cuts.now = omega arith in
-    let apart = cut_apart c.args.cuts.now Stays c.in-Some.below.now within in
-    let small = weigh_small c.in-Some.spot.now c.in-Some.below.now c.in-Some.beside.now c.args.cuts.now (get_or c.args.cuts.now 0 Stays) (cuts_below c.args.cuts.now c.in-Some.below.now) (cuts_beside c.args.cuts.now c.in-Some.below.now) _ _ _ _ _ _ apart c.weigh-inner.ensures c.weigh-others.ensures flat.sketch (c.in-Some.ensures.cases flat.sketch flat.is) flat.small in
+    let parts : IsTakenApart c.args.spots.now c.args.cuts.now c.in-Some.spot.now c.in-Some.below.now c.in-Some.beside.now =
+    record { flat = c.requires.flat; cases = c.in-Some.ensures.cases; shorter = c.in-Some.ensures.shorter; len = c.requires.len } in
+    let small = sums_fit parts c.weigh-inner.ensures c.weigh-others.ensures in
     let x = small.0 in
     let y = small.1 in
     omega arith
