@@ -1,0 +1,22 @@
+//! Tests of the division of a part that became too heavy, over public calls. It has nothing but tests, so that all of
+//! it is proved once.
+#![tactic(auto)]
+
+#[cfg(test)]
+mod examples;
+#[cfg(test)]
+mod fill;
+#[cfg(test)]
+mod matrix;
+#[cfg(test)]
+mod nodes;
+#[cfg(test)]
+mod plain;
+#[cfg(test)]
+mod random;
+#[cfg(test)]
+mod shapes;
+#[cfg(test)]
+mod sketches;
+#[cfg(test)]
+mod small;
