@@ -1,0 +1,4 @@
+pub mod SketchLemmas
+pub mod EntryLemmas
+pub mod ListLemmas
+pub mod PathLemmas

@@ -1,0 +1,12 @@
+//! The split of a piece that became too heavy, and the separator that divides it.
+//!
+//! What the separator and a split are stands in `nx_sketch`, over a list of nodes with their paths, weights and
+//! entries. Here that list is made of a piece (`specs/Piece.antt`).
+#![tactic(auto)]
+
+mod division;
+pub mod laws;
+mod listing;
+
+pub use division::{separator, split};
+pub use nx_sketch::Marks;
