@@ -1,0 +1,7 @@
+//! Tests of splits of pieces, over public calls. It has nothing but tests, so that all of it is proved once.
+#![tactic(auto)]
+
+#[cfg(test)]
+mod examples;
+#[cfg(test)]
+mod made;
