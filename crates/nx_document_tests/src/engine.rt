@@ -4,6 +4,7 @@ ghost use Rattle.nx_script.specs.Commands.{CanCome};
 
 use crate::fixtures::{node, read};
 use nx_engine::Plain;
+use nx_matrix::{Entry, Rule};
 use nx_pyx::{PyxError, PyxFault, ReadError};
 use nx_script::{Command, LineBody, LoadBody, TextBody, write_reply};
 use nx_tree::{Bytes, NoMemory, Path, count};
@@ -20,7 +21,7 @@ type Step = (
     &'static [u8],
 );
 
-const EDITED: [Step; 9] = [
+const EDITED: [Step; 14] = [
     ("load", b"d", &[], b"(a\n-hi\n)a\n", b"ok 3 0\n"),
     ("get", b"d", &[0, 0], b"", b"node 0 -hi\n"),
     ("insert", b"d", &[0, 1], b"(e", b"ok\n"),
@@ -29,16 +30,22 @@ const EDITED: [Step; 9] = [
     ("retext", b"d", &[0], b"x", b"error no-content\n"),
     ("export", b"d", &[], b"", b"(a\n(e\n)e\n)a\n.\n"),
     ("names", b"", &[], b"", b"doc d 3\n.\n"),
+    ("layout", b"d", &[], b"", b"error syntax\n"),
+    ("rule", b"", &[], b"", b"error syntax\n"),
+    ("rules", b"", &[], b"", b"error syntax\n"),
+    ("checkpoint", b"", &[], b"", b"error syntax\n"),
+    ("names", b"", &[], b"", b"doc d 3\n.\n"),
     ("nothing", b"d", &[], b"", b"error syntax\n"),
 ];
 
-const REFUSED: [Step; 37] = [
+const REFUSED: [Step; 38] = [
     ("load", b"e", &[], b"(a\nAx 1\n-hi\n)a\n", b"ok 4 0\n"),
     ("load", b"e", &[], b"(a\n", b"error exists\n"),
     ("load", b"e", &[], b"(a\n)a\n", b"error exists\n"),
     ("load", b"f", &[], b"(a\n", b"error pyx 1 unclosed\n"),
     ("drop", b"f", &[], b"", b"error no-document\n"),
     ("export", b"f", &[], b"", b"error no-document\n"),
+    ("layout", b"f", &[], b"", b"error syntax\n"),
     ("get", b"f", &[], b"", b"error no-document\n"),
     ("get", b"e", &[9], b"", b"error no-node\n"),
     ("get", b"e", &[0], b"", b"node 2 (a\n"),
@@ -107,11 +114,21 @@ fn content(alloc: Global, text: &[u8]) -> Result<TextBody, NoMemory>
     Ok(TextBody::Read(Bytes::from_slice(alloc, text)?))
 }
 
+fn rule(alloc: Global) -> Result<Rule, NoMemory>
+    ensures { IfOk result (λ rule. CanCome (Command.SetRule rule)) }
+{
+    Ok(Rule {
+        parent: Bytes::from_slice(alloc, b"a")?,
+        child: Bytes::from_slice(alloc, b"#text")?,
+        entry: Entry::Cluster,
+    })
+}
+
 fn command(alloc: Global, step: Step) -> Result<Command, ReadError>
     ensures { IfOk result (λ command. CanCome command) }
 {
     let name = Bytes::from_slice(alloc, step.1)?;
-    let path = Path::from_vec(Vec::from_slice(alloc, step.2)?);
+    let path = Path::from_slice(alloc, step.2)?;
     let text = step.3;
     Ok(match step.0 {
         "load" => Command::Load {
@@ -133,6 +150,10 @@ fn command(alloc: Global, step: Step) -> Result<Command, ReadError>
             text: content(alloc, text)?,
         },
         "get" => Command::Get { name, path },
+        "layout" => Command::Layout { name },
+        "rule" => Command::SetRule { rule: rule(alloc)? },
+        "rules" => Command::Rules,
+        "checkpoint" => Command::Checkpoint,
         _ => Command::Bad,
     })
 }

@@ -1,5 +1,5 @@
 //! Tests of the crates that know no host, over their public calls: trees and their edits, PYX, weights,
-//! and the engine. Beside the tests it has what they share with others: the way to a document from its
+//! the lines and replies of a script that ask for what a store has, and the engine. Beside the tests it has what they share with others: the way to a document from its
 //! lines.
 #![tactic(auto)]
 
@@ -10,6 +10,8 @@ mod fixtures;
 mod lines;
 #[cfg(test)]
 mod lists;
+#[cfg(test)]
+mod script;
 #[cfg(test)]
 mod streams;
 #[cfg(test)]

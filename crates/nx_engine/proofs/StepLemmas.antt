@@ -1,10 +1,11 @@
 -- Laws of the plain step.
 use Rattle.std.proofs.Common.{◌≡◌, ℕ, Bool, true, false, cond, List, length, ◌+◌, nat_lt, refl, sym, ap, ◌∙◌, Option, None, Some}
-use Rattle.std.specs.Prelude.{option_and_then, Result, Ok, Err}
+use Rattle.std.specs.Prelude.{option_and_then, Result, Ok, Err, IfOk, OnOk}
 use Rattle.std.specs.Option.{option_map_or, option_or, is_none}
 use Rattle.std.specs.Result.{result_err}
 use Rattle.std.proofs.lemmas.Bool.{cond-false}
 use Rattle.std.specs.FinMap.{get, insert, remove, contains_key}
+use Rattle.nx_lists.specs.declared.memory.NoMemory.{NoMemory}
 use Rattle.nx_tree.specs.Forest.{OrderedTree, trees_of}
 use Rattle.nx_tree.specs.declared.node.Node.{Node}
 use Rattle.nx_tree.specs.declared.error.TreeError.{TreeError}
@@ -18,7 +19,7 @@ use Rattle.nx_script.specs.declared.command.LoadBody.TheVariants as load
 use Rattle.nx_script.specs.declared.command.LineBody.TheVariants as line
 use Rattle.nx_script.specs.declared.command.TextBody.TheVariants as content
 use Rattle.nx_script.specs.declared.command.Command.{Command}
-use Rattle.nx_script.specs.declared.command.Command.TheVariants.{Load, Discard, Names, Export, Insert, Delete, Retext, Get, Bad}
+use Rattle.nx_script.specs.declared.command.Command.TheVariants.{Load, Discard, Names, Export, Insert, Delete, Retext, Get, Layout, SetRule, Rules, Checkpoint, Bad}
 use Rattle.nx_script.specs.declared.reply.Reply.{Reply}
 use Rattle.nx_script.specs.declared.reply.Reply.TheVariants as reply
 use Rattle.nx_script.specs.declared.reply.ReplyError.{ReplyError}
@@ -77,7 +78,17 @@ refused_after documents (Delete name path) e r = refused_edit documents name (de
 refused_after documents (Retext name path (content.Read bytes)) e r = refused_edit documents name (retext_fault path (content.Read bytes)) _ e r
 refused_after documents (Retext name path (content.Wrong error)) e r = refl
 refused_after documents (Get name path) e r = refl
+refused_after documents (Layout name) e r = refl
+refused_after documents (SetRule rule) e r = refl
+refused_after documents Rules e r = refl
+refused_after documents Checkpoint e r = refl
 refused_after documents Bad e r = refl
+
+-- the same, of what a call may not end
+pub refused_leaves : (documents left : Documents) (command : Command) (r : Result Reply NoMemory) → IfOk r (λ said. said ≡ reply_to documents command) →
+    OnOk r (left ≡ after documents command) → IfOk r (λ said. (e : ReplyError) → said ≡ reply.Refused e → left ≡ documents)
+refused_leaves documents left command (Ok x) is leaves = λ e r. leaves ∙ refused_after documents command e (sym is ∙ r)
+refused_leaves documents left command (Err e) is leaves = tt
 
 pub by_found : (documents : Documents) (name : List ℕ) (tree : OrderedTree) (answer_of : OrderedTree → Reply) → get documents name ≡ Some tree → by_document documents name answer_of ≡ answer_of tree
 by_found documents name tree answer_of e = ap (λ o. option_map_or answer_of o (reply.Refused NoDocument)) e

@@ -17,7 +17,7 @@ use Rattle.nx_script.specs.declared.command.LineBody.TheVariants as line
 use Rattle.nx_script.specs.declared.command.TextBody.{TextBody}
 use Rattle.nx_script.specs.declared.command.TextBody.TheVariants as content
 use Rattle.nx_script.specs.declared.command.Command.{Command}
-use Rattle.nx_script.specs.declared.command.Command.TheVariants.{Load, Discard, Names, Export, Insert, Delete, Retext, Get, Bad}
+use Rattle.nx_script.specs.declared.command.Command.TheVariants.{Load, Discard, Names, Export, Insert, Delete, Retext, Get, Layout, SetRule, Rules, Checkpoint, Bad}
 use Rattle.nx_script.specs.declared.reply.DocLine.{DocLine}
 use Rattle.nx_script.specs.declared.reply.Reply.{Reply}
 use Rattle.nx_script.specs.declared.reply.Reply.TheVariants as reply
@@ -75,7 +75,7 @@ shown tree = reply.Shown tree.node (length (trees_of tree.below))
 abbrev pub listed : List ℕ × OrderedTree → DocLine
 listed entry = record { name = entry.0; nodes = 1 + nodes entry.1.below }
 
--- what a command is answered
+-- What a command is answered. Trees in memory have no intervals, no rules and no log, so lines that ask for them are none.
 abbrev pub reply_to : Documents → Command → Reply
 reply_to documents (Load name body) = if contains_key documents name then reply.Refused Exists else loaded body
 reply_to documents (Discard name) = by_document documents name (λ _. reply.Done)
@@ -85,6 +85,10 @@ reply_to documents (Insert name path body) = by_document documents name (λ tree
 reply_to documents (Delete name path) = by_document documents name (λ tree. done_unless (delete_fault path tree))
 reply_to documents (Retext name path body) = by_document documents name (λ tree. done_unless (retext_fault path body tree))
 reply_to documents (Get name path) = by_document documents name (λ tree. option_map_or shown (at tree path) (reply.Refused NoNode))
+reply_to documents (Layout name) = reply.Refused Syntax
+reply_to documents (SetRule rule) = reply.Refused Syntax
+reply_to documents Rules = reply.Refused Syntax
+reply_to documents Checkpoint = reply.Refused Syntax
 reply_to documents Bad = reply.Refused Syntax
 
 -- the documents after an edit of one, unless there is none of that name or it is refused

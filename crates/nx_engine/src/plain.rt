@@ -51,7 +51,9 @@ impl Plain {
     /// Carries a command out, and gives its reply. A command that is refused changes nothing.
     ///
     /// The command is one that a script can give: a tree in it is a document, a node in it may stand
-    /// in one, and a new content has at most as many bytes as a node may have.
+    /// in one, a new content has at most as many bytes as a node may have, and a rule is for labels of
+    /// a parent and a child. Documents in memory have no intervals, no rules and no log: what asks for
+    /// them is refused as no command.
     ///
     /// Errors: `NoMemory`. The documents are as they were then.
     pub fn apply(&mut self, command: Command) -> Result<Reply, NoMemory>
@@ -70,7 +72,11 @@ impl Plain {
             Command::Delete { name, path } => self.delete(&name, &path),
             Command::Retext { name, path, text } => self.retext(&name, &path, text),
             Command::Get { name, path } => self.get(&name, &path),
-            Command::Bad => Ok(Reply::Refused(ReplyError::Syntax)),
+            Command::Layout { .. }
+            | Command::SetRule { .. }
+            | Command::Rules
+            | Command::Checkpoint
+            | Command::Bad => Ok(Reply::Refused(ReplyError::Syntax)),
         }
     }
 

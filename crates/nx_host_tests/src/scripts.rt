@@ -8,7 +8,7 @@ use std::test::Fail;
 
 // A line, and its command in words: its name, the document's, the positions of the path, and the
 // node, the content or the fault.
-const LINES: [(&[u8], &[u8]); 22] = [
+const LINES: [(&[u8], &[u8]); 26] = [
     (b"drop d", b"drop d"),
     (b"drop !~a/#@-", b"drop !~a/#@-"),
     (b"names", b"names"),
@@ -31,6 +31,10 @@ const LINES: [(&[u8], &[u8]); 22] = [
     (b"get d /0", b"get d 0"),
     (b"get d /4294967295", b"get d 4294967295"),
     (b"get d /0/12/4294967295", b"get d 0 12 4294967295"),
+    (b"layout d", b"layout d"),
+    (b"rule #doc a standalone", b"rule #doc a"),
+    (b"rules", b"rules"),
+    (b"checkpoint", b"checkpoint"),
 ];
 
 // Lines that are no command for their fields,
@@ -56,7 +60,7 @@ const WRONG_FIELDS: [&[u8]; 22] = [
     b"drops d",
     b"drop d e",
     b"load d",
-    b"rules",
+    b"rule",
 ];
 
 // for a path,
@@ -241,6 +245,13 @@ fn push(alloc: Global, text: &mut Bytes, command: &Command) -> Result<(), NoMemo
             }
         }
         Command::Get { name, path } => push_place(text, b"get ", name, path)?,
+        Command::Layout { name } => push_place(text, b"layout ", name, &root)?,
+        Command::SetRule { rule } => {
+            push_place(text, b"rule ", &rule.parent, &root)?;
+            push_place(text, b" ", &rule.child, &root)?;
+        }
+        Command::Rules => text.extend_from_slice(b"rules")?,
+        Command::Checkpoint => text.extend_from_slice(b"checkpoint")?,
         Command::Bad => text.extend_from_slice(b"bad")?,
     }
     text.push(b'\n')

@@ -22,7 +22,8 @@ pub enum Entry {
     Free,
 }
 
-/// An entry that isn't `Free`, and for which labels of a parent and a child it is.
+/// An entry, and for which labels of a parent and a child it is. Among the rules of a matrix none is
+/// `Free`.
 #[derive(Drop)]
 pub struct Rule {
     pub parent: Bytes,

@@ -22,7 +22,7 @@ mod writer;
 
 pub use error::{PyxError, PyxFault, ReadError};
 pub use fields::{number, push_number, split_field};
-pub use line::{unescaped, unescaped_len, without_cr};
+pub use line::{is_name, unescaped, unescaped_len, without_cr};
 pub use one_line::line_node;
 pub use paths::{path, position, push_path};
 pub use reader::{Reader, line_end};

@@ -138,7 +138,8 @@ pub fn without_cr(line: &[u8]) -> &[u8]
     }
 }
 
-// Whether the bytes are a name.
+/// Whether the bytes are a name: one at least, each above the space, and none of `#`, `*`, `/`, `?`,
+/// `@` and the backslash. How many they are isn't asked.
 pub fn is_name(name: &[u8]) -> bool
     ensures { result ≡ is_name name.now }
 {

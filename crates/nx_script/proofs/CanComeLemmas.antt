@@ -1,8 +1,8 @@
 -- What a command of a script holds could be read.
 use Rattle.std.proofs.Common.{◌≡◌, ℕ, ◌+◌, ◌≤◌, Bool, true, false, List, [], ◌∷◌, ◌++◌, length, ⊎_elim, Option, None, Some, IfSome, refl, sym, subst, arith}
-use Rattle.std.specs.Prelude.{if◌then◌else◌, ◌==◌, ◌&&◌, not, nat_lt, All, codes}
+use Rattle.std.specs.Prelude.{if◌then◌else◌, ◌==◌, ◌&&◌, not, nat_lt, All, IsTrue, codes}
 use Rattle.std.specs.Bool.{MatchBool}
-use Rattle.std.specs.Option.{option_map_or, unwrap_or, is_none}
+use Rattle.std.specs.Option.{option_map, option_map_or, unwrap_or, is_none}
 use Rattle.std.specs.Str.{bytes_eq}
 use Rattle.std.proofs.lemmas.Bool.{cases_Bool, MatchBool-at_true, ltb-false, not-false}
 use Rattle.std.proofs.lemmas.List.Elements.{All-nil, All-cons, All-append, All-head, All-tail}
@@ -14,18 +14,21 @@ use Rattle.nx_pyx.specs.declared.error.PyxFault.TheVariants.{BadCode, BadName, B
 use Rattle.nx_pyx.specs.Event.{Event, Start, End, Single, event_by, event_of, unescape}
 use Rattle.nx_pyx.specs.Fault.{is_long, is_misnamed, is_text, makes_node, fault_at}
 use Rattle.nx_pyx.specs.Line.{node_of, event_fault}
+use Rattle.nx_matrix.specs.declared.rule.Entry.{Entry}
+use Rattle.nx_matrix.specs.declared.rule.Rule.{Rule}
 use Rattle.nx_script.specs.declared.command.LoadBody.TheVariants as load
 use Rattle.nx_script.specs.declared.command.LineBody.{LineBody}
 use Rattle.nx_script.specs.declared.command.LineBody.TheVariants as line
 use Rattle.nx_script.specs.declared.command.TextBody.TheVariants as content
 use Rattle.nx_script.specs.declared.command.Command.{Command}
-use Rattle.nx_script.specs.declared.command.Command.TheVariants.{Load, Discard, Names, Export, Insert, Delete, Retext, Get, Bad}
+use Rattle.nx_script.specs.declared.command.Command.TheVariants.{Load, Discard, Names, Export, Insert, Delete, Retext, Get, Layout, SetRule, Rules, Checkpoint, Bad}
 use Rattle.nx_script.specs.declared.script.Script.{Script}
 use Rattle.nx_script.specs.Script.{HasGiven}
 use Rattle.nx_script.proofs.ScriptLemmas.{HasLooked, looked}
 use Rattle.nx_pyx.specs.Field.{field, behind}
 use Rattle.nx_script.specs.Field.{is_document_name}
-use Rattle.nx_script.specs.Line.{longest_line, line_body, place_of, ends_there, insert_at, retext_at, command_by, command_of}
+use Rattle.nx_script.specs.Rule.{HasLabels, is_parent_label, is_child_label, entry_named, rule_by, rule_of}
+use Rattle.nx_script.specs.Line.{longest_line, line_body, place_of, ends_there, insert_at, retext_at, lone_command, command_by, command_of}
 use Rattle.nx_script.specs.Commands.{begins_load, has_dot, Loads, IsWhole, SplitsInto, cut_off, AreCommands, CanCome}
 
 -- what holds of both ways holds of the one that is taken
@@ -125,12 +128,45 @@ text_can : (name path bytes : List ℕ) (b : Bool) → nat_lt longest_node (leng
 text_can name path bytes true is = tt
 text_can name path bytes false is = ltb-false longest_node (length (unescape bytes)) is
 
+-- what is said is a rule for labels of a parent and a child
+abbrev AreLabels : Option Rule → Type 0
+AreLabels found = IfSome found HasLabels
+
+rule_by-labels : (parent child word : List ℕ) → AreLabels (rule_by parent child word)
+rule_by-labels parent child word = by_labels (is_parent_label parent) (is_child_label child) refl refl
+  where
+    with_entry : IsTrue (is_parent_label parent) → IsTrue (is_child_label child) → (found : Option Entry) →
+        AreLabels (option_map (λ entry. record { parent = parent; child = child; entry = entry }) found)
+    with_entry p c None = tt
+    with_entry p c (Some entry) = (p, c)
+
+    by_labels : (p c : Bool) → is_parent_label parent ≡ p → is_child_label child ≡ c →
+        AreLabels (if p && c then option_map (λ entry. record { parent = parent; child = child; entry = entry }) (entry_named word) else None)
+    by_labels true true p c = with_entry p c (entry_named word)
+    by_labels true false p c = tt
+    by_labels false true p c = tt
+    by_labels false false p c = tt
+
+rule_of-labels : (bytes : List ℕ) → AreLabels (rule_of bytes)
+rule_of-labels bytes =
+    any_option AreLabels (λ more. option_map_or (rule_by (field bytes) (field more)) (behind more) None) (behind bytes)
+    (λ more. any_option AreLabels (rule_by (field bytes) (field more)) (behind more) (λ word. rule_by-labels (field bytes) (field more) word) tt) tt
+
 -- what a line says could be read
 pub command_can : (bytes : List ℕ) → CanCome (command_of bytes)
 command_can bytes =
     either_way CanCome (nat_lt longest_line (length bytes)) tt
-    (any_option CanCome (command_by (field bytes)) (behind bytes) (λ rest. by_word (field bytes) rest) (either_way CanCome (bytes_eq bytes (codes "names")) tt tt))
+    (any_option CanCome (command_by (field bytes)) (behind bytes) (λ rest. by_word (field bytes) rest) (lone_can bytes))
   where
+    lone_can : (word : List ℕ) → CanCome (lone_command word)
+    lone_can word =
+        either_way CanCome (bytes_eq word (codes "names")) tt
+        (either_way CanCome (bytes_eq word (codes "rules")) tt (either_way CanCome (bytes_eq word (codes "checkpoint")) tt tt))
+
+    rule_can : (found : Option Rule) → AreLabels found → CanCome (option_map_or SetRule found Bad)
+    rule_can None labels = tt
+    rule_can (Some rule) labels = labels
+
     by_word : (word rest : List ℕ) → CanCome (command_by word rest)
     by_word word rest =
         either_way CanCome (bytes_eq word (codes "drop")) (either_way CanCome (is_document_name rest) tt tt)
@@ -145,7 +181,9 @@ command_can bytes =
         (λ place. text_can place.name place.path (unwrap_or place.last []) (nat_lt longest_node (length (unescape (unwrap_or place.last [])))) refl) tt)
         (either_way CanCome (bytes_eq word (codes "get"))
         (any_option CanCome (ends_there Get) (place_of rest) (λ place. either_way CanCome (is_none place.last) tt tt) tt)
-        tt)))))
+        (either_way CanCome (bytes_eq word (codes "layout")) (either_way CanCome (is_document_name rest) tt tt)
+        (either_way CanCome (bytes_eq word (codes "rule")) (rule_can (rule_of rest) (rule_of-labels rest))
+        tt)))))))
 
 load_can : (head : List ℕ) (body : List (List ℕ)) (command : Command) → Loads head body command → CanCome command
 load_can head body (Load name (load.Read tree)) loads = loads.1.0
@@ -158,6 +196,10 @@ load_can head body (Insert name path said) loads = absurd loads
 load_can head body (Delete name path) loads = tt
 load_can head body (Retext name path said) loads = absurd loads
 load_can head body (Get name path) loads = tt
+load_can head body (Layout name) loads = tt
+load_can head body (SetRule rule) loads = absurd loads
+load_can head body Rules loads = tt
+load_can head body Checkpoint loads = tt
 
 whole_can : (own : List (List ℕ)) (command : Command) → IsWhole own command → CanCome command
 whole_can [] command whole = absurd whole

@@ -8,3 +8,4 @@ pub mod ScriptLemmas
 pub mod CanComeLemmas
 pub mod BodyLemmas
 pub mod OneList
+pub mod ReplyLemmas

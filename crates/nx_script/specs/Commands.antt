@@ -13,9 +13,10 @@ use Rattle.nx_script.specs.declared.command.LoadBody.TheVariants.{Read, Wrong}
 use Rattle.nx_script.specs.declared.command.LineBody.TheVariants as line
 use Rattle.nx_script.specs.declared.command.TextBody.TheVariants as content
 use Rattle.nx_script.specs.declared.command.Command.{Command}
-use Rattle.nx_script.specs.declared.command.Command.TheVariants.{Load, Insert, Retext, Bad}
+use Rattle.nx_script.specs.declared.command.Command.TheVariants.{Load, Insert, Retext, SetRule, Bad}
 use Rattle.nx_pyx.specs.Field.{behind}
 use Rattle.nx_script.specs.Field.{is_document_name}
+use Rattle.nx_script.specs.Rule.{HasLabels}
 use Rattle.nx_script.specs.Line.{longest_line, command_of}
 
 -- a line that begins a document, whatever else it says: `load`, and then its end or a space
@@ -85,4 +86,5 @@ abbrev pub CanCome : Command → Type 0
 CanCome (Load name (Read tree)) = IsDocument tree
 CanCome (Insert name path (line.Read node)) = IsNode node
 CanCome (Retext name path (content.Read bytes)) = length bytes ≤ longest_node
+CanCome (SetRule rule) = HasLabels rule
 CanCome _ = Unit {0}

@@ -1,4 +1,5 @@
 pub mod Field
+pub mod Rule
 pub mod Line
 pub mod Commands
 pub mod BeforeDot

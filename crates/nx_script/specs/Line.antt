@@ -12,10 +12,11 @@ use Rattle.nx_script.specs.declared.command.LineBody.TheVariants as in_line
 use Rattle.nx_script.specs.declared.command.TextBody.{TextBody}
 use Rattle.nx_script.specs.declared.command.TextBody.TheVariants as in_text
 use Rattle.nx_script.specs.declared.command.Command.{Command}
-use Rattle.nx_script.specs.declared.command.Command.TheVariants.{Discard, Names, Export, Insert, Delete, Retext, Get, Bad}
+use Rattle.nx_script.specs.declared.command.Command.TheVariants.{Discard, Names, Export, Insert, Delete, Retext, Get, Layout, SetRule, Rules, Checkpoint, Bad}
 use Rattle.nx_script.specs.declared.line.Place as code
 use Rattle.nx_pyx.specs.Field.{field, behind, is_path, positions_of}
 use Rattle.nx_script.specs.Field.{is_document_name}
+use Rattle.nx_script.specs.Rule.{rule_of}
 
 -- the greatest number of bytes of a line that isn't part of a document
 abbrev pub longest_line : ℕ
@@ -67,10 +68,20 @@ command_by word rest =
     else if bytes_eq word (codes "delete") then option_map_or (ends_there Delete) (place_of rest) Bad
     else if bytes_eq word (codes "retext") then option_map_or retext_at (place_of rest) Bad
     else if bytes_eq word (codes "get") then option_map_or (ends_there Get) (place_of rest) Bad
+    else if bytes_eq word (codes "layout") then (if is_document_name rest then Layout rest else Bad)
+    else if bytes_eq word (codes "rule") then option_map_or SetRule (rule_of rest) Bad
+    else Bad
+
+-- what a word alone says
+abbrev pub lone_command : List ℕ → Command
+lone_command word =
+    if bytes_eq word (codes "names") then Names
+    else if bytes_eq word (codes "rules") then Rules
+    else if bytes_eq word (codes "checkpoint") then Checkpoint
     else Bad
 
 -- what a line says
 abbrev pub command_of : List ℕ → Command
 command_of line =
     if nat_lt longest_line (length line) then Bad
-    else option_map_or (command_by (field line)) (behind line) (if bytes_eq line (codes "names") then Names else Bad)
+    else option_map_or (command_by (field line)) (behind line) (lone_command line)

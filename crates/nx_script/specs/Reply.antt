@@ -1,13 +1,18 @@
 -- The text of a reply.
 use Rattle.std.specs.Prelude.{ℕ, List, ◌++◌, codes, decimal}
-use Rattle.std.specs.List.{flat_map}
+use Rattle.std.specs.List.{flat_map, zip}
+use Rattle.nx_pyx.specs.Path.{path_text}
 use Rattle.nx_pyx.specs.Text.{node_line}
 use Rattle.nx_pyx.specs.Word.{word_of}
+use Rattle.nx_parts.specs.declared.interval.Interval.{Interval}
+use Rattle.nx_parts.specs.declared.interval.Interval.TheVariants.{Root, Run}
+use Rattle.nx_matrix.specs.declared.rule.Rule.{Rule}
 use Rattle.nx_script.specs.declared.reply.ReplyError.{ReplyError}
-use Rattle.nx_script.specs.declared.reply.ReplyError.TheVariants.{Syntax, NoDocument, Exists, Pyx, NoNode, BadPlace, Twice, NoContent, TooDeep, TooMany}
+use Rattle.nx_script.specs.declared.reply.ReplyError.TheVariants.{Syntax, NoDocument, Exists, Pyx, NoNode, BadPlace, Twice, NoContent, TooDeep, TooMany, TooManyRules, TooHeavy, Full}
 use Rattle.nx_script.specs.declared.reply.DocLine.{DocLine}
 use Rattle.nx_script.specs.declared.reply.Reply.{Reply}
-use Rattle.nx_script.specs.declared.reply.Reply.TheVariants.{Done, Loaded, Shown, Names, Exported, Refused}
+use Rattle.nx_script.specs.declared.reply.Reply.TheVariants.{Done, Loaded, Shown, Names, Exported, Laid, Rules, Refused}
+use Rattle.nx_script.specs.Rule.{entry_word}
 
 -- why a command is refused, in words
 abbrev pub cause : ReplyError → List ℕ
@@ -21,10 +26,26 @@ cause Twice = codes "twice"
 cause NoContent = codes "no-content"
 cause TooDeep = codes "too-deep"
 cause TooMany = codes "too-many"
+cause TooManyRules = codes "too-many-rules"
+cause (TooHeavy path weight) = codes "too-heavy " ++ path_text path ++ codes " " ++ decimal weight
+cause Full = codes "full"
 
 -- the line of a document in the list of them
 abbrev pub doc_line : DocLine → List ℕ
 doc_line line = codes "doc " ++ line.name ++ codes " " ++ decimal line.nodes ++ codes "\n"
+
+-- an interval: the root, or children of the node at a path from a first to a last position
+abbrev pub interval_text : Interval → List ℕ
+interval_text Root = codes "root"
+interval_text (Run parent first last) = codes "run " ++ path_text parent ++ codes " " ++ decimal first ++ codes " " ++ decimal last
+
+-- the line of an interval with the weight of its part
+abbrev pub part_line : Interval × ℕ → List ℕ
+part_line part = interval_text part.0 ++ codes " " ++ decimal part.1 ++ codes "\n"
+
+-- the line of a rule
+abbrev pub rule_line : Rule → List ℕ
+rule_line rule = codes "rule " ++ rule.parent ++ codes " " ++ rule.child ++ codes " " ++ entry_word rule.entry ++ codes "\n"
 
 -- a reply's lines, each with its LF; where there may be several, the last one is a dot
 abbrev pub reply_text : Reply → List ℕ
@@ -33,4 +54,6 @@ reply_text (Loaded nodes intervals) = codes "ok " ++ decimal nodes ++ codes " " 
 reply_text (Shown node children) = codes "node " ++ decimal children ++ codes " " ++ node_line node.kind node.name node.content ++ codes "\n"
 reply_text (Names docs) = flat_map doc_line docs ++ codes ".\n"
 reply_text (Exported text) = text ++ codes ".\n"
+reply_text (Laid parts weights) = flat_map part_line (zip parts weights) ++ codes ".\n"
+reply_text (Rules rules) = flat_map rule_line rules ++ codes ".\n"
 reply_text (Refused error) = codes "error " ++ cause error ++ codes "\n"

@@ -1,4 +1,5 @@
 // What the lines of a script say.
+use nx_matrix::Rule;
 use nx_pyx::PyxError;
 use nx_tree::{Bytes, Node, Path, Tree};
 
@@ -69,6 +70,19 @@ pub enum Command {
         name: Bytes,
         path: Path,
     },
+    /// List the intervals in which a document is stored.
+    Layout {
+        name: Bytes,
+    },
+    /// Make the entry of the split matrix for a pair of labels. `Free` takes the pair's rule away. Each
+    /// label has 1 to 1,024 bytes and is one that a node in that place may have.
+    SetRule {
+        rule: Rule,
+    },
+    /// List the rules of the split matrix.
+    Rules,
+    /// Empty the log.
+    Checkpoint,
     /// A line, or a `load` with its lines, that is no command.
     Bad,
 }

@@ -14,6 +14,7 @@ pub mod laws;
 mod line;
 mod parser;
 mod reply;
+mod rule;
 mod script;
 mod write;
 

@@ -2,10 +2,12 @@
 ghost use Rattle.std.specs.Prelude.{◌≡◌, if◌then◌else◌, None, Some, MatchOption, IfOk};
 ghost use Rattle.std.specs.Option.{option_map_or};
 ghost use Rattle.nx_script.specs.Field.{is_document_name};
-ghost use Rattle.nx_script.specs.Line.{line_body, text_body, place_of, place_in, insert_at, retext_at, ends_there, command_by, command_of};
+ghost use Rattle.nx_script.specs.Line.{line_body, text_body, place_of, place_in, insert_at, retext_at, ends_there, lone_command, command_by, command_of};
+ghost use Rattle.nx_script.specs.Rule.{rule_of};
 ghost use Rattle.nx_script.specs.Commands.{begins_load, is_dot, loaded_name};
 
 use crate::field::is_document_name;
+use crate::rule::read_rule;
 use crate::{Command, LineBody, TextBody};
 use nx_lists::LONGEST_NODE;
 use nx_pyx::{
@@ -60,11 +62,22 @@ pub fn parse(alloc: Global, line: &[u8]) -> Result<Command, NoMemory>
     }
     match split_field(line) {
         (word, Some(rest)) => command(alloc, word, rest),
-        (word, None) => Ok(if word == b"names".as_slice() {
-            Command::Names
-        } else {
-            Command::Bad
-        }),
+        (word, None) => Ok(lone_command(word)),
+    }
+}
+
+// What a word alone says.
+fn lone_command(word: &[u8]) -> Command
+    ensures { result ≡ lone_command word.now }
+{
+    if word == b"names".as_slice() {
+        Command::Names
+    } else if word == b"rules".as_slice() {
+        Command::Rules
+    } else if word == b"checkpoint".as_slice() {
+        Command::Checkpoint
+    } else {
+        Command::Bad
     }
 }
 
@@ -84,6 +97,10 @@ fn command(alloc: Global, word: &[u8], rest: &[u8]) -> Result<Command, NoMemory>
         retext(alloc, rest)
     } else if word == b"get".as_slice() {
         get(alloc, rest)
+    } else if word == b"layout".as_slice() {
+        layout(alloc, rest)
+    } else if word == b"rule".as_slice() {
+        set_rule(alloc, rest)
     } else {
         Ok(Command::Bad)
     }
@@ -154,6 +171,25 @@ fn get(alloc: Global, rest: &[u8]) -> Result<Command, NoMemory>
         return Ok(Command::Bad);
     }
     Ok(Command::Get { name, path })
+}
+
+fn layout(alloc: Global, rest: &[u8]) -> Result<Command, NoMemory>
+    ensures { IfOk result (λ command. command ≡ (if is_document_name rest.now then Command.Layout rest.now else Command.Bad)) }
+{
+    if !is_document_name(rest) {
+        return Ok(Command::Bad);
+    }
+    let name = Bytes::from_slice(alloc, rest)?;
+    Ok(Command::Layout { name })
+}
+
+fn set_rule(alloc: Global, rest: &[u8]) -> Result<Command, NoMemory>
+    ensures { IfOk result (λ command. command ≡ option_map_or Command.SetRule (rule_of rest.now) Command.Bad) }
+{
+    match read_rule(alloc, rest)? {
+        Some(rule) => Ok(Command::SetRule { rule }),
+        None => Ok(Command::Bad),
+    }
 }
 
 // The place that the fields behind a word say, if they say one.

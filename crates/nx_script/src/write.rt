@@ -1,11 +1,16 @@
 // The text of a reply.
 ghost use Rattle.std.specs.Prelude.{◌≡◌, ℕ, List, ◌++◌, OnOk, OnErr, IfOk};
-ghost use Rattle.std.specs.List.{flat_map};
-ghost use Rattle.nx_script.specs.Reply.{cause, doc_line, reply_text};
+ghost use Rattle.std.specs.Prelude.{codes};
+ghost use Rattle.std.specs.List.{flat_map, zip};
+ghost use Rattle.nx_script.specs.Reply.{cause, doc_line, interval_text, part_line, rule_line, reply_text};
 
+use crate::rule::entry_word;
 use crate::{DocLine, DocLines, Reply, ReplyError};
-use nx_pyx::{PyxError, push_node_line, push_number};
+use nx_matrix::{Rule, Rules};
+use nx_parts::{Interval, Partitioning};
+use nx_pyx::{PyxError, push_node_line, push_number, push_path};
 use nx_tree::{Bytes, NoMemory};
+use nx_weights::Weights;
 use std::alloc::Global;
 
 /// The text of a reply: its lines, each with its LF.
@@ -52,31 +57,30 @@ fn push_text(block: &mut Bytes, reply: &Reply) -> Result<(), NoMemory>
             push_node_line(block, node)?;
             block.push(b'\n')
         }
-        Reply::Names(docs) => {
-            push_docs(block, docs)?;
-            block.extend_from_slice(b".\n")
-        }
+        Reply::Names(docs) => push_docs(block, docs),
         Reply::Exported(text) => {
             block.extend_from_slice(text.as_slice())?;
             block.extend_from_slice(b".\n")
         }
+        Reply::Laid { parts, weights } => push_parts(block, parts, weights),
+        Reply::Rules(rules) => push_rules(block, rules),
         Reply::Refused(error) => {
             block.extend_from_slice(b"error ")?;
-            push_cause(block, *error)?;
+            push_cause(block, error)?;
             block.push(b'\n')
         }
     }
 }
 
-// Adds the lines of documents.
+// Adds the lines of documents, and a dot.
 fn push_docs(block: &mut Bytes, docs: &DocLines) -> Result<(), NoMemory>
-    ensures ok { OnOk result (block.new ≡ block.old ++ flat_map doc_line docs.now) }
+    ensures ok { OnOk result (block.new ≡ block.old ++ (flat_map doc_line docs.now ++ codes ".\n")) }
     ensures prefix { (bytes : List ℕ) × (block.new ≡ block.old ++ bytes) }
 {
     for line in docs.as_slice() {
         push_doc(block, line)?;
     }
-    Ok(())
+    block.extend_from_slice(b".\n")
 }
 
 // Adds the line of a document.
@@ -90,9 +94,75 @@ fn push_doc(block: &mut Bytes, line: &DocLine) -> Result<(), NoMemory>
     block.push(b'\n')
 }
 
+// Adds the lines of intervals with the weights of their parts, and a dot.
+fn push_parts(block: &mut Bytes, parts: &Partitioning, weights: &Weights) -> Result<(), NoMemory>
+    ensures ok { OnOk result (block.new ≡ block.old ++ (flat_map part_line (zip parts.now weights.now) ++ codes ".\n")) }
+    ensures prefix { (bytes : List ℕ) × (block.new ≡ block.old ++ bytes) }
+{
+    for (interval, weight) in parts.as_slice().iter().zip(weights.as_slice()) {
+        push_part(block, interval, *weight)?;
+    }
+    block.extend_from_slice(b".\n")
+}
+
+// Adds the line of an interval with the weight of its part.
+fn push_part(block: &mut Bytes, interval: &Interval, weight: u64) -> Result<(), NoMemory>
+    ensures ok { OnOk result (block.new ≡ block.old ++ part_line (interval.now, weight)) }
+    ensures prefix { (bytes : List ℕ) × (block.new ≡ block.old ++ bytes) }
+{
+    push_interval(block, interval)?;
+    push_number(block, b" ", weight)?;
+    block.push(b'\n')
+}
+
+// Adds an interval.
+fn push_interval(block: &mut Bytes, interval: &Interval) -> Result<(), NoMemory>
+    ensures ok { OnOk result (block.new ≡ block.old ++ interval_text interval.now) }
+    ensures prefix { (bytes : List ℕ) × (block.new ≡ block.old ++ bytes) }
+{
+    match interval {
+        Interval::Root => block.extend_from_slice(b"root"),
+        Interval::Run {
+            parent,
+            first,
+            last,
+        } => {
+            block.extend_from_slice(b"run ")?;
+            push_path(block, parent.as_slice())?;
+            push_number(block, b" ", u64::from(*first))?;
+            push_number(block, b" ", u64::from(*last))
+        }
+    }
+}
+
+// Adds the lines of rules, and a dot.
+fn push_rules(block: &mut Bytes, rules: &Rules) -> Result<(), NoMemory>
+    ensures ok { OnOk result (block.new ≡ block.old ++ (flat_map rule_line rules.now ++ codes ".\n")) }
+    ensures prefix { (bytes : List ℕ) × (block.new ≡ block.old ++ bytes) }
+{
+    for rule in rules.as_slice() {
+        push_rule(block, rule)?;
+    }
+    block.extend_from_slice(b".\n")
+}
+
+// Adds the line of a rule.
+fn push_rule(block: &mut Bytes, rule: &Rule) -> Result<(), NoMemory>
+    ensures ok { OnOk result (block.new ≡ block.old ++ rule_line rule.now) }
+    ensures prefix { (bytes : List ℕ) × (block.new ≡ block.old ++ bytes) }
+{
+    block.extend_from_slice(b"rule ")?;
+    block.extend_from_slice(rule.parent.as_slice())?;
+    block.push(b' ')?;
+    block.extend_from_slice(rule.child.as_slice())?;
+    block.push(b' ')?;
+    block.extend_from_slice(entry_word(rule.entry))?;
+    block.push(b'\n')
+}
+
 // Adds why a command is refused, in words.
-fn push_cause(block: &mut Bytes, error: ReplyError) -> Result<(), NoMemory>
-    ensures ok { OnOk result (block.new ≡ block.old ++ cause error) }
+fn push_cause(block: &mut Bytes, error: &ReplyError) -> Result<(), NoMemory>
+    ensures ok { OnOk result (block.new ≡ block.old ++ cause error.now) }
     ensures prefix { (bytes : List ℕ) × (block.new ≡ block.old ++ bytes) }
 {
     match error {
@@ -100,7 +170,7 @@ fn push_cause(block: &mut Bytes, error: ReplyError) -> Result<(), NoMemory>
         ReplyError::NoDocument => block.extend_from_slice(b"no-document"),
         ReplyError::Exists => block.extend_from_slice(b"exists"),
         ReplyError::Pyx(PyxError { line, fault }) => {
-            push_number(block, b"pyx ", line)?;
+            push_number(block, b"pyx ", *line)?;
             block.push(b' ')?;
             block.extend_from_slice(fault.word().as_bytes())
         }
@@ -110,5 +180,12 @@ fn push_cause(block: &mut Bytes, error: ReplyError) -> Result<(), NoMemory>
         ReplyError::NoContent => block.extend_from_slice(b"no-content"),
         ReplyError::TooDeep => block.extend_from_slice(b"too-deep"),
         ReplyError::TooMany => block.extend_from_slice(b"too-many"),
+        ReplyError::TooManyRules => block.extend_from_slice(b"too-many-rules"),
+        ReplyError::TooHeavy { path, weight } => {
+            block.extend_from_slice(b"too-heavy ")?;
+            push_path(block, path.as_slice())?;
+            push_number(block, b" ", u64::from(*weight))
+        }
+        ReplyError::Full => block.extend_from_slice(b"full"),
     }
 }
