@@ -94,6 +94,7 @@ fn message(status: Status) -> Option<&'static str>
     match status {
         Status::Done | Status::Refused => None,
         Status::Usage => Some("usage: natix STORE COMMAND [ARG]..."),
+        Status::DiskFault => Some("disk fault"),
         Status::ReadFault => Some("read fault"),
         Status::WriteFault => Some("write fault"),
         Status::NoMemory => Some("out of memory"),
@@ -108,6 +109,7 @@ fn exit_code(status: Status) -> ExitCode
         Status::Done => 0,
         Status::Usage => 1,
         Status::Refused => 2,
+        Status::DiskFault => 3,
         Status::ReadFault => 4,
         Status::WriteFault => 5,
         Status::NoMemory => 6,

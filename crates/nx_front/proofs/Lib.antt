@@ -6,4 +6,5 @@ pub mod PlanLemmas
 pub mod PlannedLemmas
 pub mod VerifyLemmas
 pub mod SessionLemmas
+pub mod InitLemmas
 pub mod TopLemmas

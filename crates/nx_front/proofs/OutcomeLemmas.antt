@@ -9,7 +9,7 @@ use Rattle.nx_host.specs.Phase.{TakesAlone, GivesAlone, TalksAlone}
 use Rattle.nx_host.proofs.OutputLemmas.{appends_nothing, appends_then, prefix_more, prefix_then, keeps_prefix}
 use Rattle.nx_host.proofs.PhaseLemmas.{takes_talks, left_then}
 use Rattle.nx_front.specs.declared.status.Status.{Status}
-use Rattle.nx_front.specs.declared.status.Status.TheVariants.{Done, Usage, Refused, ReadFault, WriteFault, NoMemory, TooMuch}
+use Rattle.nx_front.specs.declared.status.Status.TheVariants.{Done, Usage, Refused, DiskFault, ReadFault, WriteFault, NoMemory, TooMuch}
 use Rattle.nx_front.specs.declared.take_error.TakeError.{TakeError}
 use Rattle.nx_front.specs.declared.take_error.TakeError.TheVariants as take_error
 use Rattle.nx_front.specs.declared.give.GiveError.{GiveError}
@@ -170,6 +170,7 @@ completes {m = m} together outcome TooMuch input old new (shown, taken, long, en
     not_too_much input taken old.input new.input calm.told calm.still_told calm.few long ends.takes
 completes {m = m} together outcome NoMemory input old new ends calm = tt
 completes {m = m} together outcome Usage input old new ends calm = ends
+completes {m = m} together outcome DiskFault input old new ends calm = ends
 
 -- A run that reads its whole input before it gives anything:
 

@@ -1,31 +1,18 @@
 -- What is said of the plans of an input.
-use Rattle.std.proofs.Common.{◌≡◌, ◌⊎◌, inl, inr, ℕ, suc, ◌+◌, ◌<◌, ◌≤◌, Bool, true, false, cond, List, [], ◌∷◌, ◌++◌, length, take, drop, Option, None, Some, Result, Ok, Err, refl, sym, ap, ◌∙◌, subst, arith}
-use Rattle.std.specs.Prelude.{nat_lt}
-use Rattle.std.specs.List.{find}
-use Rattle.std.specs.Option.{option_map, option_or}
-use Rattle.std.proofs.lemmas.Bool.{le-ltb}
-use Rattle.std.proofs.lemmas.List.{take_all}
-use Rattle.std.proofs.lemmas.List.Folds.{find-append}
+use Rattle.std.proofs.Common.{◌≡◌, inl, inr, ℕ, ◌<◌, List, ◌++◌, length, None, Some, Ok, Err, sym, ap, ◌∙◌, subst, arith}
+use Rattle.std.specs.Option.{option_map}
 use Rattle.std.proofs.Math.Nat.{le_antisymm}
-use Rattle.std.proofs.Math.Seq.{take-add}
 use Rattle.nx_host.specs.Disk.{Beside}
 use Rattle.nx_host.specs.Input.{most_input}
-use Rattle.nx_tree.specs.declared.node.Node.{Node}
-use Rattle.nx_tree.specs.Forest.{OrderedTree, Forest, Empty, Plant, nodes}
+use Rattle.nx_tree.specs.Forest.{OrderedTree}
 use Rattle.nx_pyx.specs.declared.error.PyxError.{PyxError}
 use Rattle.nx_pyx.specs.Reading.{Reads}
 use Rattle.nx_pyx.proofs.DocumentLemmas.{no_fault}
 use Rattle.nx_pyx.proofs.ShownFaultLemmas.{fault_shown}
 use Rattle.nx_pyx.proofs.Reading.{one_reading}
-use Rattle.nx_weights.specs.Weight.{weight, listed_in, is_heavy, first_heavy, weighed, AreAtMost, IsAtMost}
+use Rattle.nx_weights.specs.Weight.{first_heavy, weighed, IsAtMost}
 use Rattle.nx_weights.proofs.AtMostLemmas.{light_none}
-use Rattle.nx_parts.specs.declared.interval.Interval.{Interval}
-use Rattle.nx_parts.specs.declared.bounds.Bound.{Bound}
 use Rattle.nx_parts.specs.declared.plan.Plan.{Plan}
-use Rattle.nx_parts.specs.Minima.{IsMinima, AreMinima, AreMinimaIn}
-use Rattle.nx_parts.specs.Partitioning.{IsFeasible, root_weight}
-use Rattle.nx_cuts.specs.Cut.{Cut, CutForest, Bare, Grown, Kept, joined, forest, part_weight, AreParts}
-use Rattle.nx_cuts.proofs.DrawnLaw.{feasible_drawn}
 use Rattle.nx_parts.proofs.MinimaLemmas.{minima_once}
 use Rattle.nx_cuts.proofs.AtMostLemmas.{feasible_light}
 use Rattle.nx_partition.specs.declared.error.PlanError.{PlanError}
@@ -37,7 +24,7 @@ use Rattle.nx_front.specs.declared.refusal.Refusal.TheVariants.{Pyx, TooHeavy, B
 use Rattle.nx_front.specs.declared.take_error.TakeError.{TakeError}
 use Rattle.nx_front.specs.declared.take_error.TakeError.TheVariants.{Refused, ReadFault, TooMuch, NoMemory}
 use Rattle.nx_front.specs.TakeError.{take_error_of_plan}
-use Rattle.nx_front.specs.Outcome.{HoldsTogether, EndsWhole, EndsRefused, StopsBy, ReadsTo}
+use Rattle.nx_front.specs.Outcome.{HoldsTogether, StopsBy, ReadsTo}
 use Rattle.nx_front.specs.Tidy.{ShowsDocument, RefusesDocument, tidy}
 use Rattle.nx_front.specs.Plan.{IsPlannedInput, RefusesToPlan, IsLightInput, AreEquallyGood, HasEqualPlans, plan}
 

@@ -5,11 +5,11 @@ use Rattle.nx_host.specs.Disk.{Beside}
 use Rattle.nx_host.specs.Input.{most_input}
 use Rattle.nx_host.proofs.OutputLemmas.{takes_nothing}
 use Rattle.nx_front.specs.declared.status.Status.{Status}
-use Rattle.nx_front.specs.declared.status.Status.TheVariants.{Done, Usage, Refused, ReadFault, WriteFault, NoMemory, TooMuch}
+use Rattle.nx_front.specs.declared.status.Status.TheVariants.{Done, Usage, Refused, DiskFault, ReadFault, WriteFault, NoMemory, TooMuch}
 use Rattle.nx_front.specs.declared.words.CommandLine.{CommandLine}
-use Rattle.nx_front.specs.declared.words.CommandLine.TheVariants.{Tidy, Run, Plan, Verify}
-use Rattle.nx_front.specs.Outcome.{TakesFew, CountsGrow, IsUndisturbed, Completes, HoldsTogether}
-use Rattle.nx_front.specs.Run.{meaning, Agrees, IsCarriedOut}
+use Rattle.nx_front.specs.declared.words.CommandLine.TheVariants.{Tidy, Run, Plan, Verify, Init}
+use Rattle.nx_front.specs.Outcome.{Meaning, RunsBeside, TakesFew, CountsGrow, Completes, HoldsTogether}
+use Rattle.nx_front.specs.Run.{IsCarriedOut, CompletesInput, IsCompleted, IsCoherent, Agrees}
 use Rattle.nx_front.specs.Plan.{IsLightInput, plan}
 use Rattle.nx_front.specs.Verify.{IsSoundInput, verify}
 use Rattle.nx_front.proofs.OutcomeLemmas.{completes}
@@ -17,31 +17,59 @@ use Rattle.nx_front.proofs.TidyLemmas.{tidy_together, tidy_once}
 use Rattle.nx_front.proofs.SessionLemmas.{script_together, script_once}
 use Rattle.nx_front.proofs.PlanLemmas.{plan_together, equal_plans, light_excludes}
 use Rattle.nx_front.proofs.VerifyLemmas.{verify_together, verify_once, excludes}
+use Rattle.nx_front.proofs.InitLemmas.{init_completes, init_not_usage, init_together, holds_nothing}
 
 module _ {D : Type 0} (d : Ghosts D) (a b : D) where
   -- the same command line
   pub carried_as : (mine line : CommandLine) (status : Status) → Some mine ≡ Some line → IsCarriedOut d mine status a b → IsCarriedOut d line status a b
   carried_as mine line status same carried = let one : mine ≡ line = cc same in subst (λ (l : CommandLine). IsCarriedOut d l status a b) one carried
 
-  -- what it ends with where nothing disturbs it
-  pub carried_completes : (line : CommandLine) (status : Status) (input : List ℕ) → IsCarriedOut d line status a b → IsUndisturbed input (d.beside a) (d.beside b) →
-      Completes (meaning line) input status
-  carried_completes Tidy status input carried calm = completes tidy_together carried.run.outcome status input (d.beside a) (d.beside b) carried.run.ends calm
-  carried_completes Run status input carried calm = completes script_together carried.run.outcome status input (d.beside a) (d.beside b) carried.run.ends calm
-  carried_completes (Plan k) status input carried calm = completes (plan_together k) carried.run.outcome status input (d.beside a) (d.beside b) carried.run.ends calm
-  carried_completes (Verify k) status input carried calm = completes (verify_together k) carried.run.outcome status input (d.beside a) (d.beside b) carried.run.ends calm
+  -- no more is taken than a run takes
+  pub carried_bounded : (line : CommandLine) (status : Status) → IsCarriedOut d line status a b → TakesFew (d.beside a).input (d.beside b).input
+  carried_bounded Tidy status carried = carried.run.bounded
+  carried_bounded Run status carried = carried.run.bounded
+  carried_bounded (Plan k) status carried = carried.run.bounded
+  carried_bounded (Verify k) status carried = carried.run.bounded
+  carried_bounded (Init settings) status carried = record { taken = []; few = (let e : 0 ≤ most_input = omega arith in e); takes = carried.input_stays }
+
+  beside_counts : {m : Meaning} (status : Status) → RunsBeside d m status a b → CountsGrow (d.beside a) (d.beside b) × (d.faults a ≤ d.faults b)
+  beside_counts status runs = (runs.run.counts, let same : d.faults b ≡ d.faults a = runs.disk.faults_stay in omega (arith, same))
+
+  -- no count of faults falls
+  pub carried_counts : (line : CommandLine) (status : Status) → IsCarriedOut d line status a b → CountsGrow (d.beside a) (d.beside b) × (d.faults a ≤ d.faults b)
+  carried_counts Tidy status carried = beside_counts status carried
+  carried_counts Run status carried = beside_counts status carried
+  carried_counts (Plan k) status carried = beside_counts status carried
+  carried_counts (Verify k) status carried = beside_counts status carried
+  carried_counts (Init settings) status carried =
+      (record { read = (let same : (d.beside b).in_faults ≡ (d.beside a).in_faults = carried.in_faults_stay in omega (arith, same)); written = carried.out_faults_later }, carried.faults_later)
+
+  beside_completes : {m : Meaning} (status : Status) → HoldsTogether m → RunsBeside d m status a b → CompletesInput m status (d.beside a) (d.beside b)
+  beside_completes status together runs input calm = completes together runs.run.outcome status input (d.beside a) (d.beside b) runs.run.ends calm
+
+  -- what it ends with where nothing fails
+  pub carried_completes : (line : CommandLine) (status : Status) → IsCarriedOut d line status a b → IsCompleted d line status a b
+  carried_completes Tidy status carried = beside_completes status tidy_together carried
+  carried_completes Run status carried = beside_completes status script_together carried
+  carried_completes (Plan k) status carried = beside_completes status (plan_together k) carried
+  carried_completes (Verify k) status carried = beside_completes status (verify_together k) carried
+  carried_completes (Init settings) status carried = λ was calm. init_completes settings status was carried calm
 
   -- a command line isn't answered by how it is to be written
-  pub carried_usage : (line : CommandLine) → IsCarriedOut d line Usage a b → ⊥
+  carried_usage : (line : CommandLine) → IsCarriedOut d line Usage a b → ⊥
   carried_usage Tidy carried = carried.run.ends
   carried_usage Run carried = carried.run.ends
   carried_usage (Plan k) carried = carried.run.ends
   carried_usage (Verify k) carried = carried.run.ends
+  carried_usage (Init settings) carried = init_not_usage settings carried
 
-  -- nor does such a line end so
+  -- nor does it end so
+  pub not_usage : (line : CommandLine) (status : Status) → IsCarriedOut d line status a b → status ≡ Usage → ⊥
+  not_usage line status carried usage = carried_usage line (subst (λ (s : Status). IsCarriedOut d line s a b) usage carried)
+
   pub usage_not : (line : CommandLine) (status : Status) {known : Option CommandLine} → known ≡ Some line → IsCarriedOut d line status a b → (status ≡ Usage) ↔ (known ≡ None)
   usage_not line status is carried = (
-    λ usage. absurd (carried_usage line (subst (λ (s : Status). IsCarriedOut d line s a b) usage carried)),
+    λ usage. absurd (not_usage line status carried usage),
     λ none. absurd (let no_line : None ≡ Some line = sym none ∙ is in cc),
   )
 
@@ -51,6 +79,7 @@ completes_light k input Done complete light = inl refl
 completes_light k input NoMemory complete light = inr refl
 completes_light k input Refused ((refusal, refused), none) light = absurd (light_excludes k input refusal light refused)
 completes_light k input Usage complete light = absurd complete
+completes_light k input DiskFault complete light = absurd complete
 completes_light k input ReadFault complete light = absurd complete
 completes_light k input WriteFault complete light = absurd complete
 completes_light k input TooMuch complete light = absurd complete
@@ -61,6 +90,7 @@ completes_sound k input Done complete sure = inl refl
 completes_sound k input NoMemory complete sure = inr refl
 completes_sound k input Refused ((refusal, refused), none) sure = absurd (excludes k input refusal sure refused)
 completes_sound k input Usage complete sure = absurd complete
+completes_sound k input DiskFault complete sure = absurd complete
 completes_sound k input ReadFault complete sure = absurd complete
 completes_sound k input WriteFault complete sure = absurd complete
 completes_sound k input TooMuch complete sure = absurd complete
@@ -73,12 +103,13 @@ takes_none now = record { taken = []; few = (let e : 0 ≤ most_input = omega ar
 pub counts_same : (beside : Beside) → CountsGrow beside beside
 counts_same beside = record { read = omega arith; written = omega arith }
 
--- what is said of each input holds together
-pub together : (line : CommandLine) → HoldsTogether (meaning line)
+-- what is said of each input, and of the disk, holds together
+pub together : (line : CommandLine) → IsCoherent line
 together Tidy = tidy_together
 together Run = script_together
 together (Plan k) = plan_together k
 together (Verify k) = verify_together k
+together (Init settings) = init_together settings
 
 -- how the answers of each input go together
 pub agrees : (line : CommandLine) → Agrees line
@@ -86,3 +117,4 @@ agrees Tidy = tidy_once
 agrees Run = script_once
 agrees (Plan k) = equal_plans k
 agrees (Verify k) = verify_once k
+agrees (Init settings) = holds_nothing settings

@@ -1,18 +1,60 @@
 -- The command line: which words are one, and for what.
-use Rattle.std.specs.Prelude.{ℕ, ◌≤◌, Bool, false, not, ◌&&◌, ◌==◌, nat_le, if◌then◌else◌, List, [], ◌∷◌, Option, None, Some, codes}
+use Rattle.std.specs.Prelude.{ℕ, ◌/◌, ◌≤◌, Bool, false, not, ◌&&◌, ◌==◌, nat_le, if◌then◌else◌, List, [], ◌∷◌, Option, None, Some, codes}
 use Rattle.std.specs.Str.{bytes_eq}
+use Rattle.std.specs.Option.{option_map}
 use Rattle.nx_pyx.specs.Field.{is_position, value_of}
+use Rattle.nx_holdings.specs.declared.header.Settings.{Settings}
+use Rattle.nx_holdings.specs.Header.{AreSettings}
 use Rattle.nx_front.specs.declared.words.CommandLine.{CommandLine}
-use Rattle.nx_front.specs.declared.words.CommandLine.TheVariants.{Tidy, Run, Plan, Verify}
+use Rattle.nx_front.specs.declared.words.CommandLine.TheVariants.{Tidy, Run, Plan, Verify, Init}
 
 -- a word that may name a store: it isn't empty, and doesn't begin with a hyphen
 abbrev pub is_store : List ℕ → Bool
 is_store [] = false
 is_store (b ∷ bytes) = not (b == 45)
 
--- a decimal of a weight that parts may have at most: from 1 to 256, without a leading zero
+-- a word that names a store that is used: not a low line, which stands for none
+abbrev pub is_named_store : List ℕ → Bool
+is_named_store store = is_store store && not (bytes_eq store (codes "_"))
+
+-- a decimal in this range, without a leading zero
+abbrev pub is_within : ℕ → ℕ → List ℕ → Bool
+is_within least most digits = is_position digits && nat_le least (value_of digits) && nat_le (value_of digits) most
+
+-- a decimal of a weight that parts may have at most
 abbrev pub is_weight_limit : List ℕ → Bool
-is_weight_limit digits = is_position digits && nat_le 1 (value_of digits) && nat_le (value_of digits) 256
+is_weight_limit digits = is_within 1 256 digits
+
+-- where splits aim, in percent, how far they may miss that, in slots, and how many pages there may be
+abbrev pub is_target : List ℕ → Bool
+is_target digits = is_within 0 100 digits
+
+abbrev pub is_tolerance : List ℕ → Bool
+is_tolerance digits = is_within 0 256 digits
+
+abbrev pub is_page_limit : List ℕ → Bool
+is_page_limit digits = is_within 64 16777216 digits
+
+-- the settings where the words say alone what a part weighs at most: the target is in the middle, the tolerance a quarter of that weight, rounded down, and
+-- the limit of pages the greatest that there is
+abbrev pub usual_settings : ℕ → Settings
+usual_settings k = record { k = k; target = 50; tolerance = k / 4; limit = 16777216 }
+
+-- the settings that these words say: what a part weighs at most, and then a target, a tolerance and a limit of pages, each of which may be left out with those
+-- behind it
+abbrev pub settings_of : List (List ℕ) → Option Settings
+settings_of (k ∷ []) = if is_weight_limit k then Some (usual_settings (value_of k)) else None
+settings_of (k ∷ target ∷ []) =
+    if is_weight_limit k && is_target target then Some (record (usual_settings (value_of k)) { target = value_of target }) else None
+settings_of (k ∷ target ∷ tolerance ∷ []) =
+    if is_weight_limit k && is_target target && is_tolerance tolerance
+    then Some (record (usual_settings (value_of k)) { target = value_of target; tolerance = value_of tolerance })
+    else None
+settings_of (k ∷ target ∷ tolerance ∷ limit ∷ []) =
+    if is_weight_limit k && is_target target && is_tolerance tolerance && is_page_limit limit
+    then Some (record { k = value_of k; target = value_of target; tolerance = value_of tolerance; limit = value_of limit })
+    else None
+settings_of _ = None
 
 -- a store and `tidy`, whatever the store, or no store, which is a low line, and `run`
 abbrev pub command_of_two : List ℕ → List ℕ → Option CommandLine
@@ -28,13 +70,23 @@ command_of_three store command limit =
     else if is_store store && bytes_eq command (codes "verify") && is_weight_limit limit then Some (Verify (value_of limit))
     else None
 
+-- a store that is used, `init`, and the settings that it is made with
+abbrev pub command_of_init : List ℕ → List (List ℕ) → Option CommandLine
+command_of_init store words = if is_named_store store then option_map Init (settings_of words) else None
+
+-- behind any command but `init`
+abbrev pub command_of : List ℕ → List ℕ → List (List ℕ) → Option CommandLine
+command_of store command [] = command_of_two store command
+command_of store command (limit ∷ []) = command_of_three store command limit
+command_of store command _ = None
+
 abbrev pub command_line : List (List ℕ) → Option CommandLine
-command_line (store ∷ command ∷ []) = command_of_two store command
-command_line (store ∷ command ∷ limit ∷ []) = command_of_three store command limit
+command_line (store ∷ command ∷ words) = if bytes_eq command (codes "init") then command_of_init store words else command_of store command words
 command_line _ = None
 
--- the weight that a command line has parts weigh at most is from 1 to 256
+-- the numbers that a command line says are in their ranges
 abbrev pub IsLimited : CommandLine → Type 0
 IsLimited (Plan k) = (1 ≤ k) × (k ≤ 256)
 IsLimited (Verify k) = (1 ≤ k) × (k ≤ 256)
+IsLimited (Init settings) = AreSettings settings
 IsLimited _ = Unit {0}

@@ -8,4 +8,5 @@ pub mod Session
 pub mod Planned
 pub mod Plan
 pub mod Verify
+pub mod Init
 pub mod Run

@@ -6,7 +6,7 @@ use Rattle.nx_host.specs.Host.{Takes, IsAtEnd, Appends, AppendsPrefix}
 use Rattle.nx_host.specs.Input.{most_input}
 use Rattle.nx_host.specs.Time.{Stood, Elapses}
 use Rattle.nx_front.specs.declared.status.Status.{Status}
-use Rattle.nx_front.specs.declared.status.Status.TheVariants.{Done, Usage, Refused, ReadFault, WriteFault, NoMemory, TooMuch}
+use Rattle.nx_front.specs.declared.status.Status.TheVariants.{Done, Usage, Refused, DiskFault, ReadFault, WriteFault, NoMemory, TooMuch}
 use Rattle.nx_front.specs.declared.take_error.TakeError.{TakeError}
 use Rattle.nx_front.specs.declared.take_error.TakeError.TheVariants as take_error
 use Rattle.nx_front.specs.declared.give.GiveError.{GiveError}
@@ -155,6 +155,7 @@ Ends m outcome TooMuch old new =
     (shown taken : List ℕ) × (length taken ≡ most_input) × EndsEarly m shown taken old.input new.input × Gives shown old.output new.output
 Ends m outcome NoMemory old new = Unit {0}
 Ends m outcome Usage old new = ⊥
+Ends m outcome DiskFault old new = ⊥
 
 -- Neither count of faults fell.
 pub record CountsGrow (old new : Beside) : Type 0 where

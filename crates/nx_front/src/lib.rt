@@ -3,6 +3,7 @@
 
 mod consumer;
 mod give;
+mod init;
 pub mod laws;
 mod plan;
 mod planned;

@@ -8,12 +8,15 @@ use nx_script::ScriptError;
 /// The status that a run ends with.
 #[derive(Clone, Copy, Debug, PartialEq, Eq)]
 pub enum Status {
-    /// The command was carried out: the input was read to its end, and the output is whole.
+    /// The command was carried out: the input was read to its end, if it takes any, and the output is
+    /// whole.
     Done,
     /// The words are no command line. The host wasn't touched.
     Usage,
-    /// The input was refused. The output is one line, which says why.
+    /// The input was refused, or for `init` the disk had pages. The output is one line, which says why.
     Refused,
+    /// A call of the disk failed.
+    DiskFault,
     /// Reading the input failed.
     ReadFault,
     /// Writing the output failed, while bytes of it were still to be given.

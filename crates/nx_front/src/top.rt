@@ -1,8 +1,8 @@
 // The top call.
-ghost use Rattle.std.specs.Prelude.{◌≡◌, ◌⊎◌, ◌↔◌, ℕ, List, None, Some};
+ghost use Rattle.std.specs.Prelude.{◌≡◌, ◌≤◌, ◌⊎◌, ◌↔◌, ℕ, List, None, Some};
 ghost use Rattle.nx_front.specs.CommandLine.{command_line};
-ghost use Rattle.nx_front.specs.Outcome.{TakesFew, CountsGrow, IsUndisturbed, Completes, RunsBeside};
-ghost use Rattle.nx_front.specs.Run.{meaning, IsCarriedOut};
+ghost use Rattle.nx_front.specs.Outcome.{TakesFew, CountsGrow, IsUndisturbed, RunsBeside};
+ghost use Rattle.nx_front.specs.Run.{IsCarriedOut, IsCompleted};
 ghost use Rattle.nx_front.specs.Tidy.{tidy};
 ghost use Rattle.nx_front.specs.Plan.{IsLightInput};
 ghost use Rattle.nx_front.specs.Verify.{IsSoundInput};
@@ -10,6 +10,7 @@ ghost use Rattle.nx_front.specs.declared.words.CommandLine.{CommandLine};
 ghost use Rattle.nx_front.specs.declared.words.CommandLine.TheVariants.{Plan, Verify};
 
 use crate::give::{end_after, give_text, status_of};
+use crate::init::init;
 use crate::plan::plan;
 use crate::read::read;
 use crate::session::session;
@@ -31,6 +32,11 @@ use std::alloc::Global;
 /// and gives the plan's number of intervals where no partitioning of the document with parts of at
 /// most K slots has fewer, by the plan's own bounds, or one line that says what is wrong. An input of
 /// 4,294,967,296 bytes or more is too much.
+///
+/// `STORE init K [TARGET [TOLERANCE [PAGES]]]`, where STORE isn't `_`, makes a store on a disk that has no
+/// pages: whatever crash comes, the disk is as it was, or has the new store, and the latter once a byte of
+/// `ok` is out. Over a disk with pages it gives the line `refused exists`, and writes nothing to the disk. It
+/// takes no input.
 pub fn run<H: Host>(alloc: Global, words: &Words, host: &mut H) -> Status
     // There is one outcome. Why the run ends so, what it has taken by then, and what it has given
     // of that outcome's text, then and at every moment; what it leaves of the disk.
@@ -38,14 +44,13 @@ pub fn run<H: Host>(alloc: Global, words: &Words, host: &mut H) -> Status
 
     // However it ends.
     ensures bounded { TakesFew (H.beside host.old).input (H.beside host.new).input }
-    ensures counts { CountsGrow (H.beside host.old) (H.beside host.new) }
+    ensures counts { CountsGrow (H.beside host.old) (H.beside host.new) × (H.faults host.old ≤ H.faults host.new) }
 
     ensures usage { (result ≡ Status.Usage) ↔ (command_line words.now ≡ None) }
     ensures untouched { result ≡ Status.Usage → host.new ≡ host.old }
 
     // It doesn't give up by itself, unless memory runs out.
-    ensures complete { (line : CommandLine) (input : List ℕ) → command_line words.now ≡ Some line → IsUndisturbed input (H.beside host.old) (H.beside host.new) →
-        Completes (meaning line) input result }
+    ensures complete { (line : CommandLine) → command_line words.now ≡ Some line → IsCompleted ⟦<H as Disk>⟧ line result host.old host.new }
     ensures planned { (k : ℕ) (input : List ℕ) → command_line words.now ≡ Some (Plan k) → IsUndisturbed input (H.beside host.old) (H.beside host.new) →
         IsLightInput k input → (result ≡ Status.Done) ⊎ (result ≡ Status.NoMemory) }
     ensures certified { (k : ℕ) (input : List ℕ) → command_line words.now ≡ Some (Verify k) → IsUndisturbed input (H.beside host.old) (H.beside host.new) →
@@ -56,6 +61,7 @@ pub fn run<H: Host>(alloc: Global, words: &Words, host: &mut H) -> Status
         Some(CommandLine::Run) => session(alloc, host),
         Some(CommandLine::Plan(k)) => plan(alloc, host, k),
         Some(CommandLine::Verify(k)) => verify(alloc, host, k),
+        Some(CommandLine::Init(settings)) => init(alloc, host, settings),
         None => Status::Usage,
     }
 }

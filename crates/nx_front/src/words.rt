@@ -1,8 +1,10 @@
 // The words of a command line.
 ghost use Rattle.std.specs.Prelude.{◌≡◌, ◌≤◌, true, false, IfOk, IfSome, MatchOption};
 ghost use Rattle.nx_pyx.specs.Field.{value_of};
-ghost use Rattle.nx_front.specs.CommandLine.{is_store, is_weight_limit, command_of_two, command_of_three, command_line, IsLimited};
+ghost use Rattle.nx_holdings.specs.Header.{AreSettings};
+ghost use Rattle.nx_front.specs.CommandLine.{is_store, is_named_store, is_within, is_weight_limit, usual_settings, settings_of, command_of_two, command_of_three, command_of_init, command_of, command_line, IsLimited};
 
+use nx_holdings::Settings;
 use nx_lists::List;
 use nx_pyx::position;
 use nx_tree::NoMemory;
@@ -46,6 +48,12 @@ impl Word {
 /// A list of words.
 pub type Words = List<Word>;
 
+// Where a split aims, in percent, where the words don't say it.
+const TARGET: u32 = 50;
+
+// As many pages as a store has at most.
+const MOST_PAGES: u32 = 16_777_216;
+
 // A command line.
 #[derive(Clone, Copy)]
 pub enum CommandLine {
@@ -57,6 +65,8 @@ pub enum CommandLine {
     Plan(u32),
     // A partitioning of a document is checked, whose parts weigh at most so much.
     Verify(u32),
+    // A store is made with these settings.
+    Init(Settings),
 }
 
 // The command line that the words are, if they are one.
@@ -65,10 +75,89 @@ pub fn command_line(words: &Words) -> Option<CommandLine>
     ensures limit { IfSome result IsLimited }
 {
     match words.as_slice() {
-        [store, command] => command_of_two(store.as_str(), command.as_str()),
-        [store, command, limit] => {
-            command_of_three(store.as_str(), command.as_str(), limit.as_str())
+        [store, command, words @ ..] => {
+            if command.as_str() == "init" {
+                command_of_init(store.as_str(), words)
+            } else {
+                command_of(store.as_str(), command.as_str(), words)
+            }
         }
+        _ => None,
+    }
+}
+
+// The command line of a store, `init` and these words.
+fn command_of_init(store: &str, words: &[Word]) -> Option<CommandLine>
+    ensures line { result ≡ command_of_init store.now words.now }
+    ensures limit { IfSome result IsLimited }
+{
+    if !is_named_store(store) {
+        return None;
+    }
+    let settings = settings_of(words)?;
+    Some(CommandLine::Init(settings))
+}
+
+// The settings that the words say. Each but the first may be left out with those behind it.
+fn settings_of(words: &[Word]) -> Option<Settings>
+    ensures said { result ≡ settings_of words.now }
+    ensures limit { IfSome result AreSettings }
+{
+    match words {
+        [k] => usual_settings(k.as_str()),
+        [k, target] => {
+            let settings = usual_settings(k.as_str())?;
+            let target = number_within(target.as_str(), 0, 100)?;
+            Some(Settings { target, ..settings })
+        }
+        [k, target, tolerance] => {
+            let settings = usual_settings(k.as_str())?;
+            let target = number_within(target.as_str(), 0, 100)?;
+            let tolerance = number_within(tolerance.as_str(), 0, 256)?;
+            Some(Settings {
+                target,
+                tolerance,
+                ..settings
+            })
+        }
+        [k, target, tolerance, limit] => {
+            let k = weight_limit(k.as_str())?;
+            let target = number_within(target.as_str(), 0, 100)?;
+            let tolerance = number_within(tolerance.as_str(), 0, 256)?;
+            let limit = number_within(limit.as_str(), 64, MOST_PAGES)?;
+            Some(Settings {
+                k,
+                target,
+                tolerance,
+                limit,
+            })
+        }
+        _ => None,
+    }
+}
+
+// The settings where the words say alone what a part weighs at most, if they say that.
+fn usual_settings(limit: &str) -> Option<Settings>
+    ensures said { MatchOption result (is_weight_limit limit.now ≡ false) (λ settings. (is_weight_limit limit.now ≡ true) × (settings ≡ usual_settings (value_of limit.now))) }
+    ensures limit { IfSome result AreSettings }
+{
+    let k = weight_limit(limit)?;
+    Some(Settings {
+        k,
+        target: TARGET,
+        tolerance: k / 4,
+        limit: MOST_PAGES,
+    })
+}
+
+// The command line of a store, a command that isn't `init`, and these words.
+fn command_of(store: &str, command: &str, words: &[Word]) -> Option<CommandLine>
+    ensures line { result ≡ command_of store.now command.now words.now }
+    ensures limit { IfSome result IsLimited }
+{
+    match words {
+        [] => command_of_two(store, command),
+        [limit] => command_of_three(store, command, limit.as_str()),
         _ => None,
     }
 }
@@ -107,12 +196,27 @@ fn weight_limit(word: &str) -> Option<u32>
     ensures said { MatchOption result (is_weight_limit word.now ≡ false) (λ k. (is_weight_limit word.now ≡ true) × (k ≡ value_of word.now)) }
     ensures limit { IfSome result (λ k. (1 ≤ k) × (k ≤ 256)) }
 {
-    let limit = position(word.as_bytes())?;
-    if 1 <= limit && limit <= 256 {
-        Some(limit)
+    number_within(word, 1, 256)
+}
+
+// The number in this range that the word says, if it says one.
+fn number_within(word: &str, least: u32, most: u32) -> Option<u32>
+    ensures said { MatchOption result (is_within least most word.now ≡ false) (λ n. (is_within least most word.now ≡ true) × (n ≡ value_of word.now)) }
+    ensures limit { IfSome result (λ n. (least ≤ n) × (n ≤ most)) }
+{
+    let number = position(word.as_bytes())?;
+    if least <= number && number <= most {
+        Some(number)
     } else {
         None
     }
+}
+
+// Whether the word names a store that is used.
+fn is_named_store(store: &str) -> bool
+    ensures { result ≡ is_named_store store.now }
+{
+    is_store(store) && store != "_"
 }
 
 // Whether the word may name a store.

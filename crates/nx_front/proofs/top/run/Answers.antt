@@ -1,66 +1,109 @@
-use Rattle.std.proofs.Common.{Some, sym, ap, ◌∙◌, subst}
-use Rattle.nx_front.specs.declared.status.Status.{Status}
-use Rattle.nx_front.specs.declared.words.CommandLine.TheVariants.{Tidy, Run, Plan, Verify}
-use Rattle.nx_front.specs.Run.{IsCarriedOut}
-use Rattle.nx_front.proofs.TopLemmas.{carried_as, carried_completes, carried_usage, completes_light, completes_sound, usage_not}
+use Rattle.std.proofs.Common.{Some, sym, ap, ◌∙◌}
+use Rattle.nx_front.specs.declared.words.CommandLine.TheVariants.{Tidy, Run, Plan, Verify, Init}
+use Rattle.nx_front.proofs.TopLemmas.{carried_as, carried_bounded, carried_counts, carried_completes, not_usage, usage_not, completes_light, completes_sound}
 use Rattle.nx_front.proofs.top.run.Goals as goal
 
 pub returns-in-Some-Tidy : goal.returns-in-Some-Tidy
 returns-in-Some-Tidy g c =
+    let d = g.H.Disk in
+    let a = c.args.host.now in
+    let b = c.tidy.new.host in
+    let status = c.tidy.result in
+    let done = c.tidy.ensures in
+    let is = sym c.command_line.ensures.line ∙ c.in-Some-Tidy.is ∙ ap Some c.in-Some-Tidy.field-0-is in
     record {
-      carried = λ line command. carried_as g.H.Disk c.args.host.now c.tidy.new.host Tidy line c.tidy.result (ap Some (sym c.in-Some-Tidy.field-0-is) ∙ sym c.in-Some-Tidy.is ∙ c.command_line.ensures.line ∙ command) c.tidy.ensures;
-      bounded = c.tidy.ensures.run.bounded;
-      counts = c.tidy.ensures.run.counts;
-      usage = usage_not g.H.Disk c.args.host.now c.tidy.new.host Tidy c.tidy.result (sym c.command_line.ensures.line ∙ c.in-Some-Tidy.is ∙ ap Some c.in-Some-Tidy.field-0-is) c.tidy.ensures;
-      untouched = λ usage. absurd (carried_usage g.H.Disk c.args.host.now c.tidy.new.host Tidy (subst (λ (s : Status). IsCarriedOut g.H.Disk Tidy s c.args.host.now c.tidy.new.host) usage c.tidy.ensures));
-      complete = λ line input command calm. carried_completes g.H.Disk c.args.host.now c.tidy.new.host line c.tidy.result input (carried_as g.H.Disk c.args.host.now c.tidy.new.host Tidy line c.tidy.result (ap Some (sym c.in-Some-Tidy.field-0-is) ∙ sym c.in-Some-Tidy.is ∙ c.command_line.ensures.line ∙ command) c.tidy.ensures) calm;
+      carried = λ line command. carried_as d a b Tidy line status (sym is ∙ command) done;
+      bounded = carried_bounded d a b Tidy status done;
+      counts = carried_counts d a b Tidy status done;
+      usage = usage_not d a b Tidy status is done;
+      untouched = λ usage. absurd (not_usage d a b Tidy status done usage);
+      complete = λ line command. carried_completes d a b line status (carried_as d a b Tidy line status (sym is ∙ command) done);
       planned = λ k input command calm sure.
-          completes_light k input c.tidy.result (carried_completes g.H.Disk c.args.host.now c.tidy.new.host (Plan k) c.tidy.result input (carried_as g.H.Disk c.args.host.now c.tidy.new.host Tidy (Plan k) c.tidy.result (ap Some (sym c.in-Some-Tidy.field-0-is) ∙ sym c.in-Some-Tidy.is ∙ c.command_line.ensures.line ∙ command) c.tidy.ensures) calm) sure;
+          completes_light k input status (carried_completes d a b (Plan k) status (carried_as d a b Tidy (Plan k) status (sym is ∙ command) done) input calm) sure;
       certified = λ k input command calm sure.
-          completes_sound k input c.tidy.result (carried_completes g.H.Disk c.args.host.now c.tidy.new.host (Verify k) c.tidy.result input (carried_as g.H.Disk c.args.host.now c.tidy.new.host Tidy (Verify k) c.tidy.result (ap Some (sym c.in-Some-Tidy.field-0-is) ∙ sym c.in-Some-Tidy.is ∙ c.command_line.ensures.line ∙ command) c.tidy.ensures) calm) sure;
+          completes_sound k input status (carried_completes d a b (Verify k) status (carried_as d a b Tidy (Verify k) status (sym is ∙ command) done) input calm) sure;
     }
 
 pub returns-in-Some-Run : goal.returns-in-Some-Run
 returns-in-Some-Run g c =
+    let d = g.H.Disk in
+    let a = c.args.host.now in
+    let b = c.session.new.host in
+    let status = c.session.result in
+    let done = c.session.ensures in
+    let is = sym c.command_line.ensures.line ∙ c.in-Some-Run.is ∙ ap Some c.in-Some-Run.field-0-is in
     record {
-      carried = λ line command. carried_as g.H.Disk c.args.host.now c.session.new.host Run line c.session.result (ap Some (sym c.in-Some-Run.field-0-is) ∙ sym c.in-Some-Run.is ∙ c.command_line.ensures.line ∙ command) c.session.ensures;
-      bounded = c.session.ensures.run.bounded;
-      counts = c.session.ensures.run.counts;
-      usage = usage_not g.H.Disk c.args.host.now c.session.new.host Run c.session.result (sym c.command_line.ensures.line ∙ c.in-Some-Run.is ∙ ap Some c.in-Some-Run.field-0-is) c.session.ensures;
-      untouched = λ usage. absurd (carried_usage g.H.Disk c.args.host.now c.session.new.host Run (subst (λ (s : Status). IsCarriedOut g.H.Disk Run s c.args.host.now c.session.new.host) usage c.session.ensures));
-      complete = λ line input command calm. carried_completes g.H.Disk c.args.host.now c.session.new.host line c.session.result input (carried_as g.H.Disk c.args.host.now c.session.new.host Run line c.session.result (ap Some (sym c.in-Some-Run.field-0-is) ∙ sym c.in-Some-Run.is ∙ c.command_line.ensures.line ∙ command) c.session.ensures) calm;
+      carried = λ line command. carried_as d a b Run line status (sym is ∙ command) done;
+      bounded = carried_bounded d a b Run status done;
+      counts = carried_counts d a b Run status done;
+      usage = usage_not d a b Run status is done;
+      untouched = λ usage. absurd (not_usage d a b Run status done usage);
+      complete = λ line command. carried_completes d a b line status (carried_as d a b Run line status (sym is ∙ command) done);
       planned = λ k input command calm sure.
-          completes_light k input c.session.result (carried_completes g.H.Disk c.args.host.now c.session.new.host (Plan k) c.session.result input (carried_as g.H.Disk c.args.host.now c.session.new.host Run (Plan k) c.session.result (ap Some (sym c.in-Some-Run.field-0-is) ∙ sym c.in-Some-Run.is ∙ c.command_line.ensures.line ∙ command) c.session.ensures) calm) sure;
+          completes_light k input status (carried_completes d a b (Plan k) status (carried_as d a b Run (Plan k) status (sym is ∙ command) done) input calm) sure;
       certified = λ k input command calm sure.
-          completes_sound k input c.session.result (carried_completes g.H.Disk c.args.host.now c.session.new.host (Verify k) c.session.result input (carried_as g.H.Disk c.args.host.now c.session.new.host Run (Verify k) c.session.result (ap Some (sym c.in-Some-Run.field-0-is) ∙ sym c.in-Some-Run.is ∙ c.command_line.ensures.line ∙ command) c.session.ensures) calm) sure;
+          completes_sound k input status (carried_completes d a b (Verify k) status (carried_as d a b Run (Verify k) status (sym is ∙ command) done) input calm) sure;
     }
 
 pub returns-in-Some-Plan : goal.returns-in-Some-Plan
 returns-in-Some-Plan g c =
+    let d = g.H.Disk in
+    let a = c.args.host.now in
+    let b = c.plan.new.host in
+    let status = c.plan.result in
+    let done = c.plan.ensures in
+    let is = sym c.command_line.ensures.line ∙ c.in-Some-Plan.is ∙ ap Some c.in-Some-Plan.field-0-is in
     record {
-      carried = λ line command. carried_as g.H.Disk c.args.host.now c.plan.new.host (Plan c.in-Some-Plan.k) line c.plan.result (ap Some (sym c.in-Some-Plan.field-0-is) ∙ sym c.in-Some-Plan.is ∙ c.command_line.ensures.line ∙ command) c.plan.ensures;
-      bounded = c.plan.ensures.run.bounded;
-      counts = c.plan.ensures.run.counts;
-      usage = usage_not g.H.Disk c.args.host.now c.plan.new.host (Plan c.in-Some-Plan.k) c.plan.result (sym c.command_line.ensures.line ∙ c.in-Some-Plan.is ∙ ap Some c.in-Some-Plan.field-0-is) c.plan.ensures;
-      untouched = λ usage. absurd (carried_usage g.H.Disk c.args.host.now c.plan.new.host (Plan c.in-Some-Plan.k) (subst (λ (s : Status). IsCarriedOut g.H.Disk (Plan c.in-Some-Plan.k) s c.args.host.now c.plan.new.host) usage c.plan.ensures));
-      complete = λ line input command calm. carried_completes g.H.Disk c.args.host.now c.plan.new.host line c.plan.result input (carried_as g.H.Disk c.args.host.now c.plan.new.host (Plan c.in-Some-Plan.k) line c.plan.result (ap Some (sym c.in-Some-Plan.field-0-is) ∙ sym c.in-Some-Plan.is ∙ c.command_line.ensures.line ∙ command) c.plan.ensures) calm;
+      carried = λ line command. carried_as d a b (Plan c.in-Some-Plan.k) line status (sym is ∙ command) done;
+      bounded = carried_bounded d a b (Plan c.in-Some-Plan.k) status done;
+      counts = carried_counts d a b (Plan c.in-Some-Plan.k) status done;
+      usage = usage_not d a b (Plan c.in-Some-Plan.k) status is done;
+      untouched = λ usage. absurd (not_usage d a b (Plan c.in-Some-Plan.k) status done usage);
+      complete = λ line command. carried_completes d a b line status (carried_as d a b (Plan c.in-Some-Plan.k) line status (sym is ∙ command) done);
       planned = λ k input command calm sure.
-          completes_light k input c.plan.result (carried_completes g.H.Disk c.args.host.now c.plan.new.host (Plan k) c.plan.result input (carried_as g.H.Disk c.args.host.now c.plan.new.host (Plan c.in-Some-Plan.k) (Plan k) c.plan.result (ap Some (sym c.in-Some-Plan.field-0-is) ∙ sym c.in-Some-Plan.is ∙ c.command_line.ensures.line ∙ command) c.plan.ensures) calm) sure;
+          completes_light k input status (carried_completes d a b (Plan k) status (carried_as d a b (Plan c.in-Some-Plan.k) (Plan k) status (sym is ∙ command) done) input calm) sure;
       certified = λ k input command calm sure.
-          completes_sound k input c.plan.result (carried_completes g.H.Disk c.args.host.now c.plan.new.host (Verify k) c.plan.result input (carried_as g.H.Disk c.args.host.now c.plan.new.host (Plan c.in-Some-Plan.k) (Verify k) c.plan.result (ap Some (sym c.in-Some-Plan.field-0-is) ∙ sym c.in-Some-Plan.is ∙ c.command_line.ensures.line ∙ command) c.plan.ensures) calm) sure;
+          completes_sound k input status (carried_completes d a b (Verify k) status (carried_as d a b (Plan c.in-Some-Plan.k) (Verify k) status (sym is ∙ command) done) input calm) sure;
     }
 
 pub returns-in-Some-Verify : goal.returns-in-Some-Verify
 returns-in-Some-Verify g c =
+    let d = g.H.Disk in
+    let a = c.args.host.now in
+    let b = c.verify.new.host in
+    let status = c.verify.result in
+    let done = c.verify.ensures in
+    let is = sym c.command_line.ensures.line ∙ c.in-Some-Verify.is ∙ ap Some c.in-Some-Verify.field-0-is in
     record {
-      carried = λ line command. carried_as g.H.Disk c.args.host.now c.verify.new.host (Verify c.in-Some-Verify.k) line c.verify.result (ap Some (sym c.in-Some-Verify.field-0-is) ∙ sym c.in-Some-Verify.is ∙ c.command_line.ensures.line ∙ command) c.verify.ensures;
-      bounded = c.verify.ensures.run.bounded;
-      counts = c.verify.ensures.run.counts;
-      usage = usage_not g.H.Disk c.args.host.now c.verify.new.host (Verify c.in-Some-Verify.k) c.verify.result (sym c.command_line.ensures.line ∙ c.in-Some-Verify.is ∙ ap Some c.in-Some-Verify.field-0-is) c.verify.ensures;
-      untouched = λ usage. absurd (carried_usage g.H.Disk c.args.host.now c.verify.new.host (Verify c.in-Some-Verify.k) (subst (λ (s : Status). IsCarriedOut g.H.Disk (Verify c.in-Some-Verify.k) s c.args.host.now c.verify.new.host) usage c.verify.ensures));
-      complete = λ line input command calm. carried_completes g.H.Disk c.args.host.now c.verify.new.host line c.verify.result input (carried_as g.H.Disk c.args.host.now c.verify.new.host (Verify c.in-Some-Verify.k) line c.verify.result (ap Some (sym c.in-Some-Verify.field-0-is) ∙ sym c.in-Some-Verify.is ∙ c.command_line.ensures.line ∙ command) c.verify.ensures) calm;
+      carried = λ line command. carried_as d a b (Verify c.in-Some-Verify.k) line status (sym is ∙ command) done;
+      bounded = carried_bounded d a b (Verify c.in-Some-Verify.k) status done;
+      counts = carried_counts d a b (Verify c.in-Some-Verify.k) status done;
+      usage = usage_not d a b (Verify c.in-Some-Verify.k) status is done;
+      untouched = λ usage. absurd (not_usage d a b (Verify c.in-Some-Verify.k) status done usage);
+      complete = λ line command. carried_completes d a b line status (carried_as d a b (Verify c.in-Some-Verify.k) line status (sym is ∙ command) done);
       planned = λ k input command calm sure.
-          completes_light k input c.verify.result (carried_completes g.H.Disk c.args.host.now c.verify.new.host (Plan k) c.verify.result input (carried_as g.H.Disk c.args.host.now c.verify.new.host (Verify c.in-Some-Verify.k) (Plan k) c.verify.result (ap Some (sym c.in-Some-Verify.field-0-is) ∙ sym c.in-Some-Verify.is ∙ c.command_line.ensures.line ∙ command) c.verify.ensures) calm) sure;
+          completes_light k input status (carried_completes d a b (Plan k) status (carried_as d a b (Verify c.in-Some-Verify.k) (Plan k) status (sym is ∙ command) done) input calm) sure;
       certified = λ k input command calm sure.
-          completes_sound k input c.verify.result (carried_completes g.H.Disk c.args.host.now c.verify.new.host (Verify k) c.verify.result input (carried_as g.H.Disk c.args.host.now c.verify.new.host (Verify c.in-Some-Verify.k) (Verify k) c.verify.result (ap Some (sym c.in-Some-Verify.field-0-is) ∙ sym c.in-Some-Verify.is ∙ c.command_line.ensures.line ∙ command) c.verify.ensures) calm) sure;
+          completes_sound k input status (carried_completes d a b (Verify k) status (carried_as d a b (Verify c.in-Some-Verify.k) (Verify k) status (sym is ∙ command) done) input calm) sure;
+    }
+
+pub returns-in-Some-Init : goal.returns-in-Some-Init
+returns-in-Some-Init g c =
+    let d = g.H.Disk in
+    let a = c.args.host.now in
+    let b = c.init.new.host in
+    let status = c.init.result in
+    let done = c.init.ensures in
+    let is = sym c.command_line.ensures.line ∙ c.in-Some-Init.is ∙ ap Some c.in-Some-Init.field-0-is in
+    record {
+      carried = λ line command. carried_as d a b (Init c.in-Some-Init.settings) line status (sym is ∙ command) done;
+      bounded = carried_bounded d a b (Init c.in-Some-Init.settings) status done;
+      counts = carried_counts d a b (Init c.in-Some-Init.settings) status done;
+      usage = usage_not d a b (Init c.in-Some-Init.settings) status is done;
+      untouched = λ usage. absurd (not_usage d a b (Init c.in-Some-Init.settings) status done usage);
+      complete = λ line command. carried_completes d a b line status (carried_as d a b (Init c.in-Some-Init.settings) line status (sym is ∙ command) done);
+      planned = λ k input command calm sure.
+          completes_light k input status (carried_completes d a b (Plan k) status (carried_as d a b (Init c.in-Some-Init.settings) (Plan k) status (sym is ∙ command) done) input calm) sure;
+      certified = λ k input command calm sure.
+          completes_sound k input status (carried_completes d a b (Verify k) status (carried_as d a b (Init c.in-Some-Init.settings) (Verify k) status (sym is ∙ command) done) input calm) sure;
     }

@@ -1,0 +1,40 @@
+// A run that makes a store.
+ghost use Rattle.std.specs.Prelude.{◌≤◌, length};
+ghost use Rattle.nx_holdings.specs.Header.{AreSettings};
+ghost use Rattle.nx_host.specs.Phase.{GivesAlone};
+ghost use Rattle.nx_front.specs.Init.{Says, Initializes};
+
+use crate::Status;
+use nx_holdings::Settings;
+use nx_host::{Disk, Host};
+use nx_records::{Records, StoreError};
+use std::alloc::Global;
+
+// Makes a store with these settings, and says so once it is there, or that the disk has pages. No input
+// is taken.
+pub fn init<H: Host>(alloc: Global, host: &mut H, settings: Settings) -> Status
+    requires { AreSettings settings }
+    ensures { Initializes ⟦<H as Disk>⟧ settings result host.old host.new }
+{
+    let error = match Records::create(alloc, host, settings) {
+        Ok(_) => return say(host, b"ok\n", Status::Done),
+        Err(error) => error,
+    };
+    match error {
+        StoreError::Exists => say(host, b"refused exists\n", Status::Refused),
+        StoreError::Disk => Status::DiskFault,
+        _ => Status::NoMemory,
+    }
+}
+
+// Gives a line, with which the run ends.
+fn say<H: Host>(host: &mut H, line: &[u8], whole: Status) -> Status
+    requires { 1 ≤ length line.now }
+    ensures says { Says line.now whole result (H.beside host.old) (H.beside host.new) }
+    ensures alone { GivesAlone ⟦<H as Disk>⟧ line.now host.old host.new }
+{
+    match host.emit(line) {
+        Ok(()) => whole,
+        Err(_) => Status::WriteFault,
+    }
+}
