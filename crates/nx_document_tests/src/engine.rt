@@ -1,12 +1,12 @@
 // Scripts with their replies: each command, and each of its refusals in their order.
 ghost use Rattle.std.specs.Prelude.{[], IfOk};
-ghost use Rattle.nx_script.specs.Commands.{CanCome};
+ghost use Rattle.nx_script.specs.Commands.{CanCome, CanLoad};
 
 use crate::fixtures::{node, read};
 use nx_engine::Plain;
 use nx_matrix::{Entry, Rule};
 use nx_pyx::{PyxError, PyxFault, ReadError};
-use nx_script::{Command, LineBody, LoadBody, TextBody, write_reply};
+use nx_script::{Command, LineBody, LoadBody, TextBody, is_document_name, write_reply};
 use nx_tree::{Bytes, NoMemory, Path, count};
 use std::alloc::Global;
 use std::process::Abort;
@@ -80,7 +80,7 @@ const REFUSED: [Step; 38] = [
 ];
 
 fn document(alloc: Global, text: &[u8]) -> Result<LoadBody, ReadError>
-    ensures { IfOk result (λ body. CanCome (Command.Load [] body)) }
+    ensures { IfOk result (λ body. CanLoad body) }
 {
     match read(alloc, text) {
         Ok(tree) => Ok(LoadBody::Read(tree)),
@@ -131,7 +131,7 @@ fn command(alloc: Global, step: Step) -> Result<Command, ReadError>
     let path = Path::from_slice(alloc, step.2)?;
     let text = step.3;
     Ok(match step.0 {
-        "load" => Command::Load {
+        "load" if is_document_name(step.1) => Command::Load {
             name,
             body: document(alloc, text)?,
         },

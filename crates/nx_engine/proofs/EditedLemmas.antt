@@ -20,7 +20,8 @@ use Rattle.nx_script.specs.declared.command.Command.TheVariants.{Insert, Retext}
 use Rattle.nx_script.specs.declared.reply.Reply.{Reply}
 use Rattle.nx_script.specs.declared.reply.ReplyError.{ReplyError}
 use Rattle.nx_script.specs.declared.reply.ReplyError.TheVariants.{NoNode, BadPlace, Twice, NoContent, TooDeep, TooMany}
-use Rattle.nx_engine.specs.Documents.{Documents, name_order}
+use Rattle.nx_script.specs.Field.{name_order}
+use Rattle.nx_engine.specs.Documents.{Documents}
 use Rattle.nx_engine.specs.Step.{worded, done_unless, by_document, edited, after}
 use Rattle.nx_engine.specs.Plain.{vector_order, documents_in, AreDocuments}
 use Rattle.nx_engine.proofs.MapLemmas.{Shows, tree_of, get_shown, insert_shown, insert_same, written_documents, found_document}

@@ -7,7 +7,8 @@ use Rattle.std.specs.BTreeMap.{BTreeMap, IsOrdered, values}
 use Rattle.std.specs.FinMap.{from_sorted, code}
 use Rattle.nx_tree.specs.Forest.{OrderedTree, tree_code}
 use Rattle.nx_tree.specs.Document.{IsDocument}
-use Rattle.nx_engine.specs.Documents.{Documents, name_order}
+use Rattle.nx_script.specs.Field.{name_order}
+use Rattle.nx_engine.specs.Documents.{Documents}
 
 -- the order of names that are vectors
 abbrev pub vector_order : Vec ℕ → Vec ℕ → Ordering

@@ -16,5 +16,6 @@ mod weigh;
 pub use bounds::{Bound, Bounds};
 pub use error::PartsError;
 pub use interval::{Interval, Partitioning};
+pub use marks::{Mark, below_in, holder_in, mark_members};
 pub use plan::Plan;
 pub use weigh::{check_feasible, feasible_weights, part_weights};

@@ -8,15 +8,31 @@ ghost use Rattle.nx_parts.specs.Marks.{marked, marked_in, Holds, IsClash, IsOver
 use crate::{Interval, PartsError};
 use std::alloc::Global;
 
-/// The mark of a node: the interval that it is a member of, as its place in the list, and the marks
-/// of its first children. Behind them no node is a member at all.
+/// The mark of a node: the interval that it is a member of, and the marks of its first children.
+/// Behind them no node is a member at all.
 #[derive(Drop)]
-pub(crate) struct Mark {
+pub struct Mark {
+    // The interval, as its place in the list.
     pub(crate) holder: Option<u32>,
     pub(crate) below: Vec<Mark>,
 }
 
 impl Mark {
+    /// The interval that the node is a member of, as its place in the list, if there is one. It takes
+    /// no memory.
+    pub fn holder(&self) -> Option<u32>
+        ensures { result ≡ marked self.now [] }
+    {
+        self.holder
+    }
+
+    /// The marks of the node's first children. It takes no memory.
+    pub fn below(&self) -> &[Mark]
+        ensures { (position : ℕ) (path : List ℕ) → marked_in result.now position path ≡ marked self.now (position ∷ path) }
+    {
+        self.below.as_slice()
+    }
+
     // No interval, at the node and below it. It takes no memory.
     fn new(alloc: Global) -> Mark
         ensures { (path : List ℕ) → marked result path ≡ None }
@@ -111,8 +127,11 @@ fn grow(alloc: Global, marks: &mut Vec<Mark>, count: usize) -> Result<(), PartsE
     Ok(())
 }
 
-// Marks all members of the intervals, where the mark that is given is the root's.
-pub(crate) fn mark_members(alloc: Global, intervals: &[Interval]) -> Result<Mark, PartsError>
+/// The root's mark, with those below it: each node is marked with the interval that it is a member of.
+/// There have to be fewer than 2^32 intervals.
+///
+/// Errors: `Overlap` for the first interval that shares a member with an earlier one; `Memory`.
+pub fn mark_members(alloc: Global, intervals: &[Interval]) -> Result<Mark, PartsError>
     requires { length intervals.now < 2 ^ 32 }
     ensures marked { IfOk result (λ root. (path : List ℕ) → marked root path ≡ holder intervals.now path) }
     ensures apart { OnOk result ((index : ℕ) → ¬ Overlaps intervals.now index) }
@@ -125,15 +144,15 @@ pub(crate) fn mark_members(alloc: Global, intervals: &[Interval]) -> Result<Mark
     Ok(root)
 }
 
-// The interval that holds the node at the position; `None` where it is no member.
-pub(crate) fn holder_in(marks: &[Mark], position: usize) -> Option<u32>
+/// The interval that the node at a position is a member of, if there is one. It takes no memory.
+pub fn holder_in(marks: &[Mark], position: usize) -> Option<u32>
     ensures { result ≡ marked_in marks.now position [] }
 {
     marks.get(position)?.holder
 }
 
-// The marks below the node at the position; none where no members are marked there.
-pub(crate) fn below_in(marks: &[Mark], position: usize) -> &[Mark]
+/// The marks below the node at a position, none where no members are marked there. It takes no memory.
+pub fn below_in(marks: &[Mark], position: usize) -> &[Mark]
     ensures { (next : ℕ) (path : List ℕ) → marked_in result.now next path ≡ marked_in marks.now position (next ∷ path) }
 {
     match marks.get(position) {

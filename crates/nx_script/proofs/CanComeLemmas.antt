@@ -29,7 +29,7 @@ use Rattle.nx_pyx.specs.Field.{field, behind}
 use Rattle.nx_script.specs.Field.{is_document_name}
 use Rattle.nx_script.specs.Rule.{HasLabels, is_parent_label, is_child_label, entry_named, rule_by, rule_of}
 use Rattle.nx_script.specs.Line.{longest_line, line_body, place_of, ends_there, insert_at, retext_at, lone_command, command_by, command_of}
-use Rattle.nx_script.specs.Commands.{begins_load, has_dot, Loads, IsWhole, SplitsInto, cut_off, AreCommands, CanCome}
+use Rattle.nx_script.specs.Commands.{begins_load, has_dot, named, loaded_name, Loads, IsWhole, SplitsInto, cut_off, AreCommands, CanCome}
 
 -- what holds of both ways holds of the one that is taken
 either_way : {X : Type 0} (P : X → Type 0) (b : Bool) {x y : X} → P x → P y → P (if b then x else y)
@@ -185,9 +185,25 @@ command_can bytes =
         (either_way CanCome (bytes_eq word (codes "rule")) (rule_can (rule_of rest) (rule_of-labels rest))
         tt)))))))
 
+-- the name of a `load` line is one of a document
+loaded_name-valid : (head name : List ℕ) → loaded_name head ≡ Some name → IsTrue (is_document_name name)
+loaded_name-valid head name = by_length (nat_lt longest_line (length head))
+  where
+    by_test : (rest : List ℕ) (b : Bool) → is_document_name rest ≡ b → (if b then Some rest else None) ≡ Some name → IsTrue (is_document_name name)
+    by_test rest true is same = let e : rest ≡ name = cc in subst (λ (n : List ℕ). IsTrue (is_document_name n)) e is
+    by_test rest false is same = cc same
+
+    by_rest : (o : Option (List ℕ)) → option_map_or named o None ≡ Some name → IsTrue (is_document_name name)
+    by_rest None is = cc is
+    by_rest (Some rest) is = by_test rest (is_document_name rest) refl is
+
+    by_length : (b : Bool) → (if b then None else option_map_or named (behind head) None) ≡ Some name → IsTrue (is_document_name name)
+    by_length true is = cc is
+    by_length false is = by_rest (behind head) is
+
 load_can : (head : List ℕ) (body : List (List ℕ)) (command : Command) → Loads head body command → CanCome command
-load_can head body (Load name (load.Read tree)) loads = loads.1.0
-load_can head body (Load name (load.Wrong error)) loads = tt
+load_can head body (Load name (load.Read tree)) loads = (loaded_name-valid head name loads.0, loads.1.0)
+load_can head body (Load name (load.Wrong error)) loads = (loaded_name-valid head name loads.0, tt)
 load_can head body Bad loads = tt
 load_can head body (Discard name) loads = tt
 load_can head body Names loads = tt

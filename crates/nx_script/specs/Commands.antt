@@ -1,5 +1,5 @@
 -- The commands of a script.
-use Rattle.std.specs.Prelude.{◌≡◌, ◌≤◌, ℕ, Bool, true, false, nat_lt, if◌then◌else◌, List, [], ◌∷◌, ◌++◌, ◌||◌, map, length, take, Option, None, Some, codes}
+use Rattle.std.specs.Prelude.{◌≡◌, ◌≤◌, ℕ, Bool, true, false, nat_lt, if◌then◌else◌, List, [], ◌∷◌, ◌++◌, ◌||◌, map, length, take, Option, None, Some, IsTrue, codes}
 use Rattle.std.specs.Bool.{MatchBool}
 use Rattle.std.specs.List.{list_any}
 use Rattle.std.specs.Option.{option_map_or}
@@ -81,9 +81,14 @@ abbrev pub AreCommands : List ℕ → List Command → Type 0
 AreCommands bytes commands =
     (whole : List Command) × (rest : List (List ℕ)) × SplitsInto (lines bytes) whole rest × IsUnended rest × (commands ≡ whole ++ cut_off rest)
 
+-- what the lines of a document say could be read
+abbrev pub CanLoad : LoadBody → Type 0
+CanLoad (Read tree) = IsDocument tree
+CanLoad (Wrong error) = Unit {0}
+
 -- a command that a script can give: what it holds could be read
 abbrev pub CanCome : Command → Type 0
-CanCome (Load name (Read tree)) = IsDocument tree
+CanCome (Load name body) = IsTrue (is_document_name name) × CanLoad body
 CanCome (Insert name path (line.Read node)) = IsNode node
 CanCome (Retext name path (content.Read bytes)) = length bytes ≤ longest_node
 CanCome (SetRule rule) = HasLabels rule

@@ -1,4 +1,7 @@
 -- The names of documents.
+use Rattle.std.specs.declared.cmp.Ordering.{Ordering}
+use Rattle.std.specs.Cmp.Lexicographic.{slice_cmp}
+use Rattle.std.specs.Ordering.{nat_cmp}
 use Rattle.std.specs.Prelude.{ℕ, Bool, not, ◌&&◌, nat_le, List, length}
 use Rattle.std.specs.List.{list_all}
 use Rattle.nx_tree.specs.Document.{is_empty}
@@ -11,3 +14,7 @@ is_visible b = nat_le 33 b && nat_le b 126
 -- a document's name: 1 to 255 visible bytes, the first not a hyphen
 abbrev pub is_document_name : List ℕ → Bool
 is_document_name name = not (is_empty name) && nat_le (length name) 255 && list_all is_visible name && not (begins_with 45 name)
+
+-- the order of names: that of their bytes
+abbrev pub name_order : List ℕ → List ℕ → Ordering
+name_order = slice_cmp nat_cmp

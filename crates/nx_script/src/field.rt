@@ -6,7 +6,8 @@ ghost use Rattle.nx_script.specs.Field.{is_document_name, is_visible};
 // As many bytes as a document's name has at most.
 const LONGEST_NAME: usize = 255;
 
-// Whether a document may have this name.
+/// Whether a document may have this name: 1 to 255 bytes from `!` to `~`, the first not a hyphen. It
+/// takes no memory.
 pub fn is_document_name(name: &[u8]) -> bool
     ensures { result ≡ is_document_name name.now }
 {

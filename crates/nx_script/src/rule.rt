@@ -57,15 +57,17 @@ fn entry_named(word: &[u8]) -> Option<Entry>
     }
 }
 
-// Whether a rule may be for parents of this label.
-fn is_parent_label(label: &[u8]) -> bool
+/// Whether a rule may be for parents of this label: `#doc` or a name, of at most 1,024 bytes. It takes
+/// no memory.
+pub fn is_parent_label(label: &[u8]) -> bool
     ensures { result ≡ is_parent_label label.now }
 {
     label.len() <= LONGEST_LABEL && (label == b"#doc".as_slice() || is_name(label))
 }
 
-// Whether a rule may be for children of this label.
-fn is_child_label(label: &[u8]) -> bool
+/// Whether a rule may be for children of this label: `#text`, a name, or a name behind `@` or `?`, of
+/// at most 1,024 bytes in all. It takes no memory.
+pub fn is_child_label(label: &[u8]) -> bool
     ensures { result ≡ is_child_label label.now }
 {
     label.len() <= LONGEST_LABEL

@@ -16,7 +16,7 @@ returns-then-contains_key-clause-ok c =
     sym (load_present _ _ c.args.body there)
 
 pub invariant_of-self-in-Read : goal.invariant_of-self-in-Read
-invariant_of-self-in-Read c = inserted_documents _ c.insert.new.self _ _ c.self.invariant (let h = c.requires in rw c.in-Read.is at h) c.in_ok-insert-in-Read.ensures.entries c.in_ok-insert-in-Read.ensures.ordered
+invariant_of-self-in-Read c = inserted_documents _ c.insert.new.self _ _ c.self.invariant (let h = c.requires.1 in rw c.in-Read.is at h) c.in_ok-insert-in-Read.ensures.entries c.in_ok-insert-in-Read.ensures.ordered
 
 pub returns-in-Wrong-clause-reply : goal.returns-in-Wrong-clause-reply
 returns-in-Wrong-clause-reply c =
