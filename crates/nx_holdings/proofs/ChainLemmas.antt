@@ -1,6 +1,6 @@
 -- The free list and the chains of sound pages are determined by the pages.
-use Rattle.std.proofs.Common.{◌≡◌, ◌⊎◌, ℕ, ◌+◌, ◌<◌, ◌≤◌, ◌^◌, true, false, List, [], ◌∷◌, ◌++◌, length, take, drop, Option, Some, None, refl, sym, ap, ◌∙◌, arith, inl, inr}
-use Rattle.std.specs.Prelude.{◌==◌}
+use Rattle.std.proofs.Common.{◌≡◌, ◌⊎◌, ℕ, ◌+◌, ◌<◌, ◌≤◌, ◌^◌, true, false, List, [], ◌∷◌, ◌++◌, length, length-append, take, drop, Option, Some, None, refl, sym, ap, ◌∙◌, arith, inl, inr}
+use Rattle.std.specs.Prelude.{◌==◌, if◌then◌else◌}
 use Rattle.std.proofs.lemmas.Bool.{eqb-true}
 use Rattle.nx_numbers.specs.Numbers.{number_at}
 use Rattle.nx_replay.specs.Log.{Pages}
@@ -9,6 +9,7 @@ use Rattle.nx_chain.proofs.Chain.{says_length, says_next, says_content}
 use Rattle.nx_holdings.specs.Holdings.{times, free_bytes, IsFreeList, Link, IsLink, next_of, AreLinked, Chain, links_of, content_of, pages_of_links, pages_of_chains, list_at}
 use Rattle.nx_holdings.proofs.FreeLemmas.{free_one}
 use Rattle.nx_holdings.proofs.TimesLemmas.{times-append, first_or}
+use Rattle.nx_holdings.proofs.SharedLemmas.{some_or}
 use Rattle.nx_holdings.proofs.DenseLemmas.{among_here, in_one, AreChains}
 
 -- a page that another may name
@@ -208,6 +209,39 @@ pub record Begins (pages : Pages) (page : ℕ) (bytes : List ℕ) : Type 0 where
 
 pub one_begins : {pages : Pages} {page : ℕ} {x y : List ℕ} → Begins pages page x → Begins pages page y → x ≡ y
 one_begins {pages} a b = a.bytes_are ∙ one_chain pages a.links b.links a.linked b.linked a.numbers b.numbers (a.first ∙ sym b.first) ∙ sym b.bytes_are
+
+-- what begins at a page of a chain is no longer than the chain
+begins_at : (pages : Pages) (ls : List Link) (p : ℕ) → AreLinked pages ls → AreNumbers (pages_of_links ls) → 1 ≤ times p (pages_of_links ls)
+    → (bytes : List ℕ) × Begins pages p bytes × (length bytes ≤ length (content_of ls))
+begins_at pages [] p are all among = absurd (omega (arith, among))
+begins_at pages (l ∷ ls) p are all among = elim (first_or p l.page (pages_of_links ls) among) [
+  | inl same ↦ (content_of (l ∷ ls), record { links = l ∷ ls; first = sym same; linked = are; numbers = all; bytes_are = refl }, omega arith)
+  | inr later ↦
+      let one = begins_at pages ls p are.2 (later_numbers l.page (pages_of_links ls) all) later in
+      let few = one.2 in
+      let long = length-append l.content (content_of ls) in
+      (one.0, one.1, omega (arith, few, long))
+]
+
+-- no page of a chain comes again in it
+pub links_once : (pages : Pages) (ls : List Link) → AreLinked pages ls → AreNumbers (pages_of_links ls) → (p : ℕ) → times p (pages_of_links ls) ≤ 1
+links_once pages [] are all p = omega arith
+links_once pages (l ∷ ls) are all p =
+    let rest = later_numbers l.page (pages_of_links ls) all in
+    elim (p == l.page) as (λ b. (p == l.page) ≡ b → (if b then 1 else 0) + times p (pages_of_links ls) ≤ 1) [
+      | true ↦ λ is. elim (some_or (times p (pages_of_links ls))) [
+        | inr none ↦ omega (arith, none)
+        | inl some ↦ absurd (
+            let behind = begins_at pages ls p are.2 rest some in
+            let whole : Begins pages p (content_of (l ∷ ls)) = record { links = l ∷ ls; first = sym (eqb-true p l.page is); linked = are; numbers = all; bytes_are = refl } in
+            let same = ap length (one_begins whole behind.1) in
+            let long = length-append l.content (content_of ls) in
+            let here = (are.0).some in
+            let few = behind.2 in
+            omega (arith, same, long, here, few))
+      ]
+      | false ↦ λ is. let once = links_once pages ls are.2 rest p in omega (arith, once)
+    ] refl
 
 pub list_later : (c : Chain) (cs : List Chain) (p : ℕ) → (p == (c.first).page) ≡ false → list_at (c ∷ cs) p ≡ list_at cs p
 list_later c cs p is = rw is refl

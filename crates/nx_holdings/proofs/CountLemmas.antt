@@ -61,6 +61,29 @@ enough (suc n) ks all =
     let long = w.long in
     omega (arith, rest, long)
 
+-- Pages below n, each of them once at most, are n at most.
+pub few_below : (n : ℕ) (ks : List ℕ) → ((p : ℕ) → times p ks ≤ 1) → ((p : ℕ) → 1 ≤ times p ks → p < n) → length ks ≤ n
+few_below zero [] once below = omega arith
+few_below zero (k ∷ ks) once below = absurd (let low = below k (among_here k k ks refl) in omega (arith, low))
+few_below (suc n) ks once below = elim (some_or (times n ks)) [
+  | inr none ↦
+      let rest = few_below n ks once (λ p among.
+      let low = below p among in
+      let other : p ≢ n = (λ same. let e = ap (λ (q : ℕ). times q ks) same in omega (arith, among, none, e)) in
+      omega (arith, low, other)) in
+      omega (arith, rest)
+  | inl some ↦
+      let w = without n ks some in
+      let rest = few_below n w.rest (λ p. let most = once p in let c = w.counts p in omega (arith, most, c)) (λ p among.
+      let most = once p in
+      let c = w.counts p in
+      let low = below p (omega (arith, among, c)) in
+      let other : p ≢ n = (λ same. let here : once_if p n ≡ 1 = let eq : (p == n) ≡ true = eq-eqb p n same in rw eq refl in omega (arith, most, c, here, among)) in
+      omega (arith, low, other)) in
+      let long = w.long in
+      omega (arith, rest, long)
+]
+
 -- lists at some of the first pages take no more than those at all of them
 lists_within : (lists : ℕ → Option (List ℕ)) (xs ks : List ℕ) → ((p : ℕ) → times p xs ≤ times p ks) → pages_of_lists lists xs ≤ pages_of_lists lists ks
 lists_within lists [] ks within = omega arith
@@ -87,6 +110,15 @@ links_few pages (l ∷ m ∷ ls) are =
     let full = are.1 (omega arith) in
     let whole = length-append l.content (content_of (m ∷ ls)) in
     omega (arith, rest, full, whole)
+
+-- a chain has no more bytes than its pages may
+pub links_long : (pages : Pages) (ls : List Link) → AreLinked pages ls → length (content_of ls) ≤ 8184 * length (pages_of_links ls)
+links_long pages [] are = omega arith
+links_long pages (l ∷ ls) are =
+    let rest = links_long pages ls are.2 in
+    let few = (are.0).few in
+    let whole = length-append l.content (content_of ls) in
+    omega (arith, rest, few, whole)
 
 -- a chain takes no more pages than its list needs
 chain_few : (pages : Pages) (ls : List Link) → AreLinked pages ls → length (pages_of_links ls) ≤ chain_count (length (content_of ls))

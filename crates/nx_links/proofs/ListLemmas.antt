@@ -1,5 +1,5 @@
 -- Reading byte lists page by page.
-use Rattle.std.proofs.Common.{◌≡◌, ◌⊎◌, ℕ, ◌+◌, ◌<◌, ◌≤◌, List, [], ◌∷◌, ◌++◌, length, refl, sym, ap, subst, ◌∙◌, arith, Bool, false, inl, inr, length-append}
+use Rattle.std.proofs.Common.{◌≡◌, ◌⊎◌, ℕ, ◌+◌, ◌*◌, ◌<◌, ◌≤◌, List, [], ◌∷◌, ◌++◌, length, refl, sym, ap, subst, ◌∙◌, arith, Bool, false, inl, inr, length-append}
 use Rattle.std.specs.Prelude.{◌==◌, ◌≢◌, ◌^◌, if◌then◌else◌, Option, Some, None}
 use Rattle.std.proofs.lemmas.List.{append_assoc, append-nil}
 use Rattle.nx_replay.specs.Log.{Pages}
@@ -12,7 +12,8 @@ use Rattle.nx_holdings.specs.Holdings.{Link, AreLinked, Chain, links_of, list_at
 use Rattle.nx_holdings.proofs.SharedLemmas.{named_parts}
 use Rattle.nx_holdings.proofs.OneLemmas.{chain_numbers, chain_is_chained}
 use Rattle.nx_holdings.proofs.TimesLemmas.{times_one, times-cons, times-append, first_or}
-use Rattle.nx_holdings.proofs.ChainLemmas.{Names, Begins, one_begins, one_next, one_content, first_or_named, list_of_first}
+use Rattle.nx_holdings.proofs.CountLemmas.{few_below, links_long}
+use Rattle.nx_holdings.proofs.ChainLemmas.{AreNumbers, Names, Begins, links_once, one_begins, one_next, one_content, first_or_named, list_of_first}
 
 -- no list begins nowhere but the empty one
 pub none_from : (limit : ℕ) (pages : Pages) → IsListFrom limit pages 0 []
@@ -172,6 +173,16 @@ read_long {so_far = so_far} some read past bytes from long =
     let rest : length left.0 ≡ length first.content + length first.rest = ap length first.are ∙ length-append first.content first.rest in
     let more = first.some in
     absurd (omega (arith, whole, rest, more, past, long))
+
+-- a list stands on pages below the limit, on each once, so it has no more bytes than they may
+pub list_fits : {limit : ℕ} {pages : Pages} {page : ℕ} {bytes : List ℕ} → limit ≤ 2 ^ 32 → IsListFrom limit pages page bytes → length bytes ≤ 8184 * limit
+list_fits {limit = limit} {pages = pages} few from =
+    let ps = pages_of_links from.links in
+    let numbers : AreNumbers ps = λ p among. let low = from.low p among in record { some = low.0; low = omega (arith, low, few) } in
+    let count = few_below limit ps (links_once pages from.links from.linked numbers) (λ p among. (from.low p among).1) in
+    let long = links_long pages from.links from.linked in
+    let are = ap length from.are in
+    omega (arith, count, long, are)
 
 -- the list at a first page, by its chain
 pub list_links : (pages : Pages) (cs : List Chain) (page : ℕ) (bytes : List ℕ) → AllByRecursion (λ c. AreLinked pages (links_of c)) cs → list_at cs page ≡ Some bytes

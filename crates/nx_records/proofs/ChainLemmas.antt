@@ -13,8 +13,8 @@ use Rattle.nx_holdings.specs.declared.header.Header.{Header}
 use Rattle.nx_holdings.specs.Header.{IsInRange}
 use Rattle.nx_holdings.specs.Holdings.{Held, HoldsBy, chain_count}
 use Rattle.nx_holdings.proofs.ChainLemmas.{Names, one_next, one_content}
-use Rattle.nx_links.specs.Lists.{IsLinkAt, IsListFrom, IsListStep, IsNamed, IsReadTo}
-use Rattle.nx_links.proofs.ListLemmas.{HasFirst, has_first, list_step, read_more, from_none, from_held, held_some, lists_from, one_list_from}
+use Rattle.nx_links.specs.Lists.{IsLinkAt, IsListFrom, IsNamed, IsReadTo}
+use Rattle.nx_links.proofs.ListLemmas.{HasFirst, has_first, list_step, read_more, list_fits, from_none, from_held, held_some, lists_from, one_list_from}
 use Rattle.nx_records.specs.declared.records.Records.{Records}
 use Rattle.nx_records.specs.declared.error.StoreError.{StoreError}
 use Rattle.nx_records.specs.declared.error.StoreError.TheVariants as error
@@ -66,6 +66,10 @@ reads_within now before count len full short next one = omega (arith, full, shor
 
 pub few_pages : (h : Header) → IsInRange h → h.pages ≤ 2 ^ 32
 few_pages h range = let limit = range.settings.limit.1 in let pages = range.pages.1 in omega (arith, limit, pages)
+
+-- no list has more bytes than there may be on all pages
+pub no_list_past : {pages : Pages} (h : Header) → IsInRange h → (first len : ℕ) → 8184 * h.pages < len → NoListFrom h.pages first len pages
+no_list_past h range first len past bytes from long = let fits = list_fits (few_pages h range) from in omega (arith, fits, past, long)
 
 -- what the pages are seen to be behind calls that asked the disk alone
 pub sees_back : {D : Type 0} {d : Ghosts D} {r0 r1 : Records} {x0 x1 : D} (P : Records → Pages → Type 0) → r1 ≡ r0 → IsStill d x0 x1 → SeesSo d r1 x1 (P r1) → SeesSo d r0 x0 (P r0)

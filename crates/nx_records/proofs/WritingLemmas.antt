@@ -1,5 +1,5 @@
 -- Writing chains and giving them back, page by page.
-use Rattle.std.proofs.Common.{◌≡◌, ℕ, ◌+◌, ◌*◌, ◌-◌, ◌<◌, ◌≤◌, List, [], ◌∷◌, ◌++◌, length, drop, length-append, refl, sym, ap, subst, ◌∙◌, arith, Bool, true, false, inl, inr}
+use Rattle.std.proofs.Common.{◌≡◌, ℕ, ◌+◌, ◌*◌, ◌-◌, ◌<◌, ◌≤◌, List, [], ◌++◌, length, drop, length-append, refl, sym, ap, subst, ◌∙◌, arith, Bool, true, false, inl, inr}
 use Rattle.std.specs.Prelude.{◌==◌, ◌≢◌, ◌^◌, min, if◌then◌else◌, Option, Some, None}
 use Rattle.nx_host.specs.Disk.{Image}
 use Rattle.nx_host.specs.declared.disk.Disk.{Ghosts}
@@ -7,26 +7,26 @@ use Rattle.nx_host.specs.Still.{IsStill}
 use Rattle.nx_replay.specs.Log.{Pages, replay}
 use Rattle.nx_chain.specs.Chain.{chain_bytes}
 use Rattle.nx_wal.specs.declared.wal.Wal.{Wal}
-use Rattle.nx_wal.specs.Wal.{IsInStep, current}
+use Rattle.nx_wal.specs.Wal.{current}
 use Rattle.nx_holdings.specs.declared.header.Header.{Header}
-use Rattle.nx_holdings.specs.declared.header.Settings.{Settings}
 use Rattle.nx_holdings.specs.Header.{header_bytes, IsInRange}
-use Rattle.nx_holdings.specs.Holdings.{with_page, free_bytes, Link, next_of, content_of, list_at, chain_count, Held, HoldsBehind, HoldsBy}
+use Rattle.nx_holdings.specs.Holdings.{with_page, free_bytes, Link, next_of, content_of, chain_count, Held, HoldsBehind, HoldsBy}
 use Rattle.nx_holdings.specs.Laws.{pages_of_list}
 use Rattle.nx_holdings.proofs.TimesLemmas.{other_page}
 use Rattle.nx_holdings.proofs.HeldLemmas.{holds_all, holds_numbered}
 use Rattle.nx_holdings.proofs.ChainLemmas.{Names, one_next, one_content}
 use Rattle.nx_links.specs.Beside.{HeldBeside, HoldsBeside, KeepsCatalog, KeepsBeside}
-use Rattle.nx_links.proofs.BesideLemmas.{IsLoosed, loose_first, loose_unused, put_link, IsGiven, give_link, room_apart, chain_from, chain_count_of, first_low}
-use Rattle.nx_links.proofs.JoinLemmas.{beside_header, all_lists, all_but, enter_none, IsEntered, enter, freed_holds, written_holds, catalog_holds}
+use Rattle.nx_links.proofs.ListLemmas.{has_first}
+use Rattle.nx_links.proofs.BesideLemmas.{IsLoosed, loose_first, loose_unused, put_link, give_link, room_apart, chain_from, chain_count_of, first_low}
+use Rattle.nx_links.proofs.JoinLemmas.{beside_header, all_lists, all_but, enter_none, enter, freed_holds, written_holds, catalog_holds}
 use Rattle.nx_records.specs.declared.records.Records.{Records}
 use Rattle.nx_records.specs.declared.error.StoreError.{StoreError}
 use Rattle.nx_records.specs.declared.error.StoreError.TheVariants as error
 use Rattle.nx_records.specs.Records.{has_ended, has_free, next_number, KeepsLog, StandsFor}
-use Rattle.nx_records.specs.Changes.{WritesList, FreesList, SetsCatalog}
+use Rattle.nx_records.specs.Changes.{WritesList, SetsCatalog}
 use Rattle.nx_records.specs.Refusals.{EndNow, NotChanged, NotStored}
 use Rattle.nx_records.specs.Pages.{SeesSo, StepsTo, IsPageTaken, NotTaken, numbered, released}
-use Rattle.nx_records.specs.Chains.{HasLink, NoLink, NotListed, MayLead, link_before, IsContentAt, IsWritten, IsLeft, ChainLeads, ChainStepsTo, FreesTo, BesideSo, Nowhere, NotLed, NotGiven, with_catalog}
+use Rattle.nx_records.specs.Chains.{HasLink, NoLink, NotListed, MayLead, link_before, IsContentAt, IsWritten, IsLeft, ChainStepsTo, FreesTo, BesideSo, Nowhere, NotLed, NotGiven, with_catalog}
 use Rattle.nx_records.proofs.StandLemmas.{Stores, step_kept, saved_kept, keeps_then}
 use Rattle.nx_records.proofs.StepLemmas.{first_free, none_free}
 use Rattle.nx_records.proofs.RefusalLemmas.{keeps_self, runs_on, ends_later, ended_now}
@@ -417,6 +417,16 @@ left_ends next content more low comes goes =
     let both = length-append content (content_of more) in
     let count = comes.count in
     record { first = goes.1; count = omega (arith, whole, both, count, low) }
+
+-- where no byte is left, no page is
+pub left_none : {pages : Pages} {h : Header} {held : HeldBeside} {page left len : ℕ} {links : List Link} (mid : List Link) → HoldsBeside pages h mid held → next_of mid ≢ 0 → IsLeft page left len links mid → left ≡ 0
+    → length (content_of links) ≡ len → ⊥
+left_none mid holds some comes none long =
+    let first = has_first some (chain_from holds) in
+    let whole = ap length first.are ∙ length-append first.content first.rest in
+    let here = first.some in
+    let count = comes.count in
+    omega (arith, whole, here, count, none, long)
 
 -- a page that has more bytes than are left isn't one of a list of that length
 pub left_past : {page left len : ℕ} {links mid : List Link} (next : ℕ) (content : List ℕ) (more : List Link) → left < length content → IsLeft page left len links mid

@@ -21,6 +21,10 @@ settings_of records = records.head.settings
 abbrev pub catalog_length_of : Records → ℕ
 catalog_length_of records = (records.head).catalog_length
 
+-- how many pages there are, by the header
+abbrev pub page_count_of : Records → ℕ
+page_count_of records = (records.head).pages
+
 -- where the log ends
 abbrev pub log_length_of : Records → ℕ
 log_length_of records = length_of records.wal

@@ -1,5 +1,5 @@
 // Reading chains, page by page.
-ghost use Rattle.std.specs.Prelude.{List as Items, ◌≡◌, ◌≢◌, ◌⊎◌, ◌+◌, ◌<◌, ◌≤◌, ℕ, length, true, false, IfOk, IfErr};
+ghost use Rattle.std.specs.Prelude.{List as Items, ◌≡◌, ◌≢◌, ◌⊎◌, ◌+◌, ◌*◌, ◌<◌, ◌≤◌, ℕ, length, true, false, IfOk, IfErr};
 ghost use Rattle.nx_host.specs.Still.{IsStill};
 ghost use Rattle.nx_holdings.specs.Holdings.{chain_count};
 ghost use Rattle.nx_links.specs.Lists.{IsListFrom};
@@ -20,7 +20,7 @@ fn may_stand(next: u32, len: usize) -> bool
 }
 
 impl Records {
-    ghost use Rattle.nx_records.specs.Records.{has_ended};
+    ghost use Rattle.nx_records.specs.Records.{has_ended, page_count_of};
     ghost use Rattle.nx_records.specs.Pages.{SeesSo};
     ghost use Rattle.nx_records.specs.Chains.{HasLink, NoLink, NoListFrom, NotListed};
 
@@ -30,6 +30,14 @@ impl Records {
         ensures no { result ≡ false → (len ≡ 0) ⊎ (first ≡ (self.now.head).catalog) }
     {
         len != 0 && first != self.head.catalog
+    }
+
+    // Whether a chain may have so many bytes: its pages are below the header's number, and none comes twice.
+    pub(crate) fn may_have(&self, len: u64) -> bool
+        ensures yes { result ≡ true → len ≤ 8184 * page_count_of self.now }
+        ensures no { result ≡ false → 8184 * page_count_of self.now < len }
+    {
+        len <= u64::from(self.head.pages) * 8_184
     }
 
     // The chain page with this number.
@@ -66,7 +74,8 @@ impl Records {
         Ok(link)
     }
 
-    // The bytes on the chain pages from one on, which are so many.
+    // The bytes on the chain pages from one on, which are so many. Also where pages run in a circle, it reads
+    // no more of them than there are.
     pub(crate) fn read_chain<D: Disk>(
         &mut self,
         alloc: Global,
@@ -78,9 +87,13 @@ impl Records {
         requires { has_ended self.old ≡ false }
         ensures still { IsStill D.Disk disk.old disk.new }
         ensures reads { D.reads disk.new ≤ D.reads disk.old + chain_count len }
+        ensures reads_pages { D.reads disk.new ≤ D.reads disk.old + page_count_of self.old }
         ensures ok { IfOk result (λ bytes. (self.new ≡ self.old) × (length bytes ≡ len) × SeesSo D.Disk self.old disk.old (λ pages. IsListFrom self.old.head.pages pages first bytes)) }
         ensures refused { IfErr result (λ e. NotListed D.Disk (NoListFrom self.old.head.pages first len) named e self.old self.new disk.old disk.new) }
     {
+        if !self.may_have(len) {
+            return Err(self.damaged(named));
+        }
         let mut bytes = List::new(alloc);
         let mut page = first;
         while page != 0 {

@@ -10,12 +10,13 @@ use nx_lists::List;
 use std::alloc::Global;
 
 impl Records {
-    ghost use Rattle.nx_records.specs.Records.{StandsFor, KeepsSaved, ComesTo, has_ended, catalog_length_of};
+    ghost use Rattle.nx_records.specs.Records.{StandsFor, KeepsSaved, ComesTo, has_ended, catalog_length_of, page_count_of};
     ghost use Rattle.nx_records.specs.Changes.{LacksList, IsListRead, WritesList, FreesList, SetsCatalog, catalog_needs};
     ghost use Rattle.nx_records.specs.Refusals.{NotRead, NotChanged, NotStored, RunsOn};
 
-    /// The byte list of so many bytes at a first page. It reads its chain pages. Where the page is one
-    /// behind the first of a chain, it may give what stands from there on.
+    /// The byte list of so many bytes at a first page. It reads its chain pages, and whatever stands on
+    /// them no more pages than the header counts. Where the page is one behind the first of a chain, it
+    /// may give what stands from there on.
     ///
     /// Errors: `Damaged` with the first page, only where the pages aren't sound or no list of that
     /// length is there; `Disk`, only where `faults` rose; `Ended` exactly where the records had ended;
@@ -29,6 +30,7 @@ impl Records {
     ) -> Result<List<u8>, StoreError>
         ensures still { IsStill D.Disk disk.old disk.new }
         ensures reads { D.reads disk.new ≤ D.reads disk.old + chain_count len }
+        ensures reads_pages { D.reads disk.new ≤ D.reads disk.old + page_count_of self.old }
         ensures ok { IfOk result (λ bytes. (has_ended self.old ≡ false) × (self.new ≡ self.old) × (length bytes ≡ len)
             × ((saved now : Held) (stands : StandsFor D.Disk self.old disk.old saved now) → IsListRead (current self.old.wal (stands.keeps).image) now first bytes)) }
         ensures refused { IfErr result (λ e. NotRead D.Disk (λ now. LacksList now first len) first e self.old self.new disk.old disk.new) }
@@ -42,7 +44,7 @@ impl Records {
         self.read_chain(alloc, disk, first, len, first)
     }
 
-    /// The catalog's bytes. It reads the catalog's chain pages.
+    /// The catalog's bytes. It reads the catalog's chain pages, and no more pages than the header counts.
     ///
     /// Errors: `Damaged` with page 0, only where the pages aren't sound; `Disk`, only where `faults`
     /// rose; `Ended` exactly where the records had ended; `Memory`.
@@ -53,6 +55,7 @@ impl Records {
     ) -> Result<List<u8>, StoreError>
         ensures still { IsStill D.Disk disk.old disk.new }
         ensures reads { D.reads disk.new ≤ D.reads disk.old + chain_count (catalog_length_of self.old) }
+        ensures reads_pages { D.reads disk.new ≤ D.reads disk.old + page_count_of self.old }
         ensures ok { IfOk result (λ bytes. (has_ended self.old ≡ false) × (self.new ≡ self.old) × (length bytes ≡ catalog_length_of self.old)
             × ((saved now : Held) → StandsFor D.Disk self.old disk.old saved now → now.catalog ≡ bytes)) }
         ensures refused { IfErr result (λ e. NotRead D.Disk (λ now. ⊥) 0 e self.old self.new disk.old disk.new) }
@@ -72,6 +75,7 @@ impl Records {
     pub fn write_list<D: Disk>(&mut self, disk: &mut D, bytes: &[u8]) -> Result<u32, StoreError>
         requires { 1 ≤ length bytes.now }
         ensures still { IsStill D.Disk disk.old disk.new }
+        ensures reads { D.reads disk.new ≤ D.reads disk.old + chain_count (length bytes.now) }
         ensures ok { IfOk result (λ first. ComesTo D.Disk self.old self.new disk.old disk.new (λ was now. WritesList first bytes.now was now)) }
         ensures keeps { IfOk result (λ first. RunsOn self.old self.new × KeepsSaved D.Disk self.old self.new disk.old disk.new × (pending self.new.wal ≢ [])) }
         ensures refused { IfErr result (λ e. NotStored D.Disk (λ was. chain_count (length bytes.now)) (λ was. ⊥) 0 e self.old self.new disk.old disk.new) }
@@ -84,8 +88,9 @@ impl Records {
         Ok(first)
     }
 
-    /// Takes the byte list of so many bytes at a first page away, and gives its chain pages back. What
-    /// it leaves is said only where a list begins at that page, not where the page is one behind.
+    /// Takes the byte list of so many bytes at a first page away, and gives its chain pages back. It
+    /// reads them, and no more pages than the header counts. What it leaves is said only where a list
+    /// begins at that page, not where the page is one behind.
     ///
     /// Errors: `Damaged` with the first page, only where the pages aren't sound or no list of that
     /// length is there; `Disk`, only where `faults` rose; `Ended` exactly where the records had ended;
@@ -98,6 +103,8 @@ impl Records {
         len: u64,
     ) -> Result<(), StoreError>
         ensures still { IsStill D.Disk disk.old disk.new }
+        ensures reads { D.reads disk.new ≤ D.reads disk.old + chain_count len }
+        ensures reads_pages { D.reads disk.new ≤ D.reads disk.old + page_count_of self.old }
         ensures ok { OnOk result ((saved now : Held) (list : Items ℕ) → StandsFor D.Disk self.old disk.old saved now → now.lists first ≡ Some list
             → (length list ≡ len) × ((next : Held) × StandsFor D.Disk self.new disk.new saved next × FreesList first now next)) }
         ensures keeps { OnOk result (RunsOn self.old self.new × KeepsSaved D.Disk self.old self.new disk.old disk.new × (pending self.new.wal ≢ [])) }
@@ -113,7 +120,8 @@ impl Records {
         self.store_header()
     }
 
-    /// Replaces the catalog by at least 8 bytes. The old one's chain pages are given back first.
+    /// Replaces the catalog by at least 8 bytes. The old one's chain pages are read and given back first,
+    /// no more pages than the header counts.
     ///
     /// Errors: `Full`, over sound pages only where fewer pages were free than the new catalog takes
     /// chain pages beyond those of the old one; `Damaged` with page 0, only where the pages aren't
@@ -127,6 +135,8 @@ impl Records {
     ) -> Result<(), StoreError>
         requires { 8 ≤ length bytes.now }
         ensures still { IsStill D.Disk disk.old disk.new }
+        ensures reads { D.reads disk.new ≤ D.reads disk.old + (chain_count (catalog_length_of self.old) + chain_count (length bytes.now)) }
+        ensures reads_pages { D.reads disk.new ≤ D.reads disk.old + (page_count_of self.old + chain_count (length bytes.now)) }
         ensures ok { OnOk result (ComesTo D.Disk self.old self.new disk.old disk.new (λ was now. SetsCatalog bytes.now was now)) }
         ensures keeps { OnOk result (RunsOn self.old self.new × KeepsSaved D.Disk self.old self.new disk.old disk.new × (pending self.new.wal ≢ [])) }
         ensures refused { IfErr result (λ e. NotStored D.Disk (λ was. catalog_needs bytes.now was) (λ was. ⊥) 0 e self.old self.new disk.old disk.new) }

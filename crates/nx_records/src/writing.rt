@@ -29,7 +29,7 @@ fn content_at(bytes: &[u8], index: usize) -> &[u8]
 }
 
 impl Records {
-    ghost use Rattle.nx_records.specs.Records.{has_ended, KeepsLog};
+    ghost use Rattle.nx_records.specs.Records.{has_ended, page_count_of, KeepsLog};
     ghost use Rattle.nx_records.specs.Chains.{MayLead, ChainStepsTo, NotLed, NotGiven, link_before, with_catalog};
 
     // Puts a page with these bytes, which was free, in front of a chain that begins at a page, 0 for none, and
@@ -45,6 +45,7 @@ impl Records {
         requires some { 1 ≤ length content.now }
         requires few { length content.now ≤ 8184 }
         ensures still { IsStill D.Disk disk.old disk.new }
+        ensures reads { D.reads disk.new ≤ D.reads disk.old + 1 }
         ensures keeps { IfOk result (λ page. KeepsLog self.old self.new) }
         ensures ok { IfOk result (λ page. ChainStepsTo D.Disk self.old self.new disk.old (MayLead next content.now) (λ links more. more ≡ link_before page content.now links)) }
         ensures refused { IfErr result (λ e. NotLed D.Disk (MayLead next content.now) (λ links held. held.free ≡ 0) named e self.old self.new disk.old disk.new) }
@@ -64,6 +65,7 @@ impl Records {
     ) -> Result<u32, StoreError>
         requires { has_ended self.old ≡ false }
         ensures still { IsStill D.Disk disk.old disk.new }
+        ensures reads { D.reads disk.new ≤ D.reads disk.old + chain_count (length bytes.now) }
         ensures keeps { IfOk result (λ first. KeepsLog self.old self.new) }
         ensures ok { IfOk result (λ first. ChainStepsTo D.Disk self.old self.new disk.old (λ links. links ≡ []) (λ links more. (next_of more ≡ first) × (content_of more ≡ bytes.now))) }
         ensures refused { IfErr result (λ e. NotLed D.Disk (λ links. links ≡ []) (λ links held. held.free < chain_count (length bytes.now)) named e self.old self.new disk.old disk.new) }
@@ -90,7 +92,9 @@ impl Records {
         requires runs { has_ended self.old ≡ false }
         requires some { page ≢ 0 }
         ensures still { IsStill D.Disk disk.old disk.new }
+        ensures reads { D.reads disk.new ≤ D.reads disk.old + 1 }
         ensures keeps { IfOk result (λ link. KeepsLog self.old self.new × (1 ≤ length link.content)) }
+        ensures full { IfOk result (λ link. link.next ≢ 0 → length link.content ≡ 8184) }
         ensures ok { IfOk result (λ link. ChainStepsTo D.Disk self.old self.new disk.old (λ links. next_of links ≡ page)
             (λ links more. (links ≡ link_before page link.content more) × (next_of more ≡ link.next))) }
         ensures refused { IfErr result (λ e. NotGiven D.Disk (λ links. next_of links ≡ page) named e self.old self.new disk.old disk.new) }
@@ -100,7 +104,7 @@ impl Records {
         Ok(link)
     }
 
-    // Gives the pages of a chain back, which has so many bytes.
+    // Gives the pages of a chain back, which has so many bytes. It reads no more pages than there are.
     pub(crate) fn give_chain<D: Disk>(
         &mut self,
         alloc: Global,
@@ -111,13 +115,21 @@ impl Records {
     ) -> Result<(), StoreError>
         requires { has_ended self.old ≡ false }
         ensures still { IsStill D.Disk disk.old disk.new }
+        ensures reads { D.reads disk.new ≤ D.reads disk.old + chain_count len }
+        ensures reads_pages { D.reads disk.new ≤ D.reads disk.old + page_count_of self.old }
         ensures keeps { OnOk result (KeepsLog self.old self.new) }
         ensures ok { OnOk result (ChainStepsTo D.Disk self.old self.new disk.old (λ links. next_of links ≡ first) (λ links more. (more ≡ []) × (length (content_of links) ≡ len))) }
         ensures refused { IfErr result (λ e. NotGiven D.Disk (λ links. (next_of links ≡ first) × (length (content_of links) ≡ len)) named e self.old self.new disk.old disk.new) }
     {
+        if !self.may_have(len) {
+            return Err(self.damaged(named));
+        }
         let mut left = len;
         let mut page = first;
         while page != 0 {
+            if left == 0 {
+                return Err(self.damaged(named));
+            }
             let link = self.give_link(alloc, disk, page, named)?;
             let taken = link.content.len() as u64;
             if taken > left {

@@ -1,16 +1,18 @@
-use Rattle.std.proofs.Common.{◌≡◌, ◌≤◌, List, ℕ}
+use Rattle.std.proofs.Common.{◌≡◌, ◌≢◌, ◌+◌, ◌*◌, ◌≤◌}
 use Rattle.nx_host.specs.Still.{IsStill}
-use Rattle.nx_holdings.specs.Holdings.{next_of}
+use Rattle.nx_holdings.specs.Holdings.{next_of, chain_count}
 use Rattle.nx_records.specs.Records.{KeepsLog}
 use Rattle.nx_records.specs.Chains.{ChainStepsTo, IsLeft}
 use Rattle.nx_records.proofs.records.Records.give_chain.Given as goal
 
--- what is left of the chain begins at the page
+-- what is left of the chain begins at the page, and was given back by a read for each page
 abbrev pub invariant-loop-page : goal.invariant-loop-page
 invariant-loop-page g l = record {
   keeps : KeepsLog l.initial.self l.self;
   still : IsStill g.D.Disk l.initial.disk l.disk;
   within : l.left ≤ l.len;
+  full : l.page ≢ 0 → 8184 * g.D.Disk.reads l.disk + l.left ≤ 8184 * g.D.Disk.reads l.initial.disk + l.len;
+  reads : g.D.Disk.reads l.disk ≤ g.D.Disk.reads l.initial.disk + chain_count l.len;
   steps : ChainStepsTo g.D.Disk l.initial.self l.self l.initial.disk (λ links. next_of links ≡ l.first) (λ links more. IsLeft l.page l.left l.len links more);
 }
 

@@ -1,4 +1,4 @@
-use Rattle.std.proofs.Common.{◌≡◌, ◌∙◌, sym, refl}
+use Rattle.std.proofs.Common.{◌≡◌, ◌∙◌, sym}
 use Rattle.nx_records.specs.Chains.{NoLink}
 use Rattle.nx_records.proofs.ChainLemmas.{link_found, no_link_short, listed_damaged}
 use Rattle.nx_records.proofs.RefusalLemmas.{ended_now}

@@ -1,21 +1,27 @@
-use Rattle.std.proofs.Common.{◌≡◌, ◌∙◌, ◌+◌, ◌++◌, List, ℕ, length, sym, subst, ap, arith, length-append}
+use Rattle.std.proofs.Common.{◌≡◌, ◌∙◌, ◌+◌, ◌++◌, List, ℕ, length, refl, sym, subst, ap, arith, length-append}
 use Rattle.std.proofs.lemmas.Result.{err_from_is_err_and}
 use Rattle.nx_host.proofs.DiskLemmas.{still_then}
 use Rattle.nx_replay.specs.Log.{Pages}
 use Rattle.nx_wal.specs.Wal.{current}
-use Rattle.nx_links.specs.Lists.{IsListFrom, IsReadTo}
+use Rattle.nx_links.specs.Lists.{IsReadTo}
 use Rattle.nx_links.proofs.ListLemmas.{read_whole, read_short, read_long}
 use Rattle.nx_records.specs.declared.records.Records.{Records}
 use Rattle.nx_records.specs.declared.error.StoreError.{StoreError}
 use Rattle.nx_records.specs.Chains.{HasLink, NoLink, NoListFrom, NotListed}
-use Rattle.nx_records.proofs.ChainLemmas.{read_link, read_no_link, reads_within, few_pages, sees_back, listed_damaged, listed_weaker, later_listed}
+use Rattle.nx_records.proofs.ChainLemmas.{read_link, read_no_link, reads_within, few_pages, no_list_past, sees_back, listed_damaged, listed_weaker, later_listed}
 use Rattle.nx_records.proofs.RefusalLemmas.{err_passed, ended_now}
 use Rattle.nx_records.proofs.records.Records.read_chain.Goals as goal
 
+pub returns-then-not-may_have-clause-refused : goal.returns-then-not-may_have-clause-refused
+returns-then-not-may_have-clause-refused g c =
+    listed_damaged g.D.Disk c.args.self.now c.damaged.new.self c.args.disk.now c.args.disk.now c.args.named (NoListFrom c.args.self.now.head.pages c.args.first c.args.len) c.damaged.result c.damaged.ensures.result
+    (ended_now {r0 = c.args.self.now} {r1 = c.args.self.now} {r2 = c.damaged.new.self} c.requires refl c.damaged.ensures.ended)
+    (λ was step. no_list_past c.args.self.now.head c.args.self.now.head_range c.args.first c.args.len (c.may_have.ensures.no c.if-not-may_have.true))
+
 pub returns-then-len-clause-refused : goal.returns-then-len-clause-refused
 returns-then-len-clause-refused g c =
-    listed_damaged g.D.Disk c.args.self.now c.damaged.new.self c.args.disk.now c.loop-page.disk c.args.named (NoListFrom c.args.self.now.head.pages c.args.first c.args.len) c.damaged.result c.damaged.ensures.result
-    (ended_now {r0 = c.args.self.now} {r1 = c.loop-page.self} {r2 = c.damaged.new.self} c.requires c.loop-page.invariant.same c.damaged.ensures.ended)
+    listed_damaged g.D.Disk c.args.self.now c.damaged-then-len.new.self c.args.disk.now c.loop-page.disk c.args.named (NoListFrom c.args.self.now.head.pages c.args.first c.args.len) c.damaged-then-len.result c.damaged-then-len.ensures.result
+    (ended_now {r0 = c.args.self.now} {r1 = c.loop-page.self} {r2 = c.damaged-then-len.new.self} c.requires c.loop-page.invariant.same c.damaged-then-len.ensures.ended)
     (λ was step bytes from long. read_long c.loop-page-test.true (c.loop-page.invariant.read was step) (let past = c.if-len.true in let count = c.len.ensures in omega (arith, past, count)) bytes from long)
 
 pub returns-in_err-link-clause-refused : goal.returns-in_err-link-clause-refused

@@ -1,4 +1,4 @@
-use Rattle.std.proofs.Common.{◌≡◌, ◌≢◌, ◌+◌, ◌*◌, ◌-◌, ◌≤◌, List, ℕ, length}
+use Rattle.std.proofs.Common.{◌≡◌, ◌≢◌, ◌+◌, ◌*◌, ◌-◌, ◌≤◌, length}
 use Rattle.nx_host.specs.Still.{IsStill}
 use Rattle.nx_holdings.specs.Holdings.{chain_count}
 use Rattle.nx_links.specs.Lists.{IsReadTo}

@@ -1,4 +1,4 @@
-use Rattle.std.proofs.Common.{◌≡◌, ◌∙◌, ◌*◌, ◌-◌, ◌+◌, ◌<◌, ◌≤◌, List, [], ℕ, length, drop, refl, sym, ap, arith}
+use Rattle.std.proofs.Common.{◌≡◌, ◌∙◌, ◌*◌, ◌-◌, ◌<◌, ◌≤◌, List, [], ℕ, length, drop, refl, sym, ap, arith}
 use Rattle.std.proofs.lemmas.List.{drop_all}
 use Rattle.std.proofs.lemmas.Result.{err_from_is_err_and}
 use Rattle.nx_host.proofs.DiskLemmas.{none_still, still_then}
@@ -18,6 +18,7 @@ loop-left-init g c =
       keeps = keeps_self c.args.self.now c.args.self.now c.requires refl;
       still = none_still;
       within = omega (arith, count);
+      reads = omega (arith, count);
       steps = steps_none c.args.self.now (λ (links : List Link). links ≡ []) (λ (links more : List Link). IsWritten 0 c.chain_pages-left.result c.args.bytes.now more)
           (λ links none. record {
             first = ap next_of none;
@@ -52,6 +53,7 @@ loop-left-preserved g c =
       keeps = keeps_then {r0 = c.args.self.now} {r1 = c.loop-left.self} {r2 = c.put_link.new.self} one.keeps c.in_ok-page.ensures.keeps;
       still = still_then one.still c.put_link.ensures.still;
       within = let within = one.within in omega (arith, within);
+      reads = let so_far = one.reads in let once = c.put_link.ensures.reads in omega (arith, so_far, once, some);
       steps = steps_on g.D.Disk c.args.self.now c.loop-left.self c.put_link.new.self c.args.disk.now c.loop-left.disk (λ (links : List Link). links ≡ [])
           (λ (links more : List Link). IsWritten c.loop-left.next c.loop-left.left c.args.bytes.now more) (MayLead c.loop-left.next c.content_at-content.result.now)
           (λ (links more : List Link). more ≡ link_before c.in_ok-page.page c.content_at-content.result.now links) (λ (links more : List Link). IsWritten c.in_ok-page.page (c.loop-left.left - 1) c.args.bytes.now more)
