@@ -3,6 +3,10 @@
 #![tactic(auto)]
 
 #[cfg(test)]
+mod chains;
+#[cfg(test)]
+mod circles;
+#[cfg(test)]
 mod maps;
 #[cfg(test)]
 mod pages;

@@ -3,6 +3,7 @@ use crate::maps::Map;
 use crate::stores::{LIMIT, Store};
 use nx_chain::read_chain_page;
 use nx_holdings::{Header, read_free_page};
+use nx_lists::List;
 use nx_memory::MemoryHost;
 use nx_records::{StoreError, read_header};
 use nx_slots::{Page, PageBytes};
@@ -118,7 +119,16 @@ pub fn counts_of(rt: &impl Abort, alloc: Global, host: &mut MemoryHost) -> Resul
     Ok(counts)
 }
 
-/// Whether a host is opened to just the records of a map.
+// Whether just these bytes were read, and not refused as damaged.
+fn is_just(read: Result<List<u8>, StoreError>, bytes: &[u8]) -> Result<bool, Fail> {
+    match read {
+        Ok(found) => Ok(found.as_slice() == bytes),
+        Err(StoreError::Damaged { .. }) => Ok(false),
+        Err(error) => Err(Fail::new(error)),
+    }
+}
+
+/// Whether a host is opened to just the records, byte lists and catalog of a map.
 pub fn has_map(
     rt: &impl Abort,
     alloc: Global,
@@ -127,16 +137,22 @@ pub fn has_map(
     map: &Map,
 ) -> Result<bool, Fail> {
     let counts = counts_of(rt, alloc, host)?;
-    if counts.records as usize != map.entries.len() || counts.chains != 1 {
+    if counts.records as usize != map.entries.len() || counts.chains != map.chain_pages() {
         return Ok(false);
     }
     let mut store = Store::open(alloc, host)?;
     for entry in &map.entries {
-        match store.read(alloc, host, entry.place) {
-            Ok(bytes) if bytes.as_slice() == entry.part.of(noise) => {}
-            Ok(_) | Err(StoreError::Damaged { .. }) => return Ok(false),
-            Err(error) => return Err(Fail::new(error)),
+        let read = store.read(alloc, host, entry.place);
+        if !is_just(read, entry.part.of(noise))? {
+            return Ok(false);
         }
     }
-    Ok(true)
+    for list in &map.lists {
+        let read = store.read_list(alloc, host, list.first, u64::from(list.part.length));
+        if !is_just(read, list.part.of(noise))? {
+            return Ok(false);
+        }
+    }
+    let read = store.read_catalog(alloc, host);
+    is_just(read, map.catalog.of(noise))
 }

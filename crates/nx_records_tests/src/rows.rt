@@ -1,5 +1,6 @@
-// Where records come to stand.
+// Where records and byte lists come to stand.
 use crate::maps::Part;
+use crate::pages::counts_of;
 use crate::stores::{SETTINGS, Store, empty_host};
 use nx_records::{Rid, StoreError};
 use nx_slots::{Page, SlotsError};
@@ -47,5 +48,29 @@ fn records_are_packed_next_fit(rt: HostRuntime) -> Result<(), Fail> {
         let place = store.add(&rt, &mut host, part.of(&bytes))?;
         assert_eq!(rt; place, Rid { page, slot });
     }
+    Ok(())
+}
+
+// The catalog is a chain page too.
+#[test]
+fn a_list_takes_a_page_for_each_8184_bytes(rt: HostRuntime) -> Result<(), Fail> {
+    let alloc = rt.alloc();
+    let mut host = empty_host(alloc)?;
+    let mut store = Store::create(alloc, &mut host, SETTINGS)?;
+    let bytes = [7u8; 8_185];
+    let first = store.write_list(&rt, &mut host, &bytes)?;
+    assert!(rt; first == 2 || first == 3, "{first}");
+    store.commit(&rt, &mut host)?;
+    let counts = counts_of(&rt, alloc, &mut host)?;
+    assert_eq!(rt; (counts.chains, counts.free), (3, 60));
+    store.free_list(alloc, &mut host, first, 8_185)?;
+    store.commit(&rt, &mut host)?;
+    let counts = counts_of(&rt, alloc, &mut host)?;
+    assert_eq!(rt; (counts.chains, counts.free), (1, 62));
+    let first = store.write_list(&rt, &mut host, &bytes[1..])?;
+    assert!(rt; first == 2 || first == 3, "{first}");
+    store.commit(&rt, &mut host)?;
+    let counts = counts_of(&rt, alloc, &mut host)?;
+    assert_eq!(rt; (counts.chains, counts.free), (2, 61));
     Ok(())
 }

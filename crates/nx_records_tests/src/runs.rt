@@ -1,5 +1,5 @@
 // Runs of random calls, with a map beside the records.
-use crate::maps::{Entry, Map, Part, noise};
+use crate::maps::{Entry, Listed, Map, Part, noise};
 use crate::random::Random;
 use crate::stores::{SETTINGS, Store, empty_host};
 use nx_memory::MemoryHost;
@@ -8,13 +8,19 @@ use std::alloc::Global;
 use std::process::Abort;
 use std::test::Fail;
 
-/// A call of records. It names a record by a number, as `Map::pick` does.
+/// A call of records. It names a record or a byte list by a number, as `Map::pick` and
+/// `Map::pick_list` do.
 #[derive(Clone, Copy, Debug, PartialEq, Eq)]
 pub enum Call {
     Add { part: Part },
     Update { number: u32, part: Part },
     Remove { number: u32 },
     Read { number: u32 },
+    WriteList { part: Part },
+    FreeList { number: u32 },
+    ReadList { number: u32 },
+    SetCatalog { part: Part },
+    ReadCatalog,
     Commit,
     Abandon,
     Checkpoint,
@@ -22,8 +28,15 @@ pub enum Call {
 }
 
 impl Call {
-    /// A random call; one that makes the records more or fewer, as is asked for.
+    /// A random call; one that makes the records and byte lists more or fewer, as is asked for.
     pub fn random(random: &mut Random, grows: bool) -> Call {
+        match random.below(5) {
+            0 => Call::random_of_lists(random, grows),
+            _ => Call::random_of_records(random, grows),
+        }
+    }
+
+    fn random_of_records(random: &mut Random, grows: bool) -> Call {
         let part = Part::random(random);
         let number = random.below(65_536);
         match random.below(100) {
@@ -37,6 +50,26 @@ impl Call {
             97 => Call::Abandon,
             98 => Call::Checkpoint,
             _ => Call::Open,
+        }
+    }
+
+    /// A random call of byte lists or the catalog, in the same way.
+    pub fn random_of_lists(random: &mut Random, grows: bool) -> Call {
+        let part = Part::random_list(random);
+        let number = random.below(65_536);
+        match random.below(100) {
+            0..=29 if grows => Call::WriteList { part },
+            0..=29 => Call::FreeList { number },
+            30..=49 if grows => Call::FreeList { number },
+            30..=49 => Call::WriteList { part },
+            50..=69 => Call::ReadList { number },
+            70..=84 => Call::SetCatalog {
+                part: Part {
+                    from: part.from,
+                    length: part.length.max(8),
+                },
+            },
+            _ => Call::ReadCatalog,
         }
     }
 }
@@ -76,11 +109,16 @@ impl Run {
                 Some((_, entry)) => u32::from(part.length > entry.part.length),
                 None => 0,
             },
+            Call::WriteList { part } => part.chain_pages(),
+            Call::SetCatalog { part } => {
+                let old = self.now.catalog.chain_pages();
+                part.chain_pages().saturating_sub(old)
+            }
             _ => 0,
         }
     }
 
-    /// Makes a call, and changes the map as it should change the records.
+    /// Makes a call, and changes the map as it should change what is held.
     pub fn take(&mut self, rt: &impl Abort, call: Call) -> Result<(), StoreError> {
         let needs = self.needs(call);
         match call {
@@ -88,12 +126,17 @@ impl Run {
             Call::Update { number, part } => self.update(rt, number, part)?,
             Call::Remove { number } => self.remove(number)?,
             Call::Read { number } => self.read(rt, number)?,
+            Call::WriteList { part } => self.write_list(rt, part)?,
+            Call::FreeList { number } => self.free_list(number)?,
+            Call::ReadList { number } => self.read_list(rt, number)?,
+            Call::SetCatalog { part } => self.set_catalog(rt, part)?,
+            Call::ReadCatalog => self.read_catalog(rt)?,
             Call::Commit => self.commit(rt)?,
             Call::Abandon => self.store.abandon(),
             Call::Checkpoint => self.store.checkpoint(&mut self.host)?,
             Call::Open => self.store = Store::open(self.alloc, &mut self.host)?,
         }
-        self.now.taken = self.now.taken.saturating_add(needs);
+        self.now.free = self.now.free.saturating_sub(needs);
         match call {
             Call::Abandon | Call::Checkpoint | Call::Open => self.forget(),
             _ => Ok(()),
@@ -140,6 +183,57 @@ impl Run {
             let bytes = self.store.read(self.alloc, &mut self.host, entry.place)?;
             assert_eq!(rt; bytes.as_slice(), entry.part.of(&self.noise), "{entry:?}");
         }
+        Ok(())
+    }
+
+    fn write_list(&mut self, rt: &impl Abort, part: Part) -> Result<(), StoreError> {
+        let bytes = part.of(&self.noise);
+        let first = self.store.write_list(rt, &mut self.host, bytes)?;
+        assert!(rt; !self.now.has_list(first), "{first} is taken");
+        keep(self.now.lists.push(Listed { first, part }))
+    }
+
+    fn free_list(&mut self, number: u32) -> Result<(), StoreError> {
+        let Some((index, list)) = self.now.pick_list(number) else {
+            return Ok(());
+        };
+        let len = u64::from(list.part.length);
+        self.store
+            .free_list(self.alloc, &mut self.host, list.first, len)?;
+        if index < self.now.lists.len() {
+            self.now.lists.swap_remove(index);
+        }
+        let pages = list.part.chain_pages();
+        self.now.free = self.now.free.saturating_add(pages);
+        Ok(())
+    }
+
+    fn read_list(&mut self, rt: &impl Abort, number: u32) -> Result<(), StoreError> {
+        if let Some((_, list)) = self.now.pick_list(number) {
+            let len = u64::from(list.part.length);
+            let bytes = self
+                .store
+                .read_list(self.alloc, &mut self.host, list.first, len)?;
+            assert_eq!(rt; bytes.as_slice(), list.part.of(&self.noise), "{list:?}");
+        }
+        Ok(())
+    }
+
+    fn set_catalog(&mut self, rt: &impl Abort, part: Part) -> Result<(), StoreError> {
+        let bytes = part.of(&self.noise);
+        self.store
+            .set_catalog(rt, self.alloc, &mut self.host, bytes)?;
+        let old = self.now.catalog.chain_pages();
+        let pages = old.saturating_sub(part.chain_pages());
+        self.now.free = self.now.free.saturating_add(pages);
+        self.now.catalog = part;
+        Ok(())
+    }
+
+    fn read_catalog(&mut self, rt: &impl Abort) -> Result<(), StoreError> {
+        let bytes = self.store.read_catalog(self.alloc, &mut self.host)?;
+        let want = self.now.catalog.of(&self.noise);
+        assert_eq!(rt; bytes.as_slice(), want, "{:?}", self.now.catalog);
         Ok(())
     }
 

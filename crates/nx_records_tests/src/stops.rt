@@ -27,10 +27,11 @@ fn is_done_after(rt: &impl Abort, alloc: Global, stop: u64) -> Result<bool, Fail
     let mut run = Run::new(alloc, 7)?;
     run.host.stop_after(stop);
     for step in 0..200 {
-        let call = if step % 8 == 7 {
-            Call::Commit
-        } else {
-            Call::random(&mut run.random, step < 120)
+        let grows = step < 120;
+        let call = match step % 8 {
+            2 | 5 => Call::random_of_lists(&mut run.random, grows),
+            7 => Call::Commit,
+            _ => Call::random(&mut run.random, grows),
         };
         match run.take(rt, call) {
             Ok(_) => {}
@@ -46,16 +47,15 @@ fn is_done_after(rt: &impl Abort, alloc: Global, stop: u64) -> Result<bool, Fail
     Ok(true)
 }
 
-// Stops the script after each third number of calls, from this one on.
+// Stops the script after each third number of calls, from this one on, until it is done.
 fn check_thirds(rt: &impl Abort, alloc: Global, first: u64) -> Result<(), Fail> {
-    let mut done = 0u64;
-    for third in 0..80u64 {
+    for third in 0..400u64 {
         let stop = third.saturating_mul(3).saturating_add(first);
         if is_done_after(rt, alloc, stop)? {
-            done = done.saturating_add(1);
+            return Ok(());
         }
     }
-    assert!(rt; 0 < done && done < 40, "{done}");
+    assert!(rt; false, "the script isn't done after 1,200 calls");
     Ok(())
 }
 
@@ -78,7 +78,7 @@ fn last_thirds(rt: HostRuntime) -> Result<(), Fail> {
 fn has_new(rt: &impl Abort, alloc: Global, host: &mut MemoryHost) -> Result<bool, Fail> {
     match Store::open(alloc, host) {
         Ok(_) => {
-            assert!(rt; has_map(rt, alloc, host, &[], &Map::new(alloc))?);
+            assert!(rt; has_map(rt, alloc, host, &[0; 8], &Map::new(alloc))?);
             Ok(true)
         }
         Err(StoreError::NotAStore) => Ok(false),

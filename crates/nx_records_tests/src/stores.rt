@@ -141,6 +141,99 @@ impl Store {
         }
     }
 
+    pub fn read_list(
+        &mut self,
+        alloc: Global,
+        host: &mut MemoryHost,
+        first: u32,
+        len: u64,
+    ) -> Result<List<u8>, StoreError> {
+        match self.records.read_list(alloc, host, first, len) {
+            Ok(bytes) => Ok(bytes),
+            Err(error) => {
+                self.changed = false;
+                self.records.abandon();
+                Err(error)
+            }
+        }
+    }
+
+    pub fn write_list(
+        &mut self,
+        rt: &impl Abort,
+        host: &mut MemoryHost,
+        bytes: &[u8],
+    ) -> Result<u32, StoreError> {
+        assert!(rt; 1 <= bytes.len());
+        match self.records.write_list(host, bytes) {
+            Ok(first) => {
+                self.changed = true;
+                Ok(first)
+            }
+            Err(error) => {
+                self.changed = false;
+                self.records.abandon();
+                Err(error)
+            }
+        }
+    }
+
+    pub fn free_list(
+        &mut self,
+        alloc: Global,
+        host: &mut MemoryHost,
+        first: u32,
+        len: u64,
+    ) -> Result<(), StoreError> {
+        match self.records.free_list(alloc, host, first, len) {
+            Ok(_) => {
+                self.changed = true;
+                Ok(())
+            }
+            Err(error) => {
+                self.changed = false;
+                self.records.abandon();
+                Err(error)
+            }
+        }
+    }
+
+    pub fn read_catalog(
+        &mut self,
+        alloc: Global,
+        host: &mut MemoryHost,
+    ) -> Result<List<u8>, StoreError> {
+        match self.records.read_catalog(alloc, host) {
+            Ok(bytes) => Ok(bytes),
+            Err(error) => {
+                self.changed = false;
+                self.records.abandon();
+                Err(error)
+            }
+        }
+    }
+
+    pub fn set_catalog(
+        &mut self,
+        rt: &impl Abort,
+        alloc: Global,
+        host: &mut MemoryHost,
+        bytes: &[u8],
+    ) -> Result<(), StoreError> {
+        assert!(rt; 8 <= bytes.len());
+        match self.records.set_catalog(alloc, host, bytes) {
+            Ok(_) => {
+                self.changed = true;
+                Ok(())
+            }
+            Err(error) => {
+                self.changed = false;
+                self.records.abandon();
+                Err(error)
+            }
+        }
+    }
+
     /// Commits, where something was changed.
     pub fn commit(&mut self, rt: &impl Abort, host: &mut MemoryHost) -> Result<(), StoreError> {
         if !self.changed {

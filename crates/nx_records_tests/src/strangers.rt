@@ -8,8 +8,8 @@ use std::alloc::{AllocError, Global};
 use std::process::Abort;
 use std::test::Fail;
 
-// Bytes at an offset of the area of pages.
-type Edit = (usize, &'static [u8]);
+/// Bytes at an offset of the area of pages.
+pub type Edit<'a> = (usize, &'a [u8]);
 
 // A store of six pages, all other bytes of which are zero: the header; a catalog; two slotted pages with
 // three records of four bytes; and two free pages.
@@ -39,8 +39,8 @@ enum Ask {
     Fill,
 }
 
-// Puts bytes over those at an offset, where they are all within.
-fn put(bytes: &mut [u8], edit: Edit) {
+/// Puts bytes over those at an offset, where they are all within.
+pub fn put(bytes: &mut [u8], edit: Edit) {
     let (at, new) = edit;
     for (place, byte) in new.iter().enumerate() {
         if let Some(old) = bytes.get_mut(at.saturating_add(place)) {
@@ -49,19 +49,31 @@ fn put(bytes: &mut [u8], edit: Edit) {
     }
 }
 
-// A host of the sound pages, with other bytes at one offset.
-fn changed(alloc: Global, edit: Edit) -> Result<MemoryHost, Fail> {
+/// The sound pages, with other bytes at some offsets.
+pub fn changed_pages(alloc: Global, edits: &[Edit]) -> Result<Vec<u8>, Fail> {
     let mut pages = Vec::new(alloc);
     pages.resize(49_152, 0)?;
     for sound in SOUND {
         put(&mut pages, sound);
     }
-    put(&mut pages, edit);
+    for edit in edits {
+        put(&mut pages, *edit);
+    }
+    Ok(pages)
+}
+
+/// A host of these pages.
+pub fn host_with(alloc: Global, pages: Vec<u8>) -> Result<MemoryHost, Fail> {
     let image = Image {
         pages: List::from_vec(pages),
         log: List::new(alloc),
     };
     Ok(host_of(alloc, image)?)
+}
+
+/// A host of the sound pages, with other bytes at some offsets.
+pub fn changed(alloc: Global, edits: &[Edit]) -> Result<MemoryHost, Fail> {
+    host_with(alloc, changed_pages(alloc, edits)?)
 }
 
 fn fill(rt: &impl Abort, host: &mut MemoryHost, store: &mut Store) -> Result<(), StoreError> {
@@ -100,7 +112,7 @@ fn answer(
 }
 
 fn check(rt: &impl Abort, alloc: Global, edit: Edit, asked: Ask, page: u32) -> Result<(), Fail> {
-    let mut host = changed(alloc, edit)?;
+    let mut host = changed(alloc, &[edit])?;
     let answered = answer(rt, alloc, &mut host, asked);
     assert_eq!(rt;
         answered,
@@ -114,7 +126,7 @@ fn check(rt: &impl Abort, alloc: Global, edit: Edit, asked: Ask, page: u32) -> R
 #[test]
 fn sound_pages_are_taken(rt: HostRuntime) -> Result<(), Fail> {
     let alloc = rt.alloc();
-    let mut host = changed(alloc, (0, b""))?;
+    let mut host = changed(alloc, &[])?;
     let counts = counts_of(&rt, alloc, &mut host)?;
     assert_eq!(rt; (counts.records, counts.chains, counts.free), (3, 1, 60));
     let mut store = Store::open(alloc, &mut host)?;
@@ -135,7 +147,7 @@ fn sound_pages_are_taken(rt: HostRuntime) -> Result<(), Fail> {
 #[test]
 fn what_has_no_mark_is_no_store(rt: HostRuntime) -> Result<(), Fail> {
     let alloc = rt.alloc();
-    let mut host = changed(alloc, (0, b"NATIXST2"))?;
+    let mut host = changed(alloc, &[(0, b"NATIXST2")])?;
     let answered = answer(&rt, alloc, &mut host, Ask::Open);
     assert_eq!(rt; answered, Err(StoreError::NotAStore));
     let image = Image {
