@@ -17,8 +17,8 @@ use Rattle.nx_hold.specs.Changes.{piece_needs, chain_pages, AddsPiece, UpdatesPi
 use Rattle.nx_hold.specs.Putting.{HasList, FreesChain, PutsProxies}
 use Rattle.nx_hold.proofs.PieceLemmas.{no_value}
 use Rattle.nx_hold.proofs.TidyLemmas.{tidy_still, comes_at}
-use Rattle.nx_hold.proofs.PutLemmas.{adds_piece, updates_piece, removes_piece, has_list, list_kept, list_kept_alone, no_list_none, records_at, few_needs}
-use Rattle.nx_hold.proofs.RefusalLemmas.{GoesOn, goes_then, later_changed, later_stored}
+use Rattle.nx_hold.proofs.PutLemmas.{adds_piece, free_of_add, updates_piece, removes_piece, has_list, list_kept, list_kept_alone, no_list_none, records_at, few_needs}
+use Rattle.nx_hold.proofs.RefusalLemmas.{GoesOn, goes_then, comes_then, later_changed, later_stored}
 
 -- a list that was read is the one that is there
 pub list_read : (A : Type 0) (o : Option (List ℕ)) (bytes list : List ℕ) → MatchOption o A (λ there. bytes ≡ there) → o ≡ Some list → bytes ≡ list
@@ -59,6 +59,12 @@ module _ {D : Type 0} {d : Ghosts D} where
       let now = adds saved mid.0 mid.1 in
       let add = adds_piece place piece bytes was mid.0 now.0 valid mid.2 now.2 in
       (now.0, now.1, tidy_still tidy add.alone (comes_at now.0 place piece add.holds), add)
+
+  -- ... and how many fewer pages are free, whatever lists records name
+  pub added_free : {r0 r1 r2 : Records} {x0 x1 x2 : D} (piece : Piece) (bytes : List ℕ) (place : RecordPlace) → ComesTo d r0 r1 x0 x1 (λ was now. PutsProxies piece bytes was now)
+      → ComesTo d r1 r2 x1 x2 (λ was now. AddsRecord place.page place.slot bytes was now) → ComesTo d r0 r2 x0 x2 (λ was now. was.free ≤ now.free + piece_needs piece)
+  added_free {r0} {r1} {r2} piece bytes place puts adds =
+      comes_then {r0 = r0} {r1 = r1} {r2 = r2} (λ was now. was.free ≤ now.free + piece_needs piece) puts adds (λ was mid now one two. free_of_add was.free mid.free now.free (chain_pages piece) one.free two.free)
 
   -- no record was added behind the list of its proxies
   pub add_refused : {r0 r1 : Records} {x0 x1 : D} (r2 : Records) (x2 : D) (piece : Piece) (bytes : List ℕ) → GoesOn d r0 r1 x0 x1 (λ was now. PutsProxies piece bytes was now) → (e : StoreError) → NotStored d (λ was. 1) (λ was. ⊥) 0 e r1 r2 x1 x2

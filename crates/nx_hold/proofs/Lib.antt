@@ -4,3 +4,4 @@ pub mod TidyLemmas
 pub mod PutLemmas
 pub mod RefusalLemmas
 pub mod CallLemmas
+pub mod RecordsLemmas

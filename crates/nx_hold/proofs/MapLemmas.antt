@@ -102,7 +102,7 @@ piece_map held = record {
   are = λ place. at_record held place (record_at held place) refl;
 }
 
-told_some : (held : Held) (place : RecordPlace) (piece : Piece) (o : Option Piece) → IsAt held place o → HoldsPiece held place piece → o ≡ Some piece
+pub told_some : (held : Held) (place : RecordPlace) (piece : Piece) (o : Option Piece) → IsAt held place o → HoldsPiece held place piece → o ≡ Some piece
 told_some held place piece None none holds = absurd (none piece holds)
 told_some held place piece (Some other) there holds = ap Some (one_piece held place other piece there holds)
 
@@ -110,12 +110,13 @@ told_none : (held : Held) (place : RecordPlace) (o : Option Piece) → IsAt held
 told_none held place None at none = refl
 told_none held place (Some piece) there none = absurd (none piece there)
 
+-- what a map of pieces has at a place is held there
+pub held_at : (held : Held) (pieces : PieceMap held) (place : RecordPlace) (piece : Piece) → pieces.piece_at place ≡ Some piece → HoldsPiece held place piece
+held_at held pieces place piece e = let there : IsAt held place (Some piece) = subst (λ (o : Option Piece). IsAt held place o) e (pieces.are place) in there
+
 pub map_grows : (place : RecordPlace) (piece : Piece) (was now : Held) (before : PieceMap was) (after : PieceMap now) → IsAdded place piece was now → HasGrown place piece before.piece_at after.piece_at
 map_grows place piece was now before after added = record {
   none = told_none was place (before.piece_at place) (before.are place) added.was_none;
   there = told_some now place piece (after.piece_at place) (after.are place) added.there;
-  stay = λ other earlier e. told_some now other earlier (after.piece_at other) (after.are other) (added.stay other earlier (held_before other earlier e));
+  stay = λ other earlier e. told_some now other earlier (after.piece_at other) (after.are other) (added.stay other earlier (held_at was before other earlier e));
 }
-  where
-    held_before : (other : RecordPlace) (earlier : Piece) → before.piece_at other ≡ Some earlier → HoldsPiece was other earlier
-    held_before other earlier e = let there : IsAt was other (Some earlier) = subst (λ (o : Option Piece). IsAt was other o) e (before.are other) in there

@@ -129,7 +129,7 @@ module _ {old new : Option RecordPlace} {gone come : Option ℕ} {was now : Held
     free = free;
   }
 
-free_of_add : (was mid now pages : ℕ) → was ≤ mid + pages → mid ≤ now + 1 → was ≤ now + (1 + pages)
+pub free_of_add : (was mid now pages : ℕ) → was ≤ mid + pages → mid ≤ now + 1 → was ≤ now + (1 + pages)
 free_of_add was mid now pages one two = omega (arith, one, two)
 
 free_of_update : (was mid next now pages needs : ℕ) → was ≤ mid + pages → mid ≤ next + needs → needs ≤ 1 → next ≤ now → was ≤ now + (1 + pages)

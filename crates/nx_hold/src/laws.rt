@@ -1,6 +1,7 @@
 //! What holds of the pieces that records hold.
 ghost use Rattle.nx_hold.specs.Pieces.{HavePieceMap, OnePiece, OthersStay, PiecesStay, TidyStays};
 ghost use Rattle.nx_hold.specs.Changes.{AddsStay, MapGrows};
+ghost use Rattle.nx_hold.specs.Documents.{PieceAddsRecord, PiecesStayBeside, RecordsAddUp};
 
 /// The record at a place holds one piece at most.
 pub fn one_piece()
@@ -38,4 +39,19 @@ pub fn adds_stay()
 /// all that it had.
 pub fn map_grows()
     ensures { MapGrows }
+{}
+
+/// A piece that was added came as a record at its place, with the list that it names.
+pub fn piece_adds_record()
+    ensures { PieceAddsRecord }
+{}
+
+/// Records that came one after the other came at all these places, and need as many pages as both.
+pub fn records_add_up()
+    ensures { RecordsAddUp }
+{}
+
+/// Where records came at places that were free, each piece stays where it was.
+pub fn pieces_stay_beside()
+    ensures { PiecesStayBeside }
 {}

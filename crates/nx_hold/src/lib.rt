@@ -2,8 +2,10 @@
 //! one. A piece's proxies stand in its record, or in a byte list that the record names.
 #![tactic(auto)]
 
+mod entry;
 pub mod laws;
 mod lists;
 mod pieces;
 
+pub use entry::DocEntry;
 pub use pieces::{add_piece, read_piece, remove_piece, update_piece};

@@ -3,7 +3,7 @@ ghost use Rattle.std.specs.Prelude.{◌≡◌, ◌≢◌, ◌+◌, ◌≤◌, []
 ghost use Rattle.nx_host.specs.Still.{IsStill};
 ghost use Rattle.nx_wal.specs.Wal.{pending};
 ghost use Rattle.nx_holdings.specs.Holdings.{Held};
-ghost use Rattle.nx_records.specs.Records.{StandsFor, KeepsSaved, has_ended};
+ghost use Rattle.nx_records.specs.Records.{StandsFor, KeepsSaved, ComesTo, has_ended};
 ghost use Rattle.nx_records.specs.Refusals.{NotRead, NotChanged, NotStored, RunsOn};
 ghost use Rattle.nx_piece.specs.Gapped.{width};
 ghost use Rattle.nx_piece.specs.Valid.{IsValidPiece, HaveNumbers};
@@ -62,6 +62,8 @@ pub fn add_piece<D: Disk>(
     ensures still { IsStill D.Disk disk.old disk.new }
     ensures roots { IfOk result (λ proxy. proxy.roots ≡ width piece.now.body.roots) }
     ensures ok { IfOk result (λ proxy. ComesTidy D.Disk records.old records.new disk.old disk.new (λ was now. AddsPiece (place_named proxy) piece.now was now)) }
+    // Also where lists that records name are out of order.
+    ensures takes { IfOk result (λ proxy. ComesTo D.Disk records.old records.new disk.old disk.new (λ was now. was.free ≤ now.free + piece_needs piece.now)) }
     ensures keeps { IfOk result (λ proxy. RunsOn records.old records.new × KeepsSaved D.Disk records.old records.new disk.old disk.new × (pending records.new.wal ≢ [])) }
     ensures refused { IfErr result (λ e. NotStored D.Disk (λ was. piece_needs piece.now) (λ was. ⊥) 0 e records.old records.new disk.old disk.new) }
 {

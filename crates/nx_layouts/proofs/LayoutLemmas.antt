@@ -57,12 +57,12 @@ gap_less (Gap c s) End p q e = let w : c + 1 ≡ 1 = cc in absurd (omega arith)
 gap_less (Gap c s) (Grow m d t) p q e = let w : c + 1 ≡ 1 = cc in absurd (omega arith)
 gap_less (Gap c s) (Gap d t) p q e = let w : c + 1 ≡ d + 1 = cc in let v : c ≡ d = omega arith in cc
 
-no_bare : (g : Gapped) → gap_more g ≡ End → ⊥
+pub no_bare : (g : Gapped) → gap_more g ≡ End → ⊥
 no_bare End e = cc
 no_bare (Grow n b s) e = cc
 no_bare (Gap c s) e = cc
 
-no_grown : (g b s : Gapped) (n : Node) → gap_more g ≡ Grow n b s → ⊥
+pub no_grown : (g b s : Gapped) (n : Node) → gap_more g ≡ Grow n b s → ⊥
 no_grown End b s n e = cc
 no_grown (Grow m d t) b s n e = cc
 no_grown (Gap c t) b s n e = cc
@@ -119,8 +119,8 @@ two_below a b c d e f = cc
 
 pub one_document : (k : ℕ) (pieces : RecordPlace → Option Piece) (root : RecordPlace) (document other : CutTree) → IsLaidOut k pieces root document → IsLaidOut k pieces root other → document ≡ other
 one_document k pieces root document other a b =
-    let e = some_one (piece_of (Grown document.node a.layout Bare)) (piece_of (Grown other.node b.layout Bare)) (pieces root) a.held.0 b.held.0 in
+    let e = some_one (piece_of (Grown document.node a.layout Bare)) (piece_of (Grown other.node b.layout Bare)) (pieces root) a.laid.held.0 b.laid.held.0 in
     let f = same_root document.node other.node a.layout b.layout e in
-    let g : a.layout ≡ b.layout = one_laid pieces a.layout b.layout f.1 f.2 a.held.1.0 b.held.1.0 in
-    let h : document.below ≡ other.below = sym a.same ∙ ap (λ l. without_places l) g ∙ b.same in
+    let g : a.layout ≡ b.layout = one_laid pieces a.layout b.layout f.1 f.2 a.laid.held.1.0 b.laid.held.1.0 in
+    let h : document.below ≡ other.below = sym a.laid.same ∙ ap (λ l. without_places l) g ∙ b.laid.same in
     ap (λ (w : Node × CutForest). let z : CutTree = record { node = w.0; below = w.1 } in z) (two_below document.node other.node document.below other.below f.0 h)

@@ -20,7 +20,7 @@ forest-joined_layout Bare b = refl
 forest-joined_layout (Grown n d s) b = ap (Plant n (forest d)) (forest-joined_layout s b)
 forest-joined_layout (Kept p m s) b = ap (joined (forest m)) (forest-joined_layout s b) ∙ sym (joined_assoc (forest m) (forest s) (forest b))
 
-proxies-joined_layout : (a b : Layout) → proxies_of (joined_layout a b) ≡ proxies_of a ++ proxies_of b
+pub proxies-joined_layout : (a b : Layout) → proxies_of (joined_layout a b) ≡ proxies_of a ++ proxies_of b
 proxies-joined_layout Bare b = refl
 proxies-joined_layout (Grown n d s) b = ap (λ l. proxies_of d ++ l) (proxies-joined_layout s b) ∙ sym (append_assoc (proxies_of d) (proxies_of s) (proxies_of b))
 proxies-joined_layout (Kept p m s) b = ap (λ l. record { page = p.page; slot = p.slot; roots = width m } ∷ l) (proxies-joined_layout s b)

@@ -14,7 +14,7 @@ weight_gap_more (Grow node below beside) = refl
 weight_gap_more (Gap count beside) = refl
 
 -- a piece weighs what its part weighs
-body_weight : (a : Layout) → gapped_weight (piece_body a) ≡ part_weight a
+pub body_weight : (a : Layout) → gapped_weight (piece_body a) ≡ part_weight a
 body_weight Bare = refl
 body_weight (Grown node below beside) = let p = body_weight below in let q = body_weight beside in omega arith
 body_weight (Kept place members beside) = weight_gap_more (piece_body beside) ∙ body_weight beside
@@ -24,7 +24,7 @@ apart_gap_more End h = (omega arith, tt, tt)
 apart_gap_more (Grow node below beside) h = (omega arith, tt, h)
 apart_gap_more (Gap count beside) h = let c : 1 ≤ count = h.0 in (omega arith, h.1, h.2)
 
-body_apart : (a : Layout) → AreApart (piece_body a)
+pub body_apart : (a : Layout) → AreApart (piece_body a)
 body_apart Bare = tt
 body_apart (Grown node below beside) = (body_apart below, body_apart beside)
 body_apart (Kept place members beside) = apart_gap_more (piece_body beside) (body_apart beside)

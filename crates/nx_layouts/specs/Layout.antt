@@ -68,15 +68,19 @@ ArePlacedOnce (place ∷ rest) = (Contains rest place → ⊥) × ArePlacedOnce 
 abbrev pub whole : RecordPlace → Node → Layout → Layout
 whole root node below = Kept root (Grown node below Bare) Bare
 
--- From the record at a place on the records hold the document with its intervals: there is one record for each, with the piece of its members, and no part
--- weighs more than k.
-pub record IsLaidOut (k : ℕ) (pieces : RecordPlace → Option Piece) (root : RecordPlace) (document : CutTree) : Type 0 where
-  pub layout : Layout
+-- The records hold the document in this layout of what is below its root, whose record is at this place: there is one record for each interval, with the
+-- piece of its members, and no part weighs more than k.
+pub record IsLaidOutAs (k : ℕ) (pieces : RecordPlace → Option Piece) (root : RecordPlace) (document : CutTree) (layout : Layout) : Type 0 where
   pub same : without_places layout ≡ document.below
   pub held : AreHeld pieces (whole root document.node layout)
   pub once : ArePlacedOnce (places_of (whole root document.node layout))
   pub light : AreParts k (whole root document.node layout)
   pub is_document : IsDocument (tree_of document)
+
+-- From the record at a place on the records hold the document with its intervals, in some layout.
+pub record IsLaidOut (k : ℕ) (pieces : RecordPlace → Option Piece) (root : RecordPlace) (document : CutTree) : Type 0 where
+  pub layout : Layout
+  pub laid : IsLaidOutAs k pieces root document layout
 
 -- From one place on they hold one document at most, cut in one way.
 abbrev pub OneDocument : Type 0

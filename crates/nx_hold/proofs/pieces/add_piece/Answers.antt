@@ -9,7 +9,7 @@ use Rattle.nx_records.proofs.RefusalLemmas.{err_passed}
 use Rattle.nx_layouts.specs.Layout.{RecordPlace}
 use Rattle.nx_hold.specs.Changes.{place_of, piece_needs, AddsPiece, ComesTidy}
 use Rattle.nx_hold.specs.Putting.{PutsProxies}
-use Rattle.nx_hold.proofs.CallLemmas.{added, add_refused, bytes_refused}
+use Rattle.nx_hold.proofs.CallLemmas.{added, added_free, add_refused, bytes_refused}
 use Rattle.nx_hold.proofs.RefusalLemmas.{GoesOn, reads_on, runs_then, saved_then}
 use Rattle.nx_hold.proofs.pieces.add_piece.Goals as goal
 
@@ -35,6 +35,12 @@ returns-clause-ok g c =
     (added {d = g.D.Disk} {r0 = c.args.records.now} {r1 = c.record_bytes.new.records} {r2 = c.add.new.self} {x0 = c.args.disk.now} {x1 = c.record_bytes.new.disk} {x2 = c.add.new.disk} c.args.piece.now c.in_ok-bytes.bytes (place_of c.in_ok-rid.rid) c.requires
     c.in_ok-bytes.ensures.ok
     (subst (λ (l : List ℕ). ComesTo g.D.Disk c.record_bytes.new.records c.add.new.self c.record_bytes.new.disk c.add.new.disk (λ was now. AddsRecord c.in_ok-rid.rid.page c.in_ok-rid.rid.slot l was now)) c.as_slice.ensures c.in_ok-rid.ensures.ok))
+
+pub returns-clause-takes : goal.returns-clause-takes
+returns-clause-takes g c =
+    added_free {d = g.D.Disk} {r0 = c.args.records.now} {r1 = c.record_bytes.new.records} {r2 = c.add.new.self} {x0 = c.args.disk.now} {x1 = c.record_bytes.new.disk} {x2 = c.add.new.disk} c.args.piece.now c.in_ok-bytes.bytes (place_of c.in_ok-rid.rid)
+    c.in_ok-bytes.ensures.ok
+    (subst (λ (l : List ℕ). ComesTo g.D.Disk c.record_bytes.new.records c.add.new.self c.record_bytes.new.disk c.add.new.disk (λ was now. AddsRecord c.in_ok-rid.rid.page c.in_ok-rid.rid.slot l was now)) c.as_slice.ensures c.in_ok-rid.ensures.ok)
 
 pub returns-clause-keeps : goal.returns-clause-keeps
 returns-clause-keeps g c = (

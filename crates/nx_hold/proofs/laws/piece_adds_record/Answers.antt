@@ -1,0 +1,5 @@
+use Rattle.nx_hold.proofs.RecordsLemmas.{piece_adds_record}
+use Rattle.nx_hold.proofs.laws.piece_adds_record.Goals as goal
+
+pub returns : goal.returns
+returns c = piece_adds_record

@@ -1,0 +1,5 @@
+use Rattle.nx_hold.proofs.RecordsLemmas.{records_add_up}
+use Rattle.nx_hold.proofs.laws.records_add_up.Goals as goal
+
+pub returns : goal.returns
+returns c = records_add_up
