@@ -1,0 +1,131 @@
+-- The documents that a catalog keeps, through its calls.
+use Rattle.std.proofs.Common.{◌≡◌, ℕ, ◌+◌, ◌<◌, ◌≤◌, Bool, true, false, List, [], ◌∷◌, length, refl, sym, ap, subst, ◌∙◌, arith, Option, None, Some, inl, inr}
+use Rattle.std.specs.Prelude.{◌⊎◌, All, is_some, if◌then◌else◌, slice_get, option_map}
+use Rattle.std.specs.Global.{Vec}
+use Rattle.std.specs.List.{AllByRecursion}
+use Rattle.std.specs.declared.cmp.Ordering.TheVariants.{Less, Equal, Greater}
+use Rattle.std.specs.Ordering.{match_ordering}
+use Rattle.std.specs.Map.{remove_entry}
+use Rattle.std.specs.BTreeMap.{BTreeMap, IsOrdered, btree_map_len, insert_entry}
+use Rattle.std.specs.FinMap.{entries, get, contains_key}
+use Rattle.std.proofs.lemmas.List.{length-map}
+use Rattle.std.proofs.lemmas.List.Elements.{recursion_from_All, All-from_recursion}
+use Rattle.std.proofs.lemmas.Map.Views.{All-map-remove_entry}
+use Rattle.std.proofs.lemmas.Option.{slice_get-map, slice_get_cases, none-some}
+use Rattle.nx_matrix.specs.declared.rule.Rule.{Rule}
+use Rattle.nx_hold.specs.declared.entry.DocEntry.{DocEntry}
+use Rattle.nx_catalog.specs.NameMap.{vector_order, by_bytes, map_in}
+use Rattle.nx_matrix.specs.Rules.{AreRules}
+use Rattle.nx_script.specs.Rule.{HasLabels}
+use Rattle.nx_catalog.specs.Catalog.{Contents, Document, IsKept, IsCatalog, catalog_bytes, listed_bytes}
+use Rattle.nx_catalog.specs.Inside.{AreDocuments}
+use Rattle.nx_catalog.proofs.NameMap.{entries-map_in, get-map_in, value_of}
+
+abbrev pub Kept : Type 0
+Kept = Vec ℕ × DocEntry
+
+-- the map stands for these documents
+pub record Shows (contents : Contents) (documents : BTreeMap (Vec ℕ) DocEntry) (rules : List Rule) : Type 0 where
+  pub view : ◌≡◌ {A = Contents} (record { documents = map_in documents; rules = rules }) contents
+  pub are : AreDocuments documents
+
+module _ {contents : Contents} {documents : BTreeMap (Vec ℕ) DocEntry} {rules : List Rule} (s : Shows contents documents rules) where
+  pub shown_map : map_in documents ≡ contents.documents
+  shown_map = ap (λ (c : Contents). c.documents) s.view
+
+  pub shown_rules : rules ≡ contents.rules
+  shown_rules = ap (λ (c : Contents). c.rules) s.view
+
+  -- its entries
+  pub shown_entries : by_bytes documents.entries ≡ entries contents.documents
+  shown_entries = sym (entries-map_in documents s.are.ordered) ∙ ap entries shown_map
+
+  pub shown_length : btree_map_len documents ≡ length (entries contents.documents)
+  shown_length = sym (length-map documents.entries (λ (e : Kept). (e.0.items, e.1))) ∙ ap length shown_entries
+
+  pub shown_get : (name : List ℕ) → value_of name documents ≡ get contents.documents name
+  shown_get name = sym (get-map_in documents name s.are.ordered) ∙ ap (λ d. get d name) shown_map
+
+  -- the entry with an index
+  pub shown_at : (index : ℕ) (name : Vec ℕ) (entry : DocEntry) → slice_get documents.entries index ≡ Some (name, entry) → slice_get (entries contents.documents) index ≡ Some (name.items, entry)
+  shown_at index name entry e =
+      ap (λ (es : List Document). slice_get es index) (sym shown_entries)
+      ∙ slice_get-map (λ (e : Kept). (e.0.items, e.1)) documents.entries index
+      ∙ ap (option_map (λ (e : Kept). (e.0.items, e.1))) e
+
+  pub shown_none : (index : ℕ) → slice_get documents.entries index ≡ None → length (entries contents.documents) ≤ index
+  shown_none index none =
+      let size = shown_length in
+      elim (slice_get_cases documents.entries index).1 [
+        | inl found ↦ absurd (none-some found.0 (sym none ∙ found.2))
+        | inr past ↦ let most = past.0 in omega (arith, most, size)
+      ]
+
+kept_put : (key : Vec ℕ) (entry : DocEntry) (es : List Kept) → IsKept (key.items, entry) → AllByRecursion IsKept (by_bytes es) → AllByRecursion IsKept (by_bytes (insert_entry vector_order es key entry))
+kept_put key entry [] k h = (k, tt)
+kept_put key entry (e ∷ es) k h =
+    elim (vector_order key e.0) as (λ o. AllByRecursion IsKept (by_bytes (match_ordering o ((key, entry) ∷ e ∷ es) ((e.0, entry) ∷ es) (e ∷ insert_entry vector_order es key entry)))) [
+      | Less ↦ (k, h)
+      | Equal ↦ (record { named = (h.0).named; page = k.page; slot = k.slot; nodes = k.nodes }, h.1)
+      | Greater ↦ (h.0, kept_put key entry es k h.1)
+    ]
+
+-- one more, or one in the place of another
+pub put_documents : {m : BTreeMap (Vec ℕ) DocEntry} (n : BTreeMap (Vec ℕ) DocEntry) (key : Vec ℕ) (entry : DocEntry) → AreDocuments m → IsKept (key.items, entry)
+    → n.entries ≡ insert_entry vector_order m.entries key entry → IsOrdered vector_order n → btree_map_len n < 4294967296 → AreDocuments n
+put_documents {m} n key entry are kept is ordered few = record {
+  ordered = ordered;
+  few = few;
+  kept = subst (λ es. All IsKept (by_bytes es)) (sym is) (All-from_recursion IsKept _ (kept_put key entry m.entries kept (recursion_from_All IsKept _ are.kept)));
+}
+
+pub less_documents : {m : BTreeMap (Vec ℕ) DocEntry} (n : BTreeMap (Vec ℕ) DocEntry) (test : Vec ℕ → Bool) → AreDocuments m → n.entries ≡ remove_entry test m.entries → IsOrdered vector_order n
+    → btree_map_len n ≤ btree_map_len m → AreDocuments n
+less_documents {m} n test are is ordered fewer = record {
+  ordered = ordered;
+  few = let few = are.few in omega (arith, few, fewer);
+  kept = subst (λ es. All IsKept (by_bytes es)) (sym is) (All-map-remove_entry test (λ (e : Kept). (e.0.items, e.1)) IsKept m.entries are.kept);
+}
+
+-- where the name is there, or fewer than so many are, there is room for one
+pub room_left : {contents : Contents} {documents : BTreeMap (Vec ℕ) DocEntry} {rules : List Rule} (s : Shows contents documents rules) (name : List ℕ) (key : List ℕ) (n : ℕ) (old : Option DocEntry)
+    → (contains_key contents.documents name ≡ true) ⊎ (length (entries contents.documents) < 4294967295) → key ≡ name → old ≡ value_of key documents
+    → n ≡ btree_map_len documents + (if is_some old then 0 else 1) → n < 4294967296
+room_left {contents} {documents} s name key n old room same is more = elim room [
+  | inl there ↦
+      let found : is_some old ≡ true = ap is_some (is ∙ shown_get s key) ∙ ap (λ q. is_some (get contents.documents q)) same ∙ there in
+      let none : n ≡ btree_map_len documents + 0 = more ∙ ap (λ b. btree_map_len documents + (if b then 0 else 1)) found in
+      let few = (s.are).few in omega (arith, none, few)
+  | inr fewer ↦
+      let size = shown_length s in
+      let most : n ≤ btree_map_len documents + 1 = by_found (is_some old) more in
+      omega (arith, fewer, size, most)
+]
+  where
+    by_found : (b : Bool) → n ≡ btree_map_len documents + (if b then 0 else 1) → n ≤ btree_map_len documents + 1
+    by_found true e = omega arith
+    by_found false e = omega arith
+
+each : (es : List Kept) → AllByRecursion IsKept (by_bytes es) → AllByRecursion (λ (e : Kept). IsKept (e.0.items, e.1)) es
+each [] h = tt
+each (e ∷ es) h = (h.0, each es h.1)
+
+-- each entry of the map
+pub each_kept : (es : List Kept) → All IsKept (by_bytes es) → All (λ (e : Kept). IsKept (e.0.items, e.1)) es
+each_kept es h = All-from_recursion _ es (each es (recursion_from_All IsKept _ h))
+
+-- the bytes of a catalog are those of its documents and rules
+pub spelled : (contents : Contents) → catalog_bytes contents ≡ listed_bytes (entries contents.documents) contents.rules
+unfolding catalog_bytes
+spelled contents = refl
+
+-- a catalog whose rules have labels says what its bytes say
+pub catalog_form : {contents : Contents} {documents : BTreeMap (Vec ℕ) DocEntry} {rules : List Rule} → Shows contents documents rules → AreRules rules
+    → All HasLabels contents.rules → IsCatalog (catalog_bytes contents) contents
+catalog_form {contents} {documents} s rules labels = record {
+  few = let few = (s.are).few in let size = shown_length s in omega (arith, few, size);
+  kept = subst (λ (es : List Document). All IsKept es) (shown_entries s) (s.are).kept;
+  rules = subst AreRules (shown_rules s) rules;
+  labels = labels;
+  spelled = refl;
+}

@@ -1,0 +1,11 @@
+pub mod NameMap
+pub mod InsideLemmas
+pub mod NameLemmas
+pub mod WritingLemmas
+pub mod LengthLemmas
+pub mod RisingLemmas
+pub mod FieldLemmas
+pub mod ListedLemmas
+pub mod DocumentLemmas
+pub mod RuleLemmas
+pub mod CatalogLemmas

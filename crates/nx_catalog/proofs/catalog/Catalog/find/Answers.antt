@@ -1,0 +1,6 @@
+use Rattle.std.proofs.Common.{◌∙◌}
+use Rattle.nx_catalog.proofs.InsideLemmas.{shown_get}
+use Rattle.nx_catalog.proofs.catalog.Catalog.find.Goals as goal
+
+pub returns : goal.returns
+returns c = c.copied.ensures ∙ c.get.ensures.value ∙ shown_get (record { view = c.self.view_is; are = c.self.invariant }) c.args.name.now

@@ -1,0 +1,7 @@
+pub mod NameMap
+pub mod Catalog
+pub mod Codes
+pub mod Inside
+pub mod Reading
+pub mod Laws
+pub mod Lending

@@ -1,0 +1,9 @@
+//! Tests of `nx_catalog`. It has nothing but tests, so that all of it is proved once.
+#![tactic(auto)]
+
+#[cfg(test)]
+mod bytes;
+#[cfg(test)]
+mod made;
+#[cfg(test)]
+mod saved;
