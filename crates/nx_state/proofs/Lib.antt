@@ -1,0 +1,8 @@
+pub mod PlaceLemmas
+pub mod StayLemmas
+pub mod OneLemmas
+pub mod FirstLemmas
+pub mod ChangeLemmas
+pub mod ListLemmas
+pub mod NodeLemmas
+pub mod FreeLemmas

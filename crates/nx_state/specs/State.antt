@@ -1,0 +1,27 @@
+-- What a store has.
+use Rattle.std.specs.Prelude.{ℕ, ◌+◌, List, [], map}
+use Rattle.std.specs.FinMap.{FinMap, empty, values}
+use Rattle.std.specs.List.{sum}
+use Rattle.nx_tree.specs.Forest.{nodes}
+use Rattle.nx_matrix.specs.declared.rule.Rule.{Rule}
+use Rattle.nx_holdings.specs.declared.header.Settings.{Settings}
+use Rattle.nx_cuts.specs.Cut.{CutTree, forest}
+use Rattle.nx_script.specs.Field.{name_order}
+
+-- Its settings, the rules of its matrix in their order, and its documents by their names, each with its intervals drawn in.
+pub record State : Type 0 where
+  pub settings : Settings
+  pub rules : List Rule
+  pub documents : FinMap name_order CutTree
+
+-- a new store has its settings alone
+abbrev pub new_state : Settings → State
+new_state settings = record { settings = settings; rules = []; documents = empty }
+
+-- how many nodes a document has, its root counted
+abbrev pub size_of : CutTree → ℕ
+size_of document = 1 + nodes (forest document.below)
+
+-- how many nodes all documents have
+abbrev pub all_nodes : State → ℕ
+all_nodes state = sum (map size_of (values state.documents))
