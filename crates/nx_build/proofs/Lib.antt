@@ -1,0 +1,10 @@
+pub mod RowLemmas
+pub mod LayingLemmas
+pub mod CallLemmas
+pub mod MarkedLemmas
+pub mod OrderLemmas
+pub mod HolderLemmas
+pub mod GapLemmas
+pub mod WalkLemmas
+pub mod StepLemmas
+pub mod StoreLemmas

@@ -1,0 +1,50 @@
+use Rattle.std.proofs.Common.{◌<◌, ◌^◌, List, length, sym, ap, subst, ◌∙◌}
+use Rattle.nx_parts.specs.declared.interval.Interval.{Interval}
+use Rattle.nx_parts.specs.Partitioning.{holder}
+use Rattle.nx_records.specs.Records.{settings_of}
+use Rattle.nx_build.proofs.StoreLemmas.{root, parts_few, root_held, root_one, root_stored, root_keeps, root_refused}
+use Rattle.nx_build.proofs.storing.store.Goals as goal
+
+pub mark_members-requires : goal.mark_members-requires
+mark_members-requires g c =
+    subst (λ (l : List Interval). length l < 2 ^ 32) (sym c.as_slice.ensures)
+    (parts_few (settings_of c.args.records.now).k c.args.tree.now c.args.parts.now c.args.records.now.head_range.settings.k.1 c.requires.feasible c.requires.document)
+
+pub put_members-requires-clause-marked : goal.put_members-requires-clause-marked
+put_members-requires-clause-marked g c = (
+  root (settings_of c.args.records.now).k c.args.tree.now c.args.parts.now c.args.records.now.head_range.settings.k.1 c.requires.feasible,
+  root_held (settings_of c.args.records.now).k c.args.tree.now c.args.parts.now c.args.records.now.head_range.settings.k.1 c.requires.feasible c.in-Ok.mark c.from_ref-2.result.now c.from_ref.result.now
+      (λ path. c.in-Ok.ensures.marked path ∙ ap (λ (l : List Interval). holder l path) c.as_slice.ensures) c.from_ref-2.ensures.value c.from_ref.ensures.value,
+)
+
+pub returns-clause-roots : goal.returns-clause-roots
+returns-clause-roots g c =
+    root_one (settings_of c.args.records.now).k c.args.tree.now c.args.parts.now c.args.records.now.head_range.settings.k.1 c.requires.feasible g.D.Disk c.args.records.now c.put_members.new.records c.args.disk.now c.put_members.new.disk
+    c.from_ref-2.result.now c.from_ref.result.now
+    (root_held (settings_of c.args.records.now).k c.args.tree.now c.args.parts.now c.args.records.now.head_range.settings.k.1 c.requires.feasible c.in-Ok.mark c.from_ref-2.result.now c.from_ref.result.now
+    (λ path. c.in-Ok.ensures.marked path ∙ ap (λ (l : List Interval). holder l path) c.as_slice.ensures) c.from_ref-2.ensures.value c.from_ref.ensures.value)
+    c.put_members.result c.put_members.ensures.ok
+
+pub returns-clause-ok : goal.returns-clause-ok
+returns-clause-ok g c =
+    root_stored (settings_of c.args.records.now).k c.args.tree.now c.args.parts.now c.args.records.now.head_range.settings.k.1 c.requires.feasible g.D.Disk c.args.records.now c.put_members.new.records c.args.disk.now c.put_members.new.disk
+    c.from_ref-2.result.now c.from_ref.result.now
+    (root_held (settings_of c.args.records.now).k c.args.tree.now c.args.parts.now c.args.records.now.head_range.settings.k.1 c.requires.feasible c.in-Ok.mark c.from_ref-2.result.now c.from_ref.result.now
+    (λ path. c.in-Ok.ensures.marked path ∙ ap (λ (l : List Interval). holder l path) c.as_slice.ensures) c.from_ref-2.ensures.value c.from_ref.ensures.value)
+    c.requires.document c.put_members.result c.put_members.ensures.ok
+
+pub returns-clause-keeps : goal.returns-clause-keeps
+returns-clause-keeps g c =
+    root_keeps (settings_of c.args.records.now).k c.args.tree.now c.args.parts.now c.args.records.now.head_range.settings.k.1 c.requires.feasible g.D.Disk c.args.records.now c.put_members.new.records c.args.disk.now c.put_members.new.disk
+    c.from_ref-2.result.now c.from_ref.result.now
+    (root_held (settings_of c.args.records.now).k c.args.tree.now c.args.parts.now c.args.records.now.head_range.settings.k.1 c.requires.feasible c.in-Ok.mark c.from_ref-2.result.now c.from_ref.result.now
+    (λ path. c.in-Ok.ensures.marked path ∙ ap (λ (l : List Interval). holder l path) c.as_slice.ensures) c.from_ref-2.ensures.value c.from_ref.ensures.value)
+    c.put_members.result c.put_members.ensures.ok c.put_members.ensures.changes
+
+pub returns-clause-refused : goal.returns-clause-refused
+returns-clause-refused g c =
+    root_refused (settings_of c.args.records.now).k c.args.tree.now c.args.parts.now c.args.records.now.head_range.settings.k.1 c.requires.feasible g.D.Disk c.args.records.now c.put_members.new.records c.args.disk.now c.put_members.new.disk
+    c.from_ref-2.result.now c.from_ref.result.now
+    (root_held (settings_of c.args.records.now).k c.args.tree.now c.args.parts.now c.args.records.now.head_range.settings.k.1 c.requires.feasible c.in-Ok.mark c.from_ref-2.result.now c.from_ref.result.now
+    (λ path. c.in-Ok.ensures.marked path ∙ ap (λ (l : List Interval). holder l path) c.as_slice.ensures) c.from_ref-2.ensures.value c.from_ref.ensures.value)
+    c.put_members.result c.put_members.ensures.refused

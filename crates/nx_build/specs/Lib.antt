@@ -1,0 +1,4 @@
+pub mod Storing
+pub mod Marked
+pub mod Laying
+pub mod Rows
