@@ -1,0 +1,263 @@
+-- The children of a node in a piece are those of the document: a tree of the piece, or a root of the record of a proxy.
+use Rattle.std.proofs.Common.{◌≡◌, ℕ, zero, suc, ◌+◌, ◌-◌, ◌<◌, ◌≤◌, List, [], ◌∷◌, ◌++◌, length, take, drop, Option, None, Some, refl, sym, ap, ◌∙◌, subst, arith, inl, inr, append_assoc, length-append}
+use Rattle.std.proofs.lemmas.List.{append-nil}
+use Rattle.std.specs.Prelude.{option_and_then}
+use Rattle.std.specs.List.{slice_get}
+use Rattle.nx_tree.specs.Forest.{Forest, Empty, Plant, OrderedTree, trees_of}
+use Rattle.nx_tree.specs.Edit.{child, at}
+use Rattle.nx_piece.specs.declared.piece.Proxy.{Proxy}
+use Rattle.nx_piece.specs.declared.piece.Piece.{Piece}
+use Rattle.nx_piece.specs.Gapped.{Gapped, GappedTree, End, Grow, Gap, proxies_in}
+use Rattle.nx_piece.specs.Locate.{PieceChild, Own, Kept as Away, roots_from, kept_from, children_of, Reached, Inside, Outside, Missing, reached, reached_in}
+use Rattle.nx_piece.specs.Valid.{AreTrees, IsValidPiece}
+use Rattle.nx_piece.proofs.LocateLemmas.{get_in_front, get_behind}
+use Rattle.nx_cuts.specs.Cut.{Bare, Grown, Kept, joined, forest, width, AreParts}
+use Rattle.nx_cuts.proofs.FeasibleLemmas.{trees, trees-joined, le_or}
+use Rattle.nx_layouts.specs.Layout.{RecordPlace, Layout, gap_more, piece_body, proxy_of, proxies_of, piece_of, AreHeld}
+use Rattle.nx_layouts.proofs.LayoutLemmas.{proxies_counted}
+
+-- the tree where a path leads that begins at one of these trees
+abbrev pub at_member : Forest → ℕ → List ℕ → Option OrderedTree
+at_member trees position path = option_and_then (λ t. at t path) (child trees position)
+
+pub trees-length : (f : Forest) → length (trees_of f) ≡ trees f
+trees-length Empty = refl
+trees-length (Plant n b s) = omega (arith, trees-length s)
+
+pub trees-forest : (l : Layout) → trees (forest l) ≡ width l
+trees-forest Bare = refl
+trees-forest (Grown n b s) = omega (arith, trees-forest s)
+trees-forest (Kept p m s) = omega (arith, trees-joined (forest m) (forest s), trees-forest m, trees-forest s)
+
+-- the trees of two forests beside each other
+child_prefix : (f g : Forest) (p : ℕ) → p < trees f → child (joined f g) p ≡ child f p
+child_prefix Empty g p h = absurd (omega arith)
+child_prefix (Plant n b s) g zero h = refl
+child_prefix (Plant n b s) g (suc p) h = child_prefix s g p (omega arith)
+
+child_back : (f g : Forest) (p : ℕ) → child (joined f g) (trees f + p) ≡ child g p
+child_back Empty g p = ap (child g) (let e : 0 + p ≡ p = omega arith in e)
+child_back (Plant n b s) g p = ap (child (Plant n b (joined s g))) (let e : 1 + trees s + p ≡ suc (trees s + p) = omega arith in e) ∙ child_back s g p
+
+-- the roots that a proxy stands for
+roots_length : (index member count : ℕ) → length (roots_from index member count) ≡ count
+roots_length index member zero = refl
+roots_length index member (suc count) = let h = roots_length index (member + 1) count in omega arith
+
+root_there : (index member count i : ℕ) → i < count → slice_get (roots_from index member count) i ≡ Some (Away index (member + i))
+root_there index member zero i within = absurd (omega arith)
+root_there index member (suc count) zero within = ap (λ (m : ℕ). Some (Away index m)) (let q : member ≡ member + 0 = omega arith in q)
+root_there index member (suc count) (suc i) within =
+    root_there index (member + 1) count i (omega arith) ∙ ap (λ (m : ℕ). Some (Away index m)) (let q : member + 1 + i ≡ member + suc i = omega arith in q)
+
+-- what a list goes on with behind a first part
+drop_front : {A : Type 0} (front : List A) (x : A) (rest all : List A) (n : ℕ) → all ≡ front ++ x ∷ rest → length front ≡ n → drop n all ≡ x ∷ drop (n + 1) all
+drop_front front x rest all n e l = subst (λ (i : ℕ). drop i all ≡ x ∷ drop (i + 1) all) l (subst (λ ys. drop (length front) ys ≡ x ∷ drop (length front + 1) ys) (sym e) (there front x rest))
+  where
+    there : {A : Type 0} (front : List A) (x : A) (rest : List A) → drop (length front) (front ++ x ∷ rest) ≡ x ∷ drop (length front + 1) (front ++ x ∷ rest)
+    there [] x rest = refl
+    there (y ∷ front) x rest = there front x rest ∙ ap (λ (i : ℕ). x ∷ drop i (y ∷ front ++ x ∷ rest)) (let q : suc (length front + 1) ≡ length (y ∷ front) + 1 = omega arith in q)
+
+-- one proxy more in the gap in front stands for the roots of its record in front
+children-gap_more : (all : List Proxy) (first : ℕ) (proxy : Proxy) (g : Gapped) → drop first all ≡ proxy ∷ drop (first + 1) all → children_of all first (gap_more g) ≡ roots_from first 0 proxy.roots ++ children_of all (first + 1) g
+children-gap_more all first proxy End d = ap (λ ps. kept_from first (take 1 ps) ++ []) d ∙ append-nil (roots_from first 0 proxy.roots ++ [])
+children-gap_more all first proxy (Grow n b s) d =
+    let rest = children_of all (first + 1) (Grow n b s) in
+    ap (λ ps. kept_from first (take 1 ps) ++ rest) d ∙ ap (λ xs. xs ++ rest) (append-nil (roots_from first 0 proxy.roots))
+children-gap_more all first proxy (Gap c s) d =
+    let more : c + 1 ≡ suc c = omega arith in
+    let behind : first + (c + 1) ≡ first + 1 + c = omega arith in
+    ap (λ (i : ℕ). kept_from first (take (c + 1) (drop first all)) ++ children_of all i s) behind
+    ∙ ap (λ (i : ℕ). kept_from first (take i (drop first all)) ++ children_of all (first + 1 + c) s) more
+    ∙ ap (λ ps. kept_from first (take (suc c) ps) ++ children_of all (first + 1 + c) s) d
+    ∙ append_assoc (roots_from first 0 proxy.roots) (kept_from (first + 1) (take c (drop (first + 1) all))) (children_of all (first + 1 + c) s)
+
+at_front : {A : Type 0} (front : List A) (x : A) (rest all : List A) (n : ℕ) → all ≡ front ++ x ∷ rest → length front ≡ n → slice_get all n ≡ Some x
+at_front front x rest all n e l =
+    let place : n ≡ length front + 0 = omega arith in
+    ap (λ ys. slice_get ys n) e ∙ ap (slice_get (front ++ x ∷ rest)) place ∙ get_behind front (x ∷ rest) 0
+
+at_here : (o : Option OrderedTree) → option_and_then (λ t. at t []) o ≡ o
+at_here None = refl
+at_here (Some t) = refl
+
+module _ (pieces : RecordPlace → Option Piece) (k : ℕ) (all : List Proxy) where
+  -- A tree of the piece stands for a tree of the document, what hangs below it in other records among it.
+  pub record IsOwn (t : GappedTree) (first : ℕ) (o : Option OrderedTree) : Type 0 where
+    pub below : Layout
+    pub shape : t.below ≡ piece_body below
+    pub is : o ≡ Some (record { node = t.node; below = forest below })
+    pub front : List Proxy
+    pub back : List Proxy
+    pub here : all ≡ front ++ (proxies_of below ++ back)
+    pub first_is : length front ≡ first
+    pub held : AreHeld pieces below
+    pub light : AreParts k below
+
+  -- A proxy stands for members of an interval, one of which is that tree.
+  pub record IsAway (index member : ℕ) (path : List ℕ) (o : Option OrderedTree) : Type 0 where
+    pub place : RecordPlace
+    pub members : Layout
+    pub proxy : slice_get all index ≡ Some (proxy_of place (width members))
+    pub is : o ≡ at_member (forest members) member path
+    pub held : AreHeld pieces (Kept place members Bare)
+    pub light : AreParts k (Kept place members Bare)
+
+  -- what is found among the children of a node in a piece is what is found in the document
+  abbrev pub IsChild : Option PieceChild → Option OrderedTree → Type 0
+  IsChild None o = o ≡ None
+  IsChild (Some (Own t first)) o = IsOwn t first o
+  IsChild (Some (Away index member)) o = IsAway index member [] o
+
+  -- where a path leads in a piece it leads in the document, or on from one of the roots of another record
+  abbrev pub IsEnd : ℕ → List ℕ → Reached → Option OrderedTree → Type 0
+  IsEnd used path Missing o = o ≡ None
+  IsEnd used path (Inside t first) o = IsOwn t first o
+  IsEnd used path (Outside index member end) o = (n : ℕ) × (end ≡ used + n) × IsAway index member (drop n path) o
+
+  child_is : (l : Layout) (front back : List Proxy) (first : ℕ) → all ≡ front ++ (proxies_of l ++ back) → length front ≡ first → AreHeld pieces l → AreParts k l → (i : ℕ)
+      → IsChild (slice_get (children_of all first (piece_body l)) i) (child (forest l) i)
+  child_is Bare front back first e f held light i = refl
+  child_is (Grown n b s) front back first e f held light zero = record {
+    below = b;
+    shape = refl;
+    is = refl;
+    front = front;
+    back = proxies_of s ++ back;
+    here = e ∙ ap (λ xs. front ++ xs) (append_assoc (proxies_of b) (proxies_of s) back);
+    first_is = f;
+    held = held.0;
+    light = light.0;
+  }
+  child_is (Grown n b s) front back first e f held light (suc i) =
+      child_is s (front ++ proxies_of b) back (first + proxies_in (piece_body b))
+      (e ∙ ap (λ xs. front ++ xs) (append_assoc (proxies_of b) (proxies_of s) back) ∙ sym (append_assoc front (proxies_of b) (proxies_of s ++ back)))
+      (omega (arith, length-append front (proxies_of b), proxies_counted b)) held.1 light.1 i
+  child_is (Kept p m s) front back first e f held light i =
+      let proxy = proxy_of p (width m) in
+      let d = drop_front front proxy (proxies_of s ++ back) all first e f in
+      let more = children-gap_more all first proxy (piece_body s) d in
+      let roots = roots_from first 0 (width m) in
+      let rest = children_of all (first + 1) (piece_body s) in
+      elim (le_or i (width m)) [
+        | inl less ↦
+            let there : slice_get roots i ≡ Some (Away first i) = root_there first 0 (width m) i less ∙ ap (λ (n : ℕ). Some (Away first n)) (let q : 0 + i ≡ i = omega arith in q) in
+            let found : slice_get (children_of all first (piece_body (Kept p m s))) i ≡ Some (Away first i) = ap (λ xs. slice_get xs i) more ∙ get_in_front roots rest i (Away first i) there in
+            let within : i < trees (forest m) = omega (arith, trees-forest m) in
+            subst (λ x. IsChild x (child (forest (Kept p m s)) i)) (sym found) (record {
+              place = p;
+              members = m;
+              proxy = at_front front proxy (proxies_of s ++ back) all first e f;
+              is = child_prefix (forest m) (forest s) i within ∙ sym (at_here (child (forest m) i));
+              held = (held.0, held.1, tt);
+              light = (light.0, light.1, light.2, light.3, tt);
+            })
+        | inr beyond ↦
+            let long = roots_length first 0 (width m) in
+            let j : i ≡ length roots + (i - width m) = omega arith in
+            let h : i ≡ trees (forest m) + (i - width m) = omega (arith, trees-forest m) in
+            let found : slice_get (children_of all first (piece_body (Kept p m s))) i ≡ slice_get rest (i - width m) = ap (λ xs. slice_get xs i) more ∙ ap (slice_get (roots ++ rest)) j ∙ get_behind roots rest (i - width m) in
+            let same : child (forest (Kept p m s)) i ≡ child (forest s) (i - width m) = ap (child (joined (forest m) (forest s))) h ∙ child_back (forest m) (forest s) (i - width m) in
+            subst (λ x. IsChild x (child (forest (Kept p m s)) i)) (sym found) (subst (λ o. IsChild (slice_get rest (i - width m)) o) (sym same)
+            (child_is s (front ++ proxy ∷ []) back (first + 1) (e ∙ sym (append_assoc front (proxy ∷ []) (proxies_of s ++ back))) (omega (arith, length-append front (proxy ∷ []))) held.2 light.4 (i - width m)))
+      ]
+
+  none_is_end : (used : ℕ) (path : List ℕ) (o : Option OrderedTree) → o ≡ None → IsEnd used path (reached all used path None) (option_and_then (λ t. at t path) o)
+  none_is_end used [] o e = ap (option_and_then (λ t. at t [])) e
+  none_is_end used (position ∷ path) o e = ap (option_and_then (λ t. at t (position ∷ path))) e
+
+  away_is_end : (used index member : ℕ) (path : List ℕ) (o : Option OrderedTree) → IsAway index member [] o → IsEnd used path (reached all used path (Some (Away index member))) (option_and_then (λ t. at t path) o)
+  away_is_end used index member path o h =
+      elim path as (λ p. IsEnd used p (reached all used p (Some (Away index member))) (option_and_then (λ t. at t p) o)) [
+        | [] ↦ (0, none_more used, further [])
+        | position ∷ rest ↦ (0, none_more used, further (position ∷ rest))
+      ]
+    where
+      none_more : (n : ℕ) → n ≡ n + 0
+      none_more n = omega arith
+
+      further : (p : List ℕ) → IsAway index member p (option_and_then (λ t. at t p) o)
+      further p = record {
+        place = h.place;
+        members = h.members;
+        proxy = h.proxy;
+        is = ap (option_and_then (λ t. at t p)) (h.is ∙ at_here (child (forest h.members) member));
+        held = h.held;
+        light = h.light;
+      }
+
+  one_further : (used position : ℕ) (path : List ℕ) (end : Reached) (o : Option OrderedTree) → IsEnd (used + 1) path end o → IsEnd used (position ∷ path) end o
+  one_further used position path Missing o h = h
+  one_further used position path (Inside t first) o h = h
+  one_further used position path (Outside index member end) o h = (suc h.0, (let e : end ≡ used + 1 + h.0 = h.1 in omega arith), h.2)
+
+  -- where the path leads from a child on
+  pub end_is : (used : ℕ) (path : List ℕ) (found : Option PieceChild) (o : Option OrderedTree) → IsChild found o → IsEnd used path (reached all used path found) (option_and_then (λ t. at t path) o)
+  end_is used path None o h = none_is_end used path o h
+  end_is used path (Some (Away index member)) o h = away_is_end used index member path o h
+  end_is used [] (Some (Own t first)) o h = subst (λ x. IsOwn t first x) (sym (at_here o)) h
+  end_is used (position ∷ path) (Some (Own t first)) o h =
+      let inner = end_is (used + 1) path (slice_get (children_of all first (piece_body h.below)) position) (child (forest h.below) position) (child_is h.below h.front h.back first h.here h.first_is h.held h.light position) in
+      let same : option_and_then (λ t. at t (position ∷ path)) o ≡ at_member (forest h.below) position path = ap (option_and_then (λ t. at t (position ∷ path))) h.is in
+      subst (λ f. IsEnd used (position ∷ path) (reached all (used + 1) path (slice_get (children_of all first f) position)) (option_and_then (λ t. at t (position ∷ path)) o)) (sym h.shape)
+      (subst (λ x. IsEnd used (position ∷ path) (reached all (used + 1) path (slice_get (children_of all first (piece_body h.below)) position)) x) (sym same)
+      (one_further used position path (reached all (used + 1) path (slice_get (children_of all first (piece_body h.below)) position)) (at_member (forest h.below) position path) inner))
+
+  -- a node has as many children in the piece as in the document
+  pub children_counted : (l : Layout) (front back : List Proxy) (first : ℕ) → all ≡ front ++ (proxies_of l ++ back) → length front ≡ first → length (children_of all first (piece_body l)) ≡ width l
+  children_counted Bare front back first e f = refl
+  children_counted (Grown n b s) front back first e f =
+      let h = children_counted s (front ++ proxies_of b) back (first + proxies_in (piece_body b))
+      (e ∙ ap (λ xs. front ++ xs) (append_assoc (proxies_of b) (proxies_of s) back) ∙ sym (append_assoc front (proxies_of b) (proxies_of s ++ back)))
+      (omega (arith, length-append front (proxies_of b), proxies_counted b)) in
+      omega (arith, h)
+  children_counted (Kept p m s) front back first e f =
+      let proxy = proxy_of p (width m) in
+      let d = drop_front front proxy (proxies_of s ++ back) all first e f in
+      let more = ap length (children-gap_more all first proxy (piece_body s) d) in
+      let sum = length-append (roots_from first 0 (width m)) (children_of all (first + 1) (piece_body s)) in
+      let long = roots_length first 0 (width m) in
+      let h = children_counted s (front ++ proxy ∷ []) back (first + 1) (e ∙ sym (append_assoc front (proxy ∷ []) (proxies_of s ++ back))) (omega (arith, length-append front (proxy ∷ []))) in
+      omega (arith, more, sum, long, h)
+
+-- where a path leads that begins at a member of an interval
+pub interval_end : (pieces : RecordPlace → Option Piece) (k : ℕ) (place : RecordPlace) (members : Layout) (member : ℕ) (path : List ℕ) → AreHeld pieces (Kept place members Bare) → AreParts k (Kept place members Bare)
+    → IsEnd pieces k (proxies_of members) 0 path (reached_in (piece_of members) member path) (at_member (forest members) member path)
+interval_end pieces k place members member path held light =
+    let all = proxies_of members in
+    end_is pieces k all 0 path (slice_get (children_of all 0 (piece_body members)) member) (child (forest members) member)
+    (child_is pieces k all members [] [] 0 (sym (append-nil all)) refl held.1 light.3 member)
+
+-- a path leads out of a piece after no more positions than it has
+outside_within : (proxies : List Proxy) (used : ℕ) (path : List ℕ) (found : Option PieceChild) (index member end : ℕ) → reached proxies used path found ≡ Outside index member end → (used ≤ end) × (end ≤ used + length path)
+outside_within proxies used [] None index member end e = absurd (cc)
+outside_within proxies used (position ∷ path) None index member end e = absurd (cc)
+outside_within proxies used [] (Some (Away i m)) index member end e = let same : used ≡ end = cc in (omega arith, omega arith)
+outside_within proxies used (position ∷ path) (Some (Away i m)) index member end e = let same : used ≡ end = cc in (omega arith, omega arith)
+outside_within proxies used [] (Some (Own t first)) index member end e = absurd (cc)
+outside_within proxies used (position ∷ path) (Some (Own t first)) index member end e =
+    let h = outside_within proxies (used + 1) path (slice_get (children_of proxies first t.below) position) index member end e in
+    let low : used + 1 ≤ end = h.0 in let high : end ≤ used + 1 + length path = h.1 in
+    (omega arith, omega arith)
+
+-- the roots of a piece are trees
+root_is_tree : (proxies : List Proxy) (first : ℕ) (f : Gapped) → AreTrees f → (i index member : ℕ) → slice_get (children_of proxies first f) i ≡ Some (Away index member) → ⊥
+root_is_tree proxies first End trees i index member e = absurd (cc)
+root_is_tree proxies first (Grow n b s) trees zero index member e = absurd (cc)
+root_is_tree proxies first (Grow n b s) trees (suc i) index member e = root_is_tree proxies (first + proxies_in b) s trees i index member e
+root_is_tree proxies first (Gap c s) trees i index member e = absurd trees
+
+leads_further : (proxies : List Proxy) (path : List ℕ) (found : Option PieceChild) (index member end : ℕ) → ((i m : ℕ) → found ≡ Some (Away i m) → ⊥) → reached proxies 0 path found ≡ Outside index member end → (1 ≤ end) × (end ≤ length path)
+leads_further proxies [] None index member end tree e = absurd (cc)
+leads_further proxies (position ∷ path) None index member end tree e = absurd (cc)
+leads_further proxies path (Some (Away i m)) index member end tree e = absurd (tree i m refl)
+leads_further proxies [] (Some (Own t first)) index member end tree e = absurd (cc)
+leads_further proxies (position ∷ path) (Some (Own t first)) index member end tree e =
+    let h = outside_within proxies (0 + 1) path (slice_get (children_of proxies first t.below) position) index member end e in
+    let low : 0 + 1 ≤ end = h.0 in let high : end ≤ 0 + 1 + length path = h.1 in
+    (omega arith, omega arith)
+
+-- so a path that leads into another record is shorter there
+pub path_falls : (piece : Piece) (member : ℕ) (path : List ℕ) (index root end : ℕ) → IsValidPiece piece → reached_in piece member path ≡ Outside index root end → (1 ≤ end) × (end ≤ length path)
+path_falls piece member path index root end valid e =
+    leads_further piece.proxies path (slice_get (children_of piece.proxies 0 piece.body.roots) member) index root end (λ i m. root_is_tree piece.proxies 0 piece.body.roots valid.body.trees member i m) e

@@ -1,0 +1,89 @@
+-- A document as the interval of its root, which a walk tells of.
+use Rattle.std.proofs.Common.{◌≡◌, ℕ, ◌+◌, ◌≤◌, List, [], refl, sym, ap, ◌∙◌, arith}
+use Rattle.std.proofs.lemmas.List.{append-nil}
+use Rattle.nx_host.specs.declared.disk.Disk.{Ghosts}
+use Rattle.nx_records.specs.declared.records.Records.{Records}
+use Rattle.nx_tree.specs.Forest.{nodes}
+use Rattle.nx_tree.specs.Document.{depth}
+use Rattle.nx_cuts.specs.Cut.{Bare, Grown, Kept, CutForest, CutTree, forest, width, part_weight, tree_of}
+use Rattle.nx_layouts.specs.Layout.{RecordPlace, Layout, without_places}
+use Rattle.nx_hold.specs.Documents.{HasDocument}
+use Rattle.nx_nav.specs.declared.error.NavError.{NavError}
+use Rattle.nx_nav.specs.Refusals.{HoldsNoneWith, IsRefused}
+use Rattle.nx_nav.specs.Steps.{Step, steps, steps_of}
+use Rattle.nx_nav.specs.Walk.{HasTold, HasStopped, IsNone, IsIntervalAt, TellsDocument, StopsWithin}
+use Rattle.nx_nav.proofs.PartLemmas.{document_held, document_forest}
+use Rattle.nx_nav.proofs.RefusalLemmas.{refused_later}
+
+pub width-without_places : (l : Layout) → width (without_places l) ≡ width l
+width-without_places Bare = refl
+width-without_places (Grown n b s) = ap (λ (i : ℕ). 1 + i) (width-without_places s)
+width-without_places (Kept p m s) = let a = width-without_places m in let b = width-without_places s in omega arith
+
+pub weight-without_places : (l : Layout) → part_weight (without_places l) ≡ part_weight l
+weight-without_places Bare = refl
+weight-without_places (Grown n b s) = let x = weight-without_places b in let y = weight-without_places s in omega arith
+weight-without_places (Kept p m s) = weight-without_places s
+
+-- the places aren't told
+pub steps-without_places : (l : Layout) → steps (without_places l) ≡ steps l
+steps-without_places Bare = refl
+steps-without_places (Grown n b s) = let x = steps-without_places b in let y = steps-without_places s in cc
+steps-without_places (Kept p m s) =
+    let w = width-without_places m in let v = weight-without_places m in
+    let x = steps-without_places m in let y = steps-without_places s in cc
+
+pub document_steps : (root : RecordPlace) (l : Layout) (document : CutTree) → without_places l ≡ document.below → steps (Kept root (Grown document.node l Bare) Bare) ≡ steps_of document
+document_steps root l document same =
+    sym (steps-without_places (Kept root (Grown document.node l Bare) Bare)) ∙ ap (λ (c : CutForest). steps (Kept tt (Grown document.node c Bare) Bare)) same
+
+module _ {D : Type 0} {d : Ghosts D} {r0 : Records} {x : D} {root : RecordPlace} where
+  as_interval : {document : CutTree} (h : HasDocument d r0 x root document) → IsIntervalAt d r0 x root 1 (Kept root (Grown document.node h.laid.layout Bare) Bare)
+  as_interval {document} h = (Grown document.node h.laid.layout Bare, refl, refl, document_held h)
+
+  pub none_such : (left : ℕ) → IsNone (IsIntervalAt d r0 x root 1) 257 left → HoldsNoneWith d r0 x root left
+  none_such left none document h count =
+      let size = ap nodes (document_forest h) in
+      let high = ap depth (document_forest h) in
+      let shallow : depth (tree_of document).below ≤ 256 = h.laid.laid.is_document.shallow in
+      none (Kept root (Grown document.node h.laid.layout Bare) Bare) (as_interval h) (omega arith) (omega arith)
+
+module _ {D : Type 0} (d : Ghosts D) (Unwritten : Type 0) (r0 r1 : Records) (x y : D) (root : RecordPlace) where
+  pub document_refused : (left : ℕ) (e : NavError) → IsRefused d ⊥ Unwritten (IsNone (IsIntervalAt d r0 x root 1) 257 left) e r0 r1 x y → IsRefused d ⊥ Unwritten (HoldsNoneWith d r0 x root left) e r0 r1 x y
+  document_refused left e refused =
+      refused_later d ⊥ Unwritten (HoldsNoneWith d r0 x root left) r0 r0 r1 x x y refl (omega arith) (λ bad. bad) (λ u. u) (none_such left) e refused
+
+module _ {A D : Type 0} {d : Ghosts D} {Told : A → D → List Step → A → D → Type 0} {r0 : Records} {x : D} {root : RecordPlace} {a : A} where
+  pub document_told : (left rest : ℕ) (b : A) (y : D) → HasTold Told (IsIntervalAt d r0 x root 1) a x left b y rest → TellsDocument d Told r0 x root left a b y
+  document_told left rest b y has = record {
+    told = has.told;
+    goes = has.goes;
+    all = λ document h count. (has.all (Kept root (Grown document.node h.laid.layout Bare) Bare) (as_interval h)).0 ∙ document_steps root h.laid.layout document h.laid.laid.same;
+  }
+
+  pub document_stops : (y : D) → HasStopped Told (IsIntervalAt d r0 x root 1) a x y → StopsWithin d Told r0 x root a y
+  document_stops y has = record {
+    told = has.told;
+    last = has.last;
+    goes = has.goes;
+    first = λ document h.
+        let first = has.first (Kept root (Grown document.node h.laid.layout Bare) Bare) (as_interval h) in
+        (first.0, sym (document_steps root h.laid.layout document h.laid.laid.same) ∙ first.1);
+  }
+
+  -- it told all, and more was to come
+  pub document_all_told : (left rest : ℕ) (b : A) (y : D) → HasTold Told (IsIntervalAt d r0 x root 1) a x left b y rest → StopsWithin d Told r0 x root a y
+  document_all_told left rest b y has = record {
+    told = has.told;
+    last = b;
+    goes = has.goes;
+    first = λ document h.
+        ([], sym ((has.all (Kept root (Grown document.node h.laid.layout Bare) Bare) (as_interval h)).0 ∙ document_steps root h.laid.layout document h.laid.laid.same) ∙ sym (append-nil has.told));
+  }
+
+  pub none_so_large : (left rest : ℕ) (b : A) (y : D) → HasTold Told (IsIntervalAt d r0 x root 1) a x left b y rest → (rest ≡ 0 → ⊥) → HoldsNoneWith d r0 x root left
+  none_so_large left rest b y has some document h count =
+      let all = has.all (Kept root (Grown document.node h.laid.layout Bare) Bare) (as_interval h) in
+      let taken : left ≡ rest + (1 + nodes (forest h.laid.layout) + 0) = all.1 in
+      let size = ap nodes (document_forest h) in
+      some (omega arith)

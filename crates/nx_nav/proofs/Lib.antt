@@ -1,0 +1,10 @@
+pub mod PartLemmas
+pub mod RefusalLemmas
+pub mod ChildLemmas
+pub mod SeekLemmas
+pub mod WayLemmas
+pub mod SplitLemmas
+pub mod TellLemmas
+pub mod DocumentLemmas
+pub mod TextLemmas
+pub mod LaidLemmas

@@ -1,0 +1,120 @@
+-- What a call knows that has read one record: its piece is that of the interval, or there is no such interval.
+use Rattle.std.proofs.Common.{◌≡◌, ℕ, Option, refl, sym, ap, ◌∙◌, subst, arith}
+use Rattle.std.specs.Option.{MatchOption}
+use Rattle.nx_host.specs.declared.disk.Disk.{Ghosts}
+use Rattle.nx_host.specs.Still.{IsStill}
+use Rattle.nx_holdings.specs.Holdings.{Held}
+use Rattle.nx_records.specs.declared.records.Records.{Records}
+use Rattle.nx_records.specs.declared.error.StoreError.{StoreError}
+use Rattle.nx_records.specs.declared.error.StoreError.TheVariants as store
+use Rattle.nx_records.specs.Records.{StandsFor}
+use Rattle.nx_records.specs.Refusals.{NotRead}
+use Rattle.nx_piece.specs.Gapped as gapped
+use Rattle.nx_piece.specs.Gapped.{Gapped}
+use Rattle.nx_piece.specs.declared.piece.Piece.{Piece}
+use Rattle.nx_cuts.specs.Cut.{CutForest, CutTree, Bare, Grown, Kept, forest, width, AreFree, AreParts, tree_of}
+use Rattle.nx_layouts.specs.Layout.{RecordPlace, Layout, without_places, piece_body, piece_of, AreHeld}
+use Rattle.nx_hold.specs.Documents.{HasDocument}
+use Rattle.nx_hold.specs.Pieces.{HoldsPiece, HoldsNone, IsTidy}
+use Rattle.nx_hold.proofs.PieceLemmas.{one_piece}
+use Rattle.nx_hold.proofs.RefusalLemmas.{stands_later}
+use Rattle.nx_nav.specs.Parts.{HasLayout, HasInterval, HasNoInterval}
+use Rattle.nx_nav.specs.Refusals.{IsRefused, nav_error}
+
+-- trees none of which is a member of an interval are as many in their piece
+members_wide : (a : Layout) → AreFree a → gapped.width (piece_body a) ≡ width a
+members_wide Bare h = refl
+members_wide (Grown node below beside) h = let p = members_wide beside h in omega arith
+members_wide (Kept place members beside) h = absurd h
+
+module _ {D : Type 0} {d : Ghosts D} {records : Records} {disk : D} {place : RecordPlace} {members : Layout} where
+  -- the record of an interval holds the piece of its members
+  pub interval_held : (h : HasInterval d records disk place members) → HoldsPiece h.now place (piece_of members)
+  interval_held h =
+      let P : Option Piece → Type 0 = λ o. MatchOption o (HoldsNone h.now place) (λ piece. HoldsPiece h.now place piece) in
+      subst P h.held.0 (h.pieces.are place)
+
+  pub interval_piece : (h : HasInterval d records disk place members) (piece : Piece) → ((saved now : Held) → StandsFor d records disk saved now → IsTidy now → HoldsPiece now place piece) → piece ≡ piece_of members
+  interval_piece h piece holds = one_piece h.now place piece (piece_of members) (holds h.saved h.now h.stands h.tidy) (interval_held h)
+
+  -- as many roots as members
+  pub interval_width : HasInterval d records disk place members → gapped.width (piece_body members) ≡ width members
+  interval_width h = members_wide members h.light.1
+
+-- where its piece has another number of roots there is no such interval
+pub no_interval : {D : Type 0} {d : Ghosts D} {records : Records} {disk : D} {place : RecordPlace} (roots : ℕ) (piece : Piece) → ((saved now : Held) → StandsFor d records disk saved now → IsTidy now → HoldsPiece now place piece)
+    → (gapped.width piece.body.roots ≡ roots → ⊥) → HasNoInterval d records disk place roots
+no_interval roots piece holds other members h as_many =
+    let same = ap (λ (p : Piece). gapped.width p.body.roots) (interval_piece h piece holds) in
+    other (same ∙ interval_width h ∙ as_many)
+
+-- the refusal of a call that reads one record
+module _ {D : Type 0} (d : Ghosts D) (place : RecordPlace) (roots named : ℕ) (r0 r1 : Records) (x0 x1 : D) where
+  pub read_refused : (e : StoreError) → NotRead d (λ now. HoldsNone now place) named e r0 r1 x0 x1 → IsRefused d ⊥ ⊥ (HasNoInterval d r0 x0 place roots) (nav_error e) r0 r1 x0 x1
+  read_refused store.Disk refused = refused
+  read_refused (store.Damaged page) refused = (λ members h as_many. refused.lacks h.saved h.now h.stands (piece_of members) (interval_held h), refused.ends)
+  read_refused store.Ended refused = refused
+  read_refused store.Memory refused = refused
+  read_refused store.Exists refused = absurd refused
+  read_refused store.NotAStore refused = absurd refused
+  read_refused store.Full refused = absurd refused
+
+-- what is held stays so while the disk is asked alone
+pub layout_later : {D : Type 0} {d : Ghosts D} {r0 r1 : Records} {x0 x1 : D} {layout : Layout} → r1 ≡ r0 → IsStill d x0 x1 → HasLayout d r0 x0 layout → HasLayout d r1 x1 layout
+layout_later {r0 = r0} {r1 = r1} same still h = record {
+  saved = h.saved;
+  now = h.now;
+  stands = stands_later {r0 = r0} {r1 = r1} same still h.stands;
+  tidy = h.tidy;
+  pieces = h.pieces;
+  held = h.held;
+  k = h.k;
+  light = h.light;
+}
+
+-- the same pieces hold another layout
+pub layout_of : {D : Type 0} {d : Ghosts D} {records : Records} {disk : D} {layout : Layout} (h : HasLayout d records disk layout) (part : Layout) → AreHeld h.pieces.piece_at part → AreParts h.k part → HasLayout d records disk part
+layout_of h part held light = record {
+  saved = h.saved;
+  now = h.now;
+  stands = h.stands;
+  tidy = h.tidy;
+  pieces = h.pieces;
+  held = held;
+  k = h.k;
+  light = light;
+}
+
+pub forest-without_places : (l : Layout) → forest (without_places l) ≡ forest l
+forest-without_places Bare = refl
+forest-without_places (Grown n b s) = let p = forest-without_places b in let q = forest-without_places s in cc
+forest-without_places (Kept p m s) = let e = forest-without_places m in let f = forest-without_places s in cc
+
+-- a document is the one member of its root's interval
+pub document_held : {D : Type 0} {d : Ghosts D} {records : Records} {disk : D} {root : RecordPlace} {document : CutTree} (h : HasDocument d records disk root document) → HasInterval d records disk root (Grown document.node h.laid.layout Bare)
+document_held h = record {
+  saved = h.saved;
+  now = h.now;
+  stands = h.stands;
+  tidy = h.tidy;
+  pieces = h.pieces;
+  held = h.laid.laid.held;
+  k = h.k;
+  light = h.laid.laid.light;
+}
+
+pub document_forest : {D : Type 0} {d : Ghosts D} {records : Records} {disk : D} {root : RecordPlace} {document : CutTree} (h : HasDocument d records disk root document) → forest h.laid.layout ≡ (tree_of document).below
+document_forest h = sym (forest-without_places h.laid.layout) ∙ ap (λ (c : CutForest). forest c) h.laid.laid.same
+
+-- ... or while what records and disk stand for stays
+pub layout_goes : {D : Type 0} {d : Ghosts D} {r0 r1 : Records} {x0 x1 : D} → r1 ≡ r0 → ((saved now : Held) → StandsFor d r0 x0 saved now → StandsFor d r0 x1 saved now) → (layout : Layout) → HasLayout d r0 x0 layout → HasLayout d r1 x1 layout
+layout_goes {d = d} {x1 = x1} same stands layout h = record {
+  saved = h.saved;
+  now = h.now;
+  stands = subst (λ (r : Records). StandsFor d r x1 h.saved h.now) (sym same) (stands h.saved h.now h.stands);
+  tidy = h.tidy;
+  pieces = h.pieces;
+  held = h.held;
+  k = h.k;
+  light = h.light;
+}

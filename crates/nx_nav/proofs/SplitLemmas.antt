@@ -1,0 +1,206 @@
+-- A layout taken apart along the items of a piece.
+use Rattle.std.proofs.Common.{◌≡◌, ℕ, ◌+◌, ◌≤◌, List, [], ◌∷◌, ◌++◌, length, take, drop, Option, refl, sym, ap, ◌∙◌, subst, arith, append_assoc}
+use Rattle.std.specs.Prelude.{max}
+use Rattle.std.proofs.lemmas.List.{append-nil, length-drop}
+use Rattle.std.proofs.lemmas.Grind.{common_steps}
+use Rattle.nx_host.specs.declared.disk.Disk.{Ghosts}
+use Rattle.nx_records.specs.declared.records.Records.{Records}
+use Rattle.nx_tree.specs.declared.node.Node.{Node}
+use Rattle.nx_tree.specs.Forest.{Forest, Empty, Plant, nodes}
+use Rattle.nx_tree.specs.Document.{depth}
+use Rattle.nx_piece.specs.declared.piece.Piece.{Piece}
+use Rattle.nx_piece.specs.declared.piece.Proxy.{Proxy}
+use Rattle.nx_piece.specs.Gapped.{Gapped, GappedTree, End, Grow, Gap, proxies_in}
+use Rattle.nx_piece.specs.Valid.{BeginsNoGap, AreApart}
+use Rattle.nx_cuts.specs.Cut.{Bare, Grown, Kept, joined, forest, width, part_weight, AreParts}
+use Rattle.nx_layouts.specs.Layout.{RecordPlace, Layout, gap_more, piece_body, proxy_of, proxies_of, AreHeld}
+use Rattle.nx_layouts.specs.Replace.{joined_layout}
+use Rattle.nx_layouts.proofs.LayoutLemmas.{proxies_counted, no_bare, no_grown}
+use Rattle.nx_layouts.proofs.ReplaceLemmas.{forest-joined_layout, proxies-joined_layout}
+use Rattle.nx_layouts.proofs.ValidLemmas.{body_apart}
+use Rattle.nx_hold.specs.Changes.{place_named}
+use Rattle.nx_nav.specs.Parts.{HasLayout}
+use Rattle.nx_nav.specs.Steps.{Begin, Open, Close, steps}
+use Rattle.nx_nav.specs.Walk.{AreIntervals, IsIntervalAt, IsTreeOf, AreOf, AreIntervalsOf}
+use Rattle.nx_nav.proofs.PartLemmas.{layout_of}
+use Rattle.nx_nav.proofs.WayLemmas.{IsSplit}
+
+pub nodes-joined : (f g : Forest) → nodes (joined f g) ≡ nodes f + nodes g
+nodes-joined Empty g = omega arith
+nodes-joined (Plant n b s) g = omega (arith, nodes-joined s g)
+
+pub depth-joined : (f g : Forest) → depth (joined f g) ≡ max (depth f) (depth g)
+depth-joined Empty g = omega arith
+depth-joined (Plant n b s) g = omega (arith, depth-joined s g)
+
+pub steps-joined_layout : (a b : Layout) → steps (joined_layout a b) ≡ steps a ++ steps b
+steps-joined_layout Bare b = refl
+steps-joined_layout (Grown n d s) b = ap (λ xs. Open n ∷ (steps d ++ Close n ∷ xs)) (steps-joined_layout s b) ∙ ap (λ xs. Open n ∷ xs) (sym (append_assoc (steps d) (Close n ∷ steps s) (steps b)))
+steps-joined_layout (Kept p m s) b = ap (λ xs. Begin (width m) (part_weight m) ∷ (steps m ++ xs)) (steps-joined_layout s b) ∙ ap (λ xs. Begin (width m) (part_weight m) ∷ xs) (sym (append_assoc (steps m) (steps s) (steps b)))
+
+pub held_front : (pieces : RecordPlace → Option Piece) (a b : Layout) → AreHeld pieces (joined_layout a b) → AreHeld pieces a × AreHeld pieces b
+held_front pieces Bare b h = (tt, h)
+held_front pieces (Grown n d s) b h = let r = held_front pieces s b h.1 in ((h.0, r.0), r.1)
+held_front pieces (Kept p m s) b h = let r = held_front pieces s b h.2 in ((h.0, h.1, r.0), r.1)
+
+pub light_front : (k : ℕ) (a b : Layout) → AreParts k (joined_layout a b) → AreParts k a × AreParts k b
+light_front k Bare b h = (tt, h)
+light_front k (Grown n d s) b h = let r = light_front k s b h.1 in ((h.0, r.0), r.1)
+light_front k (Kept p m s) b h = let r = light_front k s b h.4 in ((h.0, h.1, h.2, h.3, r.0), r.1)
+
+-- the first intervals of a layout, which one gap of its piece stands for
+pub record IsRow (count : ℕ) (after : Gapped) (layout : Layout) : Type 0 where
+  pub row : Layout
+  pub behind : Layout
+  pub are : AreIntervals row
+  pub counted : length (proxies_of row) ≡ count
+  pub whole : layout ≡ joined_layout row behind
+  pub rest : after ≡ piece_body behind
+
+row_more : (p : RecordPlace) (m : Layout) {count : ℕ} {after : Gapped} {s : Layout} → IsRow count after s → IsRow (count + 1) after (Kept p m s)
+row_more p m h = record {
+  row = Kept p m h.row;
+  behind = h.behind;
+  are = h.are;
+  counted = let c = h.counted in omega arith;
+  whole = ap (Kept p m) h.whole;
+  rest = h.rest;
+}
+
+one_row : (p : RecordPlace) (m s : Layout) (after : Gapped) → after ≡ piece_body s → IsRow 1 after (Kept p m s)
+one_row p m s after e = record { row = Kept p m Bare; behind = s; are = tt; counted = refl; whole = refl; rest = e }
+
+gap_parts : (c d : ℕ) (x y : Gapped) → Gap c x ≡ Gap d y → (c ≡ d) × (x ≡ y)
+gap_parts c d x y e = (cc, cc)
+
+-- the gap is that of the row of intervals in front
+row_at : (p : RecordPlace) (m s : Layout) (count : ℕ) (after g : Gapped) → g ≡ piece_body s → Gap count after ≡ gap_more g → BeginsNoGap after → ((c : ℕ) → Gap c after ≡ piece_body s → IsRow c after s) → IsRow count after (Kept p m s)
+row_at p m s count after End same is none inner =
+    let e = gap_parts count 1 after End is in subst (λ (n : ℕ). IsRow n after (Kept p m s)) (sym e.0) (one_row p m s after (e.1 ∙ same))
+row_at p m s count after (Grow n b t) same is none inner =
+    let e = gap_parts count 1 after (Grow n b t) is in subst (λ (n : ℕ). IsRow n after (Kept p m s)) (sym e.0) (one_row p m s after (e.1 ∙ same))
+row_at p m s count after (Gap c t) same is none inner =
+    let e = gap_parts count (c + 1) after t is in
+    subst (λ (n : ℕ). IsRow n after (Kept p m s)) (sym e.0) (row_more p m (inner c (ap (Gap c) e.1 ∙ same)))
+
+pub row_of : (count : ℕ) (after : Gapped) (l : Layout) → Gap count after ≡ piece_body l → BeginsNoGap after → IsRow count after l
+row_of count after Bare e none = absurd (cc)
+row_of count after (Grown n b s) e none = absurd (cc)
+row_of count after (Kept p m s) e none = row_at p m s count after (piece_body s) refl e none (λ c f. row_of c after s f none)
+
+grow_parts : (n m : Node) (a b x y : Gapped) → Grow n a x ≡ Grow m b y → (n ≡ m) × (a ≡ b) × (x ≡ y)
+grow_parts n m a b x y e = (cc, cc, cc)
+
+cons_parts : (x y : Proxy) (xs ys : List Proxy) → x ∷ xs ≡ y ∷ ys → (x ≡ y) × (xs ≡ ys)
+cons_parts x y xs ys e = (cc, cc)
+
+-- what stands before and behind a part of a list
+drop_part : {A : Type 0} (front back : List A) (n : ℕ) → length front ≡ n → drop n (front ++ back) ≡ back
+drop_part front back n e = subst (λ (k : ℕ). drop k (front ++ back) ≡ back) e (there front back)
+  where
+    there : {A : Type 0} (front back : List A) → drop (length front) (front ++ back) ≡ back
+    there [] back = refl
+    there (x ∷ front) back = there front back
+
+pub take_part : {A : Type 0} (front back : List A) (n : ℕ) → length front ≡ n → take n (front ++ back) ≡ front
+take_part front back n e = subst (λ (k : ℕ). take k (front ++ back) ≡ front) e (there front back)
+  where
+    there : {A : Type 0} (front back : List A) → take (length front) (front ++ back) ≡ front
+    there [] back = refl
+    there (x ∷ front) back = ap (λ xs. x ∷ xs) (there front back)
+
+module _ {D : Type 0} (d : Ghosts D) (r0 r1 : Records) (x0 x1 : D) (moved : (layout : Layout) → HasLayout d r0 x0 layout → HasLayout d r1 x1 layout) where
+  -- a tree before the other items
+  pub split_tree : (tree : GappedTree) (items : Gapped) (proxies : List Proxy) (l : Layout) → AreOf d r0 x0 (Grow tree.node tree.below items) proxies l
+      → IsSplit (IsTreeOf d r0 x0 tree proxies) (AreOf d r1 x1 items (drop (proxies_in tree.below) proxies)) l
+  split_tree tree items proxies Bare h = absurd (let e = h.0 in cc)
+  split_tree tree items proxies (Kept p m s) h = absurd (no_grown (piece_body s) tree.below items tree.node (sym h.0))
+  split_tree tree items proxies (Grown n b s) h =
+      let e = grow_parts tree.node n tree.below (piece_body b) items (piece_body s) h.0 in
+      let more = h.1 in
+      let shape : proxies ≡ proxies_of b ++ (proxies_of s ++ more.0) = more.1 ∙ append_assoc (proxies_of b) (proxies_of s) more.0 in
+      let long : length (proxies_of b) ≡ proxies_in tree.below = proxies_counted b ∙ ap proxies_in (sym e.1) in
+      let has = h.2 in
+      record {
+        front = Grown n b Bare;
+        behind = s;
+        first = (b, ap (λ (x : Node). Grown x b Bare) (sym e.0), e.1, (proxies_of s ++ more.0, shape), layout_of has (Grown n b Bare) (has.held.0, tt) (has.light.0, tt));
+        next = (e.2, (more.0, ap (drop (proxies_in tree.below)) shape ∙ drop_part (proxies_of b) (proxies_of s ++ more.0) (proxies_in tree.below) long), moved s (layout_of has s has.held.1 has.light.1));
+        steps_are = ap (λ xs. Open n ∷ xs) (sym (append_assoc (steps b) (Close n ∷ []) (steps s)));
+        nodes_are = omega arith;
+        front_shallow = omega arith;
+        behind_shallow = omega arith;
+      }
+
+  -- a row of intervals before the other items
+  pub split_row : (count : ℕ) (items : Gapped) (proxies : List Proxy) (l : Layout) → AreOf d r0 x0 (Gap count items) proxies l
+      → IsSplit (AreIntervalsOf d r0 x0 (take count proxies)) (AreOf d r1 x1 items (drop count proxies)) l
+  split_row count items proxies l h =
+      let apart : AreApart (Gap count items) = subst AreApart (sym h.0) (body_apart l) in
+      let row = row_of count items l h.0 apart.1 in
+      let more = h.1 in
+      let has = h.2 in
+      let held = held_front has.pieces.piece_at row.row row.behind (subst (λ x. AreHeld has.pieces.piece_at x) row.whole has.held) in
+      let light = light_front has.k row.row row.behind (subst (λ x. AreParts has.k x) row.whole has.light) in
+      let shape : proxies ≡ proxies_of row.row ++ (proxies_of row.behind ++ more.0) =
+      more.1 ∙ ap (λ xs. xs ++ more.0) (ap proxies_of row.whole ∙ proxies-joined_layout row.row row.behind) ∙ append_assoc (proxies_of row.row) (proxies_of row.behind) more.0 in
+      let trees = ap forest row.whole ∙ forest-joined_layout row.row row.behind in
+      let n = ap nodes trees ∙ nodes-joined (forest row.row) (forest row.behind) in
+      let deep = ap depth trees ∙ depth-joined (forest row.row) (forest row.behind) in
+      record {
+        front = row.row;
+        behind = row.behind;
+        first = (row.are, ap (take count) shape ∙ take_part (proxies_of row.row) (proxies_of row.behind ++ more.0) count row.counted, layout_of has row.row held.0 light.0);
+        next = (row.rest, (more.0, ap (drop count) shape ∙ drop_part (proxies_of row.row) (proxies_of row.behind ++ more.0) count row.counted), moved row.behind (layout_of has row.behind held.1 light.1));
+        steps_are = ap steps row.whole ∙ steps-joined_layout row.row row.behind;
+        nodes_are = n;
+        front_shallow = omega (arith, deep);
+        behind_shallow = omega (arith, deep);
+      }
+
+  -- an interval before the others of a row
+  pub split_interval : (proxy : Proxy) (proxies : List Proxy) (l : Layout) → AreIntervalsOf d r0 x0 (proxy ∷ proxies) l
+      → IsSplit (IsIntervalAt d r0 x0 (place_named proxy) proxy.roots) (AreIntervalsOf d r1 x1 proxies) l
+  split_interval proxy proxies Bare h = absurd (let e = h.1 in cc)
+  split_interval proxy proxies (Grown n b s) h = absurd h.0
+  split_interval proxy proxies (Kept p m s) h =
+      let parts = cons_parts proxy (proxy_of p (width m)) proxies (proxies_of s) h.1 in
+      let named : place_named proxy ≡ p = ap (λ (x : Proxy). place_named x) parts.0 in
+      let roots : width m ≡ proxy.roots = ap (λ (x : Proxy). x.roots) (sym parts.0) in
+      let has = h.2 in
+      let n = nodes-joined (forest m) (forest s) in
+      let deep = depth-joined (forest m) (forest s) in
+      let alone = nodes-joined (forest m) Empty in
+      let alone_deep = depth-joined (forest m) Empty in
+      record {
+        front = Kept p m Bare;
+        behind = s;
+        first = (m, ap (λ (x : RecordPlace). Kept x m Bare) (sym named), roots, layout_of has (Kept p m Bare) (has.held.0, has.held.1, tt) (has.light.0, has.light.1, has.light.2, has.light.3, tt));
+        next = (h.0, parts.1, moved s (layout_of has s has.held.2 has.light.4));
+        steps_are = ap (λ xs. Begin (width m) (part_weight m) ∷ xs) (ap (λ xs. xs ++ steps s) (sym (append-nil (steps m))));
+        nodes_are = omega (arith, n, alone);
+        front_shallow = omega (arith, deep, alone_deep);
+        behind_shallow = omega (arith, deep);
+      }
+
+-- where no proxy is left there is no interval
+pub row_ends : {D : Type 0} {d : Ghosts D} {r : Records} {x : D} (proxies : List Proxy) (l : Layout) → AreIntervalsOf d r x proxies l → proxies ≡ [] → (steps l ≡ []) × (nodes (forest l) ≡ 0)
+row_ends proxies Bare h e = (refl, refl)
+row_ends proxies (Grown n b s) h e = absurd h.0
+row_ends proxies (Kept p m s) h e = absurd (let f = h.1 in cc)
+
+-- where no item is left there is no tree and no interval
+pub items_end : {D : Type 0} {d : Ghosts D} {r : Records} {x : D} (items : Gapped) (proxies : List Proxy) (l : Layout) → AreOf d r x items proxies l → items ≡ End → (steps l ≡ []) × (nodes (forest l) ≡ 0)
+items_end items proxies Bare h e = (refl, refl)
+items_end items proxies (Grown n b s) h e = absurd (let f = h.0 in cc)
+items_end items proxies (Kept p m s) h e = absurd (no_bare (piece_body s) (sym h.0 ∙ e))
+
+-- as many proxies are left as the items that are left need
+pub enough_left : (proxies rest : List Proxy) (passed more all : ℕ) → rest ≡ drop passed proxies → passed + more ≡ all → all ≤ length proxies → more ≤ length rest
+enough_left proxies rest passed more all e sum fits = let l = length-drop passed proxies in let r = ap length e in omega arith
+
+pub dropped_twice : (proxies rest : List Proxy) (passed more : ℕ) → rest ≡ drop passed proxies → drop more rest ≡ drop (passed + more) proxies
+dropped_twice proxies rest passed more e = ap (drop more) e ∙ drop-drop passed more proxies
+  where
+    drop-drop : (n m : ℕ) (xs : List Proxy) → drop m (drop n xs) ≡ drop (n + m) xs
+    drop-drop n m xs = grind (arith, common_steps)

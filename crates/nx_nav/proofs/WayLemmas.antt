@@ -1,0 +1,139 @@
+-- How far a walk has come: what is told of each layout that it may walk over, and what of it is left.
+use Rattle.std.proofs.Common.{◌≡◌, ℕ, ◌+◌, ◌≤◌, List, [], ◌++◌, refl, sym, ap, ◌∙◌, arith, append_assoc}
+use Rattle.std.proofs.lemmas.List.{append-nil}
+use Rattle.nx_host.specs.declared.disk.Disk.{Ghosts}
+use Rattle.nx_host.specs.Still.{IsStill}
+use Rattle.nx_host.proofs.DiskLemmas.{none_still}
+use Rattle.nx_holdings.specs.Holdings.{Held}
+use Rattle.nx_records.specs.declared.records.Records.{Records}
+use Rattle.nx_records.specs.Records.{StandsFor}
+use Rattle.nx_tree.specs.Forest.{nodes}
+use Rattle.nx_tree.specs.Document.{depth}
+use Rattle.nx_cuts.specs.Cut.{forest}
+use Rattle.nx_layouts.specs.Layout.{Layout}
+use Rattle.nx_nav.specs.declared.error.NavError.{NavError}
+use Rattle.nx_nav.specs.Parts.{HasLayout}
+use Rattle.nx_nav.specs.Refusals.{IsRefused}
+use Rattle.nx_nav.specs.Steps.{Step, steps}
+use Rattle.nx_nav.specs.Walk.{HasTold, HasStopped, IsNone}
+use Rattle.nx_nav.proofs.PartLemmas.{layout_goes}
+use Rattle.nx_nav.proofs.RefusalLemmas.{refused_later}
+
+-- So much of a layout is told, and this is left.
+pub record IsLeft (Q : Layout → Type 0) (told : List Step) (left now : ℕ) (layout : Layout) : Type 0 where
+  pub rest : Layout
+  pub is : Q rest
+  pub steps_are : steps layout ≡ told ++ steps rest
+  pub nodes_are : left + nodes (forest rest) ≡ now + nodes (forest layout)
+  pub shallow : depth (forest rest) ≤ depth (forest layout)
+
+-- A layout is one before another.
+pub record IsSplit (P Q : Layout → Type 0) (layout : Layout) : Type 0 where
+  pub front : Layout
+  pub behind : Layout
+  pub first : P front
+  pub next : Q behind
+  pub steps_are : steps layout ≡ steps front ++ steps behind
+  pub nodes_are : nodes (forest layout) ≡ nodes (forest front) + nodes (forest behind)
+  pub front_shallow : depth (forest front) ≤ depth (forest layout)
+  pub behind_shallow : depth (forest behind) ≤ depth (forest layout)
+
+-- Of each layout that P speaks of as much is told, and what is left is one that Q speaks of.
+pub record IsOnWay {A D : Type 0} (Told : A → D → List Step → A → D → Type 0) (P Q : Layout → Type 0) (old : A) (before : D) (left : ℕ) (now : A) (here : D) (rest : ℕ) : Type 0 where
+  pub told : List Step
+  pub goes : Told old before told now here
+  pub each : (layout : Layout) → P layout → IsLeft Q told left rest layout
+
+-- what holds of a teller and its disks
+pub record IsTeller {A D : Type 0} (d : Ghosts D) (Told : A → D → List Step → A → D → Type 0) (Unwritten : D → D → Type 0) : Type 0 where
+  pub asked : (a : A) (x y : D) → IsStill d x y → Told a x [] a y
+  pub join : (a b c : A) (x y z : D) (s t : List Step) → Told a x s b y → Told b y t c z → Told a x (s ++ t) c z
+  pub stands : (a b : A) (x y : D) (s : List Step) (records : Records) (saved now : Held) → Told a x s b y → StandsFor d records x saved now → StandsFor d records y saved now
+  pub faults : (a b : A) (x y : D) (s : List Step) → Told a x s b y → d.faults x ≤ d.faults y
+  pub unwritten : (a b : A) (x y z : D) (s : List Step) → Told a x s b y → Unwritten y z → Unwritten x z
+
+module _ {A D : Type 0} {d : Ghosts D} {Told : A → D → List Step → A → D → Type 0} {Unwritten : D → D → Type 0} (teller : IsTeller d Told Unwritten) where
+  -- what records and disk stand for stays
+  pub told_stands : {a b : A} {x y : D} {s : List Step} {r0 r1 : Records} → Told a x s b y → r1 ≡ r0 → (layout : Layout) → HasLayout d r0 x layout → HasLayout d r1 y layout
+  told_stands {a} {b} {x} {y} {s} {r0} {r1} goes same = layout_goes {r0 = r0} {r1 = r1} same (λ saved now. teller.stands a b x y s r0 saved now goes)
+
+  module _ {P : Layout → Type 0} {a : A} {x : D} {left : ℕ} where
+    -- nothing is told
+    pub way_begins : IsOnWay Told P P a x left a x left
+    way_begins = record { told = []; goes = teller.asked a x x none_still; each = λ l p. record { rest = l; is = p; steps_are = refl; nodes_are = refl; shallow = omega arith } }
+
+    module _ {Q R : Layout → Type 0} {b : A} {y : D} {rest : ℕ} (way : IsOnWay Told P Q a x left b y rest) where
+      -- a part more
+      pub way_goes_on : (S : Layout → Type 0) (c : A) (z : D) (more : ℕ) → HasTold Told R b y rest c z more → ((l : Layout) → Q l → IsSplit R S l) → IsOnWay Told P S a x left c z more
+      way_goes_on S c z more has split = record {
+        told = way.told ++ has.told;
+        goes = teller.join a b c x y z way.told has.told way.goes has.goes;
+        each = λ l p.
+            let here = way.each l p in
+            let parts = split here.rest here.is in
+            let all = has.all parts.front parts.first in
+            let count : left + nodes (forest here.rest) ≡ rest + nodes (forest l) = here.nodes_are in
+            let sum = parts.nodes_are in
+            let taken : rest ≡ more + nodes (forest parts.front) = all.1 in
+            let deep = here.shallow in
+            let deeper = parts.behind_shallow in
+            record {
+              rest = parts.behind;
+              is = parts.next;
+              steps_are = here.steps_are
+                  ∙ ap (λ s. way.told ++ s) (parts.steps_are ∙ ap (λ s. s ++ steps parts.behind) (sym all.0))
+                  ∙ sym (append_assoc way.told has.told (steps parts.behind));
+              nodes_are = omega arith;
+              shallow = omega arith;
+            };
+      }
+
+      -- it stopped in the next part
+      pub way_stops : (S : Layout → Type 0) (z : D) → HasStopped Told R b y z → ((l : Layout) → Q l → IsSplit R S l) → HasStopped Told P a x z
+      way_stops S z has split = record {
+        told = way.told ++ has.told;
+        last = has.last;
+        goes = teller.join a b has.last x y z way.told has.told way.goes has.goes;
+        first = λ l p.
+            let here = way.each l p in
+            let parts = split here.rest here.is in
+            let first = has.first parts.front parts.first in (
+              first.0 ++ steps parts.behind,
+              here.steps_are
+                  ∙ ap (λ s. way.told ++ s) (parts.steps_are ∙ ap (λ s. s ++ steps parts.behind) first.1 ∙ append_assoc has.told first.0 (steps parts.behind))
+                  ∙ sym (append_assoc way.told has.told (first.0 ++ steps parts.behind)),
+            );
+      }
+
+      -- the next part isn't there
+      pub way_lacks : (S : Layout → Type 0) (deep : ℕ) → IsNone R deep rest → ((l : Layout) → Q l → IsSplit R S l) → IsNone P deep left
+      way_lacks S deep none split l p shallow small =
+          let here = way.each l p in
+          let parts = split here.rest here.is in
+          let count : left + nodes (forest here.rest) ≡ rest + nodes (forest l) = here.nodes_are in
+          let sum = parts.nodes_are in
+          let a = here.shallow in
+          let b = parts.front_shallow in
+          none parts.front parts.first (omega arith) (omega arith)
+
+      -- ... for the cause that is told of it
+      pub way_refused : (S : Layout → Type 0) (r0 r1 r2 : Records) (z : D) (deep : ℕ) → r1 ≡ r0 → ((l : Layout) → Q l → IsSplit R S l) → (e : NavError)
+          → IsRefused d ⊥ (Unwritten y z) (IsNone R deep rest) e r1 r2 y z → IsRefused d ⊥ (Unwritten x z) (IsNone P deep left) e r0 r2 x z
+      way_refused S r0 r1 r2 z deep same split e refused =
+          refused_later d ⊥ (Unwritten x z) (IsNone P deep left) r0 r1 r2 x y z same (teller.faults a b x y way.told way.goes) (λ bad. bad)
+          (λ unwritten. teller.unwritten a b x y z way.told way.goes unwritten) (λ none. way_lacks S deep none split) e refused
+
+    -- all is told
+    pub way_ends : {Q : Layout → Type 0} {b : A} {y : D} {rest : ℕ} → IsOnWay Told P Q a x left b y rest → ((l : Layout) → Q l → (steps l ≡ []) × (nodes (forest l) ≡ 0)) → HasTold Told P a x left b y rest
+    way_ends {Q} {b} {y} {rest} way none = record {
+      told = way.told;
+      goes = way.goes;
+      all = λ l p.
+          let here = way.each l p in
+          let end = none here.rest here.is in
+          let count : left + nodes (forest here.rest) ≡ rest + nodes (forest l) = here.nodes_are in
+          let zero : nodes (forest here.rest) ≡ 0 = end.1 in (
+            sym (here.steps_are ∙ ap (λ s. way.told ++ s) end.0 ∙ append-nil way.told),
+            omega arith,
+          );
+    }

@@ -1,0 +1,24 @@
+use Rattle.std.proofs.Common.{[], length, sym, refl, ap, ◌∙◌}
+use Rattle.nx_nav.specs.Laid.{Course, course_behind}
+use Rattle.nx_nav.proofs.LaidLemmas.{pairs_stay, has_parts, has_weights}
+use Rattle.nx_nav.proofs.laid.layout.Goals as goal
+
+abbrev start : Course
+start = record { path = []; position = 0; parts = []; weights = [] }
+
+pub returns-clause-pairs : goal.returns-clause-pairs
+returns-clause-pairs g c =
+    let told = c.in_ok-tell_document.ensures.told in
+    let end = (told.goes).1 ∙ ap (λ (at : Course). course_behind at told.told) c.new.ensures in
+    ap (λ (at : Course). length at.weights) end ∙ pairs_stay start told.told refl ∙ sym (ap (λ (at : Course). length at.parts) end)
+
+pub returns-clause-ok : goal.returns-clause-ok
+returns-clause-ok g c =
+    let told = c.in_ok-tell_document.ensures.told in
+    let end = (told.goes).1 ∙ ap (λ (at : Course). course_behind at told.told) c.new.ensures in (
+      c.in_ok-tell_document.ensures.stays.0,
+      c.in_ok-tell_document.ensures.stays.1,
+      λ document h count.
+          let all = end ∙ ap (course_behind start) (told.all document h count) in
+          (ap (λ (at : Course). at.parts) all ∙ has_parts h, ap (λ (at : Course). at.weights) all ∙ has_weights h),
+    )

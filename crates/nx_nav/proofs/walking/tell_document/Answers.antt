@@ -1,0 +1,40 @@
+use Rattle.std.proofs.Common.{[], refl, sym, ◌∙◌}
+use Rattle.std.proofs.lemmas.Result.{err_from_is_err_and}
+use Rattle.nx_host.proofs.DiskLemmas.{none_still}
+use Rattle.nx_hold.specs.Changes.{place_of}
+use Rattle.nx_nav.specs.Refusals.{HoldsNoneWith}
+use Rattle.nx_nav.specs.Steps.{steps_of}
+use Rattle.nx_nav.proofs.RefusalLemmas.{is_damaged}
+use Rattle.nx_nav.proofs.DocumentLemmas.{document_told, document_stops, document_all_told, none_so_large, document_refused}
+use Rattle.nx_nav.proofs.walking.tell_document.Goals as goal
+
+pub returns-then-is_ended-clause-stops : goal.returns-then-is_ended-clause-stops
+returns-then-is_ended-clause-stops g c = record {
+  told = [];
+  last = c.args.walk.now.teller;
+  goes = g.met.T.Tells.asked c.args.walk.now.teller c.args.disk.now c.args.disk.now none_still;
+  first = λ document h. (steps_of document, refl);
+}
+
+pub returns-in_err-tell_interval-clause-stops : goal.returns-in_err-tell_interval-clause-stops
+returns-in_err-tell_interval-clause-stops g c =
+    let p = err_from_is_err_and c.from_residual.result c.from_residual.ensures.1 in
+    rw p.1 (document_stops c.tell_interval.new.disk c.in_err-tell_interval.ensures.stops)
+
+pub returns-in_err-tell_interval-clause-refused : goal.returns-in_err-tell_interval-clause-refused
+returns-in_err-tell_interval-clause-refused g c =
+    let p = err_from_is_err_and c.from_residual.result c.from_residual.ensures.1 in
+    rw (p.1, p.2) (document_refused g.D.Disk (g.T.Tells.Unwritten c.args.disk.now c.tell_interval.new.disk) c.args.records.now c.tell_interval.new.records c.args.disk.now c.tell_interval.new.disk (place_of c.args.root) c.args.walk.now.left c.in_err-tell_interval.field-0.0 c.in_err-tell_interval.ensures.refused)
+
+pub returns-then-walk-ne0-clause-stops : goal.returns-then-walk-ne0-clause-stops
+returns-then-walk-ne0-clause-stops g c = document_all_told c.args.walk.now.left c.tell_interval.new.walk.left c.tell_interval.new.walk.teller c.tell_interval.new.disk c.in_ok-tell_interval.ensures.told
+
+pub returns-then-walk-ne0-clause-refused : goal.returns-then-walk-ne0-clause-refused
+returns-then-walk-ne0-clause-refused g c =
+    is_damaged g.D.Disk ⊥ (g.T.Tells.Unwritten c.args.disk.now c.tell_interval.new.disk) (HoldsNoneWith g.D.Disk c.args.records.now c.args.disk.now (place_of c.args.root) c.args.walk.now.left)
+    {r0 = c.args.records.now} {r1 = c.tell_interval.new.records} {r2 = c.damaged.new.records} c.args.disk.now c.tell_interval.new.disk c.damaged.result c.damaged.ensures.result (sym c.is_ended.ensures ∙ c.if-is_ended.false) c.in_ok-tell_interval.ensures.stays
+    c.damaged.ensures.ends
+    (none_so_large c.args.walk.now.left c.tell_interval.new.walk.left c.tell_interval.new.walk.teller c.tell_interval.new.disk c.in_ok-tell_interval.ensures.told c.if-walk-ne0.true)
+
+pub returns-clause-told : goal.returns-clause-told
+returns-clause-told g c = document_told c.args.walk.now.left c.tell_interval.new.walk.left c.tell_interval.new.walk.teller c.tell_interval.new.disk c.in_ok-tell_interval.ensures.told

@@ -1,0 +1,33 @@
+-- What the inner functions read of the records: the pieces of a part of a layout.
+use Rattle.std.specs.Prelude.{◌≡◌, ℕ}
+use Rattle.nx_host.specs.declared.disk.Disk.{Ghosts}
+use Rattle.nx_holdings.specs.Holdings.{Held}
+use Rattle.nx_records.specs.Records.{StandsFor}
+use Rattle.nx_records.specs.declared.records.Records.{Records}
+use Rattle.nx_piece.specs.declared.piece.Piece.{Piece}
+use Rattle.nx_cuts.specs.Cut.{Bare, Kept, width, AreParts}
+use Rattle.nx_layouts.specs.Layout.{RecordPlace, Layout, piece_of, AreHeld}
+use Rattle.nx_hold.specs.Pieces.{IsTidy, PieceMap}
+
+-- The records hold the pieces of all intervals of this layout, whose parts are light enough for some limit.
+pub record HasLayout {D : Type 0} (d : Ghosts D) (records : Records) (disk : D) (layout : Layout) : Type 0 where
+  pub saved : Held
+  pub now : Held
+  pub stands : StandsFor d records disk saved now
+  pub tidy : IsTidy now
+  pub pieces : PieceMap now
+  pub held : AreHeld pieces.piece_at layout
+  pub k : ℕ
+  pub light : AreParts k layout
+
+-- they hold an interval with these members in the record at a place
+abbrev pub HasInterval : {D : Type 0} → Ghosts D → Records → D → RecordPlace → Layout → Type 0
+HasInterval d records disk place members = HasLayout d records disk (Kept place members Bare)
+
+-- of all that may be the members of the interval with the record at this place, so many of them, this is the piece
+abbrev pub IsPieceAt : {D : Type 0} → Ghosts D → Records → D → RecordPlace → ℕ → Piece → Type 0
+IsPieceAt d records disk place roots piece = (members : Layout) → HasInterval d records disk place members → width members ≡ roots → piece ≡ piece_of members
+
+-- there is no interval of so many members with the record at this place
+abbrev pub HasNoInterval : {D : Type 0} → Ghosts D → Records → D → RecordPlace → ℕ → Type 0
+HasNoInterval d records disk place roots = (members : Layout) → HasInterval d records disk place members → width members ≡ roots → ⊥

@@ -1,0 +1,50 @@
+-- The documents that a call speaks of, and why it gives up.
+use Rattle.std.specs.Prelude.{◌≡◌, ℕ, ◌+◌, true, false}
+use Rattle.nx_host.specs.Disk.{Rose}
+use Rattle.nx_host.specs.declared.disk.Disk.{Ghosts}
+use Rattle.nx_records.specs.Records.{has_ended}
+use Rattle.nx_records.specs.Refusals.{EndNow}
+use Rattle.nx_records.specs.declared.records.Records.{Records}
+use Rattle.nx_records.specs.declared.error.StoreError.{StoreError}
+use Rattle.nx_records.specs.declared.error.StoreError.TheVariants as store
+use Rattle.nx_tree.specs.Forest.{nodes}
+use Rattle.nx_cuts.specs.Cut.{CutTree, tree_of}
+use Rattle.nx_layouts.specs.Layout.{RecordPlace}
+use Rattle.nx_hold.specs.Documents.{HasDocument}
+use Rattle.nx_nav.specs.declared.error.NavError.{NavError}
+use Rattle.nx_nav.specs.declared.error.NavError.TheVariants as error
+
+-- of each document that the records hold from this place on
+abbrev pub OfEach : {D : Type 0} → Ghosts D → Records → D → RecordPlace → (CutTree → Type 0) → Type 0
+OfEach d records disk root P = (document : CutTree) → HasDocument d records disk root document → P document
+
+-- of each that has so many nodes, its root counted
+abbrev pub OfEachWith : {D : Type 0} → Ghosts D → Records → D → RecordPlace → ℕ → (CutTree → Type 0) → Type 0
+OfEachWith d records disk root count P = OfEach d records disk root (λ document. 1 + nodes (tree_of document).below ≡ count → P document)
+
+-- there is none
+abbrev pub HoldsNone : {D : Type 0} → Ghosts D → Records → D → RecordPlace → Type 0
+HoldsNone d records disk root = OfEach d records disk root (λ document. ⊥)
+
+-- there is none with so many nodes
+abbrev pub HoldsNoneWith : {D : Type 0} → Ghosts D → Records → D → RecordPlace → ℕ → Type 0
+HoldsNoneWith d records disk root count = OfEachWith d records disk root count (λ document. ⊥)
+
+-- Why a call gave up, and what it leaves: `NoNode` comes only where `Nowhere` holds, `Write` only where `Unwritten` does, and `Damaged` only where `Lacks` does.
+abbrev pub IsRefused : {D : Type 0} → Ghosts D → (Nowhere Unwritten Lacks : Type 0) → NavError → Records → Records → D → D → Type 0
+IsRefused d Nowhere Unwritten Lacks error.NoNode old new before after = Nowhere × (has_ended old ≡ false) × (new ≡ old)
+IsRefused d Nowhere Unwritten Lacks error.Disk old new before after = Rose (d.faults before) (d.faults after) × EndNow old new
+IsRefused d Nowhere Unwritten Lacks error.Write old new before after = Unwritten × (has_ended old ≡ false) × (new ≡ old)
+IsRefused d Nowhere Unwritten Lacks (error.Damaged page) old new before after = Lacks × EndNow old new
+IsRefused d Nowhere Unwritten Lacks error.Ended old new before after = (has_ended old ≡ true) × (new ≡ old)
+IsRefused d Nowhere Unwritten Lacks error.Memory old new before after = (has_ended old ≡ false) × (new ≡ old)
+
+-- the refusal of a call that reads one record
+abbrev pub nav_error : StoreError → NavError
+nav_error store.Disk = error.Disk
+nav_error (store.Damaged page) = error.Damaged page
+nav_error store.Ended = error.Ended
+nav_error store.Memory = error.Memory
+nav_error store.Exists = error.Memory
+nav_error store.NotAStore = error.Memory
+nav_error store.Full = error.Memory

@@ -1,0 +1,152 @@
+// The intervals of a document as they are stored.
+ghost use Rattle.std.specs.Prelude.{◌≡◌, ◌≤◌, false, length, IfOk, IfErr};
+ghost use Rattle.nx_host.specs.Still.{IsStill};
+ghost use Rattle.nx_records.specs.Records.{has_ended};
+ghost use Rattle.nx_parts.specs.Partitioning.{part_weights};
+ghost use Rattle.nx_cuts.specs.Cut.{tree_of, parts_of};
+ghost use Rattle.nx_hold.specs.Changes.{place_of};
+ghost use Rattle.nx_nav.specs.Laid.{interval_at};
+ghost use Rattle.nx_nav.specs.Refusals.{OfEachWith, HoldsNoneWith, IsRefused};
+
+use crate::NavError;
+use crate::walking::{Tells, Walk, tell_document};
+use nx_host::Disk;
+use nx_parts::{Interval, Partitioning};
+use nx_records::{Records, Rid};
+use nx_tree::{NoMemory, Node, Path};
+use nx_weights::Weights;
+use std::alloc::Global;
+
+/// The intervals that a document is stored in, and what their parts weigh.
+#[derive(Drop)]
+pub struct Laid {
+    /// In document order of their first members, the root's first.
+    pub parts: Partitioning,
+    /// One for each interval, in slots of 8 bytes.
+    pub weights: Weights,
+}
+
+/// The stored intervals of the document of so many nodes, its root counted, whose root's record stands at
+/// `root`, and what their parts weigh.
+///
+/// Errors: `Damaged` only where the records hold no document of so many nodes from there on; `Disk`,
+/// only where `faults` rose; `Ended` exactly where the records had ended; `Memory`. The records are as
+/// they were then, but that they end with `Damaged` and `Disk`.
+pub fn layout<D: Disk>(
+    alloc: Global,
+    records: &mut Records,
+    disk: &mut D,
+    root: Rid,
+    nodes: u32,
+) -> Result<Laid, NavError>
+    ensures still { IsStill D.Disk disk.old disk.new }
+    ensures pairs { IfOk result (λ laid. length laid.weights ≡ length laid.parts) }
+    ensures ok { IfOk result (λ laid. (has_ended records.old ≡ false) × (records.new ≡ records.old)
+        × OfEachWith D.Disk records.old disk.old (place_of root) nodes (λ document. (laid.parts ≡ parts_of document) × (laid.weights ≡ part_weights (tree_of document) (parts_of document)))) }
+    ensures refused { IfErr result (λ e. IsRefused D.Disk ⊥ ⊥ (HoldsNoneWith D.Disk records.old disk.old (place_of root) nodes) e records.old records.new disk.old disk.new) }
+{
+    let mut walk = Walk {
+        alloc,
+        teller: Laying::new(alloc),
+        left: nodes,
+    };
+    tell_document(&mut walk, records, disk, root)?;
+    Ok(Laid {
+        parts: walk.teller.parts,
+        weights: walk.teller.weights,
+    })
+}
+
+// The intervals so far with what their parts weigh, and where the walk is.
+#[derive(Drop)]
+struct Laying {
+    alloc: Global,
+    parts: Partitioning,
+    weights: Weights,
+    // The positions of the open nodes, the root's own the first.
+    path: Path,
+    // The position of the next node.
+    position: u32,
+}
+
+impl Laying {
+    ghost use Rattle.std.specs.Prelude.{◌≡◌, []};
+    ghost use Rattle.nx_nav.specs.Laid.{course_of};
+
+    fn new(alloc: Global) -> Laying
+        ensures { course_of result ≡ record { path = []; position = 0; parts = []; weights = [] } }
+    {
+        Laying {
+            alloc,
+            parts: Partitioning::new(alloc),
+            weights: Weights::new(alloc),
+            path: Path::new(alloc),
+            position: 0,
+        }
+    }
+}
+
+impl<D: Disk> Tells<D> for Laying {
+    ghost use Rattle.std.specs.Prelude.{◌≡◌};
+    ghost use Rattle.nx_host.specs.Still.{IsStill};
+    ghost use Rattle.nx_nav.specs.Laid.{course_of, course_behind, courses_join};
+
+    ghost Told = { λ a x told b y. IsStill D.Disk x y × (course_of b ≡ course_behind (course_of a) told) };
+
+    ghost Unwritten = { λ _ _. ⊥ };
+
+    fn pause(&mut self, _disk: &mut D) -> Result<(), NavError> {
+        Ok(())
+    }
+
+    fn begin(&mut self, roots: u16, weight: u32) -> Result<(), NoMemory> {
+        let path = self.path.as_slice();
+        let interval = interval_at(self.alloc, path, self.position, roots)?;
+        self.parts.push(interval)?;
+        self.weights.push(u64::from(weight))
+    }
+
+    fn open(&mut self, _node: &Node) -> Result<(), NoMemory> {
+        self.path.push(self.position)?;
+        self.position = 0;
+        Ok(())
+    }
+
+    fn close(&mut self, _node: &Node) -> Result<(), NoMemory> {
+        if let Some(last) = self.path.as_slice().last().copied() {
+            self.path.truncate(self.path.len() - 1);
+            self.position = last.saturating_add(1);
+        }
+        Ok(())
+    }
+
+    ghost use Rattle.std.proofs.Common.{refl};
+    ghost use Rattle.nx_host.proofs.DiskLemmas.{still_then};
+    ghost use Rattle.nx_hold.proofs.RefusalLemmas.{stands_later};
+
+    ghost asked = { λ a x y still. (still, refl) };
+
+    ghost then = { λ a b c x y z s t first second. (still_then first.0 second.0, courses_join (course_of a) (course_of b) (course_of c) s t first.1 second.1) };
+
+    ghost stands = { λ a b x y s records saved now told stands. stands_later {r0 = records} {r1 = records} refl told.0 stands };
+
+    ghost faults_later = { λ a b x y s told. (told.0).faults_later };
+
+    ghost unwritten_later = { λ a b x y z s told unwritten. unwritten };
+}
+
+// The interval of so many nodes from a position on, or the root's where no node is open. The path has
+// the root's own position first.
+fn interval_at(alloc: Global, path: &[u32], position: u32, roots: u16) -> Result<Interval, NoMemory>
+    requires { 1 ≤ roots }
+    ensures { IfOk result (λ interval. interval ≡ interval_at path.now position roots) }
+{
+    let Some((_, parent)) = path.split_first() else {
+        return Ok(Interval::Root);
+    };
+    Ok(Interval::Run {
+        parent: Path::from_slice(alloc, parent)?,
+        first: position,
+        last: position.saturating_add(u32::from(roots) - 1),
+    })
+}

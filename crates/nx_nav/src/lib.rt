@@ -1,0 +1,18 @@
+//! Documents that records hold, looked at: the node at a path, the canonical text, the stored partitioning.
+//!
+//! Each call takes the place of the record that has a document's root. Its contract speaks of every
+//! document that the records hold from there on (`HasDocument` of `nx_hold`); where they hold none, it
+//! answers what it finds, or that a page is damaged, and comes to an end.
+#![tactic(auto)]
+
+mod error;
+mod finding;
+mod laid;
+mod reading;
+mod telling;
+mod walking;
+
+pub use error::NavError;
+pub use finding::{Shown, get};
+pub use laid::{Laid, layout};
+pub use telling::text_of;

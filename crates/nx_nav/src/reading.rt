@@ -1,0 +1,48 @@
+// The piece of a record, which has to have as many roots as its proxy says.
+ghost use Rattle.std.specs.Prelude.{◌≡◌, false, IfOk, IfErr};
+ghost use Rattle.nx_host.specs.Still.{IsStill};
+ghost use Rattle.nx_records.specs.Records.{has_ended};
+ghost use Rattle.nx_records.specs.Refusals.{EndNow};
+ghost use Rattle.nx_piece.specs.Gapped.{width};
+ghost use Rattle.nx_piece.specs.Valid.{IsValidPiece};
+ghost use Rattle.nx_hold.specs.Changes.{place_of};
+ghost use Rattle.nx_nav.specs.Refusals.{IsRefused};
+ghost use Rattle.nx_nav.specs.Parts.{IsPieceAt, HasNoInterval};
+
+use crate::NavError;
+use nx_hold::read_piece;
+use nx_host::Disk;
+use nx_piece::Piece;
+use nx_records::{Records, Rid};
+use std::alloc::Global;
+
+// The piece of the record at a place, which has so many roots.
+pub fn piece_at<D: Disk>(
+    alloc: Global,
+    records: &mut Records,
+    disk: &mut D,
+    rid: Rid,
+    roots: u16,
+) -> Result<Piece, NavError>
+    ensures still { IsStill D.Disk disk.old disk.new }
+    ensures stays { IfOk result (λ piece. (has_ended records.old ≡ false) × (records.new ≡ records.old)) }
+    ensures valid { IfOk result (λ piece. IsValidPiece piece) }
+    ensures roots { IfOk result (λ piece. width piece.body.roots ≡ roots) }
+    ensures ok { IfOk result (λ piece. IsPieceAt D.Disk records.old disk.old (place_of rid) roots piece) }
+    ensures refused { IfErr result (λ e. IsRefused D.Disk ⊥ ⊥ (HasNoInterval D.Disk records.old disk.old (place_of rid) roots) e records.old records.new disk.old disk.new) }
+{
+    let piece = read_piece(alloc, records, disk, rid)?;
+    if piece.body.roots.len() != usize::from(roots) {
+        return Err(damaged(records, rid.page));
+    }
+    Ok(piece)
+}
+
+// Ends the records, and answers that a page is damaged.
+pub fn damaged(records: &mut Records, page: u32) -> NavError
+    ensures result { result ≡ NavError.Damaged page }
+    ensures ends { has_ended records.old ≡ false → EndNow records.old records.new }
+{
+    records.end();
+    NavError::Damaged { page }
+}

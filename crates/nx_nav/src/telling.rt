@@ -1,0 +1,121 @@
+// The text of a document.
+ghost use Rattle.std.specs.Prelude.{◌≡◌, ◌++◌, false, IfOk, IfErr, OnOk};
+ghost use Rattle.nx_host.specs.Still.{IsStill};
+ghost use Rattle.nx_records.specs.Records.{has_ended};
+ghost use Rattle.nx_pyx.specs.Text.{text};
+ghost use Rattle.nx_cuts.specs.Cut.{tree_of};
+ghost use Rattle.nx_hold.specs.Changes.{place_of};
+ghost use Rattle.nx_nav.specs.Steps.{Open, Close};
+ghost use Rattle.nx_nav.specs.Told.{step_text};
+ghost use Rattle.nx_nav.specs.Refusals.{OfEachWith, HoldsNoneWith, IsRefused};
+
+use crate::NavError;
+use crate::walking::{Tells, Walk, tell_document};
+use nx_host::Disk;
+use nx_pyx::push_node_line;
+use nx_records::{Records, Rid};
+use nx_tree::{Bytes, Kind, NoMemory, Node};
+use std::alloc::Global;
+
+/// The canonical text of the document of so many nodes, its root counted, whose root's record stands at
+/// `root`.
+///
+/// Errors: `Damaged` only where the records hold no document of so many nodes from there on; `Disk`,
+/// only where `faults` rose; `Ended` exactly where the records had ended; `Memory`. The records are as
+/// they were then, but that they end with `Damaged` and `Disk`.
+pub fn text_of<D: Disk>(
+    alloc: Global,
+    records: &mut Records,
+    disk: &mut D,
+    root: Rid,
+    nodes: u32,
+) -> Result<Bytes, NavError>
+    ensures still { IsStill D.Disk disk.old disk.new }
+    ensures ok { IfOk result (λ bytes. (has_ended records.old ≡ false) × (records.new ≡ records.old)
+        × OfEachWith D.Disk records.old disk.old (place_of root) nodes (λ document. bytes ≡ text (tree_of document))) }
+    ensures refused { IfErr result (λ e. IsRefused D.Disk ⊥ ⊥ (HoldsNoneWith D.Disk records.old disk.old (place_of root) nodes) e records.old records.new disk.old disk.new) }
+{
+    let mut walk = Walk {
+        alloc,
+        teller: Text {
+            bytes: Bytes::new(alloc),
+        },
+        left: nodes,
+    };
+    tell_document(&mut walk, records, disk, root)?;
+    Ok(walk.teller.bytes)
+}
+
+// The text so far.
+#[derive(Drop)]
+struct Text {
+    bytes: Bytes,
+}
+
+impl<D: Disk> Tells<D> for Text {
+    ghost use Rattle.std.specs.Prelude.{◌≡◌, ◌++◌};
+    ghost use Rattle.nx_host.specs.Still.{IsStill};
+    ghost use Rattle.nx_nav.specs.Told.{told_text, text_joins};
+
+    ghost Told = { λ a x told b y. IsStill D.Disk x y × (b.bytes ≡ a.bytes ++ told_text told) };
+
+    ghost Unwritten = { λ _ _. ⊥ };
+
+    fn pause(&mut self, _disk: &mut D) -> Result<(), NavError> {
+        Ok(())
+    }
+
+    fn begin(&mut self, _roots: u16, _weight: u32) -> Result<(), NoMemory> {
+        Ok(())
+    }
+
+    fn open(&mut self, node: &Node) -> Result<(), NoMemory> {
+        push_start(&mut self.bytes, node)
+    }
+
+    fn close(&mut self, node: &Node) -> Result<(), NoMemory> {
+        push_end(&mut self.bytes, node)
+    }
+
+    ghost use Rattle.std.proofs.Common.{sym, refl};
+    ghost use Rattle.std.proofs.lemmas.List.{append-nil};
+    ghost use Rattle.nx_host.proofs.DiskLemmas.{still_then};
+    ghost use Rattle.nx_hold.proofs.RefusalLemmas.{stands_later};
+
+    ghost asked = { λ a x y still. (still, sym (append-nil a.bytes)) };
+
+    ghost then = { λ a b c x y z s t first second. (still_then first.0 second.0, text_joins a.bytes b.bytes c.bytes s t first.1 second.1) };
+
+    ghost stands = { λ a b x y s records saved now told stands. stands_later {r0 = records} {r1 = records} refl told.0 stands };
+
+    ghost faults_later = { λ a b x y s told. (told.0).faults_later };
+
+    ghost unwritten_later = { λ a b x y z s told unwritten. unwritten };
+}
+
+// Adds the line with which a node begins, but for the root of a document.
+pub(crate) fn push_start(text: &mut Bytes, node: &Node) -> Result<(), NoMemory>
+    ensures { OnOk result (text.new ≡ text.old ++ step_text (Open node.now)) }
+{
+    match node.kind {
+        Kind::Doc => Ok(()),
+        _ => {
+            push_node_line(text, node)?;
+            text.push(b'\n')
+        }
+    }
+}
+
+// Adds the line with which an element ends.
+pub(crate) fn push_end(text: &mut Bytes, node: &Node) -> Result<(), NoMemory>
+    ensures { OnOk result (text.new ≡ text.old ++ step_text (Close node.now)) }
+{
+    match node.kind {
+        Kind::Element => {
+            text.push(b')')?;
+            text.extend_from_slice(node.name.as_slice())?;
+            text.push(b'\n')
+        }
+        _ => Ok(()),
+    }
+}

@@ -1,0 +1,231 @@
+// A walk over the records of a document, which tells its nodes and its intervals.
+ghost use Rattle.std.specs.Prelude.{◌≡◌, ◌≤◌, false, ℕ, List, [], ◌∷◌, ◌++◌, OnOk, IfOk, IfErr, length, drop, OnErr};
+ghost use Rattle.nx_host.specs.Still.{IsStill};
+ghost use Rattle.nx_holdings.specs.Holdings.{Held};
+ghost use Rattle.nx_records.specs.Records.{has_ended, StandsFor};
+ghost use Rattle.nx_records.specs.declared.records.Records.{Records as HeldRecords};
+ghost use Rattle.nx_piece.specs.Gapped.{proxies_in};
+ghost use Rattle.nx_piece.specs.Items.{gapped_of};
+ghost use Rattle.nx_piece.specs.Valid.{HaveRoots};
+ghost use Rattle.nx_hold.specs.Changes.{place_of};
+ghost use Rattle.nx_nav.specs.Refusals.{IsRefused, HoldsNoneWith};
+ghost use Rattle.nx_nav.specs.Walk.{HasTold, HasStopped, IsNone, IsIntervalAt, IsTreeOf, AreOf, AreIntervalsOf, TellsDocument, StopsWithin};
+ghost use Rattle.nx_nav.specs.Steps.{Step, Begin, Open, Close};
+
+use crate::NavError;
+use crate::reading::{damaged, piece_at};
+use nx_host::Disk;
+use nx_lists::DEEPEST;
+use nx_piece::{Item, PieceTree, Proxy, weight};
+use nx_records::{Records, Rid};
+use nx_tree::{NoMemory, Node};
+use std::alloc::Global;
+
+// What a walk tells a document to.
+pub trait Tells<D: Disk> {
+    // From one teller and disk so many steps led to others.
+    ghost Told: { Self → D → List Step → Self → D → Type 0 };
+
+    // The disk shows that nothing more could be told.
+    ghost Unwritten: { D → D → Type 0 };
+
+    // Before a record is read.
+    fn pause(&mut self, disk: &mut D) -> Result<(), NavError>
+        ensures ok { OnOk result (Told self.old disk.old [] self.new disk.new) }
+        ensures err { IfErr result (λ e. (e ≡ NavError.Write) × Unwritten disk.old disk.new × ((last : Self) × Told self.old disk.old [] last disk.new)) };
+
+    // An interval of so many members begins, whose part weighs so much.
+    fn begin(&mut self, roots: u16, weight: u32) -> Result<(), NoMemory>
+        requires { 1 ≤ roots }
+        ensures { OnOk result ((disk : D) → Told self.old disk (Begin roots weight ∷ []) self.new disk) };
+
+    // A node begins.
+    fn open(&mut self, node: &Node) -> Result<(), NoMemory>
+        ensures { OnOk result ((disk : D) → Told self.old disk (Open node.now ∷ []) self.new disk) };
+
+    // A node ends.
+    fn close(&mut self, node: &Node) -> Result<(), NoMemory>
+        ensures { OnOk result ((disk : D) → Told self.old disk (Close node.now ∷ []) self.new disk) };
+
+    // Where the disk is asked alone nothing is told.
+    ghost asked: { (a : Self) (x y : D) → IsStill D.Disk x y → Told a x [] a y };
+
+    // Steps behind steps.
+    ghost then: { (a b c : Self) (x y z : D) (s t : List Step) → Told a x s b y → Told b y t c z → Told a x (s ++ t) c z };
+
+    // What records and disk stand for stays.
+    ghost stands: { (a b : Self) (x y : D) (s : List Step) (records : HeldRecords) (saved now : Held) → Told a x s b y → StandsFor D.Disk records x saved now → StandsFor D.Disk records y saved now };
+
+    // The count of faults doesn't fall.
+    ghost faults_later: { (a b : Self) (x y : D) (s : List Step) → Told a x s b y → D.faults x ≤ D.faults y };
+
+    ghost unwritten_later: { (a b : Self) (x y z : D) (s : List Step) → Told a x s b y → Unwritten y z → Unwritten x z };
+}
+
+// Tells of the document whose root's record stands at a place, and that has as many nodes as the walk
+// has left.
+pub fn tell_document<D: Disk, T: Tells<D>>(
+    walk: &mut Walk<T>,
+    records: &mut Records,
+    disk: &mut D,
+    root: Rid,
+) -> Result<(), NavError>
+    ensures stays { OnOk result ((has_ended records.old ≡ false) × (records.new ≡ records.old)) }
+    ensures told { OnOk result (TellsDocument D.Disk T.Told records.old disk.old (place_of root) walk.old.left walk.old.teller walk.new.teller disk.new) }
+    ensures stops { OnErr result (StopsWithin D.Disk T.Told records.old disk.old (place_of root) walk.old.teller disk.new) }
+    ensures refused { IfErr result (λ e. IsRefused D.Disk ⊥ (T.Unwritten disk.old disk.new) (HoldsNoneWith D.Disk records.old disk.old (place_of root) walk.old.left) e records.old records.new disk.old disk.new) }
+{
+    if records.is_ended() {
+        return Err(NavError::Ended);
+    }
+    tell_interval(walk, records, disk, root, 1, DEEPEST as u32 + 1)?;
+    if walk.left != 0 {
+        return Err(damaged(records, root.page));
+    }
+    Ok(())
+}
+
+// A walk: what it tells to, and how many nodes may still come.
+#[derive(Drop)]
+pub struct Walk<T> {
+    pub alloc: Global,
+    pub teller: T,
+    pub left: u32,
+}
+
+// Where a walk is: in a record of this page, with so many levels of nodes left.
+#[derive(Clone, Copy)]
+struct Spot {
+    page: u32,
+    depth: u32,
+}
+
+// Tells of the interval with the record at a place, which has so many roots.
+#[cycle(walk)]
+fn tell_interval<D: Disk, T: Tells<D>>(
+    walk: &mut Walk<T>,
+    records: &mut Records,
+    disk: &mut D,
+    rid: Rid,
+    roots: u16,
+    depth: u32,
+) -> Result<(), NavError>
+    requires runs { has_ended records.old ≡ false }
+    requires some { 1 ≤ roots }
+    ensures stays { OnOk result (records.new ≡ records.old) }
+    ensures told { OnOk result (HasTold T.Told (IsIntervalAt D.Disk records.old disk.old (place_of rid) roots) walk.old.teller disk.old walk.old.left walk.new.teller disk.new walk.new.left) }
+    ensures stops { OnErr result (HasStopped T.Told (IsIntervalAt D.Disk records.old disk.old (place_of rid) roots) walk.old.teller disk.old disk.new) }
+    ensures refused { IfErr result (λ e. IsRefused D.Disk ⊥ (T.Unwritten disk.old disk.new) (IsNone (IsIntervalAt D.Disk records.old disk.old (place_of rid) roots) depth walk.old.left) e records.old records.new disk.old disk.new) }
+{
+    walk.teller.pause(disk)?;
+    let piece = piece_at(walk.alloc, records, disk, rid, roots)?;
+    walk.teller.begin(roots, weight(&piece.body))?;
+    let spot = Spot {
+        page: rid.page,
+        depth,
+    };
+    let mut proxies = piece.proxies.as_slice();
+    for root in piece.body.roots.as_slice() {
+        proxies = tell_tree(walk, records, disk, root, proxies, spot)?;
+    }
+    Ok(())
+}
+
+// Tells of a tree of a piece, and gives the proxies behind those of its gaps.
+#[cycle(walk)]
+fn tell_tree<'a, D: Disk, T: Tells<D>>(
+    walk: &mut Walk<T>,
+    records: &mut Records,
+    disk: &mut D,
+    tree: &PieceTree,
+    proxies: &'a [Proxy],
+    spot: Spot,
+) -> Result<&'a [Proxy], NavError>
+    requires runs { has_ended records.old ≡ false }
+    requires fits { proxies_in tree.now.below ≤ length proxies.now }
+    requires rooted { HaveRoots proxies.now }
+    ensures stays { OnOk result (records.new ≡ records.old) }
+    ensures behind { IfOk result (λ behind. behind.now ≡ drop (proxies_in tree.now.below) proxies.now) }
+    ensures told { OnOk result (HasTold T.Told (IsTreeOf D.Disk records.old disk.old tree.now proxies.now) walk.old.teller disk.old walk.old.left walk.new.teller disk.new walk.new.left) }
+    ensures stops { OnErr result (HasStopped T.Told (IsTreeOf D.Disk records.old disk.old tree.now proxies.now) walk.old.teller disk.old disk.new) }
+    ensures refused { IfErr result (λ e. IsRefused D.Disk ⊥ (T.Unwritten disk.old disk.new) (IsNone (IsTreeOf D.Disk records.old disk.old tree.now proxies.now) spot.depth walk.old.left) e records.old records.new disk.old disk.new) }
+{
+    if spot.depth == 0 || walk.left == 0 {
+        return Err(damaged(records, spot.page));
+    }
+    walk.left -= 1;
+    walk.teller.open(&tree.node)?;
+    let below = Spot {
+        page: spot.page,
+        depth: spot.depth - 1,
+    };
+    let behind = tell_items(
+        walk,
+        records,
+        disk,
+        tree.children.as_slice(),
+        proxies,
+        below,
+    )?;
+    walk.teller.close(&tree.node)?;
+    Ok(behind)
+}
+
+// Tells of trees and gaps of a piece, and gives the proxies behind those of the gaps.
+#[cycle(walk)]
+fn tell_items<'a, D: Disk, T: Tells<D>>(
+    walk: &mut Walk<T>,
+    records: &mut Records,
+    disk: &mut D,
+    items: &[Item],
+    proxies: &'a [Proxy],
+    spot: Spot,
+) -> Result<&'a [Proxy], NavError>
+    requires runs { has_ended records.old ≡ false }
+    requires fits { proxies_in (gapped_of items.now) ≤ length proxies.now }
+    requires rooted { HaveRoots proxies.now }
+    ensures stays { OnOk result (records.new ≡ records.old) }
+    ensures behind { IfOk result (λ behind. behind.now ≡ drop (proxies_in (gapped_of items.now)) proxies.now) }
+    ensures told { OnOk result (HasTold T.Told (AreOf D.Disk records.old disk.old (gapped_of items.now) proxies.now) walk.old.teller disk.old walk.old.left walk.new.teller disk.new walk.new.left) }
+    ensures stops { OnErr result (HasStopped T.Told (AreOf D.Disk records.old disk.old (gapped_of items.now) proxies.now) walk.old.teller disk.old disk.new) }
+    ensures refused { IfErr result (λ e. IsRefused D.Disk ⊥ (T.Unwritten disk.old disk.new) (IsNone (AreOf D.Disk records.old disk.old (gapped_of items.now) proxies.now) spot.depth walk.old.left) e records.old records.new disk.old disk.new) }
+{
+    let mut rest = proxies;
+    for item in items {
+        match item {
+            Item::Tree(tree) => rest = tell_tree(walk, records, disk, tree, rest, spot)?,
+            Item::Run { count } => {
+                let (here, behind) = rest.split_at(*count as usize);
+                tell_row(walk, records, disk, here, spot.depth)?;
+                rest = behind;
+            }
+        }
+    }
+    Ok(rest)
+}
+
+// Tells of the intervals that proxies stand for.
+#[cycle(walk)]
+fn tell_row<D: Disk, T: Tells<D>>(
+    walk: &mut Walk<T>,
+    records: &mut Records,
+    disk: &mut D,
+    proxies: &[Proxy],
+    depth: u32,
+) -> Result<(), NavError>
+    requires runs { has_ended records.old ≡ false }
+    requires rooted { HaveRoots proxies.now }
+    ensures stays { OnOk result (records.new ≡ records.old) }
+    ensures told { OnOk result (HasTold T.Told (AreIntervalsOf D.Disk records.old disk.old proxies.now) walk.old.teller disk.old walk.old.left walk.new.teller disk.new walk.new.left) }
+    ensures stops { OnErr result (HasStopped T.Told (AreIntervalsOf D.Disk records.old disk.old proxies.now) walk.old.teller disk.old disk.new) }
+    ensures refused { IfErr result (λ e. IsRefused D.Disk ⊥ (T.Unwritten disk.old disk.new) (IsNone (AreIntervalsOf D.Disk records.old disk.old proxies.now) depth walk.old.left) e records.old records.new disk.old disk.new) }
+{
+    for proxy in proxies {
+        let rid = Rid {
+            page: proxy.page,
+            slot: proxy.slot,
+        };
+        tell_interval(walk, records, disk, rid, proxy.roots, depth)?;
+    }
+    Ok(())
+}
