@@ -1,0 +1,14 @@
+pub mod AtLemmas
+pub mod FoundLemmas
+pub mod RefusalLemmas
+pub mod CheckpointLemmas
+pub mod LookLemmas
+pub mod ListedLemmas
+pub mod PlanLemmas
+pub mod NameLemmas
+pub mod RoomLemmas
+pub mod LoadLemmas
+pub mod KeepLemmas
+pub mod StepLemmas
+pub mod LogLemmas
+pub mod AppliedLemmas

@@ -1,0 +1,74 @@
+-- How refusals of the crates below are handed on.
+use Rattle.std.proofs.Common.{◌≡◌, ◌≤◌, ℕ, ◌+◌, false, true, refl, sym, ap, subst, ◌∙◌, arith}
+use Rattle.std.proofs.lemmas.Bool.{false≢true}
+use Rattle.std.specs.Prelude.{Result, Ok, Err, IfErr, min, ◌^◌, ◌-◌, IsSome}
+use Rattle.nx_host.specs.Disk.{Image, Rose}
+use Rattle.nx_host.specs.declared.disk.Disk.{Ghosts}
+use Rattle.nx_host.specs.Still.{IsStill, IsSettled}
+use Rattle.nx_replay.specs.Log.{replay}
+use Rattle.nx_wal.specs.Reading.{HasMark}
+use Rattle.nx_wal.specs.Wal.{IsInStep}
+use Rattle.nx_holdings.specs.Holdings.{Held, Holds}
+use Rattle.nx_records.specs.declared.records.Records.{Records}
+use Rattle.nx_records.specs.declared.error.StoreError.{StoreError}
+use Rattle.nx_records.specs.declared.error.StoreError.TheVariants as below
+use Rattle.nx_records.specs.Records.{StandsFor, has_ended}
+use Rattle.nx_records.specs.Refusals as records
+use Rattle.nx_records.specs.Refusals.{NotRead}
+use Rattle.nx_catalog.specs.Catalog.{Contents, IsCatalog}
+use Rattle.nx_nav.specs.declared.error.NavError.{NavError}
+use Rattle.nx_nav.specs.declared.error.NavError.TheVariants as nav
+use Rattle.nx_nav.specs.Refusals.{IsRefused}
+use Rattle.nx_store.specs.Told.{told_of, told_by}
+use Rattle.nx_store.specs.Store.{IsAt, IsNowhere, NotApplied, NotOpened}
+use Rattle.nx_store.specs.declared.store.Store.{Store}
+use Rattle.nx_store.specs.declared.error.EngineError.{EngineError}
+use Rattle.nx_store.proofs.AtLemmas.{at_kept}
+
+-- the error that a `?` hands on
+pub told_passed : {T : Type 0} (r : Result T EngineError) (P : EngineError → Type 0) (e : EngineError) → (y : EngineError) × (r ≡ Err y) × (y ≡ e) → P e → IfErr r P
+told_passed r P e p h = subst (λ x. IfErr x P) (sym p.1) (subst P (sym p.2) h)
+
+-- a count that rose later rose
+pub rose_later : (n m k : ℕ) → n ≤ m → Rose m k → Rose n k
+rose_later n m k le rose = omega (arith, le, rose)
+
+module _ {D : Type 0} (d : Ghosts D) where
+  pub open_refused : (x0 x1 : D) (e : StoreError) → records.NotOpened d e x0 x1 → NotOpened d (told_of e) x0 x1
+  open_refused x0 x1 below.Disk h = h
+  open_refused x0 x1 below.NotAStore h = h
+  open_refused x0 x1 (below.Damaged page) h = λ was settled. ((h.1 was settled).0, λ state recovers. (h.1 was settled).1 recovers.0 recovers.1)
+  open_refused x0 x1 below.Memory h = tt
+  open_refused x0 x1 below.Ended h = absurd h
+  open_refused x0 x1 below.Exists h = absurd h
+  open_refused x0 x1 below.Full h = absurd h
+
+  pub catalog_refused : (r1 r2 : Records) (x0 x1 x2 : D) (e : StoreError) → IsStill d x0 x1 → has_ended r1 ≡ false
+      → ((was : Image) (held : Held) → IsSettled d x0 was → Holds (replay was) held → StandsFor d r1 x1 held held)
+      → ((was : Image) → IsSettled d x0 was → IsInStep d r1.wal x1 was × HasMark (replay was))
+      → NotRead d (λ now. (contents : Contents) → IsCatalog now.catalog contents → ⊥) 0 e r1 r2 x1 x2 → NotOpened d (told_of e) x0 x2
+  catalog_refused r1 r2 x0 x1 x2 below.Disk still runs stands step h = rose_later (d.faults x0) (d.faults x1) (d.faults x2) still.faults_later h.0
+  catalog_refused r1 r2 x0 x1 x2 (below.Damaged page) still runs stands step h =
+      λ was settled. ((step was settled).1, λ state recovers. h.lacks recovers.0 recovers.0 (stands was recovers.0 settled recovers.1) (recovers.2).contents (recovers.2).catalog)
+  catalog_refused r1 r2 x0 x1 x2 below.Memory still runs stands step h = tt
+  catalog_refused r1 r2 x0 x1 x2 below.Ended still runs stands step h = absurd (false≢true (sym runs ∙ h.0))
+  catalog_refused r1 r2 x0 x1 x2 below.Exists still runs stands step h = absurd h
+  catalog_refused r1 r2 x0 x1 x2 below.NotAStore still runs stands step h = absurd h
+  catalog_refused r1 r2 x0 x1 x2 below.Full still runs stands step h = absurd h
+
+  -- why a look at a document gave up
+  pub look_refused : (s0 s1 : Store) {x0 x1 : D} (Nowhere : Type 0) {Lacks : Type 0} (e : NavError) → (Lacks → IsNowhere d s0 x0) → IsStill d x0 x1
+      → s1.catalog ≡ s0.catalog → (s1.records ≡ s0.records → s1 ≡ s0) → IsRefused d Nowhere ⊥ Lacks e s0.records s1.records x0 x1 → NotApplied d (told_by e) s0 s1 x0 x1
+  look_refused s0 s1 Nowhere nav.NoNode lacks still catalog same h =
+      (h.1, ap (λ (r : Records). has_ended r) h.2 ∙ h.1, λ state at told. at_kept {s0 = s0} {s1 = s1} h.2 catalog still at)
+  look_refused s0 s1 Nowhere nav.Disk lacks still catalog same h = (h.0, (h.1.before, h.1.after))
+  look_refused s0 s1 Nowhere nav.Write lacks still catalog same h = absurd h.0
+  look_refused s0 s1 Nowhere (nav.Damaged page) lacks still catalog same h = ((h.1.before, h.1.after), λ told. lacks h.0)
+  look_refused s0 s1 Nowhere nav.Ended lacks still catalog same h = (h.0, same h.1, still)
+  look_refused s0 s1 Nowhere nav.Memory lacks still catalog same h =
+      (h.0, ap (λ (r : Records). has_ended r) h.1 ∙ h.0, λ state at told. at_kept {s0 = s0} {s1 = s1} h.1 catalog still at)
+
+  -- the path leads nowhere
+  pub is_nowhere : (Nowhere Unwritten Lacks : Type 0) (r0 r1 : Records) (x0 x1 : D) (e : NavError) → e ≡ nav.NoNode → IsRefused d Nowhere Unwritten Lacks e r0 r1 x0 x1
+      → Nowhere × (has_ended r0 ≡ false) × (r1 ≡ r0)
+  is_nowhere Nowhere Unwritten Lacks r0 r1 x0 x1 e is refused = subst (λ (x : NavError). IsRefused d Nowhere Unwritten Lacks x r0 r1 x0 x1) is refused

@@ -1,0 +1,20 @@
+use Rattle.std.proofs.Common.{◌≡◌, ℕ, ap, ◌∙◌, subst}
+use Rattle.nx_holdings.specs.declared.header.Settings.{Settings}
+use Rattle.nx_records.specs.Records.{settings_of}
+use Rattle.nx_partition.specs.Bounding.{IsRefused}
+use Rattle.nx_partition.specs.declared.error.PlanError.{PlanError}
+use Rattle.nx_partition.specs.declared.error.PlanError.TheVariants.{TooHeavy}
+use Rattle.nx_store.proofs.StepLemmas.{heavy_answers}
+use Rattle.nx_store.proofs.store.Store.load_planned.Goals as goal
+
+pub returns-in-Err-TooHeavy-clause-ok : goal.returns-in-Err-TooHeavy-clause-ok
+returns-in-Err-TooHeavy-clause-ok g c = (
+  c.requires.runs,
+  λ state at told. (
+    state,
+    heavy_answers c.args.self.now c.args.disk.now c.args.name.now c.args.tree.now state c.in-Err-TooHeavy.path c.in-Err-TooHeavy.weight c.requires.new
+        (subst (λ (k : ℕ). IsRefused k c.args.tree.now (TooHeavy c.in-Err-TooHeavy.path c.in-Err-TooHeavy.weight)) (c.from-k.ensures ∙ ap (λ (t : Settings). t.k) c.settings.ensures)
+        (subst (λ (e : PlanError). IsRefused c.from-k.result c.args.tree.now e) c.in-Err-TooHeavy.field-0-is c.in-Err-TooHeavy.ensures.err)) at,
+    at,
+  ),
+)

@@ -1,0 +1,4 @@
+pub mod Step
+pub mod Told
+pub mod Store
+pub mod Loading

@@ -1,0 +1,77 @@
+-- What a load makes of the store before its commit.
+use Rattle.std.specs.Prelude.{◌≡◌, ℕ, ◌+◌, List, None, Result, Ok, Err}
+use Rattle.std.specs.FinMap.{get}
+use Rattle.nx_host.specs.Disk.{Rose}
+use Rattle.nx_host.specs.declared.disk.Disk.{Ghosts}
+use Rattle.nx_tree.specs.Forest.{OrderedTree, nodes}
+use Rattle.nx_parts.specs.declared.interval.Interval.{Interval}
+use Rattle.nx_parts.specs.Minima.{IsLeanOptimal}
+use Rattle.nx_parts.specs.Order.{AreInOrder}
+use Rattle.nx_holdings.specs.Holdings.{Held}
+use Rattle.nx_records.specs.Records.{StandsFor, KeepsSaved, settings_of}
+use Rattle.nx_records.specs.Refusals.{RunsOn}
+use Rattle.nx_records.specs.declared.error.StoreError.{StoreError}
+use Rattle.nx_records.specs.declared.error.StoreError.TheVariants as error
+use Rattle.nx_cuts.specs.Cut.{CutTree, tree_of, parts_of}
+use Rattle.nx_catalog.specs.Catalog.{IsCatalog}
+use Rattle.nx_script.specs.declared.reply.Reply.{Reply}
+use Rattle.nx_script.specs.declared.reply.Reply.TheVariants.{Refused}
+use Rattle.nx_script.specs.declared.reply.ReplyError.TheVariants.{Full}
+use Rattle.nx_state.specs.State.{State, all_nodes}
+use Rattle.nx_state.specs.Stands.{HoldsState}
+use Rattle.nx_store.specs.Step.{with_document, MayBeFull}
+use Rattle.nx_store.specs.Store.{IsAt, IsNowhere, EndsNow}
+use Rattle.nx_store.specs.declared.store.Store.{Store}
+use Rattle.nx_store.specs.declared.error.EngineError.{EngineError}
+use Rattle.nx_store.specs.declared.error.EngineError.TheVariants as told
+
+-- no document has the name
+abbrev pub IsNew : Store → List ℕ → Type 0
+IsNew store name = get (store.catalog).documents name ≡ None
+
+-- A lean optimal partitioning of the tree for the parts of this store, in document order.
+pub record IsChosen (store : Store) (tree : OrderedTree) (parts : List Interval) : Type 0 where
+  pub lean : IsLeanOptimal (settings_of store.records).k tree parts
+  pub in_order : AreInOrder parts
+
+-- The records and the catalog have the document besides, which is cut so. The last commit holds the state without it.
+pub record IsKept {D : Type 0} (d : Ghosts D) (store : Store) (disk : D) (state : State) (name : List ℕ) (tree : OrderedTree) (parts : List Interval) : Type 0 where
+  pub document : CutTree
+  pub tree_is : tree_of document ≡ tree
+  pub parts_are : parts_of document ≡ parts
+  pub saved : Held
+  pub now : Held
+  pub stands : StandsFor d store.records disk saved now
+  pub was : HoldsState saved state
+  pub will : HoldsState now (with_document state name document)
+  pub catalog : IsCatalog now.catalog store.catalog
+
+-- whatever state the store was at, there may not be room for one document more with so many nodes
+abbrev pub HasNoRoom : {D : Type 0} → Ghosts D → Store → D → OrderedTree → Type 0
+HasNoRoom d store disk tree = (state : State) → IsAt d store disk state → MayBeFull state (all_nodes state + (1 + nodes tree.below))
+
+-- What is left of the store where a document wasn't kept: its catalog and its last commit.
+pub record IsLeft {D : Type 0} (d : Ghosts D) (old new : Store) (before after : D) : Type 0 where
+  pub runs : RunsOn old.records new.records
+  pub saved : KeepsSaved d old.records new.records before after
+  pub catalog : new.catalog ≡ old.catalog
+
+-- Why a document wasn't kept.
+abbrev pub NotKept : {D : Type 0} → Ghosts D → OrderedTree → StoreError → Store → Store → D → D → Type 0
+NotKept d tree error.Disk old new before after = Rose (d.faults before) (d.faults after) × EndsNow old new
+NotKept d tree (error.Damaged page) old new before after = EndsNow old new × IsNowhere d old before
+NotKept d tree error.Full old new before after = IsLeft d old new before after × HasNoRoom d old before tree
+NotKept d tree error.Memory old new before after = IsLeft d old new before after
+NotKept d tree error.Ended old new before after = ⊥
+NotKept d tree error.Exists old new before after = ⊥
+NotKept d tree error.NotAStore old new before after = ⊥
+
+-- what a load is answered whose document wasn't kept
+abbrev pub answer_of : StoreError → Result Reply EngineError
+answer_of error.Full = Ok (Refused Full)
+answer_of error.Memory = Err told.Memory
+answer_of error.Disk = Err told.Disk
+answer_of (error.Damaged page) = Err (told.Damaged page)
+answer_of error.Ended = Err told.Ended
+answer_of error.Exists = Err told.Exists
+answer_of error.NotAStore = Err told.NotAStore

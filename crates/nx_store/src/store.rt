@@ -1,0 +1,118 @@
+// The store.
+ghost use Rattle.std.specs.Prelude.{◌≡◌, ◌⊎◌, true, false, Some, None, IfOk, IfErr};
+ghost use Rattle.nx_host.specs.Disk.{Image};
+ghost use Rattle.nx_host.specs.Still.{IsStill, IsSettled, WritesAlone};
+ghost use Rattle.nx_replay.specs.Log.{HasSame};
+ghost use Rattle.nx_holdings.specs.Header.{AreSettings};
+ghost use Rattle.nx_records.specs.Refusals.{IsCreated, NotCreated};
+ghost use Rattle.nx_script.specs.Commands.{CanCome};
+ghost use Rattle.nx_state.specs.State.{State, new_state};
+ghost use Rattle.nx_state.specs.Stands.{Recovers};
+
+use crate::EngineError;
+use nx_catalog::{Catalog, load_catalog};
+use nx_holdings::Settings;
+use nx_host::Disk;
+use nx_records::Records;
+use nx_script::{Command, Reply, ReplyError};
+use std::alloc::Global;
+
+/// A store of documents.
+#[derive(Drop)]
+pub struct Store {
+    pub(crate) alloc: Global,
+    pub(crate) records: Records,
+    // The catalog of the last commit.
+    pub(crate) catalog: Catalog,
+}
+
+impl Store {
+    ghost use Rattle.nx_store.specs.Store.{is_ended, IsAt, IsWithin, IsAnswered, NotApplied, NotMade, NotOpened};
+
+    /// A store on a disk that has no pages, committed: with these settings, and without documents and
+    /// rules. The settings are in range: K from 1 to 256, a target of at most 100, a tolerance of at most
+    /// 256, and a limit from 64 to 16,777,216 pages.
+    ///
+    /// Errors: `Exists` exactly where the disk has a page; `Disk`, only where `faults` rose; `Memory`.
+    pub fn create<D: Disk>(
+        alloc: Global,
+        disk: &mut D,
+        settings: Settings,
+    ) -> Result<Store, EngineError>
+        requires { AreSettings settings }
+        ensures goes { WritesAlone D.Disk disk.old disk.new (λ i. (was : Image) → IsSettled D.Disk disk.old was → HasSame was i ⊎ IsCreated settings was i) }
+        ensures ok { IfOk result (λ store. (was now : Image) → IsSettled D.Disk disk.old was → D.contents disk.new ≡ Some now →
+            IsAt D.Disk store disk.new (new_state settings) × IsSettled D.Disk disk.new now × IsCreated settings was now) }
+        ensures fresh { IfOk result (λ store. is_ended store ≡ false) }
+        ensures refused { IfErr result (λ e. NotMade D.Disk e disk.old disk.new) }
+    {
+        let records = Records::create(alloc, disk, settings)?;
+        Ok(Store {
+            alloc,
+            records,
+            catalog: Catalog::new(alloc),
+        })
+    }
+
+    /// The store of a disk. Nothing is written.
+    ///
+    /// Errors: `NotAStore` exactly where page 0 is missing or doesn't begin with the eight bytes
+    /// `NATIXST1`; `Damaged`, only where the disk stands for no state; `Disk`, only where `faults` rose;
+    /// `Memory`.
+    pub fn open<D: Disk>(alloc: Global, disk: &mut D) -> Result<Store, EngineError>
+        ensures still { IsStill D.Disk disk.old disk.new }
+        ensures ok { IfOk result (λ store. (was : Image) (state : State) → IsSettled D.Disk disk.old was → Recovers was (Some state) → IsAt D.Disk store disk.new state) }
+        ensures fresh { IfOk result (λ store. is_ended store ≡ false) }
+        ensures refused { IfErr result (λ e. NotOpened D.Disk e disk.old disk.new) }
+    {
+        let mut records = Records::open(alloc, disk)?;
+        let catalog = load_catalog(alloc, &mut records, disk)?;
+        Ok(Store {
+            alloc,
+            records,
+            catalog,
+        })
+    }
+
+    /// Whether an earlier call answered `Disk` or `Damaged`. It takes no memory.
+    pub fn is_ended(&self) -> bool
+        ensures { result ≡ is_ended self.now }
+    {
+        self.records.is_ended()
+    }
+
+    /// Carries a command out, and gives its reply. A command that is refused changes nothing. One that
+    /// changes the store does so by one commit: at every moment each image is that of the state before it
+    /// or of the state after it. Where the log is longer than 67,108,864 bytes, a checkpoint comes first.
+    ///
+    /// The command is one that a script can give.
+    ///
+    /// Errors: `Disk`, only where `faults` rose; `Damaged`, only where the disk stood for no state when the
+    /// store was opened; `Ended` exactly where an earlier call answered one of these; `Memory`, and then the
+    /// store is as it was.
+    pub fn apply<D: Disk>(&mut self, disk: &mut D, command: Command) -> Result<Reply, EngineError>
+        requires { CanCome command }
+        ensures goes { WritesAlone D.Disk disk.old disk.new (λ i. IsWithin D.Disk self.old disk.old command i) }
+        ensures ok { IfOk result (λ reply. (is_ended self.old ≡ false) × (is_ended self.new ≡ false) × IsAnswered D.Disk self.old self.new disk.old disk.new command reply) }
+        ensures refused { IfErr result (λ e. NotApplied D.Disk e self.old self.new disk.old disk.new) }
+    {
+        if self.is_ended() {
+            return Err(EngineError::Ended);
+        }
+        match command {
+            Command::Load { name, body } => self.load(disk, name, body),
+            Command::Names => self.names(),
+            Command::Export { name } => self.export(disk, &name),
+            Command::Get { name, path } => self.get(disk, &name, &path),
+            Command::Layout { name } => self.layout(disk, &name),
+            Command::Checkpoint => self.checkpoint(disk),
+            Command::Discard { .. }
+            | Command::Insert { .. }
+            | Command::Delete { .. }
+            | Command::Retext { .. }
+            | Command::SetRule { .. }
+            | Command::Rules
+            | Command::Bad => Ok(Reply::Refused(ReplyError::Syntax)),
+        }
+    }
+}
