@@ -5,10 +5,11 @@
 //! makes of the list is said in `specs/Edits.antt`.
 #![tactic(auto)]
 
+mod appending;
 mod changes;
 mod form;
 mod packing;
 mod page;
 mod reads;
 
-pub use page::{Page, PageBytes, SlotsError};
+pub use page::{Page, PageBytes, SlotsError, is_page, put_in, record_in};

@@ -2,7 +2,7 @@
 ghost use Rattle.nx_slots.specs.Edits.{free_in, growth_of, needed_for, without_record, HasRecord, IsPut, IsSet};
 ghost use Rattle.nx_slots.specs.Refusals.{LacksRoom};
 ghost use Rattle.nx_slots.specs.Slots.{slots_of, IsSlotted};
-ghost use Rattle.std.specs.Prelude.{◌≡◌, ◌≤◌, ℕ, List, [], Option, Some, None, length, slice_index_or, IfErr, IfOk, MatchOption};
+ghost use Rattle.std.specs.Prelude.{◌≡◌, ◌≤◌, ℕ, true, false, List, [], Option, Some, None, length, slice_index_or, IfErr, IfOk, MatchOption};
 
 use crate::changes::{clear_record, put_record, set_record};
 use crate::form::is_slotted;
@@ -15,6 +15,41 @@ use thiserror::Error;
 #[derive(Clone, Copy, Debug)]
 pub struct PageBytes {
     pub bytes: [u8; 8192],
+}
+
+/// The record of a slot of a page with the given bytes, without a copy of the page. There is none exactly
+/// where the bytes are no slotted page, or the slot is empty or isn't there.
+pub fn record_in(page: &PageBytes, slot: u16) -> Option<&[u8]>
+    ensures { MatchOption result
+        (IsSlotted page.now.bytes → slice_index_or (slots_of page.now.bytes) slot None ≡ None)
+        (λ bytes. IsSlotted page.now.bytes × (slice_index_or (slots_of page.now.bytes) slot None ≡ Some bytes.now)) }
+{
+    if !is_slotted(&page.bytes) {
+        return None;
+    }
+    read_record(&page.bytes, slot as usize)
+}
+
+/// Whether the given bytes are a slotted page.
+pub fn is_page(page: &PageBytes) -> bool
+    ensures yes { result ≡ true → IsSlotted page.now.bytes }
+    ensures no { result ≡ false → IsSlotted page.now.bytes → ⊥ }
+{
+    is_slotted(&page.bytes)
+}
+
+/// As `Page::put`, of a page with the given bytes, without a copy of the page.
+pub fn put_in(page: &mut PageBytes, bytes: &[u8]) -> Result<u16, SlotsError>
+    requires slotted { IsSlotted page.old.bytes }
+    requires some { 1 ≤ length bytes.now }
+    requires few { length bytes.now ≤ 8176 }
+    ensures slotted { IsSlotted page.new.bytes }
+    ensures ok { IfOk result (λ slot. IsPut (slots_of page.old.bytes) bytes.now slot (slots_of page.new.bytes)) }
+    ensures no_room { IfErr result (λ e.
+        LacksRoom (slots_of page.old.bytes) (needed_for (slots_of page.old.bytes) bytes.now) e
+        × (page.new ≡ page.old)) }
+{
+    put_record(&mut page.bytes, bytes)
 }
 
 /// Why a page didn't take a record.

