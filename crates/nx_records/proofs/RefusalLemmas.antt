@@ -1,12 +1,12 @@
 -- How refusals are handed on.
 use Rattle.std.proofs.Common.{◌≡◌, ℕ, ◌+◌, ◌-◌, ◌<◌, ◌≤◌, List, refl, sym, ap, subst, ◌∙◌, arith, true, false}
-use Rattle.std.specs.Prelude.{◌≢◌, ◌^◌, min, slice_index_or, Option, None, Result, Err, IfErr}
+use Rattle.std.specs.Prelude.{◌≢◌, ◌^◌, min, slice_index_or, Option, None, Some, Result, Err, IfErr}
 use Rattle.nx_host.specs.declared.disk.Disk.{Ghosts}
 use Rattle.nx_host.specs.Still.{IsStill}
 use Rattle.nx_host.proofs.DiskLemmas.{none_still, settled_still}
 use Rattle.nx_host.specs.Disk.{Image}
 use Rattle.nx_replay.specs.Log.{Pages}
-use Rattle.nx_slots.specs.Slots.{slots_of}
+use Rattle.nx_slots.specs.Slots.{slots_of, IsSlotted}
 use Rattle.nx_wal.specs.declared.wal.Wal.{Wal}
 use Rattle.nx_wal.specs.Wal.{IsInStep, current, length_of}
 use Rattle.nx_holdings.specs.declared.header.Header.{Header}
@@ -34,6 +34,21 @@ keeps_self r0 r1 runs same = subst (λ (r : Records). KeepsLog r0 r) (sym same) 
 
 pub runs_on : {r0 r1 : Records} → has_ended r0 ≡ false → KeepsLog r0 r1 → RunsOn r0 r1
 runs_on runs keeps = record { before = runs; after = keeps.runs; length_stays = keeps.length_stays; settings_stay = keeps.settings_stay }
+
+none_some : {x : List ℕ} → ◌≡◌ {A = Option (List ℕ)} None (Some x) → ⊥
+none_some same = cc
+
+pub some_same : {x y : List ℕ} → ◌≡◌ {A = Option (List ℕ)} (Some x) (Some y) → x ≡ y
+some_same same = cc
+
+-- a page of which no record is read in a slot holds none there
+unread_none : {pages : Pages} {h : Header} {held : Held} → HoldsBehind pages h held → (page slot : ℕ) (bytes : List ℕ) → pages page ≡ Some bytes
+    → (IsSlotted bytes → slice_index_or (slots_of bytes) slot None ≡ None) → (there : Option (List ℕ)) → held.records page slot ≡ there → held.records page slot ≡ None
+unread_none holds page slot bytes is empty None there = there
+unread_none {pages = pages} holds page slot bytes is empty (Some record_bytes) there = unslotted_none holds page slot (λ low other other_is slotted.
+    let same = some_same (sym other_is ∙ is) in
+    let none = empty (subst IsSlotted same slotted) in
+    none_some (sym (holds.records page slot ∙ page_records holds page (slots_of bytes) (record { bytes = bytes; there = is; slotted = subst IsSlotted same slotted; are = refl }) slot ∙ none) ∙ there))
 
 module _ {D : Type 0} (d : Ghosts D) (r0 r1 : Records) (x0 x1 : D) (named : ℕ) where
   -- the room page wasn't slotted
@@ -121,6 +136,33 @@ module _ {D : Type 0} (d : Ghosts D) (r0 r1 : Records) (x0 x1 : D) (named : ℕ)
         let holds = (stands.holds).behind in
         holds.records page slot ∙ page_records holds page slots (sees (stands.keeps).image (stands.keeps).step) slot ∙ empty;
   }
+
+  -- what a call asks of a page isn't so
+  pub found_damaged : (P : Pages → Type 0) (e : StoreError) → e ≡ error.Damaged named → EndNow r0 r1 → SeesSo d r0 x0 P → NotFound d P named e r0 r1 x0 x1
+  found_damaged P e same ends sees = subst (λ (x : StoreError). NotFound d P named x r0 r1 x0 x1) (sym same) (refl, ends, sees)
+
+  pub found_wider : (P Q : Pages → Type 0) (e : StoreError) → ((pages : Pages) → P pages → Q pages) → NotFound d P named e r0 r1 x0 x1 → NotFound d Q named e r0 r1 x0 x1
+  found_wider P Q error.Disk more refused = refused
+  found_wider P Q (error.Damaged page) more refused = (refused.0, refused.1, λ was step. more _ (refused.2 was step))
+  found_wider P Q error.Full more refused = refused
+  found_wider P Q error.Memory more refused = refused
+  found_wider P Q error.Ended more refused = refused
+  found_wider P Q error.Exists more refused = refused
+  found_wider P Q error.NotAStore more refused = refused
+
+  -- a page that isn't there isn't slotted
+  pub missing_slots : (page : ℕ) (e : StoreError) → NotFound d (λ pages. page < r0.head.pages → pages page ≡ None) named e r0 r1 x0 x1 → NotFound d (NoSlots page r0) named e r0 r1 x0 x1
+  missing_slots page e = found_wider (λ pages. page < r0.head.pages → pages page ≡ None) (NoSlots page r0) e
+      (λ pages none low slots has. none_some (sym (none low) ∙ has.there))
+
+  -- what the call names isn't there, since its page isn't slotted or the slot is empty
+  pub record_damaged : (page slot : ℕ) (bytes : List ℕ) (e : StoreError) → e ≡ error.Damaged named → EndNow r0 r1 → SeesSo d r0 x0 (λ pages. pages page ≡ Some bytes)
+      → (IsSlotted bytes → slice_index_or (slots_of bytes) slot None ≡ None) → NotRead d (λ now. now.records page slot ≡ None) named e r0 r1 x0 x1
+  record_damaged page slot bytes e same ends sees empty = subst (λ (x : StoreError). NotRead d (λ now. now.records page slot ≡ None) named x r0 r1 x0 x1) (sym same) (record {
+    page = refl;
+    ends = ends;
+    lacks = λ saved now stands. unread_none (stands.holds).behind page slot bytes (sees (stands.keeps).image (stands.keeps).step) empty (now.records page slot) refl;
+  })
 
   -- a put that gave up, told of what is held now
   pub put_stored : (needs : Held → ℕ) (Few : Held → Type 0) (Lacks : Held → Type 0) (e : StoreError) → has_ended r0 ≡ false → IsStill d x0 x1 → ((held : Held) → Few held → held.free < needs held)

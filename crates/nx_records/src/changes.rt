@@ -6,7 +6,7 @@ ghost use Rattle.nx_slots.specs.Edits.{HasRecord};
 
 use crate::{Records, Rid, StoreError};
 use nx_host::Disk;
-use nx_slots::Page;
+use nx_slots::{Page, PageBytes, put_in};
 
 impl Records {
     ghost use Rattle.nx_records.specs.Records.{has_ended, KeepsLog};
@@ -54,11 +54,12 @@ impl Records {
         if room == 0 {
             return Ok(None);
         }
-        let mut page = self.slotted(disk, room, named)?;
-        let Ok(slot) = page.put(bytes) else {
+        let mut page = PageBytes { bytes: [0; 8192] };
+        self.load_slotted(disk, room, named, &mut page)?;
+        let Ok(slot) = put_in(&mut page, bytes) else {
             return Ok(None);
         };
-        self.store(room, page.bytes())?;
+        self.store(room, &page)?;
         Ok(Some(Rid { page: room, slot }))
     }
 

@@ -6,12 +6,13 @@ ghost use Rattle.nx_wal.specs.Wal.{IsInStep, current, pending};
 ghost use Rattle.nx_wal.specs.Reading.{page_found};
 ghost use Rattle.nx_holdings.specs.Header.{header_bytes};
 ghost use Rattle.nx_holdings.specs.Holdings.{with_page, free_bytes};
+ghost use Rattle.nx_slots.specs.Slots.{IsSlotted};
 ghost use Rattle.nx_records.specs.Numbering.{number_behind as behind};
 
 use crate::{Records, StoreError};
 use nx_holdings::{free_page, header_page, read_free_page};
 use nx_host::Disk;
-use nx_slots::{Page, PageBytes};
+use nx_slots::{Page, PageBytes, is_page};
 
 // The number of the group behind one with this number.
 fn number_behind(number: u64) -> u64
@@ -50,11 +51,56 @@ impl Records {
         ensures ok { IfOk result (λ found. (self.new ≡ self.old) × SeesSo D.Disk self.old disk.old (λ pages. pages page ≡ page_found found into.new.bytes)) }
         ensures refused { IfErr result (λ e. NotLoaded D.Disk e self.old self.new disk.old disk.new) }
     {
-        let Ok(found) = self.wal.page(disk, page, into) else {
+        let Ok(found) = self.wal.load(disk, page, into) else {
             self.ended = true;
             return Err(StoreError::Disk);
         };
         Ok(found)
+    }
+
+    // Reads the page with this number, which is there and which the header counts.
+    pub(crate) fn load_used<D: Disk>(
+        &mut self,
+        disk: &mut D,
+        page: u32,
+        named: u32,
+        into: &mut PageBytes,
+    ) -> Result<(), StoreError>
+        requires { has_ended self.old ≡ false }
+        ensures still { IsStill D.Disk disk.old disk.new }
+        ensures reads { D.reads disk.new ≤ D.reads disk.old + 1 }
+        ensures ok { OnOk result ((self.new ≡ self.old) × (page < self.old.head.pages) × SeesSo D.Disk self.old disk.old (λ pages. pages page ≡ Some into.new.bytes)) }
+        ensures refused { IfErr result (λ e. NotFound D.Disk (λ pages. page < self.old.head.pages → pages page ≡ None) named e self.old self.new disk.old disk.new) }
+    {
+        if page >= self.head.pages {
+            return Err(self.damaged(named));
+        }
+        if !self.load(disk, page, into)? {
+            return Err(self.damaged(named));
+        }
+        Ok(())
+    }
+
+    // Reads the slotted page with this number.
+    pub(crate) fn load_slotted<D: Disk>(
+        &mut self,
+        disk: &mut D,
+        page: u32,
+        named: u32,
+        into: &mut PageBytes,
+    ) -> Result<(), StoreError>
+        requires { has_ended self.old ≡ false }
+        ensures still { IsStill D.Disk disk.old disk.new }
+        ensures reads { D.reads disk.new ≤ D.reads disk.old + 1 }
+        ensures ok { OnOk result ((self.new ≡ self.old) × (page < self.old.head.pages) × IsSlotted into.new.bytes
+            × SeesSo D.Disk self.old disk.old (λ pages. pages page ≡ Some into.new.bytes)) }
+        ensures refused { IfErr result (λ e. NotFound D.Disk (λ pages. page < self.old.head.pages → (slots : _) → HasSlots pages page slots → ⊥) named e self.old self.new disk.old disk.new) }
+    {
+        self.load_used(disk, page, named, into)?;
+        if !is_page(into) {
+            return Err(self.damaged(named));
+        }
+        Ok(())
     }
 
     // The slotted page with this number.
@@ -70,13 +116,8 @@ impl Records {
         ensures ok { IfOk result (λ slots. (self.new ≡ self.old) × (page < self.old.head.pages) × SeesSo D.Disk self.old disk.old (λ pages. HasSlots pages page slots)) }
         ensures refused { IfErr result (λ e. NotFound D.Disk (λ pages. page < self.old.head.pages → (slots : _) → HasSlots pages page slots → ⊥) named e self.old self.new disk.old disk.new) }
     {
-        if page >= self.head.pages {
-            return Err(self.damaged(named));
-        }
         let mut bytes = PageBytes { bytes: [0; 8192] };
-        if !self.load(disk, page, &mut bytes)? {
-            return Err(self.damaged(named));
-        }
+        self.load_used(disk, page, named, &mut bytes)?;
         let Some(slotted) = Page::from_bytes(&bytes) else {
             return Err(self.damaged(named));
         };

@@ -15,7 +15,7 @@ use crate::first::{first_header, put_first};
 use nx_holdings::{Header, Settings, read_header};
 use nx_host::Disk;
 use nx_lists::List;
-use nx_slots::PageBytes;
+use nx_slots::{PageBytes, record_in};
 use nx_wal::{Wal, WalError};
 use std::alloc::Global;
 
@@ -183,8 +183,9 @@ impl Records {
         if self.ended {
             return Err(StoreError::Ended);
         }
-        let page = self.slotted(disk, rid.page, rid.page)?;
-        let Some(bytes) = page.read(rid.slot) else {
+        let mut page = PageBytes { bytes: [0; 8192] };
+        self.load_used(disk, rid.page, rid.page, &mut page)?;
+        let Some(bytes) = record_in(&page, rid.slot) else {
             return Err(self.damaged(rid.page));
         };
         match List::from_slice(alloc, bytes) {
