@@ -1,7 +1,8 @@
 -- Heads, roots and proxies: how long they are, and that no two begin alike.
-use Rattle.std.proofs.Common.{◌≡◌, ℕ, ◌+◌, ◌-◌, ◌*◌, ◌<◌, ◌≤◌, true, List, [], ◌∷◌, ◌++◌, length, take, drop, get_or, refl, sym, ap, ◌∙◌, subst, arith, append_assoc}
-use Rattle.std.proofs.lemmas.List.{length-append, append-nil}
+use Rattle.std.proofs.Common.{◌≡◌, ℕ, ◌+◌, ◌-◌, ◌*◌, ◌<◌, ◌≤◌, Bool, true, false, ◌&&◌, List, [], ◌∷◌, ◌++◌, length, take, drop, get_or, refl, sym, ap, ◌∙◌, subst, arith, append_assoc}
+use Rattle.std.proofs.lemmas.List.{length-append, append-nil, nil_from_length}
 use Rattle.std.proofs.lemmas.Grind.{div_ceil_times}
+use Rattle.std.specs.Bool.{MatchBool}
 use Rattle.nx_tree.specs.declared.node.Node.{Node}
 use Rattle.nx_weights.specs.Weight.{weight}
 use Rattle.nx_piece.specs.declared.reading.Left.{Left}
@@ -13,7 +14,7 @@ use Rattle.nx_piece.specs.Gapped.{Gapped, GappedTree, End, Grow, Gap, item_count
 use Rattle.nx_piece.specs.Items.{with_last_tree}
 use Rattle.nx_piece.specs.Encoding.{four, node_bytes, items_bytes, proxy_bytes, proxies_bytes, items_head_bytes, head_bytes, body_bytes}
 use Rattle.nx_piece.specs.Valid.{AreTrees, BeginsNoGap, IsValidBody, IsValidInline, IsValidChained, HaveRoots, HaveNumbers, longest_inline}
-use Rattle.nx_piece.specs.Reading.{alone, HasTaken, Begins, BeginsNoTree, BeginsNoTrees, BeginsNoProxy, BeginsNoBody, BeginsNoHead, BeginsNoProxiesHead, IsReadBody, IsLeft}
+use Rattle.nx_piece.specs.Reading.{alone, HasTaken, Begins, BeginsNoTree, BeginsNoTrees, BeginsNoBody, BeginsNoHead, BeginsNoProxiesHead, IsReadBody, IsLeft}
 use Rattle.nx_piece.proofs.WalkLemmas.{item_count_most}
 use Rattle.nx_piece.proofs.ApartLemmas.{two_unique, four_unique, row, width_row, IsStorable, one_row, content_length}
 use Rattle.nx_piece.proofs.ReadLemmas.{with_last_tree-row, read_more, read_none, remains, nothing_begins}
@@ -101,12 +102,15 @@ no_roots {bytes} {rest} {before} {left} {f} {i} {count} h l within none g behind
     let wide : 0 < width r.last = let x = ap width r.is ∙ width_row f r.last in omega arith in
     nothing_begins {after_run = true} r.begins wide none (λ c y e x. absurd (cc)) (λ e. trees_first r.last (row_trees f r.last (subst AreTrees r.is trees)))
 
--- of the proxies so many are read
-pub record ProxiesRead (bytes : List ℕ) (read : List Proxy) (rest : List ℕ) (i : ℕ) : Type 0 where
-  pub same : bytes ≡ proxies_bytes read ++ rest
-  pub ranged : HaveRoots read
-  pub numbers : HaveNumbers read
-  pub counted : length read ≡ i
+-- the first proxies are read, and whether each of them has 1 to 256 roots is known
+pub record ProxiesSeen (bytes : List ℕ) (seen : List Proxy) (rest : List ℕ) (fit : Bool) : Type 0 where
+  pub same : bytes ≡ proxies_bytes seen ++ rest
+  pub numbers : HaveNumbers seen
+  pub ranged : fit ≡ true → HaveRoots seen
+  pub none : fit ≡ false → (ps : List Proxy) → HaveRoots ps → bytes ≡ proxies_bytes ps → ⊥
+
+pub no_proxy_seen : (bytes : List ℕ) → ProxiesSeen bytes [] bytes true
+no_proxy_seen bytes = record { same = refl; numbers = tt; ranged = λ _. tt; none = λ e. absurd (cc) }
 
 proxies_append : (ps qs : List Proxy) → proxies_bytes (ps ++ qs) ≡ proxies_bytes ps ++ proxies_bytes qs
 proxies_append [] qs = refl
@@ -120,16 +124,6 @@ numbers_append : (ps : List Proxy) (p : Proxy) → HaveNumbers ps → (p.page < 
 numbers_append [] p h k = (k.0, k.1, tt)
 numbers_append (q ∷ ps) p h k = (h.0, h.1, numbers_append ps p h.2 k)
 
-pub proxy_read : {bytes rest behind : List ℕ} {ps qs : List Proxy} {p : Proxy} {i : ℕ} → ProxiesRead bytes ps rest i → (rest ≡ proxy_bytes p ++ behind) × (1 ≤ p.roots) × (p.roots ≤ 256) × (p.page < 4294967296) × (p.slot < 65536) → qs ≡ ps ++ p ∷ [] → ProxiesRead bytes qs behind (i + 1)
-proxy_read {bytes} {rest} {behind} {ps} {qs} {p} {i} h k e =
-    subst (λ (x : List Proxy). ProxiesRead bytes x behind (i + 1)) (sym e)
-    (record {
-      same = h.same ∙ ap (λ (r : List ℕ). proxies_bytes ps ++ r) k.0 ∙ sym (ap (λ (r : List ℕ). r ++ behind) (proxies_append ps (p ∷ [])) ∙ append_assoc (proxies_bytes ps) (proxy_bytes p) behind);
-      ranged = ranged_append ps p h.ranged (k.1, k.2);
-      numbers = numbers_append ps p h.numbers (k.3, k.4);
-      counted = let n = h.counted in omega (arith, length-append ps (p ∷ []));
-    })
-
 -- behind some proxies stand the others
 proxies_left : (read all : List Proxy) (rest : List ℕ) → proxies_bytes read ++ rest ≡ proxies_bytes all → length read ≤ length all → HaveRoots all → (last : List Proxy) × (rest ≡ proxies_bytes last) × (length read + length last ≡ length all) × HaveRoots last
 proxies_left [] all rest e w h = (all, e, omega arith, h)
@@ -139,22 +133,52 @@ proxies_left (p ∷ read) (q ∷ all) rest e w h =
     let n : length read + length r.0 ≡ length all = r.2 in
     (r.0, r.1, omega arith, r.3)
 
-pub no_proxies : {bytes rest : List ℕ} {read : List Proxy} {i count : ℕ} → ProxiesRead bytes read rest i → i < count → BeginsNoProxy rest → (ps : List Proxy) → length ps ≡ count → HaveRoots ps → bytes ≡ proxies_bytes ps → ⊥
-no_proxies {bytes} {rest} {read} {i} {count} h within none ps n ranged e =
-    let c = h.counted in
-    let r = proxies_left read ps rest (sym h.same ∙ e) (omega arith) ranged in
+-- a proxy without 1 to 256 roots stands behind the first ones
+unfit : {bytes rest behind : List ℕ} (read : List Proxy) (p : Proxy) → bytes ≡ proxies_bytes read ++ rest → rest ≡ proxy_bytes p ++ behind → p.roots < 65536 → ((1 ≤ p.roots) × (p.roots ≤ 256) → ⊥)
+    → (ps : List Proxy) → HaveRoots ps → bytes ≡ proxies_bytes ps → ⊥
+unfit {bytes} {rest} {behind} read p same is fits bad ps ranged e =
+    let l = ap length (sym same ∙ e) in let m = ap length is in
+    let few : length read < length ps = omega (arith, length-append (proxies_bytes read) rest, proxies_length read, proxies_length ps) in
+    let r = proxies_left read ps rest (sym same ∙ e) (omega arith) ranged in
     let sum : length read + length r.0 ≡ length ps = r.2 in
-    go r.0 (omega arith) r.1 r.3
+    go r.0 (omega arith) (sym is ∙ r.1) r.3
   where
-    go : (last : List Proxy) → 0 < length last → rest ≡ proxies_bytes last → HaveRoots last → ⊥
+    go : (last : List Proxy) → 0 < length last → proxy_bytes p ++ behind ≡ proxies_bytes last → HaveRoots last → ⊥
     go [] w is h = omega arith
-    go (p ∷ last) w is h = none p (proxies_bytes last) (h.0, h.1) is
+    go (q ∷ last) w is h =
+        let one = h.0 in let most = h.1 in
+        let q_is : p.roots ≡ q.roots = two_unique p.roots q.roots fits (omega arith) (ap (λ (l : List ℕ). take 2 (drop 6 l)) is) in
+        bad (omega arith, omega arith)
 
-pub more_bytes : {bytes rest : List ℕ} {read : List Proxy} {i count : ℕ} → ProxiesRead bytes read rest i → count ≤ i → 0 < length rest → (ps : List Proxy) → length ps ≡ count → bytes ≡ proxies_bytes ps → ⊥
-more_bytes {bytes} {rest} {read} {i} {count} h within some ps n e =
-    let c = h.counted in
-    let l = ap length (sym h.same ∙ e) in
-    omega (arith, length-append (proxies_bytes read) rest, proxies_length read, proxies_length ps)
+pub proxy_seen : {bytes rest behind : List ℕ} {ps qs : List Proxy} {p : Proxy} {fit : Bool} (has : Bool) → ProxiesSeen bytes ps rest fit → (rest ≡ proxy_bytes p ++ behind) × (p.page < 4294967296) × (p.slot < 65536) × (p.roots < 65536)
+    → MatchBool has ((1 ≤ p.roots) × (p.roots ≤ 256)) ((1 ≤ p.roots) × (p.roots ≤ 256) → ⊥) → qs ≡ ps ++ p ∷ [] → ProxiesSeen bytes qs behind (fit && has)
+proxy_seen {bytes} {rest} {behind} {ps} {qs} {p} {fit} has h k test e =
+    subst (λ (x : List Proxy). ProxiesSeen bytes x behind (fit && has)) (sym e)
+    (record {
+      same = h.same ∙ ap (λ (r : List ℕ). proxies_bytes ps ++ r) k.0 ∙ sym (ap (λ (r : List ℕ). r ++ behind) (proxies_append ps (p ∷ [])) ∙ append_assoc (proxies_bytes ps) (proxy_bytes p) behind);
+      numbers = numbers_append ps p h.numbers (k.1, k.2);
+      ranged = fits fit has h.ranged test;
+      none = fails fit has h.none test;
+    })
+  where
+    fits : (fit has : Bool) → (fit ≡ true → HaveRoots ps) → MatchBool has ((1 ≤ p.roots) × (p.roots ≤ 256)) ((1 ≤ p.roots) × (p.roots ≤ 256) → ⊥) → fit && has ≡ true → HaveRoots (ps ++ p ∷ [])
+    fits true true g t e = ranged_append ps p (g refl) t
+    fits true false g t e = absurd (cc)
+    fits false has g t e = absurd (cc)
+
+    fails : (fit has : Bool) → (fit ≡ false → (ps : List Proxy) → HaveRoots ps → bytes ≡ proxies_bytes ps → ⊥) → MatchBool has ((1 ≤ p.roots) × (p.roots ≤ 256)) ((1 ≤ p.roots) × (p.roots ≤ 256) → ⊥) → fit && has ≡ false
+        → (ps : List Proxy) → HaveRoots ps → bytes ≡ proxies_bytes ps → ⊥
+    fails true true g t e = absurd (cc)
+    fails true false g t e = unfit ps p h.same k.0 k.3 t
+    fails false has g t e = g refl
+
+-- so many proxies are read and nothing is left
+pub proxies_seen : {bytes rest : List ℕ} {seen : List Proxy} {fit : Bool} {count : ℕ} → ProxiesSeen bytes seen rest fit → fit ≡ true → length bytes ≡ 8 * count → length rest < 8
+    → (bytes ≡ proxies_bytes seen) × HaveRoots seen × (length seen ≡ count) × HaveNumbers seen
+proxies_seen {bytes} {rest} {seen} {fit} {count} h is l short =
+    let whole = ap length h.same in
+    let none : length rest ≡ 0 = omega (arith, length-append (proxies_bytes seen) rest, proxies_length seen) in
+    (h.same ∙ ap (λ (r : List ℕ). proxies_bytes seen ++ r) (nil_from_length rest none) ∙ append-nil (proxies_bytes seen), h.ranged is, omega (arith, length-append (proxies_bytes seen) rest, proxies_length seen), h.numbers)
 
 pub no_chain : {bytes behind : List ℕ} {form : ℕ} (roots items : ℕ) → bytes ≡ items_head_bytes form roots items ++ behind → BeginsNoProxiesHead behind → BeginsNoHead bytes
 no_chain roots items head none form' roots' items' proxies chain rest is = none proxies chain rest (ap (drop 8) (sym head ∙ is))

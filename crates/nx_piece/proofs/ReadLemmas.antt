@@ -1,5 +1,5 @@
 -- Items read one after another.
-use Rattle.std.proofs.Common.{◌≡◌, ℕ, ◌+◌, ◌<◌, ◌≤◌, Bool, true, false, List, ◌++◌, refl, sym, ap, ◌∙◌, subst, arith, append_assoc}
+use Rattle.std.proofs.Common.{◌≡◌, ℕ, ◌+◌, ◌*◌, ◌<◌, ◌≤◌, Bool, true, false, List, ◌++◌, refl, sym, ap, ◌∙◌, subst, arith, append_assoc}
 use Rattle.nx_tree.specs.declared.node.Node.{Node}
 use Rattle.nx_weights.specs.Weight.{weight}
 use Rattle.nx_piece.specs.declared.reading.Left.{Left}
@@ -183,6 +183,15 @@ tree_read {bytes} {rest} {behind} {before} {between} {after} {f} {g} {t} {i} {af
     subst (λ (x : Gapped). ItemsRead bytes before x behind after (i + 1) false) (sym is)
     (record { read = read_more h.read k (λ _. tt); counted = omega arith; run = ends_one f t.node t.below })
 
+-- a node alone is read, as a tree with nothing below it
+pub leaf_read : {bytes rest behind : List ℕ} {before between after : Left} {f g : Gapped} {n node : Node} {below : Gapped} {i : ℕ} {after_run : Bool} → ItemsRead bytes before f rest between i after_run → HasTaken rest between (Grow n End End) behind after → node ≡ n → below ≡ End
+    → g ≡ with_last f (Tree (record { node = node; below = below })) → ItemsRead bytes before g behind after (i + 1) false
+leaf_read {bytes} {rest} {behind} {before} {between} {after} {f} {g} {n} {node} {below} {i} {after_run} h k same none e =
+    tree_read {t = record { node = n; below = End }} h k
+    (e
+    ∙ ap (λ (m : Node). with_last f (Tree (record { node = m; below = below }))) same
+    ∙ ap (λ (b : Gapped). with_last f (Tree (record { node = n; below = b }))) none)
+
 pub run_read : {bytes rest behind : List ℕ} {before between after : Left} {f g : Gapped} {c i : ℕ} {after_run : Bool} → ItemsRead bytes before f rest between i after_run → (after_run ≡ false) × HasTaken rest between (Gap c End) behind after → g ≡ with_last f (Run c)
     → ItemsRead bytes before g behind after (i + 1) true
 run_read {bytes} {rest} {behind} {before} {between} {after} {f} {g} {c} {i} {after_run} h k e =
@@ -209,6 +218,9 @@ whole_tree {bytes} {behind} {rest} {before} {left} {after} {node} {count} {i} {f
       apart = (k.read.apart, tt);
     }
 
+pub lone_node : {bytes behind : List ℕ} {before left : Left} {node : Node} {count : ℕ} → HasTakenNode bytes before node count behind left → count ≡ 0 → HasTaken bytes before (Grow node End End) behind left
+lone_node {bytes} {behind} {before} {left} {node} {count} h none = whole_tree h (no_item_read behind left) (sym none)
+
 -- where an item of a tree doesn't begin there is no tree
 pub no_tree : {bytes behind rest : List ℕ} {before left between : Left} {node : Node} {count i : ℕ} {f : Gapped} {after_run : Bool} → HasTakenNode bytes before node count behind left → IsLeft before → count < 65536
     → ItemsRead behind left f rest between i after_run → i < count → BeginsNoTree rest between → BeginsNoRun rest between after_run → BeginsNoTree bytes before
@@ -231,6 +243,18 @@ no_tree {bytes} {behind} {rest} {before} {left} {between} {node} {count} {i} {f}
     }) left_is (omega arith) in
     let wide : 0 < width r.last = let x = ap width r.is ∙ width_row f r.last in omega arith in
     nothing_begins r.begins wide trees runs (λ e. r.next (k.run ∙ e))
+
+-- a node with more items than its weight leaves room for is the head of no tree
+pub too_many : {bytes behind : List ℕ} {before left : Left} {node : Node} {count : ℕ} → HasTakenNode bytes before node count behind left → IsLeft before → count < 65536 → 3 * left.room + 1 < count → BeginsNoTree bytes before
+too_many {bytes} {behind} {before} {left} {node} {count} h l fits many t last b =
+    let r = b.room in let q = l.room in let x = h.room in
+    let own : weight t.node ≤ 256 = omega arith in
+    let mine : weight node ≤ 256 = omega arith in
+    let s = item_count_most t.below b.apart.0 in let w = width_most t.below in
+    let told = node_unique mine own fits (omega arith) (sym h.same ∙ b.same ∙ sym (grow_bytes t.node t.below End last)) in
+    let same_count : count ≡ width t.below = told.1 in
+    let same_weight : weight node ≡ weight t.node = ap weight told.0 in
+    omega arith
 
 -- where no node begins there is no tree
 pub no_head : (bytes : List ℕ) (left : Left) → IsLeft left → ((node : Node) (items : ℕ) (behind : List ℕ) → weight node ≤ left.room → items < 65536 → bytes ≡ node_bytes node items ++ behind → ⊥) → BeginsNoTree bytes left

@@ -7,12 +7,16 @@ use Rattle.nx_piece.specs.declared.reading.Head.{Head}
 use Rattle.nx_piece.specs.declared.reading.Left.{Left}
 use Rattle.nx_piece.specs.declared.piece.Proxy.{Proxy}
 use Rattle.nx_piece.specs.Gapped.{Gapped, GappedTree, End, Grow, Gap, item_count, width, gapped_weight, proxies_in}
-use Rattle.nx_piece.specs.Encoding.{node_head_bytes, content_bytes, node_bytes, run_bytes, items_bytes, proxy_bytes, proxies_bytes, items_head_bytes, proxies_head_bytes, head_bytes, body_bytes}
+use Rattle.nx_piece.specs.Encoding.{node_head_bytes, content_bytes, node_bytes, run_bytes, items_bytes, proxies_bytes, items_head_bytes, proxies_head_bytes, head_bytes, body_bytes}
 use Rattle.nx_piece.specs.Valid.{AreApart, AreTrees, HaveRoots, IsValidBody, inline_length}
 
 -- one tree, with nothing beside it
 abbrev pub alone : GappedTree → Gapped
 alone t = Grow t.node t.below End
+
+-- a node of this kind, with this name and this content
+abbrev pub node_with : (kind : Kind) (name content : List ℕ) → Node
+node_with kind name content = record { kind = kind; name = name; content = content }
 
 -- the bytes begin with the items of f, and what they take of weight, proxies and items is taken
 pub record HasTaken (bytes : List ℕ) (before : Left) (f : Gapped) (behind : List ℕ) (after : Left) : Type 0 where
@@ -88,10 +92,6 @@ IsHeadRead bytes head rest =
 -- the bytes aren't so many proxies of 1 to 256 roots
 abbrev pub AreNoProxies : List ℕ → ℕ → Type 0
 AreNoProxies bytes count = (proxies : List Proxy) → length proxies ≡ count → HaveRoots proxies → bytes ≡ proxies_bytes proxies → ⊥
-
--- the bytes begin with no proxy of 1 to 256 roots
-abbrev pub BeginsNoProxy : List ℕ → Type 0
-BeginsNoProxy rest = (p : Proxy) (behind : List ℕ) → (1 ≤ p.roots) × (p.roots ≤ 256) → rest ≡ proxy_bytes p ++ behind → ⊥
 
 -- the bytes begin with no head and items of a valid piece
 abbrev pub BeginsNoBody : List ℕ → Type 0

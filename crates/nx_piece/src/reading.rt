@@ -6,15 +6,14 @@ ghost use Rattle.nx_tree.specs.declared.node.Node.{Node};
 ghost use Rattle.nx_tree.specs.declared.node.Kind.{Kind};
 ghost use Rattle.nx_weights.specs.Weight.{weight};
 ghost use Rattle.nx_piece.specs.Encoding.{kind_byte, node_head_bytes, node_bytes, content_bytes, run_bytes, items_head_bytes, proxies_head_bytes, head_bytes, proxy_bytes, proxies_bytes};
-ghost use Rattle.nx_piece.specs.Gapped.{Gapped, End, Gap, width};
+ghost use Rattle.nx_piece.specs.Gapped.{Gapped, End, Grow, Gap, width};
 ghost use Rattle.nx_piece.specs.declared.piece.Proxy.{Proxy};
 ghost use Rattle.nx_piece.specs.Valid.{AreTrees, HaveRoots, HaveNumbers};
 ghost use Rattle.nx_piece.specs.Decoded.{IsDecoded};
-ghost use Rattle.nx_piece.specs.Reading.{alone, HasTaken, AreNoProxies, BeginsNoTree, BeginsNoRun, BeginsNoTrees, BeginsNoProxy, BeginsNoBody, BeginsNoNode, BeginsNoNodeHead, BeginsNoContent, BeginsNoRunItem, BeginsNoHead, BeginsNoItemsHead, BeginsNoProxiesHead, IsHeadRead, IsReadBody, HasTakenNode, IsLeft};
+ghost use Rattle.nx_piece.specs.Reading.{alone, node_with, HasTaken, AreNoProxies, BeginsNoTree, BeginsNoRun, BeginsNoTrees, BeginsNoBody, BeginsNoNode, BeginsNoNodeHead, BeginsNoContent, BeginsNoRunItem, BeginsNoHead, BeginsNoItemsHead, BeginsNoProxiesHead, IsHeadRead, IsReadBody, HasTakenNode, IsLeft};
 
 use crate::{Body, Item, Items, Piece, PieceTree, PieceTrees, Proxies, Proxy, Stored};
 use nx_tree::{Bytes, Kind, NoMemory, Node};
-use nx_weights::weight;
 use std::alloc::Global;
 
 // The most bytes of a record with its proxies.
@@ -65,19 +64,22 @@ pub fn decode(alloc: Global, bytes: &[u8]) -> Result<Option<Stored>, NoMemory>
 pub fn decode_proxies(alloc: Global, bytes: &[u8], count: u32) -> Result<Option<Proxies>, NoMemory>
     ensures { IfOk result (λ read. MatchOption read (AreNoProxies bytes.now count) (λ proxies. (bytes.now ≡ proxies_bytes proxies) × HaveRoots proxies × (length proxies ≡ count) × HaveNumbers proxies)) }
 {
-    let mut proxies = Proxies::with_capacity(alloc, count as usize)?;
-    let mut rest = bytes;
-    for _ in 0..count {
-        let Some((proxy, behind)) = read_proxy(rest) else {
-            return Ok(None);
-        };
-        proxies.push(proxy)?;
-        rest = behind;
-    }
-    if !rest.is_empty() {
+    let room = count as usize;
+    if bytes.len() != 8 * room {
         return Ok(None);
     }
-    Ok(Some(proxies))
+    let mut proxies = Vec::with_capacity(alloc, room)?;
+    let mut rest = bytes;
+    let mut fit = true;
+    while let Some((proxy, behind)) = read_proxy(rest) {
+        fit &= has_roots(proxy);
+        proxies.push_reserved(proxy);
+        rest = behind;
+    }
+    if !fit {
+        return Ok(None);
+    }
+    Ok(Some(Proxies::from_vec(proxies)))
 }
 
 // The head, the nodes, what stands behind them, and how many bytes the inline form takes.
@@ -149,53 +151,114 @@ fn read_tree(
     requires { IsLeft left }
     ensures { IfOk result (λ read. MatchOption read (BeginsNoTree bytes.now left) (λ found. HasTaken bytes.now left (alone found.0) found.1.now found.2)) }
 {
-    let Some((node, count, behind, between)) = take_node(alloc, bytes, left)? else {
+    let Some((seen, count, behind, between)) = take_node(bytes, left) else {
         return Ok(None);
     };
+    if u32::from(count) > 3 * between.room + 1 {
+        return Ok(None);
+    }
+    let node = seen.copied(alloc)?;
     let mut rest = behind;
     let mut left = between;
-    let mut children = Items::new(alloc);
+    let mut children = Vec::with_capacity(alloc, usize::from(count))?;
     let mut after_run = false;
     for _ in 0..count {
         if let Some((run, behind, after)) = take_run(rest, left, after_run) {
-            children.push(Item::Run { count: run })?;
+            children.push_reserved(Item::Run { count: run });
             rest = behind;
             left = after;
             after_run = true;
+        } else if let Some((seen, behind, after)) = take_leaf(rest, left) {
+            children.push_reserved(Item::Tree(PieceTree {
+                node: seen.copied(alloc)?,
+                children: Items::new(alloc),
+            }));
+            rest = behind;
+            left = after;
+            after_run = false;
         } else {
             let Some((tree, behind, after)) = read_tree(alloc, rest, left)? else {
                 return Ok(None);
             };
-            children.push(Item::Tree(tree))?;
+            children.push_reserved(Item::Tree(tree));
             rest = behind;
             left = after;
             after_run = false;
         }
     }
+    let children = Items::from_vec(children);
     Ok(Some((PieceTree { node, children }, rest, left)))
 }
 
+// A node whose name and content lie in the bytes of the record.
+#[derive(Clone, Copy)]
+struct Seen<'a> {
+    kind: Kind,
+    name: &'a [u8],
+    content: &'a [u8],
+}
+
+impl Seen<'_> {
+    fn weight(self) -> u32
+        requires { weight (node_with self.kind self.name.now self.content.now) ≤ 256 }
+        ensures { result ≡ weight (node_with self.entry.kind self.entry.name.now self.entry.content.now) }
+    {
+        1 + (self.name.len() + self.content.len()).div_ceil(8) as u32
+    }
+
+    fn copied(self, alloc: Global) -> Result<Node, NoMemory>
+        ensures { IfOk result (λ node. node ≡ node_with self.entry.kind self.entry.name.now self.entry.content.now) }
+    {
+        Ok(Node {
+            kind: self.kind,
+            name: copied(alloc, self.name)?,
+            content: copied(alloc, self.content)?,
+        })
+    }
+}
+
+// A copy of the bytes. Of none it takes no memory.
+fn copied(alloc: Global, bytes: &[u8]) -> Result<Bytes, NoMemory>
+    ensures { IfOk result (λ copy. copy ≡ bytes.now) }
+{
+    if bytes.is_empty() {
+        return Ok(Bytes::new(alloc));
+    }
+    Bytes::from_slice(alloc, bytes)
+}
+
 // The head of a tree that may come here, with its number of child items, and what stands behind it.
-fn take_node(
-    alloc: Global,
-    bytes: &[u8],
-    left: Left,
-) -> Result<Option<(Node, u16, &[u8], Left)>, NoMemory>
+fn take_node(bytes: &[u8], left: Left) -> Option<(Seen<'_>, u16, &[u8], Left)>
     requires { IsLeft left }
-    ensures { IfOk result (λ read. MatchOption read (BeginsNoTree bytes.now left) (λ found. HasTakenNode bytes.now left found.0 found.1 found.2.now found.3 × (found.1 < 65536))) }
+    ensures { MatchOption result (BeginsNoTree bytes.now left) (λ found. HasTakenNode bytes.now left (node_with found.0.kind found.0.name.now found.0.content.now) found.1 found.2.now found.3 × (found.1 < 65536)) }
 {
     if left.items == 0 {
-        return Ok(None);
+        return None;
     }
-    let Some((node, count, behind)) = read_node(alloc, bytes, left.room)? else {
-        return Ok(None);
+    let Some((seen, count, behind)) = read_node(bytes, left.room) else {
+        return None;
     };
     let left = Left {
-        room: left.room - weight(&node),
+        room: left.room - seen.weight(),
         proxies: left.proxies,
         items: left.items - 1,
     };
-    Ok(Some((node, count, behind, left)))
+    Some((seen, count, behind, left))
+}
+
+// A tree of one node that may come here, and what stands behind it.
+fn take_leaf(bytes: &[u8], left: Left) -> Option<(Seen<'_>, &[u8], Left)>
+    requires { IsLeft left }
+    ensures { IfSome result (λ found. HasTaken bytes.now left (Grow (node_with found.0.kind found.0.name.now found.0.content.now) End End) found.1.now found.2) }
+{
+    let [_, _, _, _, _, _, 0, 0, ..] = bytes else {
+        return None;
+    };
+    let (seen, count, behind, left) = take_node(bytes, left)?;
+    if count != 0 {
+        return None;
+    }
+    Some((seen, behind, left))
 }
 
 // What the rest of a piece may have: weight, proxies and items.
@@ -226,21 +289,21 @@ fn take_run(bytes: &[u8], left: Left, after_run: bool) -> Option<(u32, &[u8], Le
 }
 
 // A node with its number of child items, and what stands behind it.
-fn read_node(alloc: Global, bytes: &[u8], room: u32) -> Result<Option<(Node, u16, &[u8])>, NoMemory>
+fn read_node(bytes: &[u8], room: u32) -> Option<(Seen<'_>, u16, &[u8])>
     requires { room ≤ 256 }
-    ensures { IfOk result (λ read. MatchOption read (BeginsNoNode bytes.now room) (λ found. (bytes.now ≡ node_bytes found.0 found.1 ++ found.2.now) × (weight found.0 ≤ room) × (found.1 < 65536))) }
+    ensures { MatchOption result (BeginsNoNode bytes.now room) (λ found. (bytes.now ≡ node_bytes (node_with found.0.kind found.0.name.now found.0.content.now) found.1 ++ found.2.now) × (weight (node_with found.0.kind found.0.name.now found.0.content.now) ≤ room) × (found.1 < 65536)) }
 {
     let Some((kind, name, content, items, behind)) = read_node_head(bytes) else {
-        return Ok(None);
+        return None;
     };
     let slots = (usize::from(name) + usize::from(content)).div_ceil(8);
     if slots as u32 >= room {
-        return Ok(None);
+        return None;
     }
-    let Some((node, rest)) = read_content(alloc, behind, kind, name, content)? else {
-        return Ok(None);
+    let Some((seen, rest)) = read_content(behind, kind, name, content) else {
+        return None;
     };
-    Ok(Some((node, items, rest)))
+    Some((seen, items, rest))
 }
 
 fn read_node_head(bytes: &[u8]) -> Option<(Kind, u16, u16, u16, &[u8])>
@@ -272,30 +335,24 @@ fn kind_from(byte: u8) -> Option<Kind>
 }
 
 // The name, the content and the zero bytes behind them.
-fn read_content(
-    alloc: Global,
-    bytes: &[u8],
-    kind: Kind,
-    name: u16,
-    content: u16,
-) -> Result<Option<(Node, &[u8])>, NoMemory>
-    ensures { IfOk result (λ read. MatchOption read (BeginsNoContent bytes.now name content) (λ found. (bytes.now ≡ content_bytes found.0 ++ found.1.now) × (found.0.kind ≡ kind) × (length found.0.name ≡ name) × (length found.0.content ≡ content))) }
+fn read_content(bytes: &[u8], kind: Kind, name: u16, content: u16) -> Option<(Seen<'_>, &[u8])>
+    ensures { MatchOption result (BeginsNoContent bytes.now name content) (λ found. (bytes.now ≡ content_bytes (node_with found.0.kind found.0.name.now found.0.content.now) ++ found.1.now) × (found.0.kind ≡ kind) × (length found.0.name.now ≡ name) × (length found.0.content.now ≡ content)) }
 {
     let name = usize::from(name);
     let end = name + usize::from(content);
     let size = 8 * end.div_ceil(8);
     if bytes.len() < size {
-        return Ok(None);
+        return None;
     }
     if !is_zero(&bytes[end..size]) {
-        return Ok(None);
+        return None;
     }
-    let node = Node {
+    let seen = Seen {
         kind,
-        name: Bytes::from_slice(alloc, &bytes[..name])?,
-        content: Bytes::from_slice(alloc, &bytes[name..end])?,
+        name: &bytes[..name],
+        content: &bytes[name..end],
     };
-    Ok(Some((node, &bytes[size..])))
+    Some((seen, &bytes[size..]))
 }
 
 fn is_zero(bytes: &[u8]) -> bool
@@ -377,9 +434,9 @@ fn read_chain(bytes: &[u8]) -> Option<(u32, u32, &[u8])>
     Some((proxies, chain, rest))
 }
 
-// A proxy of 1 to 256 roots, and what stands behind it.
+// A proxy with any number of roots, and what stands behind it.
 fn read_proxy(bytes: &[u8]) -> Option<(Proxy, &[u8])>
-    ensures { MatchOption result (BeginsNoProxy bytes.now) (λ read. (bytes.now ≡ proxy_bytes read.0 ++ read.1.now) × (1 ≤ read.0.roots) × (read.0.roots ≤ 256) × (read.0.page < 4294967296) × (read.0.slot < 65536)) }
+    ensures { MatchOption result (length bytes.now < 8) (λ read. (bytes.now ≡ proxy_bytes read.0 ++ read.1.now) × (read.0.page < 4294967296) × (read.0.slot < 65536) × (read.0.roots < 65536)) }
 {
     let [p3, p2, p1, p0, s1, s0, r1, r0, rest @ ..] = bytes else {
         return None;
@@ -389,8 +446,12 @@ fn read_proxy(bytes: &[u8]) -> Option<(Proxy, &[u8])>
         slot: u16::from_be_bytes([*s1, *s0]),
         roots: u16::from_be_bytes([*r1, *r0]),
     };
-    if proxy.roots == 0 || proxy.roots > 256 {
-        return None;
-    }
     Some((proxy, rest))
+}
+
+// Whether the proxy has 1 to 256 roots.
+fn has_roots(proxy: Proxy) -> bool
+    ensures { MatchBool result ((1 ≤ proxy.roots) × (proxy.roots ≤ 256)) ((1 ≤ proxy.roots) × (proxy.roots ≤ 256) → ⊥) }
+{
+    proxy.roots != 0 && proxy.roots <= 256
 }

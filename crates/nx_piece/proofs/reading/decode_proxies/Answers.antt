@@ -1,17 +1,17 @@
-use Rattle.std.proofs.Common.{arith, ◌<◌, length}
-use Rattle.std.proofs.lemmas.Bool.Decides.{nat_tests}
-use Rattle.nx_piece.proofs.BodyLemmas.{proxy_read, no_proxies, more_bytes}
+use Rattle.std.proofs.Common.{arith, ap, length}
+use Rattle.nx_piece.proofs.BodyLemmas.{proxies_length, proxy_seen}
 use Rattle.nx_piece.proofs.reading.decode_proxies.Goals as goal
 
-pub returns-in_default : goal.returns-in_default
-returns-in_default c =
-    no_proxies c.loop.invariant c.loop-test.true c.in_default.ensures
+pub returns-then-bytes-room : goal.returns-then-bytes-room
+returns-then-bytes-room c ps n ranged is =
+    let l = ap length is in omega (arith, proxies_length ps)
 
-pub loop-preserved : goal.loop-preserved
-loop-preserved c =
-    proxy_read c.loop.invariant c.in-Some.ensures c.in_ok-push.ensures.ok
-
-pub returns-then-not-is_empty : goal.returns-then-not-is_empty
-returns-then-not-is_empty c ps n ranged is =
-    let some : 0 < length c.loop.rest.now = grind (arith, nat_tests, c.if-not-is_empty.ensures) in
-    more_bytes c.loop.invariant c.loop-test.false some ps n is
+pub loop-proxy-preserved : goal.loop-proxy-preserved
+loop-proxy-preserved c =
+    let step = c.in-Some.ensures in
+    let taken = ap length step.0 in
+    record {
+      seen = proxy_seen c.has_roots-fit.result c.loop-proxy.invariant.seen step c.has_roots-fit.ensures c.push_reserved.ensures.items;
+      room = grind arith;
+      left = let before = c.loop-proxy.invariant.left in let more = c.push_reserved.ensures.len in omega arith;
+    }
