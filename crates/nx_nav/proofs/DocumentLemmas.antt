@@ -1,6 +1,9 @@
 -- A document as the interval of its root, which a walk tells of.
-use Rattle.std.proofs.Common.{◌≡◌, ℕ, ◌+◌, ◌≤◌, List, [], refl, sym, ap, ◌∙◌, arith}
+use Rattle.std.proofs.Common.{◌≡◌, ℕ, ◌+◌, ◌≤◌, List, [], Option, refl, sym, ap, ◌∙◌, subst, arith}
 use Rattle.std.proofs.lemmas.List.{append-nil}
+use Rattle.std.specs.Prelude.{IsSome}
+use Rattle.nx_host.specs.Disk.{Image}
+use Rattle.nx_host.specs.Still.{IsStill}
 use Rattle.nx_host.specs.declared.disk.Disk.{Ghosts}
 use Rattle.nx_records.specs.declared.records.Records.{Records}
 use Rattle.nx_tree.specs.Forest.{nodes}
@@ -41,49 +44,59 @@ module _ {D : Type 0} {d : Ghosts D} {r0 : Records} {x : D} {root : RecordPlace}
   as_interval : {document : CutTree} (h : HasDocument d r0 x root document) → IsIntervalAt d r0 x root 1 (Kept root (Grown document.node h.laid.layout Bare) Bare)
   as_interval {document} h = (Grown document.node h.laid.layout Bare, refl, refl, document_held h)
 
-  pub none_such : (left : ℕ) → IsNone (IsIntervalAt d r0 x root 1) 257 left → HoldsNoneWith d r0 x root left
-  none_such left none document h count =
+  -- its contents are told, also later while it is asked alone
+  pub document_seen : {y : D} {document : CutTree} → IsStill d x y → HasDocument d r0 x root document → IsSome (d.contents y)
+  document_seen still h = subst (λ (o : Option Image). IsSome o) (sym (still.contents_stay ∙ (((h.stands).keeps).step).settled.here)) refl
+
+  pub none_such : (y : D) (left : ℕ) → IsNone d y (IsIntervalAt d r0 x root 1) 257 left → IsSome (d.contents y) → HoldsNoneWith d r0 x root left
+  none_such y left none seen document h count =
       let size = ap nodes (document_forest h) in
       let high = ap depth (document_forest h) in
       let shallow : depth (tree_of document).below ≤ 256 = h.laid.laid.is_document.shallow in
-      none (Kept root (Grown document.node h.laid.layout Bare) Bare) (as_interval h) (omega arith) (omega arith)
+      none seen (Kept root (Grown document.node h.laid.layout Bare) Bare) (as_interval h) (omega arith) (omega arith)
 
 module _ {D : Type 0} (d : Ghosts D) (Unwritten : Type 0) (r0 r1 : Records) (x y : D) (root : RecordPlace) where
-  pub document_refused : (left : ℕ) (e : NavError) → IsRefused d ⊥ Unwritten (IsNone (IsIntervalAt d r0 x root 1) 257 left) e r0 r1 x y → IsRefused d ⊥ Unwritten (HoldsNoneWith d r0 x root left) e r0 r1 x y
+  pub document_refused : (left : ℕ) (e : NavError) → IsRefused d ⊥ Unwritten (IsNone d y (IsIntervalAt d r0 x root 1) 257 left) e r0 r1 x y → IsRefused d ⊥ Unwritten (IsSome (d.contents y) → HoldsNoneWith d r0 x root left) e r0 r1 x y
   document_refused left e refused =
-      refused_later d ⊥ Unwritten (HoldsNoneWith d r0 x root left) r0 r0 r1 x x y refl (omega arith) (λ bad. bad) (λ u. u) (none_such left) e refused
+      refused_later d ⊥ Unwritten (IsSome (d.contents y) → HoldsNoneWith d r0 x root left) r0 r0 r1 x x y refl (omega arith) (λ bad. bad) (λ u. u) (none_such y left) e refused
+
+-- a call that asked the disk alone gave up for what it says
+pub asked_refused : {D : Type 0} (d : Ghosts D) (r0 r1 : Records) (x y : D) (root : RecordPlace) (left : ℕ) (e : NavError) → IsStill d x y
+    → IsRefused d ⊥ ⊥ (IsSome (d.contents y) → HoldsNoneWith d r0 x root left) e r0 r1 x y → IsRefused d ⊥ ⊥ (HoldsNoneWith d r0 x root left) e r0 r1 x y
+asked_refused d r0 r1 x y root left e still refused =
+    refused_later d ⊥ ⊥ (HoldsNoneWith d r0 x root left) r0 r0 r1 x x y refl (omega arith) (λ bad. bad) (λ bad. bad) (λ none document h. none (document_seen still h) document h) e refused
 
 module _ {A D : Type 0} {d : Ghosts D} {Told : A → D → List Step → A → D → Type 0} {r0 : Records} {x : D} {root : RecordPlace} {a : A} where
-  pub document_told : (left rest : ℕ) (b : A) (y : D) → HasTold Told (IsIntervalAt d r0 x root 1) a x left b y rest → TellsDocument d Told r0 x root left a b y
+  pub document_told : (left rest : ℕ) (b : A) (y : D) → HasTold d Told (IsIntervalAt d r0 x root 1) a x left b y rest → TellsDocument d Told r0 x root a b y
   document_told left rest b y has = record {
     told = has.told;
     goes = has.goes;
-    all = λ document h count. (has.all (Kept root (Grown document.node h.laid.layout Bare) Bare) (as_interval h)).0 ∙ document_steps root h.laid.layout document h.laid.laid.same;
+    all = λ seen document h. (has.all seen (Kept root (Grown document.node h.laid.layout Bare) Bare) (as_interval h)).0 ∙ document_steps root h.laid.layout document h.laid.laid.same;
   }
 
-  pub document_stops : (y : D) → HasStopped Told (IsIntervalAt d r0 x root 1) a x y → StopsWithin d Told r0 x root a y
+  pub document_stops : (y : D) → HasStopped d Told (IsIntervalAt d r0 x root 1) a x y → StopsWithin d Told r0 x root a y
   document_stops y has = record {
     told = has.told;
     last = has.last;
     goes = has.goes;
-    first = λ document h.
-        let first = has.first (Kept root (Grown document.node h.laid.layout Bare) Bare) (as_interval h) in
+    first = λ seen document h.
+        let first = has.first seen (Kept root (Grown document.node h.laid.layout Bare) Bare) (as_interval h) in
         (first.0, sym (document_steps root h.laid.layout document h.laid.laid.same) ∙ first.1);
   }
 
   -- it told all, and more was to come
-  pub document_all_told : (left rest : ℕ) (b : A) (y : D) → HasTold Told (IsIntervalAt d r0 x root 1) a x left b y rest → StopsWithin d Told r0 x root a y
+  pub document_all_told : (left rest : ℕ) (b : A) (y : D) → HasTold d Told (IsIntervalAt d r0 x root 1) a x left b y rest → StopsWithin d Told r0 x root a y
   document_all_told left rest b y has = record {
     told = has.told;
     last = b;
     goes = has.goes;
-    first = λ document h.
-        ([], sym ((has.all (Kept root (Grown document.node h.laid.layout Bare) Bare) (as_interval h)).0 ∙ document_steps root h.laid.layout document h.laid.laid.same) ∙ sym (append-nil has.told));
+    first = λ seen document h.
+        ([], sym ((has.all seen (Kept root (Grown document.node h.laid.layout Bare) Bare) (as_interval h)).0 ∙ document_steps root h.laid.layout document h.laid.laid.same) ∙ sym (append-nil has.told));
   }
 
-  pub none_so_large : (left rest : ℕ) (b : A) (y : D) → HasTold Told (IsIntervalAt d r0 x root 1) a x left b y rest → (rest ≡ 0 → ⊥) → HoldsNoneWith d r0 x root left
-  none_so_large left rest b y has some document h count =
-      let all = has.all (Kept root (Grown document.node h.laid.layout Bare) Bare) (as_interval h) in
+  pub none_so_large : (left rest : ℕ) (b : A) (y : D) → HasTold d Told (IsIntervalAt d r0 x root 1) a x left b y rest → (rest ≡ 0 → ⊥) → IsSome (d.contents y) → HoldsNoneWith d r0 x root left
+  none_so_large left rest b y has some seen document h count =
+      let all = has.all seen (Kept root (Grown document.node h.laid.layout Bare) Bare) (as_interval h) in
       let taken : left ≡ rest + (1 + nodes (forest h.laid.layout) + 0) = all.1 in
       let size = ap nodes (document_forest h) in
       some (omega arith)

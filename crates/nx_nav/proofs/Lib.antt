@@ -8,3 +8,4 @@ pub mod TellLemmas
 pub mod DocumentLemmas
 pub mod TextLemmas
 pub mod LaidLemmas
+pub mod GivenLemmas

@@ -1,8 +1,11 @@
 -- What a call knows that has read one record: its piece is that of the interval, or there is no such interval.
 use Rattle.std.proofs.Common.{◌≡◌, ℕ, Option, refl, sym, ap, ◌∙◌, subst, arith}
+use Rattle.std.specs.Prelude.{IsSome}
 use Rattle.std.specs.Option.{MatchOption}
+use Rattle.nx_host.specs.Disk.{Image, Keeps}
 use Rattle.nx_host.specs.declared.disk.Disk.{Ghosts}
 use Rattle.nx_host.specs.Still.{IsStill}
+use Rattle.nx_host.proofs.DiskLemmas.{settled_kept}
 use Rattle.nx_holdings.specs.Holdings.{Held}
 use Rattle.nx_records.specs.declared.records.Records.{Records}
 use Rattle.nx_records.specs.declared.error.StoreError.{StoreError}
@@ -106,7 +109,17 @@ document_held h = record {
 pub document_forest : {D : Type 0} {d : Ghosts D} {records : Records} {disk : D} {root : RecordPlace} {document : CutTree} (h : HasDocument d records disk root document) → forest h.laid.layout ≡ (tree_of document).below
 document_forest h = sym (forest-without_places h.laid.layout) ∙ ap (λ (c : CutForest). forest c) h.laid.laid.same
 
--- ... or while what records and disk stand for stays
+-- what records and disk stand for stays while the areas are left
+pub stands_kept : {D : Type 0} {d : Ghosts D} {r : Records} {x0 x1 : D} {saved now : Held} → Keeps (d.contents x0) (d.contents x1) → IsSome (d.contents x1) → ((i : Image) → d.may_leave x1 i → d.may_leave x0 i)
+    → StandsFor d r x0 saved now → StandsFor d r x1 saved now
+stands_kept kept told fewer stands =
+    let keeps = stands.keeps in
+    record {
+      keeps = record { runs = keeps.runs; image = keeps.image; step = record { settled = settled_kept kept told fewer (keeps.step).settled; follows = (keeps.step).follows }; holds = keeps.holds };
+      holds = stands.holds;
+    }
+
+-- ... and so does what is held
 pub layout_goes : {D : Type 0} {d : Ghosts D} {r0 r1 : Records} {x0 x1 : D} → r1 ≡ r0 → ((saved now : Held) → StandsFor d r0 x0 saved now → StandsFor d r0 x1 saved now) → (layout : Layout) → HasLayout d r0 x0 layout → HasLayout d r1 x1 layout
 layout_goes {d = d} {x1 = x1} same stands layout h = record {
   saved = h.saved;

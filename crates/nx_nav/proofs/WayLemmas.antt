@@ -1,12 +1,12 @@
 -- How far a walk has come: what is told of each layout that it may walk over, and what of it is left.
-use Rattle.std.proofs.Common.{◌≡◌, ℕ, ◌+◌, ◌≤◌, List, [], ◌++◌, refl, sym, ap, ◌∙◌, arith, append_assoc}
+use Rattle.std.proofs.Common.{◌≡◌, ℕ, ◌+◌, ◌≤◌, List, [], ◌++◌, Option, refl, sym, ap, ◌∙◌, subst, arith, append_assoc}
 use Rattle.std.proofs.lemmas.List.{append-nil}
+use Rattle.std.specs.Prelude.{IsSome}
+use Rattle.nx_host.specs.Disk.{Image, Keeps}
 use Rattle.nx_host.specs.declared.disk.Disk.{Ghosts}
 use Rattle.nx_host.specs.Still.{IsStill}
-use Rattle.nx_host.proofs.DiskLemmas.{none_still}
-use Rattle.nx_holdings.specs.Holdings.{Held}
+use Rattle.nx_host.proofs.DiskLemmas.{none_still, told_same}
 use Rattle.nx_records.specs.declared.records.Records.{Records}
-use Rattle.nx_records.specs.Records.{StandsFor}
 use Rattle.nx_tree.specs.Forest.{nodes}
 use Rattle.nx_tree.specs.Document.{depth}
 use Rattle.nx_cuts.specs.Cut.{forest}
@@ -16,7 +16,7 @@ use Rattle.nx_nav.specs.Parts.{HasLayout}
 use Rattle.nx_nav.specs.Refusals.{IsRefused}
 use Rattle.nx_nav.specs.Steps.{Step, steps}
 use Rattle.nx_nav.specs.Walk.{HasTold, HasStopped, IsNone}
-use Rattle.nx_nav.proofs.PartLemmas.{layout_goes}
+use Rattle.nx_nav.proofs.PartLemmas.{stands_kept, layout_goes}
 use Rattle.nx_nav.proofs.RefusalLemmas.{refused_later}
 
 -- So much of a layout is told, and this is left.
@@ -38,40 +38,46 @@ pub record IsSplit (P Q : Layout → Type 0) (layout : Layout) : Type 0 where
   pub front_shallow : depth (forest front) ≤ depth (forest layout)
   pub behind_shallow : depth (forest behind) ≤ depth (forest layout)
 
--- Of each layout that P speaks of as much is told, and what is left is one that Q speaks of.
-pub record IsOnWay {A D : Type 0} (Told : A → D → List Step → A → D → Type 0) (P Q : Layout → Type 0) (old : A) (before : D) (left : ℕ) (now : A) (here : D) (rest : ℕ) : Type 0 where
+-- Of each layout that P speaks of as much is told, and what is left is one that Q speaks of, where the disk's contents are told.
+pub record IsOnWay {A D : Type 0} (d : Ghosts D) (Told : A → D → List Step → A → D → Type 0) (P Q : Layout → Type 0) (old : A) (before : D) (left : ℕ) (now : A) (here : D) (rest : ℕ) : Type 0 where
   pub told : List Step
   pub goes : Told old before told now here
-  pub each : (layout : Layout) → P layout → IsLeft Q told left rest layout
+  pub each : IsSome (d.contents here) → (layout : Layout) → P layout → IsLeft Q told left rest layout
 
 -- what holds of a teller and its disks
 pub record IsTeller {A D : Type 0} (d : Ghosts D) (Told : A → D → List Step → A → D → Type 0) (Unwritten : D → D → Type 0) : Type 0 where
   pub asked : (a : A) (x y : D) → IsStill d x y → Told a x [] a y
   pub join : (a b c : A) (x y z : D) (s t : List Step) → Told a x s b y → Told b y t c z → Told a x (s ++ t) c z
-  pub stands : (a b : A) (x y : D) (s : List Step) (records : Records) (saved now : Held) → Told a x s b y → StandsFor d records x saved now → StandsFor d records y saved now
+  pub keeps : (a b : A) (x y : D) (s : List Step) → Told a x s b y → Keeps (d.contents x) (d.contents y)
+  pub fewer : (a b : A) (x y : D) (s : List Step) (i : Image) → Told a x s b y → d.may_leave y i → d.may_leave x i
   pub faults : (a b : A) (x y : D) (s : List Step) → Told a x s b y → d.faults x ≤ d.faults y
   pub unwritten : (a b : A) (x y z : D) (s : List Step) → Told a x s b y → Unwritten y z → Unwritten x z
 
 module _ {A D : Type 0} {d : Ghosts D} {Told : A → D → List Step → A → D → Type 0} {Unwritten : D → D → Type 0} (teller : IsTeller d Told Unwritten) where
+  -- contents that are told later were told before
+  pub told_earlier : {a b : A} {x y : D} {s : List Step} → Told a x s b y → IsSome (d.contents y) → IsSome (d.contents x)
+  told_earlier {a} {b} {x} {y} {s} goes seen = subst (λ (o : Option Image). IsSome o) (told_same (d.contents x) (d.contents y) (teller.keeps a b x y s goes) seen) seen
+
   -- what records and disk stand for stays
-  pub told_stands : {a b : A} {x y : D} {s : List Step} {r0 r1 : Records} → Told a x s b y → r1 ≡ r0 → (layout : Layout) → HasLayout d r0 x layout → HasLayout d r1 y layout
-  told_stands {a} {b} {x} {y} {s} {r0} {r1} goes same = layout_goes {r0 = r0} {r1 = r1} same (λ saved now. teller.stands a b x y s r0 saved now goes)
+  pub told_stands : {a b : A} {x y : D} {s : List Step} {r0 r1 : Records} → Told a x s b y → r1 ≡ r0 → IsSome (d.contents y) → (layout : Layout) → HasLayout d r0 x layout → HasLayout d r1 y layout
+  told_stands {a} {b} {x} {y} {s} {r0} {r1} goes same seen =
+      layout_goes {r0 = r0} {r1 = r1} same (λ saved now. stands_kept {r = r0} (teller.keeps a b x y s goes) seen (λ i left. teller.fewer a b x y s i goes left))
 
   module _ {P : Layout → Type 0} {a : A} {x : D} {left : ℕ} where
     -- nothing is told
-    pub way_begins : IsOnWay Told P P a x left a x left
-    way_begins = record { told = []; goes = teller.asked a x x none_still; each = λ l p. record { rest = l; is = p; steps_are = refl; nodes_are = refl; shallow = omega arith } }
+    pub way_begins : IsOnWay d Told P P a x left a x left
+    way_begins = record { told = []; goes = teller.asked a x x none_still; each = λ seen l p. record { rest = l; is = p; steps_are = refl; nodes_are = refl; shallow = omega arith } }
 
-    module _ {Q R : Layout → Type 0} {b : A} {y : D} {rest : ℕ} (way : IsOnWay Told P Q a x left b y rest) where
+    module _ {Q R : Layout → Type 0} {b : A} {y : D} {rest : ℕ} (way : IsOnWay d Told P Q a x left b y rest) where
       -- a part more
-      pub way_goes_on : (S : Layout → Type 0) (c : A) (z : D) (more : ℕ) → HasTold Told R b y rest c z more → ((l : Layout) → Q l → IsSplit R S l) → IsOnWay Told P S a x left c z more
+      pub way_goes_on : (S : Layout → Type 0) (c : A) (z : D) (more : ℕ) → HasTold d Told R b y rest c z more → (IsSome (d.contents z) → (l : Layout) → Q l → IsSplit R S l) → IsOnWay d Told P S a x left c z more
       way_goes_on S c z more has split = record {
         told = way.told ++ has.told;
         goes = teller.join a b c x y z way.told has.told way.goes has.goes;
-        each = λ l p.
-            let here = way.each l p in
-            let parts = split here.rest here.is in
-            let all = has.all parts.front parts.first in
+        each = λ seen l p.
+            let here = way.each (told_earlier has.goes seen) l p in
+            let parts = split seen here.rest here.is in
+            let all = has.all seen parts.front parts.first in
             let count : left + nodes (forest here.rest) ≡ rest + nodes (forest l) = here.nodes_are in
             let sum = parts.nodes_are in
             let taken : rest ≡ more + nodes (forest parts.front) = all.1 in
@@ -89,15 +95,15 @@ module _ {A D : Type 0} {d : Ghosts D} {Told : A → D → List Step → A → D
       }
 
       -- it stopped in the next part
-      pub way_stops : (S : Layout → Type 0) (z : D) → HasStopped Told R b y z → ((l : Layout) → Q l → IsSplit R S l) → HasStopped Told P a x z
+      pub way_stops : (S : Layout → Type 0) (z : D) → HasStopped d Told R b y z → ((l : Layout) → Q l → IsSplit R S l) → HasStopped d Told P a x z
       way_stops S z has split = record {
         told = way.told ++ has.told;
         last = has.last;
         goes = teller.join a b has.last x y z way.told has.told way.goes has.goes;
-        first = λ l p.
-            let here = way.each l p in
+        first = λ seen l p.
+            let here = way.each (told_earlier has.goes seen) l p in
             let parts = split here.rest here.is in
-            let first = has.first parts.front parts.first in (
+            let first = has.first seen parts.front parts.first in (
               first.0 ++ steps parts.behind,
               here.steps_are
                   ∙ ap (λ s. way.told ++ s) (parts.steps_are ∙ ap (λ s. s ++ steps parts.behind) first.1 ∙ append_assoc has.told first.0 (steps parts.behind))
@@ -106,30 +112,30 @@ module _ {A D : Type 0} {d : Ghosts D} {Told : A → D → List Step → A → D
       }
 
       -- the next part isn't there
-      pub way_lacks : (S : Layout → Type 0) (deep : ℕ) → IsNone R deep rest → ((l : Layout) → Q l → IsSplit R S l) → IsNone P deep left
-      way_lacks S deep none split l p shallow small =
-          let here = way.each l p in
+      pub way_lacks : (S : Layout → Type 0) (z : D) (deep : ℕ) → HasStopped d Told R b y z → IsNone d z R deep rest → ((l : Layout) → Q l → IsSplit R S l) → IsNone d z P deep left
+      way_lacks S z deep has none split seen l p shallow small =
+          let here = way.each (told_earlier has.goes seen) l p in
           let parts = split here.rest here.is in
           let count : left + nodes (forest here.rest) ≡ rest + nodes (forest l) = here.nodes_are in
           let sum = parts.nodes_are in
           let a = here.shallow in
           let b = parts.front_shallow in
-          none parts.front parts.first (omega arith) (omega arith)
+          none seen parts.front parts.first (omega arith) (omega arith)
 
       -- ... for the cause that is told of it
-      pub way_refused : (S : Layout → Type 0) (r0 r1 r2 : Records) (z : D) (deep : ℕ) → r1 ≡ r0 → ((l : Layout) → Q l → IsSplit R S l) → (e : NavError)
-          → IsRefused d ⊥ (Unwritten y z) (IsNone R deep rest) e r1 r2 y z → IsRefused d ⊥ (Unwritten x z) (IsNone P deep left) e r0 r2 x z
-      way_refused S r0 r1 r2 z deep same split e refused =
-          refused_later d ⊥ (Unwritten x z) (IsNone P deep left) r0 r1 r2 x y z same (teller.faults a b x y way.told way.goes) (λ bad. bad)
-          (λ unwritten. teller.unwritten a b x y z way.told way.goes unwritten) (λ none. way_lacks S deep none split) e refused
+      pub way_refused : (S : Layout → Type 0) (r0 r1 r2 : Records) (z : D) (deep : ℕ) → r1 ≡ r0 → HasStopped d Told R b y z → ((l : Layout) → Q l → IsSplit R S l) → (e : NavError)
+          → IsRefused d ⊥ (Unwritten y z) (IsNone d z R deep rest) e r1 r2 y z → IsRefused d ⊥ (Unwritten x z) (IsNone d z P deep left) e r0 r2 x z
+      way_refused S r0 r1 r2 z deep same has split e refused =
+          refused_later d ⊥ (Unwritten x z) (IsNone d z P deep left) r0 r1 r2 x y z same (teller.faults a b x y way.told way.goes) (λ bad. bad)
+          (λ unwritten. teller.unwritten a b x y z way.told way.goes unwritten) (λ none. way_lacks S z deep has none split) e refused
 
     -- all is told
-    pub way_ends : {Q : Layout → Type 0} {b : A} {y : D} {rest : ℕ} → IsOnWay Told P Q a x left b y rest → ((l : Layout) → Q l → (steps l ≡ []) × (nodes (forest l) ≡ 0)) → HasTold Told P a x left b y rest
+    pub way_ends : {Q : Layout → Type 0} {b : A} {y : D} {rest : ℕ} → IsOnWay d Told P Q a x left b y rest → ((l : Layout) → Q l → (steps l ≡ []) × (nodes (forest l) ≡ 0)) → HasTold d Told P a x left b y rest
     way_ends {Q} {b} {y} {rest} way none = record {
       told = way.told;
       goes = way.goes;
-      all = λ l p.
-          let here = way.each l p in
+      all = λ seen l p.
+          let here = way.each seen l p in
           let end = none here.rest here.is in
           let count : left + nodes (forest here.rest) ≡ rest + nodes (forest l) = here.nodes_are in
           let zero : nodes (forest here.rest) ≡ 0 = end.1 in (

@@ -5,3 +5,5 @@ pub mod Steps
 pub mod Walk
 pub mod Told
 pub mod Laid
+pub mod Given
+pub mod GivenLaws

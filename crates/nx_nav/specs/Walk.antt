@@ -1,5 +1,5 @@
 -- What a walk has told, and of what.
-use Rattle.std.specs.Prelude.{◌≡◌, ℕ, ◌+◌, ◌≤◌, List, ◌++◌}
+use Rattle.std.specs.Prelude.{◌≡◌, ℕ, ◌+◌, ◌≤◌, List, ◌++◌, IsSome}
 use Rattle.nx_host.specs.declared.disk.Disk.{Ghosts}
 use Rattle.nx_records.specs.declared.records.Records.{Records}
 use Rattle.nx_tree.specs.Forest.{nodes}
@@ -9,25 +9,25 @@ use Rattle.nx_piece.specs.Gapped.{Gapped, GappedTree}
 use Rattle.nx_cuts.specs.Cut.{Bare, Grown, Kept, forest, width}
 use Rattle.nx_layouts.specs.Layout.{RecordPlace, Layout, piece_body, proxies_of}
 use Rattle.nx_nav.specs.Parts.{HasLayout}
-use Rattle.nx_nav.specs.Refusals.{OfEach, OfEachWith}
+use Rattle.nx_nav.specs.Refusals.{OfEach}
 use Rattle.nx_nav.specs.Steps.{Step, steps, steps_of}
 
--- From a teller and a disk to others: what is told of each layout that P speaks of, and its nodes are taken off those that are left.
-pub record HasTold {A D : Type 0} (Told : A → D → List Step → A → D → Type 0) (P : Layout → Type 0) (old : A) (before : D) (left : ℕ) (new : A) (after : D) (rest : ℕ) : Type 0 where
+-- From a teller and a disk to others, where the disk's contents are told at the end: what is told of each layout that P speaks of, and its nodes are taken off those that are left.
+pub record HasTold {A D : Type 0} (d : Ghosts D) (Told : A → D → List Step → A → D → Type 0) (P : Layout → Type 0) (old : A) (before : D) (left : ℕ) (new : A) (after : D) (rest : ℕ) : Type 0 where
   pub told : List Step
   pub goes : Told old before told new after
-  pub all : (layout : Layout) → P layout → (told ≡ steps layout) × (left ≡ rest + nodes (forest layout))
+  pub all : IsSome (d.contents after) → (layout : Layout) → P layout → (told ≡ steps layout) × (left ≡ rest + nodes (forest layout))
 
 -- ... or of the first part of each, and what came then.
-pub record HasStopped {A D : Type 0} (Told : A → D → List Step → A → D → Type 0) (P : Layout → Type 0) (old : A) (before after : D) : Type 0 where
+pub record HasStopped {A D : Type 0} (d : Ghosts D) (Told : A → D → List Step → A → D → Type 0) (P : Layout → Type 0) (old : A) (before after : D) : Type 0 where
   pub told : List Step
   pub last : A
   pub goes : Told old before told last after
-  pub first : (layout : Layout) → P layout → (more : List Step) × (steps layout ≡ told ++ more)
+  pub first : IsSome (d.contents after) → (layout : Layout) → P layout → (more : List Step) × (steps layout ≡ told ++ more)
 
--- there is no such layout that is so deep and so large at most
-abbrev pub IsNone : (Layout → Type 0) → (deep left : ℕ) → Type 0
-IsNone P deep left = (layout : Layout) → P layout → depth (forest layout) ≤ deep → nodes (forest layout) ≤ left → ⊥
+-- where the contents of this disk are told, there is no such layout that is so deep and so large at most
+abbrev pub IsNone : {D : Type 0} → Ghosts D → D → (Layout → Type 0) → (deep left : ℕ) → Type 0
+IsNone d after P deep left = IsSome (d.contents after) → (layout : Layout) → P layout → depth (forest layout) ≤ deep → nodes (forest layout) ≤ left → ⊥
 
 -- intervals alone
 abbrev pub AreIntervals : Layout → Type 0
@@ -53,15 +53,15 @@ module _ {D : Type 0} (d : Ghosts D) (records : Records) (disk : D) where
   abbrev pub AreIntervalsOf : List Proxy → Layout → Type 0
   AreIntervalsOf proxies layout = AreIntervals layout × (proxies ≡ proxies_of layout) × HasLayout d records disk layout
 
--- From a teller and a disk to others all is told of each document that the records hold from this place on and that has so many nodes.
-pub record TellsDocument {A D : Type 0} (d : Ghosts D) (Told : A → D → List Step → A → D → Type 0) (records : Records) (before : D) (root : RecordPlace) (count : ℕ) (old new : A) (after : D) : Type 0 where
+-- From a teller and a disk to others, where the disk's contents are told at the end: all is told of each document that the records hold from this place on.
+pub record TellsDocument {A D : Type 0} (d : Ghosts D) (Told : A → D → List Step → A → D → Type 0) (records : Records) (before : D) (root : RecordPlace) (old new : A) (after : D) : Type 0 where
   pub told : List Step
   pub goes : Told old before told new after
-  pub all : OfEachWith d records before root count (λ document. told ≡ steps_of document)
+  pub all : IsSome (d.contents after) → OfEach d records before root (λ document. told ≡ steps_of document)
 
 -- ... or the first part of each, and what came then.
 pub record StopsWithin {A D : Type 0} (d : Ghosts D) (Told : A → D → List Step → A → D → Type 0) (records : Records) (before : D) (root : RecordPlace) (old : A) (after : D) : Type 0 where
   pub told : List Step
   pub last : A
   pub goes : Told old before told last after
-  pub first : OfEach d records before root (λ document. (more : List Step) × (steps_of document ≡ told ++ more))
+  pub first : IsSome (d.contents after) → OfEach d records before root (λ document. (more : List Step) × (steps_of document ≡ told ++ more))

@@ -88,6 +88,7 @@ impl Laying {
 
 impl<D: Disk> Tells<D> for Laying {
     ghost use Rattle.std.specs.Prelude.{◌≡◌};
+    ghost use Rattle.nx_host.specs.Disk.{Keeps};
     ghost use Rattle.nx_host.specs.Still.{IsStill};
     ghost use Rattle.nx_nav.specs.Laid.{course_of, course_behind, courses_join};
 
@@ -120,15 +121,16 @@ impl<D: Disk> Tells<D> for Laying {
         Ok(())
     }
 
-    ghost use Rattle.std.proofs.Common.{refl};
-    ghost use Rattle.nx_host.proofs.DiskLemmas.{still_then};
-    ghost use Rattle.nx_hold.proofs.RefusalLemmas.{stands_later};
+    ghost use Rattle.std.proofs.Common.{refl, sym, subst};
+    ghost use Rattle.nx_host.proofs.DiskLemmas.{still_then, keeps_self};
 
     ghost asked = { λ a x y still. (still, refl) };
 
     ghost then = { λ a b c x y z s t first second. (still_then first.0 second.0, courses_join (course_of a) (course_of b) (course_of c) s t first.1 second.1) };
 
-    ghost stands = { λ a b x y s records saved now told stands. stands_later {r0 = records} {r1 = records} refl told.0 stands };
+    ghost keeps = { λ a b x y s told. subst (λ o. Keeps (D.contents x) o) (sym (told.0).contents_stay) (keeps_self (D.contents x)) };
+
+    ghost fewer_images = { λ a b x y s i told. ((told.0).images_stay i).0 };
 
     ghost faults_later = { λ a b x y s told. (told.0).faults_later };
 

@@ -1,4 +1,5 @@
-//! Documents that records hold, looked at: the node at a path, the canonical text, the stored partitioning.
+//! Documents that records hold, looked at: the node at a path, the canonical text, also given to an output, the
+//! stored partitioning.
 //!
 //! Each call takes the place of the record that has a document's root. Its contract speaks of every
 //! document that the records hold from there on (`HasDocument` of `nx_hold`); where they hold none, it
@@ -6,6 +7,7 @@
 #![tactic(auto)]
 
 mod error;
+mod exporting;
 mod finding;
 mod laid;
 mod reading;
@@ -13,6 +15,7 @@ mod telling;
 mod walking;
 
 pub use error::NavError;
+pub use exporting::export;
 pub use finding::{Shown, get};
 pub use laid::{Laid, layout};
 pub use telling::text_of;

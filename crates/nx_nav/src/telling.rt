@@ -54,6 +54,7 @@ struct Text {
 
 impl<D: Disk> Tells<D> for Text {
     ghost use Rattle.std.specs.Prelude.{◌≡◌, ◌++◌};
+    ghost use Rattle.nx_host.specs.Disk.{Keeps};
     ghost use Rattle.nx_host.specs.Still.{IsStill};
     ghost use Rattle.nx_nav.specs.Told.{told_text, text_joins};
 
@@ -77,16 +78,17 @@ impl<D: Disk> Tells<D> for Text {
         push_end(&mut self.bytes, node)
     }
 
-    ghost use Rattle.std.proofs.Common.{sym, refl};
+    ghost use Rattle.std.proofs.Common.{sym, subst};
     ghost use Rattle.std.proofs.lemmas.List.{append-nil};
-    ghost use Rattle.nx_host.proofs.DiskLemmas.{still_then};
-    ghost use Rattle.nx_hold.proofs.RefusalLemmas.{stands_later};
+    ghost use Rattle.nx_host.proofs.DiskLemmas.{still_then, keeps_self};
 
     ghost asked = { λ a x y still. (still, sym (append-nil a.bytes)) };
 
     ghost then = { λ a b c x y z s t first second. (still_then first.0 second.0, text_joins a.bytes b.bytes c.bytes s t first.1 second.1) };
 
-    ghost stands = { λ a b x y s records saved now told stands. stands_later {r0 = records} {r1 = records} refl told.0 stands };
+    ghost keeps = { λ a b x y s told. subst (λ o. Keeps (D.contents x) o) (sym (told.0).contents_stay) (keeps_self (D.contents x)) };
+
+    ghost fewer_images = { λ a b x y s i told. ((told.0).images_stay i).0 };
 
     ghost faults_later = { λ a b x y s told. (told.0).faults_later };
 

@@ -1,9 +1,8 @@
 // A walk over the records of a document, which tells its nodes and its intervals.
-ghost use Rattle.std.specs.Prelude.{◌≡◌, ◌≤◌, false, ℕ, List, [], ◌∷◌, ◌++◌, OnOk, IfOk, IfErr, length, drop, OnErr};
+ghost use Rattle.std.specs.Prelude.{◌≡◌, ◌≤◌, false, ℕ, List, [], ◌∷◌, ◌++◌, OnOk, IfOk, IfErr, length, drop, OnErr, IsSome};
+ghost use Rattle.nx_host.specs.Disk.{Image, Keeps};
 ghost use Rattle.nx_host.specs.Still.{IsStill};
-ghost use Rattle.nx_holdings.specs.Holdings.{Held};
-ghost use Rattle.nx_records.specs.Records.{has_ended, StandsFor};
-ghost use Rattle.nx_records.specs.declared.records.Records.{Records as HeldRecords};
+ghost use Rattle.nx_records.specs.Records.{has_ended};
 ghost use Rattle.nx_piece.specs.Gapped.{proxies_in};
 ghost use Rattle.nx_piece.specs.Items.{gapped_of};
 ghost use Rattle.nx_piece.specs.Valid.{HaveRoots};
@@ -53,8 +52,10 @@ pub trait Tells<D: Disk> {
     // Steps behind steps.
     ghost then: { (a b c : Self) (x y z : D) (s t : List Step) → Told a x s b y → Told b y t c z → Told a x (s ++ t) c z };
 
-    // What records and disk stand for stays.
-    ghost stands: { (a b : Self) (x y : D) (s : List Step) (records : HeldRecords) (saved now : Held) → Told a x s b y → StandsFor D.Disk records x saved now → StandsFor D.Disk records y saved now };
+    // The areas stay as they were.
+    ghost keeps: { (a b : Self) (x y : D) (s : List Step) → Told a x s b y → Keeps (D.contents x) (D.contents y) };
+
+    ghost fewer_images: { (a b : Self) (x y : D) (s : List Step) (i : Image) → Told a x s b y → D.may_leave y i → D.may_leave x i };
 
     // The count of faults doesn't fall.
     ghost faults_later: { (a b : Self) (x y : D) (s : List Step) → Told a x s b y → D.faults x ≤ D.faults y };
@@ -71,9 +72,9 @@ pub fn tell_document<D: Disk, T: Tells<D>>(
     root: Rid,
 ) -> Result<(), NavError>
     ensures stays { OnOk result ((has_ended records.old ≡ false) × (records.new ≡ records.old)) }
-    ensures told { OnOk result (TellsDocument D.Disk T.Told records.old disk.old (place_of root) walk.old.left walk.old.teller walk.new.teller disk.new) }
+    ensures told { OnOk result (TellsDocument D.Disk T.Told records.old disk.old (place_of root) walk.old.teller walk.new.teller disk.new) }
     ensures stops { OnErr result (StopsWithin D.Disk T.Told records.old disk.old (place_of root) walk.old.teller disk.new) }
-    ensures refused { IfErr result (λ e. IsRefused D.Disk ⊥ (T.Unwritten disk.old disk.new) (HoldsNoneWith D.Disk records.old disk.old (place_of root) walk.old.left) e records.old records.new disk.old disk.new) }
+    ensures refused { IfErr result (λ e. IsRefused D.Disk ⊥ (T.Unwritten disk.old disk.new) (IsSome (D.contents disk.new) → HoldsNoneWith D.Disk records.old disk.old (place_of root) walk.old.left) e records.old records.new disk.old disk.new) }
 {
     if records.is_ended() {
         return Err(NavError::Ended);
@@ -113,9 +114,9 @@ fn tell_interval<D: Disk, T: Tells<D>>(
     requires runs { has_ended records.old ≡ false }
     requires some { 1 ≤ roots }
     ensures stays { OnOk result (records.new ≡ records.old) }
-    ensures told { OnOk result (HasTold T.Told (IsIntervalAt D.Disk records.old disk.old (place_of rid) roots) walk.old.teller disk.old walk.old.left walk.new.teller disk.new walk.new.left) }
-    ensures stops { OnErr result (HasStopped T.Told (IsIntervalAt D.Disk records.old disk.old (place_of rid) roots) walk.old.teller disk.old disk.new) }
-    ensures refused { IfErr result (λ e. IsRefused D.Disk ⊥ (T.Unwritten disk.old disk.new) (IsNone (IsIntervalAt D.Disk records.old disk.old (place_of rid) roots) depth walk.old.left) e records.old records.new disk.old disk.new) }
+    ensures told { OnOk result (HasTold D.Disk T.Told (IsIntervalAt D.Disk records.old disk.old (place_of rid) roots) walk.old.teller disk.old walk.old.left walk.new.teller disk.new walk.new.left) }
+    ensures stops { OnErr result (HasStopped D.Disk T.Told (IsIntervalAt D.Disk records.old disk.old (place_of rid) roots) walk.old.teller disk.old disk.new) }
+    ensures refused { IfErr result (λ e. IsRefused D.Disk ⊥ (T.Unwritten disk.old disk.new) (IsNone D.Disk disk.new (IsIntervalAt D.Disk records.old disk.old (place_of rid) roots) depth walk.old.left) e records.old records.new disk.old disk.new) }
 {
     walk.teller.pause(disk)?;
     let piece = piece_at(walk.alloc, records, disk, rid, roots)?;
@@ -146,9 +147,9 @@ fn tell_tree<'a, D: Disk, T: Tells<D>>(
     requires rooted { HaveRoots proxies.now }
     ensures stays { OnOk result (records.new ≡ records.old) }
     ensures behind { IfOk result (λ behind. behind.now ≡ drop (proxies_in tree.now.below) proxies.now) }
-    ensures told { OnOk result (HasTold T.Told (IsTreeOf D.Disk records.old disk.old tree.now proxies.now) walk.old.teller disk.old walk.old.left walk.new.teller disk.new walk.new.left) }
-    ensures stops { OnErr result (HasStopped T.Told (IsTreeOf D.Disk records.old disk.old tree.now proxies.now) walk.old.teller disk.old disk.new) }
-    ensures refused { IfErr result (λ e. IsRefused D.Disk ⊥ (T.Unwritten disk.old disk.new) (IsNone (IsTreeOf D.Disk records.old disk.old tree.now proxies.now) spot.depth walk.old.left) e records.old records.new disk.old disk.new) }
+    ensures told { OnOk result (HasTold D.Disk T.Told (IsTreeOf D.Disk records.old disk.old tree.now proxies.now) walk.old.teller disk.old walk.old.left walk.new.teller disk.new walk.new.left) }
+    ensures stops { OnErr result (HasStopped D.Disk T.Told (IsTreeOf D.Disk records.old disk.old tree.now proxies.now) walk.old.teller disk.old disk.new) }
+    ensures refused { IfErr result (λ e. IsRefused D.Disk ⊥ (T.Unwritten disk.old disk.new) (IsNone D.Disk disk.new (IsTreeOf D.Disk records.old disk.old tree.now proxies.now) spot.depth walk.old.left) e records.old records.new disk.old disk.new) }
 {
     if spot.depth == 0 || walk.left == 0 {
         return Err(damaged(records, spot.page));
@@ -186,9 +187,9 @@ fn tell_items<'a, D: Disk, T: Tells<D>>(
     requires rooted { HaveRoots proxies.now }
     ensures stays { OnOk result (records.new ≡ records.old) }
     ensures behind { IfOk result (λ behind. behind.now ≡ drop (proxies_in (gapped_of items.now)) proxies.now) }
-    ensures told { OnOk result (HasTold T.Told (AreOf D.Disk records.old disk.old (gapped_of items.now) proxies.now) walk.old.teller disk.old walk.old.left walk.new.teller disk.new walk.new.left) }
-    ensures stops { OnErr result (HasStopped T.Told (AreOf D.Disk records.old disk.old (gapped_of items.now) proxies.now) walk.old.teller disk.old disk.new) }
-    ensures refused { IfErr result (λ e. IsRefused D.Disk ⊥ (T.Unwritten disk.old disk.new) (IsNone (AreOf D.Disk records.old disk.old (gapped_of items.now) proxies.now) spot.depth walk.old.left) e records.old records.new disk.old disk.new) }
+    ensures told { OnOk result (HasTold D.Disk T.Told (AreOf D.Disk records.old disk.old (gapped_of items.now) proxies.now) walk.old.teller disk.old walk.old.left walk.new.teller disk.new walk.new.left) }
+    ensures stops { OnErr result (HasStopped D.Disk T.Told (AreOf D.Disk records.old disk.old (gapped_of items.now) proxies.now) walk.old.teller disk.old disk.new) }
+    ensures refused { IfErr result (λ e. IsRefused D.Disk ⊥ (T.Unwritten disk.old disk.new) (IsNone D.Disk disk.new (AreOf D.Disk records.old disk.old (gapped_of items.now) proxies.now) spot.depth walk.old.left) e records.old records.new disk.old disk.new) }
 {
     let mut rest = proxies;
     for item in items {
@@ -216,9 +217,9 @@ fn tell_row<D: Disk, T: Tells<D>>(
     requires runs { has_ended records.old ≡ false }
     requires rooted { HaveRoots proxies.now }
     ensures stays { OnOk result (records.new ≡ records.old) }
-    ensures told { OnOk result (HasTold T.Told (AreIntervalsOf D.Disk records.old disk.old proxies.now) walk.old.teller disk.old walk.old.left walk.new.teller disk.new walk.new.left) }
-    ensures stops { OnErr result (HasStopped T.Told (AreIntervalsOf D.Disk records.old disk.old proxies.now) walk.old.teller disk.old disk.new) }
-    ensures refused { IfErr result (λ e. IsRefused D.Disk ⊥ (T.Unwritten disk.old disk.new) (IsNone (AreIntervalsOf D.Disk records.old disk.old proxies.now) depth walk.old.left) e records.old records.new disk.old disk.new) }
+    ensures told { OnOk result (HasTold D.Disk T.Told (AreIntervalsOf D.Disk records.old disk.old proxies.now) walk.old.teller disk.old walk.old.left walk.new.teller disk.new walk.new.left) }
+    ensures stops { OnErr result (HasStopped D.Disk T.Told (AreIntervalsOf D.Disk records.old disk.old proxies.now) walk.old.teller disk.old disk.new) }
+    ensures refused { IfErr result (λ e. IsRefused D.Disk ⊥ (T.Unwritten disk.old disk.new) (IsNone D.Disk disk.new (AreIntervalsOf D.Disk records.old disk.old proxies.now) depth walk.old.left) e records.old records.new disk.old disk.new) }
 {
     for proxy in proxies {
         let rid = Rid {

@@ -1,5 +1,8 @@
 use Rattle.std.proofs.Common.{[], length, sym, refl, ap, ◌∙◌}
+use Rattle.std.proofs.lemmas.Result.{err_from_is_err_and}
+use Rattle.nx_hold.specs.Changes.{place_of}
 use Rattle.nx_nav.specs.Laid.{Course, course_behind}
+use Rattle.nx_nav.proofs.DocumentLemmas.{document_seen, asked_refused}
 use Rattle.nx_nav.proofs.LaidLemmas.{pairs_stay, has_parts, has_weights}
 use Rattle.nx_nav.proofs.laid.layout.Goals as goal
 
@@ -19,6 +22,11 @@ returns-clause-ok g c =
       c.in_ok-tell_document.ensures.stays.0,
       c.in_ok-tell_document.ensures.stays.1,
       λ document h count.
-          let all = end ∙ ap (course_behind start) (told.all document h count) in
+          let all = end ∙ ap (course_behind start) (told.all (document_seen (told.goes).0 h) document h) in
           (ap (λ (at : Course). at.parts) all ∙ has_parts h, ap (λ (at : Course). at.weights) all ∙ has_weights h),
     )
+
+pub returns-in_err-tell_document-clause-refused : goal.returns-in_err-tell_document-clause-refused
+returns-in_err-tell_document-clause-refused g c =
+    let p = err_from_is_err_and c.from_residual.result c.from_residual.ensures.1 in
+    rw (p.1, p.2) (asked_refused g.D.Disk c.args.records.now c.tell_document.new.records c.args.disk.now c.tell_document.new.disk (place_of c.args.root) c.args.nodes c.in_err-tell_document.field-0.0 (c.in_err-tell_document.ensures.stops.goes).0 c.in_err-tell_document.ensures.refused)

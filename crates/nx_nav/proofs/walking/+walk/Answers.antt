@@ -1,4 +1,5 @@
 use Rattle.std.proofs.Common.{◌≡◌, ℕ, ◌+◌, ◌-◌, ◌≤◌, List, [], ◌∷◌, length, take, drop, get_or, refl, sym, ap, ◌∙◌, subst, arith}
+use Rattle.std.specs.Prelude.{IsSome}
 use Rattle.std.proofs.lemmas.Result.{err_from_is_err_and}
 use Rattle.std.proofs.lemmas.List.{drop_all}
 use Rattle.nx_host.proofs.DiskLemmas.{none_still}
@@ -29,7 +30,8 @@ teller : (g : Over) → IsTeller g.D.Disk g.T.Tells.Told g.T.Tells.Unwritten
 teller g = record {
   asked = g.met.T.Tells.asked;
   join = g.met.T.Tells.then;
-  stands = g.met.T.Tells.stands;
+  keeps = g.met.T.Tells.keeps;
+  fewer = g.met.T.Tells.fewer_images;
   faults = g.met.T.Tells.faults_later;
   unwritten = g.met.T.Tells.unwritten_later;
 }
@@ -96,7 +98,7 @@ tell_interval-returns-in_err-proxies-clause-refused g t c =
     (subst (λ f. AreOf g.D.Disk c.loop-root.records c.loop-root.disk f c.loop-root.proxies.now l) e is) in
     let p = err_from_is_err_and c.from_residual-in_err-proxies.result c.from_residual-in_err-proxies.ensures.1 in
     rw (p.1, p.2)
-    (way_refused (teller g) c.loop-root.invariant.way (AreOf g.D.Disk c.loop-root.records c.loop-root.disk items (drop (proxies_in c.root-item.result.below) c.loop-root.proxies.now)) c.args.records.now c.loop-root.records c.tell_tree.new.records c.tell_tree.new.disk c.args.depth c.loop-root.invariant.stays split c.in_err-proxies.field-0.0
+    (way_refused (teller g) c.loop-root.invariant.way (AreOf g.D.Disk c.loop-root.records c.loop-root.disk items (drop (proxies_in c.root-item.result.below) c.loop-root.proxies.now)) c.args.records.now c.loop-root.records c.tell_tree.new.records c.tell_tree.new.disk c.args.depth c.loop-root.invariant.stays c.in_err-proxies.ensures.stops split c.in_err-proxies.field-0.0
     c.in_err-proxies.ensures.refused)
 
 pub tell_interval-returns-clause-stays : goal.tell_interval-returns-clause-stays
@@ -144,7 +146,7 @@ tell_items-returns-in_err-rest-in-Tree-clause-refused g t c =
     (subst (λ f. AreOf g.D.Disk c.loop-item.records c.loop-item.disk f c.loop-item.rest.now l) e is) in
     let p = err_from_is_err_and c.from_residual.result c.from_residual.ensures.1 in
     rw (p.1, p.2)
-    (way_refused (teller g) c.loop-item.invariant.way (AreOf g.D.Disk c.loop-item.records c.loop-item.disk items (drop (proxies_in c.in-Tree.tree.below) c.loop-item.rest.now)) c.args.records.now c.loop-item.records c.tell_tree.new.records c.tell_tree.new.disk c.args.spot.depth c.loop-item.invariant.stays split c.in_err-rest-in-Tree.field-0.0
+    (way_refused (teller g) c.loop-item.invariant.way (AreOf g.D.Disk c.loop-item.records c.loop-item.disk items (drop (proxies_in c.in-Tree.tree.below) c.loop-item.rest.now)) c.args.records.now c.loop-item.records c.tell_tree.new.records c.tell_tree.new.disk c.args.spot.depth c.loop-item.invariant.stays c.in_err-rest-in-Tree.ensures.stops split c.in_err-rest-in-Tree.field-0.0
     c.in_err-rest-in-Tree.ensures.refused)
 
 pub tell_items-split_at-requires : goal.tell_items-split_at-requires
@@ -177,8 +179,8 @@ tell_items-returns-in_err-tell_row-in-Run-clause-stops g t c =
     λ l is. split_row g.D.Disk c.loop-item.records c.loop-item.records c.loop-item.disk c.loop-item.disk (λ x h. h) c.in-Run.count items c.loop-item.rest.now l
     (subst (λ f. AreOf g.D.Disk c.loop-item.records c.loop-item.disk f c.loop-item.rest.now l) e is) in
     let p = err_from_is_err_and c.from_residual-in_err-tell_row-in-Run.result c.from_residual-in_err-tell_row-in-Run.ensures.1 in
-    let stops : HasStopped g.T.Tells.Told (AreIntervalsOf g.D.Disk c.loop-item.records c.loop-item.disk (take c.in-Run.count c.loop-item.rest.now)) c.loop-item.walk.teller c.loop-item.disk c.tell_row.new.disk =
-    subst (λ (ps : List Proxy). HasStopped g.T.Tells.Told (AreIntervalsOf g.D.Disk c.loop-item.records c.loop-item.disk ps) c.loop-item.walk.teller c.loop-item.disk c.tell_row.new.disk) c.split_at.ensures.front c.in_err-tell_row-in-Run.ensures.stops in
+    let stops : HasStopped g.D.Disk g.T.Tells.Told (AreIntervalsOf g.D.Disk c.loop-item.records c.loop-item.disk (take c.in-Run.count c.loop-item.rest.now)) c.loop-item.walk.teller c.loop-item.disk c.tell_row.new.disk =
+    subst (λ (ps : List Proxy). HasStopped g.D.Disk g.T.Tells.Told (AreIntervalsOf g.D.Disk c.loop-item.records c.loop-item.disk ps) c.loop-item.walk.teller c.loop-item.disk c.tell_row.new.disk) c.split_at.ensures.front c.in_err-tell_row-in-Run.ensures.stops in
     rw p.1 (way_stops (teller g) c.loop-item.invariant.way (AreOf g.D.Disk c.loop-item.records c.loop-item.disk items (drop c.in-Run.count c.loop-item.rest.now)) c.tell_row.new.disk stops split)
 
 pub tell_items-returns-in_err-tell_row-in-Run-clause-refused : goal.tell_items-returns-in_err-tell_row-in-Run-clause-refused
@@ -192,9 +194,11 @@ tell_items-returns-in_err-tell_row-in-Run-clause-refused g t c =
     λ l is. split_row g.D.Disk c.loop-item.records c.loop-item.records c.loop-item.disk c.loop-item.disk (λ x h. h) c.in-Run.count items c.loop-item.rest.now l
     (subst (λ f. AreOf g.D.Disk c.loop-item.records c.loop-item.disk f c.loop-item.rest.now l) e is) in
     let p = err_from_is_err_and c.from_residual-in_err-tell_row-in-Run.result c.from_residual-in_err-tell_row-in-Run.ensures.1 in
+    let stops : HasStopped g.D.Disk g.T.Tells.Told (AreIntervalsOf g.D.Disk c.loop-item.records c.loop-item.disk (take c.in-Run.count c.loop-item.rest.now)) c.loop-item.walk.teller c.loop-item.disk c.tell_row.new.disk =
+    subst (λ (ps : List Proxy). HasStopped g.D.Disk g.T.Tells.Told (AreIntervalsOf g.D.Disk c.loop-item.records c.loop-item.disk ps) c.loop-item.walk.teller c.loop-item.disk c.tell_row.new.disk) c.split_at.ensures.front c.in_err-tell_row-in-Run.ensures.stops in
     rw (p.1, p.2)
-    (way_refused (teller g) c.loop-item.invariant.way (AreOf g.D.Disk c.loop-item.records c.loop-item.disk items (drop c.in-Run.count c.loop-item.rest.now)) c.args.records.now c.loop-item.records c.tell_row.new.records c.tell_row.new.disk c.args.spot.depth c.loop-item.invariant.stays split c.in_err-tell_row-in-Run.field-0.0
-    (subst (λ (ps : List Proxy). IsRefused g.D.Disk ⊥ (g.T.Tells.Unwritten c.loop-item.disk c.tell_row.new.disk) (IsNone (AreIntervalsOf g.D.Disk c.loop-item.records c.loop-item.disk ps) c.args.spot.depth c.loop-item.walk.left) c.in_err-tell_row-in-Run.field-0.0
+    (way_refused (teller g) c.loop-item.invariant.way (AreOf g.D.Disk c.loop-item.records c.loop-item.disk items (drop c.in-Run.count c.loop-item.rest.now)) c.args.records.now c.loop-item.records c.tell_row.new.records c.tell_row.new.disk c.args.spot.depth c.loop-item.invariant.stays stops split c.in_err-tell_row-in-Run.field-0.0
+    (subst (λ (ps : List Proxy). IsRefused g.D.Disk ⊥ (g.T.Tells.Unwritten c.loop-item.disk c.tell_row.new.disk) (IsNone g.D.Disk c.tell_row.new.disk (AreIntervalsOf g.D.Disk c.loop-item.records c.loop-item.disk ps) c.args.spot.depth c.loop-item.walk.left) c.in_err-tell_row-in-Run.field-0.0
     c.loop-item.records c.tell_row.new.records c.loop-item.disk c.tell_row.new.disk) c.split_at.ensures.front c.in_err-tell_row-in-Run.ensures.refused))
 
 pub tell_items-returns-clause-stays : goal.tell_items-returns-clause-stays
@@ -244,7 +248,7 @@ tell_row-returns-in_err-tell_interval-clause-refused g t c =
     λ l is. split_interval g.D.Disk c.loop-proxy.records c.loop-proxy.records c.loop-proxy.disk c.loop-proxy.disk (λ x h. h) proxy (drop (i + 1) c.args.proxies.now) l (subst (λ (ps : List Proxy). AreIntervalsOf g.D.Disk c.loop-proxy.records c.loop-proxy.disk ps l) d is) in
     let p = err_from_is_err_and c.from_residual.result c.from_residual.ensures.1 in
     rw (p.1, p.2)
-    (way_refused (teller g) c.loop-proxy.invariant.way (AreIntervalsOf g.D.Disk c.loop-proxy.records c.loop-proxy.disk (drop (i + 1) c.args.proxies.now)) c.args.records.now c.loop-proxy.records c.tell_interval.new.records c.tell_interval.new.disk c.args.depth c.loop-proxy.invariant.stays split c.in_err-tell_interval.field-0.0
+    (way_refused (teller g) c.loop-proxy.invariant.way (AreIntervalsOf g.D.Disk c.loop-proxy.records c.loop-proxy.disk (drop (i + 1) c.args.proxies.now)) c.args.records.now c.loop-proxy.records c.tell_interval.new.records c.tell_interval.new.disk c.args.depth c.loop-proxy.invariant.stays c.in_err-tell_interval.ensures.stops split c.in_err-tell_interval.field-0.0
     c.in_err-tell_interval.ensures.refused)
 
 pub tell_row-loop-proxy-preserved : goal.tell_row-loop-proxy-preserved
@@ -253,9 +257,9 @@ tell_row-loop-proxy-preserved g t c =
     let proxy = get_or c.args.proxies.now i no_proxy in
     let d : drop i c.args.proxies.now ≡ proxy ∷ drop (i + 1) c.args.proxies.now = next_at c.args.proxies.now i no_proxy c.loop-proxy-test.true in
     let told = c.in_ok-tell_interval.ensures.told in
-    let split : (l : Layout) → AreIntervalsOf g.D.Disk c.loop-proxy.records c.loop-proxy.disk (drop i c.args.proxies.now) l
+    let split : IsSome (g.D.Disk.contents c.tell_interval.new.disk) → (l : Layout) → AreIntervalsOf g.D.Disk c.loop-proxy.records c.loop-proxy.disk (drop i c.args.proxies.now) l
     → IsSplit (IsIntervalAt g.D.Disk c.loop-proxy.records c.loop-proxy.disk (place_named proxy) proxy.roots) (AreIntervalsOf g.D.Disk c.tell_interval.new.records c.tell_interval.new.disk (drop (i + 1) c.args.proxies.now)) l =
-    λ l is. split_interval g.D.Disk c.loop-proxy.records c.tell_interval.new.records c.loop-proxy.disk c.tell_interval.new.disk (told_stands (teller g) {r0 = c.loop-proxy.records} {r1 = c.tell_interval.new.records} told.goes c.in_ok-tell_interval.ensures.stays) proxy (drop (i + 1) c.args.proxies.now) l (subst (λ (ps : List Proxy). AreIntervalsOf g.D.Disk c.loop-proxy.records c.loop-proxy.disk ps l) d is) in
+    λ seen l is. split_interval g.D.Disk c.loop-proxy.records c.tell_interval.new.records c.loop-proxy.disk c.tell_interval.new.disk (told_stands (teller g) {r0 = c.loop-proxy.records} {r1 = c.tell_interval.new.records} told.goes c.in_ok-tell_interval.ensures.stays seen) proxy (drop (i + 1) c.args.proxies.now) l (subst (λ (ps : List Proxy). AreIntervalsOf g.D.Disk c.loop-proxy.records c.loop-proxy.disk ps l) d is) in
     record {
       stays = c.in_ok-tell_interval.ensures.stays ∙ c.loop-proxy.invariant.stays;
       way = way_goes_on (teller g) c.loop-proxy.invariant.way (AreIntervalsOf g.D.Disk c.tell_interval.new.records c.tell_interval.new.disk (drop (i + 1) c.args.proxies.now)) c.tell_interval.new.walk.teller c.tell_interval.new.disk c.tell_interval.new.walk.left told split;
@@ -280,7 +284,7 @@ tell_tree-returns-in_err-behind-clause-stops g t c =
     let opened = subst (λ (n : Node). g.T.Tells.Told c.args.walk.now.teller c.args.disk.now (Open n ∷ []) c.open.new.self c.args.disk.now) node (c.in_ok-open.ensures c.args.disk.now) in
     let p = err_from_is_err_and c.from_residual-in_err-behind.result c.from_residual-in_err-behind.ensures.1 in
     rw p.1 (tree_stops (teller g) c.args.records.now c.args.tree.now c.args.proxies.now c.open.new.self opened c.tell_items.new.disk
-    (subst (λ (f : Gapped). HasStopped g.T.Tells.Told (AreOf g.D.Disk c.args.records.now c.args.disk.now f c.args.proxies.now) c.open.new.self c.args.disk.now c.tell_items.new.disk) below c.in_err-behind.ensures.stops))
+    (subst (λ (f : Gapped). HasStopped g.D.Disk g.T.Tells.Told (AreOf g.D.Disk c.args.records.now c.args.disk.now f c.args.proxies.now) c.open.new.self c.args.disk.now c.tell_items.new.disk) below c.in_err-behind.ensures.stops))
 
 pub tell_tree-returns-in_err-behind-clause-refused : goal.tell_tree-returns-in_err-behind-clause-refused
 tell_tree-returns-in_err-behind-clause-refused g t c =
@@ -290,7 +294,7 @@ tell_tree-returns-in_err-behind-clause-refused g t c =
     let p = err_from_is_err_and c.from_residual-in_err-behind.result c.from_residual-in_err-behind.ensures.1 in
     rw (p.1, p.2)
     (tree_refused (teller g) c.args.records.now c.args.tree.now c.args.proxies.now c.open.new.self opened c.args.spot.depth c.args.walk.now.left c.tell_items.new.records c.tell_items.new.disk c.in_err-behind.field-0.0
-    (subst (λ (f : Gapped). IsRefused g.D.Disk ⊥ (g.T.Tells.Unwritten c.args.disk.now c.tell_items.new.disk) (IsNone (AreOf g.D.Disk c.args.records.now c.args.disk.now f c.args.proxies.now) (c.args.spot.depth - 1) (c.args.walk.now.left - 1))
+    (subst (λ (f : Gapped). IsRefused g.D.Disk ⊥ (g.T.Tells.Unwritten c.args.disk.now c.tell_items.new.disk) (IsNone g.D.Disk c.tell_items.new.disk (AreOf g.D.Disk c.args.records.now c.args.disk.now f c.args.proxies.now) (c.args.spot.depth - 1) (c.args.walk.now.left - 1))
     c.in_err-behind.field-0.0 c.args.records.now c.tell_items.new.records c.args.disk.now c.tell_items.new.disk) below c.in_err-behind.ensures.refused))
 
 pub tell_tree-returns-in_err-close-clause-stops : goal.tell_tree-returns-in_err-close-clause-stops
@@ -298,7 +302,7 @@ tell_tree-returns-in_err-close-clause-stops g t c =
     let node : c.tree.inside.node ≡ c.args.tree.now.node = ap (λ (x : GappedTree). x.node) c.tree.view_is in
     let below : gapped_of c.as_slice.result.now ≡ c.args.tree.now.below = c.as_slice.ensures ∙ ap (λ (x : GappedTree). x.below) c.tree.view_is in
     let opened = subst (λ (n : Node). g.T.Tells.Told c.args.walk.now.teller c.args.disk.now (Open n ∷ []) c.open.new.self c.args.disk.now) node (c.in_ok-open.ensures c.args.disk.now) in
-    let has = subst (λ (f : Gapped). HasTold g.T.Tells.Told (AreOf g.D.Disk c.args.records.now c.args.disk.now f c.args.proxies.now) c.open.new.self c.args.disk.now (c.args.walk.now.left - 1) c.tell_items.new.walk.teller c.tell_items.new.disk c.tell_items.new.walk.left)
+    let has = subst (λ (f : Gapped). HasTold g.D.Disk g.T.Tells.Told (AreOf g.D.Disk c.args.records.now c.args.disk.now f c.args.proxies.now) c.open.new.self c.args.disk.now (c.args.walk.now.left - 1) c.tell_items.new.walk.teller c.tell_items.new.disk c.tell_items.new.walk.left)
     below c.in_ok-behind.ensures.told in
     let p = err_from_is_err_and c.from_residual-in_err-close.result c.from_residual-in_err-close.ensures.1 in
     rw p.1 (tree_not_closed (teller g) c.args.records.now c.args.tree.now c.args.proxies.now c.open.new.self opened (c.args.walk.now.left - 1) c.tell_items.new.walk.left c.tell_items.new.walk.teller c.tell_items.new.disk has)
@@ -308,7 +312,7 @@ tell_tree-returns-clause-told g t c =
     let node : c.tree.inside.node ≡ c.args.tree.now.node = ap (λ (x : GappedTree). x.node) c.tree.view_is in
     let below : gapped_of c.as_slice.result.now ≡ c.args.tree.now.below = c.as_slice.ensures ∙ ap (λ (x : GappedTree). x.below) c.tree.view_is in
     let opened = subst (λ (n : Node). g.T.Tells.Told c.args.walk.now.teller c.args.disk.now (Open n ∷ []) c.open.new.self c.args.disk.now) node (c.in_ok-open.ensures c.args.disk.now) in
-    let has = subst (λ (f : Gapped). HasTold g.T.Tells.Told (AreOf g.D.Disk c.args.records.now c.args.disk.now f c.args.proxies.now) c.open.new.self c.args.disk.now (c.args.walk.now.left - 1) c.tell_items.new.walk.teller c.tell_items.new.disk c.tell_items.new.walk.left)
+    let has = subst (λ (f : Gapped). HasTold g.D.Disk g.T.Tells.Told (AreOf g.D.Disk c.args.records.now c.args.disk.now f c.args.proxies.now) c.open.new.self c.args.disk.now (c.args.walk.now.left - 1) c.tell_items.new.walk.teller c.tell_items.new.disk c.tell_items.new.walk.left)
     below c.in_ok-behind.ensures.told in
     let closed = subst (λ (n : Node). g.T.Tells.Told c.tell_items.new.walk.teller c.tell_items.new.disk (Close n ∷ []) c.close.new.self c.tell_items.new.disk) node (c.in_ok-close.ensures c.tell_items.new.disk) in
     tree_told (teller g) c.args.records.now c.args.tree.now c.args.proxies.now c.open.new.self opened c.args.walk.now.left c.tell_items.new.walk.left c.tell_items.new.walk.teller c.close.new.self c.tell_items.new.disk has closed (omega arith)
@@ -323,8 +327,8 @@ tell_interval-loop-root-init g t c =
       stays = c.in_ok-piece.ensures.stays.1;
       fits = let counted : proxies_in c.in_ok-piece.piece.body.roots ≡ length c.in_ok-piece.piece.proxies = valid.body.counted in let a = ap proxies_in roots in let b = ap length proxies in omega arith;
       rooted = subst HaveRoots (sym proxies) valid.ranged;
-      way = subst (λ (f : Gapped). IsOnWay g.T.Tells.Told (IsIntervalAt g.D.Disk c.args.records.now c.args.disk.now (place_of c.args.rid) c.args.roots) (AreOf g.D.Disk c.piece_at.new.records c.piece_at.new.disk f c.as_slice-proxies.result.now) c.args.walk.now.teller c.args.disk.now c.args.walk.now.left c.begin.new.self c.piece_at.new.disk c.args.walk.now.left) (sym roots)
-          (subst (λ (ps : List Proxy). IsOnWay g.T.Tells.Told (IsIntervalAt g.D.Disk c.args.records.now c.args.disk.now (place_of c.args.rid) c.args.roots) (AreOf g.D.Disk c.piece_at.new.records c.piece_at.new.disk c.in_ok-piece.piece.body.roots ps) c.args.walk.now.teller c.args.disk.now c.args.walk.now.left c.begin.new.self c.piece_at.new.disk c.args.walk.now.left) (sym proxies)
+      way = subst (λ (f : Gapped). IsOnWay g.D.Disk g.T.Tells.Told (IsIntervalAt g.D.Disk c.args.records.now c.args.disk.now (place_of c.args.rid) c.args.roots) (AreOf g.D.Disk c.piece_at.new.records c.piece_at.new.disk f c.as_slice-proxies.result.now) c.args.walk.now.teller c.args.disk.now c.args.walk.now.left c.begin.new.self c.piece_at.new.disk c.args.walk.now.left) (sym roots)
+          (subst (λ (ps : List Proxy). IsOnWay g.D.Disk g.T.Tells.Told (IsIntervalAt g.D.Disk c.args.records.now c.args.disk.now (place_of c.args.rid) c.args.roots) (AreOf g.D.Disk c.piece_at.new.records c.piece_at.new.disk c.in_ok-piece.piece.body.roots ps) c.args.walk.now.teller c.args.disk.now c.args.walk.now.left c.begin.new.self c.piece_at.new.disk c.args.walk.now.left) (sym proxies)
           (interval_begins (teller g) c.args.records.now c.piece_at.new.records (place_of c.args.rid) c.args.roots paused c.piece_at.ensures.still c.args.walk.now.left c.weight.result c.in_ok-piece.piece c.begin.new.self c.in_ok-piece.ensures.stays.1 c.in_ok-piece.ensures.ok c.weight.ensures (c.in_ok-begin.ensures c.piece_at.new.disk)));
     }
 
@@ -335,16 +339,16 @@ tell_interval-loop-root-preserved g t c =
     let e : grown_of (drop i c.as_slice-root-items.result.now) ≡ Grow c.root-item.result.node c.root-item.result.below items = next_root c.as_slice-root-items.result.now i c.root-item.result c.loop-root-test.true c.root-item.is in
     let told = c.in_ok-proxies.ensures.told in
     let behind : drop (proxies_in c.root-item.result.below) c.loop-root.proxies.now ≡ c.in_ok-proxies.proxies.now = sym c.in_ok-proxies.ensures.behind in
-    let split : (l : Layout) → AreOf g.D.Disk c.loop-root.records c.loop-root.disk (grown_of (drop i c.as_slice-root-items.result.now)) c.loop-root.proxies.now l
+    let split : IsSome (g.D.Disk.contents c.tell_tree.new.disk) → (l : Layout) → AreOf g.D.Disk c.loop-root.records c.loop-root.disk (grown_of (drop i c.as_slice-root-items.result.now)) c.loop-root.proxies.now l
     → IsSplit (IsTreeOf g.D.Disk c.loop-root.records c.loop-root.disk c.root-item.result c.loop-root.proxies.now) (AreOf g.D.Disk c.tell_tree.new.records c.tell_tree.new.disk items (drop (proxies_in c.root-item.result.below) c.loop-root.proxies.now)) l =
-    λ l is. split_tree g.D.Disk c.loop-root.records c.tell_tree.new.records c.loop-root.disk c.tell_tree.new.disk (told_stands (teller g) {r0 = c.loop-root.records} {r1 = c.tell_tree.new.records} told.goes c.in_ok-proxies.ensures.stays) c.root-item.result items c.loop-root.proxies.now l
+    λ seen l is. split_tree g.D.Disk c.loop-root.records c.tell_tree.new.records c.loop-root.disk c.tell_tree.new.disk (told_stands (teller g) {r0 = c.loop-root.records} {r1 = c.tell_tree.new.records} told.goes c.in_ok-proxies.ensures.stays seen) c.root-item.result items c.loop-root.proxies.now l
     (subst (λ f. AreOf g.D.Disk c.loop-root.records c.loop-root.disk f c.loop-root.proxies.now l) e is) in
     record {
       stays = c.in_ok-proxies.ensures.stays ∙ c.loop-root.invariant.stays;
       fits = let fits : proxies_in (grown_of (drop i c.as_slice-root-items.result.now)) ≤ length c.loop-root.proxies.now = c.loop-root.invariant.fits in
           enough_left c.loop-root.proxies.now c.in_ok-proxies.proxies.now (proxies_in c.root-item.result.below) (proxies_in items) (proxies_in (grown_of (drop i c.as_slice-root-items.result.now))) (sym behind) (sym (ap proxies_in e)) fits;
       rooted = subst HaveRoots behind (ranged_drop (proxies_in c.root-item.result.below) c.loop-root.proxies.now c.loop-root.invariant.rooted);
-      way = subst (λ (ps : List Proxy). IsOnWay g.T.Tells.Told (IsIntervalAt g.D.Disk c.args.records.now c.args.disk.now (place_of c.args.rid) c.args.roots) (AreOf g.D.Disk c.tell_tree.new.records c.tell_tree.new.disk items ps) c.args.walk.now.teller c.args.disk.now c.args.walk.now.left
+      way = subst (λ (ps : List Proxy). IsOnWay g.D.Disk g.T.Tells.Told (IsIntervalAt g.D.Disk c.args.records.now c.args.disk.now (place_of c.args.rid) c.args.roots) (AreOf g.D.Disk c.tell_tree.new.records c.tell_tree.new.disk items ps) c.args.walk.now.teller c.args.disk.now c.args.walk.now.left
           c.tell_tree.new.walk.teller c.tell_tree.new.disk c.tell_tree.new.walk.left) behind
           (way_goes_on (teller g) c.loop-root.invariant.way (AreOf g.D.Disk c.tell_tree.new.records c.tell_tree.new.disk items (drop (proxies_in c.root-item.result.below) c.loop-root.proxies.now)) c.tell_tree.new.walk.teller c.tell_tree.new.disk c.tell_tree.new.walk.left told split);
     }
@@ -364,14 +368,14 @@ tell_items-loop-item-preserved g t c =
           let behind : drop (proxies_in w.in-Tree.tree.below) c.loop-item.rest.now ≡ w.in_ok-rest-in-Tree.rest.now = sym w.in_ok-rest-in-Tree.ensures.behind in
           let same = ap proxies_in e in
           let sum = passed.2 in
-          let split : (l : Layout) → AreOf g.D.Disk c.loop-item.records c.loop-item.disk (gapped_of (drop i c.args.items.now)) c.loop-item.rest.now l
+          let split : IsSome (g.D.Disk.contents w.tell_tree.new.disk) → (l : Layout) → AreOf g.D.Disk c.loop-item.records c.loop-item.disk (gapped_of (drop i c.args.items.now)) c.loop-item.rest.now l
           → IsSplit (IsTreeOf g.D.Disk c.loop-item.records c.loop-item.disk w.in-Tree.tree c.loop-item.rest.now) (AreOf g.D.Disk w.tell_tree.new.records w.tell_tree.new.disk items (drop (proxies_in w.in-Tree.tree.below) c.loop-item.rest.now)) l =
-          λ l is. split_tree g.D.Disk c.loop-item.records w.tell_tree.new.records c.loop-item.disk w.tell_tree.new.disk (told_stands (teller g) {r0 = c.loop-item.records} {r1 = w.tell_tree.new.records} told.goes w.in_ok-rest-in-Tree.ensures.stays) w.in-Tree.tree items c.loop-item.rest.now l
+          λ seen l is. split_tree g.D.Disk c.loop-item.records w.tell_tree.new.records c.loop-item.disk w.tell_tree.new.disk (told_stands (teller g) {r0 = c.loop-item.records} {r1 = w.tell_tree.new.records} told.goes w.in_ok-rest-in-Tree.ensures.stays seen) w.in-Tree.tree items c.loop-item.rest.now l
           (subst (λ f. AreOf g.D.Disk c.loop-item.records c.loop-item.disk f c.loop-item.rest.now l) e is) in
           rw (w.walk-is, w.records-is, w.disk-is, w.rest-is) (record {
             stays = w.in_ok-rest-in-Tree.ensures.stays ∙ c.loop-item.invariant.stays;
             passed = (passed.0 + proxies_in w.in-Tree.tree.below, sym behind ∙ dropped_twice c.args.proxies.now c.loop-item.rest.now passed.0 (proxies_in w.in-Tree.tree.below) passed.1, omega arith);
-            way = subst (λ (ps : List Proxy). IsOnWay g.T.Tells.Told (AreOf g.D.Disk c.args.records.now c.args.disk.now (gapped_of c.args.items.now) c.args.proxies.now) (AreOf g.D.Disk w.tell_tree.new.records w.tell_tree.new.disk items ps)
+            way = subst (λ (ps : List Proxy). IsOnWay g.D.Disk g.T.Tells.Told (AreOf g.D.Disk c.args.records.now c.args.disk.now (gapped_of c.args.items.now) c.args.proxies.now) (AreOf g.D.Disk w.tell_tree.new.records w.tell_tree.new.disk items ps)
                 c.args.walk.now.teller c.args.disk.now c.args.walk.now.left w.tell_tree.new.walk.teller w.tell_tree.new.disk w.tell_tree.new.walk.left) behind
                 (way_goes_on (teller g) c.loop-item.invariant.way (AreOf g.D.Disk w.tell_tree.new.records w.tell_tree.new.disk items (drop (proxies_in w.in-Tree.tree.below) c.loop-item.rest.now)) w.tell_tree.new.walk.teller w.tell_tree.new.disk w.tell_tree.new.walk.left told split);
           })
@@ -380,19 +384,19 @@ tell_items-loop-item-preserved g t c =
           let items = gapped_of (drop (i + 1) c.args.items.now) in
           let passed = c.loop-item.invariant.passed in
           let e : gapped_of (drop i c.args.items.now) ≡ Gap w.in-Run.count items = next_run c.args.items.now i c.item-item.result w.in-Run.count c.loop-item-test.true c.item-item.is w.in-Run.is in
-          let told = subst (λ (ps : List Proxy). HasTold g.T.Tells.Told (AreIntervalsOf g.D.Disk c.loop-item.records c.loop-item.disk ps) c.loop-item.walk.teller c.loop-item.disk c.loop-item.walk.left w.tell_row.new.walk.teller w.tell_row.new.disk w.tell_row.new.walk.left)
+          let told = subst (λ (ps : List Proxy). HasTold g.D.Disk g.T.Tells.Told (AreIntervalsOf g.D.Disk c.loop-item.records c.loop-item.disk ps) c.loop-item.walk.teller c.loop-item.disk c.loop-item.walk.left w.tell_row.new.walk.teller w.tell_row.new.disk w.tell_row.new.walk.left)
           w.split_at.ensures.front w.in_ok-tell_row-in-Run.ensures.told in
           let behind : drop w.in-Run.count c.loop-item.rest.now ≡ w.split_at.result.1.now = sym w.split_at.ensures.back in
           let same = ap proxies_in e in
           let sum = passed.2 in
-          let split : (l : Layout) → AreOf g.D.Disk c.loop-item.records c.loop-item.disk (gapped_of (drop i c.args.items.now)) c.loop-item.rest.now l
+          let split : IsSome (g.D.Disk.contents w.tell_row.new.disk) → (l : Layout) → AreOf g.D.Disk c.loop-item.records c.loop-item.disk (gapped_of (drop i c.args.items.now)) c.loop-item.rest.now l
           → IsSplit (AreIntervalsOf g.D.Disk c.loop-item.records c.loop-item.disk (take w.in-Run.count c.loop-item.rest.now)) (AreOf g.D.Disk w.tell_row.new.records w.tell_row.new.disk items (drop w.in-Run.count c.loop-item.rest.now)) l =
-          λ l is. split_row g.D.Disk c.loop-item.records w.tell_row.new.records c.loop-item.disk w.tell_row.new.disk (told_stands (teller g) {r0 = c.loop-item.records} {r1 = w.tell_row.new.records} told.goes w.in_ok-tell_row-in-Run.ensures.stays) w.in-Run.count items c.loop-item.rest.now l
+          λ seen l is. split_row g.D.Disk c.loop-item.records w.tell_row.new.records c.loop-item.disk w.tell_row.new.disk (told_stands (teller g) {r0 = c.loop-item.records} {r1 = w.tell_row.new.records} told.goes w.in_ok-tell_row-in-Run.ensures.stays seen) w.in-Run.count items c.loop-item.rest.now l
           (subst (λ f. AreOf g.D.Disk c.loop-item.records c.loop-item.disk f c.loop-item.rest.now l) e is) in
           rw (w.walk-is, w.records-is, w.disk-is, w.rest-is) (record {
             stays = w.in_ok-tell_row-in-Run.ensures.stays ∙ c.loop-item.invariant.stays;
             passed = (passed.0 + w.in-Run.count, sym behind ∙ dropped_twice c.args.proxies.now c.loop-item.rest.now passed.0 w.in-Run.count passed.1, omega arith);
-            way = subst (λ (ps : List Proxy). IsOnWay g.T.Tells.Told (AreOf g.D.Disk c.args.records.now c.args.disk.now (gapped_of c.args.items.now) c.args.proxies.now) (AreOf g.D.Disk w.tell_row.new.records w.tell_row.new.disk items ps)
+            way = subst (λ (ps : List Proxy). IsOnWay g.D.Disk g.T.Tells.Told (AreOf g.D.Disk c.args.records.now c.args.disk.now (gapped_of c.args.items.now) c.args.proxies.now) (AreOf g.D.Disk w.tell_row.new.records w.tell_row.new.disk items ps)
                 c.args.walk.now.teller c.args.disk.now c.args.walk.now.left w.tell_row.new.walk.teller w.tell_row.new.disk w.tell_row.new.walk.left) behind
                 (way_goes_on (teller g) c.loop-item.invariant.way (AreOf g.D.Disk w.tell_row.new.records w.tell_row.new.disk items (drop w.in-Run.count c.loop-item.rest.now)) w.tell_row.new.walk.teller w.tell_row.new.disk w.tell_row.new.walk.left told split);
           })

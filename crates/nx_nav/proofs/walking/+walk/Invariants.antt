@@ -25,7 +25,7 @@ invariant-tell_interval-loop-root g l =
       stays : l.records ≡ l.fn.records;
       fits : proxies_in (grown_of (drop l.root-index l.root-items)) ≤ length l.proxies;
       rooted : HaveRoots l.proxies;
-      way : IsOnWay g.T.Tells.Told (IsIntervalAt g.D.Disk l.fn.records l.fn.disk (place_of l.fn.rid) l.fn.roots) (AreOf g.D.Disk l.records l.disk (grown_of (drop l.root-index l.root-items)) l.proxies)
+      way : IsOnWay g.D.Disk g.T.Tells.Told (IsIntervalAt g.D.Disk l.fn.records l.fn.disk (place_of l.fn.rid) l.fn.roots) (AreOf g.D.Disk l.records l.disk (grown_of (drop l.root-index l.root-items)) l.proxies)
           l.fn.walk.teller l.fn.disk l.fn.walk.left l.walk.teller l.disk l.walk.left;
     }
 
@@ -34,7 +34,7 @@ invariant-tell_items-loop-item g l =
     record {
       stays : l.records ≡ l.fn.records;
       passed : (n : ℕ) × (l.rest ≡ drop n l.proxies) × (n + proxies_in (gapped_of (drop l.item-index l.items)) ≡ proxies_in (gapped_of l.items));
-      way : IsOnWay g.T.Tells.Told (AreOf g.D.Disk l.fn.records l.fn.disk (gapped_of l.items) l.proxies) (AreOf g.D.Disk l.records l.disk (gapped_of (drop l.item-index l.items)) l.rest)
+      way : IsOnWay g.D.Disk g.T.Tells.Told (AreOf g.D.Disk l.fn.records l.fn.disk (gapped_of l.items) l.proxies) (AreOf g.D.Disk l.records l.disk (gapped_of (drop l.item-index l.items)) l.rest)
           l.fn.walk.teller l.fn.disk l.fn.walk.left l.walk.teller l.disk l.walk.left;
     }
 
@@ -42,6 +42,6 @@ abbrev pub invariant-tell_row-loop-proxy : goal.invariant-tell_row-loop-proxy
 invariant-tell_row-loop-proxy g l =
     record {
       stays : l.records ≡ l.fn.records;
-      way : IsOnWay g.T.Tells.Told (AreIntervalsOf g.D.Disk l.fn.records l.fn.disk l.proxies) (AreIntervalsOf g.D.Disk l.records l.disk (drop l.proxy-index l.proxies))
+      way : IsOnWay g.D.Disk g.T.Tells.Told (AreIntervalsOf g.D.Disk l.fn.records l.fn.disk l.proxies) (AreIntervalsOf g.D.Disk l.records l.disk (drop l.proxy-index l.proxies))
           l.fn.walk.teller l.fn.disk l.fn.walk.left l.walk.teller l.disk l.walk.left;
     }

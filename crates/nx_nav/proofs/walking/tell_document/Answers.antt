@@ -1,4 +1,5 @@
 use Rattle.std.proofs.Common.{[], refl, sym, ◌∙◌}
+use Rattle.std.specs.Prelude.{IsSome}
 use Rattle.std.proofs.lemmas.Result.{err_from_is_err_and}
 use Rattle.nx_host.proofs.DiskLemmas.{none_still}
 use Rattle.nx_hold.specs.Changes.{place_of}
@@ -13,7 +14,7 @@ returns-then-is_ended-clause-stops g c = record {
   told = [];
   last = c.args.walk.now.teller;
   goes = g.met.T.Tells.asked c.args.walk.now.teller c.args.disk.now c.args.disk.now none_still;
-  first = λ document h. (steps_of document, refl);
+  first = λ seen document h. (steps_of document, refl);
 }
 
 pub returns-in_err-tell_interval-clause-stops : goal.returns-in_err-tell_interval-clause-stops
@@ -31,7 +32,7 @@ returns-then-walk-ne0-clause-stops g c = document_all_told c.args.walk.now.left 
 
 pub returns-then-walk-ne0-clause-refused : goal.returns-then-walk-ne0-clause-refused
 returns-then-walk-ne0-clause-refused g c =
-    is_damaged g.D.Disk ⊥ (g.T.Tells.Unwritten c.args.disk.now c.tell_interval.new.disk) (HoldsNoneWith g.D.Disk c.args.records.now c.args.disk.now (place_of c.args.root) c.args.walk.now.left)
+    is_damaged g.D.Disk ⊥ (g.T.Tells.Unwritten c.args.disk.now c.tell_interval.new.disk) (IsSome (g.D.Disk.contents c.tell_interval.new.disk) → HoldsNoneWith g.D.Disk c.args.records.now c.args.disk.now (place_of c.args.root) c.args.walk.now.left)
     {r0 = c.args.records.now} {r1 = c.tell_interval.new.records} {r2 = c.damaged.new.records} c.args.disk.now c.tell_interval.new.disk c.damaged.result c.damaged.ensures.result (sym c.is_ended.ensures ∙ c.if-is_ended.false) c.in_ok-tell_interval.ensures.stays
     c.damaged.ensures.ends
     (none_so_large c.args.walk.now.left c.tell_interval.new.walk.left c.tell_interval.new.walk.teller c.tell_interval.new.disk c.in_ok-tell_interval.ensures.told c.if-walk-ne0.true)

@@ -1,0 +1,21 @@
+use Rattle.std.proofs.Common.{[], sym, ◌∙◌}
+use Rattle.std.proofs.lemmas.List.{append-nil}
+use Rattle.nx_nav.proofs.GivenLemmas.{text_gives, text_within}
+use Rattle.nx_nav.proofs.exporting.export.Goals as goal
+
+pub returns-in_err-tell_document-clause-time : goal.returns-in_err-tell_document-clause-time
+returns-in_err-tell_document-clause-time g c = λ seen document h.
+    let stops = c.in_err-tell_document.ensures.stops in
+    let first = stops.first seen document h in
+    text_within g.H.Disk h c.replace.result c.args.block.now c.replace.ensures.value stops.told first.0 c.args.host.now c.tell_document.new.disk first.1 stops.goes.time
+
+pub returns-clause-ok : goal.returns-clause-ok
+returns-clause-ok g c = λ seen document h count.
+    let told = c.in_ok-tell_document.ensures.told in
+    text_gives g.H.Disk h c.replace.result c.args.block.now c.replace.ensures.value told.told c.tell_document.new.walk.teller.block (g.H.Disk.beside c.args.host.now).output (g.H.Disk.beside c.tell_document.new.disk).output
+    (told.all seen document h) told.goes.gives
+
+pub returns-clause-time : goal.returns-clause-time
+returns-clause-time g c = λ seen document h.
+    let told = c.in_ok-tell_document.ensures.told in
+    text_within g.H.Disk h c.replace.result c.args.block.now c.replace.ensures.value told.told [] c.args.host.now c.tell_document.new.disk (sym (told.all seen document h) ∙ sym (append-nil told.told)) told.goes.time

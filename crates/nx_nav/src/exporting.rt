@@ -1,0 +1,114 @@
+// The text of a document, given to an output.
+ghost use Rattle.std.specs.Prelude.{◌≡◌, ◌++◌, false, IsSome, IfErr, OnOk};
+ghost use Rattle.nx_host.specs.Disk.{Rose};
+ghost use Rattle.nx_records.specs.Records.{has_ended};
+ghost use Rattle.nx_pyx.specs.Text.{text};
+ghost use Rattle.nx_cuts.specs.Cut.{tree_of};
+ghost use Rattle.nx_hold.specs.Changes.{place_of};
+ghost use Rattle.nx_nav.specs.Given.{AsksAndGives, GivesBut, GivesWithin};
+ghost use Rattle.nx_nav.specs.Refusals.{OfEach, OfEachWith, HoldsNoneWith, IsRefused};
+
+use crate::NavError;
+use crate::telling::{push_end, push_start};
+use crate::walking::{Tells, Walk, tell_document};
+use nx_host::{Disk, Host};
+use nx_records::{Records, Rid};
+use nx_tree::{Bytes, NoMemory, Node};
+use std::alloc::Global;
+use std::mem;
+
+// As many bytes at least are given at once.
+const LEAST: usize = 65_536;
+
+/// Gives what the block has and, behind it, the canonical text of the document of so many nodes, its
+/// root counted, whose root's record stands at `root`, but for a last part, which is left in the block.
+/// The text is given as records are read, so that it is never in memory as a whole. What is said of
+/// documents holds where the disk's contents are still told afterwards.
+///
+/// Errors: those of `text_of`; `Write`, only where `out_faults` rose. The block is of no use then.
+pub fn export<H: Host>(
+    alloc: Global,
+    records: &mut Records,
+    host: &mut H,
+    root: Rid,
+    nodes: u32,
+    block: &mut Bytes,
+) -> Result<(), NavError>
+    ensures areas { AsksAndGives ⟦<H as Disk>⟧ host.old host.new }
+    ensures stays { OnOk result ((has_ended records.old ≡ false) × (records.new ≡ records.old)) }
+    ensures ok { OnOk result (IsSome (H.contents host.new) → OfEachWith ⟦<H as Disk>⟧ records.old host.old (place_of root) nodes (λ document.
+        GivesBut (block.old ++ text (tree_of document)) block.new (H.beside host.old).output (H.beside host.new).output)) }
+    ensures time { IsSome (H.contents host.new) → OfEach ⟦<H as Disk>⟧ records.old host.old (place_of root) (λ document.
+        GivesWithin ⟦<H as Disk>⟧ (block.old ++ text (tree_of document)) host.old host.new) }
+    ensures refused { IfErr result (λ e. IsRefused ⟦<H as Disk>⟧ ⊥ (Rose (H.beside host.old).out_faults (H.beside host.new).out_faults)
+        (IsSome (H.contents host.new) → HoldsNoneWith ⟦<H as Disk>⟧ records.old host.old (place_of root) nodes) e records.old records.new host.old host.new) }
+{
+    let mut walk = Walk {
+        alloc,
+        teller: Exporting {
+            block: mem::replace(block, Bytes::new(alloc)),
+        },
+        left: nodes,
+    };
+    tell_document(&mut walk, records, host, root)?;
+    *block = walk.teller.block;
+    Ok(())
+}
+
+// What isn't given yet.
+#[derive(Drop)]
+struct Exporting {
+    block: Bytes,
+}
+
+impl<H: Host> Tells<H> for Exporting {
+    ghost use Rattle.std.specs.Prelude.{◌≡◌, ◌++◌};
+    ghost use Rattle.nx_host.specs.Disk.{Rose};
+    ghost use Rattle.nx_nav.specs.Told.{told_text};
+    ghost use Rattle.nx_nav.specs.Given.{GivesText};
+
+    ghost Told = { λ a x told b y. GivesText ⟦<H as Disk>⟧ a.block x (told_text told) b.block y };
+
+    ghost Unwritten = { λ x y. Rose (H.beside x).out_faults (H.beside y).out_faults };
+
+    fn pause(&mut self, host: &mut H) -> Result<(), NavError> {
+        if self.block.len() < LEAST {
+            return Ok(());
+        }
+        match host.emit(self.block.as_slice()) {
+            Ok(()) => {
+                self.block.clear();
+                Ok(())
+            }
+            Err(_) => Err(NavError::Write),
+        }
+    }
+
+    fn begin(&mut self, _roots: u16, _weight: u32) -> Result<(), NoMemory> {
+        Ok(())
+    }
+
+    fn open(&mut self, node: &Node) -> Result<(), NoMemory> {
+        push_start(&mut self.block, node)
+    }
+
+    fn close(&mut self, node: &Node) -> Result<(), NoMemory> {
+        push_end(&mut self.block, node)
+    }
+
+    ghost use Rattle.std.proofs.lemmas.List.Concat.{flat_map-append};
+    ghost use Rattle.nx_nav.specs.Told.{step_text};
+    ghost use Rattle.nx_nav.specs.GivenLaws.{gives_nothing, gives_then, unwritten_before};
+
+    ghost asked = { λ a x y still. gives_nothing a.block still };
+
+    ghost then = { λ a b c x y z s t first second. gives_then a.block b.block c.block (told_text s) (told_text t) (told_text (s ++ t)) (flat_map-append step_text s t) first second };
+
+    ghost keeps = { λ a b x y s told. (told.areas).contents_stay };
+
+    ghost fewer_images = { λ a b x y s i told. ((told.areas).images_stay i).0 };
+
+    ghost faults_later = { λ a b x y s told. (told.areas).faults_later };
+
+    ghost unwritten_later = { λ a b x y z s told. unwritten_before (told.areas).out_faults_later };
+}
