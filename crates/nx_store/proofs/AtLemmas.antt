@@ -1,21 +1,20 @@
 -- A store at a state, over a disk that is asked alone.
-use Rattle.std.proofs.Common.{◌≡◌, refl, sym, ap, subst, ◌∙◌, false, inl}
-use Rattle.std.specs.Prelude.{Some, IsSome}
+use Rattle.std.proofs.Common.{◌≡◌, ℕ, List, sym, ap, subst, ◌∙◌, false}
+use Rattle.std.specs.Prelude.{Option, Some, IsSome}
 use Rattle.nx_host.specs.Disk.{Image}
 use Rattle.nx_host.specs.declared.disk.Disk.{Ghosts}
-use Rattle.nx_host.specs.Still.{IsStill, WritesAlone}
-use Rattle.nx_host.proofs.DiskLemmas.{settled_still, still_goes, written_alone_weaker}
+use Rattle.nx_host.specs.Phase.{LeavesAreas}
+use Rattle.nx_host.specs.Still.{IsStill}
+use Rattle.nx_host.specs.Time.{elapsed_weaker}
+use Rattle.nx_host.proofs.DiskLemmas.{settled_kept, settled_still}
 use Rattle.nx_wal.specs.Wal.{pending}
 use Rattle.nx_holdings.specs.Holdings.{Held}
 use Rattle.nx_records.specs.declared.records.Records.{Records}
-use Rattle.nx_records.specs.Records.{StandsFor, has_ended}
+use Rattle.nx_records.specs.Records.{StandsFor}
 use Rattle.nx_catalog.specs.Catalog.{Contents, IsCatalog}
-use Rattle.nx_script.specs.declared.command.Command.{Command}
-use Rattle.nx_script.specs.declared.reply.Reply.{Reply}
 use Rattle.nx_state.specs.State.{State}
 use Rattle.nx_state.specs.Stands.{Recovers}
-use Rattle.nx_store.specs.Step.{IsStep}
-use Rattle.nx_store.specs.Store.{is_ended, IsAt, IsWithin, IsAnswered}
+use Rattle.nx_store.specs.Store.{is_ended, IsAt, Shows, IsOf}
 use Rattle.nx_store.specs.declared.store.Store.{Store}
 
 module _ {D : Type 0} {d : Ghosts D} where
@@ -51,11 +50,27 @@ module _ {D : Type 0} {d : Ghosts D} where
       let keeps = (at.stands).keeps in
       subst (λ (j : Image). Recovers j (Some state)) (sym (((keeps.step).settled).only i may)) (at.held, ((s.records).saved, keeps.holds), at.state_is)
 
-  -- at each moment of a call that asks the disk alone each image is that of the state before it
-  pub still_within : {s : Store} {x0 x1 : D} (command : Command) → IsStill d x0 x1 → WritesAlone d x0 x1 (λ i. IsWithin d s x0 command i)
-  still_within command still = written_alone_weaker (still_goes still) (λ told i may state at. inl (at_image at may))
+  -- ... over a disk whose areas stay as they are, whatever is taken and given beside it
+  pub at_beside : {s : Store} {x0 x1 : D} {P : Option (List ℕ) → Type 0} {state : State} → LeavesAreas d x0 x1 P → IsSome (d.contents x1) → IsAt d s x0 state → IsAt d s x1 state
+  at_beside leaves told at = record {
+    held = at.held;
+    stands = record {
+      keeps = record {
+        runs = ((at.stands).keeps).runs;
+        image = ((at.stands).keeps).image;
+        step = record {
+          settled = settled_kept leaves.contents_stay told (λ i left. (leaves.images_stay i).0 left) (((at.stands).keeps).step).settled;
+          follows = (((at.stands).keeps).step).follows;
+        };
+        holds = ((at.stands).keeps).holds;
+      };
+      holds = (at.stands).holds;
+    };
+    none_waits = at.none_waits;
+    state_is = at.state_is;
+    catalog = at.catalog;
+  }
 
-  -- a command that is answered so and changes nothing
-  pub still_answered : (s0 s1 : Store) {x0 x1 : D} (command : Command) (reply : Reply) → s1.records ≡ s0.records → s1.catalog ≡ s0.catalog → IsStill d x0 x1
-      → ((state : State) → IsAt d s0 x0 state → IsStep state command reply state) → IsAnswered d s0 s1 x0 x1 command reply
-  still_answered s0 s1 command reply records catalog still step state at told = (state, step state at, at_kept {s0 = s0} {s1 = s1} records catalog still at)
+  -- at each moment of a call that asks the disk alone each image is that of the state
+  pub shows_still : {s : Store} {x0 x1 : D} {state : State} → IsStill d x0 x1 → IsAt d s x0 state → Shows d (IsOf state) x0 x1
+  shows_still still at = elapsed_weaker still.time (λ t h. (h.0, at_image at h.1))

@@ -1,6 +1,6 @@
 -- The documents of a store at a state, found by their names.
-use Rattle.std.proofs.Common.{◌≡◌, ℕ, ◌+◌, Bool, true, false, cond, List, [], ◌∷◌, map, refl, sym, ap, subst, ◌∙◌, Option, None, Some}
-use Rattle.std.specs.Prelude.{option_map, All}
+use Rattle.std.proofs.Common.{◌≡◌, ℕ, Bool, true, false, cond, List, [], ◌∷◌, map, refl, sym, ap, subst, ◌∙◌, Option, None, Some}
+use Rattle.std.specs.Prelude.{option_map}
 use Rattle.std.specs.Option.{unwrap_or}
 use Rattle.std.specs.List.{AllByRecursion}
 use Rattle.std.specs.Ordering.{eq_by_cmp}
@@ -13,7 +13,7 @@ use Rattle.nx_script.specs.Field.{name_order}
 use Rattle.nx_hold.specs.declared.entry.DocEntry.{DocEntry}
 use Rattle.nx_hold.specs.Changes.{place_of}
 use Rattle.nx_hold.specs.Documents.{HasDocument}
-use Rattle.nx_catalog.specs.Catalog.{Contents, Entries}
+use Rattle.nx_catalog.specs.Catalog.{Contents}
 use Rattle.nx_state.specs.State.{State, size_of}
 use Rattle.nx_state.specs.Stands.{StoredDocument, IsStoredIn}
 use Rattle.nx_store.specs.Step.{listed}

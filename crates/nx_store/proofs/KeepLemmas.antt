@@ -1,9 +1,9 @@
 -- What the steps of a load leave of a store, and what they are refused for.
-use Rattle.std.proofs.Common.{◌≡◌, ◌⊎◌, ℕ, ◌+◌, ◌-◌, ◌*◌, ◌^◌, ◌≤◌, min, List, [], length, Option, None, Some, inl, inr, true, false, refl, sym, ap, ap₂, ◌∙◌, subst, arith}
-use Rattle.std.specs.Prelude.{All, IsSome, Result, Ok, Err, IfErr}
+use Rattle.std.proofs.Common.{◌≡◌, ◌⊎◌, ℕ, ◌+◌, ◌-◌, ◌*◌, ◌^◌, ◌≤◌, min, List, [], length, None, inl, inr, true, false, sym, ap, ap₂, ◌∙◌, subst, arith}
+use Rattle.std.specs.Prelude.{All, Result, Ok, Err, IfErr}
 use Rattle.std.specs.FinMap.{entries, get, insert, remove}
 use Rattle.std.proofs.lemmas.Bool.{false≢true}
-use Rattle.nx_host.specs.Disk.{Image, Rose}
+use Rattle.nx_host.specs.Disk.{Rose}
 use Rattle.nx_host.specs.declared.disk.Disk.{Ghosts}
 use Rattle.nx_host.specs.Still.{IsStill}
 use Rattle.nx_tree.specs.Forest.{OrderedTree, nodes}
@@ -17,7 +17,7 @@ use Rattle.nx_records.specs.declared.error.StoreError.{StoreError}
 use Rattle.nx_records.specs.declared.error.StoreError.TheVariants as error
 use Rattle.nx_records.specs.Records.{has_ended, settings_of, StandsFor, KeepsSaved, ComesTo}
 use Rattle.nx_records.specs.Changes.{SetsCatalog, catalog_needs}
-use Rattle.nx_records.specs.Refusals.{EndNow, RunsOn, NotStored}
+use Rattle.nx_records.specs.Refusals.{RunsOn, NotStored}
 use Rattle.nx_records.proofs.StandLemmas.{abandon_stands}
 use Rattle.nx_matrix.specs.declared.rule.Rule.{Rule}
 use Rattle.nx_script.specs.Rule.{HasLabels}
@@ -25,10 +25,10 @@ use Rattle.nx_hold.specs.declared.entry.DocEntry.{DocEntry}
 use Rattle.nx_hold.specs.Changes.{ComesTidy}
 use Rattle.nx_hold.proofs.RefusalLemmas.{runs_then, saved_then}
 use Rattle.nx_catalog.specs.Catalog.{Contents, Entries, IsCatalog, catalog_bytes}
-use Rattle.nx_state.specs.State.{State, all_nodes}
+use Rattle.nx_state.specs.State.{State}
 use Rattle.nx_build.specs.Storing.{StoresDocument}
 use Rattle.nx_store.specs.Store.{IsAt}
-use Rattle.nx_store.specs.Loading.{IsNew, IsKept, IsLeft, HasNoRoom, NotKept}
+use Rattle.nx_store.specs.Loading.{IsNew, IsKept, IsLeft, NotKept}
 use Rattle.nx_store.specs.declared.store.Store.{Store}
 use Rattle.nx_store.proofs.NameLemmas.{taken_back}
 use Rattle.nx_store.proofs.LoadLemmas.{IsBrought, brought, set_state, save_full, store_full, many_full}

@@ -1,8 +1,9 @@
 pub mod AtLemmas
+pub mod ShowLemmas
 pub mod FoundLemmas
 pub mod RefusalLemmas
-pub mod CheckpointLemmas
 pub mod LookLemmas
+pub mod ExportLemmas
 pub mod ListedLemmas
 pub mod PlanLemmas
 pub mod NameLemmas
@@ -12,3 +13,4 @@ pub mod KeepLemmas
 pub mod StepLemmas
 pub mod LogLemmas
 pub mod AppliedLemmas
+pub mod TextLemmas

@@ -1,49 +1,28 @@
 -- What the steps of a load make of a store that is at a state.
-use Rattle.std.proofs.Common.{◌≡◌, ◌⊎◌, ℕ, ◌+◌, ◌-◌, ◌*◌, ◌<◌, ◌≤◌, List, ◌∷◌, ◌++◌, length, map, Option, None, Some, IsPermutation, inl, inr, true, false, refl, sym, ap, ◌∙◌, subst, arith}
-use Rattle.std.specs.Prelude.{All, IsSome}
+use Rattle.std.proofs.Common.{◌≡◌, ℕ, ◌+◌, ◌*◌, ◌<◌, ◌≤◌, List, ◌∷◌, ◌++◌, length, map, None, refl, sym, ap, ◌∙◌, subst, arith}
 use Rattle.std.specs.List.{sum}
 use Rattle.std.specs.FinMap.{FinMap, entries, get, insert, find}
 use Rattle.std.proofs.lemmas.List.{length-map}
-use Rattle.std.proofs.lemmas.Bool.{false≢true}
-use Rattle.nx_host.specs.Disk.{Image, Rose}
-use Rattle.nx_host.specs.declared.disk.Disk.{Ghosts}
-use Rattle.nx_host.specs.Still.{IsStill, WritesAlone}
-use Rattle.nx_tree.specs.declared.node.Node.{Node}
 use Rattle.nx_tree.specs.Forest.{OrderedTree, nodes}
 use Rattle.nx_parts.specs.declared.interval.Interval.{Interval}
 use Rattle.nx_parts.specs.Order.{AreInOrder}
 use Rattle.nx_replay.specs.Log.{Pages}
-use Rattle.nx_wal.specs.Wal.{Follows, pending, current}
 use Rattle.nx_holdings.specs.declared.header.Settings.{Settings}
-use Rattle.nx_holdings.specs.Header.{AreSettings}
 use Rattle.nx_holdings.specs.Holdings.{Held, Holds, chain_count}
-use Rattle.nx_records.specs.declared.records.Records.{Records}
-use Rattle.nx_records.specs.declared.error.StoreError.{StoreError}
-use Rattle.nx_records.specs.declared.error.StoreError.TheVariants as error
-use Rattle.nx_records.specs.Records.{has_ended, settings_of, HasSaved, StandsFor, KeepsSaved, ComesTo}
 use Rattle.nx_records.specs.Changes.{SetsCatalog, catalog_needs}
-use Rattle.nx_records.specs.Refusals.{EndNow, RunsOn, NotStored}
-use Rattle.nx_records.proofs.StandLemmas.{abandon_stands}
-use Rattle.nx_piece.specs.declared.piece.Piece.{Piece}
 use Rattle.nx_cuts.specs.Cut.{CutTree, tree_of, parts_of}
-use Rattle.nx_layouts.specs.Layout.{RecordPlace, Layout, IsLaidOutAs}
+use Rattle.nx_layouts.specs.Layout.{IsLaidOutAs}
 use Rattle.nx_script.specs.Field.{name_order}
-use Rattle.nx_script.specs.Rule.{HasLabels}
 use Rattle.nx_hold.specs.declared.entry.DocEntry.{DocEntry}
-use Rattle.nx_hold.specs.Changes.{place_of, ComesTidy}
-use Rattle.nx_hold.specs.Pieces.{IsTidy, PieceMap}
+use Rattle.nx_hold.specs.Pieces.{IsTidy}
 use Rattle.nx_hold.proofs.MapLemmas.{piece_map}
 use Rattle.nx_catalog.specs.Catalog.{Contents, IsCatalog, catalog_bytes}
 use Rattle.nx_catalog.proofs.CatalogLemmas.{one_contents}
 use Rattle.nx_catalog.proofs.LengthLemmas.{most_bytes}
 use Rattle.nx_state.specs.State.{State, size_of, all_nodes}
-use Rattle.nx_state.specs.Stands.{StoredDocument, IsStoredIn, HoldsDocuments, HoldsState}
-use Rattle.nx_state.specs.Laws.{LeavesFree}
+use Rattle.nx_state.specs.Stands.{StoredDocument, HoldsDocuments, HoldsState}
 use Rattle.nx_build.specs.Storing.{StoresDocument}
 use Rattle.nx_store.specs.Step.{with_document, MayBeFull}
-use Rattle.nx_store.specs.Store.{is_ended, IsAt, IsNowhere}
-use Rattle.nx_store.specs.Loading.{IsNew, IsKept, IsLeft, HasNoRoom, NotKept}
-use Rattle.nx_store.specs.declared.store.Store.{Store}
 use Rattle.nx_state.proofs.ChangeLemmas.{document_comes, catalog_comes}
 use Rattle.nx_state.proofs.FreeLemmas.{documents_leave_free}
 use Rattle.nx_store.proofs.NameLemmas.{front, behind, front-behind, none_either, none_listed, inserted_between}

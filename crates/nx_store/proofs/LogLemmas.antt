@@ -1,5 +1,6 @@
 -- A store whose log was emptied.
-use Rattle.std.proofs.Common.{◌≡◌, List, [], ℕ, Some, sym, subst}
+use Rattle.std.proofs.Common.{◌≡◌, List, [], ℕ, Option, None, Some, refl, sym, subst}
+use Rattle.std.proofs.lemmas.Bool.{false≢true}
 use Rattle.std.specs.Prelude.{IsSome}
 use Rattle.nx_host.specs.Disk.{Image}
 use Rattle.nx_host.specs.declared.disk.Disk.{Ghosts}
@@ -13,10 +14,12 @@ use Rattle.nx_records.specs.Records.{has_ended, HasSaved, StandsFor}
 use Rattle.nx_records.proofs.StandLemmas.{abandon_stands}
 use Rattle.nx_catalog.specs.Catalog.{Contents, IsCatalog}
 use Rattle.nx_state.specs.State.{State}
-use Rattle.nx_state.specs.Stands.{Recovers}
-use Rattle.nx_store.specs.Store.{IsAt}
+use Rattle.nx_store.specs.Store.{IsAt, IsOf}
 use Rattle.nx_store.specs.declared.store.Store.{Store}
-use Rattle.nx_store.proofs.CheckpointLemmas.{some_value}
+
+pub some_value : {T : Type 0} (o : Option T) → IsSome o → (x : T) × (o ≡ Some x)
+some_value None told = absurd (false≢true told)
+some_value (Some x) told = (x, refl)
 
 module _ {D : Type 0} {d : Ghosts D} (s0 : Store) (r1 : Records) (x0 : D) (follows : (log : List ℕ) → Follows (s0.records).wal log → Follows r1.wal log) (none : pending r1.wal ≡ [])
     (heads : (r1.saved ≡ (s0.records).saved) × (r1.head ≡ (s0.records).saved)) (ended : has_ended r1 ≡ has_ended s0.records) where
@@ -24,7 +27,7 @@ module _ {D : Type 0} {d : Ghosts D} (s0 : Store) (r1 : Records) (x0 : D) (follo
   dropped state at = abandon_stands {r0 = s0.records} {r1 = r1} follows none heads ended (at.stands).keeps
 
   -- at each moment each image is that of the state
-  pub emptied_goes : (x1 : D) → WritesAlone d x0 x1 (λ i. (saved : Held) → HasSaved d r1 x0 saved → Holds (replay i) saved) → WritesAlone d x0 x1 (λ i. (state : State) → IsAt d s0 x0 state → Recovers i (Some state))
+  pub emptied_goes : (x1 : D) → WritesAlone d x0 x1 (λ i. (saved : Held) → HasSaved d r1 x0 saved → Holds (replay i) saved) → WritesAlone d x0 x1 (λ i. (state : State) → IsAt d s0 x0 state → IsOf state i)
   emptied_goes x1 goes = written_alone_weaker goes (λ told i held state at. (at.held, held at.held (dropped state at).keeps, at.state_is))
 
   -- and then the store is at it

@@ -1,21 +1,19 @@
 -- What looks at a store at a state are answered.
-use Rattle.std.proofs.Common.{◌≡◌, ℕ, ◌+◌, List, refl, sym, ap, ◌∙◌}
-use Rattle.std.specs.Prelude.{Option, Some, None, map, length}
+use Rattle.std.proofs.Common.{◌≡◌, ℕ, List, refl, sym, ap, ◌∙◌}
+use Rattle.std.specs.Prelude.{Some, None, map}
 use Rattle.std.specs.Option.{option_map_or}
 use Rattle.std.specs.FinMap.{get, entries}
 use Rattle.nx_host.specs.declared.disk.Disk.{Ghosts}
 use Rattle.nx_tree.specs.Forest.{OrderedTree}
 use Rattle.nx_tree.specs.Edit.{at as at_path}
 use Rattle.nx_tree.specs.declared.node.Node.{Node}
-use Rattle.nx_pyx.specs.Text.{text}
-use Rattle.nx_parts.specs.Partitioning.{part_weights}
-use Rattle.nx_cuts.specs.Cut.{CutTree, tree_of, parts_of}
+use Rattle.nx_cuts.specs.Cut.{CutTree}
 use Rattle.nx_hold.specs.declared.entry.DocEntry.{DocEntry}
 use Rattle.nx_hold.specs.Changes.{place_of}
 use Rattle.nx_nav.specs.Refusals.{OfEach, OfEachWith, HoldsNone, HoldsNoneWith}
 use Rattle.nx_nav.specs.Shows.{ShowsNode}
 use Rattle.nx_nav.specs.declared.finding.Shown.{Shown}
-use Rattle.nx_script.specs.declared.command.Command.TheVariants.{Names, Export, Get, Layout}
+use Rattle.nx_script.specs.declared.command.Command.TheVariants.{Names}
 use Rattle.nx_script.specs.declared.reply.Reply.{Reply}
 use Rattle.nx_script.specs.declared.reply.Reply.TheVariants as reply
 use Rattle.nx_script.specs.declared.reply.ReplyError.TheVariants.{NoDocument, NoNode}

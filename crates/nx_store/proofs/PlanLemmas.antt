@@ -1,7 +1,6 @@
 -- Intervals in document order stand in one order alone.
-use Rattle.std.proofs.Common.{◌≡◌, ◌⊎◌, ℕ, zero, suc, ◌<◌, List, [], ◌∷◌, length, Contains, IsPermutation, AllPairs, slice_index_or, inl, inr, refl, sym, ap₂, ◌∙◌, subst, arith}
+use Rattle.std.proofs.Common.{◌≡◌, ◌⊎◌, ℕ, zero, suc, List, [], ◌∷◌, Contains, IsPermutation, AllPairs, inl, inr, refl, sym, ap₂, ◌∙◌, subst, arith}
 use Rattle.std.proofs.lemmas.List.Sorted.{Contains-permutation, IsPermutation-sym}
-use Rattle.nx_tree.specs.declared.node.Node.{Node}
 use Rattle.nx_parts.specs.declared.interval.Interval.{Interval}
 use Rattle.nx_parts.specs.Order.{ComesBefore, first_member, AreInOrder}
 use Rattle.nx_cuts.specs.Cut.{Bare, Grown, Kept, CutTree, width, part_weight, AreFree, AreParts, parts_of}

@@ -1,7 +1,7 @@
 -- How refusals of the crates below are handed on.
-use Rattle.std.proofs.Common.{◌≡◌, ◌≤◌, ℕ, ◌+◌, false, true, refl, sym, ap, subst, ◌∙◌, arith}
+use Rattle.std.proofs.Common.{◌≡◌, ◌≤◌, ℕ, false, sym, ap, subst, ◌∙◌, arith}
 use Rattle.std.proofs.lemmas.Bool.{false≢true}
-use Rattle.std.specs.Prelude.{Result, Ok, Err, IfErr, min, ◌^◌, ◌-◌, IsSome}
+use Rattle.std.specs.Prelude.{Result, Err, IfErr}
 use Rattle.nx_host.specs.Disk.{Image, Rose}
 use Rattle.nx_host.specs.declared.disk.Disk.{Ghosts}
 use Rattle.nx_host.specs.Still.{IsStill, IsSettled}
@@ -20,10 +20,9 @@ use Rattle.nx_nav.specs.declared.error.NavError.{NavError}
 use Rattle.nx_nav.specs.declared.error.NavError.TheVariants as nav
 use Rattle.nx_nav.specs.Refusals.{IsRefused}
 use Rattle.nx_store.specs.Told.{told_of, told_by}
-use Rattle.nx_store.specs.Store.{IsAt, IsNowhere, NotApplied, NotOpened}
+use Rattle.nx_store.specs.Store.{IsNowhere, NotApplied, NotOpened}
 use Rattle.nx_store.specs.declared.store.Store.{Store}
 use Rattle.nx_store.specs.declared.error.EngineError.{EngineError}
-use Rattle.nx_store.proofs.AtLemmas.{at_kept}
 
 -- the error that a `?` hands on
 pub told_passed : {T : Type 0} (r : Result T EngineError) (P : EngineError → Type 0) (e : EngineError) → (y : EngineError) × (r ≡ Err y) × (y ≡ e) → P e → IfErr r P
@@ -60,13 +59,22 @@ module _ {D : Type 0} (d : Ghosts D) where
   pub look_refused : (s0 s1 : Store) {x0 x1 : D} (Nowhere : Type 0) {Lacks : Type 0} (e : NavError) → (Lacks → IsNowhere d s0 x0) → IsStill d x0 x1
       → s1.catalog ≡ s0.catalog → (s1.records ≡ s0.records → s1 ≡ s0) → IsRefused d Nowhere ⊥ Lacks e s0.records s1.records x0 x1 → NotApplied d (told_by e) s0 s1 x0 x1
   look_refused s0 s1 Nowhere nav.NoNode lacks still catalog same h =
-      (h.1, ap (λ (r : Records). has_ended r) h.2 ∙ h.1, λ state at told. at_kept {s0 = s0} {s1 = s1} h.2 catalog still at)
+      (h.1, ap (λ (r : Records). has_ended r) h.2 ∙ h.1)
   look_refused s0 s1 Nowhere nav.Disk lacks still catalog same h = (h.0, (h.1.before, h.1.after))
   look_refused s0 s1 Nowhere nav.Write lacks still catalog same h = absurd h.0
   look_refused s0 s1 Nowhere (nav.Damaged page) lacks still catalog same h = ((h.1.before, h.1.after), λ told. lacks h.0)
   look_refused s0 s1 Nowhere nav.Ended lacks still catalog same h = (h.0, same h.1, still)
   look_refused s0 s1 Nowhere nav.Memory lacks still catalog same h =
-      (h.0, ap (λ (r : Records). has_ended r) h.1 ∙ h.0, λ state at told. at_kept {s0 = s0} {s1 = s1} h.1 catalog still at)
+      (h.0, ap (λ (r : Records). has_ended r) h.1 ∙ h.0)
+
+  -- records that run on are left
+  pub look_same : (Nowhere Lacks : Type 0) (r0 r1 : Records) (x0 x1 : D) (e : NavError) → IsRefused d Nowhere ⊥ Lacks e r0 r1 x0 x1 → has_ended r1 ≡ false → r1 ≡ r0
+  look_same Nowhere Lacks r0 r1 x0 x1 nav.NoNode h runs = h.2
+  look_same Nowhere Lacks r0 r1 x0 x1 nav.Disk h runs = absurd (false≢true (sym runs ∙ h.1.after))
+  look_same Nowhere Lacks r0 r1 x0 x1 nav.Write h runs = absurd h.0
+  look_same Nowhere Lacks r0 r1 x0 x1 (nav.Damaged page) h runs = absurd (false≢true (sym runs ∙ h.1.after))
+  look_same Nowhere Lacks r0 r1 x0 x1 nav.Ended h runs = h.1
+  look_same Nowhere Lacks r0 r1 x0 x1 nav.Memory h runs = h.1
 
   -- the path leads nowhere
   pub is_nowhere : (Nowhere Unwritten Lacks : Type 0) (r0 r1 : Records) (x0 x1 : D) (e : NavError) → e ≡ nav.NoNode → IsRefused d Nowhere Unwritten Lacks e r0 r1 x0 x1

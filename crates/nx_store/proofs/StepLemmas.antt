@@ -1,6 +1,6 @@
 -- A load that came to its commit, or was refused, is a step.
-use Rattle.std.proofs.Common.{◌≡◌, ◌⊎◌, ℕ, ◌+◌, ◌≤◌, List, [], length, Option, None, Some, inl, inr, true, false, refl, sym, ap, ◌∙◌, subst, arith}
-use Rattle.std.specs.Prelude.{IsSome, MatchOption, option_map}
+use Rattle.std.proofs.Common.{◌≡◌, ◌⊎◌, ℕ, ◌+◌, ◌≤◌, List, [], length, Option, None, Some, inl, inr, false, refl, sym, ap, ◌∙◌, subst, arith}
+use Rattle.std.specs.Prelude.{IsSome, Ok, MatchOption, option_map}
 use Rattle.std.specs.Bool.{MatchBool}
 use Rattle.std.specs.Option.{is_some}
 use Rattle.std.specs.FinMap.{get}
@@ -9,14 +9,13 @@ use Rattle.std.proofs.lemmas.List.Sorted.{length_permutation}
 use Rattle.nx_host.specs.Disk.{Image}
 use Rattle.nx_host.specs.declared.disk.Disk.{Ghosts}
 use Rattle.nx_host.specs.Still.{IsStill, WritesAlone}
-use Rattle.nx_host.proofs.DiskLemmas.{written_alone_then, written_alone_weaker}
 use Rattle.nx_tree.specs.Forest.{OrderedTree, nodes}
 use Rattle.nx_weights.specs.Weight.{first_heavy, weighed}
 use Rattle.nx_weights.proofs.AtMostLemmas.{light_none}
 use Rattle.nx_parts.specs.declared.interval.Interval.{Interval}
 use Rattle.nx_parts.specs.Minima.{IsLeanOptimal}
 use Rattle.nx_parts.specs.Partitioning.{IsFeasible}
-use Rattle.nx_cuts.specs.Cut.{CutTree, tree_of, parts_of, intervals, cuts, forest}
+use Rattle.nx_cuts.specs.Cut.{parts_of, intervals, cuts, forest}
 use Rattle.nx_cuts.proofs.AtMostLemmas.{feasible_light}
 use Rattle.nx_cuts.proofs.DrawnLaw.{feasible_drawn}
 use Rattle.nx_cuts.proofs.FeasibleLemmas.{length-intervals}
@@ -33,17 +32,16 @@ use Rattle.nx_script.specs.declared.command.LoadBody.TheVariants.{Read, Wrong}
 use Rattle.nx_script.specs.declared.command.Command.TheVariants.{Load}
 use Rattle.nx_script.specs.declared.reply.Reply.{Reply}
 use Rattle.nx_script.specs.declared.reply.Reply.TheVariants as reply
-use Rattle.nx_script.specs.declared.reply.ReplyError.{ReplyError}
 use Rattle.nx_script.specs.declared.reply.ReplyError.TheVariants.{Exists, Pyx, TooHeavy, Full}
 use Rattle.nx_state.specs.State.{State, all_nodes}
-use Rattle.nx_state.specs.Stands.{Recovers}
 use Rattle.nx_store.specs.Step.{Refuses, Loads, MayBeFull, heavy_fault, BodyStep, IsStep, with_document}
-use Rattle.nx_store.specs.Store.{IsAt, IsWithin, IsAnswered}
+use Rattle.nx_store.specs.Store.{IsAt, IsOfEither, Shows, ShowsBegun, IsApplied}
 use Rattle.nx_store.specs.Loading.{IsNew, IsChosen, IsKept}
 use Rattle.nx_store.specs.declared.store.Store.{Store}
-use Rattle.nx_store.proofs.AtLemmas.{still_within}
+use Rattle.nx_store.proofs.AtLemmas.{shows_still}
 use Rattle.nx_store.proofs.FoundLemmas.{at_found, at_none}
-use Rattle.nx_store.proofs.CheckpointLemmas.{some_value}
+use Rattle.nx_store.proofs.LogLemmas.{some_value}
+use Rattle.nx_store.proofs.ShowLemmas.{shows_then, shows_written}
 
 -- a feasible partitioning has no more intervals than the tree has nodes
 pub few_parts : (k : ℕ) (tree : OrderedTree) (parts : List Interval) → IsFeasible k tree parts → length parts ≤ 1 + nodes tree.below
@@ -130,32 +128,34 @@ module _ {D : Type 0} {d : Ghosts D} where
           next_is = refl;
         })))
 
-    -- at each moment of the commit
-    pub commit_within : (s1 : Store) (x1 x2 : D) → IsStill d x0 x1 → ((state : State) → IsAt d s0 x0 state → IsKept d s1 x1 state name tree parts)
-        → WritesAlone d x1 x2 (λ i. (saved now : Held) → StandsFor d s1.records x1 saved now → Holds (replay i) saved ⊎ Holds (replay i) now)
-        → WritesAlone d x0 x2 (λ i. IsWithin d s0 x0 (Load name (Read tree)) i)
-    commit_within s1 x1 x2 still kept goes =
-        written_alone_then {a = x0} {b = x1} {c = x2} {P = λ i. IsWithin d s0 x0 (Load name (Read tree)) i} (still_within {s = s0} (Load name (Read tree)) still) goes (λ told i held state at.
-        let k = kept state at in
-        elim (held k.saved k.now k.stands) [
-          | inl was ↦ inl (k.saved, was, k.was)
-          | inr now ↦ inr (reply.Loaded (1 + nodes tree.below) (length parts), with_document state name k.document, kept_answers s1 x1 state at k, (k.now, now, k.will))
-        ])
+    module _ (s1 : Store) (x1 x2 : D) (still : IsStill d x0 x1) (goes : WritesAlone d x1 x2 (λ i. (saved now : Held) → StandsFor d s1.records x1 saved now → Holds (replay i) saved ⊎ Holds (replay i) now))
+        (state : State) (at : IsAt d s0 x0 state) (k : IsKept d s1 x1 state name tree parts) (told : IsSome (d.contents x2)) where
+      -- at each moment of the commit
+      commit_shows : Shows d (IsOfEither state (with_document state name k.document)) x0 x2
+      commit_shows = shows_then d (still.beside_stays).output (λ i of. inl of) (λ i of. of) (shows_still still at) (shows_written d goes told (λ i held. elim (held k.saved k.now k.stands) [
+        | inl was ↦ inl (k.saved, was, k.was)
+        | inr now ↦ inr (k.now, now, k.will)
+      ]))
 
-    -- after it
-    pub commit_answered : (s1 s2 : Store) (x1 x2 : D) (r : Reply) → ((state : State) → IsAt d s0 x0 state → IsKept d s1 x1 state name tree parts)
-        → ((saved now : Held) (image : Image) → StandsFor d s1.records x1 saved now → d.contents x2 ≡ Some image → StandsFor d s2.records x2 now now)
-        → pending (s2.records).wal ≡ [] → s2.catalog ≡ s1.catalog → r ≡ reply.Loaded (1 + nodes tree.below) (length parts) → IsAnswered d s0 s2 x0 x2 (Load name (Read tree)) r
-    commit_answered s1 s2 x1 x2 r kept stands none catalog is state at told =
-        let k = kept state at in
-        let image = some_value (d.contents x2) told in (
-          with_document state name k.document,
-          subst (λ (answer : Reply). IsStep state (Load name (Read tree)) answer (with_document state name k.document)) (sym is) (kept_answers s1 x1 state at k),
-          record {
-            held = k.now;
-            stands = stands k.saved k.now image.0 k.stands image.1;
-            none_waits = none;
-            state_is = k.will;
-            catalog = subst (λ (c : Contents). IsCatalog (k.now).catalog c) (sym catalog) k.catalog;
-          },
-        )
+      pub commit_begun : ShowsBegun d state (Load name (Read tree)) x0 x2
+      commit_begun = inr (
+        record { reply = reply.Loaded (1 + nodes tree.below) (length parts); next = with_document state name k.document; step = kept_answers s1 x1 state at k },
+        commit_shows,
+      )
+
+      -- after it
+      pub commit_applied : (s2 : Store) (r : Reply) → ((saved now : Held) (image : Image) → StandsFor d s1.records x1 saved now → d.contents x2 ≡ Some image → StandsFor d s2.records x2 now now)
+          → pending (s2.records).wal ≡ [] → s2.catalog ≡ s1.catalog → r ≡ reply.Loaded (1 + nodes tree.below) (length parts) → IsApplied d (Ok r) state (Load name (Read tree)) s2 x0 x2
+      commit_applied s2 r stands none catalog is =
+          let image = some_value (d.contents x2) told in (
+            with_document state name k.document,
+            subst (λ (answer : Reply). IsStep state (Load name (Read tree)) answer (with_document state name k.document)) (sym is) (kept_answers s1 x1 state at k),
+            record {
+              held = k.now;
+              stands = stands k.saved k.now image.0 k.stands image.1;
+              none_waits = none;
+              state_is = k.will;
+              catalog = subst (λ (c : Contents). IsCatalog (k.now).catalog c) (sym catalog) k.catalog;
+            },
+            commit_shows,
+          )

@@ -14,13 +14,15 @@ use Rattle.nx_records.specs.declared.error.StoreError.{StoreError}
 use Rattle.nx_records.specs.declared.error.StoreError.TheVariants as error
 use Rattle.nx_cuts.specs.Cut.{CutTree, tree_of, parts_of}
 use Rattle.nx_catalog.specs.Catalog.{IsCatalog}
+use Rattle.nx_script.specs.declared.command.Command.{Command}
 use Rattle.nx_script.specs.declared.reply.Reply.{Reply}
 use Rattle.nx_script.specs.declared.reply.Reply.TheVariants.{Refused}
 use Rattle.nx_script.specs.declared.reply.ReplyError.TheVariants.{Full}
+use Rattle.nx_script.specs.Reply.{reply_text}
 use Rattle.nx_state.specs.State.{State, all_nodes}
 use Rattle.nx_state.specs.Stands.{HoldsState}
 use Rattle.nx_store.specs.Step.{with_document, MayBeFull}
-use Rattle.nx_store.specs.Store.{IsAt, IsNowhere, EndsNow}
+use Rattle.nx_store.specs.Store.{IsAt, IsNowhere, EndsNow, IsApplied}
 use Rattle.nx_store.specs.declared.store.Store.{Store}
 use Rattle.nx_store.specs.declared.error.EngineError.{EngineError}
 use Rattle.nx_store.specs.declared.error.EngineError.TheVariants as told
@@ -66,12 +68,31 @@ NotKept d tree error.Ended old new before after = ⊥
 NotKept d tree error.Exists old new before after = ⊥
 NotKept d tree error.NotAStore old new before after = ⊥
 
+-- the reply without the text beside it
+abbrev pub reply_of : Result (Reply × List ℕ) EngineError → Result Reply EngineError
+reply_of (Ok answer) = Ok answer.0
+reply_of (Err e) = Err e
+
+-- the text beside a reply is its own
+abbrev pub HasText : Reply × List ℕ → Type 0
+HasText answer = answer.1 ≡ reply_text answer.0
+
+-- the reply with its text, or there was no memory for it
+abbrev pub IsToldOrNot : Reply → Result (Reply × List ℕ) EngineError → Type 0
+IsToldOrNot reply (Ok answer) = answer ≡ (reply, reply_text reply)
+IsToldOrNot reply (Err e) = e ≡ told.Memory
+
 -- what a load is answered whose document wasn't kept
-abbrev pub answer_of : StoreError → Result Reply EngineError
-answer_of error.Full = Ok (Refused Full)
-answer_of error.Memory = Err told.Memory
-answer_of error.Disk = Err told.Disk
-answer_of (error.Damaged page) = Err (told.Damaged page)
-answer_of error.Ended = Err told.Ended
-answer_of error.Exists = Err told.Exists
-answer_of error.NotAStore = Err told.NotAStore
+abbrev pub IsRefusal : StoreError → Result (Reply × List ℕ) EngineError → Type 0
+IsRefusal error.Full result = IsToldOrNot (Refused Full) result
+IsRefusal error.Memory result = result ≡ Err told.Memory
+IsRefusal error.Disk result = result ≡ Err told.Disk
+IsRefusal (error.Damaged page) result = result ≡ Err (told.Damaged page)
+IsRefusal error.Ended result = result ≡ Err told.Ended
+IsRefusal error.Exists result = result ≡ Err told.Exists
+IsRefusal error.NotAStore result = result ≡ Err told.NotAStore
+
+-- How a command ended whose reply's text was made, where the store is then, and what stood meanwhile.
+abbrev pub IsWritten : {D : Type 0} → Ghosts D → Result (List ℕ) EngineError → State → Command → Store → D → D → Type 0
+IsWritten d (Ok text) state command store before after = (reply : Reply) × (text ≡ reply_text reply) × IsApplied d (Ok reply) state command store before after
+IsWritten d (Err e) state command store before after = IsApplied d (Err e) state command store before after

@@ -1,7 +1,9 @@
--- What a store and its disk stand for.
-use Rattle.std.specs.Prelude.{◌≡◌, ◌⊎◌, ℕ, true, false, [], Bool, Some, IsSome}
-use Rattle.nx_host.specs.Disk.{Image, Rose}
+-- What a store and its disk stand for, and what its calls leave and show.
+use Rattle.std.specs.Prelude.{◌≡◌, ◌⊎◌, ◌≤◌, ℕ, List, [], ◌++◌, true, false, Bool, Option, Some, IsSome, Result, Ok, Err}
+use Rattle.nx_host.specs.Disk.{Image, Keeps, Rose}
 use Rattle.nx_host.specs.declared.disk.Disk.{Ghosts}
+use Rattle.nx_host.specs.Host.{Appends, AppendsPrefix}
+use Rattle.nx_host.specs.Time.{Stood, Elapses}
 use Rattle.nx_host.specs.Still.{IsSettled, IsStill}
 use Rattle.nx_replay.specs.Log.{replay}
 use Rattle.nx_wal.specs.Reading.{HasMark}
@@ -9,8 +11,11 @@ use Rattle.nx_wal.specs.Wal.{pending}
 use Rattle.nx_holdings.specs.Holdings.{Held}
 use Rattle.nx_records.specs.Records.{StandsFor, has_ended}
 use Rattle.nx_catalog.specs.Catalog.{IsCatalog}
+use Rattle.nx_nav.specs.Given.{GivesBut}
 use Rattle.nx_script.specs.declared.command.Command.{Command}
+use Rattle.nx_script.specs.declared.command.Command.TheVariants.{Export}
 use Rattle.nx_script.specs.declared.reply.Reply.{Reply}
+use Rattle.nx_script.specs.Reply.{reply_text}
 use Rattle.nx_state.specs.State.{State}
 use Rattle.nx_state.specs.Stands.{HoldsState, Recovers}
 use Rattle.nx_store.specs.Step.{IsStep}
@@ -30,15 +35,79 @@ pub record IsAt {D : Type 0} (d : Ghosts D) (store : Store) (disk : D) (state : 
   pub state_is : HoldsState held state
   pub catalog : IsCatalog held.catalog store.catalog
 
--- At a moment of a command each image is that of the state before it, or of one after it.
-abbrev pub IsWithin : {D : Type 0} → Ghosts D → Store → D → Command → Image → Type 0
-IsWithin d store disk command image = (state : State) → IsAt d store disk state →
-    Recovers image (Some state) ⊎ ((reply : Reply) × (next : State) × IsStep state command reply next × Recovers image (Some next))
+-- What a command is answered that comes in a state, and the state that it leaves.
+pub record Turn (state : State) (command : Command) : Type 0 where
+  pub reply : Reply
+  pub next : State
+  pub step : IsStep state command reply next
 
--- Where the disk is still told, the command was answered so, and the store is at the next state.
-abbrev pub IsAnswered : {D : Type 0} → Ghosts D → Store → Store → D → D → Command → Reply → Type 0
-IsAnswered d old new before after command reply = (state : State) → IsAt d old before state → IsSome (d.contents after) →
-    (next : State) × IsStep state command reply next × IsAt d new after next
+-- it is an image of this state
+abbrev pub IsOf : State → Image → Type 0
+IsOf state image = Recovers image (Some state)
+
+-- ... or of that one
+abbrev pub IsOfEither : State → State → Image → Type 0
+IsOfEither state next image = IsOf state image ⊎ IsOf next image
+
+-- From one disk to the other the output stayed at each moment, and each image had P.
+abbrev pub Shows : {D : Type 0} → Ghosts D → (Image → Type 0) → D → D → Type 0
+Shows d P before after = Elapses d.moment d.stood_since before after (λ s. Keeps (d.beside before).output s.output × P s.image)
+
+-- Nothing came of the command: each image was of the state before it. Or it was begun: each was of that state, or of the one after it.
+abbrev pub ShowsBegun : {D : Type 0} → Ghosts D → State → Command → D → D → Type 0
+ShowsBegun d state command before after = Shows d (IsOf state) before after ⊎ ((turn : Turn state command) × Shows d (IsOfEither state turn.next) before after)
+
+-- How a command ended that came in this state, where the store is then, and what stood meanwhile.
+abbrev pub IsApplied : {D : Type 0} → Ghosts D → Result Reply EngineError → State → Command → Store → D → D → Type 0
+IsApplied d (Ok reply) state command store before after =
+    (next : State) × IsStep state command reply next × IsAt d store after next × Shows d (IsOfEither state next) before after
+IsApplied d (Err error.Memory) state command store before after = IsAt d store after state × Shows d (IsOf state) before after
+IsApplied d (Err error.Disk) state command store before after = ShowsBegun d state command before after
+IsApplied d (Err _) state command store before after = ⊥
+
+-- a moment of an answer: nothing of the reply is out, and the image is of the state before or after it; or a part of it may be, and the image is of the state after
+abbrev pub ShowsAnswer : Option (List ℕ) → State → List ℕ → State → Stood → Type 0
+ShowsAnswer output state text next s = (Keeps output s.output × IsOfEither state next s.image) ⊎ (AppendsPrefix text output s.output × IsOf next s.image)
+
+-- the moments of a turn whose reply was given
+abbrev pub ShowsTurn : {D : Type 0} {state : State} {command : Command} → Ghosts D → Turn state command → D → D → Type 0
+ShowsTurn {state = state} d turn before after = Elapses d.moment d.stood_since before after (ShowsAnswer (d.beside before).output state (reply_text turn.reply) turn.next)
+
+-- How a command ended that came in this state and whose reply was to be given, where the store is then, and what stood meanwhile.
+abbrev pub IsAnswered : {D : Type 0} → Ghosts D → Result (Unit {0}) EngineError → State → Command → Store → D → D → Type 0
+IsAnswered d (Ok _) state command store before after =
+    (turn : Turn state command) × IsAt d store after turn.next × Appends (reply_text turn.reply) (d.beside before).output (d.beside after).output × ShowsTurn d turn before after
+IsAnswered d (Err error.Write) state command store before after = (turn : Turn state command) × IsAt d store after turn.next × ShowsTurn d turn before after
+IsAnswered d (Err error.Memory) state command store before after = IsAt d store after state × Shows d (IsOf state) before after
+IsAnswered d (Err error.Disk) state command store before after = ShowsBegun d state command before after
+IsAnswered d (Err _) state command store before after = ⊥
+
+-- At each moment a first part of these bytes was out, and each image was of this state.
+abbrev pub ShowsGiven : {D : Type 0} → Ghosts D → List ℕ → State → D → D → Type 0
+ShowsGiven d bytes state before after = Elapses d.moment d.stood_since before after (λ s. AppendsPrefix bytes (d.beside before).output s.output × IsOf state s.image)
+
+-- how the giving of bytes ended that were to be given but for a last part, and where the store is then
+abbrev pub IsGiven : {D : Type 0} → Ghosts D → Result (Unit {0}) EngineError → List ℕ → List ℕ → State → Store → D → D → Type 0
+IsGiven d (Ok _) bytes left state store before after = IsAt d store after state × GivesBut bytes left (d.beside before).output (d.beside after).output
+IsGiven d (Err error.Write) bytes left state store before after = IsAt d store after state
+IsGiven d (Err error.Memory) bytes left state store before after = IsAt d store after state
+IsGiven d (Err error.Disk) bytes left state store before after = Unit {0}
+IsGiven d (Err _) bytes left state store before after = ⊥
+
+-- How an export ended that came in this state, whose reply was to be given behind what the block had; what is left of both is in the block.
+pub record IsExported {D : Type 0} (d : Ghosts D) (result : Result (Unit {0}) EngineError) (state : State) (name block left : List ℕ) (store : Store) (before after : D) : Type 0 where
+  pub reply : Reply
+  pub step : IsStep state (Export name) reply state
+  pub given : IsGiven d result (block ++ reply_text reply) left state store before after
+  pub time : ShowsGiven d (block ++ reply_text reply) state before after
+
+-- From old to new no input was taken, and no count fell.
+pub record TakesNone {D : Type 0} (d : Ghosts D) (old new : D) : Type 0 where
+  pub told : IsSome (d.contents new) → IsSome (d.contents old)
+  pub input_stays : Keeps (d.beside old).input (d.beside new).input
+  pub in_faults_stay : (d.beside new).in_faults ≡ (d.beside old).in_faults
+  pub out_faults_later : (d.beside old).out_faults ≤ (d.beside new).out_faults
+  pub faults_later : d.faults old ≤ d.faults new
 
 -- The store is at no state: so it is damaged.
 abbrev pub IsNowhere : {D : Type 0} → Ghosts D → Store → D → Type 0
@@ -48,15 +117,29 @@ IsNowhere d store disk = (state : State) → IsAt d store disk state → ⊥
 abbrev pub EndsNow : Store → Store → Type 0
 EndsNow old new = (is_ended old ≡ false) × (is_ended new ≡ true)
 
+-- The store ran, and runs on.
+abbrev pub GoesOn : Store → Store → Type 0
+GoesOn old new = (is_ended old ≡ false) × (is_ended new ≡ false)
+
 -- Why a command wasn't carried out.
 abbrev pub NotApplied : {D : Type 0} → Ghosts D → EngineError → Store → Store → D → D → Type 0
 NotApplied d error.Disk old new before after = Rose (d.faults before) (d.faults after) × EndsNow old new
 NotApplied d (error.Damaged page) old new before after = EndsNow old new × (IsSome (d.contents after) → IsNowhere d old before)
 NotApplied d error.Ended old new before after = (is_ended old ≡ true) × (new ≡ old) × IsStill d before after
-NotApplied d error.Memory old new before after = (is_ended old ≡ false) × (is_ended new ≡ false) × ((state : State) → IsAt d old before state → IsSome (d.contents after) → IsAt d new after state)
+NotApplied d error.Memory old new before after = GoesOn old new
 NotApplied d error.Exists old new before after = ⊥
 NotApplied d error.NotAStore old new before after = ⊥
 NotApplied d error.Write old new before after = ⊥
+
+-- ... or its reply not given
+abbrev pub NotAnswered : {D : Type 0} → Ghosts D → EngineError → Store → Store → D → D → Type 0
+NotAnswered d error.Write old new before after = Rose (d.beside before).out_faults (d.beside after).out_faults × GoesOn old new
+NotAnswered d error.Disk old new before after = NotApplied d error.Disk old new before after
+NotAnswered d (error.Damaged page) old new before after = NotApplied d (error.Damaged page) old new before after
+NotAnswered d error.Ended old new before after = NotApplied d error.Ended old new before after
+NotAnswered d error.Memory old new before after = NotApplied d error.Memory old new before after
+NotAnswered d error.Exists old new before after = ⊥
+NotAnswered d error.NotAStore old new before after = ⊥
 
 -- Why no store was made.
 abbrev pub NotMade : {D : Type 0} → Ghosts D → EngineError → D → D → Type 0

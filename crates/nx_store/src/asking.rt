@@ -1,10 +1,14 @@
 // Commands that change nothing of what is stored.
-ghost use Rattle.std.specs.Prelude.{◌≡◌, false, map, IfOk, IfErr};
+ghost use Rattle.std.specs.Prelude.{◌≡◌, false, map, IsSome, IfOk, IfErr, OnOk};
 ghost use Rattle.std.specs.FinMap.{entries};
-ghost use Rattle.nx_host.specs.Still.{WritesAlone};
+ghost use Rattle.nx_host.specs.Disk.{Rose};
+ghost use Rattle.nx_host.specs.Still.{IsStill, WritesAlone};
+ghost use Rattle.nx_records.specs.Records.{log_length_of};
 ghost use Rattle.nx_script.specs.declared.command.Command.TheVariants as command;
 ghost use Rattle.nx_store.specs.Told.{line_of};
-ghost use Rattle.nx_store.specs.Store.{is_ended, IsWithin, IsAnswered, NotApplied};
+ghost use Rattle.nx_state.specs.State.{State};
+ghost use Rattle.nx_store.specs.Step.{IsStep};
+ghost use Rattle.nx_store.specs.Store.{is_ended, EndsNow, GoesOn, IsAt, IsOf, IsApplied, NotApplied};
 
 use crate::{EngineError, Store};
 use nx_host::Disk;
@@ -34,8 +38,9 @@ impl Store {
         disk: &mut D,
         name: &Bytes,
     ) -> Result<Reply, EngineError>
-        ensures goes { WritesAlone D.Disk disk.old disk.new (λ i. IsWithin D.Disk self.old disk.old (command.Export name.now) i) }
-        ensures ok { IfOk result (λ reply. (is_ended self.old ≡ false) × (is_ended self.new ≡ false) × IsAnswered D.Disk self.old self.new disk.old disk.new (command.Export name.now) reply) }
+        ensures still { IsStill D.Disk disk.old disk.new }
+        ensures same { is_ended self.new ≡ false → self.new ≡ self.old }
+        ensures ok { IfOk result (λ reply. GoesOn self.old self.new × ((state : State) → IsAt D.Disk self.old disk.old state → IsStep state (command.Export name.now) reply state)) }
         ensures refused { IfErr result (λ e. NotApplied D.Disk e self.old self.new disk.old disk.new) }
     {
         if self.is_ended() {
@@ -55,8 +60,9 @@ impl Store {
         name: &Bytes,
         path: &Path,
     ) -> Result<Reply, EngineError>
-        ensures goes { WritesAlone D.Disk disk.old disk.new (λ i. IsWithin D.Disk self.old disk.old (command.Get name.now path.now) i) }
-        ensures ok { IfOk result (λ reply. (is_ended self.old ≡ false) × (is_ended self.new ≡ false) × IsAnswered D.Disk self.old self.new disk.old disk.new (command.Get name.now path.now) reply) }
+        ensures still { IsStill D.Disk disk.old disk.new }
+        ensures same { is_ended self.new ≡ false → self.new ≡ self.old }
+        ensures ok { IfOk result (λ reply. GoesOn self.old self.new × ((state : State) → IsAt D.Disk self.old disk.old state → IsStep state (command.Get name.now path.now) reply state)) }
         ensures refused { IfErr result (λ e. NotApplied D.Disk e self.old self.new disk.old disk.new) }
     {
         if self.is_ended() {
@@ -87,8 +93,9 @@ impl Store {
         disk: &mut D,
         name: &Bytes,
     ) -> Result<Reply, EngineError>
-        ensures goes { WritesAlone D.Disk disk.old disk.new (λ i. IsWithin D.Disk self.old disk.old (command.Layout name.now) i) }
-        ensures ok { IfOk result (λ reply. (is_ended self.old ≡ false) × (is_ended self.new ≡ false) × IsAnswered D.Disk self.old self.new disk.old disk.new (command.Layout name.now) reply) }
+        ensures still { IsStill D.Disk disk.old disk.new }
+        ensures same { is_ended self.new ≡ false → self.new ≡ self.old }
+        ensures ok { IfOk result (λ reply. GoesOn self.old self.new × ((state : State) → IsAt D.Disk self.old disk.old state → IsStep state (command.Layout name.now) reply state)) }
         ensures refused { IfErr result (λ e. NotApplied D.Disk e self.old self.new disk.old disk.new) }
     {
         if self.is_ended() {
@@ -106,15 +113,33 @@ impl Store {
 
     // Empties the log. What was changed and never committed is dropped first.
     pub(crate) fn checkpoint<D: Disk>(&mut self, disk: &mut D) -> Result<Reply, EngineError>
-        ensures goes { WritesAlone D.Disk disk.old disk.new (λ i. IsWithin D.Disk self.old disk.old command.Checkpoint i) }
-        ensures ok { IfOk result (λ reply. (is_ended self.old ≡ false) × (is_ended self.new ≡ false) × IsAnswered D.Disk self.old self.new disk.old disk.new command.Checkpoint reply) }
+        ensures applies { (state : State) → IsAt D.Disk self.old disk.old state → IsSome (D.contents disk.new) → IsApplied D.Disk result state command.Checkpoint self.new disk.old disk.new }
+        ensures ok { OnOk result (GoesOn self.old self.new) }
         ensures refused { IfErr result (λ e. NotApplied D.Disk e self.old self.new disk.old disk.new) }
+        ensures areas { WritesAlone D.Disk disk.old disk.new (λ _. Unit {0}) }
     {
         if self.is_ended() {
             return Err(EngineError::Ended);
         }
-        self.records.abandon();
-        self.records.checkpoint(disk)?;
+        let Ok(()) = self.empty_log(disk) else {
+            return Err(EngineError::Disk);
+        };
         Ok(Reply::Done)
+    }
+
+    // Empties the log of a store that runs. What was changed and never committed is dropped first.
+    pub(crate) fn empty_log<D: Disk>(&mut self, disk: &mut D) -> Result<(), EngineError>
+        requires runs { is_ended self.old ≡ false }
+        ensures goes { WritesAlone D.Disk disk.old disk.new (λ i. (state : State) → IsAt D.Disk self.old disk.old state → IsOf state i) }
+        ensures ok { OnOk result ((is_ended self.new ≡ false) × (log_length_of self.new.records ≡ 0)
+            × ((state : State) → IsAt D.Disk self.old disk.old state → IsSome (D.contents disk.new) → IsAt D.Disk self.new disk.new state)) }
+        ensures catalog { self.new.catalog ≡ self.old.catalog }
+        ensures refused { IfErr result (λ e. (e ≡ EngineError.Disk) × Rose (D.faults disk.old) (D.faults disk.new) × EndsNow self.old self.new) }
+    {
+        self.records.abandon();
+        let Ok(()) = self.records.checkpoint(disk) else {
+            return Err(EngineError::Disk);
+        };
+        Ok(())
     }
 }

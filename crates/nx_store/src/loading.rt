@@ -1,5 +1,5 @@
 // Loading a document.
-ghost use Rattle.std.specs.Prelude.{◌≡◌, ◌≢◌, ◌⊎◌, ◌≤◌, [], false, length, All, IsTrue, Some, IsSome, IfOk, IfErr, OnOk};
+ghost use Rattle.std.specs.Prelude.{◌≡◌, ◌≢◌, ◌⊎◌, ◌≤◌, [], false, length, All, IsTrue, IsSome, IfOk, IfErr, OnOk};
 ghost use Rattle.std.specs.FinMap.{entries, insert, remove};
 ghost use Rattle.nx_host.specs.Disk.{Rose};
 ghost use Rattle.nx_host.specs.Still.{IsStill, WritesAlone};
@@ -15,44 +15,46 @@ ghost use Rattle.nx_script.specs.Field.{is_document_name};
 ghost use Rattle.nx_script.specs.Rule.{HasLabels};
 ghost use Rattle.nx_catalog.specs.Catalog.{IsCatalog, catalog_bytes};
 ghost use Rattle.nx_state.specs.State.{State};
-ghost use Rattle.nx_state.specs.Stands.{Recovers};
-ghost use Rattle.nx_store.specs.Store.{is_ended, EndsNow, IsAt, IsWithin, IsAnswered, NotApplied};
-ghost use Rattle.nx_store.specs.Loading.{IsNew, IsChosen, IsKept, NotKept, answer_of};
+ghost use Rattle.nx_store.specs.Store.{is_ended, EndsNow, GoesOn, IsAt, IsOf, IsApplied, NotApplied};
+ghost use Rattle.nx_store.specs.Loading.{IsNew, IsChosen, IsKept, NotKept, reply_of, HasText, IsToldOrNot, IsRefusal};
 
 use crate::{EngineError, Store};
 use nx_build::store;
 use nx_hold::DocEntry;
 use nx_host::Disk;
 use nx_partition::{PlanError, plan};
-use nx_parts::Partitioning;
+use nx_parts::{Partitioning, Plan};
 use nx_records::{Rid, StoreError};
-use nx_script::{LoadBody, Reply, ReplyError};
+use nx_script::{LoadBody, Reply, ReplyError, write_reply};
 use nx_tree::{Bytes, Tree, count};
+use std::alloc::Global;
 
 // A command that changes the store begins with a checkpoint where the log is longer, in bytes.
 const LONG_LOG: u64 = 67_108_864;
 
 impl Store {
-    // Loads a document under a name that is new, by one commit.
+    // Loads a document under a name that is new, by one commit. Beside the reply is its text, so that no memory
+    // is taken behind the commit.
     pub(crate) fn load<D: Disk>(
         &mut self,
         disk: &mut D,
         name: Bytes,
         body: LoadBody,
-    ) -> Result<Reply, EngineError>
+    ) -> Result<(Reply, Bytes), EngineError>
         requires { CanCome (Load name body) }
-        ensures goes { WritesAlone D.Disk disk.old disk.new (λ i. IsWithin D.Disk self.old disk.old (Load name body) i) }
-        ensures ok { IfOk result (λ reply. (is_ended self.old ≡ false) × (is_ended self.new ≡ false) × IsAnswered D.Disk self.old self.new disk.old disk.new (Load name body) reply) }
+        ensures loads { (state : State) → IsAt D.Disk self.old disk.old state → IsSome (D.contents disk.new) → IsApplied D.Disk (reply_of result) state (Load name body) self.new disk.old disk.new }
+        ensures ok { IfOk result (λ answer. GoesOn self.old self.new × HasText answer) }
         ensures refused { IfErr result (λ e. NotApplied D.Disk e self.old self.new disk.old disk.new) }
+        ensures areas { WritesAlone D.Disk disk.old disk.new (λ _. Unit {0}) }
     {
         if self.records.is_ended() {
             return Err(EngineError::Ended);
         }
         if self.catalog.find(name.as_slice()).is_some() {
-            return Ok(Reply::Refused(ReplyError::Exists));
+            return told(self.alloc, Reply::Refused(ReplyError::Exists));
         }
         match body {
-            LoadBody::Wrong(error) => Ok(Reply::Refused(ReplyError::Pyx(error))),
+            LoadBody::Wrong(error) => told(self.alloc, Reply::Refused(ReplyError::Pyx(error))),
             LoadBody::Read(tree) => self.load_tree(disk, &name, &tree),
         }
     }
@@ -63,14 +65,16 @@ impl Store {
         disk: &mut D,
         name: &Bytes,
         tree: &Tree,
-    ) -> Result<Reply, EngineError>
+    ) -> Result<(Reply, Bytes), EngineError>
         requires runs { is_ended self.old ≡ false }
         requires named { IsTrue (is_document_name name.now) }
         requires new { IsNew self.old name.now }
         requires document { IsDocument tree.now }
-        ensures goes { WritesAlone D.Disk disk.old disk.new (λ i. IsWithin D.Disk self.old disk.old (Load name.now (Read tree.now)) i) }
-        ensures ok { IfOk result (λ reply. (is_ended self.new ≡ false) × IsAnswered D.Disk self.old self.new disk.old disk.new (Load name.now (Read tree.now)) reply) }
+        ensures loads { (state : State) → IsAt D.Disk self.old disk.old state → IsSome (D.contents disk.new) →
+            IsApplied D.Disk (reply_of result) state (Load name.now (Read tree.now)) self.new disk.old disk.new }
+        ensures ok { IfOk result (λ answer. GoesOn self.old self.new × HasText answer) }
         ensures refused { IfErr result (λ e. NotApplied D.Disk e self.old self.new disk.old disk.new) }
+        ensures areas { WritesAlone D.Disk disk.old disk.new (λ _. Unit {0}) }
     {
         self.shorten_log(disk)?;
         self.load_planned(disk, name, tree)
@@ -79,7 +83,7 @@ impl Store {
     // Empties the log where it is long. Nothing waits.
     fn shorten_log<D: Disk>(&mut self, disk: &mut D) -> Result<(), EngineError>
         requires { is_ended self.old ≡ false }
-        ensures goes { WritesAlone D.Disk disk.old disk.new (λ i. (state : State) → IsAt D.Disk self.old disk.old state → Recovers i (Some state)) }
+        ensures goes { WritesAlone D.Disk disk.old disk.new (λ i. (state : State) → IsAt D.Disk self.old disk.old state → IsOf state i) }
         ensures ok { OnOk result ((is_ended self.new ≡ false) × (log_length_of self.new.records ≤ 67108864)
             × ((state : State) → IsAt D.Disk self.old disk.old state → IsSome (D.contents disk.new) → IsAt D.Disk self.new disk.new state)) }
         ensures catalog { self.new.catalog ≡ self.old.catalog }
@@ -88,11 +92,7 @@ impl Store {
         if self.records.log_length() <= LONG_LOG {
             return Ok(());
         }
-        self.records.abandon();
-        let Ok(()) = self.records.checkpoint(disk) else {
-            return Err(EngineError::Disk);
-        };
-        Ok(())
+        self.empty_log(disk)
     }
 
     // Loads a document in a partitioning that is found for it.
@@ -101,23 +101,25 @@ impl Store {
         disk: &mut D,
         name: &Bytes,
         tree: &Tree,
-    ) -> Result<Reply, EngineError>
+    ) -> Result<(Reply, Bytes), EngineError>
         requires runs { is_ended self.old ≡ false }
         requires short { log_length_of self.old.records ≤ 67108864 }
         requires named { IsTrue (is_document_name name.now) }
         requires new { IsNew self.old name.now }
         requires document { IsDocument tree.now }
-        ensures goes { WritesAlone D.Disk disk.old disk.new (λ i. IsWithin D.Disk self.old disk.old (Load name.now (Read tree.now)) i) }
-        ensures ok { IfOk result (λ reply. (is_ended self.new ≡ false) × IsAnswered D.Disk self.old self.new disk.old disk.new (Load name.now (Read tree.now)) reply) }
+        ensures loads { (state : State) → IsAt D.Disk self.old disk.old state → IsSome (D.contents disk.new) →
+            IsApplied D.Disk (reply_of result) state (Load name.now (Read tree.now)) self.new disk.old disk.new }
+        ensures ok { IfOk result (λ answer. GoesOn self.old self.new × HasText answer) }
         ensures refused { IfErr result (λ e. NotApplied D.Disk e self.old self.new disk.old disk.new) }
+        ensures areas { WritesAlone D.Disk disk.old disk.new (λ _. Unit {0}) }
     {
         let k = u32::from(self.records.settings().k);
         match plan(self.alloc, tree, k) {
-            Ok(plan) => self.load_parts(disk, name, tree, &plan.parts),
-            Err(PlanError::TooHeavy { path, weight }) => Ok(Reply::Refused(ReplyError::TooHeavy {
-                path,
-                weight,
-            })),
+            Ok(plan) => self.load_parts(disk, name, tree, &parts_of(plan)),
+            Err(PlanError::TooHeavy { path, weight }) => told(
+                self.alloc,
+                Reply::Refused(ReplyError::TooHeavy { path, weight }),
+            ),
             Err(PlanError::Memory) => Err(EngineError::Memory),
         }
     }
@@ -129,31 +131,37 @@ impl Store {
         name: &Bytes,
         tree: &Tree,
         parts: &Partitioning,
-    ) -> Result<Reply, EngineError>
+    ) -> Result<(Reply, Bytes), EngineError>
         requires runs { is_ended self.old ≡ false }
         requires short { log_length_of self.old.records ≤ 67108864 }
         requires named { IsTrue (is_document_name name.now) }
         requires new { IsNew self.old name.now }
         requires document { IsDocument tree.now }
         requires chosen { IsChosen self.old tree.now parts.now }
-        ensures goes { WritesAlone D.Disk disk.old disk.new (λ i. IsWithin D.Disk self.old disk.old (Load name.now (Read tree.now)) i) }
-        ensures ok { IfOk result (λ reply. (is_ended self.new ≡ false) × IsAnswered D.Disk self.old self.new disk.old disk.new (Load name.now (Read tree.now)) reply) }
+        ensures loads { (state : State) → IsAt D.Disk self.old disk.old state → IsSome (D.contents disk.new) →
+            IsApplied D.Disk (reply_of result) state (Load name.now (Read tree.now)) self.new disk.old disk.new }
+        ensures ok { IfOk result (λ answer. GoesOn self.old self.new × HasText answer) }
         ensures refused { IfErr result (λ e. NotApplied D.Disk e self.old self.new disk.old disk.new) }
+        ensures areas { WritesAlone D.Disk disk.old disk.new (λ _. Unit {0}) }
     {
+        let loaded = told(
+            self.alloc,
+            Reply::Loaded {
+                nodes: count(tree),
+                intervals: parts.len() as u32,
+            },
+        )?;
         match self.keep(disk, name, tree, parts) {
             Ok(()) => {}
             Err(error) => {
                 self.records.abandon();
-                return refusal(error);
+                return refused(self.alloc, error);
             }
         }
         let Ok(()) = self.records.commit(disk) else {
             return Err(EngineError::Disk);
         };
-        Ok(Reply::Loaded {
-            nodes: count(tree),
-            intervals: parts.len() as u32,
-        })
+        Ok(loaded)
     }
 
     // Puts a document into the records, and its entry into the catalog. Nothing is committed. Where this
@@ -222,12 +230,19 @@ impl Store {
     }
 }
 
+// The intervals of a plan. Its bounds, of all nodes, are let go before the document is put into records.
+fn parts_of(plan: Plan) -> Partitioning
+    ensures { result ≡ plan.parts }
+{
+    plan.parts
+}
+
 // What a load is answered whose document wasn't kept.
-fn refusal(error: StoreError) -> Result<Reply, EngineError>
-    ensures { result ≡ answer_of error }
+fn refused(alloc: Global, error: StoreError) -> Result<(Reply, Bytes), EngineError>
+    ensures { IsRefusal error result }
 {
     match error {
-        StoreError::Full => Ok(Reply::Refused(ReplyError::Full)),
+        StoreError::Full => told(alloc, Reply::Refused(ReplyError::Full)),
         StoreError::Memory => Err(EngineError::Memory),
         StoreError::Disk => Err(EngineError::Disk),
         StoreError::Damaged { page } => Err(EngineError::Damaged { page }),
@@ -235,4 +250,12 @@ fn refusal(error: StoreError) -> Result<Reply, EngineError>
         StoreError::Exists => Err(EngineError::Exists),
         StoreError::NotAStore => Err(EngineError::NotAStore),
     }
+}
+
+// A reply, and its text beside it.
+fn told(alloc: Global, reply: Reply) -> Result<(Reply, Bytes), EngineError>
+    ensures { IsToldOrNot reply result }
+{
+    let text = write_reply(alloc, &reply)?;
+    Ok((reply, text))
 }

@@ -1,8 +1,9 @@
 // The store.
-ghost use Rattle.std.specs.Prelude.{◌≡◌, ◌⊎◌, true, false, Some, None, IfOk, IfErr};
+ghost use Rattle.std.specs.Prelude.{◌≡◌, ◌⊎◌, true, false, Some, None, IsSome, IfOk, IfErr, OnOk};
 ghost use Rattle.nx_host.specs.Disk.{Image};
 ghost use Rattle.nx_host.specs.Still.{IsStill, IsSettled, WritesAlone};
-ghost use Rattle.nx_replay.specs.Log.{HasSame};
+ghost use Rattle.nx_replay.specs.Log.{replay, HasSame};
+ghost use Rattle.nx_wal.specs.Reading.{HasMark};
 ghost use Rattle.nx_holdings.specs.Header.{AreSettings};
 ghost use Rattle.nx_records.specs.Refusals.{IsCreated, NotCreated};
 ghost use Rattle.nx_script.specs.Commands.{CanCome};
@@ -12,9 +13,10 @@ ghost use Rattle.nx_state.specs.Stands.{Recovers};
 use crate::EngineError;
 use nx_catalog::{Catalog, load_catalog};
 use nx_holdings::Settings;
-use nx_host::Disk;
+use nx_host::{Disk, Host};
 use nx_records::Records;
-use nx_script::{Command, Reply, ReplyError};
+use nx_script::{Command, Reply, ReplyError, push_reply, write_reply};
+use nx_tree::Bytes;
 use std::alloc::Global;
 
 /// A store of documents.
@@ -27,7 +29,11 @@ pub struct Store {
 }
 
 impl Store {
-    ghost use Rattle.nx_store.specs.Store.{is_ended, IsAt, IsWithin, IsAnswered, NotApplied, NotMade, NotOpened};
+    ghost use Rattle.nx_host.specs.declared.disk.Disk.{Ghosts};
+    ghost use Rattle.nx_script.specs.declared.reply.Reply.{Reply};
+    ghost use Rattle.nx_store.specs.Step.{IsStep};
+    ghost use Rattle.nx_store.specs.Loading.{IsWritten};
+    ghost use Rattle.nx_store.specs.Store.{is_ended, IsAt, IsApplied, IsAnswered, IsExported, GoesOn, TakesNone, NotApplied, NotAnswered, NotMade, NotOpened};
 
     /// A store on a disk that has no pages, committed: with these settings, and without documents and
     /// rules. The settings are in range: K from 1 to 256, a target of at most 100, a tolerance of at most
@@ -63,6 +69,7 @@ impl Store {
         ensures still { IsStill D.Disk disk.old disk.new }
         ensures ok { IfOk result (λ store. (was : Image) (state : State) → IsSettled D.Disk disk.old was → Recovers was (Some state) → IsAt D.Disk store disk.new state) }
         ensures fresh { IfOk result (λ store. is_ended store ≡ false) }
+        ensures marked { OnOk result ((was : Image) → IsSettled D.Disk disk.old was → HasMark (replay was)) }
         ensures refused { IfErr result (λ e. NotOpened D.Disk e disk.old disk.new) }
     {
         let mut records = Records::open(alloc, disk)?;
@@ -84,6 +91,7 @@ impl Store {
     /// Carries a command out, and gives its reply. A command that is refused changes nothing. One that
     /// changes the store does so by one commit: at every moment each image is that of the state before it
     /// or of the state after it. Where the log is longer than 67,108,864 bytes, a checkpoint comes first.
+    /// All memory is taken before the commit.
     ///
     /// The command is one that a script can give.
     ///
@@ -92,15 +100,19 @@ impl Store {
     /// store is as it was.
     pub fn apply<D: Disk>(&mut self, disk: &mut D, command: Command) -> Result<Reply, EngineError>
         requires { CanCome command }
-        ensures goes { WritesAlone D.Disk disk.old disk.new (λ i. IsWithin D.Disk self.old disk.old command i) }
-        ensures ok { IfOk result (λ reply. (is_ended self.old ≡ false) × (is_ended self.new ≡ false) × IsAnswered D.Disk self.old self.new disk.old disk.new command reply) }
+        ensures applies { (state : State) → IsAt D.Disk self.old disk.old state → IsSome (D.contents disk.new) → IsApplied D.Disk result state command self.new disk.old disk.new }
+        ensures ok { OnOk result (GoesOn self.old self.new) }
         ensures refused { IfErr result (λ e. NotApplied D.Disk e self.old self.new disk.old disk.new) }
+        ensures areas { WritesAlone D.Disk disk.old disk.new (λ _. Unit {0}) }
     {
         if self.is_ended() {
             return Err(EngineError::Ended);
         }
         match command {
-            Command::Load { name, body } => self.load(disk, name, body),
+            Command::Load { name, body } => {
+                let (reply, _) = self.load(disk, name, body)?;
+                Ok(reply)
+            }
             Command::Names => self.names(),
             Command::Export { name } => self.export(disk, &name),
             Command::Get { name, path } => self.get(disk, &name, &path),
@@ -114,5 +126,93 @@ impl Store {
             | Command::Rules
             | Command::Bad => Ok(Reply::Refused(ReplyError::Syntax)),
         }
+    }
+
+    /// Carries a command out as `apply` does, and gives its reply's text to the output, behind the commit and
+    /// whole. All memory of the text is taken before the commit too.
+    ///
+    /// The command is one that a script can give.
+    ///
+    /// Errors: those of `apply`, and nothing is given then; `Write`, only where `out_faults` rose, and then the
+    /// command was carried out, and a first part of the text may be out.
+    pub fn answer<H: Host>(&mut self, host: &mut H, command: Command) -> Result<(), EngineError>
+        requires { CanCome command }
+        ensures answers { (state : State) → IsAt ⟦<H as Disk>⟧ self.old host.old state → IsSome (H.contents host.new) → IsAnswered ⟦<H as Disk>⟧ result state command self.new host.old host.new }
+        ensures ok { OnOk result (GoesOn self.old self.new) }
+        ensures refused { IfErr result (λ e. NotAnswered ⟦<H as Disk>⟧ e self.old self.new host.old host.new) }
+        ensures beside { TakesNone ⟦<H as Disk>⟧ host.old host.new }
+    {
+        let text = self.text_for(host, command)?;
+        let Ok(()) = host.emit(text.as_slice()) else {
+            return Err(EngineError::Write);
+        };
+        Ok(())
+    }
+
+    /// Gives what the block has, and behind it the reply to an `export` of this document as `answer` does, but
+    /// record by record, and but for a last part, which is left in the block. A block and what is told between two
+    /// records are in memory at once.
+    ///
+    /// Errors: those of `answer`. The block is of no use then.
+    pub fn export_into<H: Host>(
+        &mut self,
+        host: &mut H,
+        name: &[u8],
+        block: &mut Bytes,
+    ) -> Result<(), EngineError>
+        ensures exports { (state : State) → IsAt ⟦<H as Disk>⟧ self.old host.old state → IsSome (H.contents host.new) →
+            IsExported ⟦<H as Disk>⟧ result state name.now block.old block.new self.new host.old host.new }
+        ensures ok { OnOk result (GoesOn self.old self.new) }
+        ensures refused { IfErr result (λ e. NotAnswered ⟦<H as Disk>⟧ e self.old self.new host.old host.new) }
+        ensures beside { TakesNone ⟦<H as Disk>⟧ host.old host.new }
+    {
+        if self.is_ended() {
+            return Err(EngineError::Ended);
+        }
+        let Some(entry) = self.catalog.find(name) else {
+            push_reply(block, &Reply::Refused(ReplyError::NoDocument))?;
+            return Ok(());
+        };
+        nx_nav::export(
+            self.alloc,
+            &mut self.records,
+            host,
+            entry.root,
+            entry.nodes,
+            block,
+        )?;
+        block.extend_from_slice(b".\n")?;
+        Ok(())
+    }
+
+    // Carries a command out as `apply` does, and gives the text of its reply, whose memory is taken before the commit.
+    fn text_for<D: Disk>(&mut self, disk: &mut D, command: Command) -> Result<Bytes, EngineError>
+        requires { CanCome command }
+        ensures writes { (state : State) → IsAt D.Disk self.old disk.old state → IsSome (D.contents disk.new) → IsWritten D.Disk result state command self.new disk.old disk.new }
+        ensures ok { OnOk result (GoesOn self.old self.new) }
+        ensures refused { IfErr result (λ e. NotApplied D.Disk e self.old self.new disk.old disk.new) }
+        ensures areas { WritesAlone D.Disk disk.old disk.new (λ _. Unit {0}) }
+    {
+        match command {
+            Command::Load { name, body } => {
+                let (_, text) = self.load(disk, name, body)?;
+                Ok(text)
+            }
+            command => self.text_behind(disk, command),
+        }
+    }
+
+    // ... for a command that leaves what is stored. The text is made when it is done.
+    fn text_behind<D: Disk>(&mut self, disk: &mut D, command: Command) -> Result<Bytes, EngineError>
+        requires come { CanCome command }
+        requires leaves { (state next : State) (reply : Reply) → IsStep state command reply next → next ≡ state }
+        ensures writes { (state : State) → IsAt D.Disk self.old disk.old state → IsSome (D.contents disk.new) → IsWritten D.Disk result state command self.new disk.old disk.new }
+        ensures ok { OnOk result (GoesOn self.old self.new) }
+        ensures refused { IfErr result (λ e. NotApplied D.Disk e self.old self.new disk.old disk.new) }
+        ensures areas { WritesAlone D.Disk disk.old disk.new (λ _. Unit {0}) }
+    {
+        let reply = self.apply(disk, command)?;
+        let text = write_reply(self.alloc, &reply)?;
+        Ok(text)
     }
 }

@@ -2,21 +2,18 @@ use Rattle.std.proofs.Common.{◌≡◌, sym, ap, ◌∙◌, refl}
 use Rattle.std.proofs.lemmas.Result.{err_from_is_err_and}
 use Rattle.std.specs.Prelude.{Some}
 use Rattle.std.specs.FinMap.{get}
-use Rattle.nx_host.proofs.DiskLemmas.{none_still}
 use Rattle.nx_pyx.specs.Text.{text}
 use Rattle.nx_cuts.specs.Cut.{CutTree, tree_of}
 use Rattle.nx_records.specs.declared.records.Records.{Records}
 use Rattle.nx_records.specs.Records.{has_ended}
-use Rattle.nx_script.specs.declared.command.Command.TheVariants.{Export}
-use Rattle.nx_script.specs.declared.reply.Reply.TheVariants.{Exported, Refused}
-use Rattle.nx_script.specs.declared.reply.ReplyError.TheVariants.{NoDocument}
-use Rattle.nx_store.specs.Step.{laid}
+use Rattle.nx_script.specs.declared.reply.Reply.TheVariants.{Exported}
+use Rattle.nx_hold.specs.Changes.{place_of}
+use Rattle.nx_nav.specs.Refusals.{HoldsNoneWith}
 use Rattle.nx_store.specs.Told.{told_by}
 use Rattle.nx_store.specs.Store.{NotApplied}
 use Rattle.nx_store.specs.declared.store.Store.{Store}
 use Rattle.nx_store.specs.declared.error.EngineError.{EngineError}
-use Rattle.nx_store.proofs.AtLemmas.{still_within, still_answered}
-use Rattle.nx_store.proofs.RefusalLemmas.{told_passed, look_refused}
+use Rattle.nx_store.proofs.RefusalLemmas.{told_passed, look_refused, look_same}
 use Rattle.nx_store.proofs.LookLemmas.{absent_answer, found_answer_with, lacks_nowhere_with}
 use Rattle.nx_store.proofs.store.Store.export.Goals as goal
 
@@ -24,10 +21,7 @@ pub returns-in_default-clause-ok : goal.returns-in_default-clause-ok
 returns-in_default-clause-ok g c =
     let runs = sym c.is_ended.ensures ∙ c.if-is_ended.false in
     let none = ap (get (c.args.self.now.catalog).documents) (sym c.as_slice.ensures) ∙ sym c.in_default.ensures in
-    (runs, runs, still_answered c.args.self.now c.args.self.now (Export c.args.name.now) (Refused NoDocument) refl refl none_still (λ state at. (absent_answer c.args.name.now (λ (document : CutTree). Exported (text (tree_of document))) none at, refl)))
-
-pub returns-in_err-text-clause-goes : goal.returns-in_err-text-clause-goes
-returns-in_err-text-clause-goes g c = still_within (Export c.args.name.now) c.text_of.ensures.still
+    ((runs, runs), (λ state at. (absent_answer c.args.name.now (λ (document : CutTree). Exported (text (tree_of document))) none at, refl)))
 
 pub returns-in_err-text-clause-refused : goal.returns-in_err-text-clause-refused
 returns-in_err-text-clause-refused g c =
@@ -38,16 +32,16 @@ returns-in_err-text-clause-refused g c =
     (look_refused g.D.Disk c.args.self.now after ⊥ c.in_err-text.field-0.0 (lacks_nowhere_with c.args.name.now c.in-Some.entry is) c.text_of.ensures.still refl
     (λ same. ap (λ (r : Records). record c.args.self.now { records = r }) same) c.in_err-text.ensures.refused)
 
-pub returns-clause-goes : goal.returns-clause-goes
-returns-clause-goes g c = still_within (Export c.args.name.now) c.text_of.ensures.still
-
 pub returns-clause-ok : goal.returns-clause-ok
 returns-clause-ok g c =
     let ok = c.in_ok-text.ensures.ok in
     let after : Store = record c.args.self.now { records = c.text_of.new.records } in
     let is : get (c.args.self.now.catalog).documents c.args.name.now ≡ Some c.in-Some.entry = ap (get (c.args.self.now.catalog).documents) (sym c.as_slice.ensures) ∙ sym c.in-Some.ensures in (
-      ok.0,
-      ap (λ (r : Records). has_ended r) ok.1 ∙ ok.0,
-      still_answered c.args.self.now after (Export c.args.name.now) (Exported c.in_ok-text.text) ok.1 refl c.text_of.ensures.still
-          (λ state at. (found_answer_with c.args.name.now c.in-Some.entry (λ (document : CutTree). Exported (text (tree_of document))) (Exported c.in_ok-text.text) is (λ document has count. ap Exported (ok.2 document has count)) at, refl)),
+      (ok.0, ap (λ (r : Records). has_ended r) ok.1 ∙ ok.0),
+      (λ state at. (found_answer_with c.args.name.now c.in-Some.entry (λ (document : CutTree). Exported (text (tree_of document))) (Exported c.in_ok-text.text) is (λ document has count. ap Exported (ok.2 document has count)) at, refl)),
     )
+
+pub returns-in_err-text-clause-same : goal.returns-in_err-text-clause-same
+returns-in_err-text-clause-same g c runs =
+    ap (λ (r : Records). record c.args.self.now { records = r })
+    (look_same g.D.Disk ⊥ (HoldsNoneWith g.D.Disk c.args.self.now.records c.args.disk.now (place_of c.in-Some.entry.root) c.in-Some.entry.nodes) c.args.self.now.records c.text_of.new.records c.args.disk.now c.text_of.new.disk c.in_err-text.field-0.0 c.in_err-text.ensures.refused runs)

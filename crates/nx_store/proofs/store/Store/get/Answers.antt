@@ -2,7 +2,6 @@ use Rattle.std.proofs.Common.{◌≡◌, ℕ, List, sym, ap, subst, ◌∙◌, r
 use Rattle.std.specs.Prelude.{Some, None}
 use Rattle.std.specs.Option.{option_map_or}
 use Rattle.std.specs.FinMap.{get}
-use Rattle.nx_host.proofs.DiskLemmas.{none_still}
 use Rattle.nx_tree.specs.Edit.{at as at_path}
 use Rattle.nx_cuts.specs.Cut.{CutTree, tree_of}
 use Rattle.nx_hold.specs.Changes.{place_of}
@@ -10,16 +9,14 @@ use Rattle.nx_nav.specs.Refusals.{OfEach, HoldsNone}
 use Rattle.nx_nav.specs.Shows.{ShowsNode}
 use Rattle.nx_records.specs.declared.records.Records.{Records}
 use Rattle.nx_records.specs.Records.{has_ended}
-use Rattle.nx_script.specs.declared.command.Command.TheVariants.{Get}
 use Rattle.nx_script.specs.declared.reply.Reply.{Reply}
 use Rattle.nx_script.specs.declared.reply.Reply.TheVariants.{Shown, Refused}
-use Rattle.nx_script.specs.declared.reply.ReplyError.TheVariants.{NoDocument, NoNode}
+use Rattle.nx_script.specs.declared.reply.ReplyError.TheVariants.{NoNode}
 use Rattle.nx_engine.specs.Step.{shown}
 use Rattle.nx_store.specs.Store.{NotApplied}
 use Rattle.nx_store.specs.declared.store.Store.{Store}
 use Rattle.nx_store.specs.declared.error.EngineError.{EngineError}
-use Rattle.nx_store.proofs.AtLemmas.{still_within, still_answered}
-use Rattle.nx_store.proofs.RefusalLemmas.{look_refused, is_nowhere}
+use Rattle.nx_store.proofs.RefusalLemmas.{look_refused, look_same, is_nowhere}
 use Rattle.nx_store.proofs.LookLemmas.{absent_answer, found_answer, lacks_nowhere, shown_answer, nowhere_answer}
 use Rattle.nx_store.proofs.store.Store.get.Goals as goal
 
@@ -31,32 +28,22 @@ pub returns-in_default-clause-ok : goal.returns-in_default-clause-ok
 returns-in_default-clause-ok g c =
     let runs = sym c.is_ended.ensures ∙ c.if-is_ended.false in
     let none = ap (get (c.args.self.now.catalog).documents) (sym c.as_slice.ensures) ∙ sym c.in_default.ensures in (
-      runs,
-      runs,
-      still_answered c.args.self.now c.args.self.now (Get c.args.name.now c.args.path.now) (Refused NoDocument) refl refl none_still
-          (λ state at. (absent_answer c.args.name.now (answer c.args.path.now) none at, refl)),
+      (runs, runs),
+      (λ state at. (absent_answer c.args.name.now (answer c.args.path.now) none at, refl)),
     )
-
-pub returns-in-Ok-clause-goes : goal.returns-in-Ok-clause-goes
-returns-in-Ok-clause-goes g c = still_within (Get c.args.name.now c.args.path.now) c.get.ensures.still
 
 pub returns-in-Ok-clause-ok : goal.returns-in-Ok-clause-ok
 returns-in-Ok-clause-ok g c =
     let ok = c.in-Ok.ensures.ok in
     let after : Store = record c.args.self.now { records = c.get.new.records } in
     let is : get (c.args.self.now.catalog).documents c.args.name.now ≡ Some c.in-Some.entry = ap (get (c.args.self.now.catalog).documents) (sym c.as_slice.ensures) ∙ sym c.in-Some.ensures in (
-      ok.0,
-      ap (λ (r : Records). has_ended r) ok.1 ∙ ok.0,
-      still_answered c.args.self.now after (Get c.args.name.now c.args.path.now) (Shown c.in-Ok.shown.node c.in-Ok.shown.children) ok.1 refl c.get.ensures.still
-          (λ state at. (
-            found_answer c.args.name.now c.in-Some.entry (answer c.args.path.now) (Shown c.in-Ok.shown.node c.in-Ok.shown.children) is
-                (λ document has. shown_answer (tree_of document) c.args.path.now c.in-Ok.shown (subst (λ (p : List ℕ). ShowsNode (tree_of document) p c.in-Ok.shown) c.as_slice-2.ensures (ok.2 document has))) at,
-            refl,
-          )),
+      (ok.0, ap (λ (r : Records). has_ended r) ok.1 ∙ ok.0),
+      (λ state at. (
+        found_answer c.args.name.now c.in-Some.entry (answer c.args.path.now) (Shown c.in-Ok.shown.node c.in-Ok.shown.children) is
+            (λ document has. shown_answer (tree_of document) c.args.path.now c.in-Ok.shown (subst (λ (p : List ℕ). ShowsNode (tree_of document) p c.in-Ok.shown) c.as_slice-2.ensures (ok.2 document has))) at,
+        refl,
+      )),
     )
-
-pub returns-in-Err-NoNode-clause-goes : goal.returns-in-Err-NoNode-clause-goes
-returns-in-Err-NoNode-clause-goes g c = still_within (Get c.args.name.now c.args.path.now) c.get.ensures.still
 
 pub returns-in-Err-NoNode-clause-ok : goal.returns-in-Err-NoNode-clause-ok
 returns-in-Err-NoNode-clause-ok g c =
@@ -65,18 +52,13 @@ returns-in-Err-NoNode-clause-ok g c =
     c.in-Err-NoNode.field-0-is c.in-Err-NoNode.ensures.refused in
     let after : Store = record c.args.self.now { records = c.get.new.records } in
     let is : get (c.args.self.now.catalog).documents c.args.name.now ≡ Some c.in-Some.entry = ap (get (c.args.self.now.catalog).documents) (sym c.as_slice.ensures) ∙ sym c.in-Some.ensures in (
-      nowhere.1,
-      ap (λ (r : Records). has_ended r) nowhere.2 ∙ nowhere.1,
-      still_answered c.args.self.now after (Get c.args.name.now c.args.path.now) (Refused NoNode) nowhere.2 refl c.get.ensures.still
-          (λ state at. (
-            found_answer c.args.name.now c.in-Some.entry (answer c.args.path.now) (Refused NoNode) is
-                (λ document has. nowhere_answer (tree_of document) c.args.path.now (subst (λ (p : List ℕ). at_path (tree_of document) p ≡ None) c.as_slice-2.ensures (nowhere.0 document has))) at,
-            refl,
-          )),
+      (nowhere.1, ap (λ (r : Records). has_ended r) nowhere.2 ∙ nowhere.1),
+      (λ state at. (
+        found_answer c.args.name.now c.in-Some.entry (answer c.args.path.now) (Refused NoNode) is
+            (λ document has. nowhere_answer (tree_of document) c.args.path.now (subst (λ (p : List ℕ). at_path (tree_of document) p ≡ None) c.as_slice-2.ensures (nowhere.0 document has))) at,
+        refl,
+      )),
     )
-
-pub returns-in-Err-clause-goes : goal.returns-in-Err-clause-goes
-returns-in-Err-clause-goes g c = still_within (Get c.args.name.now c.args.path.now) c.get.ensures.still
 
 pub returns-in-Err-clause-refused : goal.returns-in-Err-clause-refused
 returns-in-Err-clause-refused g c =
@@ -85,3 +67,15 @@ returns-in-Err-clause-refused g c =
     subst (λ (e : EngineError). NotApplied g.D.Disk e c.args.self.now after c.args.disk.now c.get.new.disk) (sym c.from.ensures)
     (look_refused g.D.Disk c.args.self.now after (OfEach g.D.Disk c.args.self.now.records c.args.disk.now (place_of c.in-Some.entry.root) (λ document. at_path (tree_of document) c.as_slice-2.result.now ≡ None)) c.in-Err.error
     (lacks_nowhere c.args.name.now c.in-Some.entry is) c.get.ensures.still refl (λ same. ap (λ (r : Records). record c.args.self.now { records = r }) same) c.in-Err.ensures.refused)
+
+pub returns-in-Err-NoNode-clause-same : goal.returns-in-Err-NoNode-clause-same
+returns-in-Err-NoNode-clause-same g c runs =
+    ap (λ (r : Records). record c.args.self.now { records = r })
+    (look_same g.D.Disk (OfEach g.D.Disk c.args.self.now.records c.args.disk.now (place_of c.in-Some.entry.root) (λ document. at_path (tree_of document) c.as_slice-2.result.now ≡ None))
+    (HoldsNone g.D.Disk c.args.self.now.records c.args.disk.now (place_of c.in-Some.entry.root)) c.args.self.now.records c.get.new.records c.args.disk.now c.get.new.disk c.in-Err-NoNode.field-0 c.in-Err-NoNode.ensures.refused runs)
+
+pub returns-in-Err-clause-same : goal.returns-in-Err-clause-same
+returns-in-Err-clause-same g c runs =
+    ap (λ (r : Records). record c.args.self.now { records = r })
+    (look_same g.D.Disk (OfEach g.D.Disk c.args.self.now.records c.args.disk.now (place_of c.in-Some.entry.root) (λ document. at_path (tree_of document) c.as_slice-2.result.now ≡ None))
+    (HoldsNone g.D.Disk c.args.self.now.records c.args.disk.now (place_of c.in-Some.entry.root)) c.args.self.now.records c.get.new.records c.args.disk.now c.get.new.disk c.in-Err.error c.in-Err.ensures.refused runs)

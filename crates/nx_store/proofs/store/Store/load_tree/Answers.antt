@@ -1,38 +1,32 @@
-use Rattle.std.proofs.Common.{◌≡◌, ℕ, List, refl, sym, ap, ◌∙◌, subst}
+use Rattle.std.proofs.Common.{ℕ, List, sym, subst, inl}
+use Rattle.std.specs.Prelude.{Result, Err}
 use Rattle.std.proofs.lemmas.Result.{err_from_is_err_and}
-use Rattle.nx_records.proofs.StandLemmas.{if_ok_then, if_err_then}
+use Rattle.nx_records.proofs.StandLemmas.{if_err_then}
 use Rattle.nx_script.specs.declared.command.LoadBody.TheVariants.{Read}
 use Rattle.nx_script.specs.declared.command.Command.TheVariants.{Load}
-use Rattle.nx_store.specs.Store.{NotApplied}
+use Rattle.nx_script.specs.declared.reply.Reply.{Reply}
+use Rattle.nx_store.specs.Store.{IsApplied}
+use Rattle.nx_store.specs.Loading.{reply_of}
 use Rattle.nx_store.specs.declared.error.EngineError.{EngineError}
-use Rattle.nx_store.proofs.AppliedLemmas.{passed, emptied_within, later_within, later_answered, later_applied}
+use Rattle.nx_store.proofs.ShowLemmas.{handed, shows_written, later_applied}
+use Rattle.nx_store.proofs.AppliedLemmas.{later_refused}
 use Rattle.nx_store.proofs.store.Store.load_tree.Goals as goal
 
-pub returns-in_err-shorten_log-clause-goes : goal.returns-in_err-shorten_log-clause-goes
-returns-in_err-shorten_log-clause-goes g c = emptied_within g.D.Disk c.args.self.now c.args.disk.now c.shorten_log.new.disk (Load c.args.name.now (Read c.args.tree.now)) c.in_err-shorten_log.ensures.goes
+pub returns-in_err-shorten_log-clause-loads : goal.returns-in_err-shorten_log-clause-loads
+returns-in_err-shorten_log-clause-loads g c state at told =
+    handed c.from_residual.result (λ (r : Result (Reply × List ℕ) EngineError). IsApplied g.D.Disk (reply_of r) state (Load c.args.name.now (Read c.args.tree.now)) c.shorten_log.new.self c.args.disk.now c.shorten_log.new.disk)
+    c.in_err-shorten_log.field-0.0 (err_from_is_err_and c.from_residual.result c.from_residual.ensures.1)
+    (subst (λ (e : EngineError). IsApplied g.D.Disk (Err e) state (Load c.args.name.now (Read c.args.tree.now)) c.shorten_log.new.self c.args.disk.now c.shorten_log.new.disk) (sym c.in_err-shorten_log.ensures.refused.0)
+    (inl (shows_written g.D.Disk c.in_err-shorten_log.ensures.goes told (λ i of. of state at))))
 
-pub returns-in_err-shorten_log-clause-refused : goal.returns-in_err-shorten_log-clause-refused
-returns-in_err-shorten_log-clause-refused g c =
-    passed c.from_residual.result (λ (e : EngineError). NotApplied g.D.Disk e c.args.self.now c.shorten_log.new.self c.args.disk.now c.shorten_log.new.disk) c.in_err-shorten_log.field-0.0
-    (err_from_is_err_and c.from_residual.result c.from_residual.ensures.1)
-    (subst (λ (e : EngineError). NotApplied g.D.Disk e c.args.self.now c.shorten_log.new.self c.args.disk.now c.shorten_log.new.disk) (sym c.in_err-shorten_log.ensures.refused.0)
-    (c.in_err-shorten_log.ensures.refused.1, c.in_err-shorten_log.ensures.refused.2))
-
-pub returns-clause-goes : goal.returns-clause-goes
-returns-clause-goes g c =
-    later_within g.D.Disk c.args.self.now c.shorten_log.new.self c.load_planned.new.self c.args.disk.now c.shorten_log.new.disk c.load_planned.new.disk (Load c.args.name.now (Read c.args.tree.now)) c.requires.runs
-    c.in_ok-shorten_log.ensures.goes c.load_planned.ensures.goes c.in_ok-shorten_log.ensures.ok.2
-
-pub returns-clause-ok : goal.returns-clause-ok
-returns-clause-ok g c =
-    if_ok_then c.load_planned.result c.load_planned.ensures.ok (λ r answered. (
-      answered.0,
-      later_answered g.D.Disk c.args.self.now c.shorten_log.new.self c.load_planned.new.self c.args.disk.now c.shorten_log.new.disk c.load_planned.new.disk (Load c.args.name.now (Read c.args.tree.now)) c.requires.runs
-          c.in_ok-shorten_log.ensures.goes c.load_planned.ensures.goes c.in_ok-shorten_log.ensures.ok.2 r answered.1,
-    ))
+pub returns-clause-loads : goal.returns-clause-loads
+returns-clause-loads g c state at told =
+    let before = c.load_planned.ensures.areas.told told in
+    later_applied g.D.Disk c.args.self.now c.args.disk.now c.shorten_log.new.disk c.load_planned.new.disk state (Load c.args.name.now (Read c.args.tree.now)) c.in_ok-shorten_log.ensures.goes at before c.load_planned.new.self
+    (reply_of c.load_planned.result) (c.load_planned.ensures.loads state (c.in_ok-shorten_log.ensures.ok.2 state at before) told)
 
 pub returns-clause-refused : goal.returns-clause-refused
 returns-clause-refused g c =
     if_err_then c.load_planned.result c.load_planned.ensures.refused (λ e refused.
-    later_applied g.D.Disk c.args.self.now c.shorten_log.new.self c.load_planned.new.self c.args.disk.now c.shorten_log.new.disk c.load_planned.new.disk (Load c.args.name.now (Read c.args.tree.now)) c.requires.runs
-    c.in_ok-shorten_log.ensures.goes c.load_planned.ensures.goes c.in_ok-shorten_log.ensures.ok.2 e c.in_ok-shorten_log.ensures.ok.0 refused)
+    later_refused g.D.Disk c.args.self.now c.shorten_log.new.self c.load_planned.new.self c.args.disk.now c.shorten_log.new.disk c.load_planned.new.disk c.requires.runs
+    c.in_ok-shorten_log.ensures.goes c.load_planned.ensures.areas c.in_ok-shorten_log.ensures.ok.2 e c.in_ok-shorten_log.ensures.ok.0 refused)

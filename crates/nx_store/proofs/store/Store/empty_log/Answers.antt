@@ -1,7 +1,6 @@
-use Rattle.std.proofs.Common.{◌≡◌, refl, arith}
-use Rattle.nx_records.specs.Records.{log_length_of}
+use Rattle.std.proofs.Common.{refl}
 use Rattle.nx_store.proofs.LogLemmas.{emptied_goes, emptied_at}
-use Rattle.nx_store.proofs.store.Store.shorten_log.Goals as goal
+use Rattle.nx_store.proofs.store.Store.empty_log.Goals as goal
 
 pub returns-in_default-clause-goes : goal.returns-in_default-clause-goes
 returns-in_default-clause-goes g c =
@@ -14,7 +13,7 @@ returns-clause-goes g c =
 pub returns-clause-ok : goal.returns-clause-ok
 returns-clause-ok g c = (
   c.in-Ok.ensures.empty.1,
-  (let none : log_length_of c.checkpoint.new.self ≡ 0 = c.in-Ok.ensures.empty.2 in omega (arith, none)),
+  c.in-Ok.ensures.empty.2,
   emptied_at {d = g.D.Disk} c.args.self.now c.abandon.new.self c.args.disk.now c.abandon.ensures.follows c.abandon.ensures.none_left c.abandon.ensures.saved c.abandon.ensures.stays.0 c.checkpoint.new.disk
       (record { alloc = c.args.self.now.alloc; records = c.checkpoint.new.self; catalog = c.args.self.now.catalog }) c.in-Ok.ensures.ok c.in-Ok.ensures.empty.3 refl,
 )

@@ -1,0 +1,47 @@
+use Rattle.std.proofs.Common.{◌∙◌, arith}
+use Rattle.std.specs.Prelude.{Result}
+use Rattle.std.proofs.lemmas.Result.{err_from_is_err_and}
+use Rattle.nx_host.specs.Phase.{TalksAlone}
+use Rattle.nx_store.specs.Store.{IsAnswered}
+use Rattle.nx_store.specs.declared.error.EngineError.{EngineError}
+use Rattle.nx_store.proofs.ShowLemmas.{handed}
+use Rattle.nx_store.proofs.TextLemmas.{failed_answered, told_between, given_answered, unwritten_answered}
+use Rattle.nx_store.proofs.store.Store.answer.Goals as goal
+
+pub returns-in_err-text-clause-answers : goal.returns-in_err-text-clause-answers
+returns-in_err-text-clause-answers g c state at told =
+    handed c.from_residual.result (λ (r : Result (Unit {0}) EngineError). IsAnswered g.H.Disk r state c.args.command c.text_for.new.self c.args.host.now c.text_for.new.disk) c.in_err-text.field-0.0
+    (err_from_is_err_and c.from_residual.result c.from_residual.ensures.1)
+    (failed_answered g.H.Disk c.text_for.new.self c.args.host.now c.text_for.new.disk state c.args.command c.in_err-text.field-0.0 (c.in_err-text.ensures.writes state at told))
+
+pub returns-in_default-clause-answers : goal.returns-in_default-clause-answers
+returns-in_default-clause-answers g c state at told =
+    let e = c.in_default.ensures in
+    let gives : TalksAlone g.H.Disk c.as_slice.result.now c.text_for.new.disk c.emit.new.self = record {
+      contents_stay = e.contents;
+      images_stay = e.images;
+      faults_stay = e.faults;
+      reads_stay = e.reads;
+      in_faults_later = omega (arith, e.in_faults);
+      out_faults_later = e.out_faults;
+      time = e.time;
+    } in
+    let kept = c.in_ok-text.ensures.areas.beside_stays.output in
+    let w = c.in_ok-text.ensures.writes state at (told_between g.H.Disk c.text_for.new.self c.args.host.now c.text_for.new.disk c.emit.new.self state c.args.command c.as_slice.result.now kept gives told) in
+    unwritten_answered g.H.Disk c.text_for.new.self c.args.host.now c.text_for.new.disk c.emit.new.self state c.args.command c.as_slice.result.now kept gives told w.0 (c.as_slice.ensures ∙ w.1) w.2
+
+pub returns-clause-answers : goal.returns-clause-answers
+returns-clause-answers g c state at told =
+    let e = c.in-Ok.ensures in
+    let gives : TalksAlone g.H.Disk c.as_slice.result.now c.text_for.new.disk c.emit.new.self = record {
+      contents_stay = e.contents;
+      images_stay = e.images;
+      faults_stay = e.faults;
+      reads_stay = e.reads;
+      in_faults_later = omega (arith, e.in_faults);
+      out_faults_later = e.out_faults;
+      time = e.time;
+    } in
+    let kept = c.in_ok-text.ensures.areas.beside_stays.output in
+    let w = c.in_ok-text.ensures.writes state at (told_between g.H.Disk c.text_for.new.self c.args.host.now c.text_for.new.disk c.emit.new.self state c.args.command c.as_slice.result.now kept gives told) in
+    given_answered g.H.Disk c.text_for.new.self c.args.host.now c.text_for.new.disk c.emit.new.self state c.args.command c.as_slice.result.now kept gives told w.0 (c.as_slice.ensures ∙ w.1) w.2 e.ok
