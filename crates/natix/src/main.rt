@@ -6,12 +6,12 @@ ghost use Rattle.std.specs.IoError.{error_kind};
 ghost use Rattle.std.specs.Option.{option_copied};
 ghost use Rattle.std.specs.Process.{exit_status};
 ghost use Rattle.std.specs.Vec.Iter.{into_iter_items};
-ghost use Rattle.natix.specs.Exit.{exit_number, error_line};
+ghost use Rattle.natix.specs.Exit.{exit_number, fixed_line, damaged_line};
 
 use nx_files::FileHost;
 use nx_front::{Status, Word, Words, run};
 use nx_lists::NoMemory;
-use std::alloc::Global;
+use std::alloc::{AllocError, Global};
 use std::env::{Args, Env};
 use std::fs::{File, Files};
 use std::io::{ErrorKind, Read, Write};
@@ -78,28 +78,40 @@ fn store_of(words: &Words) -> &str {
 }
 
 /// Says on standard error what there is to say of a status, and gives the code to exit with.
-fn end<P: Eprint>(process: &P, status: Status) -> ExitCode
+fn end<P: Eprint + AllocGlobal>(process: &P, status: Status) -> ExitCode
     ensures { exit_status result ≡ exit_number status }
 {
+    // With standard error gone there is nowhere left to say so.
     if let Some(line) = message(status) {
-        // With standard error gone there is nowhere left to say so.
         let _ = process.eprintln(line);
+    } else if let Status::Damaged { page } = status {
+        if let Ok(line) = damaged_line(process.alloc(), page) {
+            let _ = process.eprintln(line.as_str());
+        }
     }
     exit_code(status)
 }
 
+// It takes no memory, so that want of memory can be told.
 fn message(status: Status) -> Option<&'static str>
-    ensures { option_copied result ≡ error_line status }
+    ensures { option_copied result ≡ fixed_line status }
 {
     match status {
-        Status::Done | Status::Refused => None,
+        Status::Done | Status::Refused | Status::Damaged { .. } => None,
         Status::Usage => Some("usage: natix STORE COMMAND [ARG]..."),
         Status::DiskFault => Some("disk fault"),
         Status::ReadFault => Some("read fault"),
         Status::WriteFault => Some("write fault"),
         Status::NoMemory => Some("out of memory"),
+        Status::NotAStore => Some("not a store"),
         Status::TooMuch => Some("too much input"),
     }
+}
+
+fn damaged_line(alloc: Global, page: u32) -> Result<String, AllocError>
+    ensures { IfOk result (λ line. string_bytes line ≡ damaged_line page) }
+{
+    format!(in alloc; "damaged page {page}")
 }
 
 fn exit_code(status: Status) -> ExitCode
@@ -113,6 +125,8 @@ fn exit_code(status: Status) -> ExitCode
         Status::ReadFault => 4,
         Status::WriteFault => 5,
         Status::NoMemory => 6,
+        Status::NotAStore => 7,
+        Status::Damaged { .. } => 8,
         Status::TooMuch => 9,
     })
 }

@@ -1,8 +1,8 @@
 -- How a store is made, from what was made of the disk and what was given then.
-use Rattle.std.proofs.Common.{◌≡◌, ◌⊎◌, inl, inr, ℕ, ◌≤◌, List, [], length, Option, None, Some, IsSome, refl, sym, ap, ◌∙◌, subst, arith, append-nil}
+use Rattle.std.proofs.Common.{◌≡◌, ◌⊎◌, inl, inr, ℕ, ◌≤◌, List, [], length, Option, None, Some, IsSome, refl, sym, ap, ◌∙◌, subst, arith}
 use Rattle.nx_host.specs.declared.disk.Disk.{Ghosts}
 use Rattle.nx_host.specs.Disk.{Image, Beside, Keeps, LeavesBeside, Rose}
-use Rattle.nx_host.specs.Host.{Appends, AppendsPrefix}
+use Rattle.nx_host.specs.Host.{AppendsPrefix}
 use Rattle.nx_host.specs.Time.{elapsed_then, elapsed_weaker}
 use Rattle.nx_host.specs.Still.{IsStill, WritesAlone, IsSettled}
 use Rattle.nx_host.specs.Phase.{GivesAlone}
@@ -16,20 +16,12 @@ use Rattle.nx_holdings.specs.Holdings.{Held, Holds}
 use Rattle.nx_holdings.proofs.OneLemmas.{hold_one}
 use Rattle.nx_records.specs.Changes.{nothing_held}
 use Rattle.nx_records.specs.Refusals.{IsCreated}
+use Rattle.nx_state.proofs.FirstLemmas.{new_is_held}
 use Rattle.nx_front.specs.declared.status.Status.{Status}
-use Rattle.nx_front.specs.declared.status.Status.TheVariants.{Done, Usage, Refused, DiskFault, ReadFault, WriteFault, NoMemory, TooMuch}
+use Rattle.nx_front.specs.declared.status.Status.TheVariants.{Done, Usage, Refused, DiskFault, ReadFault, WriteFault, NoMemory, NotAStore, Damaged, TooMuch}
 use Rattle.nx_front.specs.Outcome.{FailsGiving}
 use Rattle.nx_front.specs.Init.{made_line, exists_line, HasNoPage, HasPage, IsOldOrNew, Says, IsMaking, IsMade, Makes, FindsPages, GivesUp, Initializes, IsUntroubled, CompletesInit, InitHoldsTogether, HoldsNothing}
-use Rattle.nx_front.proofs.OutcomeLemmas.{fails_then}
-
--- what is told now was told
-told_at_first : {T : Type 0} (a b : Option T) → Keeps a b → IsSome b → IsSome a
-told_at_first {T = T} a b kept told = subst (λ (o : Option T). IsSome o) (told_same a b kept told) told
-
--- an output that stays has grown by nothing
-kept_appends : (a b : Option (List ℕ)) → Keeps a b → Appends [] a b
-kept_appends a None kept = tt
-kept_appends a (Some was) kept = (was, kept, sym (append-nil was))
+use Rattle.nx_front.proofs.OutcomeLemmas.{told_at_first, kept_appends, fails_then}
 
 -- a line behind an output that stayed
 says_after : (line : List ℕ) (whole status : Status) (old middle new : Beside) → LeavesBeside old middle → Says line whole status middle new → Says line whole status old new
@@ -148,6 +140,8 @@ module _ {D : Type 0} {d : Ghosts D} {a b : D} where
   given_up settings was Refused calm ends = absurd ends
   given_up settings was ReadFault calm ends = absurd ends
   given_up settings was WriteFault calm ends = absurd ends
+  given_up settings was NotAStore calm ends = absurd ends
+  given_up settings was (Damaged page) calm ends = absurd ends
   given_up settings was TooMuch calm ends = absurd ends
 
   ends_completely : (settings : Settings) (was : Image) (status : Status) → IsUntroubled d was a b → Makes d settings status a b ⊎ FindsPages d status a b ⊎ GivesUp d settings status a b →
@@ -193,4 +187,8 @@ init_together settings = record {
 }
 
 pub holds_nothing : (settings : Settings) → HoldsNothing settings
-holds_nothing settings was now held created holds = hold_one (replay now) held (nothing_held settings) holds created.holds
+holds_nothing settings = record {
+  absent = λ was i none same p. ap (λ (pages : ℕ → Option (List ℕ)). pages p) (replay-same was i same) ∙ none p;
+  recovers = λ was now created. (nothing_held settings, created.holds, new_is_held settings);
+  alone = λ was now held created holds. hold_one (replay now) held (nothing_held settings) holds created.holds;
+}

@@ -6,5 +6,9 @@ pub mod PlanLemmas
 pub mod PlannedLemmas
 pub mod VerifyLemmas
 pub mod SessionLemmas
+pub mod MomentLemmas
+pub mod ServeLemmas
+pub mod ServingLaws
+pub mod ConversationLemmas
 pub mod InitLemmas
 pub mod TopLemmas

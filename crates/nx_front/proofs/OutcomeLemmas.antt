@@ -6,10 +6,11 @@ use Rattle.nx_host.specs.Disk.{Beside, Keeps, Rose}
 use Rattle.nx_host.specs.Host.{Takes, IsAtEnd, Appends, AppendsPrefix}
 use Rattle.nx_host.specs.Input.{most_input}
 use Rattle.nx_host.specs.Phase.{TakesAlone, GivesAlone, TalksAlone}
+use Rattle.nx_host.proofs.DiskLemmas.{told_same}
 use Rattle.nx_host.proofs.OutputLemmas.{appends_nothing, appends_then, prefix_more, prefix_then, keeps_prefix}
 use Rattle.nx_host.proofs.PhaseLemmas.{takes_talks, left_then}
 use Rattle.nx_front.specs.declared.status.Status.{Status}
-use Rattle.nx_front.specs.declared.status.Status.TheVariants.{Done, Usage, Refused, DiskFault, ReadFault, WriteFault, NoMemory, TooMuch}
+use Rattle.nx_front.specs.declared.status.Status.TheVariants.{Done, Usage, Refused, DiskFault, ReadFault, WriteFault, NoMemory, NotAStore, Damaged, TooMuch}
 use Rattle.nx_front.specs.declared.take_error.TakeError.{TakeError}
 use Rattle.nx_front.specs.declared.take_error.TakeError.TheVariants as take_error
 use Rattle.nx_front.specs.declared.give.GiveError.{GiveError}
@@ -21,6 +22,15 @@ use Rattle.nx_front.specs.Outcome.{Meaning, TakesFew, EndsWhole, EndsRefused, St
 -- a count that has risen since a later moment has risen since an earlier one
 pub rose_since : (a b c : ℕ) → a ≤ b → Rose b c → Rose a c
 rose_since a b c earlier rose = omega (arith, rose, earlier)
+
+-- what is told now was told
+pub told_at_first : {T : Type 0} (a b : Option T) → Keeps a b → IsSome b → IsSome a
+told_at_first {T = T} a b kept told = subst (λ (o : Option T). IsSome o) (told_same a b kept told) told
+
+-- an output that stays has grown by nothing
+pub kept_appends : (a b : Option (List ℕ)) → Keeps a b → Appends [] a b
+kept_appends a None kept = tt
+kept_appends a (Some was) kept = (was, kept, sym (append-nil was))
 
 -- What was given:
 
@@ -118,7 +128,8 @@ pub taken_of : (input taken : List ℕ) (old new : Option (List ℕ)) → old �
 taken_of input taken old None told still takes = cc still
 taken_of input taken old (Some left) told still takes = (left, refl, let same : Some input ≡ Some (taken ++ left) = sym told ∙ takes in cc same)
 
-not_too_much : (input taken : List ℕ) (old new : Option (List ℕ)) → old ≡ Some input → IsSome new → length input < most_input → length taken ≡ most_input → Takes taken old new → ⊥
+-- fewer bytes than a run takes aren't as many
+pub not_too_much : (input taken : List ℕ) (old new : Option (List ℕ)) → old ≡ Some input → IsSome new → length input < most_input → length taken ≡ most_input → Takes taken old new → ⊥
 not_too_much input taken old new told still few long takes =
     let (left, now, is) = taken_of input taken old new told still takes in
     let all : length input ≡ length taken + length left = ap length is ∙ length-append taken left in
@@ -171,13 +182,15 @@ completes {m = m} together outcome TooMuch input old new (shown, taken, long, en
 completes {m = m} together outcome NoMemory input old new ends calm = tt
 completes {m = m} together outcome Usage input old new ends calm = ends
 completes {m = m} together outcome DiskFault input old new ends calm = ends
+completes {m = m} together outcome NotAStore input old new ends calm = ends
+completes {m = m} together outcome (Damaged page) input old new ends calm = ends
 
 -- A run that reads its whole input before it gives anything:
 
 few_then : (first was now : Option (List ℕ)) → TakesFew first was → now ≡ was → TakesFew first now
 few_then first was now few same = subst (λ (i : Option (List ℕ)). TakesFew first i) (sym same) few
 
-keeps_of : (x y : Option (List ℕ)) → y ≡ x → Keeps x y
+pub keeps_of : (x y : Option (List ℕ)) → y ≡ x → Keeps x y
 keeps_of x None same = tt
 keeps_of x (Some now) same = sym same
 

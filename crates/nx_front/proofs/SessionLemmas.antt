@@ -79,12 +79,12 @@ answer_told taken commands first (Some left) takes (rest, are) =
     (rest, subst (λ (o : Option (List ℕ)). IfSome o (λ input. AreCommands input (commands ++ rest))) (sym takes) are)
 
 -- the commands that a script gave are the first ones
-first_given : (script : Script) (taken : List ℕ) (commands : List Command) (first now : Option (List ℕ)) → HasGivenIn script taken commands first now → AreFirst taken commands now
+pub first_given : (script : Script) (taken : List ℕ) (commands : List Command) (first now : Option (List ℕ)) → HasGivenIn script taken commands first now → AreFirst taken commands now
 first_given script taken commands first None given = tt
 first_given script taken commands first (Some left) given = given_prefix script taken left commands first given
 
 -- no more bytes were taken than a run takes
-few_given : (script : Script) (taken : List ℕ) (commands : List Command) (first now : Option (List ℕ)) → HasGivenIn script taken commands first now → length taken ≤ most_input
+pub few_given : (script : Script) (taken : List ℕ) (commands : List Command) (first now : Option (List ℕ)) → HasGivenIn script taken commands first now → length taken ≤ most_input
 few_given script taken commands first now given =
     let counted : script.input.taken ≡ length taken = given.given.counted in let few : script.input.taken ≤ most_input = script.input.few in let e : length taken ≤ most_input = omega arith in e
 
@@ -119,6 +119,13 @@ due script taken commands first now given = by_end script.finished refl
     by_end : (f : Bool) → script.finished ≡ f → (rest : List Command) × IsDue script_run (texts (commands ++ rest)) taken first now
     by_end true is = due_at_end script taken commands first now given (given.given.ended is)
     by_end false is = due_before script taken commands first now given is
+
+-- the next command of the script
+pub next_given : (old new : Script) (next : Option Command) (command : Command) → next ≡ Some command →
+    IfSome next (λ c. (taken : List ℕ) (commands : List Command) → HasGiven old taken commands → HasGiven new taken (commands ++ c ∷ [])) →
+    (taken : List ℕ) (commands : List Command) → HasGiven old taken commands → HasGiven new taken (commands ++ command ∷ [])
+next_given old new next command is given =
+    subst (λ (o : Option Command). IfSome o (λ c. (taken : List ℕ) (commands : List Command) → HasGiven old taken commands → HasGiven new taken (commands ++ c ∷ []))) is given
 
 -- How a session ends:
 

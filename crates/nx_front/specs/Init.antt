@@ -10,6 +10,8 @@ use Rattle.nx_holdings.specs.declared.header.Settings.{Settings}
 use Rattle.nx_holdings.specs.Holdings.{Held, Holds}
 use Rattle.nx_records.specs.Changes.{nothing_held}
 use Rattle.nx_records.specs.Refusals.{IsCreated}
+use Rattle.nx_state.specs.State.{new_state}
+use Rattle.nx_state.specs.Stands.{Recovers}
 use Rattle.nx_front.specs.declared.status.Status.{Status}
 use Rattle.nx_front.specs.declared.status.Status.TheVariants.{Done, Refused, DiskFault, WriteFault, NoMemory}
 use Rattle.nx_front.specs.Outcome.{FailsGiving}
@@ -97,6 +99,8 @@ pub record InitHoldsTogether (settings : Settings) : Type 0 where
   pub one_outcome : (was : Image) → HasNoPage was → HasPage was → ⊥
   pub one_disk : (was i : Image) → HasSame was i → IsCreated settings was i → ⊥
 
--- the new store holds its settings, and nothing else
-abbrev pub HoldsNothing : Settings → Type 0
-HoldsNothing settings = (was now : Image) (held : Held) → IsCreated settings was now → Holds (replay now) held → held ≡ nothing_held settings
+-- What the disk was is no store, and the new store holds its settings, and nothing else.
+pub record HoldsNothing (settings : Settings) : Type 0 where
+  pub absent : (was i : Image) → HasNoPage was → HasSame was i → Recovers i None
+  pub recovers : (was now : Image) → IsCreated settings was now → Recovers now (Some (new_state settings))
+  pub alone : (was now : Image) (held : Held) → IsCreated settings was now → Holds (replay now) held → held ≡ nothing_held settings

@@ -5,6 +5,8 @@ pub mod Outcome
 pub mod Consumer
 pub mod Tidy
 pub mod Session
+pub mod Serving
+pub mod Conversation
 pub mod Planned
 pub mod Plan
 pub mod Verify

@@ -6,7 +6,7 @@ use Rattle.nx_host.specs.Host.{Takes, IsAtEnd, Appends, AppendsPrefix}
 use Rattle.nx_host.specs.Input.{most_input}
 use Rattle.nx_host.specs.Time.{Stood, Elapses}
 use Rattle.nx_front.specs.declared.status.Status.{Status}
-use Rattle.nx_front.specs.declared.status.Status.TheVariants.{Done, Usage, Refused, DiskFault, ReadFault, WriteFault, NoMemory, TooMuch}
+use Rattle.nx_front.specs.declared.status.Status.TheVariants.{Done, Usage, Refused, DiskFault, ReadFault, WriteFault, NoMemory, NotAStore, Damaged, TooMuch}
 use Rattle.nx_front.specs.declared.take_error.TakeError.{TakeError}
 use Rattle.nx_front.specs.declared.take_error.TakeError.TheVariants as take_error
 use Rattle.nx_front.specs.declared.give.GiveError.{GiveError}
@@ -156,6 +156,8 @@ Ends m outcome TooMuch old new =
 Ends m outcome NoMemory old new = Unit {0}
 Ends m outcome Usage old new = ⊥
 Ends m outcome DiskFault old new = ⊥
+Ends m outcome NotAStore old new = ⊥
+Ends m outcome (Damaged page) old new = ⊥
 
 -- Neither count of faults fell.
 pub record CountsGrow (old new : Beside) : Type 0 where

@@ -9,6 +9,8 @@ use Rattle.nx_bounds.specs.declared.error.BoundsError.{BoundsError}
 use Rattle.nx_bounds.specs.declared.error.BoundsError.TheVariants as bounds
 use Rattle.nx_script.specs.declared.error.ScriptError.{ScriptError}
 use Rattle.nx_script.specs.declared.error.ScriptError.TheVariants as script
+use Rattle.nx_store.specs.declared.error.EngineError.{EngineError}
+use Rattle.nx_store.specs.declared.error.EngineError.TheVariants as engine
 use Rattle.nx_front.specs.declared.status.Status.{Status}
 use Rattle.nx_front.specs.declared.status.Status.TheVariants as status
 use Rattle.nx_front.specs.declared.give.GiveError.{GiveError}
@@ -41,3 +43,12 @@ status_of_script script.Memory = status.NoMemory
 abbrev pub status_of_give_error : GiveError → Status
 status_of_give_error give_error.WriteFault = status.WriteFault
 status_of_give_error give_error.NoMemory = status.NoMemory
+
+abbrev pub status_of_engine : EngineError → Status
+status_of_engine engine.Disk = status.DiskFault
+status_of_engine engine.Write = status.WriteFault
+status_of_engine engine.NotAStore = status.NotAStore
+status_of_engine (engine.Damaged page) = status.Damaged page
+status_of_engine engine.Memory = status.NoMemory
+status_of_engine engine.Ended = status.NoMemory
+status_of_engine engine.Exists = status.NoMemory

@@ -7,7 +7,7 @@ ghost use Rattle.nx_front.specs.Init.{Says, Initializes};
 use crate::Status;
 use nx_holdings::Settings;
 use nx_host::{Disk, Host};
-use nx_records::{Records, StoreError};
+use nx_store::{EngineError, Store};
 use std::alloc::Global;
 
 // Makes a store with these settings, and says so once it is there, or that the disk has pages. No input
@@ -16,13 +16,13 @@ pub fn init<H: Host>(alloc: Global, host: &mut H, settings: Settings) -> Status
     requires { AreSettings settings }
     ensures { Initializes ⟦<H as Disk>⟧ settings result host.old host.new }
 {
-    let error = match Records::create(alloc, host, settings) {
+    let error = match Store::create(alloc, host, settings) {
         Ok(_) => return say(host, b"ok\n", Status::Done),
         Err(error) => error,
     };
     match error {
-        StoreError::Exists => say(host, b"refused exists\n", Status::Refused),
-        StoreError::Disk => Status::DiskFault,
+        EngineError::Exists => say(host, b"refused exists\n", Status::Refused),
+        EngineError::Disk => Status::DiskFault,
         _ => Status::NoMemory,
     }
 }

@@ -6,7 +6,8 @@ ghost use Rattle.nx_front.specs.declared.words.CommandLine.{CommandLine};
 /// the whole input, whatever comes behind them, and an input has answers or one refusal. Its answers
 /// have one text, but for `plan`: the plans of a document have the same bounds, equally many
 /// intervals and root's parts of one weight. For `init`, a disk has pages or none, an image is as the disk
-/// was or the new store, and that holds its settings and nothing else.
+/// was or the new store, and that holds its settings and nothing else: it is that of the new state. For `run` over a
+/// store, a disk holds one state at most, and none without a header, and an input has one list of commands.
 pub fn outcomes()
     ensures together { (line : CommandLine) → IsCoherent line }
     ensures answers { (line : CommandLine) → Agrees line }

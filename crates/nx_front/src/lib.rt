@@ -9,6 +9,7 @@ mod plan;
 mod planned;
 mod read;
 mod refusal;
+mod serve;
 mod session;
 mod status;
 mod take_error;

@@ -1,9 +1,11 @@
 // How a run ends.
 ghost use Rattle.std.specs.Prelude.{◌≡◌};
-ghost use Rattle.nx_front.specs.TakeError.{status_of_script, status_of_give_error};
+ghost use Rattle.nx_front.specs.declared.status.Status.TheVariants.{NoMemory};
+ghost use Rattle.nx_front.specs.TakeError.{status_of_script, status_of_give_error, status_of_engine};
 
 use crate::give::GiveError;
 use nx_script::ScriptError;
+use nx_store::EngineError;
 
 /// The status that a run ends with.
 #[derive(Clone, Copy, Debug, PartialEq, Eq)]
@@ -19,12 +21,27 @@ pub enum Status {
     DiskFault,
     /// Reading the input failed.
     ReadFault,
-    /// Writing the output failed, while bytes of it were still to be given.
+    /// Writing the output failed.
     WriteFault,
     /// There was no memory for what the run had to keep.
     NoMemory,
+    /// The disk has no store: its page 0 is missing, or doesn't begin with the eight bytes `NATIXST1`.
+    NotAStore,
+    /// The pages of the disk stand for no state.
+    Damaged {
+        /// The page at which that was found.
+        page: u32,
+    },
     /// As many bytes of input were taken as a run takes at most, and it ended there.
     TooMuch,
+}
+
+impl From<nx_tree::NoMemory> for Status {
+    ghost from_gives = { λ _ status. status ≡ NoMemory };
+
+    fn from(_: nx_tree::NoMemory) -> Status {
+        Status::NoMemory
+    }
 }
 
 impl From<ScriptError> for Status {
@@ -46,6 +63,21 @@ impl From<GiveError> for Status {
         match error {
             GiveError::WriteFault => Status::WriteFault,
             GiveError::NoMemory => Status::NoMemory,
+        }
+    }
+}
+
+impl From<EngineError> for Status {
+    ghost from_gives = { λ error status. status ≡ status_of_engine error };
+
+    // A store that runs is never told that it has ended, and none is made here.
+    fn from(error: EngineError) -> Status {
+        match error {
+            EngineError::Disk => Status::DiskFault,
+            EngineError::Write => Status::WriteFault,
+            EngineError::NotAStore => Status::NotAStore,
+            EngineError::Damaged { page } => Status::Damaged { page },
+            EngineError::Memory | EngineError::Ended | EngineError::Exists => Status::NoMemory,
         }
     }
 }

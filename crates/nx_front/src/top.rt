@@ -13,6 +13,7 @@ use crate::give::{end_after, give_text, status_of};
 use crate::init::init;
 use crate::plan::plan;
 use crate::read::read;
+use crate::serve::serve;
 use crate::session::session;
 use crate::verify::verify;
 use crate::words::{CommandLine, command_line};
@@ -25,7 +26,8 @@ use std::alloc::Global;
 ///
 /// `STORE tidy` reads a document in PYX lines and gives its canonical text, or one line that
 /// refuses it, and nothing else. `_ run` reads the commands of a script and gives their replies in
-/// order. `STORE plan K` reads a document in PYX lines and gives the lines of a plan: as few intervals
+/// order, over documents in memory; `STORE run`, where STORE isn't `_`, does so over the store on the disk:
+/// whatever crash comes, the disk has the documents of the commands that were answered, or of one command more. `STORE plan K` reads a document in PYX lines and gives the lines of a plan: as few intervals
 /// as there can be with parts of at most K slots, of which the root's is as light as it can be with so
 /// many, and the minima of each node's subtree; or one line that says what is wrong, or which node
 /// weighs more than K. `STORE verify K` reads a document in PYX lines, a line of one dot and the lines of a plan,
@@ -38,7 +40,7 @@ use std::alloc::Global;
 /// `ok` is out. Over a disk with pages it gives the line `refused exists`, and writes nothing to the disk. It
 /// takes no input.
 pub fn run<H: Host>(alloc: Global, words: &Words, host: &mut H) -> Status
-    // There is one outcome. Why the run ends so, what it has taken by then, and what it has given
+    // For those that read an input and keep nothing there is one outcome, for `run` over a store one run. Why the run ends so, what it has taken by then, and what it has given
     // of that outcome's text, then and at every moment; what it leaves of the disk.
     ensures carried { (line : CommandLine) → command_line words.now ≡ Some line → IsCarriedOut ⟦<H as Disk>⟧ line result host.old host.new }
 
@@ -58,7 +60,8 @@ pub fn run<H: Host>(alloc: Global, words: &Words, host: &mut H) -> Status
 {
     match command_line(words) {
         Some(CommandLine::Tidy) => tidy(alloc, host),
-        Some(CommandLine::Run) => session(alloc, host),
+        Some(CommandLine::Plain) => session(alloc, host),
+        Some(CommandLine::Run) => serve(alloc, host),
         Some(CommandLine::Plan(k)) => plan(alloc, host, k),
         Some(CommandLine::Verify(k)) => verify(alloc, host, k),
         Some(CommandLine::Init(settings)) => init(alloc, host, settings),

@@ -50,7 +50,7 @@ fn other_words_are_misuse(rt: HostRuntime) -> Result<(), Fail> {
     let alloc = rt.alloc();
     let others: [&[&str]; 24] = [
         &["run"],
-        &["s", "run"],
+        &["s", "run", "s"],
         &["_", "run", "_"],
         &[],
         &["_"],

@@ -4,7 +4,7 @@ use Rattle.nx_front.proofs.init.init.Goals as goal
 pub returns-in-Ok : goal.returns-in-Ok
 returns-in-Ok g c =
     makes c.args.settings c.say.result c.create.ensures.goes
-    (λ was now settled is. let (stands, step, created) = c.in-Ok.ensures.ok was now settled is in (step.settled, created)) c.say.ensures.says c.say.ensures.alone
+    (λ was now settled is. let (at, alone, created) = c.in-Ok.ensures.ok was now settled is in (alone, created)) c.say.ensures.says c.say.ensures.alone
 
 pub returns-in-Exists : goal.returns-in-Exists
 returns-in-Exists g c =

@@ -1,18 +1,8 @@
-use Rattle.std.proofs.Common.{◌≡◌, ℕ, List, [], ◌∷◌, ◌++◌, Option, Some, IfSome, refl, subst, ◌∙◌}
+use Rattle.std.proofs.Common.{[], ◌∷◌, ◌++◌, refl, ◌∙◌}
 use Rattle.std.proofs.lemmas.Result.{err_from_is_err_and}
-use Rattle.nx_script.specs.declared.command.Command.{Command}
-use Rattle.nx_script.specs.declared.script.Script.{Script}
-use Rattle.nx_script.specs.Script.{HasGiven}
 use Rattle.nx_script.proofs.CanComeLemmas.{given_can}
-use Rattle.nx_front.proofs.SessionLemmas.{has_answered_none, has_answered_more, has_answered_given, stopped_after, stopped_giving, stopped_answering}
+use Rattle.nx_front.proofs.SessionLemmas.{next_given, has_answered_none, has_answered_more, has_answered_given, stopped_after, stopped_giving, stopped_answering}
 use Rattle.nx_front.proofs.session.answer_ready.Goals as goal
-
--- the next command of the script
-next_given : (old new : Script) (next : Option Command) (command : Command) → next ≡ Some command →
-    IfSome next (λ c. (taken : List ℕ) (commands : List Command) → HasGiven old taken commands → HasGiven new taken (commands ++ c ∷ [])) →
-    (taken : List ℕ) (commands : List Command) → HasGiven old taken commands → HasGiven new taken (commands ++ command ∷ [])
-next_given old new next command is given =
-    subst (λ (o : Option Command). IfSome o (λ c. (taken : List ℕ) (commands : List Command) → HasGiven old taken commands → HasGiven new taken (commands ++ c ∷ []))) is given
 
 pub loop-next-init : goal.loop-next-init
 loop-next-init g c =

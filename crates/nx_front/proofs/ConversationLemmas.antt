@@ -1,0 +1,480 @@
+-- A conversation over a store: commands that came, turns that are had of them, and how it ends.
+use Rattle.std.proofs.Common.{◌≡◌, ℕ, ◌≤◌, true, List, [], ◌∷◌, ◌++◌, Option, None, Some, IsSome, Ok, Err, refl, sym, ap, ◌∙◌, subst, arith, append_assoc, append-nil}
+use Rattle.nx_host.specs.declared.disk.Disk.{Ghosts}
+use Rattle.nx_host.specs.Disk.{Image, Beside, Keeps, Rose}
+use Rattle.nx_host.specs.Host.{Takes, IsAtEnd, Appends}
+use Rattle.nx_host.specs.Input.{most_input}
+use Rattle.nx_host.specs.Time.{Stood, Elapses, none_elapsed, elapsed_then, elapsed_weaker}
+use Rattle.nx_host.specs.Phase.{LeavesAreas, TakesAlone, GivesAlone}
+use Rattle.nx_host.specs.Still.{IsStill, IsSettled}
+use Rattle.nx_host.proofs.DiskLemmas.{keeps_self}
+use Rattle.nx_host.proofs.OutputLemmas.{appends_then, takes_nothing}
+use Rattle.nx_replay.specs.Log.{replay}
+use Rattle.nx_wal.specs.Reading.{HasMark}
+use Rattle.nx_script.specs.declared.command.Command.{Command}
+use Rattle.nx_script.specs.declared.script.Script.{Script}
+use Rattle.nx_script.specs.declared.error.ScriptError.{ScriptError}
+use Rattle.nx_script.specs.declared.error.ScriptError.TheVariants as scripts
+use Rattle.nx_script.specs.Commands.{AreCommands, AreWhole}
+use Rattle.nx_script.specs.Script.{HasGiven, HasGivenIn, Stops}
+use Rattle.nx_script.proofs.OneList.{one_list}
+use Rattle.nx_script.proofs.ScriptLemmas.{in_input}
+use Rattle.nx_state.specs.State.{State}
+use Rattle.nx_state.specs.Stands.{Recovers}
+use Rattle.nx_store.specs.declared.store.Store.{Store}
+use Rattle.nx_store.specs.declared.error.EngineError.{EngineError}
+use Rattle.nx_store.specs.declared.error.EngineError.TheVariants as engine
+use Rattle.nx_store.specs.Store.{IsAt, TakesNone, NotOpened}
+use Rattle.nx_store.proofs.AtLemmas.{at_image}
+use Rattle.nx_front.specs.declared.status.Status.{Status}
+use Rattle.nx_front.specs.declared.status.Status.TheVariants.{Done, Usage, Refused, DiskFault, ReadFault, WriteFault, NoMemory, NotAStore, Damaged, TooMuch}
+use Rattle.nx_front.specs.declared.give.GiveError.{GiveError}
+use Rattle.nx_front.specs.TakeError.{status_of_script, status_of_give_error, status_of_engine}
+use Rattle.nx_front.specs.Outcome.{TakesFew, CountsGrow, EndsWhole, Given}
+use Rattle.nx_front.specs.Session.{AreFirst}
+use Rattle.nx_front.specs.Serving.{Turn, state_after, commands_of, texts_of, ShowsMoment, EndsServing, ServesFrom, IsCaused, EndsWithoutHeader, Serves}
+use Rattle.nx_front.specs.Conversation.{ShowsReached, HasRun, GoesOn, IsConversing, Answers, Begins, StopsShort, IsStopped, IsEnded, Converses}
+use Rattle.nx_front.proofs.OutcomeLemmas.{rose_since, told_at_first, kept_appends}
+use Rattle.nx_front.proofs.SessionLemmas.{first_given, few_given}
+use Rattle.nx_front.proofs.MomentLemmas.{every_moment, reached_none, commands_more}
+use Rattle.nx_front.proofs.ServeLemmas.{served_none, served_filled, given_block, run_block, all_given, stops_giving, block_stopped}
+use Rattle.nx_front.proofs.ServingLaws.{serving_together}
+
+-- What was taken:
+
+-- what is told no longer is behind what was taken
+takes_kept : (taken : List ℕ) (first now next : Option (List ℕ)) → Takes taken first now → Keeps now next → Takes taken first next
+takes_kept taken first now None takes kept = tt
+takes_kept taken first now (Some left) takes kept = subst (λ (o : Option (List ℕ)). Takes taken first o) kept takes
+
+end_kept : (now next : Option (List ℕ)) → IsAtEnd now → Keeps now next → IsAtEnd next
+end_kept now None end kept = tt
+end_kept now (Some left) end kept = subst IsAtEnd kept end
+
+given_kept : {script : Script} {taken : List ℕ} {commands : List Command} {first now : Option (List ℕ)} (next : Option (List ℕ)) → HasGivenIn script taken commands first now → Keeps now next →
+    HasGivenIn script taken commands first next
+given_kept {taken = taken} {first = first} {now = now} next given kept = record {
+  given = given.given;
+  takes = takes_kept taken first now next given.takes kept;
+  end = λ ended. let (end, few) = given.end ended in (end_kept now next end kept, few);
+}
+
+-- the first of the first commands
+first_of : (taken : List ℕ) (commands rest all : List Command) (now : Option (List ℕ)) → commands ++ rest ≡ all → AreFirst taken all now → AreFirst taken commands now
+first_of taken commands rest all None is first = tt
+first_of taken commands rest all (Some left) is (others, are) =
+    (rest ++ others, subst (λ (cs : List Command). AreCommands (taken ++ left) cs) (ap (λ (cs : List Command). cs ++ others) (sym is) ∙ append_assoc commands rest others) are)
+
+-- commands of an input of which nothing is taken
+first_none : (now : Option (List ℕ)) → AreFirst [] [] now
+first_none None = tt
+first_none (Some left) = let one = one_list left in (one.commands, one.are)
+
+stopped_serving : (status : Status) (turns : List Turn) (taken : List ℕ) (a b : Beside) → StopsShort status → EndsServing turns taken status a b × (status ≡ Done → ⊥)
+stopped_serving DiskFault turns taken a b short = (tt, λ is. cc is)
+stopped_serving WriteFault turns taken a b short = (tt, λ is. cc is)
+stopped_serving NoMemory turns taken a b short = (tt, λ is. cc is)
+stopped_serving Done turns taken a b short = absurd short
+stopped_serving Usage turns taken a b short = absurd short
+stopped_serving Refused turns taken a b short = absurd short
+stopped_serving ReadFault turns taken a b short = absurd short
+stopped_serving NotAStore turns taken a b short = absurd short
+stopped_serving (Damaged page) turns taken a b short = absurd short
+stopped_serving TooMuch turns taken a b short = absurd short
+
+-- the moments of a run, by their whole replies
+shows_moments : {D : Type 0} (d : Ghosts D) (first now : D) (state : State) (turns : List Turn) → Elapses d.moment d.stood_since first now (ShowsReached (d.beside first).output state turns) →
+    Elapses d.moment d.stood_since first now (ShowsMoment (d.beside first).output state turns)
+shows_moments d first now state turns time = elapsed_weaker time (λ s h. (h.0, h.1, every_moment state turns h.0 s.image h.2))
+
+few : {first now : Option (List ℕ)} {script : Script} {taken : List ℕ} {commands : List Command} → HasGivenIn script taken commands first now → TakesFew first now
+few {first = first} {now = now} {script = script} {taken = taken} {commands = commands} given =
+    record { taken = taken; few = few_given script taken commands first now given; takes = given.takes }
+
+-- Behind an input and an output that stay:
+
+takes_after : (taken : List ℕ) (a b c : Option (List ℕ)) → Keeps a b → Takes taken b c → Takes taken a c
+takes_after taken a b None kept takes = tt
+takes_after taken a b (Some left) kept takes = subst (λ (o : Option (List ℕ)). Keeps a o) takes kept
+
+appends_after : (bytes : List ℕ) (a b c : Option (List ℕ)) → Keeps a b → Appends bytes b c → Appends bytes a c
+appends_after bytes a b c kept appends = appends_then [] bytes a b c (kept_appends a b kept) appends
+
+whole_after : {taken : List ℕ} {a b : Option (List ℕ)} (c : Option (List ℕ)) → Keeps a b → EndsWhole taken b c → EndsWhole taken a c
+whole_after {taken = taken} {a = a} {b = b} c kept whole = record { takes = takes_after taken a b c kept whole.takes; end = whole.end; few = whole.few }
+
+few_nothing : (a b : Option (List ℕ)) → Keeps a b → TakesFew a b
+few_nothing a b kept = record { taken = []; few = (let e : 0 ≤ most_input = omega arith in e); takes = takes_after [] a b b kept (takes_nothing b) }
+
+ends_after : (status : Status) (turns : List Turn) (taken : List ℕ) (a b c : Beside) → Keeps a.input b.input → Keeps a.output b.output → EndsServing turns taken status b c →
+    EndsServing turns taken status a c
+ends_after Done turns taken a b c input output (whole, are, gave) = (whole_after c.input input whole, are, appends_after (texts_of turns) a.output b.output c.output output gave)
+ends_after ReadFault turns taken a b c input output (few, whole, gave) = (few, whole, appends_after (texts_of turns) a.output b.output c.output output gave)
+ends_after TooMuch turns taken a b c input output (long, whole, gave) = (long, whole, appends_after (texts_of turns) a.output b.output c.output output gave)
+ends_after DiskFault turns taken a b c input output ends = tt
+ends_after WriteFault turns taken a b c input output ends = tt
+ends_after NoMemory turns taken a b c input output ends = tt
+ends_after NotAStore turns taken a b c input output ends = absurd ends
+ends_after (Damaged page) turns taken a b c input output ends = absurd ends
+ends_after Usage turns taken a b c input output ends = absurd ends
+ends_after Refused turns taken a b c input output ends = absurd ends
+
+module _ {D : Type 0} {d : Ghosts D} where
+  -- No count fell:
+
+  none_goes : {a : D} → GoesOn d a a
+  none_goes = record { told = λ told. told; counts = record { read = omega arith; written = omega arith }; faults_later = omega arith }
+
+  goes_then : {a b c : D} → GoesOn d a b → GoesOn d b c → GoesOn d a c
+  goes_then {a = a} {b = b} {c = c} first second = record {
+    told = λ told. first.told (second.told told);
+    counts = record {
+      read = let x : (d.beside a).in_faults ≤ (d.beside b).in_faults = first.counts.read in let y : (d.beside b).in_faults ≤ (d.beside c).in_faults = second.counts.read in omega arith;
+      written = let x : (d.beside a).out_faults ≤ (d.beside b).out_faults = first.counts.written in let y : (d.beside b).out_faults ≤ (d.beside c).out_faults = second.counts.written in omega arith;
+    };
+    faults_later = let x : d.faults a ≤ d.faults b = first.faults_later in let y : d.faults b ≤ d.faults c = second.faults_later in omega arith;
+  }
+
+  takes_goes : {a b : D} → TakesNone d a b → GoesOn d a b
+  takes_goes {a = a} {b = b} takes = record {
+    told = takes.told;
+    counts = record { read = (let same : (d.beside b).in_faults ≡ (d.beside a).in_faults = takes.in_faults_stay in omega arith); written = takes.out_faults_later };
+    faults_later = takes.faults_later;
+  }
+
+  leaves_goes : {a b : D} {P : Option (List ℕ) → Type 0} → LeavesAreas d a b P → GoesOn d a b
+  leaves_goes {a = a} {b = b} leaves = record {
+    told = told_at_first (d.contents a) (d.contents b) leaves.contents_stay;
+    counts = record { read = leaves.in_faults_later; written = leaves.out_faults_later };
+    faults_later = let same : d.faults b ≡ d.faults a = leaves.faults_stay in omega arith;
+  }
+
+  -- Commands that came, and their turns:
+
+  -- before the first
+  pub conversing_none : {a : D} {script : Script} {store : Store} {block : List ℕ} → block ≡ [] → HasGivenIn script [] [] (d.beside a).input (d.beside a).input →
+      IsConversing d store [] [] script store block a a
+  conversing_none none given = record { given = given; goes = none_goes; served = λ state at told. ([], refl, served_none at none) }
+
+  -- the commands of a script with one more
+  with_command : {begun : Store} {taken : List ℕ} {commands : List Command} {old new : Script} {store : Store} {block : List ℕ} {first now : D} (command : Command) (next : D) → new.ended ≡ old.ended →
+      IsConversing d begun taken commands old store block first now → HasGiven new taken (commands ++ command ∷ []) → TakesNone d now next →
+      HasGivenIn new taken (commands ++ command ∷ []) (d.beside first).input (d.beside next).input
+  with_command command next same talk given takes = given_kept (d.beside next).input (in_input same talk.given given) takes.input_stays
+
+  -- one command more is answered
+  pub conversing_more : {begun : Store} {taken : List ℕ} {commands : List Command} {old new : Script} {store store' : Store} {block block' : List ℕ} {first now next : D} (command : Command) →
+      new.ended ≡ old.ended → IsConversing d begun taken commands old store block first now → HasGiven new taken (commands ++ command ∷ []) → TakesNone d now next →
+      Answers d command store store' block block' now next → IsConversing d begun taken (commands ++ command ∷ []) new store' block' first next
+  conversing_more {commands = commands} {first = first} {next = next} command same talk given takes answers = record {
+    given = with_command command next same talk given takes;
+    goes = goes_then talk.goes (takes_goes takes);
+    served = λ state at told.
+        let (turns, are, served) = talk.served state at (takes.told told) in
+        let (turn, is, more) = answers first state turns served told in (
+          turns ++ turn ∷ [],
+          commands_more turns turn ∙ ap (λ (cs : List Command). cs ++ turn.command ∷ []) are ∙ ap (λ (c : Command). commands ++ c ∷ []) is,
+          more,
+        );
+  }
+
+  -- the same commands, in other words
+  pub conversing_as : {begun : Store} {taken : List ℕ} {commands : List Command} {script : Script} {store : Store} {block : List ℕ} {first now : D} (same : List Command) → commands ≡ same →
+      IsConversing d begun taken commands script store block first now → IsConversing d begun taken same script store block first now
+  conversing_as {begun = begun} {taken = taken} {script = script} {store = store} {block = block} {first = first} {now = now} same is talk =
+      subst (λ (cs : List Command). IsConversing d begun taken cs script store block first now) is talk
+
+  -- the script looked for one more, and there was none
+  pub conversing_drained : {begun : Store} {taken : List ℕ} {commands : List Command} {old new : Script} {store : Store} {block : List ℕ} {first now : D} → new.ended ≡ old.ended →
+      IsConversing d begun taken commands old store block first now → HasGiven new taken commands → IsConversing d begun taken commands new store block first now
+  conversing_drained same talk given = record { given = in_input same talk.given given; goes = talk.goes; served = talk.served }
+
+  -- the block is given
+  pub conversing_given : {begun : Store} {taken : List ℕ} {commands : List Command} {script : Script} {store : Store} {block left : List ℕ} {first now next : D} →
+      IsConversing d begun taken commands script store block first now → left ≡ [] → Given block (Ok tt) (d.beside now) (d.beside next) → GivesAlone d block now next →
+      IsConversing d begun taken commands script store left first next
+  conversing_given {taken = taken} {commands = commands} {script = script} {first = first} talk none gave alone = record {
+    given = subst (λ (i : Option (List ℕ)). HasGivenIn script taken commands (d.beside first).input i) (sym alone.input_stays) talk.given;
+    goes = goes_then talk.goes (leaves_goes alone.areas);
+    served = λ state at told.
+        let (turns, are, served) = talk.served state at ((leaves_goes alone.areas).told told) in
+        (turns, are, given_block served none gave alone told);
+  }
+
+  -- more input was asked for
+  pub conversing_filled : {begun : Store} {taken more : List ℕ} {commands : List Command} {old new : Script} {store : Store} {block : List ℕ} {first now next : D} →
+      IsConversing d begun taken commands old store block first now → HasGivenIn new more commands (d.beside first).input (d.beside next).input → TakesAlone d now next →
+      IsConversing d begun more commands new store block first next
+  conversing_filled {block = block} {first = first} {now = now} {next = next} talk given takes = record {
+    given = given;
+    goes = goes_then talk.goes (leaves_goes takes.areas);
+    served = λ state at told.
+        let (turns, are, served) = talk.served state at ((leaves_goes takes.areas).told told) in
+        (turns, are, served_filled served takes told);
+  }
+
+  -- How it ends:
+
+  -- a run of turns of the first commands that came
+  serves_from : {state : State} {turns : List Turn} {first now : D} {script : Script} {taken : List ℕ} {commands : List Command} (rest : List Command) (status : Status) → HasRun d state turns first now →
+      commands_of turns ++ rest ≡ commands → HasGivenIn script taken commands (d.beside first).input (d.beside now).input → EndsServing turns taken status (d.beside first) (d.beside now) →
+      (status ≡ Done → (i : Image) → d.may_leave now i → Recovers i (Some (state_after state turns))) → ServesFrom d state status first now
+  serves_from {state = state} {turns = turns} {first = first} {now = now} {script = script} {taken = taken} {commands = commands} rest status run are given ends last = record {
+    turns = turns;
+    run = run.run;
+    taken = taken;
+    takes = given.takes;
+    first = first_of taken (commands_of turns) rest commands (d.beside now).input are (first_given script taken commands (d.beside first).input (d.beside now).input given);
+    time = shows_moments d first now state turns run.time;
+    ends = ends;
+    last = last;
+  }
+
+  stopped_ends : {first now : D} (status : Status) (next : D) → GoesOn d first now → IsStopped d status now next → IsEnded d status first next
+  stopped_ends {first = first} {now = now} DiskFault next goes rose = rose_since (d.faults first) (d.faults now) (d.faults next) goes.faults_later rose
+  stopped_ends {first = first} {now = now} WriteFault next goes rose = rose_since (d.beside first).out_faults (d.beside now).out_faults (d.beside next).out_faults goes.counts.written rose
+  stopped_ends NoMemory next goes stopped = tt
+  stopped_ends (Damaged page) next goes stopped = tt
+  stopped_ends Done next goes stopped = absurd stopped
+  stopped_ends Usage next goes stopped = absurd stopped
+  stopped_ends Refused next goes stopped = absurd stopped
+  stopped_ends ReadFault next goes stopped = absurd stopped
+  stopped_ends NotAStore next goes stopped = absurd stopped
+  stopped_ends TooMuch next goes stopped = absurd stopped
+
+  -- a command isn't answered
+  pub converses_stopped : {begun : Store} {taken : List ℕ} {commands : List Command} {old new : Script} {store : Store} {block : List ℕ} {first now next : D} (command : Command) (status : Status) →
+      new.ended ≡ old.ended → IsConversing d begun taken commands old store block first now → HasGiven new taken (commands ++ command ∷ []) → TakesNone d now next →
+      Begins d command status store block now next → IsStopped d status now next → Converses d begun status first next
+  converses_stopped {commands = commands} {first = first} {next = next} command status same talk given takes begins stopped =
+      let came = with_command command next same talk given takes in
+      record {
+        from = λ state at told.
+            let (turns, are, served) = talk.served state at (takes.told told) in
+            let (short, (turns', rest, of_it, run)) = begins first state turns served told in
+            let (ends, not_done) = stopped_serving status turns' _ (d.beside first) (d.beside next) short in
+            serves_from rest status run (of_it ∙ ap (λ (cs : List Command). cs ++ command ∷ []) are) came ends (λ is. absurd (not_done is));
+        cause = stopped_ends status next talk.goes stopped;
+        bounded = few came;
+        goes = goes_then talk.goes (takes_goes takes);
+      }
+
+  -- the block isn't given
+  pub converses_blocked : {begun : Store} {taken : List ℕ} {commands : List Command} {script : Script} {store : Store} {block : List ℕ} {first now next : D} (stop : GiveError) →
+      IsConversing d begun taken commands script store block first now → Given block (Err stop) (d.beside now) (d.beside next) → GivesAlone d block now next →
+      Converses d begun (status_of_give_error stop) first next
+  converses_blocked {taken = taken} {commands = commands} {script = script} {block = block} {first = first} {now = now} {next = next} stop talk gave alone =
+      let status = status_of_give_error stop in
+      let came : HasGivenIn script taken commands (d.beside first).input (d.beside next).input =
+      subst (λ (i : Option (List ℕ)). HasGivenIn script taken commands (d.beside first).input i) (sym alone.input_stays) talk.given
+      in
+      record {
+        from = λ state at told.
+            let (turns, are, served) = talk.served state at ((leaves_goes alone.areas).told told) in
+            let (ends, not_done) = stopped_serving status turns taken (d.beside first) (d.beside next) (stops_giving stop) in
+            serves_from [] status (run_block served alone) (append-nil (commands_of turns) ∙ are) came ends (λ is. absurd (not_done is));
+        cause = stopped_ends status next talk.goes (block_stopped d now next block stop gave);
+        bounded = few came;
+        goes = goes_then talk.goes (leaves_goes alone.areas);
+      }
+
+  -- memory runs out
+  pub converses_starved : {begun : Store} {taken : List ℕ} {commands : List Command} {script : Script} {store : Store} {block : List ℕ} {first now : D} →
+      IsConversing d begun taken commands script store block first now → Converses d begun NoMemory first now
+  converses_starved talk = record {
+    from = λ state at told.
+        let (turns, are, served) = talk.served state at told in
+        serves_from [] NoMemory served.run (append-nil (commands_of turns) ∙ are) talk.given tt (λ is. absurd (cc is));
+    cause = tt;
+    bounded = few talk.given;
+    goes = talk.goes;
+  }
+
+  -- all commands are answered
+  pub converses_done : {begun : Store} {taken : List ℕ} {commands : List Command} {script : Script} {store : Store} {block : List ℕ} {first now : D} →
+      IsConversing d begun taken commands script store block first now → block ≡ [] → script.ended ≡ true → AreCommands taken commands → Converses d begun Done first now
+  converses_done {taken = taken} {first = first} {now = now} talk none ended all =
+      let (end, short) = talk.given.end ended in
+      let whole : EndsWhole taken (d.beside first).input (d.beside now).input = record { takes = talk.given.takes; end = end; few = short } in
+      record {
+        from = λ state at told.
+            let (turns, are, served) = talk.served state at told in
+            serves_from [] Done served.run (append-nil (commands_of turns) ∙ are) talk.given
+            (whole, subst (λ (cs : List Command). AreCommands taken cs) (sym are) all, all_given served none)
+            (λ is i left. at_image served.at left);
+        cause = (taken, whole);
+        bounded = few talk.given;
+        goes = talk.goes;
+      }
+
+  -- the input gave no more
+  pub converses_unfilled : {begun : Store} {taken : List ℕ} {commands : List Command} {script : Script} {store : Store} {block : List ℕ} {first now next : D} (error : ScriptError) →
+      IsConversing d begun taken commands script store block first next → block ≡ [] → (d.beside first).in_faults ≤ (d.beside now).in_faults →
+      (error ≡ scripts.Read → Rose (d.beside now).in_faults (d.beside next).in_faults) → Stops error script [] commands (d.beside first).input (d.beside next).input →
+      Converses d begun (status_of_script error) first next
+  converses_unfilled {first = first} {now = now} {next = next} scripts.Read talk none earlier rose (more, given, short, stops) = record {
+    from = λ state at told.
+        let (turns, are, served) = talk.served state at told in
+        serves_from [] ReadFault served.run (append-nil (commands_of turns) ∙ are) given
+        (short, subst (λ (cs : List Command). AreWhole more cs) (sym are) stops.whole, all_given served none) (λ is. absurd (cc is));
+    cause = (rose_since (d.beside first).in_faults (d.beside now).in_faults (d.beside next).in_faults earlier (rose refl), more, short, stops.takes);
+    bounded = few given;
+    goes = talk.goes;
+  }
+  converses_unfilled scripts.TooMuch talk none earlier rose (more, given, long, stops) = record {
+    from = λ state at told.
+        let (turns, are, served) = talk.served state at told in
+        serves_from [] TooMuch served.run (append-nil (commands_of turns) ∙ are) given
+        (long, subst (λ (cs : List Command). AreWhole more cs) (sym are) stops.whole, all_given served none) (λ is. absurd (cc is));
+    cause = (more, long, stops.takes);
+    bounded = few given;
+    goes = talk.goes;
+  }
+  converses_unfilled scripts.Memory talk none earlier rose stops = converses_starved talk
+
+  -- a run without turns, of which nothing was taken
+  serves_nothing : {state : State} {a b : D} (status : Status) → HasRun d state [] a b → Keeps (d.beside a).input (d.beside b).input → StopsShort status → ServesFrom d state status a b
+  serves_nothing {state = state} {a = a} {b = b} status run kept short =
+      let (ends, not_done) = stopped_serving status [] [] (d.beside a) (d.beside b) short in
+      record {
+        turns = [];
+        run = run.run;
+        taken = [];
+        takes = takes_after [] (d.beside a).input (d.beside b).input (d.beside b).input kept (takes_nothing (d.beside b).input);
+        first = first_none (d.beside b).input;
+        time = shows_moments d a b state [] run.time;
+        ends = ends;
+        last = λ is. absurd (not_done is);
+      }
+
+  -- it doesn't begin
+  pub converses_unbegun : {a : D} {begun : Store} → Converses d begun NoMemory a a
+  converses_unbegun {a = a} = record {
+    from = λ state at told. serves_nothing NoMemory (record { run = tt; time = none_elapsed }) (keeps_self (d.beside a).input) tt;
+    cause = tt;
+    bounded = few_nothing (d.beside a).input (d.beside a).input (keeps_self (d.beside a).input);
+    goes = none_goes;
+  }
+
+  -- A run over the store that was opened:
+
+  counts_still : {a b : D} → IsStill d a b → CountsGrow (d.beside a) (d.beside b)
+  counts_still {a = a} {b = b} still = record {
+    read = let same : (d.beside b).in_faults ≡ (d.beside a).in_faults = still.beside_stays.in_faults in omega arith;
+    written = let same : (d.beside b).out_faults ≡ (d.beside a).out_faults = still.beside_stays.out_faults in omega arith;
+  }
+
+  still_goes : {a b : D} → IsStill d a b → GoesOn d a b
+  still_goes {a = a} {b = b} still = record {
+    told = subst (λ (o : Option Image). IsSome o → IsSome (d.contents a)) (sym still.contents_stay) (λ told. told);
+    counts = counts_still still;
+    faults_later = still.faults_later;
+  }
+
+  -- each image of a disk with one image that is a state is of that state
+  still_image : {a : D} {was : Image} {state : State} → IsSettled d a was → Recovers was (Some state) → (s : Stood) → d.may_leave a s.image → Recovers s.image (Some state)
+  still_image {state = state} settled recovers s left = subst (λ (i : Image). Recovers i (Some state)) (sym (settled.only s.image left)) recovers
+
+  opened_from : {a b c : D} {was : Image} {state : State} (status : Status) → IsStill d a b → IsSettled d a was → Recovers was (Some state) → ServesFrom d state status b c → ServesFrom d state status a c
+  opened_from {a = a} {b = b} {c = c} {state = state} status still settled recovers from =
+      let input = still.beside_stays.input in
+      let output = still.beside_stays.output in
+      record {
+        turns = from.turns;
+        run = from.run;
+        taken = from.taken;
+        takes = takes_after from.taken (d.beside a).input (d.beside b).input (d.beside c).input input from.takes;
+        first = from.first;
+        time = elapsed_then {P = ShowsMoment (d.beside a).output state from.turns}
+            (elapsed_weaker still.time (λ s h. (
+              [],
+              kept_appends (d.beside a).output s.output h.0,
+              every_moment state from.turns [] s.image (reached_none state from.turns s.image (still_image settled recovers s h.1)),
+            )))
+            from.time (λ s h. (h.0, appends_after h.0 (d.beside a).output (d.beside b).output s.output output h.1, h.2));
+        ends = ends_after status from.turns from.taken (d.beside a) (d.beside b) (d.beside c) input output from.ends;
+        last = from.last;
+      }
+
+  opened_cause : {a b c : D} {begun : Store} (status : Status) → IsStill d a b → ((was : Image) (state : State) → IsSettled d a was → Recovers was (Some state) → IsAt d begun b state) →
+      Converses d begun status b c → IsEnded d status b c → IsCaused d status a c
+  opened_cause {c = c} Done still opens talk (taken, whole) = (taken, whole_after (d.beside c).input still.beside_stays.input whole)
+  opened_cause {a = a} {b = b} {c = c} DiskFault still opens talk rose = rose_since (d.faults a) (d.faults b) (d.faults c) still.faults_later rose
+  opened_cause {a = a} {b = b} {c = c} ReadFault still opens talk (rose, taken, short, takes) = (
+    rose_since (d.beside a).in_faults (d.beside b).in_faults (d.beside c).in_faults (counts_still still).read rose,
+    taken,
+    short,
+    takes_after taken (d.beside a).input (d.beside b).input (d.beside c).input still.beside_stays.input takes,
+  )
+  opened_cause {a = a} {b = b} {c = c} WriteFault still opens talk rose =
+      rose_since (d.beside a).out_faults (d.beside b).out_faults (d.beside c).out_faults (counts_still still).written rose
+  opened_cause NoMemory still opens talk cause = tt
+  opened_cause (Damaged page) still opens talk cause = λ was state settled told recovers. (talk.from state (opens was state settled recovers) told).ends
+  opened_cause {a = a} {b = b} {c = c} TooMuch still opens talk (taken, long, takes) =
+      (taken, long, takes_after taken (d.beside a).input (d.beside b).input (d.beside c).input still.beside_stays.input takes)
+  opened_cause NotAStore still opens talk cause = absurd cause
+  opened_cause Usage still opens talk cause = absurd cause
+  opened_cause Refused still opens talk cause = absurd cause
+
+  pub serves_opened : {a b c : D} {begun : Store} (status : Status) → IsStill d a b → ((was : Image) (state : State) → IsSettled d a was → Recovers was (Some state) → IsAt d begun b state) →
+      ((was : Image) → IsSettled d a was → HasMark (replay was)) → Converses d begun status b c → Serves d status a c
+  serves_opened {a = a} {b = b} {c = c} status still opens marked talk =
+      let goes = goes_then (still_goes still) talk.goes in
+      record {
+        from = λ was state settled told recovers. opened_from status still settled recovers (talk.from state (opens was state settled recovers) told);
+        cause = opened_cause status still opens talk talk.cause;
+        no_header = λ was settled none. absurd (none (marked was settled));
+        bounded = record {
+          taken = talk.bounded.taken;
+          few = talk.bounded.few;
+          takes = takes_after talk.bounded.taken (d.beside a).input (d.beside b).input (d.beside c).input still.beside_stays.input talk.bounded.takes;
+        };
+        counts = goes.counts;
+        faults_later = goes.faults_later;
+      }
+
+module _ {D : Type 0} (d : Ghosts D) (a b : D) where
+  -- A store wasn't opened:
+
+  unopened_short : (was : Image) (state : State) (e : EngineError) → NotOpened d e a b → IsSettled d a was → Recovers was (Some state) → StopsShort (status_of_engine e)
+  unopened_short was state engine.Disk why settled recovers = tt
+  unopened_short was state engine.Memory why settled recovers = tt
+  unopened_short was state engine.NotAStore why settled recovers = absurd (why was settled (serving_together.header was state recovers))
+  unopened_short was state (engine.Damaged page) why settled recovers = absurd ((why was settled).1 state recovers)
+  unopened_short was state engine.Exists why settled recovers = absurd why
+  unopened_short was state engine.Write why settled recovers = absurd why
+  unopened_short was state engine.Ended why settled recovers = absurd why
+
+  unopened_cause : (e : EngineError) → NotOpened d e a b → IsCaused d (status_of_engine e) a b
+  unopened_cause engine.Disk why = why
+  unopened_cause engine.Memory why = tt
+  unopened_cause engine.NotAStore why = why
+  unopened_cause (engine.Damaged page) why = λ was state settled told recovers. (why was settled).1 state recovers
+  unopened_cause engine.Exists why = absurd why
+  unopened_cause engine.Write why = absurd why
+  unopened_cause engine.Ended why = absurd why
+
+  unopened_header : (was : Image) (e : EngineError) → NotOpened d e a b → IsSettled d a was → (HasMark (replay was) → ⊥) → EndsWithoutHeader (status_of_engine e)
+  unopened_header was engine.Disk why settled none = tt
+  unopened_header was engine.Memory why settled none = tt
+  unopened_header was engine.NotAStore why settled none = tt
+  unopened_header was (engine.Damaged page) why settled none = absurd (none (why was settled).0)
+  unopened_header was engine.Exists why settled none = absurd why
+  unopened_header was engine.Write why settled none = absurd why
+  unopened_header was engine.Ended why settled none = absurd why
+
+  pub serves_unopened : (e : EngineError) → IsStill d a b → NotOpened d e a b → Serves d (status_of_engine e) a b
+  serves_unopened e still why = record {
+    from = λ was state settled told recovers.
+        serves_nothing (status_of_engine e)
+        (record {
+          run = tt;
+          time = elapsed_weaker still.time (λ s h. ([], kept_appends (d.beside a).output s.output h.0, (refl, still_image settled recovers s h.1)));
+        })
+        still.beside_stays.input (unopened_short was state e why settled recovers);
+    cause = unopened_cause e why;
+    no_header = λ was settled none. (unopened_header was e why settled none, still);
+    bounded = few_nothing (d.beside a).input (d.beside b).input still.beside_stays.input;
+    counts = counts_still still;
+    faults_later = still.faults_later;
+  }

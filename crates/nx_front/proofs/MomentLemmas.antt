@@ -1,0 +1,202 @@
+-- The turns of a run, and its moments.
+use Rattle.std.proofs.Common.{◌≡◌, ◌⊎◌, inl, inr, ℕ, zero, suc, ◌+◌, ◌<◌, ◌≤◌, List, [], ◌∷◌, ◌++◌, take, drop, length, Some, refl, sym, ap, ◌∙◌, subst, arith, append_assoc, append-nil, length-append}
+use Rattle.std.proofs.lemmas.List.{append_cancel_left, take_all, take-append-drop, length-take-le}
+use Rattle.std.specs.Prelude.{codes}
+use Rattle.std.specs.List.{flat_map, zip}
+use Rattle.nx_host.specs.Disk.{Image}
+use Rattle.nx_script.specs.declared.command.Command.{Command}
+use Rattle.nx_script.specs.declared.command.LoadBody.{LoadBody}
+use Rattle.nx_script.specs.declared.command.Command.TheVariants.{Load, Discard, Names, Export, Insert, Delete, Retext, Get, Layout, SetRule, Rules, Checkpoint, Bad}
+use Rattle.nx_script.specs.declared.reply.Reply.{Reply}
+use Rattle.nx_script.specs.declared.reply.Reply.TheVariants as reply
+use Rattle.nx_script.specs.Reply.{reply_text, doc_line, part_line, rule_line}
+use Rattle.nx_state.specs.State.{State}
+use Rattle.nx_state.specs.Stands.{Recovers}
+use Rattle.nx_store.specs.Step.{IsStep}
+use Rattle.nx_store.specs.Store.{IsOf}
+use Rattle.nx_front.specs.Serving.{Turn, IsRun, state_after, commands_of, texts_of, BeginsWith, AreWholeReplies, IsMoment}
+use Rattle.nx_front.specs.Conversation.{IsReached}
+
+-- One turn more:
+
+-- it is a step from the state after all others
+pub run_more : (state : State) (turns : List Turn) (turn : Turn) → IsRun state turns → IsStep (state_after state turns) turn.command turn.reply turn.next → IsRun state (turns ++ turn ∷ [])
+run_more state [] turn run step = (step, tt)
+run_more state (t ∷ ts) turn run step = (run.0, run_more t.next ts turn run.1 step)
+
+pub after_more : (state : State) (turns : List Turn) (turn : Turn) → state_after state (turns ++ turn ∷ []) ≡ turn.next
+after_more state [] turn = refl
+after_more state (t ∷ ts) turn = after_more t.next ts turn
+
+pub commands_more : (turns : List Turn) (turn : Turn) → commands_of (turns ++ turn ∷ []) ≡ commands_of turns ++ turn.command ∷ []
+commands_more [] turn = refl
+commands_more (t ∷ ts) turn = ap (λ (cs : List Command). t.command ∷ cs) (commands_more ts turn)
+
+pub texts_more : (turns : List Turn) (turn : Turn) → texts_of (turns ++ turn ∷ []) ≡ texts_of turns ++ reply_text turn.reply
+texts_more [] turn = append-nil (reply_text turn.reply)
+texts_more (t ∷ ts) turn = ap (λ (l : List ℕ). reply_text t.reply ++ l) (texts_more ts turn) ∙ sym (append_assoc (reply_text t.reply) (texts_of ts) (reply_text turn.reply))
+
+-- A reply has a text:
+
+dot_behind : (text : List ℕ) → 0 < length (text ++ codes ".\n")
+dot_behind text = let long : length (text ++ codes ".\n") ≡ length text + 2 = length-append text (codes ".\n") in omega arith
+
+reply_some : (reply : Reply) → 0 < length (reply_text reply)
+reply_some reply.Done = omega arith
+reply_some (reply.Loaded nodes intervals) = omega arith
+reply_some (reply.Shown node children) = omega arith
+reply_some (reply.Names docs) = dot_behind (flat_map doc_line docs)
+reply_some (reply.Exported text) = dot_behind text
+reply_some (reply.Laid parts weights) = dot_behind (flat_map part_line (zip parts weights))
+reply_some (reply.Rules rules) = dot_behind (flat_map rule_line rules)
+reply_some (reply.Refused error) = omega arith
+
+-- `load` alone changes a state:
+
+abbrev pub IsQuiet : Command → Type 0
+IsQuiet (Load name body) = ⊥
+IsQuiet _ = Unit {0}
+
+pub quiet : (command : Command) → ((name : List ℕ) (body : LoadBody) → command ≡ Load name body → ⊥) → IsQuiet command
+quiet (Load name body) other = other name body refl
+quiet (Discard name) other = tt
+quiet Names other = tt
+quiet (Export name) other = tt
+quiet (Insert name path line) other = tt
+quiet (Delete name path) other = tt
+quiet (Retext name path text) other = tt
+quiet (Get name path) other = tt
+quiet (Layout name) other = tt
+quiet (SetRule rule) other = tt
+quiet Rules other = tt
+quiet Checkpoint other = tt
+quiet Bad other = tt
+
+pub stays : (state : State) (command : Command) (reply : Reply) (next : State) → IsQuiet command → IsStep state command reply next → next ≡ state
+stays state (Load name body) reply next calm step = absurd calm
+stays state (Discard name) reply next calm step = step.1
+stays state Names reply next calm step = step.1
+stays state (Export name) reply next calm step = step.1
+stays state (Insert name path line) reply next calm step = step.1
+stays state (Delete name path) reply next calm step = step.1
+stays state (Retext name path text) reply next calm step = step.1
+stays state (Get name path) reply next calm step = step.1
+stays state (Layout name) reply next calm step = step.1
+stays state (SetRule rule) reply next calm step = step.1
+stays state Rules reply next calm step = step.1
+stays state Checkpoint reply next calm step = step.1
+stays state Bad reply next calm step = step.1
+
+-- Moments:
+
+-- nothing is out
+pub reached_none : (state : State) (turns : List Turn) (image : Image) → IsOf state image → IsReached state turns [] image
+reached_none state [] image is = (refl, is)
+reached_none state (t ∷ ts) image is = inl (refl, is)
+
+-- a moment of a run is one of a longer run
+pub longer : (state : State) (turns : List Turn) (turn : Turn) (out : List ℕ) (image : Image) → IsReached state turns out image → IsReached state (turns ++ turn ∷ []) out image
+longer state [] turn out image reached = inl reached
+longer state (t ∷ ts) turn out image (inl reached) = inl reached
+longer state (t ∷ ts) turn out image (inr (inl reached)) = inr (inl reached)
+longer state (t ∷ ts) turn out image (inr (inr (more, is, reached))) = inr (inr (more, is, longer t.next ts turn more image reached))
+
+-- a moment of its last turn is one of a run
+pub last : (state : State) (turns : List Turn) (turn : Turn) (out : List ℕ) (image : Image) → IsReached (state_after state turns) (turn ∷ []) out image →
+    IsReached state (turns ++ turn ∷ []) (texts_of turns ++ out) image
+last state [] turn out image reached = reached
+last state (t ∷ ts) turn out image reached =
+    inr (inr (texts_of ts ++ out, append_assoc (reply_text t.reply) (texts_of ts) out, last t.next ts turn out image reached))
+
+-- Each moment has a number of whole replies:
+
+pub le_or : (a b : ℕ) → (a < b) ⊎ (b ≤ a)
+le_or a b = grind arith
+
+too_long : (turns : List Turn) (turn : Turn) (out : List ℕ) (n : ℕ) → length out < length (reply_text turn.reply) → 0 < n → BeginsWith (texts_of (take n (turn ∷ turns))) out → ⊥
+too_long turns turn out zero short some begins = omega arith
+too_long turns turn out (suc n) short some (more, is) =
+    let x = ap length is in
+    let y = length-append (reply_text turn.reply ++ texts_of (take n turns)) more in
+    let z = length-append (reply_text turn.reply) (texts_of (take n turns)) in
+    omega (arith, x, y, z)
+
+-- none is
+none_whole : (turns : List Turn) (turn : Turn) (out : List ℕ) → length out < length (reply_text turn.reply) → AreWholeReplies (turn ∷ turns) out 0
+none_whole turns turn out short = record {
+  some = omega arith;
+  begins = (out, refl);
+  no_more = λ n low high begins. too_long turns turn out n short low begins;
+}
+
+nothing_whole : (turns : List Turn) → AreWholeReplies turns [] 0
+nothing_whole [] = record { some = omega arith; begins = ([], refl); no_more = λ n low high begins. omega arith }
+nothing_whole (t ∷ ts) = none_whole ts t [] (reply_some t.reply)
+
+no_more_behind : (turns : List Turn) (turn : Turn) (more : List ℕ) (count : ℕ) → AreWholeReplies turns more count → (n : ℕ) → suc count < n → n ≤ suc (length turns) →
+    BeginsWith (texts_of (take n (turn ∷ turns))) (reply_text turn.reply ++ more) → ⊥
+no_more_behind turns turn more count whole zero low high begins = omega arith
+no_more_behind turns turn more count whole (suc n) low high (rest, is) =
+    whole.no_more n (omega arith) (omega arith) (
+      rest,
+      append_cancel_left (reply_text turn.reply) more (texts_of (take n turns) ++ rest) (is ∙ append_assoc (reply_text turn.reply) (texts_of (take n turns)) rest),
+    )
+
+-- the first is, and as many of those behind
+one_whole : (turns : List Turn) (turn : Turn) (more : List ℕ) (count : ℕ) → AreWholeReplies turns more count → AreWholeReplies (turn ∷ turns) (reply_text turn.reply ++ more) (suc count)
+one_whole turns turn more count whole = record {
+  some = let few : count ≤ length turns = whole.some in omega arith;
+  begins = let (rest, is) = whole.begins in
+      (rest, ap (λ (l : List ℕ). reply_text turn.reply ++ l) is ∙ sym (append_assoc (reply_text turn.reply) (texts_of (take count turns)) rest));
+  no_more = no_more_behind turns turn more count whole;
+}
+
+-- the image of a moment is that of the state after as many commands as are answered whole, or one more
+abbrev Stands : State → List Turn → ℕ → Image → Type 0
+Stands state turns count image = Recovers image (Some (state_after state (take count turns))) ⊎ Recovers image (Some (state_after state (take (count + 1) turns)))
+
+stands_behind : (state : State) (turn : Turn) (turns : List Turn) (count : ℕ) (image : Image) → Stands turn.next turns count image → Stands state (turn ∷ turns) (suc count) image
+stands_behind state turn turns count image (inl is) = inl is
+stands_behind state turn turns count image (inr is) =
+    let same : suc (count + 1) ≡ suc count + 1 = omega arith in
+    inr (subst (λ (n : ℕ). Recovers image (Some (state_after state (take n (turn ∷ turns))))) same is)
+
+-- a part of the first reply is out
+part_out : (state : State) (turns : List Turn) (turn : Turn) (n : ℕ) (image : Image) → IsOf turn.next image → (n < length (reply_text turn.reply)) ⊎ (length (reply_text turn.reply) ≤ n) →
+    IsMoment state (turn ∷ turns) (take n (reply_text turn.reply)) image
+part_out state turns turn n image is (inl short) = record {
+  rest = drop n (reply_text turn.reply) ++ texts_of turns;
+  given = ap (λ (l : List ℕ). l ++ texts_of turns) (sym (take-append-drop n (reply_text turn.reply)))
+      ∙ append_assoc (take n (reply_text turn.reply)) (drop n (reply_text turn.reply)) (texts_of turns);
+  count = 0;
+  whole = none_whole turns turn (take n (reply_text turn.reply)) (let long : length (take n (reply_text turn.reply)) ≡ n = length-take-le n (reply_text turn.reply) (omega (arith, short)) in omega (arith, short));
+  stands = inr is;
+}
+part_out state turns turn n image is (inr all) =
+    subst (λ (o : List ℕ). IsMoment state (turn ∷ turns) o image) (sym (take_all n (reply_text turn.reply) all))
+    (record {
+      rest = texts_of turns;
+      given = refl;
+      count = 1;
+      whole = subst (λ (o : List ℕ). AreWholeReplies (turn ∷ turns) o 1) (append-nil (reply_text turn.reply)) (one_whole turns turn [] 0 (nothing_whole turns));
+      stands = inl is;
+    })
+
+pub every_moment : (state : State) (turns : List Turn) (out : List ℕ) (image : Image) → IsReached state turns out image → IsMoment state turns out image
+every_moment state [] out image (none, is) =
+    subst (λ (o : List ℕ). IsMoment state [] o image) (sym none)
+    (record { rest = []; given = refl; count = 0; whole = nothing_whole []; stands = inl is })
+every_moment state (t ∷ ts) out image (inl (none, is)) =
+    subst (λ (o : List ℕ). IsMoment state (t ∷ ts) o image) (sym none)
+    (record { rest = texts_of (t ∷ ts); given = refl; count = 0; whole = nothing_whole (t ∷ ts); stands = inl is })
+every_moment state (t ∷ ts) out image (inr (inl (n, part, is))) = subst (λ (o : List ℕ). IsMoment state (t ∷ ts) o image) (sym part) (part_out state ts t n image is (le_or n (length (reply_text t.reply))))
+every_moment state (t ∷ ts) out image (inr (inr (more, parts, reached))) =
+    let m = every_moment t.next ts more image reached in
+    subst (λ (o : List ℕ). IsMoment state (t ∷ ts) o image) (sym parts)
+    (record {
+      rest = m.rest;
+      given = ap (λ (l : List ℕ). reply_text t.reply ++ l) m.given ∙ sym (append_assoc (reply_text t.reply) more m.rest);
+      count = suc m.count;
+      whole = one_whole ts t more m.count m.whole;
+      stands = stands_behind state t ts m.count image m.stands;
+    })

@@ -1,0 +1,382 @@
+-- A script over a store: turns that are had, and what was given of their replies.
+use Rattle.std.proofs.Common.{◌≡◌, ◌⊎◌, inl, inr, ℕ, ◌+◌, ◌-◌, ◌<◌, ◌≤◌, List, [], ◌∷◌, ◌++◌, take, length, Option, None, Some, IsSome, Result, Ok, Err, refl, sym, ap, ◌∙◌, subst, arith, append_assoc, append-nil, length-append}
+use Rattle.std.proofs.lemmas.List.{take_all, take-append-le}
+use Rattle.std.proofs.Math.Seq.{take-append-add}
+use Rattle.nx_host.specs.declared.disk.Disk.{Ghosts}
+use Rattle.nx_host.specs.Disk.{Image}
+use Rattle.nx_host.specs.Host.{Appends, AppendsPrefix}
+use Rattle.nx_host.specs.Time.{Stood, Elapses, none_elapsed, elapsed_then, elapsed_weaker}
+use Rattle.nx_host.specs.Phase.{LeavesAreas, TakesAlone, GivesAlone}
+use Rattle.nx_host.specs.Still.{WritesAlone}
+use Rattle.nx_host.proofs.OutputLemmas.{appends_nothing, appends_then, keeps_prefix}
+use Rattle.nx_script.specs.declared.command.Command.{Command}
+use Rattle.nx_script.specs.declared.command.Command.TheVariants.{Export}
+use Rattle.nx_script.specs.declared.reply.Reply.{Reply}
+use Rattle.nx_script.specs.Reply.{reply_text}
+use Rattle.nx_state.specs.State.{State}
+use Rattle.nx_store.specs.declared.store.Store.{Store}
+use Rattle.nx_store.specs.declared.error.EngineError.{EngineError}
+use Rattle.nx_store.specs.declared.error.EngineError.TheVariants as engine
+use Rattle.nx_store.specs.Step.{IsStep}
+use Rattle.nx_store.specs.Store.{Turn as StoreTurn, IsAt, IsOf, IsOfEither, Shows, ShowsAnswer, ShowsGiven, IsGiven, IsApplied, IsAnswered, IsExported, TakesNone, NotApplied}
+use Rattle.nx_store.proofs.AtLemmas.{at_beside, at_image}
+use Rattle.nx_front.specs.declared.status.Status.TheVariants.{NoMemory}
+use Rattle.nx_front.specs.declared.give.GiveError.{GiveError}
+use Rattle.nx_front.specs.declared.give.GiveError.TheVariants as give_error
+use Rattle.nx_front.specs.TakeError.{status_of_give_error, status_of_engine}
+use Rattle.nx_front.specs.Outcome.{Given}
+use Rattle.nx_front.specs.Serving.{Turn, state_after, commands_of, texts_of}
+use Rattle.nx_front.specs.Conversation.{IsReached, ShowsReached, HasRun, HasServed, HasBegun, Answers, Begins, StopsShort, IsStopped}
+use Rattle.nx_front.proofs.OutcomeLemmas.{kept_appends, gives_appends, keeps_of}
+use Rattle.nx_front.proofs.MomentLemmas.{run_more, after_more, texts_more, commands_more, longer, last, le_or, IsQuiet, stays}
+
+-- What is given:
+
+-- a prefix that was given is some bytes
+prefix_bytes : (bytes : List ℕ) (old new : Option (List ℕ)) → AppendsPrefix bytes old new → (n : ℕ) × Appends (take n bytes) old new
+prefix_bytes bytes old None prefix = (0, tt)
+prefix_bytes bytes old (Some now) (was, n, is, grew) = (n, (was, is, grew))
+
+-- Of the texts of turns more are out, and the last one changed nothing.
+waits_more : (state : State) (turns : List Turn) (turn : Turn) (n : ℕ) (image : Image) → (n ≤ length (texts_of turns) → IsReached state turns (take n (texts_of turns)) image) → IsOf turn.next image →
+    (n < length (texts_of turns)) ⊎ (length (texts_of turns) ≤ n) → IsReached state (turns ++ turn ∷ []) (take n (texts_of turns ++ reply_text turn.reply)) image
+waits_more state turns turn n image waits is (inl short) =
+    let few : n ≤ length (texts_of turns) = omega (arith, short) in
+    subst (λ (l : List ℕ). IsReached state (turns ++ turn ∷ []) l image) (sym (take-append-le n (texts_of turns) (reply_text turn.reply) few))
+    (longer state turns turn (take n (texts_of turns)) image (waits few))
+waits_more state turns turn n image waits is (inr long) =
+    let text = reply_text turn.reply in
+    let m = n - length (texts_of turns) in
+    let all : length (texts_of turns) + m ≡ n = omega (arith, long) in
+    subst (λ (l : List ℕ). IsReached state (turns ++ turn ∷ []) l image)
+    (sym (take-append-add (texts_of turns) text m) ∙ ap (λ (k : ℕ). take k (texts_of turns ++ text)) all)
+    (last state turns turn (take m text) image (inr (inl (m, refl, is))))
+
+-- a moment of the last turn is one of the run, where all replies before it are out
+within : (state : State) (turns : List Turn) (turn : Turn) (first now : Option (List ℕ)) (s : Stood) → Appends (texts_of turns) first now →
+    ShowsAnswer now (state_after state turns) (reply_text turn.reply) turn.next s → ShowsReached first state (turns ++ turn ∷ []) s
+within state turns turn first now s gave (inl (keeps, is)) = (
+  texts_of turns ++ [],
+  appends_then (texts_of turns) [] first now s.output gave (kept_appends now s.output keeps),
+  last state turns turn [] s.image (elim is [ inl old ↦ inl (refl, old) | inr new ↦ inr (inl (0, refl, new)) ]),
+)
+within state turns turn first now s gave (inr (prefix, is)) =
+    let (n, appended) = prefix_bytes (reply_text turn.reply) now s.output prefix in (
+      texts_of turns ++ take n (reply_text turn.reply),
+      appends_then (texts_of turns) (take n (reply_text turn.reply)) first now s.output gave appended,
+      last state turns turn (take n (reply_text turn.reply)) s.image (inr (inl (n, refl, is))),
+    )
+
+-- the moments of a longer run
+time_longer : {D : Type 0} (d : Ghosts D) (first now : D) (state : State) (turns : List Turn) (turn : Turn) →
+    Elapses d.moment d.stood_since first now (ShowsReached (d.beside first).output state turns) →
+    Elapses d.moment d.stood_since first now (ShowsReached (d.beside first).output state (turns ++ turn ∷ []))
+time_longer d first now state turns turn time = elapsed_weaker time (λ s h. (h.0, h.1, longer state turns turn h.0 s.image h.2))
+
+-- where the output stays, a part of anything is given
+shows_gives : {D : Type 0} (d : Ghosts D) (now next : D) (state : State) (block : List ℕ) → Shows d (IsOf state) now next → ShowsGiven d block state now next
+shows_gives d now next state block shows = elapsed_weaker shows (λ s h. (keeps_prefix block (d.beside now).output s.output h.0, h.1))
+
+-- an image of a state, or of the one after a turn that changes nothing
+quiet_shows : {D : Type 0} (d : Ghosts D) (now next : D) (before after : State) → after ≡ before → Shows d (IsOfEither before after) now next → Shows d (IsOf before) now next
+quiet_shows d now next before after same shows =
+    elapsed_weaker shows (λ s h. (h.0, elim h.1 [ inl old ↦ old | inr new ↦ subst (λ (t : State). IsOf t s.image) same new ]))
+
+pub stops_giving : (stop : GiveError) → StopsShort (status_of_give_error stop)
+stops_giving give_error.WriteFault = tt
+stops_giving give_error.NoMemory = tt
+
+-- the turn of a command that came in a state
+abbrev turn_of : {state : State} (command : Command) → StoreTurn state command → Turn
+turn_of command turn = record { command = command; reply = turn.reply; next = turn.next }
+
+module _ {D : Type 0} {d : Ghosts D} where
+  -- before the first turn
+  pub served_none : {a : D} {state : State} {store : Store} {block : List ℕ} → IsAt d store a state → block ≡ [] → HasServed d state [] store block a a
+  served_none {a = a} at none = record {
+    run = record { run = tt; time = none_elapsed };
+    at = at;
+    done = [];
+    parts = none;
+    gave = appends_nothing (d.beside a).output;
+    waits = λ n image long is. (take_all n [] (omega arith), is);
+  }
+
+  -- Behind what the block has comes the reply of a turn that changes nothing.
+  served_quietly : {first now : D} {state : State} {turns : List Turn} {store : Store} {block : List ℕ} (turn : Turn) → HasServed d state turns store block first now →
+      IsStep (state_after state turns) turn.command turn.reply turn.next → turn.next ≡ state_after state turns →
+      HasServed d state (turns ++ turn ∷ []) store (block ++ reply_text turn.reply) first now
+  served_quietly {first = first} {now = now} {state = state} {turns = turns} {store = store} {block = block} turn served step same =
+      let text = reply_text turn.reply in
+      let before : state_after state (turns ++ turn ∷ []) ≡ state_after state turns = after_more state turns turn ∙ same in
+      record {
+        run = record { run = run_more state turns turn served.run.run step; time = time_longer d first now state turns turn served.run.time };
+        at = subst (λ (t : State). IsAt d store now t) (sym before) served.at;
+        done = served.done;
+        parts = sym (append_assoc served.done block text) ∙ ap (λ (l : List ℕ). l ++ text) served.parts ∙ sym (texts_more turns turn);
+        gave = served.gave;
+        waits = λ n image long is.
+            let here : IsOf (state_after state turns) image = subst (λ (t : State). IsOf t image) before is in
+            subst (λ (l : List ℕ). IsReached state (turns ++ turn ∷ []) (take n l) image) (sym (texts_more turns turn))
+            (waits_more state turns turn n image (λ few. served.waits n image long here) (subst (λ (t : State). IsOf t image) (sym same) here) (le_or n (length (texts_of turns))));
+      }
+
+  -- the moments while a part is given of what the block has
+  run_given : {first now next : D} {state : State} {turns : List Turn} {store : Store} {block : List ℕ} → HasServed d state turns store block first now →
+      ShowsGiven d block (state_after state turns) now next → HasRun d state turns first next
+  run_given {first = first} {now = now} {next = next} {state = state} {turns = turns} {block = block} served gives = record {
+    run = served.run.run;
+    time = elapsed_then served.run.time gives (λ s h.
+        let (n, appended) = prefix_bytes block (d.beside now).output s.output h.0 in
+        let long : length served.done ≤ length served.done + n = omega arith in
+        let out : take (length served.done + n) (texts_of turns) ≡ served.done ++ take n block =
+        ap (λ (l : List ℕ). take (length served.done + n) l) (sym served.parts) ∙ take-append-add served.done block n
+        in (
+          served.done ++ take n block,
+          appends_then served.done (take n block) (d.beside first).output (d.beside now).output s.output served.gave appended,
+          subst (λ (l : List ℕ). IsReached state turns l s.image) out (served.waits (length served.done + n) s.image long h.1),
+        ));
+  }
+
+  -- A part is given of what the block has, or nothing, and each image is one of the state.
+  served_given : {first now next : D} {state : State} {turns : List Turn} {store store' : Store} {block left : List ℕ} (done : List ℕ) → HasServed d state turns store block first now →
+      IsAt d store' next (state_after state turns) → done ++ left ≡ block → Appends done (d.beside now).output (d.beside next).output → ShowsGiven d block (state_after state turns) now next →
+      HasServed d state turns store' left first next
+  served_given {first = first} {now = now} {next = next} {state = state} {turns = turns} {left = left} done served at parts gave gives = record {
+    run = run_given served gives;
+    at = at;
+    done = served.done ++ done;
+    parts = append_assoc served.done done left ∙ ap (λ (l : List ℕ). served.done ++ l) parts ∙ served.parts;
+    gave = appends_then served.done done (d.beside first).output (d.beside now).output (d.beside next).output served.gave gave;
+    waits = λ n image long is.
+        let all : length (served.done ++ done) ≡ length served.done + length done = length-append served.done done in
+        served.waits n image (omega arith) is;
+  }
+
+  -- what the block had is given, while the disk is left
+  leaves_gives : {now next : D} {state : State} {store : Store} (block : List ℕ) → LeavesAreas d now next (AppendsPrefix block (d.beside now).output) → IsAt d store now state →
+      ShowsGiven d block state now next
+  leaves_gives block leaves at = elapsed_weaker leaves.time (λ s h. (h.0, at_image at h.1))
+
+  -- the moments while the block is given
+  pub run_block : {first now next : D} {state : State} {turns : List Turn} {store : Store} {block : List ℕ} → HasServed d state turns store block first now → GivesAlone d block now next →
+      HasRun d state turns first next
+  run_block {block = block} served alone = run_given served (leaves_gives block alone.areas served.at)
+
+  -- more input was asked for
+  pub served_filled : {first now next : D} {state : State} {turns : List Turn} {store : Store} {block : List ℕ} → HasServed d state turns store block first now → TakesAlone d now next →
+      IsSome (d.contents next) → HasServed d state turns store block first next
+  served_filled {now = now} {next = next} {block = block} served takes told =
+      served_given [] served (at_beside takes.areas told served.at) refl
+      (kept_appends (d.beside now).output (d.beside next).output (keeps_of (d.beside now).output (d.beside next).output takes.output_stays))
+      (elapsed_weaker takes.areas.time (λ s h. (keeps_prefix block (d.beside now).output s.output h.0, at_image served.at h.1)))
+
+  -- the texts of all turns are out, where the block has none
+  pub all_given : {first now : D} {state : State} {turns : List Turn} {store : Store} {block : List ℕ} → HasServed d state turns store block first now → block ≡ [] →
+      Appends (texts_of turns) (d.beside first).output (d.beside now).output
+  all_given {first = first} {now = now} served none =
+      subst (λ (l : List ℕ). Appends l (d.beside first).output (d.beside now).output)
+      (sym (append-nil served.done) ∙ ap (λ (l : List ℕ). served.done ++ l) (sym none) ∙ served.parts) served.gave
+
+  -- the moments of a turn that may change the state, once all replies before it are out
+  run_loudly : {first now next : D} {state : State} {turns : List Turn} {store : Store} {block : List ℕ} (turn : Turn) → HasServed d state turns store block first now → block ≡ [] →
+      IsStep (state_after state turns) turn.command turn.reply turn.next →
+      Elapses d.moment d.stood_since now next (ShowsAnswer (d.beside now).output (state_after state turns) (reply_text turn.reply) turn.next) →
+      HasRun d state (turns ++ turn ∷ []) first next
+  run_loudly {first = first} {now = now} {state = state} {turns = turns} turn served none step time = record {
+    run = run_more state turns turn served.run.run step;
+    time = elapsed_then (time_longer d first now state turns turn served.run.time) time (λ s h. within state turns turn (d.beside first).output (d.beside now).output s (all_given served none) h);
+  }
+
+  -- The reply of a turn that may change the state is given at once.
+  served_loudly : {first now next : D} {state : State} {turns : List Turn} {store store' : Store} {block : List ℕ} (turn : Turn) → HasServed d state turns store block first now → block ≡ [] →
+      IsStep (state_after state turns) turn.command turn.reply turn.next → IsAt d store' next turn.next → Appends (reply_text turn.reply) (d.beside now).output (d.beside next).output →
+      Elapses d.moment d.stood_since now next (ShowsAnswer (d.beside now).output (state_after state turns) (reply_text turn.reply) turn.next) →
+      HasServed d state (turns ++ turn ∷ []) store' block first next
+  served_loudly {first = first} {now = now} {next = next} {state = state} {turns = turns} {store' = store'} {block = block} turn served none step at appends time =
+      let text = reply_text turn.reply in
+      let after : state_after state (turns ++ turn ∷ []) ≡ turn.next = after_more state turns turn in
+      let all : texts_of turns ++ text ≡ texts_of (turns ++ turn ∷ []) = sym (texts_more turns turn) in
+      record {
+        run = run_loudly turn served none step time;
+        at = subst (λ (t : State). IsAt d store' next t) (sym after) at;
+        done = texts_of turns ++ text;
+        parts = ap (λ (l : List ℕ). (texts_of turns ++ text) ++ l) none ∙ append-nil (texts_of turns ++ text) ∙ all;
+        gave = appends_then (texts_of turns) text (d.beside first).output (d.beside now).output (d.beside next).output (all_given served none) appends;
+        waits = λ n image long is.
+            let here : IsOf turn.next image = subst (λ (t : State). IsOf t image) after is in
+            let whole : take n (texts_of (turns ++ turn ∷ [])) ≡ texts_of turns ++ text = ap (λ (l : List ℕ). take n l) (sym all) ∙ take_all n (texts_of turns ++ text) long in
+            subst (λ (l : List ℕ). IsReached state (turns ++ turn ∷ []) l image) (sym whole)
+            (last state turns turn text image (inr (inl (length text, sym (take_all (length text) text (omega arith)), here))));
+      }
+
+  -- What a command is answered:
+
+  -- the block is given
+  pub given_block : {first now next : D} {state : State} {turns : List Turn} {store : Store} {block left : List ℕ} → HasServed d state turns store block first now → left ≡ [] →
+      Given block (Ok tt) (d.beside now) (d.beside next) → GivesAlone d block now next → IsSome (d.contents next) → HasServed d state turns store left first next
+  given_block {now = now} {next = next} {block = block} served none gave alone told =
+      served_given block served (at_beside alone.areas told served.at) (ap (λ (l : List ℕ). block ++ l) none ∙ append-nil block)
+      (gives_appends block (d.beside now).output (d.beside next).output gave)
+      (leaves_gives block alone.areas served.at)
+
+  begun_none : {first next : D} {state : State} (turns : List Turn) (command : Command) → HasRun d state turns first next → HasBegun d state (commands_of turns ++ command ∷ []) first next
+  begun_none turns command run = (turns, command ∷ [], refl, run)
+
+  begun_one : {first next : D} {state : State} (turns : List Turn) (turn : Turn) → HasRun d state (turns ++ turn ∷ []) first next →
+      HasBegun d state (commands_of turns ++ turn.command ∷ []) first next
+  begun_one turns turn run = (turns ++ turn ∷ [], [], append-nil (commands_of (turns ++ turn ∷ [])) ∙ commands_more turns turn, run)
+
+  -- it isn't begun where the block isn't given
+  pub block_begins : {now next : D} {store : Store} {block : List ℕ} (command : Command) (stop : GiveError) → GivesAlone d block now next → Begins d command (status_of_give_error stop) store block now next
+  block_begins command stop alone first state turns served told = (stops_giving stop, begun_none turns command (run_block served alone))
+
+  -- A command that may change the store is answered, once the block is given.
+  pub loud_answers : {now mid next : D} {store store' : Store} {block left : List ℕ} (command : Command) → left ≡ [] → Given block (Ok tt) (d.beside now) (d.beside mid) → GivesAlone d block now mid →
+      TakesNone d mid next → ((state : State) → IsAt d store mid state → IsSome (d.contents next) → IsAnswered d (Ok tt) state command store' mid next) →
+      Answers d command store store' block left now next
+  loud_answers command none gave alone takes answers first state turns served told =
+      let there = given_block served none gave alone (takes.told told) in
+      let (turn, at, appends, time) = answers (state_after state turns) there.at told in
+      (turn_of command turn, refl, served_loudly (turn_of command turn) there none turn.step at appends time)
+
+  -- ... or begun
+  loud_stops : {first mid next : D} {store : Store} {state : State} {turns : List Turn} {block : List ℕ} (store' : Store) (command : Command) (e : EngineError) → HasServed d state turns store block first mid → block ≡ [] →
+      IsAnswered d (Err e) (state_after state turns) command store' mid next → StopsShort (status_of_engine e) × HasBegun d state (commands_of turns ++ command ∷ []) first next
+  loud_stops {turns = turns} store' command engine.Write served none (turn, at, time) = (tt, begun_one turns (turn_of command turn) (run_loudly (turn_of command turn) served none turn.step time))
+  loud_stops {mid = mid} {next = next} {state = state} {turns = turns} {block = block} store' command engine.Memory served none (at, shows) =
+      (tt, begun_none turns command (run_given served (shows_gives d mid next (state_after state turns) block shows)))
+  loud_stops {mid = mid} {next = next} {state = state} {turns = turns} {block = block} store' command engine.Disk served none (inl shows) =
+      (tt, begun_none turns command (run_given served (shows_gives d mid next (state_after state turns) block shows)))
+  loud_stops {turns = turns} store' command engine.Disk served none (inr (turn, shows)) =
+      (tt, begun_one turns (turn_of command turn) (run_loudly (turn_of command turn) served none turn.step (elapsed_weaker shows (λ s h. inl h))))
+  loud_stops store' command engine.Exists served none answered = absurd answered
+  loud_stops store' command engine.NotAStore served none answered = absurd answered
+  loud_stops store' command (engine.Damaged page) served none answered = absurd answered
+  loud_stops store' command engine.Ended served none answered = absurd answered
+
+  pub loud_begins : {now mid next : D} {store : Store} {block left : List ℕ} (store' : Store) (command : Command) (e : EngineError) → left ≡ [] → Given block (Ok tt) (d.beside now) (d.beside mid) → GivesAlone d block now mid →
+      TakesNone d mid next → ((state : State) → IsAt d store mid state → IsSome (d.contents next) → IsAnswered d (Err e) state command store' mid next) →
+      Begins d command (status_of_engine e) store block now next
+  loud_begins store' command e none gave alone takes answers first state turns served told =
+      let there = given_block served none gave alone (takes.told told) in
+      loud_stops store' command e there none (answers (state_after state turns) there.at told)
+
+  -- A command that changes nothing is carried out.
+  quietly : {first now next : D} {state : State} {turns : List Turn} {store store' : Store} {block : List ℕ} {P : Image → Type 0} {after : State} → HasServed d state turns store block first now →
+      after ≡ state_after state turns → IsAt d store' next after → WritesAlone d now next P → Shows d (IsOfEither (state_after state turns) after) now next → HasServed d state turns store' block first next
+  quietly {now = now} {next = next} {state = state} {turns = turns} {store' = store'} {block = block} {after = after} served same at alone shows =
+      served_given [] served (subst (λ (t : State). IsAt d store' next t) same at) refl
+      (kept_appends (d.beside now).output (d.beside next).output alone.beside_stays.output)
+      (shows_gives d now next (state_after state turns) block (quiet_shows d now next (state_after state turns) after same shows))
+
+  -- ... and its reply stands behind what the block has
+  pub quiet_answers : {now next : D} {store store' : Store} {block left : List ℕ} {P : Image → Type 0} (command : Command) (reply : Reply) → IsQuiet command → left ≡ block ++ reply_text reply →
+      WritesAlone d now next P → ((state : State) → IsAt d store now state → IsSome (d.contents next) → IsApplied d (Ok reply) state command store' now next) →
+      Answers d command store store' block left now next
+  quiet_answers {now = now} {next = next} {store' = store'} {block = block} command reply calm is alone applies first state turns served told =
+      let (after, step, at, shows) = applies (state_after state turns) served.at told in
+      let same = stays (state_after state turns) command reply after calm step in
+      let turn : Turn = record { command = command; reply = reply; next = after } in (
+        turn,
+        refl,
+        subst (λ (l : List ℕ). HasServed d state (turns ++ turn ∷ []) store' l first next) (sym is) (served_quietly turn (quietly served same at alone shows) step same),
+      )
+
+  -- ... but for the text of its reply
+  pub quiet_pushless : {now next : D} {store store' : Store} {block : List ℕ} (command : Command) (reply : Reply) → IsQuiet command →
+      ((state : State) → IsAt d store now state → IsSome (d.contents next) → IsApplied d (Ok reply) state command store' now next) → Begins d command NoMemory store block now next
+  quiet_pushless {now = now} {next = next} {block = block} command reply calm applies first state turns served told =
+      let (after, step, at, shows) = applies (state_after state turns) served.at told in
+      let before = state_after state turns in
+      let same = stays before command reply after calm step in
+      (tt, begun_none turns command (run_given served (shows_gives d now next before block (quiet_shows d now next before after same shows))))
+
+  quiet_stops : {first now next : D} {store : Store} {state : State} {turns : List Turn} {block : List ℕ} (store' : Store) (command : Command) (e : EngineError) → IsQuiet command →
+      HasServed d state turns store block first now → IsApplied d (Err e) (state_after state turns) command store' now next →
+      StopsShort (status_of_engine e) × HasBegun d state (commands_of turns ++ command ∷ []) first next
+  quiet_stops {now = now} {next = next} {state = state} {turns = turns} {block = block} store' command engine.Memory calm served (at, shows) =
+      (tt, begun_none turns command (run_given served (shows_gives d now next (state_after state turns) block shows)))
+  quiet_stops {now = now} {next = next} {state = state} {turns = turns} {block = block} store' command engine.Disk calm served (inl shows) =
+      (tt, begun_none turns command (run_given served (shows_gives d now next (state_after state turns) block shows)))
+  quiet_stops {now = now} {next = next} {state = state} {turns = turns} {block = block} store' command engine.Disk calm served (inr (turn, shows)) =
+      let before = state_after state turns in
+      let same = stays before command turn.reply turn.next calm turn.step in
+      (tt, begun_none turns command (run_given served (shows_gives d now next before block (quiet_shows d now next before turn.next same shows))))
+  quiet_stops store' command engine.Write calm served applied = absurd applied
+  quiet_stops store' command engine.Exists calm served applied = absurd applied
+  quiet_stops store' command engine.NotAStore calm served applied = absurd applied
+  quiet_stops store' command (engine.Damaged page) calm served applied = absurd applied
+  quiet_stops store' command engine.Ended calm served applied = absurd applied
+
+  pub quiet_begins : {now next : D} {store : Store} {block : List ℕ} (store' : Store) (command : Command) (e : EngineError) → IsQuiet command →
+      ((state : State) → IsAt d store now state → IsSome (d.contents next) → IsApplied d (Err e) state command store' now next) → Begins d command (status_of_engine e) store block now next
+  quiet_begins store' command e calm applies first state turns served told = quiet_stops store' command e calm served (applies (state_after state turns) served.at told)
+
+  -- A document's text is given behind what the block has, but for a last part.
+  exported : {first now next : D} {state : State} {turns : List Turn} {store store' : Store} {name block left : List ℕ} {result : Result (Unit {0}) EngineError} → HasServed d state turns store block first now →
+      (done : IsExported d result (state_after state turns) name block left store' now next) → (turn : Turn) × (turn.command ≡ Export name) ×
+      HasServed d state (turns ++ turn ∷ []) store (block ++ reply_text done.reply) first now × (state_after state (turns ++ turn ∷ []) ≡ state_after state turns)
+  exported {state = state} {turns = turns} {name = name} served done =
+      let turn : Turn = record { command = Export name; reply = done.reply; next = state_after state turns } in
+      (turn, refl, served_quietly turn served done.step refl, after_more state turns turn)
+
+  pub export_answers : {now next : D} {store store' : Store} {block left shown name : List ℕ} {u : Unit {0}} (command : Command) → command ≡ Export name → shown ≡ name →
+      ((state : State) → IsAt d store now state → IsSome (d.contents next) → IsExported d (Ok u) state shown block left store' now next) → Answers d command store store' block left now next
+  export_answers {now = now} {next = next} {store' = store'} {block = block} command is same_name exports first state turns served told =
+      let done = exports (state_after state turns) served.at told in
+      let (turn, of_it, there, same) = exported served done in
+      let (at, but) = done.given in (
+        turn,
+        of_it ∙ ap (λ (n : List ℕ). Export n) same_name ∙ sym is,
+        served_given but.done there (subst (λ (t : State). IsAt d store' next t) (sym same) at) but.parts but.gave
+            (subst (λ (t : State). ShowsGiven d (block ++ reply_text done.reply) t now next) (sym same) done.time),
+      )
+
+  export_stops : {first now next : D} {store store' : Store} {state : State} {turns : List Turn} {name block left : List ℕ} (e : EngineError) → HasServed d state turns store block first now →
+      (done : IsExported d (Err e) (state_after state turns) name block left store' now next) → IsGiven d (Err e) (block ++ reply_text done.reply) left (state_after state turns) store' now next →
+      StopsShort (status_of_engine e)
+  export_stops engine.Write served done given = tt
+  export_stops engine.Memory served done given = tt
+  export_stops engine.Disk served done given = tt
+  export_stops engine.Exists served done given = absurd given
+  export_stops engine.NotAStore served done given = absurd given
+  export_stops (engine.Damaged page) served done given = absurd given
+  export_stops engine.Ended served done given = absurd given
+
+  pub export_begins : {now next : D} {store store' : Store} {block left shown name : List ℕ} (command : Command) (e : EngineError) → command ≡ Export name → shown ≡ name →
+      ((state : State) → IsAt d store now state → IsSome (d.contents next) → IsExported d (Err e) state shown block left store' now next) → Begins d command (status_of_engine e) store block now next
+  export_begins {now = now} {next = next} {block = block} command e is same_name exports first state turns served told =
+      let done = exports (state_after state turns) served.at told in
+      let (turn, of_it, there, same) = exported served done in (
+        export_stops e served done done.given,
+        subst (λ (c : Command). HasBegun d state (commands_of turns ++ c ∷ []) first next) (of_it ∙ ap (λ (n : List ℕ). Export n) same_name ∙ sym is)
+            (begun_one turns turn (run_given there (subst (λ (t : State). ShowsGiven d (block ++ reply_text done.reply) t now next) (sym same) done.time))),
+      )
+
+  -- Whatever the store is at:
+
+  pub written_takes : {now next : D} {P : Image → Type 0} → WritesAlone d now next P → TakesNone d now next
+  written_takes {now = now} {next = next} alone = record {
+    told = alone.told;
+    input_stays = alone.beside_stays.input;
+    in_faults_stay = alone.beside_stays.in_faults;
+    out_faults_later = let same : (d.beside next).out_faults ≡ (d.beside now).out_faults = alone.beside_stays.out_faults in omega arith;
+    faults_later = alone.faults_later;
+  }
+
+module _ {D : Type 0} (d : Ghosts D) (a b : D) where
+  -- why a command wasn't carried out
+  pub stopped_applying : (old new : Store) (e : EngineError) → NotApplied d e old new a b → IsStopped d (status_of_engine e) a b
+  stopped_applying old new engine.Disk (rose, ends) = rose
+  stopped_applying old new (engine.Damaged page) why = tt
+  stopped_applying old new engine.Ended why = tt
+  stopped_applying old new engine.Memory why = tt
+  stopped_applying old new engine.Write why = absurd why
+  stopped_applying old new engine.Exists why = absurd why
+  stopped_applying old new engine.NotAStore why = absurd why
+
+  -- why the block wasn't given
+  pub block_stopped : (block : List ℕ) (stop : GiveError) → Given block (Err stop) (d.beside a) (d.beside b) → IsStopped d (status_of_give_error stop) a b
+  block_stopped block give_error.WriteFault fails = fails.rose
+  block_stopped block give_error.NoMemory gave = tt

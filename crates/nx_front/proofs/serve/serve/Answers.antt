@@ -1,0 +1,21 @@
+use Rattle.std.proofs.Common.{sym, ap, subst}
+use Rattle.nx_front.specs.declared.status.Status.{Status}
+use Rattle.nx_front.specs.Session.{session_status}
+use Rattle.nx_front.specs.Serving.{Serves}
+use Rattle.nx_front.proofs.ConversationLemmas.{serves_opened, serves_unopened}
+use Rattle.nx_front.proofs.serve.serve.Goals as goal
+
+pub returns-in-Ok-converse : goal.returns-in-Ok-converse
+returns-in-Ok-converse g c =
+    subst (λ (s : Status). Serves g.H.Disk s c.args.host.now c.converse.new.host) (ap session_status c.in-Ok-converse.is)
+    (serves_opened (session_status c.converse.result) c.open.ensures.still c.in-Ok.ensures.ok c.in-Ok.ensures.marked c.converse.ensures)
+
+pub returns-in-Ok : goal.returns-in-Ok
+returns-in-Ok g c =
+    subst (λ (s : Status). Serves g.H.Disk s c.args.host.now c.converse.new.host) (ap session_status c.in-Err-converse.is)
+    (serves_opened (session_status c.converse.result) c.open.ensures.still c.in-Ok.ensures.ok c.in-Ok.ensures.marked c.converse.ensures)
+
+pub returns : goal.returns
+returns g c =
+    subst (λ (s : Status). Serves g.H.Disk s c.args.host.now c.open.new.disk) (sym c.from.ensures)
+    (serves_unopened g.H.Disk c.args.host.now c.open.new.disk c.in-Err.error c.open.ensures.still c.in-Err.ensures.refused)

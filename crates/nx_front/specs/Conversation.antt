@@ -1,0 +1,129 @@
+-- A conversation over a store: what was answered so far, and what stood meanwhile.
+use Rattle.std.specs.Prelude.{◌≡◌, ◌⊎◌, ◌<◌, ◌≤◌, ℕ, List, [], ◌∷◌, ◌++◌, length, take, Option, IsSome}
+use Rattle.std.specs.Bool.{MatchBool}
+use Rattle.nx_host.specs.declared.disk.Disk.{Ghosts}
+use Rattle.nx_host.specs.Disk.{Image, Rose}
+use Rattle.nx_host.specs.Host.{Takes, Appends}
+use Rattle.nx_host.specs.Input.{most_input}
+use Rattle.nx_host.specs.Time.{Stood, Elapses}
+use Rattle.nx_script.specs.declared.command.Command.{Command}
+use Rattle.nx_script.specs.declared.script.Script.{Script}
+use Rattle.nx_script.specs.Commands.{AreCommands, AreWhole}
+use Rattle.nx_script.specs.Reply.{reply_text}
+use Rattle.nx_script.specs.Script.{HasGivenIn}
+use Rattle.nx_state.specs.State.{State}
+use Rattle.nx_store.specs.declared.store.Store.{Store}
+use Rattle.nx_store.specs.Store.{IsAt, IsOf}
+use Rattle.nx_front.specs.declared.status.Status.{Status}
+use Rattle.nx_front.specs.declared.status.Status.TheVariants.{Done, Usage, Refused, DiskFault, ReadFault, WriteFault, NoMemory, NotAStore, Damaged, TooMuch}
+use Rattle.nx_front.specs.Outcome.{TakesFew, CountsGrow, EndsWhole}
+use Rattle.nx_front.specs.Serving.{Turn, IsRun, state_after, commands_of, texts_of, ServesFrom}
+
+-- A moment of a run, turn by turn. Nothing of the first reply is out, and the image is of the state before it; or a part of it is, and the image is of the state
+-- after it; or it is out whole, and the moment is one of the turns behind.
+abbrev pub IsReached : State → List Turn → List ℕ → Image → Type 0
+IsReached state [] out image = (out ≡ []) × IsOf state image
+IsReached state (turn ∷ turns) out image =
+    ((out ≡ []) × IsOf state image)
+    ⊎ (((n : ℕ) × (out ≡ take n (reply_text turn.reply)) × IsOf turn.next image)
+    ⊎ ((more : List ℕ) × (out ≡ reply_text turn.reply ++ more) × IsReached turn.next turns more image))
+
+-- ... where the output has grown by them, as far as it is told
+abbrev pub ShowsReached : Option (List ℕ) → State → List Turn → Stood → Type 0
+ShowsReached output state turns s = (out : List ℕ) × Appends out output s.output × IsReached state turns out s.image
+
+-- A run had these turns, and each moment was one of it.
+pub record HasRun {D : Type 0} (d : Ghosts D) (state : State) (turns : List Turn) (first now : D) : Type 0 where
+  pub run : IsRun state turns
+  pub time : Elapses d.moment d.stood_since first now (ShowsReached (d.beside first).output state turns)
+
+-- It had these turns, and what isn't given of their replies stands in the block. More of that may be out, with an image of the state after all turns.
+pub record HasServed {D : Type 0} (d : Ghosts D) (state : State) (turns : List Turn) (store : Store) (block : List ℕ) (first now : D) : Type 0 where
+  pub run : HasRun d state turns first now
+  pub at : IsAt d store now (state_after state turns)
+  pub done : List ℕ
+  pub parts : done ++ block ≡ texts_of turns
+  pub gave : Appends done (d.beside first).output (d.beside now).output
+  pub waits : (n : ℕ) (image : Image) → length done ≤ n → IsOf (state_after state turns) image → IsReached state turns (take n (texts_of turns)) image
+
+-- No count fell, and what is told of the disk now was told before.
+pub record GoesOn {D : Type 0} (d : Ghosts D) (old new : D) : Type 0 where
+  pub told : IsSome (d.contents new) → IsSome (d.contents old)
+  pub counts : CountsGrow (d.beside old) (d.beside new)
+  pub faults_later : d.faults old ≤ d.faults new
+
+-- The script gave these commands of the bytes that were taken, and from each state that the store was at each of them was answered.
+pub record IsConversing {D : Type 0} (d : Ghosts D) (begun : Store) (taken : List ℕ) (commands : List Command) (script : Script) (store : Store) (block : List ℕ) (first now : D) : Type 0 where
+  pub given : HasGivenIn script taken commands (d.beside first).input (d.beside now).input
+  pub goes : GoesOn d first now
+  pub served : (state : State) → IsAt d begun first state → IsSome (d.contents now) → (turns : List Turn) × (commands_of turns ≡ commands) × HasServed d state turns store block first now
+
+-- with one of these a command isn't answered, from a state that the store was at
+abbrev pub StopsShort : Status → Type 0
+StopsShort DiskFault = Unit {0}
+StopsShort WriteFault = Unit {0}
+StopsShort NoMemory = Unit {0}
+StopsShort _ = ⊥
+
+-- why a command isn't answered, whatever the store is at
+abbrev pub IsStopped : {D : Type 0} → Ghosts D → Status → D → D → Type 0
+IsStopped d DiskFault old new = Rose (d.faults old) (d.faults new)
+IsStopped d WriteFault old new = Rose (d.beside old).out_faults (d.beside new).out_faults
+IsStopped d NoMemory old new = Unit {0}
+IsStopped d (Damaged page) old new = Unit {0}
+IsStopped d _ old new = ⊥
+
+-- A run had turns of the first of these commands.
+abbrev pub HasBegun : {D : Type 0} → Ghosts D → State → List Command → D → D → Type 0
+HasBegun d state commands first now = (turns : List Turn) × (rest : List Command) × (commands_of turns ++ rest ≡ commands) × HasRun d state turns first now
+
+-- the next command is answered, whatever was answered before
+abbrev pub Answers : {D : Type 0} → Ghosts D → Command → Store → Store → List ℕ → List ℕ → D → D → Type 0
+Answers {D} d command store store' block block' now next =
+    (first : D) (state : State) (turns : List Turn) → HasServed d state turns store block first now → IsSome (d.contents next) →
+    (turn : Turn) × (turn.command ≡ command) × HasServed d state (turns ++ turn ∷ []) store' block' first next
+
+-- ... or it is begun at most
+abbrev pub Begins : {D : Type 0} → Ghosts D → Command → Status → Store → List ℕ → D → D → Type 0
+Begins {D} d command status store block now next =
+    (first : D) (state : State) (turns : List Turn) → HasServed d state turns store block first now → IsSome (d.contents next) →
+    StopsShort status × HasBegun d state (commands_of turns ++ command ∷ []) first next
+
+-- why a conversation ends so, whatever the store is at
+abbrev pub IsEnded : {D : Type 0} → Ghosts D → Status → D → D → Type 0
+IsEnded d Done old new = (taken : List ℕ) × EndsWhole taken (d.beside old).input (d.beside new).input
+IsEnded d DiskFault old new = Rose (d.faults old) (d.faults new)
+IsEnded d ReadFault old new =
+    Rose (d.beside old).in_faults (d.beside new).in_faults × (taken : List ℕ) × (length taken < most_input) × Takes taken (d.beside old).input (d.beside new).input
+IsEnded d WriteFault old new = Rose (d.beside old).out_faults (d.beside new).out_faults
+IsEnded d NoMemory old new = Unit {0}
+IsEnded d (Damaged page) old new = Unit {0}
+IsEnded d TooMuch old new = (taken : List ℕ) × (length taken ≡ most_input) × Takes taken (d.beside old).input (d.beside new).input
+IsEnded d NotAStore old new = ⊥
+IsEnded d Usage old new = ⊥
+IsEnded d Refused old new = ⊥
+
+-- How a conversation ends: from each state that the store is at; and why in any case.
+pub record Converses {D : Type 0} (d : Ghosts D) (begun : Store) (status : Status) (first now : D) : Type 0 where
+  pub from : (state : State) → IsAt d begun first state → IsSome (d.contents now) → ServesFrom d state status first now
+  pub cause : IsEnded d status first now
+  pub bounded : TakesFew (d.beside first).input (d.beside now).input
+  pub goes : GoesOn d first now
+
+-- commands more of a script are answered
+abbrev pub AnswersMore : {D : Type 0} → Ghosts D → Script → Script → Store → Store → List ℕ → List ℕ → D → D → Type 0
+AnswersMore {D} d script script' store store' block block' now next =
+    (first : D) (begun : Store) (taken : List ℕ) (commands : List Command) → IsConversing d begun taken commands script store block first now →
+    (more : List Command) × IsConversing d begun taken (commands ++ more) script' store' block' first next
+
+-- ... all that are whole in what was read
+abbrev pub AnswersAll : {D : Type 0} → Ghosts D → Script → Script → Store → Store → List ℕ → List ℕ → D → D → Type 0
+AnswersAll {D} d script script' store store' block block' now next =
+    (first : D) (begun : Store) (taken : List ℕ) (commands : List Command) → IsConversing d begun taken commands script store block first now →
+    (more : List Command) × MatchBool script'.ended (AreCommands taken (commands ++ more)) (AreWhole taken (commands ++ more))
+    × IsConversing d begun taken (commands ++ more) script' store' block' first next
+
+-- ... or the conversation ends
+abbrev pub EndsConversing : {D : Type 0} → Ghosts D → Status → Script → Store → List ℕ → D → D → Type 0
+EndsConversing {D} d status script store block now next =
+    (first : D) (begun : Store) (taken : List ℕ) (commands : List Command) → IsConversing d begun taken commands script store block first now → Converses d begun status first next

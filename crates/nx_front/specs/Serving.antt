@@ -1,0 +1,154 @@
+-- A run of a script over a store: its commands are answered one after the other, from the state that the disk holds on.
+use Rattle.std.specs.Prelude.{◌≡◌, ◌⊎◌, ℕ, ◌+◌, ◌<◌, ◌≤◌, List, [], ◌∷◌, ◌++◌, length, take, map, Option, Some, IsSome}
+use Rattle.std.specs.List.{flat_map}
+use Rattle.nx_host.specs.declared.disk.Disk.{Ghosts}
+use Rattle.nx_host.specs.Disk.{Image, Beside, Rose}
+use Rattle.nx_host.specs.Host.{Takes, Appends}
+use Rattle.nx_host.specs.Input.{most_input}
+use Rattle.nx_host.specs.Still.{IsSettled, IsStill}
+use Rattle.nx_host.specs.Time.{Stood, Elapses}
+use Rattle.nx_replay.specs.Log.{replay}
+use Rattle.nx_wal.specs.Reading.{HasMark}
+use Rattle.nx_script.specs.declared.command.Command.{Command}
+use Rattle.nx_script.specs.declared.reply.Reply.{Reply}
+use Rattle.nx_script.specs.Commands.{AreCommands, AreWhole}
+use Rattle.nx_script.specs.Reply.{reply_text}
+use Rattle.nx_state.specs.State.{State}
+use Rattle.nx_state.specs.Stands.{Recovers}
+use Rattle.nx_store.specs.Step.{IsStep}
+use Rattle.nx_front.specs.declared.status.Status.{Status}
+use Rattle.nx_front.specs.declared.status.Status.TheVariants.{Done, Usage, Refused, DiskFault, ReadFault, WriteFault, NoMemory, NotAStore, Damaged, TooMuch}
+use Rattle.nx_front.specs.Session.{AreFirst}
+use Rattle.nx_front.specs.Outcome.{TakesFew, CountsGrow, EndsWhole}
+
+-- a command, its reply, and the state after it
+pub record Turn : Type 0 where
+  pub command : Command
+  pub reply : Reply
+  pub next : State
+
+-- Each turn is a step: the first one from this state on, each other from the state after the one before it.
+abbrev pub IsRun : State → List Turn → Type 0
+IsRun state [] = Unit {0}
+IsRun state (turn ∷ turns) = IsStep state turn.command turn.reply turn.next × IsRun turn.next turns
+
+-- the state after all turns
+abbrev pub state_after : State → List Turn → State
+state_after state [] = state
+state_after state (turn ∷ turns) = state_after turn.next turns
+
+abbrev pub commands_of : List Turn → List Command
+commands_of turns = map (λ turn. turn.command) turns
+
+-- the texts of the replies, one after the other
+abbrev pub texts_of : List Turn → List ℕ
+texts_of turns = flat_map (λ turn. reply_text turn.reply) turns
+
+-- These bytes begin with that text.
+abbrev pub BeginsWith : List ℕ → List ℕ → Type 0
+BeginsWith text out = (more : List ℕ) × (out ≡ text ++ more)
+
+-- So many replies are whole in these bytes: the texts of the first of them begin the bytes, and those of any more don't.
+pub record AreWholeReplies (turns : List Turn) (out : List ℕ) (count : ℕ) : Type 0 where
+  pub some : count ≤ length turns
+  pub begins : BeginsWith (texts_of (take count turns)) out
+  pub no_more : (more : ℕ) → count < more → more ≤ length turns → BeginsWith (texts_of (take more turns)) out → ⊥
+
+-- A moment of a run at which these bytes are out, and a stop leaves this image. They are the first of the replies' texts; and where so many replies are whole, the
+-- image is that of the state after as many commands, or after one more.
+pub record IsMoment (state : State) (turns : List Turn) (out : List ℕ) (image : Image) : Type 0 where
+  pub rest : List ℕ
+  pub given : texts_of turns ≡ out ++ rest
+  pub count : ℕ
+  pub whole : AreWholeReplies turns out count
+  pub stands : Recovers image (Some (state_after state (take count turns))) ⊎ Recovers image (Some (state_after state (take (count + 1) turns)))
+
+-- ... where the output has grown by them, as far as it is told
+abbrev pub ShowsMoment : Option (List ℕ) → State → List Turn → Stood → Type 0
+ShowsMoment output state turns s = (out : List ℕ) × Appends out output s.output × IsMoment state turns out s.image
+
+-- how a run ends that had these turns and took these bytes: whether that is the whole input, which commands they are, and whether all replies are out
+abbrev pub EndsServing : List Turn → List ℕ → Status → Beside → Beside → Type 0
+EndsServing turns taken Done old new = EndsWhole taken old.input new.input × AreCommands taken (commands_of turns) × Appends (texts_of turns) old.output new.output
+EndsServing turns taken ReadFault old new = (length taken < most_input) × AreWhole taken (commands_of turns) × Appends (texts_of turns) old.output new.output
+EndsServing turns taken TooMuch old new = (length taken ≡ most_input) × AreWhole taken (commands_of turns) × Appends (texts_of turns) old.output new.output
+EndsServing turns taken DiskFault old new = Unit {0}
+EndsServing turns taken WriteFault old new = Unit {0}
+EndsServing turns taken NoMemory old new = Unit {0}
+EndsServing turns taken NotAStore old new = ⊥
+EndsServing turns taken (Damaged page) old new = ⊥
+EndsServing turns taken Usage old new = ⊥
+EndsServing turns taken Refused old new = ⊥
+
+-- There is one run from this state on, over the first commands of the input, those that were answered and, where one was begun, that one. Each moment is one of
+-- it. Where all went well, each image that a crash may leave is that of its last state.
+pub record ServesFrom {D : Type 0} (d : Ghosts D) (state : State) (status : Status) (old new : D) : Type 0 where
+  pub turns : List Turn
+  pub run : IsRun state turns
+  pub taken : List ℕ
+  pub takes : Takes taken (d.beside old).input (d.beside new).input
+  pub first : AreFirst taken (commands_of turns) (d.beside new).input
+  pub time : Elapses d.moment d.stood_since old new (ShowsMoment (d.beside old).output state turns)
+  pub ends : EndsServing turns taken status (d.beside old) (d.beside new)
+  pub last : status ≡ Done → (i : Image) → d.may_leave new i → Recovers i (Some (state_after state turns))
+
+-- why a run over a store ends so, whatever the disk holds
+abbrev pub IsCaused : {D : Type 0} → Ghosts D → Status → D → D → Type 0
+IsCaused d Done old new = (taken : List ℕ) × EndsWhole taken (d.beside old).input (d.beside new).input
+IsCaused d DiskFault old new = Rose (d.faults old) (d.faults new)
+IsCaused d ReadFault old new =
+    Rose (d.beside old).in_faults (d.beside new).in_faults × (taken : List ℕ) × (length taken < most_input) × Takes taken (d.beside old).input (d.beside new).input
+IsCaused d WriteFault old new = Rose (d.beside old).out_faults (d.beside new).out_faults
+IsCaused d NoMemory old new = Unit {0}
+IsCaused d NotAStore old new = (was : Image) → IsSettled d old was → HasMark (replay was) → ⊥
+IsCaused d (Damaged page) old new = (was : Image) (state : State) → IsSettled d old was → IsSome (d.contents new) → Recovers was (Some state) → ⊥
+IsCaused d TooMuch old new = (taken : List ℕ) × (length taken ≡ most_input) × Takes taken (d.beside old).input (d.beside new).input
+IsCaused d Usage old new = ⊥
+IsCaused d Refused old new = ⊥
+
+-- with one of these a run ends over a disk without a header: it finds that, or something fails before
+abbrev pub EndsWithoutHeader : Status → Type 0
+EndsWithoutHeader NotAStore = Unit {0}
+EndsWithoutHeader DiskFault = Unit {0}
+EndsWithoutHeader NoMemory = Unit {0}
+EndsWithoutHeader _ = ⊥
+
+-- How a script is carried out over a store: from each state that the disk may hold, while its bytes are told; and why it ends so in any case.
+pub record Serves {D : Type 0} (d : Ghosts D) (status : Status) (old new : D) : Type 0 where
+  pub from : (was : Image) (state : State) → IsSettled d old was → IsSome (d.contents new) → Recovers was (Some state) → ServesFrom d state status old new
+  pub cause : IsCaused d status old new
+  pub no_header : (was : Image) → IsSettled d old was → (HasMark (replay was) → ⊥) → EndsWithoutHeader status × IsStill d old new
+  pub bounded : TakesFew (d.beside old).input (d.beside new).input
+  pub counts : CountsGrow (d.beside old) (d.beside new)
+  pub faults_later : d.faults old ≤ d.faults new
+
+-- The disk had this image and nothing unsynced, and it tells its bytes still; the input of fewer bytes than a run takes was told to the end; and nothing failed.
+pub record IsCalm {D : Type 0} (d : Ghosts D) (was : Image) (input : List ℕ) (old new : D) : Type 0 where
+  pub settled : IsSettled d old was
+  pub disk_told : IsSome (d.contents new)
+  pub input_is : (d.beside old).input ≡ Some input
+  pub input_told : IsSome (d.beside new).input
+  pub few : length input < most_input
+  pub disk : ¬ Rose (d.faults old) (d.faults new)
+  pub read : ¬ Rose (d.beside old).in_faults (d.beside new).in_faults
+  pub written : ¬ Rose (d.beside old).out_faults (d.beside new).out_faults
+
+-- with one of these it ends where all is well
+abbrev pub EndsWell : Status → Type 0
+EndsWell Done = Unit {0}
+EndsWell NoMemory = Unit {0}
+EndsWell _ = ⊥
+
+-- Where all is well, a run over a store in some state ends with all commands answered, unless memory runs out; and one over a disk without a header says so.
+pub record CompletesServing {D : Type 0} (d : Ghosts D) (status : Status) (old new : D) : Type 0 where
+  pub store : (was : Image) (input : List ℕ) (state : State) → IsCalm d was input old new → Recovers was (Some state) → EndsWell status
+  pub no_store : (was : Image) (input : List ℕ) → IsCalm d was input old new → (HasMark (replay was) → ⊥) → (status ≡ NotAStore) ⊎ (status ≡ NoMemory)
+
+-- What is said of a disk holds together: it holds one state at most, and one without a header holds none.
+pub record ServingHoldsTogether : Type 0 where
+  pub one_state : (image : Image) (first second : State) → Recovers image (Some first) → Recovers image (Some second) → first ≡ second
+  pub header : (image : Image) (state : State) → Recovers image (Some state) → HasMark (replay image)
+
+-- an input has one list of commands
+abbrev pub HasOneScript : Type 0
+HasOneScript = (input : List ℕ) (first second : List Command) → AreCommands input first → AreCommands input second → first ≡ second

@@ -1,0 +1,102 @@
+// A run of a script over a store.
+ghost use Rattle.std.specs.Prelude.{◌≡◌, ℕ, List, OnOk, IfErr};
+ghost use Rattle.nx_script.specs.declared.command.Command.{Command};
+ghost use Rattle.nx_script.specs.Commands.{CanCome};
+ghost use Rattle.nx_script.specs.Script.{HasGiven, IsDrained};
+ghost use Rattle.nx_store.specs.Store.{TakesNone};
+ghost use Rattle.nx_front.specs.Session.{session_status};
+ghost use Rattle.nx_front.specs.Serving.{Serves};
+ghost use Rattle.nx_front.specs.Conversation.{Answers, Begins, IsStopped, AnswersAll, EndsConversing, Converses};
+
+use crate::Status;
+use crate::give::{BLOCK, give_block};
+use nx_host::{Disk, Host};
+use nx_script::{Command, Script, push_reply};
+use nx_store::Store;
+use nx_tree::Bytes;
+use std::alloc::Global;
+
+// Answers every command of the input from the store on the disk, in order. The replies to the commands that
+// are whole in what was read are given before more is read, and before the next commit begins.
+pub fn serve<H: Host>(alloc: Global, host: &mut H) -> Status
+    ensures { Serves ⟦<H as Disk>⟧ result host.old host.new }
+{
+    match Store::open(alloc, host) {
+        Ok(mut store) => match converse(alloc, host, &mut store) {
+            Ok(()) => Status::Done,
+            Err(status) => status,
+        },
+        Err(error) => Status::from(error),
+    }
+}
+
+// Answers every command of the input.
+fn converse<H: Host>(alloc: Global, host: &mut H, store: &mut Store) -> Result<(), Status>
+    ensures { Converses ⟦<H as Disk>⟧ store.old (session_status result) host.old host.new }
+{
+    let mut script = Script::new(alloc)?;
+    let mut block = Bytes::new(alloc);
+    loop {
+        answer_ready(host, store, &mut script, &mut block)?;
+        give_block(host, &mut block)?;
+        if script.is_ended() {
+            return Ok(());
+        }
+        script.fill(host)?;
+    }
+}
+
+// Answers every command that is whole in what was read. The last of the replies' texts are left in the
+// block.
+fn answer_ready<H: Host>(
+    host: &mut H,
+    store: &mut Store,
+    script: &mut Script,
+    block: &mut Bytes,
+) -> Result<(), Status>
+    requires { (taken : List ℕ) × (commands : List Command) × HasGiven script.old taken commands }
+    ensures ok { OnOk result (AnswersAll ⟦<H as Disk>⟧ script.old script.new store.old store.new block.old block.new host.old host.new) }
+    ensures drained { OnOk result (IsDrained script.new) }
+    ensures taken { OnOk result (script.new.input.taken ≡ script.old.input.taken) }
+    ensures ended { OnOk result (script.new.ended ≡ script.old.ended) }
+    ensures err { IfErr result (λ status. EndsConversing ⟦<H as Disk>⟧ status script.old store.old block.old host.old host.new) }
+{
+    loop {
+        let Some(command) = script.ready()? else {
+            return Ok(());
+        };
+        answer(host, store, block, command)?;
+        if block.len() >= BLOCK {
+            give_block(host, block)?;
+        }
+    }
+}
+
+// Answers a command: adds the reply's text to the block, or gives what the block has and a prefix of the
+// text where it is long. All replies before a command that may change the disk are given first, and its
+// own at once.
+fn answer<H: Host>(
+    host: &mut H,
+    store: &mut Store,
+    block: &mut Bytes,
+    command: Command,
+) -> Result<(), Status>
+    requires { CanCome command }
+    ensures ok { OnOk result (Answers ⟦<H as Disk>⟧ command store.old store.new block.old block.new host.old host.new) }
+    ensures err { IfErr result (λ status. Begins ⟦<H as Disk>⟧ command status store.old block.old host.old host.new) }
+    ensures cause { IfErr result (λ status. IsStopped ⟦<H as Disk>⟧ status host.old host.new) }
+    ensures beside { TakesNone ⟦<H as Disk>⟧ host.old host.new }
+{
+    match command {
+        Command::Load { .. } | Command::Checkpoint => {
+            give_block(host, block)?;
+            store.answer(host, command)?;
+        }
+        Command::Export { name } => store.export_into(host, name.as_slice(), block)?,
+        command => {
+            let reply = store.apply(host, command)?;
+            push_reply(block, &reply)?;
+        }
+    }
+    Ok(())
+}
