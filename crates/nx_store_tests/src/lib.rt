@@ -1,8 +1,22 @@
-//! Tests of runs over stores, on hosts in memory. It has nothing but tests, so that all of it is
+//! Tests of stores and of runs over them, on hosts in memory. It has nothing but tests, so that all of it is
 //! proved once.
 #![tactic(auto)]
 
 #[cfg(test)]
+mod damage;
+#[cfg(test)]
+mod documents;
+#[cfg(test)]
 mod init;
 #[cfg(test)]
+mod rows;
+#[cfg(test)]
+mod runs;
+#[cfg(test)]
+mod stops;
+#[cfg(test)]
 mod stores;
+#[cfg(test)]
+mod trials;
+#[cfg(test)]
+mod twins;

@@ -1,0 +1,107 @@
+// Documents, and the lines that load them.
+use nx_tree::NoMemory;
+use std::alloc::{AllocError, Global};
+
+/// A document of four nodes.
+pub const SMALL: &[u8] = b"(a\nAx 1\n-hi\n)a\n";
+
+/// A document with each kind of node.
+pub const BOOK: &[u8] =
+    b"?xml-stylesheet href=\"a.css\"\n(book\nAisbn 0-123\n-\\n  \n(title\n-Trees & pages\n)title\n-\\n\n)book\n";
+
+/// The document of an element over so many texts of so many letters.
+pub fn wide(alloc: Global, texts: usize, letters: usize) -> Result<Vec<u8>, AllocError> {
+    let line = Vec::from_elem(alloc, b'x', letters)?;
+    let mut document = Vec::from_slice(alloc, b"(r\n")?;
+    for _ in 0..texts {
+        document.push(b'-')?;
+        document.extend_from_slice(line.as_slice())?;
+        document.push(b'\n')?;
+    }
+    document.extend_from_slice(b")r\n")?;
+    Ok(document)
+}
+
+/// The lines that load a document under this name.
+pub fn load(alloc: Global, name: &[u8], document: &[u8]) -> Result<Vec<u8>, AllocError> {
+    let parts: [&[u8]; 5] = [b"load ", name, b"\n", document, b".\n"];
+    parts.concat(alloc)
+}
+
+/// Numbers that look random and are the same in each run.
+#[derive(Drop)]
+pub struct Random {
+    state: u64,
+}
+
+impl Random {
+    pub fn new(seed: u64) -> Random {
+        Random { state: seed }
+    }
+
+    /// A number below the bound, or 0 where that is 0.
+    pub fn below(&mut self, bound: u32) -> u32 {
+        self.state = self
+            .state
+            .wrapping_mul(6364136223846793005)
+            .wrapping_add(1442695040888963407);
+        let number = (self.state >> 33) as u32;
+        if bound == 0 { 0 } else { number % bound }
+    }
+
+    /// One of the first letters.
+    pub fn letter(&mut self, letters: u8) -> u8 {
+        b'a'.saturating_add((self.below(u32::from(letters)) % 256) as u8)
+    }
+}
+
+// Adds a content of at most so many letters, which often has as many, and the line's end.
+fn push_content(text: &mut Vec<u8>, random: &mut Random, longest: u32) -> Result<(), AllocError> {
+    let letter = random.letter(26);
+    let letters = match random.below(4) {
+        0 => longest,
+        _ => random.below(longest),
+    };
+    for _ in 0..letters {
+        text.push(letter)?;
+    }
+    text.push(b'\n')?;
+    Ok(())
+}
+
+/// A document with so many lines in its root's element, some of which end elements again, and with contents of
+/// at most so many letters.
+pub fn random_document(
+    alloc: Global,
+    random: &mut Random,
+    lines: u32,
+    longest: u32,
+) -> Result<Vec<u8>, AllocError> {
+    let mut text = Vec::from_slice(alloc, b"?p\n(a\n")?;
+    let mut depth = 0u32;
+    for _ in 0..lines {
+        match random.below(10) {
+            0..=2 if depth < 200 => {
+                text.extend_from_slice(b"(b\nAx \n")?;
+                depth = depth.saturating_add(1);
+            }
+            3 | 4 if depth > 0 => {
+                text.extend_from_slice(b")b\n")?;
+                depth = depth.saturating_sub(1);
+            }
+            5 => {
+                text.extend_from_slice(b"?p ")?;
+                push_content(&mut text, random, longest.saturating_sub(1))?;
+            }
+            _ => {
+                text.push(b'-')?;
+                push_content(&mut text, random, longest)?;
+            }
+        }
+    }
+    for _ in 0..depth {
+        text.extend_from_slice(b")b\n")?;
+    }
+    text.extend_from_slice(b")a\n?q\n")?;
+    Ok(text)
+}
