@@ -1,0 +1,54 @@
+-- What the bound of room counts.
+use Rattle.std.proofs.Common.{◌≡◌, ℕ, ◌+◌, List, Option, None, Some, ap, ◌∙◌, arith}
+use Rattle.std.specs.Prelude.{option_map}
+use Rattle.std.specs.FinMap.{get, contains_key, insert}
+use Rattle.nx_tree.specs.Forest.{OrderedTree, nodes}
+use Rattle.nx_tree.specs.Edit.{put, cut_at, retext}
+use Rattle.nx_cuts.specs.Cut.{CutTree, tree_of}
+use Rattle.nx_script.specs.declared.command.LoadBody.TheVariants as load
+use Rattle.nx_script.specs.declared.command.LineBody.TheVariants as line
+use Rattle.nx_script.specs.declared.command.TextBody.TheVariants as content
+use Rattle.nx_script.specs.declared.command.Command.TheVariants.{Load, Discard, Names, Export, Insert, Delete, Retext, Get, Layout, SetRule, Rules, Checkpoint, Bad}
+use Rattle.nx_script.specs.declared.reply.ReplyError.{ReplyError}
+use Rattle.nx_engine.specs.Step.{edited, insert_fault, delete_fault, retext_fault}
+use Rattle.nx_engine.proofs.EditedLemmas.{edited_at}
+use Rattle.nx_state.specs.State.{State, size_of, all_nodes}
+use Rattle.nx_steps.specs.Refusal.{document_fault, load_fault, inserted_fault, retexted_fault}
+use Rattle.nx_steps.specs.Step.{trees, nodes_of}
+use Rattle.nx_steps.specs.Laws.{RoomIsCounted}
+use Rattle.nx_steps.proofs.TreesLemmas.{get-trees, nodes-trees, nodes-other}
+use Rattle.nx_steps.proofs.TreesLaw.{new_name, none_of, first_of_two}
+use Rattle.nx_steps.proofs.StoreLaw.{load_nodes}
+
+-- an edit that isn't refused
+edit_counted : (state : State) (name : List ℕ) (fault : OrderedTree → Option ReplyError) (change : OrderedTree → OrderedTree) (old : CutTree) → get state.documents name ≡ Some old
+    → document_fault state name fault ≡ None → nodes_of (edited (trees state) name fault change) + size_of old ≡ all_nodes state + (1 + nodes (change (tree_of old)).below)
+edit_counted state name fault change old there none =
+    let found : get (trees state) name ≡ Some (tree_of old) = get-trees state name ∙ ap (option_map tree_of) there in
+    let e : nodes_of (edited (trees state) name fault change) ≡ nodes_of (insert (trees state) name (change (tree_of old))) =
+    ap nodes_of (edited_at (trees state) name (tree_of old) fault change None found (none_of state name old fault there none)) in
+    let n = nodes-other (trees state) name (tree_of old) (change (tree_of old)) found in
+    let t = nodes-trees state in
+    omega (arith, e, n, t)
+
+pub room_counted : RoomIsCounted
+room_counted state (Load name (load.Wrong error)) none = tt
+room_counted state (Load name (load.Read tree)) none = load_nodes state name tree (new_name (contains_key state.documents name) (load_fault (state.settings).k (load.Read tree)) none)
+room_counted state (Discard name) none = tt
+room_counted state Names none = tt
+room_counted state (Export name) none = tt
+room_counted state (Insert name path (line.Wrong error)) none = tt
+room_counted state (Insert name path (line.Read node)) none = λ old there.
+    edit_counted state name (insert_fault path (line.Read node)) (put node path) old there
+    (first_of_two state name (insert_fault path (line.Read node)) (λ tree. inserted_fault (state.settings).k path (line.Read node)) old there none)
+room_counted state (Delete name path) none = λ old there. edit_counted state name (delete_fault path) (cut_at path) old there none
+room_counted state (Retext name path (content.Wrong error)) none = tt
+room_counted state (Retext name path (content.Read bytes)) none = λ old there.
+    edit_counted state name (retext_fault path (content.Read bytes)) (retext bytes path) old there
+    (first_of_two state name (retext_fault path (content.Read bytes)) (retexted_fault (state.settings).k path (content.Read bytes)) old there none)
+room_counted state (Get name path) none = tt
+room_counted state (Layout name) none = tt
+room_counted state (SetRule rule) none = nodes-trees state
+room_counted state Rules none = tt
+room_counted state Checkpoint none = tt
+room_counted state Bad none = tt

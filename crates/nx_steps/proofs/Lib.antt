@@ -1,0 +1,14 @@
+pub mod TreesLemmas
+pub mod StoreLaw
+pub mod EditLemmas
+pub mod SplitLemmas
+pub mod TreesLaw
+pub mod DeleteLemmas
+pub mod OwnLemmas
+pub mod DividedLemmas
+pub mod FeasibleLemmas
+pub mod StoredLemmas
+pub mod PieceLemmas
+pub mod AgreeLemmas
+pub mod CountLemmas
+pub mod PlacementLemmas
