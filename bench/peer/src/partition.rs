@@ -8,7 +8,7 @@ use crate::tree::Tree;
 
 /// How a node lies in a partitioning.
 #[derive(Clone, Copy, PartialEq)]
-enum Cut {
+pub enum Cut {
     /// In the part of its parent.
     Uncut,
     /// As the first member of an interval.
@@ -21,16 +21,10 @@ enum Cut {
 /// and the minima of each node's subtree.
 pub fn plan(document: &Tree, k: u32) -> Result<Plan, String> {
     let shape = Shape::new(document);
-    if let Some(node) = shape.weights.iter().position(|&weight| weight > k) {
-        let mut path = Vec::new();
-        write_path(&shape.path(node), &mut path).expect("memory");
-        let path = String::from_utf8_lossy(&path);
-        return Err(format!("too-heavy {path} {}", shape.weights[node]));
-    }
-    let bounds = minima(&shape, k);
+    let Lean { cuts, bounds } = lean(&shape, k)?;
     let mut assembly = Assembly {
         shape: &shape,
-        cuts: &cuts(&shape, k, &bounds),
+        cuts: &cuts,
         path: Vec::new(),
         parts: vec![Interval::Root],
         weights: vec![shape.weights[0].into()],
@@ -42,6 +36,29 @@ pub fn plan(document: &Tree, k: u32) -> Result<Plan, String> {
         weights,
         bounds,
     })
+}
+
+/// A lean optimal partitioning by nodes: how each lies in it, and the minima of its subtree.
+pub struct Lean {
+    pub cuts: Vec<Cut>,
+    bounds: Vec<Bound>,
+}
+
+pub fn lean(shape: &Shape, k: u32) -> Result<Lean, String> {
+    check_weights(shape, k)?;
+    let bounds = minima(shape, k);
+    let cuts = cuts(shape, k, &bounds);
+    Ok(Lean { cuts, bounds })
+}
+
+fn check_weights(shape: &Shape, k: u32) -> Result<(), String> {
+    let Some(node) = shape.weights.iter().position(|&weight| weight > k) else {
+        return Ok(());
+    };
+    let mut path = Vec::new();
+    write_path(&shape.path(node), &mut path).expect("memory");
+    let path = String::from_utf8_lossy(&path);
+    Err(format!("too-heavy {path} {}", shape.weights[node]))
 }
 
 fn build(fronts: &mut Fronts, shape: &Shape, k: u32, bounds: &[Bound], node: usize) {

@@ -138,7 +138,8 @@ impl Reader {
         Ok(())
     }
 
-    fn line(&mut self, line: &[u8]) -> Result<(), Refusal> {
+    /// Takes a line that is whole, where no other one is begun.
+    pub fn line(&mut self, line: &[u8]) -> Result<(), Refusal> {
         self.lines += 1;
         let line = line.strip_suffix(b"\r").unwrap_or(line);
         let read = match line.split_first() {
@@ -320,11 +321,10 @@ pub fn write_tree(tree: &Tree, out: &mut impl Write) -> io::Result<()> {
 
 /// The line of a node, with its LF.
 pub fn write_node(node: &Node, out: &mut impl Write) -> io::Result<()> {
-    let Node {
-        kind,
-        name,
-        content,
-    } = node;
+    write_parts(node.kind, &node.name, &node.content, out)
+}
+
+pub fn write_parts(kind: Kind, name: &[u8], content: &[u8], out: &mut impl Write) -> io::Result<()> {
     match kind {
         Kind::Doc => write_line(&[b"#doc"], content, out),
         Kind::Element => write_line(&[b"(", name], content, out),

@@ -33,7 +33,8 @@ impl Shape {
         self.sizes.len()
     }
 
-    fn end(&self, node: usize) -> usize {
+    /// The number behind those of a node and all below it.
+    pub fn end(&self, node: usize) -> usize {
         node + self.sizes[node] as usize
     }
 

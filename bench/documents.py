@@ -1,0 +1,261 @@
+"""The documents that the benchmarks read, each as its canonical lines in PYX.
+
+Places and lengths are drawn with fixed seeds, so that each run has the same ones.
+"""
+
+import math
+import random
+
+NODE_LIMIT = 524_288
+DEPTH_LIMIT = 256
+CONTENT_LIMIT = 1_048_576
+
+SENTENCE = "A page of plain prose without marks, long enough to be cut anywhere; "
+PROSE = SENTENCE * (CONTENT_LIMIT // len(SENTENCE) + 2)
+
+# The sentence's words, each with one of the four escapes after it.
+ESCAPES = (r"\n", r"\t", r"\r", r"\\")
+ESCAPED = [word + ESCAPES[at % 4] for at, word in enumerate(SENTENCE.split() * 4)]
+
+
+def prose(index, length):
+    begin = index % len(SENTENCE)
+    return PROSE[begin : begin + length]
+
+
+def text(index, length):
+    return "-" + prose(index, length)
+
+
+def siblings(name, nodes):
+    """One element over texts and empty elements in turn."""
+    yield f"({name}"
+    for index in range(nodes - 2):
+        if index % 2 == 0:
+            yield text(index, 1 + index % 31)
+        else:
+            yield "(item"
+            yield ")item"
+    yield f"){name}"
+
+
+def flat():
+    """One element over as many texts and empty elements as a document may have."""
+    return siblings("flat", NODE_LIMIT)
+
+
+def nested():
+    """Elements in each other, each with a text of 100 KB to 900 KB before the next one."""
+    levels = 84
+    for level in range(levels):
+        yield f"(level{level}"
+        # 37 has no divisor in common with 84, so each of 84 lengths comes once.
+        yield text(level, 100_000 + level * 37 % levels * 800_000 // (levels - 1))
+    for level in reversed(range(levels)):
+        yield f")level{level}"
+
+
+def deep():
+    """Chains of elements from the root down to a text at the depth limit."""
+    yield "(deep"
+    depths = range(2, DEPTH_LIMIT)
+    for chain in range((NODE_LIMIT - 2) // (len(depths) + 1)):
+        yield from (f"(at{depth}" for depth in depths)
+        yield text(chain, 20)
+        yield from (f")at{depth}" for depth in reversed(depths))
+    yield ")deep"
+
+
+def line():
+    """One element over one text as long as a text may be."""
+    yield "(line"
+    yield text(0, CONTENT_LIMIT)
+    yield ")line"
+
+
+def attributes():
+    """Elements with eight attributes each."""
+    yield "(attributes"
+    for index in range(30_000):
+        yield "(item"
+        yield from (f"Akey{at} {prose(index + at, (index + at) % 31)}" for at in range(8))
+        yield ")item"
+    yield ")attributes"
+
+
+def many():
+    """One element with many attributes."""
+    yield "(many"
+    yield from (f"Akey{index} {prose(index, index % 31)}" for index in range(100_000))
+    yield ")many"
+
+
+def escapes():
+    """Texts with an escape after each word."""
+    yield "(escapes"
+    pieces = ESCAPED * 5
+    for index in range(8_500):
+        begin = index % len(ESCAPED)
+        yield "-" + "".join(pieces[begin : begin + 50 + index % 201])
+    yield ")escapes"
+
+
+def instructions():
+    """One element over as many instructions and texts, in turn, as a document may have."""
+    yield "(instructions"
+    for index in range(NODE_LIMIT - 2):
+        if index % 2 == 0:
+            yield f"?step {prose(index, index % 31)}".rstrip(" ")
+        else:
+            yield text(index, index % 31)
+    yield ")instructions"
+
+
+# With the nodes that are inserted later, nearly as many nodes as a document may have.
+RECORDS = 122_400
+GROUP = 100
+
+
+def records():
+    """One element over groups of records, each with an attribute and two texts."""
+    yield "(records"
+    for index in range(RECORDS):
+        if index % GROUP == 0:
+            yield "(group"
+        yield "(record"
+        yield f"Aid {index}"
+        yield text(index, index % 31)
+        yield text(index, 5)
+        yield ")record"
+        if index % GROUP == GROUP - 1:
+            yield ")group"
+    yield ")records"
+
+
+def load(name, lines):
+    yield f"load {name}"
+    yield from lines
+    yield "."
+
+
+# Those that are partitioned, for a number of nodes and a `k`.
+
+
+def weight(length):
+    """What a text of so many bytes weighs."""
+    return 1 + math.ceil(length / 8)
+
+
+def table(nodes, _):
+    """One element over records, each with an attribute and an element over a text."""
+    yield "(table"
+    for index in range((nodes - 2) // 4):
+        yield "(record"
+        yield f"Aid {index}"
+        yield "(name"
+        yield text(index, index % 31)
+        yield ")name"
+        yield ")record"
+    yield ")table"
+
+
+def sections(nodes, k):
+    """Sections in each other, each with texts. Those heavier than k are left out."""
+    draw = random.Random(2)
+    depth, left = 0, nodes - 2
+    yield "(book"
+    while left > 0:
+        step = draw.random()
+        if step < 0.1 and depth < 8:
+            yield "(section"
+            depth, left = depth + 1, left - 1
+        elif step < 0.2 and depth > 0:
+            yield ")section"
+            depth -= 1
+        else:
+            length = int(505 * draw.random() ** 4)
+            if weight(length) <= k:
+                yield text(left, length)
+                left -= 1
+    yield from [")section"] * depth
+    yield ")book"
+
+
+def wide(nodes, _):
+    """One element over texts and empty elements in turn."""
+    return siblings("wide", nodes)
+
+
+def savings(nodes, k):
+    """Light texts and heavy elements in turn; an element is light without its texts."""
+    texts = math.isqrt(k)
+    yield "(savings"
+    for index in range((nodes - 2) // (texts + 2)):
+        yield text(index, 8 * (index % 3))
+        yield "(part"
+        slots = k - weight(len("part")) - index * 7 % (k // 4)
+        for at in range(texts):
+            yield text(index, 8 * ((slots + at) // texts - 1))
+        yield ")part"
+    yield ")savings"
+
+
+# Those that are put into stores.
+
+
+def long():
+    """Parts of forty texts of 1,000 to 2,000 bytes: 42 megabytes, and no node too heavy for 256 slots."""
+    yield "(long"
+    for index in range(28_000):
+        if index % 40 == 0:
+            yield "(part"
+        yield text(index, 1_000 + index * 37 % 1_001)
+        if index % 40 == 39:
+            yield ")part"
+    yield ")long"
+
+
+def thousand():
+    """A thousand documents of 500 nodes, by their names."""
+
+    def lines(number):
+        yield "(document"
+        for index in range(124):
+            yield "(record"
+            yield f"Aid {124 * number + index}"
+            yield text(index, index % 31)
+            yield text(index, 5)
+            yield ")record"
+        yield text(number, 30)
+        yield text(number, 20)
+        yield ")document"
+
+    return [(f"d{number}", lambda number=number: lines(number)) for number in range(1_000)]
+
+
+def record_gets():
+    """100,000 commands `get` at random places of `records`."""
+    draw = random.Random(3)
+    for _ in range(100_000):
+        record = draw.randrange(RECORDS)
+        yield f"get d /0/{record // GROUP}/{record % GROUP}/{draw.randrange(3)}"
+
+
+def rows(lines):
+    """The nodes of a document below its root: number, number of the parent, position, kind, name and content."""
+    number = 0
+    # The open nodes, and how many children each has so far.
+    parents, counts = [0], [0]
+    for line in lines:
+        code, rest = line[0], line[1:]
+        if code == ")":
+            parents.pop()
+            counts.pop()
+            continue
+        number += 1
+        name, _, content = ("", "", rest) if code == "-" else rest.partition(" ")
+        yield number, parents[-1], counts[-1], code, name, content
+        counts[-1] += 1
+        if code == "(":
+            parents.append(number)
+            counts.append(0)

@@ -1,0 +1,103 @@
+//! A store in natix's files without proofs: `init` makes one, and `run` answers `load`, `names`, `get`, `export`,
+//! `layout` and `checkpoint` from it, with the same replies and the same syncs. It reads documents and partitions
+//! them as `bench/peer` does.
+
+mod building;
+mod catalog;
+mod header;
+mod log;
+mod page;
+mod piece;
+mod records;
+mod script;
+mod showing;
+mod slots;
+mod store;
+
+#[allow(dead_code)]
+#[path = "../../peer/src/fields.rs"]
+mod fields;
+#[allow(dead_code)]
+#[path = "../../peer/src/fronts.rs"]
+mod fronts;
+#[allow(dead_code)]
+#[path = "../../peer/src/partition.rs"]
+mod partition;
+#[allow(dead_code)]
+#[path = "../../peer/src/parts.rs"]
+mod parts;
+#[allow(dead_code)]
+#[path = "../../peer/src/pyx.rs"]
+mod pyx;
+#[allow(dead_code)]
+#[path = "../../peer/src/shape.rs"]
+mod shape;
+#[allow(dead_code)]
+#[path = "../../peer/src/tree.rs"]
+mod tree;
+
+use std::env;
+use std::io;
+use std::process::ExitCode;
+use store::Store;
+
+/// Why a run, or a call of the store, gives up.
+pub enum Failure {
+    Usage,
+    /// There is a page already.
+    Exists,
+    Disk,
+    Read,
+    Write,
+    NotAStore,
+    /// With the page that shows it.
+    Damaged(u32),
+    TooMuch,
+    /// No page is free.
+    Full,
+}
+
+/// A failed call of a file of the store. Those of input and output are told apart where they are made.
+impl From<io::Error> for Failure {
+    fn from(_: io::Error) -> Failure {
+        Failure::Disk
+    }
+}
+
+fn init(name: &str, k: &str) -> Result<(), Failure> {
+    let k = fields::number_of(k.as_bytes()).filter(|k| (1..=256).contains(k));
+    Store::create(name, k.ok_or(Failure::Usage)? as u16)?;
+    println!("ok");
+    Ok(())
+}
+
+fn run(name: &str) -> Result<(), Failure> {
+    let store = Store::open(name)?;
+    script::run(store, io::stdin().lock(), io::stdout())
+}
+
+fn main() -> ExitCode {
+    let words: Vec<String> = env::args().skip(1).collect();
+    let words: Vec<&str> = words.iter().map(String::as_str).collect();
+    let ended = match words[..] {
+        [name, "init", k] => init(name, k),
+        [name, "run"] => run(name),
+        _ => Err(Failure::Usage),
+    };
+    let (status, message) = match ended {
+        Ok(()) => return ExitCode::SUCCESS,
+        Err(Failure::Exists) => {
+            println!("refused exists");
+            return ExitCode::from(2);
+        }
+        Err(Failure::Usage) => (1, "usage: store_peer STORE init K | run".to_string()),
+        Err(Failure::Disk | Failure::Full) => (3, "disk fault".to_string()),
+        Err(Failure::Read) => (4, "read fault".to_string()),
+        Err(Failure::Write) => (5, "write fault".to_string()),
+        Err(Failure::NotAStore) => (7, "not a store".to_string()),
+        Err(Failure::Damaged(page)) => (8, format!("damaged page {page}")),
+        Err(Failure::TooMuch) => (9, "too much input".to_string()),
+    };
+    eprintln!("{message}");
+    ExitCode::from(status)
+}

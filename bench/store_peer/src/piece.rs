@@ -1,0 +1,289 @@
+//! Records of a piece: the nodes of a part, and proxies for what hangs below them.
+
+use crate::page::{is_zero, set, u16_at, u32_at};
+use crate::records::Place;
+use crate::tree::{Kind, Node};
+use std::iter::from_fn;
+
+const HEAD: usize = 16;
+const RUN: u8 = 6;
+const PROXY: usize = 8;
+/// A record with its proxies has at most so many bytes; else these stand in a list.
+const LONGEST: usize = 8_176;
+const MOST_SLOTS: u32 = 256;
+const MOST_ROOTS: u16 = 256;
+const MOST_PROXIES: u32 = 524_288;
+
+/// A record, and how many trees it holds beside each other.
+#[derive(Clone, Copy)]
+pub struct Proxy {
+    pub place: Place,
+    pub roots: u16,
+}
+
+/// A piece that grows in document order, as the bytes of its record.
+pub struct Growing {
+    bytes: Vec<u8>,
+    items: u32,
+    proxies: Vec<u8>,
+}
+
+impl Growing {
+    pub fn new() -> Growing {
+        Growing {
+            bytes: vec![0; HEAD],
+            items: 0,
+            proxies: Vec::new(),
+        }
+    }
+
+    /// Adds a node, and answers where the number of its child items is to be put.
+    pub fn push_node(&mut self, node: &Node) -> usize {
+        let at = self.bytes.len();
+        let (name, content) = (&node.name, &node.content);
+        self.bytes.extend([code(node.kind), 0]);
+        self.bytes.extend((name.len() as u16).to_be_bytes());
+        self.bytes.extend((content.len() as u16).to_be_bytes());
+        self.bytes.extend([0, 0]);
+        self.bytes.extend_from_slice(name);
+        self.bytes.extend_from_slice(content);
+        self.bytes.resize(self.bytes.len().next_multiple_of(8), 0);
+        self.items += 1;
+        at + 6
+    }
+
+    pub fn set_items(&mut self, at: usize, count: u16) {
+        set(&mut self.bytes, at, &count.to_be_bytes());
+    }
+
+    /// Adds a run without proxies, and answers where it is.
+    pub fn push_run(&mut self) -> usize {
+        self.bytes.extend([RUN, 0, 0, 0, 0, 0, 0, 0]);
+        self.items += 1;
+        self.bytes.len() - 8
+    }
+
+    /// Adds a proxy to the run there, which is the last one.
+    pub fn push_proxy(&mut self, run: usize, proxy: Proxy) {
+        let count = u32_at(&self.bytes, run + 4) + 1;
+        set(&mut self.bytes, run + 4, &count.to_be_bytes());
+        self.proxies.extend(proxy.place.page.to_be_bytes());
+        self.proxies.extend(proxy.place.slot.to_be_bytes());
+        self.proxies.extend(proxy.roots.to_be_bytes());
+    }
+
+    /// The proxies, where they have no room in the record.
+    pub fn long_proxies(&self) -> Option<&[u8]> {
+        (self.bytes.len() + self.proxies.len() > LONGEST).then_some(&self.proxies)
+    }
+
+    /// The bytes of the record, with the list of its proxies where it has one.
+    pub fn record(&mut self, roots: u16, list: Option<u32>) -> &[u8] {
+        let count = (self.proxies.len() / PROXY) as u32;
+        self.bytes[0] = if list.is_some() { 2 } else { 1 };
+        set(&mut self.bytes, 2, &roots.to_be_bytes());
+        set(&mut self.bytes, 4, &self.items.to_be_bytes());
+        set(&mut self.bytes, 8, &count.to_be_bytes());
+        set(&mut self.bytes, 12, &list.unwrap_or(0).to_be_bytes());
+        if list.is_none() {
+            self.bytes.extend_from_slice(&self.proxies);
+        }
+        &self.bytes
+    }
+
+    /// Empties the piece, and keeps its room.
+    pub fn clear(&mut self) {
+        self.bytes.clear();
+        self.bytes.resize(HEAD, 0);
+        self.items = 0;
+        self.proxies.clear();
+    }
+}
+
+fn code(kind: Kind) -> u8 {
+    match kind {
+        Kind::Doc => 1,
+        Kind::Element => 2,
+        Kind::Attribute => 3,
+        Kind::Text => 4,
+        Kind::Instruction => 5,
+    }
+}
+
+fn kind_of(code: u8) -> Option<Kind> {
+    Some(match code {
+        1 => Kind::Doc,
+        2 => Kind::Element,
+        3 => Kind::Attribute,
+        4 => Kind::Text,
+        5 => Kind::Instruction,
+        _ => return None,
+    })
+}
+
+/// What stands at one place below a node, or is a root.
+#[derive(Clone, Copy)]
+pub enum What<'a> {
+    Node {
+        kind: Kind,
+        name: &'a [u8],
+        content: &'a [u8],
+    },
+    /// So many of the next proxies.
+    Run(u32),
+}
+
+#[derive(Clone, Copy)]
+pub struct Item<'a> {
+    pub what: What<'a>,
+    /// The index of the item behind this one and all below it.
+    pub end: u32,
+    /// How many proxies stand before it.
+    pub before: u32,
+}
+
+/// A record that was read and checked. Its items stand in document order.
+pub struct Piece<'a> {
+    pub items: Vec<Item<'a>>,
+    pub roots: u16,
+    /// What its nodes weigh.
+    pub weight: u32,
+    proxies: &'a [u8],
+    proxy_count: u32,
+}
+
+/// The first page of the list of a record's proxies and its length, where they don't stand in the record.
+pub fn list_of(record: &[u8]) -> Option<(u32, u64)> {
+    let listed = record.len() >= HEAD && record[0] == 2;
+    listed.then(|| {
+        (
+            u32_at(record, 12),
+            PROXY as u64 * u64::from(u32_at(record, 8)),
+        )
+    })
+}
+
+/// The bytes of a record that are left, and what the rest of the piece may have.
+struct Rest<'a> {
+    bytes: &'a [u8],
+    items: u32,
+    proxies: u32,
+}
+
+impl<'a> Piece<'a> {
+    /// The piece of a record and of the list of its proxies, if it has one.
+    pub fn read(record: &'a [u8], list: &'a [u8]) -> Option<Piece<'a>> {
+        let (head, bytes) = record.split_at_checked(HEAD)?;
+        let mut rest = Rest {
+            bytes,
+            items: u32_at(head, 4),
+            proxies: 0,
+        };
+        let mut piece = Piece {
+            items: Vec::with_capacity((bytes.len() / 8).min(rest.items as usize)),
+            roots: u16_at(head, 2),
+            weight: 0,
+            proxies: list,
+            proxy_count: u32_at(head, 8),
+        };
+        let few = (1..=MOST_ROOTS).contains(&piece.roots) && piece.proxy_count <= MOST_PROXIES;
+        if head[1] != 0 || !few {
+            return None;
+        }
+        for _ in 0..piece.roots {
+            piece.item(&mut rest, false)?;
+        }
+        let length = PROXY * piece.proxy_count as usize;
+        let whole = record.len() - rest.bytes.len() + length;
+        let formed = match head[0] {
+            1 => u32_at(head, 12) == 0 && whole <= LONGEST && rest.bytes.len() == length,
+            2 => whole > LONGEST && rest.bytes.is_empty() && list.len() == length,
+            _ => false,
+        };
+        if head[0] == 1 {
+            piece.proxies = rest.bytes;
+        }
+        let fits = |proxy: &[u8]| (1..=MOST_ROOTS).contains(&u16_at(proxy, 6));
+        let all = rest.items == 0 && rest.proxies == piece.proxy_count;
+        (formed && all && piece.proxies.chunks_exact(PROXY).all(fits)).then_some(piece)
+    }
+
+    /// Reads an item with all below it. A node weighs at least a slot, so that the recursion ends.
+    fn item(&mut self, rest: &mut Rest<'a>, may_run: bool) -> Option<()> {
+        let (head, bytes) = rest.bytes.split_at_checked(8)?;
+        rest.items = rest.items.checked_sub(1)?;
+        let at = self.items.len();
+        let mut item = Item {
+            what: What::Run(u32_at(head, 4)),
+            end: at as u32 + 1,
+            before: rest.proxies,
+        };
+        if head[0] == RUN {
+            let count = u32_at(head, 4);
+            if !may_run
+                || !is_zero(&head[1..4])
+                || count == 0
+                || count > self.proxy_count - rest.proxies
+            {
+                return None;
+            }
+            rest.proxies += count;
+            rest.bytes = bytes;
+            self.items.push(item);
+            return Some(());
+        }
+        let name = usize::from(u16_at(head, 2));
+        let text = name + usize::from(u16_at(head, 4));
+        let (text, pad) = bytes
+            .split_at_checked(text.next_multiple_of(8))?
+            .0
+            .split_at(text);
+        self.weight += 1 + text.len().div_ceil(8) as u32;
+        if head[1] != 0 || !is_zero(pad) || self.weight > MOST_SLOTS {
+            return None;
+        }
+        item.what = What::Node {
+            kind: kind_of(head[0])?,
+            name: &text[..name],
+            content: &text[name..],
+        };
+        rest.bytes = &bytes[text.len() + pad.len()..];
+        self.items.push(item);
+        let mut after_run = false;
+        for _ in 0..u16_at(head, 6) {
+            let child = self.items.len();
+            self.item(rest, !after_run)?;
+            after_run = matches!(self.items[child].what, What::Run(_));
+        }
+        self.items[at].end = self.items.len() as u32;
+        Some(())
+    }
+
+    pub fn proxy(&self, index: u32) -> Proxy {
+        let proxy = &self.proxies[PROXY * index as usize..][..PROXY];
+        Proxy {
+            place: Place {
+                page: u32_at(proxy, 0),
+                slot: u16_at(proxy, 4),
+            },
+            roots: u16_at(proxy, 6),
+        }
+    }
+
+    /// The proxies of the run that is this item.
+    pub fn proxies(&self, item: &Item, count: u32) -> impl Iterator<Item = Proxy> {
+        (item.before..item.before + count).map(|index| self.proxy(index))
+    }
+
+    /// The items from one up to an end that stand beside each other, by their indexes.
+    pub fn beside(&self, first: u32, end: u32) -> impl Iterator<Item = u32> {
+        let mut next = first;
+        from_fn(move || {
+            let item = next;
+            (item < end).then(|| {
+                next = self.items[item as usize].end;
+                item
+            })
+        })
+    }
+}

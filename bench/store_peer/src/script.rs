@@ -1,0 +1,250 @@
+//! Scripts over a store: commands in, replies out.
+
+use crate::Failure;
+use crate::catalog::Entry;
+use crate::fields::{field, path_of};
+use crate::pyx::{CONTENT_LIMIT, Reader, Refusal};
+use crate::showing;
+use crate::store::Store;
+use std::io::{BufRead, ErrorKind, Read, Write};
+
+/// The bytes of input that are read at once, and those of replies that are given at once.
+pub const BLOCK: usize = 65_536;
+const INPUT_LIMIT: u64 = 4_294_967_296;
+/// The bytes of a line that is part of no document.
+const LINE_LIMIT: usize = 4_194_304;
+
+/// A document whose lines come.
+struct Load {
+    name: Option<Vec<u8>>,
+    reader: Reader,
+    refusal: Option<Refusal>,
+}
+
+struct Session<W> {
+    store: Store,
+    load: Option<Load>,
+    /// The beginning of a line that goes on in the next piece.
+    pending: Vec<u8>,
+    replies: Vec<u8>,
+    out: W,
+}
+
+/// What a command is answered: lines that were added to the replies, or the word of a refusal.
+type Reply = Result<Result<(), &'static str>, Failure>;
+
+/// Where the line ends that begins here.
+fn line_end(mut piece: &[u8]) -> Option<usize> {
+    let whole = piece;
+    // The search of the standard library, which is a fast one.
+    let length = piece.skip_until(b'\n').expect("bytes in memory");
+    whole[..length].ends_with(b"\n").then(|| length - 1)
+}
+
+impl<W: Write> Session<W> {
+    fn feed(&mut self, mut piece: &[u8]) -> Result<(), Failure> {
+        while let Some(end) = line_end(piece) {
+            if self.pending.is_empty() {
+                self.line(&piece[..end])?;
+            } else {
+                self.keep(&piece[..end]);
+                let mut line = std::mem::take(&mut self.pending);
+                self.line(&line)?;
+                line.clear();
+                self.pending = line;
+            }
+            piece = &piece[end + 1..];
+        }
+        self.keep(piece);
+        self.give()
+    }
+
+    fn keep(&mut self, part: &[u8]) {
+        let limit = if self.load.is_some() {
+            2 * CONTENT_LIMIT + 4
+        } else {
+            LINE_LIMIT + 2
+        };
+        let room = limit.saturating_sub(self.pending.len());
+        self.pending
+            .extend_from_slice(&part[..part.len().min(room)]);
+    }
+
+    fn give(&mut self) -> Result<(), Failure> {
+        let given = self.out.write_all(&self.replies);
+        self.replies.clear();
+        given.map_err(|_| Failure::Write)
+    }
+
+    fn finish(&mut self) -> Result<(), Failure> {
+        if !self.pending.is_empty() {
+            let line = std::mem::take(&mut self.pending);
+            self.line(&line)?;
+        }
+        if self.load.take().is_some() {
+            self.error("syntax");
+        }
+        self.give()
+    }
+
+    fn line(&mut self, line: &[u8]) -> Result<(), Failure> {
+        let stripped = line.strip_suffix(b"\r").unwrap_or(line);
+        if let Some(load) = &mut self.load {
+            if stripped == b"." {
+                let load = self.load.take().expect("a load");
+                return self.loaded(load);
+            }
+            if load.refusal.is_none() {
+                load.refusal = load.reader.line(line).err();
+            }
+            return Ok(());
+        }
+        if stripped == b"load" || stripped.starts_with(b"load ") {
+            let name = stripped
+                .get(5..)
+                .filter(|name| is_name(name) && stripped.len() <= LINE_LIMIT);
+            self.load = Some(Load {
+                name: name.map(<[u8]>::to_vec),
+                reader: Reader::default(),
+                refusal: None,
+            });
+            return Ok(());
+        }
+        if let Err(word) = self.command(stripped)? {
+            self.error(word);
+        }
+        if self.replies.len() >= BLOCK {
+            self.give()?;
+        }
+        Ok(())
+    }
+
+    fn error(&mut self, words: &str) {
+        writeln!(self.replies, "error {words}").expect("memory");
+    }
+
+    fn loaded(&mut self, load: Load) -> Result<(), Failure> {
+        let Some(name) = load.name else {
+            self.error("syntax");
+            return Ok(());
+        };
+        if self.store.entry(&name).is_some() {
+            self.error("exists");
+            return Ok(());
+        }
+        let read = match load.refusal {
+            Some(refusal) => Err(refusal),
+            None => load.reader.finish(),
+        };
+        let document = match read {
+            Ok(document) => document,
+            Err(Refusal(line, fault)) => {
+                self.error(&format!("pyx {line} {}", fault.word()));
+                return Ok(());
+            }
+        };
+        // Earlier replies are out before a commit begins.
+        self.give()?;
+        match self.store.load(&name, &document)? {
+            Ok(loaded) => {
+                writeln!(self.replies, "ok {} {}", loaded.nodes, loaded.intervals).expect("memory");
+            }
+            Err(refusal) => self.error(&refusal),
+        }
+        Ok(())
+    }
+
+    fn command(&mut self, line: &[u8]) -> Reply {
+        if line.len() > LINE_LIMIT {
+            return Ok(Err("syntax"));
+        }
+        match line {
+            b"names" => return self.names(),
+            b"checkpoint" => return self.checkpoint(),
+            _ => {}
+        }
+        match field(line) {
+            Some((b"get", rest)) => self.get(rest),
+            Some((word @ (b"export" | b"layout"), name)) if is_name(name) => {
+                match self.store.entry(name) {
+                    Some(entry) => self.show(word, entry),
+                    None => Ok(Err("no-document")),
+                }
+            }
+            _ => Ok(Err("syntax")),
+        }
+    }
+
+    fn names(&mut self) -> Reply {
+        for (name, entry) in &self.store.catalog.documents {
+            self.replies.extend_from_slice(b"doc ");
+            self.replies.extend_from_slice(name);
+            writeln!(self.replies, " {}", entry.nodes).expect("memory");
+        }
+        self.replies.extend_from_slice(b".\n");
+        Ok(Ok(()))
+    }
+
+    fn checkpoint(&mut self) -> Reply {
+        self.give()?;
+        self.store.records.checkpoint()?;
+        self.replies.extend_from_slice(b"ok\n");
+        Ok(Ok(()))
+    }
+
+    /// Adds a whole document to the replies, its text or its intervals.
+    fn show(&mut self, word: &[u8], entry: Entry) -> Reply {
+        let (records, replies) = (&mut self.store.records, &mut self.replies);
+        match word {
+            b"export" => showing::export(records, entry, replies, &mut self.out)?,
+            _ => showing::layout(records, entry, replies)?,
+        }
+        self.replies.extend_from_slice(b".\n");
+        Ok(Ok(()))
+    }
+
+    fn get(&mut self, rest: &[u8]) -> Reply {
+        let words = field(rest).filter(|(name, _)| is_name(name));
+        let Some((name, Some(path))) = words.map(|(name, path)| (name, path_of(path))) else {
+            return Ok(Err("syntax"));
+        };
+        let Some(entry) = self.store.entry(name) else {
+            return Ok(Err("no-document"));
+        };
+        let found = showing::get(
+            &mut self.store.records,
+            entry.root,
+            &path,
+            &mut self.replies,
+        )?;
+        Ok(if found { Ok(()) } else { Err("no-node") })
+    }
+}
+
+fn is_name(name: &[u8]) -> bool {
+    !name.is_empty()
+        && name.len() <= 255
+        && name[0] != b'-'
+        && name.iter().all(|byte| (b'!'..=b'~').contains(byte))
+}
+
+pub fn run(store: Store, input: impl Read, out: impl Write) -> Result<(), Failure> {
+    let mut session = Session {
+        store,
+        load: None,
+        pending: Vec::new(),
+        replies: Vec::new(),
+        out,
+    };
+    let mut input = input.take(INPUT_LIMIT);
+    let mut block = vec![0; BLOCK];
+    loop {
+        match input.read(&mut block) {
+            Ok(0) if input.limit() == 0 => return Err(Failure::TooMuch),
+            Ok(0) => return session.finish(),
+            Ok(length) => session.feed(&block[..length])?,
+            Err(error) if error.kind() == ErrorKind::Interrupted => {}
+            Err(_) => return Err(Failure::Read),
+        }
+    }
+}

@@ -1,0 +1,293 @@
+//! Stored documents: the node at a path, the text, the layout.
+
+use crate::Failure;
+use crate::catalog::Entry;
+use crate::fields::write_path;
+use crate::piece::{Item, Piece, Proxy, What, list_of};
+use crate::pyx::write_parts;
+use crate::records::{Place, Records};
+use crate::script::BLOCK;
+use crate::tree::Kind;
+use std::io::{self, Write};
+
+/// The levels of a document.
+const LEVELS: u32 = 257;
+
+/// The bytes of a record that holds a piece, and those of the list of its proxies.
+struct Stored {
+    proxy: Proxy,
+    record: Vec<u8>,
+    list: Vec<u8>,
+}
+
+impl Stored {
+    fn read(records: &mut Records, proxy: Proxy) -> Result<Stored, Failure> {
+        let record = records.record(proxy.place)?.to_vec();
+        let list = match list_of(&record) {
+            Some((first, length)) => records.list(first, length)?,
+            None => Vec::new(),
+        };
+        Ok(Stored {
+            proxy,
+            record,
+            list,
+        })
+    }
+
+    fn piece(&self) -> Result<Piece<'_>, Failure> {
+        let piece = Piece::read(&self.record, &self.list);
+        let piece = piece.filter(|piece| piece.roots == self.proxy.roots);
+        piece.ok_or(Failure::Damaged(self.proxy.place.page))
+    }
+}
+
+fn root_of(place: Place) -> Proxy {
+    Proxy { place, roots: 1 }
+}
+
+/// Where a position among the children of a node leads.
+enum Found {
+    Item(u32),
+    /// To one of the trees of another record.
+    Away(Proxy, u32),
+    Nowhere,
+}
+
+/// The child at a position among the items from one to an end.
+fn child_at(piece: &Piece, first: u32, end: u32, position: u32) -> Found {
+    let mut left = position;
+    for index in piece.beside(first, end) {
+        let item = &piece.items[index as usize];
+        match item.what {
+            What::Node { .. } if left == 0 => return Found::Item(index),
+            What::Node { .. } => left -= 1,
+            What::Run(count) => {
+                for proxy in piece.proxies(item, count) {
+                    let roots = u32::from(proxy.roots);
+                    if left < roots {
+                        return Found::Away(proxy, left);
+                    }
+                    left -= roots;
+                }
+            }
+        }
+    }
+    Found::Nowhere
+}
+
+fn count_children(piece: &Piece, index: u32) -> u32 {
+    let below = piece.beside(index + 1, piece.items[index as usize].end);
+    let count = |item: &Item| match item.what {
+        What::Node { .. } => 1,
+        What::Run(count) => piece
+            .proxies(item, count)
+            .map(|proxy| u32::from(proxy.roots))
+            .sum(),
+    };
+    below.map(|index| count(&piece.items[index as usize])).sum()
+}
+
+/// Writes the reply to a `get`, and answers whether the path leads to a node.
+pub fn get(
+    records: &mut Records,
+    root: Place,
+    path: &[u32],
+    out: &mut Vec<u8>,
+) -> Result<bool, Failure> {
+    let (mut proxy, mut member, mut rest) = (root_of(root), 0, path);
+    loop {
+        let stored = Stored::read(records, proxy)?;
+        let piece = stored.piece()?;
+        let mut found = child_at(&piece, 0, piece.items.len() as u32, member);
+        while let Found::Item(index) = found
+            && let Some((&position, behind)) = rest.split_first()
+        {
+            found = child_at(&piece, index + 1, piece.items[index as usize].end, position);
+            rest = behind;
+        }
+        match found {
+            Found::Item(index) => {
+                write_shown(&piece, index, out).expect("memory");
+                return Ok(true);
+            }
+            Found::Away(away, root) => (proxy, member) = (away, root),
+            Found::Nowhere => return Ok(false),
+        }
+    }
+}
+
+fn write_shown(piece: &Piece, index: u32, out: &mut Vec<u8>) -> io::Result<()> {
+    if let What::Node {
+        kind,
+        name,
+        content,
+    } = piece.items[index as usize].what
+    {
+        write!(out, "node {} ", count_children(piece, index))?;
+        write_parts(kind, name, content, out)?;
+    }
+    Ok(())
+}
+
+/// What a walk over a document tells of it, in document order.
+trait Teller {
+    /// An interval begins, with so many members, whose part weighs so much.
+    fn begin(&mut self, roots: u16, weight: u32) -> io::Result<()>;
+    fn open(&mut self, kind: Kind, name: &[u8], content: &[u8]) -> io::Result<()>;
+    fn close(&mut self, kind: Kind, name: &[u8]) -> io::Result<()>;
+}
+
+struct Walk<'a, T> {
+    records: &'a mut Records,
+    teller: T,
+    /// How many nodes may still come.
+    left: u32,
+}
+
+fn tell(records: &mut Records, entry: Entry, teller: impl Teller) -> Result<(), Failure> {
+    let mut walk = Walk {
+        records,
+        teller,
+        left: entry.nodes,
+    };
+    walk.interval(root_of(entry.root), LEVELS)?;
+    if walk.left > 0 {
+        return Err(Failure::Damaged(entry.root.page));
+    }
+    Ok(())
+}
+
+impl<T: Teller> Walk<'_, T> {
+    fn interval(&mut self, proxy: Proxy, levels: u32) -> Result<(), Failure> {
+        let stored = Stored::read(self.records, proxy)?;
+        let piece = stored.piece()?;
+        let begun = self.teller.begin(proxy.roots, piece.weight);
+        begun.map_err(|_| Failure::Write)?;
+        self.items(&piece, 0, piece.items.len() as u32, proxy, levels)
+    }
+
+    /// Tells the items from one to an end, which stand in the record of this proxy.
+    fn items(
+        &mut self,
+        piece: &Piece,
+        first: u32,
+        end: u32,
+        at: Proxy,
+        levels: u32,
+    ) -> Result<(), Failure> {
+        for index in piece.beside(first, end) {
+            let item = &piece.items[index as usize];
+            match item.what {
+                What::Run(count) => {
+                    for proxy in piece.proxies(item, count) {
+                        self.interval(proxy, levels)?;
+                    }
+                }
+                What::Node {
+                    kind,
+                    name,
+                    content,
+                } => {
+                    if levels == 0 || self.left == 0 {
+                        return Err(Failure::Damaged(at.place.page));
+                    }
+                    self.left -= 1;
+                    let opened = self.teller.open(kind, name, content);
+                    opened.map_err(|_| Failure::Write)?;
+                    self.items(piece, index + 1, item.end, at, levels - 1)?;
+                    let closed = self.teller.close(kind, name);
+                    closed.map_err(|_| Failure::Write)?;
+                }
+            }
+        }
+        Ok(())
+    }
+}
+
+/// The canonical text, which is given in blocks.
+struct Text<'a, W> {
+    block: &'a mut Vec<u8>,
+    out: &'a mut W,
+}
+
+impl<W: Write> Teller for Text<'_, W> {
+    fn begin(&mut self, _: u16, _: u32) -> io::Result<()> {
+        if self.block.len() >= BLOCK {
+            self.out.write_all(self.block)?;
+            self.block.clear();
+        }
+        Ok(())
+    }
+
+    fn open(&mut self, kind: Kind, name: &[u8], content: &[u8]) -> io::Result<()> {
+        if kind == Kind::Doc {
+            return Ok(());
+        }
+        write_parts(kind, name, content, self.block)
+    }
+
+    fn close(&mut self, kind: Kind, name: &[u8]) -> io::Result<()> {
+        if kind != Kind::Element {
+            return Ok(());
+        }
+        self.block.push(b')');
+        self.block.extend_from_slice(name);
+        self.block.push(b'\n');
+        Ok(())
+    }
+}
+
+/// Writes a document's text. The last part of it is left in the block.
+pub fn export(
+    records: &mut Records,
+    entry: Entry,
+    block: &mut Vec<u8>,
+    out: &mut impl Write,
+) -> Result<(), Failure> {
+    tell(records, entry, Text { block, out })
+}
+
+/// The intervals with the weights of their parts.
+struct Layout<'a> {
+    lines: &'a mut Vec<u8>,
+    path: Vec<u32>,
+    position: u32,
+}
+
+impl Teller for Layout<'_> {
+    fn begin(&mut self, roots: u16, weight: u32) -> io::Result<()> {
+        // The path begins with the root's own position.
+        let Some((_, parent)) = self.path.split_first() else {
+            return writeln!(self.lines, "root {weight}");
+        };
+        let last = self.position + u32::from(roots) - 1;
+        self.lines.extend_from_slice(b"run ");
+        write_path(parent, self.lines)?;
+        writeln!(self.lines, " {} {last} {weight}", self.position)
+    }
+
+    fn open(&mut self, _: Kind, _: &[u8], _: &[u8]) -> io::Result<()> {
+        self.path.push(self.position);
+        self.position = 0;
+        Ok(())
+    }
+
+    fn close(&mut self, _: Kind, _: &[u8]) -> io::Result<()> {
+        self.position = self.path.pop().map_or(0, |last| last + 1);
+        Ok(())
+    }
+}
+
+/// Writes the intervals of a document.
+pub fn layout(records: &mut Records, entry: Entry, lines: &mut Vec<u8>) -> Result<(), Failure> {
+    let (path, position) = (Vec::new(), 0);
+    tell(
+        records,
+        entry,
+        Layout {
+            lines,
+            path,
+            position,
+        },
+    )
+}
