@@ -1,6 +1,9 @@
 // Bytes that are a catalog's, and such that aren't.
 use crate::made::{BYTES, check};
 use nx_catalog::catalog_of;
+use nx_lists::NoMemory;
+use std::alloc::Global;
+use std::process::Abort;
 use std::test::Fail;
 
 #[test]
@@ -18,16 +21,20 @@ fn known_bytes(rt: HostRuntime) -> Result<(), Fail> {
     Ok(())
 }
 
+// Whether a catalog is read from the bytes.
+fn is_read(alloc: Global, bytes: &[u8]) -> Result<bool, NoMemory> {
+    Ok(catalog_of(alloc, bytes)?.is_some())
+}
+
 #[test]
 fn cut_and_continued(rt: HostRuntime) -> Result<(), Fail> {
     let alloc = rt.alloc();
-    for (length, _) in BYTES.iter().enumerate() {
-        let read = catalog_of(alloc, &BYTES[..length])?;
-        assert!(rt; read.is_none(), "{length} bytes");
+    for length in 0..BYTES.len() {
+        assert!(rt; !is_read(alloc, &BYTES[..length])?, "{length} bytes");
     }
     let mut longer = Vec::from_slice(alloc, &BYTES)?;
     longer.push(0)?;
-    assert!(rt; catalog_of(alloc, longer.as_slice())?.is_none());
+    assert!(rt; !is_read(alloc, longer.as_slice())?);
     Ok(())
 }
 
@@ -44,51 +51,37 @@ const TURNED_BY_1: [usize; 42] = [
     35, 36, 37, 38, 39, 40, 41, 42, 43, 44, 45, 46, 53, 59, 63, 66, 67,
 ];
 
-#[test]
-fn each_byte_turned(rt: HostRuntime) -> Result<(), Fail> {
-    let alloc = rt.alloc();
-    let tables = [(128, TURNED_BY_128.as_slice()), (1, TURNED_BY_1.as_slice())];
-    for (by, places) in tables {
-        for place in 0..BYTES.len() {
-            let mut bytes = BYTES;
-            bytes[place] ^= by;
-            let read = catalog_of(alloc, &bytes)?;
-            assert_eq!(rt;
-                read.is_some(),
-                places.contains(&place),
-                "byte {place} by {by}"
-            );
-        }
+// Turns each byte, and reads what then stands there.
+fn turn_each(rt: &impl Abort, alloc: Global, by: u8, places: &[usize]) -> Result<(), Fail> {
+    for place in 0..BYTES.len() {
+        let mut bytes = BYTES;
+        bytes[place] ^= by;
+        let read = is_read(alloc, &bytes)?;
+        assert!(rt; read == places.contains(&place), "byte {place} by {by}");
     }
     Ok(())
 }
 
 #[test]
+fn each_byte_turned(rt: HostRuntime) -> Result<(), Fail> {
+    turn_each(&rt, rt.alloc(), 128, &TURNED_BY_128)?;
+    turn_each(&rt, rt.alloc(), 1, &TURNED_BY_1)
+}
+
+const OUT_OF_ORDER: [&[u8]; 5] = [
+    // A name twice, and pairs of labels that are turned.
+    b"\0\0\0\x02\0\x01a\0\0\0\x02\0\0\0\0\0\x07\0\x01a\0\0\0\x02\0\0\0\0\0\x07\0\0\0\0",
+    b"\0\0\0\0\0\0\0\x02\0\x01r\0\x01y\x02\0\x01r\0\x01x\x02",
+    // A rule that is free, one below an attribute, and a name that may not be.
+    b"\0\0\0\0\0\0\0\x01\0\x01r\0\x01y\0",
+    b"\0\0\0\0\0\0\0\x01\0\x02@r\0\x01y\x01",
+    b"\0\0\0\x01\0\x01-\0\0\0\x02\0\0\0\0\0\x07\0\0\0\0",
+];
+
+#[test]
 fn out_of_order(rt: HostRuntime) -> Result<(), Fail> {
-    let alloc = rt.alloc();
-    let twice = [
-        0, 0, 0, 2, //
-        0, 1, b'a', 0, 0, 0, 2, 0, 0, 0, 0, 0, 7, //
-        0, 1, b'a', 0, 0, 0, 2, 0, 0, 0, 0, 0, 7, //
-        0, 0, 0, 0,
-    ];
-    assert!(rt; catalog_of(alloc, &twice)?.is_none());
-    let turned = [
-        0, 0, 0, 0, //
-        0, 0, 0, 2, //
-        0, 1, b'r', 0, 1, b'y', 2, //
-        0, 1, b'r', 0, 1, b'x', 2,
-    ];
-    assert!(rt; catalog_of(alloc, &turned)?.is_none());
-    let free = [0, 0, 0, 0, 0, 0, 0, 1, 0, 1, b'r', 0, 1, b'y', 0];
-    assert!(rt; catalog_of(alloc, &free)?.is_none());
-    let mark_below = [0, 0, 0, 0, 0, 0, 0, 1, 0, 2, b'@', b'r', 0, 1, b'y', 1];
-    assert!(rt; catalog_of(alloc, &mark_below)?.is_none());
-    let hyphen = [
-        0, 0, 0, 1, //
-        0, 1, b'-', 0, 0, 0, 2, 0, 0, 0, 0, 0, 7, //
-        0, 0, 0, 0,
-    ];
-    assert!(rt; catalog_of(alloc, &hyphen)?.is_none());
+    for bytes in OUT_OF_ORDER {
+        assert!(rt; !is_read(rt.alloc(), bytes)?, "{bytes:?}");
+    }
     Ok(())
 }

@@ -7,3 +7,5 @@ mod bytes;
 mod made;
 #[cfg(test)]
 mod saved;
+#[cfg(test)]
+mod stores;

@@ -5,7 +5,7 @@ ghost use Rattle.nx_matrix.specs.Rules.{IsLabel, SetsEntry};
 use nx_catalog::Catalog;
 use nx_hold::DocEntry;
 use nx_lists::NoMemory;
-use nx_matrix::{Entry, MatrixError};
+use nx_matrix::{Entry, MatrixError, Rule};
 use nx_records::Rid;
 use nx_script::is_document_name;
 use std::alloc::Global;
@@ -88,33 +88,59 @@ pub fn made(rt: &impl Abort, alloc: Global) -> Result<Catalog, Fail> {
 
 /// Looks at all that the catalog says.
 pub fn check(rt: &impl Abort, catalog: &Catalog) -> Result<(), Fail> {
+    check_found(rt, catalog);
+    check_listed(rt, catalog);
+    check_rules(rt, catalog)
+}
+
+// Whether this is the known document of that number.
+fn is_known(number: usize, name: &[u8], entry: DocEntry) -> bool {
+    number < 3 && name == NAMES[number] && entry == ENTRIES[number]
+}
+
+// The documents by their numbers and names.
+fn check_found(rt: &impl Abort, catalog: &Catalog) {
     assert_eq!(rt; catalog.len(), 3);
     for index in 0..3 {
         let Some(named) = catalog.at(index) else {
             panic!(rt; "document {index} is missing");
         };
-        assert_eq!(rt; named.name, NAMES[index as usize]);
-        assert_eq!(rt; named.entry, ENTRIES[index as usize]);
-        assert_eq!(rt; catalog.find(named.name), Some(named.entry));
+        assert!(rt;
+            is_known(index as usize, named.name, named.entry),
+            "document {index}"
+        );
+        assert!(rt;
+            catalog.find(named.name) == Some(named.entry),
+            "document {index}"
+        );
     }
     assert!(rt; catalog.at(3).is_none());
     assert!(rt; catalog.find(b"b").is_none());
+}
+
+// The documents in their order.
+fn check_listed(rt: &impl Abort, catalog: &Catalog) {
     let mut count: usize = 0;
     for (name, entry) in catalog.iter() {
-        assert_eq!(rt; name.as_slice(), NAMES[count % 3]);
-        assert_eq!(rt; *entry, ENTRIES[count % 3]);
+        assert!(rt;
+            is_known(count, name.as_slice(), *entry),
+            "document {count}"
+        );
         count = count.saturating_add(1);
     }
     assert_eq!(rt; count, 3);
+}
+
+fn check_rules(rt: &impl Abort, catalog: &Catalog) -> Result<(), Fail> {
     let rules = catalog.matrix().rules()?;
     let [first, second] = rules.as_slice() else {
         panic!(rt; "there are not two rules");
     };
-    assert_eq!(rt; first.parent.as_slice(), b"#doc".as_slice());
-    assert_eq!(rt; first.child.as_slice(), b"r".as_slice());
-    assert_eq!(rt; first.entry, Entry::Standalone);
-    assert_eq!(rt; second.parent.as_slice(), b"r".as_slice());
-    assert_eq!(rt; second.child.as_slice(), b"@x".as_slice());
-    assert_eq!(rt; second.entry, Entry::Cluster);
+    assert!(rt; is_rule(first, b"#doc", b"r", Entry::Standalone));
+    assert!(rt; is_rule(second, b"r", b"@x", Entry::Cluster));
     Ok(())
+}
+
+fn is_rule(rule: &Rule, parent: &[u8], child: &[u8], entry: Entry) -> bool {
+    rule.parent.as_slice() == parent && rule.child.as_slice() == child && rule.entry == entry
 }

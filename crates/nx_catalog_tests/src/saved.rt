@@ -1,111 +1,103 @@
 // Catalogs in stores.
 use crate::made::{BYTES, check, made, put};
-use nx_catalog::{Catalog, load_catalog};
+use crate::stores::Store;
+use nx_catalog::Catalog;
 use nx_hold::DocEntry;
-use nx_lists::{List, NoMemory};
-use nx_memory::{Image, MemoryHost};
-use nx_records::{Records, Rid, Settings, StoreError};
+use nx_records::{Rid, StoreError};
 use std::alloc::Global;
 use std::process::Abort;
 use std::test::Fail;
 
-fn empty_host(alloc: Global) -> Result<MemoryHost, NoMemory> {
-    let image = Image {
-        pages: List::new(alloc),
-        log: List::new(alloc),
-    };
-    MemoryHost::new(alloc, image, List::new(alloc), 1, 67_108_864)
+// Keeps the known catalog, whose bytes are then those of the store.
+fn keep_known(rt: &impl Abort, alloc: Global, store: &mut Store) -> Result<Catalog, Fail> {
+    let catalog = made(rt, alloc)?;
+    store.keep(rt, &catalog)?;
+    assert!(rt; store.bytes(alloc)?.as_slice() == BYTES.as_slice());
+    Ok(catalog)
 }
 
-fn create(alloc: Global, host: &mut MemoryHost) -> Result<Records, StoreError> {
-    let settings = Settings {
-        k: 16,
-        target: 50,
-        tolerance: 4,
-        limit: 64,
-    };
-    Records::create(alloc, host, settings)
+// Keeps the known catalog without one of its documents, and without one that it doesn't have.
+fn keep_fewer(rt: &impl Abort, store: &mut Store, catalog: &mut Catalog) -> Result<(), StoreError> {
+    catalog.remove(b"b-2");
+    catalog.remove(b"c");
+    store.keep(rt, catalog)
 }
 
-// Saves the catalog and commits.
-fn keep(
-    rt: &impl Abort,
-    catalog: &Catalog,
-    records: &mut Records,
-    host: &mut MemoryHost,
-) -> Result<(), StoreError> {
-    match catalog.save(records, host) {
-        Ok(()) => {
-            assert!(rt; records.log_length() <= 1 << 62);
-            records.commit(host)
-        }
-        Err(error) => Err(error),
-    }
+// How many documents are loaded.
+fn count_loaded(store: &mut Store, alloc: Global) -> Result<u32, StoreError> {
+    Ok(store.load(alloc)?.len())
+}
+
+fn check_loaded(rt: &impl Abort, store: &mut Store, alloc: Global) -> Result<(), Fail> {
+    check(rt, &store.load(alloc)?)
 }
 
 #[test]
 fn saved_and_loaded(rt: HostRuntime) -> Result<(), Fail> {
     let alloc = rt.alloc();
-    let mut host = empty_host(alloc)?;
-    let mut records = create(alloc, &mut host)?;
-    let first = load_catalog(alloc, &mut records, &mut host)?;
-    assert_eq!(rt; first.len(), 0);
-
-    let mut catalog = made(&rt, alloc)?;
-    keep(&rt, &catalog, &mut records, &mut host)?;
-    let bytes = records.read_catalog(alloc, &mut host)?;
-    assert_eq!(rt; bytes.as_slice(), BYTES.as_slice());
-
-    let mut again = Records::open(alloc, &mut host)?;
-    check(&rt, &load_catalog(alloc, &mut again, &mut host)?)?;
-
-    catalog.remove(b"b-2");
-    catalog.remove(b"c");
-    keep(&rt, &catalog, &mut again, &mut host)?;
-    let fewer = load_catalog(alloc, &mut again, &mut host)?;
+    let mut store = Store::create(alloc)?;
+    assert_eq!(rt; count_loaded(&mut store, alloc)?, 0);
+    let mut catalog = keep_known(&rt, alloc, &mut store)?;
+    store.reopen(alloc)?;
+    check_loaded(&rt, &mut store, alloc)?;
+    keep_fewer(&rt, &mut store, &mut catalog)?;
+    let fewer = store.load(alloc)?;
     assert_eq!(rt; fewer.len(), 2);
     assert!(rt; fewer.find(b"b-2").is_none());
     Ok(())
 }
 
+// How a load is refused.
+fn refusal(store: &mut Store, alloc: Global) -> Option<StoreError> {
+    store.load(alloc).err()
+}
+
 #[test]
 fn not_kept(rt: HostRuntime) -> Result<(), Fail> {
     let alloc = rt.alloc();
-    let mut host = empty_host(alloc)?;
-    let mut records = create(alloc, &mut host)?;
-    records.set_catalog(alloc, &mut host, &[0, 0, 0, 1, 0, 0, 0, 0])?;
-    let damaged = load_catalog(alloc, &mut records, &mut host);
-    assert!(rt; damaged.is_err_and(|error| error == StoreError::Damaged { page: 0 }));
-    assert!(rt; records.is_ended());
-    let catalog = made(&rt, alloc)?;
+    let mut store = Store::create(alloc)?;
+    store.set_bytes(&rt, alloc, &[0, 0, 0, 1, 0, 0, 0, 0])?;
     assert_eq!(rt;
-        catalog.save(&mut records, &mut host),
-        Err(StoreError::Ended)
+        refusal(&mut store, alloc),
+        Some(StoreError::Damaged { page: 0 })
     );
-    let ended = load_catalog(alloc, &mut records, &mut host);
-    assert!(rt; ended.is_err_and(|error| error == StoreError::Ended));
+    assert!(rt; store.is_ended());
+    let catalog = made(&rt, alloc)?;
+    assert_eq!(rt; store.save(&catalog), Err(StoreError::Ended));
+    assert_eq!(rt; refusal(&mut store, alloc), Some(StoreError::Ended));
+    Ok(())
+}
+
+// A catalog of so many documents, each on the page of its number.
+fn numbered(rt: &impl Abort, alloc: Global, count: u32) -> Result<Catalog, Fail> {
+    let mut catalog = Catalog::new(alloc);
+    for number in 0..count {
+        put_numbered(rt, alloc, &mut catalog, number)?;
+    }
+    Ok(catalog)
+}
+
+fn put_numbered(
+    rt: &impl Abort,
+    alloc: Global,
+    catalog: &mut Catalog,
+    number: u32,
+) -> Result<(), Fail> {
+    let name = format!(in alloc; "document-{number}")?;
+    let root = Rid {
+        page: number,
+        slot: 1,
+    };
+    put(rt, catalog, name.as_bytes(), DocEntry { root, nodes: 3 })?;
     Ok(())
 }
 
 #[test]
 fn many_documents(rt: HostRuntime) -> Result<(), Fail> {
     let alloc = rt.alloc();
-    let mut host = empty_host(alloc)?;
-    let mut records = create(alloc, &mut host)?;
-    let mut catalog = Catalog::new(alloc);
-    for number in 0..900 {
-        let name = format!(in alloc; "document-{number}")?;
-        let entry = DocEntry {
-            root: Rid {
-                page: number,
-                slot: 1,
-            },
-            nodes: 3,
-        };
-        put(&rt, &mut catalog, name.as_bytes(), entry)?;
-    }
-    keep(&rt, &catalog, &mut records, &mut host)?;
-    let loaded = load_catalog(alloc, &mut records, &mut host)?;
+    let mut store = Store::create(alloc)?;
+    store.keep(&rt, &numbered(&rt, alloc, 900)?)?;
+    let loaded = store.load(alloc)?;
     assert_eq!(rt; loaded.len(), 900);
     let entry = loaded.find(b"document-899");
     assert!(rt; entry.is_some_and(|found| found.root.page == 899));

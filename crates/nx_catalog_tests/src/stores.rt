@@ -1,0 +1,79 @@
+// Records with a catalog, over a host in memory. Its methods promise nothing, since a test that knows much
+// is proved slowly.
+use nx_catalog::{Catalog, load_catalog};
+use nx_lists::List;
+use nx_memory::{Image, MemoryHost};
+use nx_records::{Records, Settings, StoreError};
+use std::alloc::Global;
+use std::process::Abort;
+use std::test::Fail;
+
+fn open(alloc: Global, host: &mut MemoryHost) -> Result<Records, StoreError> {
+    Records::open(alloc, host)
+}
+
+#[derive(Drop)]
+pub struct Store {
+    records: Records,
+    host: MemoryHost,
+}
+
+impl Store {
+    /// A new store of at most 64 pages.
+    pub fn create(alloc: Global) -> Result<Store, Fail> {
+        let image = Image {
+            pages: List::new(alloc),
+            log: List::new(alloc),
+        };
+        let mut host = MemoryHost::new(alloc, image, List::new(alloc), 1, 67_108_864)?;
+        let settings = Settings {
+            k: 16,
+            target: 50,
+            tolerance: 4,
+            limit: 64,
+        };
+        let records = Records::create(alloc, &mut host, settings)?;
+        Ok(Store { records, host })
+    }
+
+    /// Opens the records anew.
+    pub fn reopen(&mut self, alloc: Global) -> Result<(), StoreError> {
+        self.records = open(alloc, &mut self.host)?;
+        Ok(())
+    }
+
+    pub fn is_ended(&self) -> bool {
+        self.records.is_ended()
+    }
+
+    /// The bytes of the catalog.
+    pub fn bytes(&mut self, alloc: Global) -> Result<List<u8>, StoreError> {
+        self.records.read_catalog(alloc, &mut self.host)
+    }
+
+    /// Makes these the bytes of the catalog, where they are eight or more.
+    pub fn set_bytes(
+        &mut self,
+        rt: &impl Abort,
+        alloc: Global,
+        bytes: &[u8],
+    ) -> Result<(), StoreError> {
+        assert!(rt; bytes.len() >= 8);
+        self.records.set_catalog(alloc, &mut self.host, bytes)
+    }
+
+    pub fn load(&mut self, alloc: Global) -> Result<Catalog, StoreError> {
+        load_catalog(alloc, &mut self.records, &mut self.host)
+    }
+
+    pub fn save(&mut self, catalog: &Catalog) -> Result<(), StoreError> {
+        catalog.save(&mut self.records, &mut self.host)
+    }
+
+    /// Saves the catalog and commits.
+    pub fn keep(&mut self, rt: &impl Abort, catalog: &Catalog) -> Result<(), StoreError> {
+        catalog.save(&mut self.records, &mut self.host)?;
+        assert!(rt; self.records.log_length() <= 1 << 62);
+        self.records.commit(&mut self.host)
+    }
+}
