@@ -26,4 +26,4 @@ pub use line::{is_name, unescaped, unescaped_len, without_cr};
 pub use one_line::line_node;
 pub use paths::{path, position, push_path};
 pub use reader::{Reader, line_end};
-pub use writer::{Writer, node_line, push_node_line, write};
+pub use writer::{Writer, node_line, push_node_line, push_parts_line, write};

@@ -155,9 +155,27 @@ pub fn push_node_line(block: &mut Bytes, node: &Node) -> Result<(), NoMemory>
     ensures ok { OnOk result (block.new ≡ block.old ++ node_line node.now.kind node.now.name node.now.content) }
     ensures prefix { (n : ℕ) × (block.new ≡ block.old ++ take n (node_line node.now.kind node.now.name node.now.content)) }
 {
-    let name = node.name.as_slice();
-    let content = node.content.as_slice();
-    match node.kind {
+    push_parts_line(
+        block,
+        node.kind,
+        node.name.as_slice(),
+        node.content.as_slice(),
+    )
+}
+
+/// As `push_node_line`, of a node of this kind, with this name and this content.
+///
+/// Errors: `NoMemory`. The first bytes of the line may then stand behind what the block had.
+pub fn push_parts_line(
+    block: &mut Bytes,
+    kind: Kind,
+    name: &[u8],
+    content: &[u8],
+) -> Result<(), NoMemory>
+    ensures ok { OnOk result (block.new ≡ block.old ++ node_line kind name.now content.now) }
+    ensures prefix { (n : ℕ) × (block.new ≡ block.old ++ take n (node_line kind name.now content.now)) }
+{
+    match kind {
         Kind::Doc => block.extend_from_slice(b"#doc")?,
         Kind::Element => push_name(block, b'(', name)?,
         Kind::Attribute => {

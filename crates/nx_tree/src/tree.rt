@@ -77,6 +77,14 @@ impl Trees {
         }
     }
 
+    /// The trees as a vector, without a copy.
+    pub fn into_vec(self) -> Vec<Tree>
+        ensures { forest_of result.items ≡ self }
+    {
+        let Trees { trees, .. } = self;
+        trees
+    }
+
     /// Adds one tree at the end.
     ///
     /// Errors: `NoMemory`, also where the number of nodes would pass 4,294,967,295. The list is as it
