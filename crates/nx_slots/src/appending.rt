@@ -1,10 +1,12 @@
 // Putting a record into a new slot of a page, where it has room below the others.
 ghost use Rattle.nx_slots.specs.Packing.{edited, CanStand};
+ghost use Rattle.nx_slots.specs.Rooms.{HasRoom};
 ghost use Rattle.nx_slots.specs.Slots.{at_of, count_of, size_of, slots_of, IsSlotted};
 ghost use Rattle.std.specs.Prelude.{◌≡◌, ◌+◌, ◌*◌, ◌<◌, ◌≤◌, ℕ, length};
 
 use crate::packing::{change, lay};
 use crate::reads::{count_at, offset_in, size_at};
+use crate::room::Room;
 use nx_numbers::set_u16_at;
 
 /// Where the records begin with that of a further slot.
@@ -20,7 +22,7 @@ fn start_with(page: &[u8], i: usize, start: usize) -> usize
 }
 
 /// Where the records of a page begin, its end where there are none.
-fn records_start(page: &[u8]) -> usize
+pub(crate) fn records_start(page: &[u8]) -> usize
     requires { IsSlotted page.now }
     ensures within { result ≤ 8192 }
     ensures behind { (i : ℕ) → i < count_of page.now → 1 ≤ size_of page.now i → result ≤ at_of page.now i }
@@ -48,20 +50,19 @@ fn append(page: &mut [u8], count: usize, start: usize, bytes: &[u8])
     lay(page, count, start, bytes);
 }
 
-/// Puts a record into a slot of a page, which then has so many slots. What is packed anew has no holes,
-/// so that this is seldom done.
-pub(crate) fn fill(page: &mut [u8], slot: usize, bytes: &[u8], count: usize)
-    requires slotted { IsSlotted page.old }
+/// Puts a record into the first empty slot of a page, else into a new one, so that there are so many slots.
+/// What is packed anew has no holes, so that this is seldom done.
+pub(crate) fn fill(page: &mut [u8], room: Room, bytes: &[u8], count: usize)
+    requires room { HasRoom page.old room }
     requires some { 1 ≤ length bytes.now }
-    requires there { (i : ℕ) → i < count → (i ≡ slot → ⊥) → i < count_of page.old }
-    requires stands { CanStand (edited page.old slot bytes.now count) }
+    requires there { (i : ℕ) → i < count → (i ≡ room.slot → ⊥) → i < count_of page.old }
+    requires stands { CanStand (edited page.old room.slot bytes.now count) }
     ensures slotted { IsSlotted page.new }
-    ensures slots { slots_of page.new ≡ edited page.old slot bytes.now count }
+    ensures slots { slots_of page.new ≡ edited page.old room.slot bytes.now count }
 {
-    let old = count_at(page);
-    let start = records_start(page);
-    if slot == old && count == old + 1 && 12 + 4 * old + bytes.len() <= start {
-        append(page, slot, start, bytes);
+    let slot = room.slot;
+    if slot == room.count && count == slot + 1 && 12 + 4 * slot + bytes.len() <= room.start {
+        append(page, slot, room.start, bytes);
     } else {
         change(page, slot, bytes, count);
     }

@@ -11,5 +11,7 @@ mod form;
 mod packing;
 mod page;
 mod reads;
+mod room;
 
-pub use page::{Page, PageBytes, SlotsError, is_page, put_in, record_in};
+pub use page::{Page, PageBytes, SlotsError, is_page, put_at, put_in, record_in, room_in};
+pub use room::Room;

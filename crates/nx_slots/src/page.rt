@@ -1,13 +1,15 @@
 // A slotted page.
 ghost use Rattle.nx_slots.specs.Edits.{free_in, growth_of, needed_for, without_record, HasRecord, IsPut, IsSet};
 ghost use Rattle.nx_slots.specs.Refusals.{LacksRoom};
+ghost use Rattle.nx_slots.specs.Rooms.{HasRoom};
 ghost use Rattle.nx_slots.specs.Slots.{slots_of, IsSlotted};
 ghost use Rattle.std.specs.Prelude.{◌≡◌, ◌≤◌, ℕ, true, false, List, [], Option, Some, None, length, slice_index_or, IfErr, IfOk, MatchOption};
 
-use crate::changes::{clear_record, put_record, set_record};
+use crate::changes::{clear_record, put_by, put_record, set_record};
 use crate::form::is_slotted;
 use crate::packing::begin;
 use crate::reads::{free_at, read_record};
+use crate::room::{Room, room_of};
 use std::marker::Model;
 use thiserror::Error;
 
@@ -36,6 +38,30 @@ pub fn is_page(page: &PageBytes) -> bool
     ensures no { result ≡ false → IsSlotted page.now.bytes → ⊥ }
 {
     is_slotted(&page.bytes)
+}
+
+/// What room a page with the given bytes has, found in the pass that tests it. There is none exactly where
+/// the bytes are no slotted page.
+pub fn room_in(page: &PageBytes) -> Option<Room>
+    ensures { MatchOption result (IsSlotted page.now.bytes → ⊥) (λ room. HasRoom page.now.bytes room) }
+{
+    room_of(&page.bytes)
+}
+
+/// As `put_in`, of a page whose room is known: a record of 1 to 8,176 bytes. The page has another room afterwards.
+///
+/// Errors: `NoRoom` exactly where the record, and 4 bytes for a new slot, are more than is free. The page stays.
+pub fn put_at(page: &mut PageBytes, room: Room, bytes: &[u8]) -> Result<u16, SlotsError>
+    requires room { HasRoom page.old.bytes room }
+    requires some { 1 ≤ length bytes.now }
+    requires few { length bytes.now ≤ 8176 }
+    ensures slotted { IsSlotted page.new.bytes }
+    ensures ok { IfOk result (λ slot. IsPut (slots_of page.old.bytes) bytes.now slot (slots_of page.new.bytes)) }
+    ensures no_room { IfErr result (λ e.
+        LacksRoom (slots_of page.old.bytes) (needed_for (slots_of page.old.bytes) bytes.now) e
+        × (page.new ≡ page.old)) }
+{
+    put_by(&mut page.bytes, room, bytes)
 }
 
 /// As `Page::put`, of a page with the given bytes, without a copy of the page.
