@@ -106,6 +106,14 @@ pub option_cases : {T : Type 0} (o : Option T) → (o ≡ None) ⊎ ((x : T) × 
 option_cases None = inl refl
 option_cases (Some x) = inr (x, refl)
 
+-- the page that waits, in its room
+pub kept_of : (es : List (ℕ × Kept)) (p : ℕ) (page : List ℕ) → entry_pages (entries_of es) p ≡ Some page
+    → (kept : Kept) × (lookup (is_at (nat_cmp p)) es ≡ Some kept) × (kept.value.bytes ≡ page)
+kept_of es p page waits = elim (option_cases (lookup (is_at (nat_cmp p)) es)) [
+  | inl none ↦ absurd (let lost : None ≡ Some page = sym (pending_none es p none) ∙ waits in cc)
+  | inr some ↦ (some.0, some.1, some_same (sym (pending_found es p some.0 some.1) ∙ waits))
+]
+
 pub put_at : (old new : BTreeMap ℕ Kept) (page : ℕ) (kept : Kept)
     → ((q : ℕ) → get nat_cmp new q ≡ cond (is_at (nat_cmp page) q) (Some kept) (get nat_cmp old q)) → (p : ℕ)
     → entry_pages (entries_of new.entries) p ≡ option_or (entry_pages (record { page = page; bytes = kept.value.bytes } ∷ []) p) (entry_pages (entries_of old.entries) p)

@@ -3,4 +3,5 @@ pub mod Reading
 pub mod Writing
 pub mod Gathering
 pub mod Moving
+pub mod InPlace
 pub mod Wal

@@ -1,12 +1,15 @@
 -- What a log and its disk stand for.
-use Rattle.std.specs.Prelude.{◌≡◌, ℕ, ◌-◌, ◌<◌, ◌≤◌, Bool, true, false, List, None, IsSome}
+use Rattle.std.specs.Prelude.{◌≡◌, ℕ, ◌-◌, ◌<◌, ◌≤◌, Bool, true, false, List, [], ◌∷◌, Option, Some, None, IsSome}
 use Rattle.nx_host.specs.Disk.{Image, Rose}
 use Rattle.nx_host.specs.declared.disk.Disk.{Ghosts}
 use Rattle.nx_host.specs.Still.{IsSettled}
+use Rattle.nx_slots.specs.Edits.{free_in, needed_for}
+use Rattle.nx_slots.specs.Slots.{slots_of, IsSlotted}
 use Rattle.nx_replay.specs.Log.{Pages, Entry, Group, over, replay, groups, entry_pages, IsAtEnd}
 use Rattle.nx_wal.specs.Places.{LeadsTo, AreWithin}
 use Rattle.nx_wal.specs.Reading.{HasMark}
 use Rattle.nx_wal.specs.Writing.{entries_of, group_with}
+use Rattle.nx_wal.specs.InPlace.{PutsInto}
 use Rattle.nx_wal.specs.declared.wal.Wal.{Wal}
 use Rattle.nx_wal.specs.declared.error.WalError.{WalError}
 use Rattle.nx_wal.specs.declared.error.WalError.TheVariants as error
@@ -53,6 +56,19 @@ pub record Ends (old new : Wal) : Type 0 where
   pub after : has_ended new ≡ true
   pub length_stays : length_of new ≡ length_of old
   pub pending_stays : pending new ≡ pending old
+
+-- The page waits, and a record went into a slot of it.
+pub record PutsRecord (page : ℕ) (bytes : List ℕ) (slot : ℕ) (old new : Wal) : Type 0 where
+  pub runs : has_ended old ≡ false
+  pub was : List ℕ
+  pub now : List ℕ
+  pub waited : entry_pages (pending old) page ≡ Some was
+  pub puts : PutsInto was bytes slot now
+  pub waits : entry_pages (pending new) ≡ over (entry_pages (record { page = page; bytes = now } ∷ [])) (entry_pages (pending old))
+
+-- What waits under a number is no slotted page with room for the bytes.
+abbrev pub TakesNone : Option (List ℕ) → List ℕ → Type 0
+TakesNone waiting bytes = (page : List ℕ) → waiting ≡ Some page → IsSlotted page → free_in (slots_of page) < needed_for (slots_of page) bytes
 
 -- Why a call that goes to the disk gave up.
 abbrev pub Refused : {D : Type 0} → Ghosts D → WalError → Wal → Wal → D → D → Type 0

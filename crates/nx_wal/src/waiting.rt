@@ -1,13 +1,17 @@
 // The pages that wait for a commit, and the room that earlier ones had.
-ghost use Rattle.std.specs.Prelude.{◌≡◌, ◌+◌, ◌<◌, ◌≤◌, ◌++◌, ◌∷◌, [], length, is_some, All, Some, IfOk, OnOk, OnErr, if◌then◌else◌};
+ghost use Rattle.std.specs.Prelude.{◌≡◌, ◌+◌, ◌<◌, ◌≤◌, ◌++◌, ◌∷◌, [], length, is_some, All, Some, IfNone, IfOk, IfSome, OnOk, OnErr, if◌then◌else◌};
 ghost use Rattle.std.specs.Option.{option_map, option_copied};
 ghost use Rattle.std.specs.Vec.{vec_capacity};
 ghost use Rattle.std.specs.BTreeMap.{get, insert_entry, btree_map_len, values, IsEmpty, IsUnchanged, Updates};
 ghost use Rattle.std.specs.Ordering.{nat_cmp};
 ghost use Rattle.std.proofs.Props.{props};
+ghost use Rattle.nx_slots.specs.Rooms.{HasRoom};
+ghost use Rattle.nx_slots.specs.Slots.{IsSlotted};
 ghost use Rattle.nx_wal.specs.Places.{Kept, IsWholePage};
+ghost use Rattle.nx_wal.specs.InPlace.{ChangesOne, WaitsWith};
 
 use crate::PageBytes;
+use nx_slots::{Room, put_at, room_in};
 use std::alloc::{AllocError, Global};
 use std::collections::BTreeMap;
 
@@ -78,6 +82,33 @@ impl Waiting {
         }
         self.spare.reserve(self.pages.len() + 1)?;
         Ok(Box::new(self.alloc, copy_of(bytes))?)
+    }
+
+    // What room the page that waits under a number has, where one waits and is slotted.
+    pub(crate) fn room(&self, page: u32) -> Option<Room>
+        ensures some { IfSome result (λ room. (kept : Kept) × (get nat_cmp self.now.pages page ≡ Some kept) × HasRoom kept.value.bytes room) }
+        ensures none { IfNone result ((kept : Kept) → get nat_cmp self.now.pages page ≡ Some kept → IsSlotted kept.value.bytes → ⊥) }
+    {
+        match self.pages.get(&page) {
+            Some(kept) => room_in(kept.as_ref()),
+            None => None,
+        }
+    }
+
+    // Puts a record into the page that waits under a number, which has this room and takes it.
+    pub(crate) fn put_record(&mut self, page: u32, room: Room, bytes: &[u8]) -> u16
+        requires some { 1 ≤ length bytes.now }
+        requires few { length bytes.now ≤ 8176 }
+        requires waits { WaitsWith self.old.pages page room bytes.now }
+        ensures { ChangesOne self.old.pages self.new.pages page bytes.now result }
+    {
+        let Some(kept) = self.pages.get_mut(&page) else {
+            unreachable!();
+        };
+        let Ok(slot) = put_at(kept.as_mut(), room, bytes) else {
+            unreachable!();
+        };
+        slot
     }
 
     // Lets no page wait any longer. It takes no memory.

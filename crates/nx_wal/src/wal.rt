@@ -1,5 +1,5 @@
 // Pages under a log.
-ghost use Rattle.std.specs.Prelude.{◌≡◌, ◌≢◌, ◌⊎◌, ◌++◌, ◌∷◌, [], ℕ, List, ◌+◌, ◌*◌, ◌/◌, ◌^◌, ◌<◌, ◌≤◌, length, true, false, is_some, if◌then◌else◌, All, Some, None, IsSome, IfSome, IfOk, IfErr, OnOk, OnErr};
+ghost use Rattle.std.specs.Prelude.{◌≡◌, ◌≢◌, ◌⊎◌, ◌++◌, ◌∷◌, [], ℕ, List, ◌+◌, ◌*◌, ◌/◌, ◌^◌, ◌<◌, ◌≤◌, length, true, false, is_some, if◌then◌else◌, All, Some, None, IsSome, IfSome, IfNone, IfOk, IfErr, OnOk, OnErr};
 ghost use Rattle.std.specs.Option.{option_map};
 ghost use Rattle.std.specs.BTreeMap.{keys};
 ghost use Rattle.std.proofs.Props.{props};
@@ -39,7 +39,7 @@ pub struct Wal {
 }
 
 impl Wal {
-    ghost use Rattle.nx_wal.specs.Wal.{Follows, IsInStep, IsPageCount, Ends, pending, current, next_group, has_ended, length_of, Refused, NotCreated, NotOpened};
+    ghost use Rattle.nx_wal.specs.Wal.{Follows, IsInStep, IsPageCount, Ends, pending, current, next_group, has_ended, length_of, PutsRecord, TakesNone, Refused, NotCreated, NotOpened};
     ghost use Rattle.nx_wal.specs.Reading.{HasMark, page_found};
 
     /// A log over a disk that has no pages. Nothing is written.
@@ -189,6 +189,33 @@ impl Wal {
             return Err(WalError::Memory);
         };
         Ok(())
+    }
+
+    /// Puts a record of 1 to 8,176 bytes into the page that waits for a commit under this number, in place:
+    /// into its first empty slot, else into a new one. It answers which. It takes no memory.
+    ///
+    /// It answers none exactly where no page waits under the number, or one that isn't slotted or has no
+    /// room for the record, or where an earlier call answered `Disk`. Nothing changes then.
+    pub fn put_record(&mut self, page: u32, bytes: &[u8]) -> Option<u16>
+        requires some { 1 ≤ length bytes.now }
+        requires few { length bytes.now ≤ 8176 }
+        ensures follows { (log : List ℕ) → Follows self.old log → Follows self.new log }
+        ensures put { IfSome result (λ slot. PutsRecord page bytes.now slot self.old self.new) }
+        ensures none { IfNone result ((self.new ≡ self.old) × (has_ended self.old ≡ false → TakesNone (entry_pages (pending self.old) page) bytes.now)) }
+        ensures count { length (pending self.new) ≡ length (pending self.old) }
+        ensures stays { (length_of self.new ≡ length_of self.old) × (has_ended self.new ≡ has_ended self.old) }
+    {
+        if self.ended {
+            return None;
+        }
+        let Some(room) = self.waiting.room(page) else {
+            return None;
+        };
+        if !room.takes(bytes.len()) {
+            return None;
+        }
+        let slot = self.waiting.put_record(page, room, bytes);
+        Some(slot)
     }
 
     /// Writes the pages that wait as a group with this number at the log's end. At every moment the
