@@ -1,7 +1,8 @@
 -- What records stand for after pages were put.
 use Rattle.std.proofs.Common.{◌≡◌, ◌⊎◌, ℕ, ◌<◌, List, [], ◌∷◌, refl, sym, ap, subst, ◌∙◌, Bool, true, false, inl, inr}
-use Rattle.std.proofs.lemmas.Bool.{cases_Bool, eqb-true, eq-eqb}
-use Rattle.std.specs.Prelude.{◌==◌, ◌≢◌, if◌then◌else◌, ◌^◌, Option, Some, None, Result, Ok, Err, OnOk, IfOk, IfErr}
+use Rattle.std.proofs.Props.{props}
+use Rattle.std.proofs.lemmas.Bool.{cases_Bool, cases_eq, eqb-true, eq-eqb}
+use Rattle.std.specs.Prelude.{◌==◌, ◌≢◌, if◌then◌else◌, ◌^◌, Option, Some, None, Result, Ok, Err, OnOk, IfOk, IfErr, IfSome, IfNone}
 use Rattle.std.specs.Option.{option_or}
 use Rattle.nx_host.specs.Disk.{Image}
 use Rattle.nx_host.specs.declared.disk.Disk.{Ghosts}
@@ -10,13 +11,14 @@ use Rattle.nx_host.proofs.DiskLemmas.{settled_still, written_alone_weaker}
 use Rattle.nx_replay.specs.Log.{Pages, Entry, over, entry_pages, replay, groups, HasGroup, HasSame, Stays}
 use Rattle.nx_replay.proofs.ReplayLemmas.{over-over, replay-more, replay-same}
 use Rattle.nx_wal.specs.declared.wal.Wal.{Wal}
-use Rattle.nx_wal.specs.Wal.{IsInStep, Follows, current, pending, next_group, length_of}
+use Rattle.nx_wal.specs.Wal.{IsInStep, Follows, PutsRecord, current, pending, next_group, length_of, has_ended as wal_ended}
 use Rattle.nx_holdings.specs.declared.header.Header.{Header}
 use Rattle.nx_holdings.specs.Header.{header_bytes, IsInRange}
 use Rattle.nx_holdings.specs.Holdings.{with_page, Held, HoldsBehind, HoldsBy, Holds}
 use Rattle.nx_holdings.proofs.HeldLemmas.{holds_all, holds_numbered, holds_dense}
 use Rattle.nx_records.specs.declared.records.Records.{Records}
 use Rattle.nx_records.specs.Records.{has_ended, next_number, HasSaved, StandsFor, KeepsSaved, KeepsLog, ComesTo}
+use Rattle.nx_records.specs.Numbering.{number_behind}
 use Rattle.nx_records.specs.Pages.{numbered, released, SeesSo, StepsTo}
 
 -- what waits is laid over the pages that are there
@@ -218,3 +220,103 @@ settled_back still settled = record { here = sym still.contents_stay ∙ settled
 pub sees_later : {D : Type 0} {d : Ghosts D} {r0 r1 : Records} {x0 x1 : D} (P : Pages → Type 0) → r1 ≡ r0 → IsStill d x0 x1 → SeesSo d r0 x0 P → SeesSo d r1 x1 P
 sees_later {d = d} {x1 = x1} P same still sees =
     subst (λ (r : Records). SeesSo d r x1 P) (sym same) (λ was step. sees was (record { settled = settled_back still step.settled; follows = step.follows }))
+
+-- a page that waits
+pub some_pending : (wal : Wal) (page : ℕ) (bytes : List ℕ) → entry_pages (pending wal) page ≡ Some bytes → pending wal ≢ []
+some_pending wal page bytes waits none = let lost : None ≡ Some bytes = sym (ap (λ (es : List Entry). entry_pages es page) none) ∙ waits in cc
+
+-- and that is put once more
+pub current_same : (wal : Wal) (page : ℕ) (bytes : List ℕ) → entry_pages (pending wal) page ≡ Some bytes → (was : Image) → current wal was ≡ with_page (current wal was) page bytes
+current_same wal page bytes waits was = λ i p. each p i
+  where
+    each : (p : ℕ) → current wal was p ≡ with_page (current wal was) page bytes p
+    each p = elim (cases_Bool (p == page)) [
+      | inl holds ↦
+          ap (λ (q : ℕ). current wal was q) (eqb-true p page holds) ∙ ap (λ (o : Option (List ℕ)). option_or o (replay was page)) waits
+          ∙ sym (ap (λ (b : Bool). if b then Some bytes else current wal was p) holds)
+      | inr fails ↦ sym (ap (λ (b : Bool). if b then Some bytes else current wal was p) fails)
+    ]
+
+-- A page is put, where the header's page may wait.
+module _ (known : Option Header) (old new : Wal) (page : ℕ) (bytes : List ℕ)
+    (put : entry_pages (pending new) ≡ over (entry_pages (record { page = page; bytes = bytes } ∷ [])) (entry_pages (pending old))) where
+  pub page_waits : entry_pages (pending new) page ≡ Some bytes
+  page_waits =
+      ap (λ (f : Pages). f page) put
+      ∙ ap (λ (b : Bool). option_or (if b then Some bytes else None) (entry_pages (pending old) page)) (eq-eqb page page refl)
+
+  pub header_stays : (page ≡ 0 → ⊥) → IfSome known (λ h. entry_pages (pending old) 0 ≡ Some (header_bytes h)) → IfSome known (λ h. entry_pages (pending new) 0 ≡ Some (header_bytes h))
+  header_stays other waits = stays known waits
+    where
+      same : entry_pages (pending new) 0 ≡ entry_pages (pending old) 0
+      same = elim (cases_Bool (0 == page)) [
+        | inl holds ↦ absurd (other (sym (eqb-true 0 page holds)))
+        | inr fails ↦ ap (λ (f : Pages). f 0) put ∙ ap (λ (b : Bool). option_or (if b then Some bytes else None) (entry_pages (pending old) 0)) fails
+      ]
+
+      stays : (o : Option Header) → IfSome o (λ h. entry_pages (pending old) 0 ≡ Some (header_bytes h)) → IfSome o (λ h. entry_pages (pending new) 0 ≡ Some (header_bytes h))
+      stays None waits = tt
+      stays (Some h) waits = same ∙ waits
+
+  pub header_known : (now : Option Header) → (page ≡ 0 → now ≡ None) → ((page ≡ 0 → ⊥) → now ≡ known)
+      → IfSome known (λ h. entry_pages (pending old) 0 ≡ Some (header_bytes h)) → IfSome now (λ h. entry_pages (pending new) 0 ≡ Some (header_bytes h))
+  header_known now here elsewhere waits = elim (cases_eq page 0) [
+    | inl zero ↦ subst (λ (o : Option Header). IfSome o (λ h. entry_pages (pending new) 0 ≡ Some (header_bytes h))) (sym (here zero)) tt
+    | inr other ↦ subst (λ (o : Option Header). IfSome o (λ h. entry_pages (pending new) 0 ≡ Some (header_bytes h))) (sym (elsewhere other)) (header_stays other waits)
+  ]
+
+-- a record is put into another page, or nothing is
+pub header_beside : (P : Type 0) (known : Option Header) (old new : Wal) (page : ℕ) (bytes : List ℕ) (slot : Option ℕ) → (page ≡ 0 → ⊥) → IfSome slot (λ s. PutsRecord page bytes s old new) → IfNone slot ((new ≡ old) × P)
+    → IfSome known (λ h. entry_pages (pending old) 0 ≡ Some (header_bytes h)) → IfSome known (λ h. entry_pages (pending new) 0 ≡ Some (header_bytes h))
+header_beside P known old new page bytes (Some slot) other put none waits = header_stays known old new page put.now put.waits other waits
+header_beside P known old new page bytes None other put none waits = subst (λ (w : Wal). IfSome known (λ h. entry_pages (pending w) 0 ≡ Some (header_bytes h))) (sym none.0) waits
+
+-- the same records, whose log was asked alone
+pub same_wal : (r : Records) (wal : Wal) → wal ≡ r.wal → (saved_range : IsInRange r.saved) (head_range : IsInRange r.head)
+    (numbered : pending wal ≢ [] → (r.head).number ≡ number_behind (r.saved).number)
+    (header_waits : IfSome r.waiting_head (λ h. entry_pages (pending wal) 0 ≡ Some (header_bytes h))) (runs : r.ended ≡ false → wal_ended wal ≡ false)
+    → ◌≡◌ {A = Records} (record {
+      wal = wal;
+      saved = r.saved;
+      head = r.head;
+      waiting_head = r.waiting_head;
+      ended = r.ended;
+      saved_range = saved_range;
+      head_range = head_range;
+      numbered = numbered;
+      header_waits = header_waits;
+      runs = runs;
+    }) r
+same_wal r wal same saved_range head_range numbered header_waits runs =
+    subst (λ (w : Wal). (n : pending w ≢ [] → (r.head).number ≡ number_behind (r.saved).number)
+    (h : IfSome r.waiting_head (λ h. entry_pages (pending w) 0 ≡ Some (header_bytes h))) (k : r.ended ≡ false → wal_ended w ≡ false)
+    → ◌≡◌ {A = Records} (record {
+      wal = w;
+      saved = r.saved;
+      head = r.head;
+      waiting_head = r.waiting_head;
+      ended = r.ended;
+      saved_range = saved_range;
+      head_range = head_range;
+      numbered = n;
+      header_waits = h;
+      runs = k;
+    }) r)
+    (sym same) (λ n h k.
+    let one : IsProp (IsInRange r.saved) = hlevel props in
+    let two : IsProp (IsInRange r.head) = hlevel props in
+    let three : IsProp (pending r.wal ≢ [] → (r.head).number ≡ number_behind (r.saved).number) = hlevel props in
+    let four : IsProp (IfSome r.waiting_head (λ h. entry_pages (pending r.wal) 0 ≡ Some (header_bytes h))) = hlevel props in
+    let five : IsProp (r.ended ≡ false → wal_ended r.wal ≡ false) = hlevel props in
+    λ i. record {
+      wal = r.wal;
+      saved = r.saved;
+      head = r.head;
+      waiting_head = r.waiting_head;
+      ended = r.ended;
+      saved_range = one saved_range r.saved_range i;
+      head_range = two head_range r.head_range i;
+      numbered = three n r.numbered i;
+      header_waits = four h r.header_waits i;
+      runs = five k r.runs i;
+    }) numbered header_waits runs

@@ -4,7 +4,8 @@ use Rattle.std.proofs.lemmas.Bool.{cases_Bool, cases_lt, eqb-true, eq-eqb, false
 use Rattle.std.proofs.lemmas.List.{get_or-set_other, get_or-set_same, get_or_past}
 use Rattle.std.specs.Prelude.{◌==◌, ◌≢◌, ◌^◌, ◌&&◌, if◌then◌else◌, nat_lt, slice_index_or, slice_set, Option, Some, None, IsSome}
 use Rattle.nx_host.specs.declared.disk.Disk.{Ghosts}
-use Rattle.nx_replay.specs.Log.{Pages}
+use Rattle.std.specs.Option.{option_or}
+use Rattle.nx_replay.specs.Log.{Pages, replay}
 use Rattle.nx_slots.specs.Slots.{IsSlotted, slots_of}
 use Rattle.nx_slots.specs.Edits.{with_record, without_record, HasRecord, IsPut, free_in, record_bytes, growth_of, bytes_in, needed_for}
 use Rattle.nx_slots.specs.Refusals.{LacksRoom}
@@ -13,13 +14,13 @@ use Rattle.nx_slots.specs.declared.page.SlotsError.TheVariants.{NoRoom}
 use Rattle.nx_slots.proofs.MapLemmas.{first_empty-within, first_empty-empty, with_record-here, with_record-other, without_record-here, without_record-other}
 use Rattle.nx_host.specs.Disk.{Image}
 use Rattle.nx_wal.specs.declared.wal.Wal.{Wal}
-use Rattle.nx_wal.specs.Wal.{IsInStep, current}
+use Rattle.nx_wal.specs.Wal.{IsInStep, PutsRecord, current}
 use Rattle.nx_holdings.specs.declared.header.Header.{Header}
 use Rattle.nx_holdings.specs.Holdings.{with_page, free_bytes, record_in, Held, HoldsBehind, times, IsFreeList, Shares, IsShared}
 use Rattle.nx_holdings.proofs.TimesLemmas.{times_one, times-cons}
 use Rattle.nx_holdings.proofs.SharedLemmas.{named_parts}
 use Rattle.nx_holdings.proofs.HeldLemmas.{slotted_record, other_record, holds_numbered, holds_changed, holds_released, holds_first, holds_unused, free_kind}
-use Rattle.nx_records.proofs.StandLemmas.{Stores}
+use Rattle.nx_records.proofs.StandLemmas.{Stores, put_current}
 use Rattle.nx_records.specs.declared.records.Records.{Records}
 use Rattle.nx_records.specs.Records.{next_number, has_free_by}
 use Rattle.nx_records.specs.Changes.{records_with, AddsRecord, RemovesRecord, UpdatesRecord, needs_than, update_needs}
@@ -369,3 +370,13 @@ longer_needs holds page slot slots bytes (NoRoom needed free) has there lacks =
         let grows : needed ≡ length bytes - length old = lacks.0 ∙ ap (λ (o : Option (List ℕ)). length bytes - length (bytes_in o)) are in
         let less : free < needed = lacks.2 in
         ap (λ (b : Bool). if b then 1 else 0) (lt-ltb (length old) (length bytes) (omega (arith, grows, less)))
+
+-- a record is put into the room page, which waits
+pub room_put : {D : Type 0} (d : Ghosts D) (head : Header) (old new : Wal) (disk : D) (slot : ℕ) (bytes : List ℕ) → head.room ≢ 0 → PutsRecord head.room bytes slot old new
+    → (was : Image) (held : Held) → IsInStep d old disk was → HoldsBehind (current old was) head held
+    → (next : Held) × HoldsBehind (current new was) head next × AddsRecord head.room slot bytes held next
+room_put d head old new disk slot bytes some put was held step holds =
+    let has : HasSlots (current old was) head.room (slots_of put.was) =
+    record { bytes = put.was; there = ap (λ (o : Option (List ℕ)). option_or o (replay was head.room)) put.waited; slotted = put.puts.slotted_before; are = refl } in
+    let next = put_holds holds head.room slot (slots_of put.was) bytes put.now (holds.shared.room some).0 has put.puts.slotted put.puts.put in
+    (next.0, subst (λ (p : Pages). HoldsBehind p head next.0) (sym (put_current old new head.room put.now put.waits was)) next.1, next.2)

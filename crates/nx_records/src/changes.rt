@@ -35,6 +35,48 @@ impl Records {
         }
     }
 
+    // Puts a record into the room page in place, where that waits for a commit and the record fits.
+    fn put_waiting<D: Disk>(&mut self, disk: &D, bytes: &[u8]) -> Option<Rid>
+        requires runs { has_ended self.old ≡ false }
+        requires there { self.old.head.room ≢ 0 }
+        requires some { 1 ≤ length bytes.now }
+        requires few { length bytes.now ≤ 8176 }
+        ensures put { IfSome result (λ rid. KeepsLog self.old self.new × StepsTo D.Disk self.old self.new disk.now (λ was now. AddsRecord rid.page rid.slot bytes.now was now)) }
+        ensures none { IfNone result (self.new ≡ self.old) }
+    {
+        let room = self.head.room;
+        match self.wal.put_record(room, bytes) {
+            Some(slot) => Some(Rid { page: room, slot }),
+            None => None,
+        }
+    }
+
+    // Reads the room page and puts a record into it, where the record fits.
+    fn put_loaded<D: Disk>(
+        &mut self,
+        disk: &mut D,
+        bytes: &[u8],
+        named: u32,
+    ) -> Result<Option<Rid>, StoreError>
+        requires runs { has_ended self.old ≡ false }
+        requires there { self.old.head.room ≢ 0 }
+        requires some { 1 ≤ length bytes.now }
+        requires few { length bytes.now ≤ 8176 }
+        ensures still { IsStill D.Disk disk.old disk.new }
+        ensures ok { IfOk result (λ found. IfSome found (λ rid. KeepsLog self.old self.new × StepsTo D.Disk self.old self.new disk.old (λ was now. AddsRecord rid.page rid.slot bytes.now was now))) }
+        ensures none { IfOk result (λ found. IfNone found (self.new ≡ self.old)) }
+        ensures refused { IfErr result (λ e. NotPut D.Disk (λ held. ⊥) named e self.old self.new disk.old disk.new) }
+    {
+        let room = self.head.room;
+        let mut page = PageBytes { bytes: [0; 8192] };
+        self.load_slotted(disk, room, named, &mut page)?;
+        let Ok(slot) = put_in(&mut page, bytes) else {
+            return Ok(None);
+        };
+        self.store(room, &page)?;
+        Ok(Some(Rid { page: room, slot }))
+    }
+
     // Puts a record into the room page, where there is one and the record fits.
     fn put_in_room<D: Disk>(
         &mut self,
@@ -50,17 +92,13 @@ impl Records {
         ensures none { IfOk result (λ found. IfNone found (self.new ≡ self.old)) }
         ensures refused { IfErr result (λ e. NotPut D.Disk (λ held. ⊥) named e self.old self.new disk.old disk.new) }
     {
-        let room = self.head.room;
-        if room == 0 {
+        if self.head.room == 0 {
             return Ok(None);
         }
-        let mut page = PageBytes { bytes: [0; 8192] };
-        self.load_slotted(disk, room, named, &mut page)?;
-        let Ok(slot) = put_in(&mut page, bytes) else {
-            return Ok(None);
-        };
-        self.store(room, &page)?;
-        Ok(Some(Rid { page: room, slot }))
+        if let Some(rid) = self.put_waiting(disk, bytes) {
+            return Ok(Some(rid));
+        }
+        self.put_loaded(disk, bytes, named)
     }
 
     // Puts a record into the room page, or else into one that was free, which becomes the room page.

@@ -2,6 +2,7 @@
 ghost use Rattle.std.specs.Prelude.{◌≡◌, ◌≢◌, ◌+◌, ◌<◌, ◌≤◌, ℕ, [], true, false, Some, None, IfOk, IfErr, OnOk};
 ghost use Rattle.nx_host.specs.Disk.{Image};
 ghost use Rattle.nx_host.specs.Still.{IsStill};
+ghost use Rattle.nx_replay.specs.Log.{entry_pages};
 ghost use Rattle.nx_wal.specs.Wal.{IsInStep, current, pending};
 ghost use Rattle.nx_wal.specs.Reading.{page_found};
 ghost use Rattle.nx_holdings.specs.Header.{header_bytes};
@@ -10,7 +11,7 @@ ghost use Rattle.nx_slots.specs.Slots.{IsSlotted};
 ghost use Rattle.nx_records.specs.Numbering.{number_behind as behind};
 
 use crate::{Records, StoreError};
-use nx_holdings::{free_page, header_page, read_free_page};
+use nx_holdings::{Header, free_page, header_page, read_free_page};
 use nx_host::Disk;
 use nx_slots::{Page, PageBytes, is_page};
 
@@ -23,6 +24,21 @@ fn number_behind(number: u64) -> u64
     } else {
         number + 1
     }
+}
+
+// Whether a header is this one.
+fn is_header(known: Option<Header>, header: Header) -> bool
+    ensures { result ≡ true → known ≡ Some header }
+{
+    known == Some(header)
+}
+
+// The header whose page is known to wait, once this page was put.
+fn known_beside(page: u32, known: Option<Header>) -> Option<Header>
+    ensures here { page ≡ 0 → result ≡ None }
+    ensures elsewhere { page ≢ 0 → result ≡ known }
+{
+    if page == 0 { None } else { known }
 }
 
 impl Records {
@@ -131,16 +147,18 @@ impl Records {
         ensures keeps { KeepsLog self.old self.new }
         ensures ok { OnOk result ((self.new.head ≡ numbered (next_number self.old) self.old.head) × (pending self.new.wal ≢ [])
             × ((was : Image) → current self.new.wal was ≡ with_page (current self.old.wal was) page bytes.now.bytes)) }
+        ensures waits { OnOk result (entry_pages (pending self.new.wal) page ≡ Some bytes.now.bytes) }
         ensures refused { IfErr result (λ e. e ≡ StoreError.Memory) }
     {
         let Ok(_) = self.wal.put(page, bytes) else {
             return Err(StoreError::Memory);
         };
+        self.waiting_head = known_beside(page, self.waiting_head);
         self.head.number = number_behind(self.saved.number);
         Ok(())
     }
 
-    // Makes the header wait for the next commit.
+    // Makes the header wait for the next commit. Its page is made and put only where another one waits.
     pub(crate) fn store_header(&mut self) -> Result<(), StoreError>
         requires runs { has_ended self.old ≡ false }
         ensures keeps { KeepsLog self.old self.new }
@@ -149,8 +167,25 @@ impl Records {
         ensures refused { IfErr result (λ e. e ≡ StoreError.Memory) }
     {
         self.head.number = number_behind(self.saved.number);
+        if is_header(self.waiting_head, self.head) {
+            return Ok(());
+        }
+        self.put_header()
+    }
+
+    // Makes the page of the header wait, which has the next commit's number.
+    fn put_header(&mut self) -> Result<(), StoreError>
+        requires runs { has_ended self.old ≡ false }
+        requires number { self.old.head.number ≡ next_number self.old }
+        ensures keeps { KeepsLog self.old self.new }
+        ensures ok { OnOk result ((self.new.head ≡ self.old.head) × (pending self.new.wal ≢ [])
+            × ((was : Image) → current self.new.wal was ≡ with_page (current self.old.wal was) 0 (header_bytes self.new.head))) }
+        ensures refused { IfErr result (λ e. e ≡ StoreError.Memory) }
+    {
         let page = header_page(&self.head);
-        self.store(0, &page)
+        self.store(0, &page)?;
+        self.waiting_head = Some(self.head);
+        Ok(())
     }
 
     // A page that was free: the first of the free list, else the first that was never used.

@@ -3,10 +3,10 @@ ghost use Rattle.std.specs.Prelude.{List as Items, ◌≡◌, ◌≢◌, ◌⊎�
 ghost use Rattle.std.proofs.Props.{props};
 ghost use Rattle.nx_host.specs.Disk.{Image};
 ghost use Rattle.nx_host.specs.Still.{IsStill, IsSettled, WritesAlone};
-ghost use Rattle.nx_replay.specs.Log.{groups, replay, size_of, Stays, HasSame, HasGroup};
+ghost use Rattle.nx_replay.specs.Log.{entry_pages, groups, replay, size_of, Stays, HasSame, HasGroup};
 ghost use Rattle.nx_wal.specs.Reading.{HasMark};
 ghost use Rattle.nx_wal.specs.Wal.{IsInStep, Follows, pending, next_group, has_ended as wal_ended};
-ghost use Rattle.nx_holdings.specs.Header.{AreSettings, IsInRange};
+ghost use Rattle.nx_holdings.specs.Header.{AreSettings, IsInRange, header_bytes};
 ghost use Rattle.nx_holdings.specs.Holdings.{Held, Holds};
 ghost use Rattle.nx_records.specs.Numbering.{number_behind};
 
@@ -38,10 +38,13 @@ pub struct Records {
     // The header of the last commit, and that of the next one.
     pub(crate) saved: Header,
     pub(crate) head: Header,
+    // The header whose page waits for a commit, where it is known.
+    pub(crate) waiting_head: Option<Header>,
     pub(crate) ended: bool,
     ghost saved_range: { IsInRange saved } by { Prim.hlevel props },
     ghost head_range: { IsInRange head } by { Prim.hlevel props },
     ghost numbered: { pending wal ≢ [] → head.number ≡ number_behind saved.number } by { Prim.hlevel props },
+    ghost header_waits: { IfSome waiting_head (λ h. entry_pages (pending wal) 0 ≡ Some (header_bytes h)) } by { Prim.hlevel props },
     ghost runs: { ended ≡ false → wal_ended wal ≡ false } by { Prim.hlevel props },
 }
 
@@ -83,6 +86,7 @@ impl Records {
             wal,
             saved: header,
             head: header,
+            waiting_head: None,
             ended: false,
         })
     }
@@ -121,6 +125,7 @@ impl Records {
             wal,
             saved: header,
             head: header,
+            waiting_head: None,
             ended: false,
         })
     }
@@ -290,6 +295,7 @@ impl Records {
         if self.ended {
             return Err(StoreError::Ended);
         }
+        self.waiting_head = None;
         let Ok(_) = self.wal.commit(disk, self.head.number) else {
             self.ended = true;
             return Err(StoreError::Disk);
@@ -305,6 +311,7 @@ impl Records {
         ensures saved { (self.new.saved ≡ self.old.saved) × (self.new.head ≡ self.old.saved) }
         ensures stays { (has_ended self.new ≡ has_ended self.old) × (log_length_of self.new ≡ log_length_of self.old) }
     {
+        self.waiting_head = None;
         self.wal.abandon();
         self.head = self.saved;
     }
@@ -326,6 +333,7 @@ impl Records {
         if self.ended {
             return Err(StoreError::Ended);
         }
+        self.waiting_head = None;
         let Ok(_) = self.wal.checkpoint(disk) else {
             self.ended = true;
             return Err(StoreError::Disk);

@@ -48,6 +48,7 @@ invariant_of-result g c = record {
   saved_range = c.first_header-header.ensures.range;
   head_range = c.first_header-header.ensures.range;
   numbered = λ some. absurd (some c.in-Ok-commit.ensures.none_left.0);
+  header_waits = tt;
   runs = λ still. c.in-Ok-commit.ensures.none_left.2;
 }
 

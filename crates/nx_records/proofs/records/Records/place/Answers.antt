@@ -56,6 +56,7 @@ invariant_of-self g c =
       saved_range = c.store.new.self.saved_range;
       head_range = range_moved c.store.new.self.head.free c.in_ok-page.page c.store.new.self.head_range c.store.new.self.head_range.pointers.0 (omega (arith, low));
       numbered = c.store.new.self.numbered;
+      header_waits = c.store.new.self.header_waits;
       runs = c.store.new.self.runs;
     }
 

@@ -11,6 +11,7 @@ invariant_of-self c =
       saved_range = c.store.new.self.saved_range;
       head_range = range_moved c.args.page 0 c.store.new.self.head_range (omega (arith, low)) (omega arith);
       numbered = c.store.new.self.numbered;
+      header_waits = c.store.new.self.header_waits;
       runs = c.store.new.self.runs;
     }
 
@@ -20,6 +21,7 @@ invariant_of-self-else-self-page c =
       saved_range = c.store.new.self.saved_range;
       head_range = range_moved c.args.page c.store.new.self.head.room c.store.new.self.head_range (omega (arith, low)) c.store.new.self.head_range.pointers.1;
       numbered = c.store.new.self.numbered;
+      header_waits = c.store.new.self.header_waits;
       runs = c.store.new.self.runs;
     }
 
