@@ -11,13 +11,12 @@ use Rattle.nx_piece.specs.declared.piece.Proxy.{Proxy}
 use Rattle.nx_piece.specs.declared.piece.Stored.TheVariants.{Inline, Chained}
 use Rattle.nx_piece.specs.Decoded.{IsDecoded}
 use Rattle.nx_piece.specs.Gapped.{Gapped, GappedTree, End, Grow, Gap, item_count, width, gapped_weight, proxies_in, slots_in}
-use Rattle.nx_piece.specs.Items.{with_last_tree}
 use Rattle.nx_piece.specs.Encoding.{four, node_bytes, items_bytes, proxy_bytes, proxies_bytes, items_head_bytes, head_bytes, body_bytes}
 use Rattle.nx_piece.specs.Valid.{AreTrees, BeginsNoGap, IsValidBody, IsValidInline, IsValidChained, HaveRoots, HaveNumbers, longest_inline}
 use Rattle.nx_piece.specs.Reading.{alone, HasTaken, Begins, BeginsNoTree, BeginsNoTrees, BeginsNoBody, BeginsNoHead, BeginsNoProxiesHead, IsReadBody, IsLeft}
 use Rattle.nx_piece.proofs.WalkLemmas.{item_count_most}
 use Rattle.nx_piece.proofs.ApartLemmas.{two_unique, four_unique, row, width_row, IsStorable, one_row, content_length}
-use Rattle.nx_piece.proofs.ReadLemmas.{with_last_tree-row, read_more, read_none, remains, nothing_begins}
+use Rattle.nx_piece.proofs.ReadLemmas.{read_more, read_none, remains, nothing_begins}
 
 node_length : (n : Node) (i : ℕ) → length (node_bytes n i) ≡ 8 * weight n
 node_length n i =
@@ -87,12 +86,10 @@ trees_first (Gap c s) h = h
 pub no_root_read : (bytes : List ℕ) (left : Left) → RootsRead bytes left End bytes left 0
 no_root_read bytes left = record { read = read_none bytes left; counted = refl; trees = tt }
 
-pub root_read : {bytes rest behind : List ℕ} {before between after : Left} {f g : Gapped} {t : GappedTree} {i : ℕ} → RootsRead bytes before f rest between i → HasTaken rest between (alone t) behind after → g ≡ with_last_tree f t → RootsRead bytes before g behind after (i + 1)
-root_read {bytes} {rest} {behind} {before} {between} {after} {f} {g} {t} {i} h k e =
-    let is : g ≡ row f (alone t) = e ∙ with_last_tree-row f t in
+pub root_read : {bytes rest behind : List ℕ} {before between after : Left} {f : Gapped} {t : GappedTree} {i : ℕ} → RootsRead bytes before f rest between i → HasTaken rest between (alone t) behind after → RootsRead bytes before (row f (alone t)) behind after (i + 1)
+root_read {bytes} {rest} {behind} {before} {between} {after} {f} {t} {i} h k =
     let w = width_row f (alone t) in let c = h.counted in
-    subst (λ (x : Gapped). RootsRead bytes before x behind after (i + 1)) (sym is)
-    (record { read = read_more h.read k (λ _. tt); counted = omega arith; trees = trees_row f t h.trees })
+    record { read = read_more h.read k (λ _. tt); counted = omega arith; trees = trees_row f t h.trees }
 
 -- where a root doesn't begin there are no roots
 pub no_roots : {bytes rest : List ℕ} {before left : Left} {f : Gapped} {i count : ℕ} → RootsRead bytes before f rest left i → IsLeft before → i < count → BeginsNoTree rest left → BeginsNoTrees bytes before count
@@ -231,6 +228,19 @@ pub bad_roots : {bytes behind : List ℕ} {form roots items proxies chain : ℕ}
 bad_roots {bytes} {behind} {form} {roots} {items} {proxies} {chain} head bad form' f p c rest valid is =
     let t = head_unique head form' f p c rest valid is in
     bad f rest valid.trees (sym t.wide) (begins_roots t valid)
+
+-- each item takes 8 bytes at least
+items_few : (f : Gapped) → item_count f ≤ slots_in f
+items_few End = omega arith
+items_few (Grow n b s) = omega (arith, items_few b, items_few s)
+items_few (Gap c s) = omega (arith, items_few s)
+
+-- a head with more items than the bytes behind it can hold begins no body
+pub bad_items : {bytes behind : List ℕ} {form roots items proxies chain : ℕ} → Head bytes behind form roots items proxies chain → length behind < 8 * items → BeginsNoBody bytes
+bad_items {bytes} {behind} {form} {roots} {items} {proxies} {chain} head many form' f p c rest valid is =
+    let t = head_unique head form' f p c rest valid is in
+    let n = t.many in let long = ap length t.same ∙ length-append (items_bytes f) rest in
+    omega (arith, items_length f, items_few f)
 
 pub bad_sums : {bytes behind rest : List ℕ} {form roots items proxies chain : ℕ} {g : Gapped} {left : Left} → Head bytes behind form roots items proxies chain → HasTaken behind (start proxies items) g rest left × AreTrees g × (width g ≡ roots) → proxies ≤ 524288
     → ((left.proxies ≡ 0) × (left.items ≡ 0) → ⊥) → BeginsNoBody bytes

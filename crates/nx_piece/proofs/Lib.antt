@@ -1,9 +1,12 @@
 pub mod GappedLemmas
+pub mod FlatLemmas
 pub mod WalkLemmas
 pub mod ApartLemmas
 pub mod ContentLemmas
 pub mod ReadLemmas
 pub mod BodyLemmas
+pub mod PushLemmas
+pub mod CopyLemmas
 pub mod Laws
 pub mod LocateLemmas
 pub mod StoredOf

@@ -7,7 +7,7 @@ use Rattle.nx_weights.specs.Weight.{weight}
 use Rattle.nx_piece.specs.declared.piece.Piece.{Piece}
 use Rattle.nx_piece.specs.declared.piece.Proxy.{Proxy}
 use Rattle.nx_piece.specs.Gapped.{Gapped, GappedTree, End, Grow, Gap, gapped_weight, proxies_in}
-use Rattle.nx_piece.specs.Valid.{HaveRoots, IsPiece}
+use Rattle.nx_piece.specs.Valid.{AreTrees, HaveRoots, IsPiece}
 use Rattle.nx_piece.specs.Locate.{PieceChild, Own, Kept, roots_from, kept_from, children_of, Inside, Outside, Missing, reached, reached_in, IsPartOf}
 
 -- what stands in front of more stays, and what stands behind is found behind it
@@ -217,6 +217,13 @@ kept_child proxies first (Gap c s) i k m e = elim (get_parts (kept_from first (t
     take_few zero xs = omega arith
     take_few (suc n) [] = omega arith
     take_few (suc n) (x ∷ xs) = omega (arith, take_few n xs)
+
+-- among trees alone no child is one that a proxy stands for
+pub trees_own : (proxies : List Proxy) (first : ℕ) (f : Gapped) (i k m : ℕ) → AreTrees f → slice_get (children_of proxies first f) i ≡ Some (Kept k m) → ⊥
+trees_own proxies first End i k m h e = absurd (cc)
+trees_own proxies first (Grow n b s) zero k m h e = absurd (cc)
+trees_own proxies first (Grow n b s) (suc i) k m h e = trees_own proxies (first + proxies_in b) s i k m h e
+trees_own proxies first (Gap c s) i k m h e = h
 
 pub ranged_drop : (n : ℕ) (proxies : List Proxy) → HaveRoots proxies → HaveRoots (drop n proxies)
 ranged_drop zero proxies h = h

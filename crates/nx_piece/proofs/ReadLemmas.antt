@@ -1,12 +1,9 @@
 -- Items read one after another.
-use Rattle.std.proofs.Common.{◌≡◌, ℕ, ◌+◌, ◌*◌, ◌<◌, ◌≤◌, Bool, true, false, List, ◌++◌, refl, sym, ap, ◌∙◌, subst, arith, append_assoc}
+use Rattle.std.proofs.Common.{◌≡◌, ℕ, ◌+◌, ◌<◌, ◌≤◌, Bool, true, false, List, ◌++◌, refl, sym, ap, ◌∙◌, subst, arith, append_assoc}
 use Rattle.nx_tree.specs.declared.node.Node.{Node}
 use Rattle.nx_weights.specs.Weight.{weight}
 use Rattle.nx_piece.specs.declared.reading.Left.{Left}
-use Rattle.nx_piece.specs.declared.piece.Item.{Item}
-use Rattle.nx_piece.specs.declared.piece.Item.TheVariants.{Tree, Run}
 use Rattle.nx_piece.specs.Gapped.{Gapped, GappedTree, End, Grow, Gap, item_count, width, gapped_weight, proxies_in}
-use Rattle.nx_piece.specs.Items.{with_last, with_last_tree}
 use Rattle.nx_piece.specs.Encoding.{node_bytes, run_bytes, items_bytes}
 use Rattle.nx_piece.specs.Valid.{AreApart, BeginsNoGap}
 use Rattle.nx_piece.specs.Reading.{alone, HasTaken, Begins, BeginsNoTree, BeginsNoRun, HasTakenNode, IsLeft}
@@ -22,21 +19,6 @@ ends_in_gap (Grow n b (Gap c s)) = ends_in_gap (Gap c s)
 ends_in_gap (Gap d End) = true
 ends_in_gap (Gap d (Grow m c s)) = ends_in_gap (Grow m c s)
 ends_in_gap (Gap d (Gap c s)) = ends_in_gap (Gap c s)
-
-abbrev pub one : Item → Gapped
-one (Tree t) = alone t
-one (Run c) = Gap c End
-
-pub with_last-row : (f : Gapped) (item : Item) → with_last f item ≡ row f (one item)
-with_last-row End (Tree t) = refl
-with_last-row End (Run c) = refl
-with_last-row (Grow n b s) item = ap (Grow n b) (with_last-row s item)
-with_last-row (Gap c s) item = ap (Gap c) (with_last-row s item)
-
-pub with_last_tree-row : (f : Gapped) (t : GappedTree) → with_last_tree f t ≡ row f (alone t)
-with_last_tree-row End t = refl
-with_last_tree-row (Grow n b s) t = ap (Grow n b) (with_last_tree-row s t)
-with_last_tree-row (Gap c s) t = ap (Gap c) (with_last_tree-row s t)
 
 row_bytes : (f g : Gapped) → items_bytes (row f g) ≡ items_bytes f ++ items_bytes g
 row_bytes End g = refl
@@ -55,7 +37,7 @@ row_proxies End g = omega arith
 row_proxies (Grow n b s) g = let h = row_proxies s g in omega (arith, h)
 row_proxies (Gap c s) g = let h = row_proxies s g in omega (arith, h)
 
-row_item_count : (f g : Gapped) → item_count (row f g) ≡ item_count f + item_count g
+pub row_item_count : (f g : Gapped) → item_count (row f g) ≡ item_count f + item_count g
 row_item_count End g = omega arith
 row_item_count (Grow n b s) g = let h = row_item_count s g in omega (arith, h)
 row_item_count (Gap c s) g = let h = row_item_count s g in omega (arith, h)
@@ -175,31 +157,18 @@ ends_gap (Gap m (Gap n s)) c = ends_gap (Gap n s) c
 pub no_item_read : (bytes : List ℕ) (left : Left) → ItemsRead bytes left End bytes left 0 false
 no_item_read bytes left = record { read = read_none bytes left; counted = refl; run = refl }
 
-pub tree_read : {bytes rest behind : List ℕ} {before between after : Left} {f g : Gapped} {t : GappedTree} {i : ℕ} {after_run : Bool} → ItemsRead bytes before f rest between i after_run → HasTaken rest between (alone t) behind after → g ≡ with_last f (Tree t)
-    → ItemsRead bytes before g behind after (i + 1) false
-tree_read {bytes} {rest} {behind} {before} {between} {after} {f} {g} {t} {i} {after_run} h k e =
-    let is : g ≡ row f (alone t) = e ∙ with_last-row f (Tree t) in
+pub tree_read : {bytes rest behind : List ℕ} {before between after : Left} {f : Gapped} {t : GappedTree} {i : ℕ} {after_run : Bool} → ItemsRead bytes before f rest between i after_run → HasTaken rest between (alone t) behind after
+    → ItemsRead bytes before (row f (alone t)) behind after (i + 1) false
+tree_read {bytes} {rest} {behind} {before} {between} {after} {f} {t} {i} {after_run} h k =
     let w = width_row f (alone t) in let c = h.counted in
-    subst (λ (x : Gapped). ItemsRead bytes before x behind after (i + 1) false) (sym is)
-    (record { read = read_more h.read k (λ _. tt); counted = omega arith; run = ends_one f t.node t.below })
+    record { read = read_more h.read k (λ _. tt); counted = omega arith; run = ends_one f t.node t.below }
 
--- a node alone is read, as a tree with nothing below it
-pub leaf_read : {bytes rest behind : List ℕ} {before between after : Left} {f g : Gapped} {n node : Node} {below : Gapped} {i : ℕ} {after_run : Bool} → ItemsRead bytes before f rest between i after_run → HasTaken rest between (Grow n End End) behind after → node ≡ n → below ≡ End
-    → g ≡ with_last f (Tree (record { node = node; below = below })) → ItemsRead bytes before g behind after (i + 1) false
-leaf_read {bytes} {rest} {behind} {before} {between} {after} {f} {g} {n} {node} {below} {i} {after_run} h k same none e =
-    tree_read {t = record { node = n; below = End }} h k
-    (e
-    ∙ ap (λ (m : Node). with_last f (Tree (record { node = m; below = below }))) same
-    ∙ ap (λ (b : Gapped). with_last f (Tree (record { node = n; below = b }))) none)
-
-pub run_read : {bytes rest behind : List ℕ} {before between after : Left} {f g : Gapped} {c i : ℕ} {after_run : Bool} → ItemsRead bytes before f rest between i after_run → (after_run ≡ false) × HasTaken rest between (Gap c End) behind after → g ≡ with_last f (Run c)
-    → ItemsRead bytes before g behind after (i + 1) true
-run_read {bytes} {rest} {behind} {before} {between} {after} {f} {g} {c} {i} {after_run} h k e =
-    let is : g ≡ row f (Gap c End) = e ∙ with_last-row f (Run c) in
+pub run_read : {bytes rest behind : List ℕ} {before between after : Left} {f : Gapped} {c i : ℕ} {after_run : Bool} → ItemsRead bytes before f rest between i after_run → (after_run ≡ false) × HasTaken rest between (Gap c End) behind after
+    → ItemsRead bytes before (row f (Gap c End)) behind after (i + 1) true
+run_read {bytes} {rest} {behind} {before} {between} {after} {f} {c} {i} {after_run} h k =
     let w = width_row f (Gap c End) in let n = h.counted in
     let none : ends_in_gap f ≡ false = h.run ∙ k.0 in
-    subst (λ (x : Gapped). ItemsRead bytes before x behind after (i + 1) true) (sym is)
-    (record { read = read_more h.read k.1 (λ y. absurd (cc)); counted = omega arith; run = ends_gap f c })
+    record { read = read_more h.read k.1 (λ y. absurd (cc)); counted = omega arith; run = ends_gap f c }
 
 pub head_left : (bytes behind : List ℕ) (before left : Left) (node : Node) (count : ℕ) → HasTakenNode bytes before node count behind left → IsLeft before → IsLeft left
 head_left bytes behind before left node count h l =
@@ -243,18 +212,6 @@ no_tree {bytes} {behind} {rest} {before} {left} {between} {node} {count} {i} {f}
     }) left_is (omega arith) in
     let wide : 0 < width r.last = let x = ap width r.is ∙ width_row f r.last in omega arith in
     nothing_begins r.begins wide trees runs (λ e. r.next (k.run ∙ e))
-
--- a node with more items than its weight leaves room for is the head of no tree
-pub too_many : {bytes behind : List ℕ} {before left : Left} {node : Node} {count : ℕ} → HasTakenNode bytes before node count behind left → IsLeft before → count < 65536 → 3 * left.room + 1 < count → BeginsNoTree bytes before
-too_many {bytes} {behind} {before} {left} {node} {count} h l fits many t last b =
-    let r = b.room in let q = l.room in let x = h.room in
-    let own : weight t.node ≤ 256 = omega arith in
-    let mine : weight node ≤ 256 = omega arith in
-    let s = item_count_most t.below b.apart.0 in let w = width_most t.below in
-    let told = node_unique mine own fits (omega arith) (sym h.same ∙ b.same ∙ sym (grow_bytes t.node t.below End last)) in
-    let same_count : count ≡ width t.below = told.1 in
-    let same_weight : weight node ≡ weight t.node = ap weight told.0 in
-    omega arith
 
 -- where no node begins there is no tree
 pub no_head : (bytes : List ℕ) (left : Left) → IsLeft left → ((node : Node) (items : ℕ) (behind : List ℕ) → weight node ≤ left.room → items < 65536 → bytes ≡ node_bytes node items ++ behind → ⊥) → BeginsNoTree bytes left

@@ -1,10 +1,15 @@
 pub mod Gapped
 pub mod Items
+pub mod Code
+pub mod Flat
+pub mod Viewing
 pub mod Falls
 pub mod Encoding
 pub mod Valid
 pub mod Reading
 pub mod Decoded
 pub mod Locate
+pub mod Find
 pub mod Found
+pub mod FoundView
 pub mod Weight

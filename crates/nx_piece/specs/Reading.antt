@@ -6,6 +6,8 @@ use Rattle.nx_weights.specs.Weight.{weight}
 use Rattle.nx_piece.specs.declared.reading.Head.{Head}
 use Rattle.nx_piece.specs.declared.reading.Left.{Left}
 use Rattle.nx_piece.specs.declared.piece.Proxy.{Proxy}
+use Rattle.nx_piece.specs.declared.viewing.Flat.{Flat}
+use Rattle.nx_piece.specs.Flat.{Spells}
 use Rattle.nx_piece.specs.Gapped.{Gapped, GappedTree, End, Grow, Gap, item_count, width, gapped_weight, proxies_in}
 use Rattle.nx_piece.specs.Encoding.{node_head_bytes, content_bytes, node_bytes, run_bytes, items_bytes, proxies_bytes, items_head_bytes, proxies_head_bytes, head_bytes, body_bytes}
 use Rattle.nx_piece.specs.Valid.{AreApart, AreTrees, HaveRoots, IsValidBody, inline_length}
@@ -14,9 +16,11 @@ use Rattle.nx_piece.specs.Valid.{AreApart, AreTrees, HaveRoots, IsValidBody, inl
 abbrev pub alone : GappedTree → Gapped
 alone t = Grow t.node t.below End
 
--- a node of this kind, with this name and this content
-abbrev pub node_with : (kind : Kind) (name content : List ℕ) → Node
-node_with kind name content = record { kind = kind; name = name; content = content }
+-- the flat list is the old one, with the items of f behind it
+pub record HasPushed (old new : List Flat) (f : Gapped) : Type 0 where
+  pub added : List Flat
+  pub same : new ≡ old ++ added
+  pub spells : Spells added f
 
 -- the bytes begin with the items of f, and what they take of weight, proxies and items is taken
 pub record HasTaken (bytes : List ℕ) (before : Left) (f : Gapped) (behind : List ℕ) (after : Left) : Type 0 where

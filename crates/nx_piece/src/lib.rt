@@ -2,18 +2,25 @@
 //! records keep, and the bytes of the record. It stands on the trees of `nx_tree` and their weights.
 //!
 //! Contracts see a `PieceTree` as a node with what is below it, and `Items` and `PieceTrees` as a forest
-//! with gaps (`specs/Gapped.antt`). The bytes of a piece are said in `specs/Encoding.antt`, which
+//! with gaps (`specs/Gapped.antt`). Of the views of a record they see a `Body` and a `Piece`, and what stands there by
+//! `seen_items` and `seen_tree` (`specs/Viewing.antt`). The bytes of a piece are said in `specs/Encoding.antt`, which
 //! pieces may be stored in `specs/Valid.antt`, and where a path leads in `specs/Locate.antt`.
 #![tactic(auto)]
 
+mod copying;
+mod finding;
 mod locating;
 mod piece;
 mod reading;
+mod viewing;
 mod weighing;
 mod writing;
 
+pub use copying::decode;
+pub use finding::{LocatedView, count_children, find};
 pub use locating::{Located, children, locate};
 pub use piece::{Body, Item, Items, Piece, PieceTree, PieceTrees, Proxies, Proxy, Stored};
-pub use reading::{decode, decode_proxies};
+pub use reading::{decode_proxies, view};
+pub use viewing::{BodyView, ItemView, ItemsView, NodeView, PieceView, StoredView, TreeView};
 pub use weighing::weight;
 pub use writing::{encode, encode_chained, encode_inline, encode_proxies, fits_inline};

@@ -1,13 +1,14 @@
 // Where a path leads in a piece, and how many children a node has there.
-ghost use Rattle.std.specs.Prelude.{◌≡◌, ◌+◌, ◌≤◌, List, None, Some, length, MatchOption, IfOk, IfErr};
-ghost use Rattle.std.specs.List.{slice_get, sum_by};
+ghost use Rattle.std.specs.Prelude.{◌≡◌, ◌+◌, ◌≤◌, List, None, Some, length, MatchOption};
+ghost use Rattle.std.specs.List.{slice_get};
 ghost use Rattle.nx_piece.specs.declared.piece.Proxy.{Proxy};
 ghost use Rattle.nx_piece.specs.Gapped.{grown_of, proxies_in};
 ghost use Rattle.nx_piece.specs.Items.{gapped_of};
-ghost use Rattle.nx_piece.specs.Valid.{HaveRoots, IsPiece};
-ghost use Rattle.nx_piece.specs.Locate.{Own, Kept, kept_from, children_of, reached_in, IsPartOf, IsLocated};
+ghost use Rattle.nx_piece.specs.Valid.{IsPiece};
+ghost use Rattle.nx_piece.specs.Locate.{Own, children_of, reached_in, IsPartOf, IsLocated};
 ghost use Rattle.nx_piece.specs.Found.{IsFound};
 
+use crate::finding::{member_at, roots_of};
 use crate::{Item, Piece, PieceTree, Proxy};
 
 /// Where a path leads.
@@ -144,24 +145,6 @@ fn child_at<'a>(
     None
 }
 
-// The proxy, by its index, and the root of it at a position among all roots of these proxies, of which the
-// first has the index `first`; or how many positions are left behind them.
-fn member_at(proxies: &[Proxy], first: u32, position: u32) -> Result<(u32, u16), u32>
-    requires { first + length proxies.now ≤ 4294967295 }
-    ensures found { IfOk result (λ found. slice_get (kept_from first proxies.now) position ≡ Some (Kept found.0 found.1)) }
-    ensures behind { IfErr result (λ left. position ≡ length (kept_from first proxies.now) + left) }
-{
-    let mut left = position;
-    for (offset, proxy) in proxies.iter().enumerate() {
-        let roots = u32::from(proxy.roots);
-        if left < roots {
-            return Ok((first + offset as u32, left as u16));
-        }
-        left -= roots;
-    }
-    Err(left)
-}
-
 // How many proxies stand in the runs below a node.
 fn proxies_below(tree: &PieceTree) -> u32
     requires { proxies_in tree.now.below ≤ 524288 }
@@ -175,17 +158,4 @@ fn proxies_below(tree: &PieceTree) -> u32
         }
     }
     proxies
-}
-
-// How many roots the proxies have together.
-fn roots_of(proxies: &[Proxy]) -> u32
-    requires few { length proxies.now ≤ 524288 }
-    requires ranged { HaveRoots proxies.now }
-    ensures { result ≡ sum_by (λ proxy. proxy.roots) proxies.now }
-{
-    let mut roots = 0;
-    for proxy in proxies {
-        roots += u32::from(proxy.roots);
-    }
-    roots
 }

@@ -2,29 +2,34 @@
 ghost use Rattle.std.specs.Prelude.{◌≡◌, ℕ, false, ◌+◌, ◌*◌, ◌<◌, ◌≤◌, List, ◌∷◌, ◌++◌, length, IfOk, IfSome, MatchOption};
 ghost use Rattle.std.proofs.Math.ListN.{replicate};
 ghost use Rattle.std.specs.Bool.{MatchBool};
+ghost use Rattle.std.specs.Vec.{vec_len, vec_capacity};
 ghost use Rattle.nx_tree.specs.declared.node.Node.{Node};
 ghost use Rattle.nx_tree.specs.declared.node.Kind.{Kind};
 ghost use Rattle.nx_weights.specs.Weight.{weight};
 ghost use Rattle.nx_piece.specs.Encoding.{kind_byte, node_head_bytes, node_bytes, content_bytes, run_bytes, items_head_bytes, proxies_head_bytes, head_bytes, proxy_bytes, proxies_bytes};
-ghost use Rattle.nx_piece.specs.Gapped.{Gapped, End, Grow, Gap, width};
+ghost use Rattle.nx_piece.specs.Gapped.{Gapped, GappedTree, End, Grow, Gap, width};
 ghost use Rattle.nx_piece.specs.declared.piece.Proxy.{Proxy};
 ghost use Rattle.nx_piece.specs.Valid.{AreTrees, HaveRoots, HaveNumbers};
 ghost use Rattle.nx_piece.specs.Decoded.{IsDecoded};
-ghost use Rattle.nx_piece.specs.Reading.{alone, node_with, HasTaken, AreNoProxies, BeginsNoTree, BeginsNoRun, BeginsNoTrees, BeginsNoBody, BeginsNoNode, BeginsNoNodeHead, BeginsNoContent, BeginsNoRunItem, BeginsNoHead, BeginsNoItemsHead, BeginsNoProxiesHead, IsHeadRead, IsReadBody, HasTakenNode, IsLeft};
+ghost use Rattle.nx_piece.specs.Flat.{seen_node};
+ghost use Rattle.nx_piece.specs.Viewing.{viewed};
+ghost use Rattle.nx_piece.specs.Reading.{alone, HasTaken, HasPushed, AreNoProxies, BeginsNoTree, BeginsNoRun, BeginsNoTrees, BeginsNoBody, BeginsNoNode, BeginsNoNodeHead, BeginsNoContent, BeginsNoRunItem, BeginsNoHead, BeginsNoItemsHead, BeginsNoProxiesHead, IsHeadRead, IsReadBody, HasTakenNode, IsLeft};
 
-use crate::{Body, Item, Items, Piece, PieceTree, PieceTrees, Proxies, Proxy, Stored};
-use nx_tree::{Bytes, Kind, NoMemory, Node};
+use crate::viewing::Flat;
+use crate::{BodyView, NodeView, PieceView, Proxies, Proxy, StoredView};
+use nx_tree::{Kind, NoMemory};
 use std::alloc::Global;
 
 // The most bytes of a record with its proxies.
 pub(crate) const LONGEST_INLINE: usize = 8176;
 
-/// What a record of these bytes holds: `Some` of a valid piece exactly where they are the bytes of it, and else
-/// `None`. Of a piece whose proxies stand in a chain only the number of them is looked at.
+/// What a record of these bytes holds, seen in them: `Some` of a valid piece exactly where they are the bytes of it,
+/// and else `None`. Of a piece whose proxies stand in a chain only the number of them is looked at. It takes memory
+/// for at most one entry for each 8 bytes.
 ///
 /// Errors: `NoMemory`.
-pub fn decode(alloc: Global, bytes: &[u8]) -> Result<Option<Stored>, NoMemory>
-    ensures { IfOk result (λ read. IsDecoded bytes.now read) }
+pub fn view<'a>(alloc: Global, bytes: &'a [u8]) -> Result<Option<StoredView<'a>>, NoMemory>
+    ensures { IfOk result (λ read. IsDecoded bytes.now (viewed read)) }
 {
     let Some((head, body, rest, length)) = read_body(alloc, bytes)? else {
         return Ok(None);
@@ -42,7 +47,7 @@ pub fn decode(alloc: Global, bytes: &[u8]) -> Result<Option<Stored>, NoMemory>
             let Some(proxies) = decode_proxies(alloc, rest, count)? else {
                 return Ok(None);
             };
-            Ok(Some(Stored::Inline(Piece { body, proxies })))
+            Ok(Some(StoredView::Inline(PieceView { body, proxies })))
         }
         2 => {
             if length <= LONGEST_INLINE {
@@ -51,7 +56,7 @@ pub fn decode(alloc: Global, bytes: &[u8]) -> Result<Option<Stored>, NoMemory>
             if !rest.is_empty() {
                 return Ok(None);
             }
-            Ok(Some(Stored::Chained { body, count, chain }))
+            Ok(Some(StoredView::Chained { body, count, chain }))
         }
         _ => Ok(None),
     }
@@ -83,7 +88,10 @@ pub fn decode_proxies(alloc: Global, bytes: &[u8], count: u32) -> Result<Option<
 }
 
 // The head, the nodes, what stands behind them, and how many bytes the inline form takes.
-fn read_body(alloc: Global, bytes: &[u8]) -> Result<Option<(Head, Body, &[u8], usize)>, NoMemory>
+fn read_body<'a>(
+    alloc: Global,
+    bytes: &'a [u8],
+) -> Result<Option<(Head, BodyView<'a>, &'a [u8], usize)>, NoMemory>
     ensures { IfOk result (λ read. MatchOption read (BeginsNoBody bytes.now) (λ found. IsReadBody bytes.now found.0.form found.1.roots found.0.proxies found.0.chain found.2.now found.3)) }
 {
     let Some((head, behind)) = read_head(bytes) else {
@@ -91,6 +99,7 @@ fn read_body(alloc: Global, bytes: &[u8]) -> Result<Option<(Head, Body, &[u8], u
     };
     let roots = head.roots;
     let proxies = head.proxies;
+    let room = head.items as usize;
     if roots == 0 {
         return Ok(None);
     }
@@ -100,12 +109,16 @@ fn read_body(alloc: Global, bytes: &[u8]) -> Result<Option<(Head, Body, &[u8], u
     if proxies > 524288 {
         return Ok(None);
     }
+    if room > behind.len() / 8 {
+        return Ok(None);
+    }
     let before = Left {
         room: 256,
         proxies,
         items: head.items,
     };
-    let Some((trees, rest, left)) = read_roots(alloc, behind, roots, before)? else {
+    let mut flat = Vec::with_capacity(alloc, room)?;
+    let Some((rest, left)) = read_roots(&mut flat, behind, roots, before) else {
         return Ok(None);
     };
     if left.proxies != 0 {
@@ -114,151 +127,106 @@ fn read_body(alloc: Global, bytes: &[u8]) -> Result<Option<(Head, Body, &[u8], u
     if left.items != 0 {
         return Ok(None);
     }
+    let body = BodyView::new(flat, roots, 256 - left.room);
     let length = 16 + (behind.len() - rest.len()) + 8 * proxies as usize;
-    Ok(Some((head, Body { roots: trees }, rest, length)))
+    Ok(Some((head, body, rest, length)))
 }
 
-// So many trees, and what stands behind them.
-fn read_roots(
-    alloc: Global,
-    bytes: &[u8],
+// Adds so many trees to the flat list; what stands behind them.
+fn read_roots<'a>(
+    flat: &mut Vec<Flat<'a>>,
+    bytes: &'a [u8],
     count: u16,
     left: Left,
-) -> Result<Option<(PieceTrees, &[u8], Left)>, NoMemory>
-    requires { IsLeft left }
-    ensures { IfOk result (λ read. MatchOption read (BeginsNoTrees bytes.now left count) (λ found. HasTaken bytes.now left found.0 found.1.now found.2 × AreTrees found.0 × (width found.0 ≡ count))) }
+) -> Option<(&'a [u8], Left)>
+    requires few { IsLeft left }
+    requires room { vec_len flat.old + left.items ≤ vec_capacity flat.old }
+    ensures { MatchOption result (BeginsNoTrees bytes.now left count) (λ found. (f : Gapped) × HasPushed flat.old.items flat.new.items f × HasTaken bytes.now left f found.0.now found.1 × AreTrees f × (width f ≡ count)) }
 {
-    let mut trees = PieceTrees::new(alloc);
     let mut rest = bytes;
     let mut left = left;
     for _ in 0..count {
-        let Some((tree, behind, after)) = read_tree(alloc, rest, left)? else {
-            return Ok(None);
+        let Some((behind, after)) = read_tree(flat, rest, left) else {
+            return None;
         };
-        trees.push(tree)?;
         rest = behind;
         left = after;
     }
-    Ok(Some((trees, rest, left)))
+    Some((rest, left))
 }
 
-// A tree, to any depth, and what stands behind it.
-fn read_tree(
-    alloc: Global,
-    bytes: &[u8],
-    left: Left,
-) -> Result<Option<(PieceTree, &[u8], Left)>, NoMemory>
-    requires { IsLeft left }
-    ensures { IfOk result (λ read. MatchOption read (BeginsNoTree bytes.now left) (λ found. HasTaken bytes.now left (alone found.0) found.1.now found.2)) }
+// Adds a tree, to any depth, to the flat list; what stands behind it.
+fn read_tree<'a>(flat: &mut Vec<Flat<'a>>, bytes: &'a [u8], left: Left) -> Option<(&'a [u8], Left)>
+    requires few { IsLeft left }
+    requires room { vec_len flat.old + left.items ≤ vec_capacity flat.old }
+    ensures tree { MatchOption result (BeginsNoTree bytes.now left) (λ found. (t : GappedTree) × HasPushed flat.old.items flat.new.items (alone t) × HasTaken bytes.now left (alone t) found.0.now found.1) }
+    ensures capacity { vec_capacity flat.new ≡ vec_capacity flat.old }
 {
-    let Some((seen, count, behind, between)) = take_node(bytes, left) else {
-        return Ok(None);
+    let Some((node, count, behind, between)) = take_node(bytes, left) else {
+        return None;
     };
-    if u32::from(count) > 3 * between.room + 1 {
-        return Ok(None);
-    }
-    let node = seen.copied(alloc)?;
+    let place = flat.len();
+    flat.push_reserved(Flat::Tree { node, below: 0 });
     let mut rest = behind;
     let mut left = between;
-    let mut children = Vec::with_capacity(alloc, usize::from(count))?;
     let mut after_run = false;
     for _ in 0..count {
         if let Some((run, behind, after)) = take_run(rest, left, after_run) {
-            children.push_reserved(Item::Run { count: run });
+            flat.push_reserved(Flat::Run { count: run });
             rest = behind;
             left = after;
             after_run = true;
-        } else if let Some((seen, behind, after)) = take_leaf(rest, left) {
-            children.push_reserved(Item::Tree(PieceTree {
-                node: seen.copied(alloc)?,
-                children: Items::new(alloc),
-            }));
+        } else if let Some((node, behind, after)) = take_leaf(rest, left) {
+            flat.push_reserved(Flat::Tree { node, below: 0 });
             rest = behind;
             left = after;
             after_run = false;
         } else {
-            let Some((tree, behind, after)) = read_tree(alloc, rest, left)? else {
-                return Ok(None);
+            let Some((behind, after)) = read_tree(flat, rest, left) else {
+                return None;
             };
-            children.push_reserved(Item::Tree(tree));
             rest = behind;
             left = after;
             after_run = false;
         }
     }
-    let children = Items::from_vec(children);
-    Ok(Some((PieceTree { node, children }, rest, left)))
-}
-
-// A node whose name and content lie in the bytes of the record.
-#[derive(Clone, Copy)]
-struct Seen<'a> {
-    kind: Kind,
-    name: &'a [u8],
-    content: &'a [u8],
-}
-
-impl Seen<'_> {
-    fn weight(self) -> u32
-        requires { weight (node_with self.kind self.name.now self.content.now) ≤ 256 }
-        ensures { result ≡ weight (node_with self.entry.kind self.entry.name.now self.entry.content.now) }
-    {
-        1 + (self.name.len() + self.content.len()).div_ceil(8) as u32
-    }
-
-    fn copied(self, alloc: Global) -> Result<Node, NoMemory>
-        ensures { IfOk result (λ node. node ≡ node_with self.entry.kind self.entry.name.now self.entry.content.now) }
-    {
-        Ok(Node {
-            kind: self.kind,
-            name: copied(alloc, self.name)?,
-            content: copied(alloc, self.content)?,
-        })
-    }
-}
-
-// A copy of the bytes. Of none it takes no memory.
-fn copied(alloc: Global, bytes: &[u8]) -> Result<Bytes, NoMemory>
-    ensures { IfOk result (λ copy. copy ≡ bytes.now) }
-{
-    if bytes.is_empty() {
-        return Ok(Bytes::new(alloc));
-    }
-    Bytes::from_slice(alloc, bytes)
+    let below = between.items - left.items;
+    flat[place] = Flat::Tree { node, below };
+    Some((rest, left))
 }
 
 // The head of a tree that may come here, with its number of child items, and what stands behind it.
-fn take_node(bytes: &[u8], left: Left) -> Option<(Seen<'_>, u16, &[u8], Left)>
+fn take_node(bytes: &[u8], left: Left) -> Option<(NodeView<'_>, u16, &[u8], Left)>
     requires { IsLeft left }
-    ensures { MatchOption result (BeginsNoTree bytes.now left) (λ found. HasTakenNode bytes.now left (node_with found.0.kind found.0.name.now found.0.content.now) found.1 found.2.now found.3 × (found.1 < 65536)) }
+    ensures { MatchOption result (BeginsNoTree bytes.now left) (λ found. HasTakenNode bytes.now left (seen_node found.0) found.1 found.2.now found.3 × (found.1 < 65536)) }
 {
     if left.items == 0 {
         return None;
     }
-    let Some((seen, count, behind)) = read_node(bytes, left.room) else {
+    let Some((node, count, behind)) = read_node(bytes, left.room) else {
         return None;
     };
     let left = Left {
-        room: left.room - seen.weight(),
+        room: left.room - node.weight(),
         proxies: left.proxies,
         items: left.items - 1,
     };
-    Some((seen, count, behind, left))
+    Some((node, count, behind, left))
 }
 
 // A tree of one node that may come here, and what stands behind it.
-fn take_leaf(bytes: &[u8], left: Left) -> Option<(Seen<'_>, &[u8], Left)>
+fn take_leaf(bytes: &[u8], left: Left) -> Option<(NodeView<'_>, &[u8], Left)>
     requires { IsLeft left }
-    ensures { IfSome result (λ found. HasTaken bytes.now left (Grow (node_with found.0.kind found.0.name.now found.0.content.now) End End) found.1.now found.2) }
+    ensures { IfSome result (λ found. HasTaken bytes.now left (Grow (seen_node found.0) End End) found.1.now found.2) }
 {
     let [_, _, _, _, _, _, 0, 0, ..] = bytes else {
         return None;
     };
-    let (seen, count, behind, left) = take_node(bytes, left)?;
+    let (node, count, behind, left) = take_node(bytes, left)?;
     if count != 0 {
         return None;
     }
-    Some((seen, behind, left))
+    Some((node, behind, left))
 }
 
 // What the rest of a piece may have: weight, proxies and items.
@@ -289,9 +257,9 @@ fn take_run(bytes: &[u8], left: Left, after_run: bool) -> Option<(u32, &[u8], Le
 }
 
 // A node with its number of child items, and what stands behind it.
-fn read_node(bytes: &[u8], room: u32) -> Option<(Seen<'_>, u16, &[u8])>
+fn read_node(bytes: &[u8], room: u32) -> Option<(NodeView<'_>, u16, &[u8])>
     requires { room ≤ 256 }
-    ensures { MatchOption result (BeginsNoNode bytes.now room) (λ found. (bytes.now ≡ node_bytes (node_with found.0.kind found.0.name.now found.0.content.now) found.1 ++ found.2.now) × (weight (node_with found.0.kind found.0.name.now found.0.content.now) ≤ room) × (found.1 < 65536)) }
+    ensures { MatchOption result (BeginsNoNode bytes.now room) (λ found. (bytes.now ≡ node_bytes (seen_node found.0) found.1 ++ found.2.now) × (weight (seen_node found.0) ≤ room) × (found.1 < 65536)) }
 {
     let Some((kind, name, content, items, behind)) = read_node_head(bytes) else {
         return None;
@@ -300,10 +268,10 @@ fn read_node(bytes: &[u8], room: u32) -> Option<(Seen<'_>, u16, &[u8])>
     if slots as u32 >= room {
         return None;
     }
-    let Some((seen, rest)) = read_content(behind, kind, name, content) else {
+    let Some((node, rest)) = read_content(behind, kind, name, content) else {
         return None;
     };
-    Some((seen, items, rest))
+    Some((node, items, rest))
 }
 
 fn read_node_head(bytes: &[u8]) -> Option<(Kind, u16, u16, u16, &[u8])>
@@ -335,8 +303,8 @@ fn kind_from(byte: u8) -> Option<Kind>
 }
 
 // The name, the content and the zero bytes behind them.
-fn read_content(bytes: &[u8], kind: Kind, name: u16, content: u16) -> Option<(Seen<'_>, &[u8])>
-    ensures { MatchOption result (BeginsNoContent bytes.now name content) (λ found. (bytes.now ≡ content_bytes (node_with found.0.kind found.0.name.now found.0.content.now) ++ found.1.now) × (found.0.kind ≡ kind) × (length found.0.name.now ≡ name) × (length found.0.content.now ≡ content)) }
+fn read_content(bytes: &[u8], kind: Kind, name: u16, content: u16) -> Option<(NodeView<'_>, &[u8])>
+    ensures { MatchOption result (BeginsNoContent bytes.now name content) (λ found. (bytes.now ≡ content_bytes (seen_node found.0) ++ found.1.now) × (found.0.kind ≡ kind) × (length found.0.name.now ≡ name) × (length found.0.content.now ≡ content)) }
 {
     let name = usize::from(name);
     let end = name + usize::from(content);
@@ -347,12 +315,12 @@ fn read_content(bytes: &[u8], kind: Kind, name: u16, content: u16) -> Option<(Se
     if !is_zero(&bytes[end..size]) {
         return None;
     }
-    let seen = Seen {
+    let node = NodeView {
         kind,
         name: &bytes[..name],
         content: &bytes[name..end],
     };
-    Some((seen, &bytes[size..]))
+    Some((node, &bytes[size..]))
 }
 
 fn is_zero(bytes: &[u8]) -> bool

@@ -1,8 +1,12 @@
 // Records whose bytes are known.
+ghost use Rattle.std.specs.Prelude.{IfOk};
 ghost use Rattle.nx_piece.specs.Valid.{IsValidInline};
 
 use nx_lists::NoMemory;
-use nx_piece::{Item, Located, Piece, Proxy, Stored, decode, encode, locate, weight};
+use nx_piece::{
+    Item, ItemView, ItemsView, Located, LocatedView, PieceView, Proxy, Stored, StoredView,
+    TreeView, decode, encode, find, locate, view, weight,
+};
 use nx_tree::Kind;
 use std::alloc::Global;
 use std::process::Abort;
@@ -52,6 +56,53 @@ fn small_document(rt: HostRuntime) -> Result<(), Fail> {
     Ok(())
 }
 
+// The piece whose proxies stand in the record.
+fn seen<'a>(rt: &impl Abort, alloc: Global, bytes: &'a [u8]) -> Result<PieceView<'a>, NoMemory>
+    ensures { IfOk result (λ piece. IsValidInline piece.body.roots piece.proxies) }
+{
+    let Some(StoredView::Inline(piece)) = view(alloc, bytes)? else {
+        panic!(rt; "no piece with its proxies was seen");
+    };
+    Ok(piece)
+}
+
+// The first of the items, which is a tree, and how many stand behind it.
+fn first<'a>(rt: &impl Abort, items: ItemsView<'a>) -> (TreeView<'a>, usize) {
+    let Some((ItemView::Tree(tree), behind)) = items.split_first() else {
+        panic!(rt; "there is no tree");
+    };
+    (tree, behind.len())
+}
+
+// The attribute of the small document.
+fn check_attribute(
+    rt: &impl Abort,
+    alloc: Global,
+    attribute: TreeView<'_>,
+) -> Result<(), NoMemory> {
+    assert_eq!(rt; attribute.node.kind, Kind::Attribute);
+    assert_eq!(rt; attribute.children.len(), 0);
+    assert_eq!(rt;
+        attribute.node.to_node(alloc)?.content.as_slice(),
+        b"1".as_slice()
+    );
+    Ok(())
+}
+
+#[test]
+fn small_document_seen(rt: HostRuntime) -> Result<(), Fail> {
+    let alloc = rt.alloc();
+    let piece = seen(&rt, alloc, &DOCUMENT)?;
+    let (root, behind) = first(&rt, piece.body.roots());
+    assert_eq!(rt; behind, 0);
+    let (element, _) = first(&rt, root.children);
+    assert_eq!(rt; element.node.name, b"a".as_slice());
+    let (attribute, behind) = first(&rt, element.children);
+    assert_eq!(rt; behind, 1);
+    check_attribute(&rt, alloc, attribute)?;
+    Ok(())
+}
+
 // The root of a document over an element `r` over a run of so many proxies, of one root each where they
 // stand in the record. Else they stand in a chain from page 7 on.
 fn wide(alloc: Global, form: u8, count: u16) -> Result<Vec<u8>, NoMemory> {
@@ -73,15 +124,15 @@ fn wide(alloc: Global, form: u8, count: u16) -> Result<Vec<u8>, NoMemory> {
 
 // The path leads to the proxy at the end of the inline form, and no further.
 #[tactic(auto, using(nx_piece::proofs::Laws::inline_is_piece))]
-fn check_paths(rt: &impl Abort, piece: &Piece)
+fn check_paths(rt: &impl Abort, piece: &PieceView<'_>)
     requires { IsValidInline piece.now.body.roots piece.now.proxies }
 {
-    let Located::Away {
+    let LocatedView::Away {
         proxy,
         index,
         member,
         used,
-    } = locate(piece, 0, &[0, 5])
+    } = find(piece, 0, &[0, 5])
     else {
         panic!(rt; "the path leads not into a record");
     };
@@ -91,7 +142,34 @@ fn check_paths(rt: &impl Abort, piece: &Piece)
         roots: 1,
     };
     assert_eq!(rt; (proxy, index, member, used), (want, 5, 0, 2));
-    assert!(rt; matches!(locate(piece, 0, &[0, 1016]), Located::Nowhere));
+    assert!(rt; matches!(find(piece, 0, &[0, 1016]), LocatedView::Nowhere));
+}
+
+// The same path in the copy.
+#[tactic(auto, using(nx_piece::proofs::Laws::inline_is_piece))]
+fn check_located(rt: &impl Abort, alloc: Global, bytes: &[u8]) -> Result<(), NoMemory> {
+    let Some(Stored::Inline(piece)) = decode(alloc, bytes)? else {
+        panic!(rt; "no proxies were read");
+    };
+    let Located::Away {
+        proxy,
+        index,
+        member,
+        used,
+    } = locate(&piece, 0, &[0, 5])
+    else {
+        panic!(rt; "the path leads not into a record");
+    };
+    assert_eq!(rt; (proxy.page, proxy.slot, proxy.roots), (65_541, 3, 1));
+    assert_eq!(rt; (index, member, used), (5, 0, 2));
+    assert!(rt; matches!(locate(&piece, 0, &[0, 1016]), Located::Nowhere));
+    Ok(())
+}
+
+fn check_seen(rt: &impl Abort, alloc: Global, bytes: &[u8]) -> Result<(), NoMemory> {
+    let piece = seen(rt, alloc, bytes)?;
+    check_paths(rt, &piece);
+    Ok(())
 }
 
 #[test]
@@ -99,10 +177,11 @@ fn inline_and_chained(rt: HostRuntime) -> Result<(), Fail> {
     let alloc = rt.alloc();
     let bytes = wide(alloc, 1, 1016)?;
     assert_eq!(rt; bytes.len(), 8176);
+    check_seen(&rt, alloc, bytes.as_slice())?;
+    check_located(&rt, alloc, bytes.as_slice())?;
     let Some(Stored::Inline(piece)) = decode(alloc, bytes.as_slice())? else {
         panic!(rt; "no proxies were read");
     };
-    check_paths(&rt, &piece);
     let again = encode(alloc, &Stored::Inline(piece))?;
     assert_eq!(rt; again.as_slice(), bytes.as_slice());
 

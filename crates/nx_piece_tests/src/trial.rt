@@ -4,48 +4,99 @@ ghost use Rattle.nx_piece.specs.Valid.{IsValidInline};
 use crate::made::{Made, make};
 use crate::random::Random;
 use nx_lists::NoMemory;
-use nx_piece::{Located, Piece, Stored, children, decode, encode, locate, weight};
+use nx_piece::{
+    Located, LocatedView, PieceView, Stored, StoredView, children, count_children, decode, encode,
+    find, locate, view, weight,
+};
 use std::alloc::Global;
 use std::process::Abort;
 use std::test::Fail;
 
+fn check(rt: &impl Abort, alloc: Global, made: &Made) -> Result<(), NoMemory> {
+    check_copy(rt, alloc, made)?;
+    check_located(rt, alloc, made)?;
+    check_counted(rt, alloc, made)?;
+    check_view(rt, alloc, made)
+}
+
 // A piece has the bytes that it was read from, and weighs what was written.
 #[tactic(auto, using(nx_piece::proofs::Laws::are_short))]
-fn check(rt: &impl Abort, alloc: Global, made: &Made) -> Result<(), NoMemory> {
+fn check_copy(rt: &impl Abort, alloc: Global, made: &Made) -> Result<(), NoMemory> {
     let Some(stored) = decode(alloc, made.bytes.as_slice())? else {
         panic!(rt; "no piece was read");
     };
     assert_eq!(rt; encode(alloc, &stored)?.as_slice(), made.bytes.as_slice());
     match &stored {
-        Stored::Inline(piece) => {
-            assert_eq!(rt; weight(&piece.body), made.weight);
+        Stored::Inline(piece) => assert_eq!(rt; weight(&piece.body), made.weight),
+        Stored::Chained { body, .. } => assert_eq!(rt; weight(body), made.weight),
+    }
+    Ok(())
+}
+
+// The copy has no more roots, and its first root no more children.
+#[tactic(auto, using(nx_piece::proofs::Laws::inline_is_piece))]
+fn check_located(rt: &impl Abort, alloc: Global, made: &Made) -> Result<(), NoMemory> {
+    let Some(Stored::Inline(piece)) = decode(alloc, made.bytes.as_slice())? else {
+        return Ok(());
+    };
+    let root = (made.roots % 256) as u16;
+    assert!(rt; matches!(locate(&piece, root, &[]), Located::Nowhere));
+    assert!(rt; matches!(locate(&piece, 0, &[made.children]), Located::Nowhere));
+    for part in 0..made.children.min(8) {
+        let position = made.children - 1 - part;
+        assert!(rt; !matches!(locate(&piece, 0, &[position]), Located::Nowhere));
+    }
+    Ok(())
+}
+
+// The first root of the copy has just so many children.
+#[tactic(auto, using(nx_piece::proofs::Laws::inline_is_piece))]
+fn check_counted(rt: &impl Abort, alloc: Global, made: &Made) -> Result<(), NoMemory> {
+    let Some(Stored::Inline(piece)) = decode(alloc, made.bytes.as_slice())? else {
+        return Ok(());
+    };
+    let Located::Here { tree, first } = locate(&piece, 0, &[]) else {
+        panic!(rt; "no root was found");
+    };
+    assert_eq!(rt; children(&piece, tree, first), made.children);
+    Ok(())
+}
+
+// The same of the piece as it is seen in the bytes.
+fn check_view(rt: &impl Abort, alloc: Global, made: &Made) -> Result<(), NoMemory> {
+    let Some(stored) = view(alloc, made.bytes.as_slice())? else {
+        panic!(rt; "no piece was seen");
+    };
+    match &stored {
+        StoredView::Inline(piece) => {
+            assert_eq!(rt; piece.body.weight(), made.weight);
             check_children(rt, piece, made);
         }
-        Stored::Chained { body, .. } => assert_eq!(rt; weight(body), made.weight),
+        StoredView::Chained { body, .. } => assert_eq!(rt; body.weight(), made.weight),
     }
     Ok(())
 }
 
 // It has no more roots, and the first one has just so many children: the last ones are there.
 #[tactic(auto, using(nx_piece::proofs::Laws::inline_is_piece))]
-fn check_children(rt: &impl Abort, piece: &Piece, made: &Made)
+fn check_children(rt: &impl Abort, piece: &PieceView<'_>, made: &Made)
     requires { IsValidInline piece.now.body.roots piece.now.proxies }
 {
     assert!(rt;
         matches!(
-            locate(piece, (made.roots % 256) as u16, &[]),
-            Located::Nowhere
+            find(piece, (made.roots % 256) as u16, &[]),
+            LocatedView::Nowhere
         )
     );
-    let Located::Here { tree, first } = locate(piece, 0, &[]) else {
+    let LocatedView::Here { tree, first } = find(piece, 0, &[]) else {
         panic!(rt; "no root was found");
     };
-    assert_eq!(rt; children(piece, tree, first), made.children);
+    assert_eq!(rt; count_children(piece, tree, first), made.children);
     for part in 0..made.children.min(8) {
         let position = made.children - 1 - part;
-        assert!(rt; !matches!(locate(piece, 0, &[position]), Located::Nowhere));
+        assert!(rt; !matches!(find(piece, 0, &[position]), LocatedView::Nowhere));
     }
-    assert!(rt; matches!(locate(piece, 0, &[made.children]), Located::Nowhere));
+    assert!(rt; matches!(find(piece, 0, &[made.children]), LocatedView::Nowhere));
 }
 
 #[test]

@@ -1,44 +1,62 @@
-use Rattle.std.proofs.Common.{arith, ap, ◌∙◌, ◌*◌, ◌+◌, ◌<◌}
-use Rattle.nx_piece.specs.Items.{gapped_of}
-use Rattle.nx_piece.proofs.GappedLemmas.{gapped_of-push}
-use Rattle.nx_piece.proofs.ReadLemmas.{too_many, no_tree, tree_read, leaf_read, run_read}
+use Rattle.std.proofs.Common.{arith, refl, ◌≡◌, ◌∙◌, length}
+use Rattle.nx_piece.proofs.ReadLemmas.{no_tree}
+use Rattle.nx_piece.proofs.PushLemmas.{tree_item, leaf_item, run_item, left_few, pushed_length, tree_taken}
 use Rattle.nx_piece.proofs.reading.+read_tree.Goals as goal
-use Rattle.nx_piece.proofs.reading.+read_tree.Goals.{in-Some-take_run, in_default-take_run+in-Some-take_leaf+in_ok-copied, in_default-take_run+in_default-take_leaf+in_ok-tree+in-Some-2}
+use Rattle.nx_piece.proofs.reading.+read_tree.Goals.{in-Some-take_run, in_default-take_run+in-Some-take_leaf, in_default-take_run+in_default-take_leaf+in-Some-read_tree}
 
-pub returns-then-from-between : goal.returns-then-from-between
-returns-then-from-between t c =
-    let head = c.in-Some.ensures in
-    let many : 3 * c.in-Some.between.room + 1 < c.in-Some.count = let f = c.from.ensures in let m = c.if-from-between.true in omega arith in
-    too_many head.0 c.requires head.1 many
-
-pub returns-in_default-2 : goal.returns-in_default-2
-returns-in_default-2 t c =
-    let head = c.in-Some.ensures in
+pub returns-in_default-read_tree-clause-tree : goal.returns-in_default-read_tree-clause-tree
+returns-in_default-read_tree-clause-tree t c =
     no_tree
-    head.0 c.requires head.1 c.loop.invariant.read c.loop-test.true (rw c.in_default-2.is at c.in_ok-tree.ensures) c.in_default-take_run.ensures
+    c.in-Some.ensures.0 c.requires.few c.in-Some.ensures.1 c.loop.invariant.seen.read c.loop-test.true c.in_default-read_tree.ensures.tree c.in_default-take_run.ensures
 
 pub loop-preserved : goal.loop-preserved
 loop-preserved t c =
+    let so_far = c.loop.invariant.seen in
+    let room = c.loop.invariant.room in let less = c.loop.invariant.less in let same = c.loop.invariant.capacity in
     elim c.match-take_run.branch [
       | in-Some-take_run w ↦
-          rw (w.rest-is, w.left-is, w.after_run-is, w.children-is)
+          let taken = w.in-Some-take_run.ensures.1 in
+          let weight = taken.room in let items = taken.items in
+          let long = w.push_reserved-in-Some-take_run.ensures.len in let capacity = w.push_reserved-in-Some-take_run.ensures.capacity in
+          rw (w.flat-is, w.rest-is, w.left-is, w.after_run-is)
           (record {
-            read = run_read c.loop.invariant.read w.in-Some-take_run.ensures (ap gapped_of w.push_reserved.ensures.items ∙ gapped_of-push _ _);
-            room = grind arith;
-            filled = let before = c.loop.invariant.filled in let more = w.push_reserved.ensures.len in omega arith;
+            seen = run_item so_far w.in-Some-take_run.ensures w.push_reserved-in-Some-take_run.ensures.items;
+            few = left_few taken c.loop.invariant.few;
+            less = omega arith;
+            room = omega arith;
+            capacity = capacity ∙ same;
           })
-      | in_default-take_run+in-Some-take_leaf+in_ok-copied w ↦
-          rw (w.rest-is, w.left-is, w.after_run-is, w.children-is)
+      | in_default-take_run+in-Some-take_leaf w ↦
+          let taken = w.in-Some-take_leaf.ensures in
+          let weight = taken.room in let items = taken.items in
+          let long = w.push_reserved-in-Some-take_leaf.ensures.len in let capacity = w.push_reserved-in-Some-take_leaf.ensures.capacity in
+          rw (w.flat-is, w.rest-is, w.left-is, w.after_run-is)
           (record {
-            read = leaf_read c.loop.invariant.read w.in-Some-take_leaf.ensures w.in_ok-copied.ensures w.new.ensures (ap gapped_of w.push_reserved-in-Some-take_leaf.ensures.items ∙ gapped_of-push _ _);
-            room = grind arith;
-            filled = let before = c.loop.invariant.filled in let more = w.push_reserved-in-Some-take_leaf.ensures.len in omega arith;
+            seen = leaf_item w.in-Some-take_leaf.node so_far taken w.push_reserved-in-Some-take_leaf.ensures.items;
+            few = left_few taken c.loop.invariant.few;
+            less = omega arith;
+            room = omega arith;
+            capacity = capacity ∙ same;
           })
-      | in_default-take_run+in_default-take_leaf+in_ok-tree+in-Some-2 w ↦
-          rw (w.rest-is, w.left-is, w.after_run-is, w.children-is)
+      | in_default-take_run+in_default-take_leaf+in-Some-read_tree w ↦
+          let tree = w.in-Some-read_tree.ensures.tree in
+          let taken = tree.2 in
+          let weight = taken.room in let items = taken.items in
+          let long = pushed_length tree.1 in
+          let before = c.loop.flat.ok.0 in let now = w.read_tree.new.flat.ok.0 in
+          let capacity = w.in-Some-read_tree.ensures.capacity in
+          rw (w.flat-is, w.rest-is, w.left-is, w.after_run-is)
           (record {
-            read = tree_read c.loop.invariant.read (rw w.in-Some-2.is at w.in_ok-tree.ensures) (ap gapped_of w.push_reserved-in_default-take_leaf.ensures.items ∙ gapped_of-push _ _);
-            room = grind arith;
-            filled = let before = c.loop.invariant.filled in let more = w.push_reserved-in_default-take_leaf.ensures.len in omega arith;
+            seen = tree_item so_far tree;
+            few = left_few taken c.loop.invariant.few;
+            less = omega arith;
+            room = omega arith;
+            capacity = capacity ∙ same;
           })
     ]
+
+pub returns-clause-tree : goal.returns-clause-tree
+returns-clause-tree t c =
+    let place : c.len-place.result ≡ length c.args.flat.now.items = c.len-place.ensures ∙ c.args.flat.now.ok.0 in
+    tree_taken c.in-Some.node
+    c.in-Some.ensures.0 c.push_reserved.ensures.items c.loop.invariant.seen (omega arith) place refl refl

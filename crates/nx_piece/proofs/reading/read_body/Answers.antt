@@ -1,22 +1,38 @@
-use Rattle.std.proofs.Common.{arith, refl}
-use Rattle.nx_piece.proofs.BodyLemmas.{bad_roots, bad_sums, body_read}
+use Rattle.std.proofs.Common.{arith, refl, ◌∙◌, ap}
+use Rattle.nx_piece.specs.Gapped.{width, gapped_weight}
+use Rattle.nx_piece.proofs.BodyLemmas.{bad_roots, bad_items, bad_sums, body_read}
+use Rattle.nx_piece.proofs.PushLemmas.{all_pushed}
 use Rattle.nx_piece.proofs.reading.read_body.Goals as goal
 
-pub returns-in_default-2 : goal.returns-in_default-2
-returns-in_default-2 c =
-    bad_roots c.in-Some.ensures (rw c.in_default-2.is at c.in_ok-trees.ensures)
+pub returns-then-room-behind : goal.returns-then-room-behind
+returns-then-room-behind c = bad_items c.in-Some.ensures (let more = c.if-room-behind.true in omega arith)
+
+pub returns-in_default-read_roots : goal.returns-in_default-read_roots
+returns-in_default-read_roots c = bad_roots c.in-Some.ensures c.in_default-read_roots.ensures
 
 pub returns-then-left-ne0 : goal.returns-then-left-ne0
 returns-then-left-ne0 c =
-    bad_sums
-    c.in-Some.ensures (rw c.in-Some-2.is at c.in_ok-trees.ensures) c.if-proxies-gt524288.false (λ z. let a = z.0 in omega arith)
+    let read = c.in-Some-read_roots.ensures in
+    bad_sums c.in-Some.ensures (read.2, read.3, read.4) c.if-proxies-gt524288.false (λ z. let a = z.0 in omega arith)
 
 pub returns-then-left-ne0-2 : goal.returns-then-left-ne0-2
 returns-then-left-ne0-2 c =
-    bad_sums
-    c.in-Some.ensures (rw c.in-Some-2.is at c.in_ok-trees.ensures) c.if-proxies-gt524288.false (λ z. let a = z.1 in omega arith)
+    let read = c.in-Some-read_roots.ensures in
+    bad_sums c.in-Some.ensures (read.2, read.3, read.4) c.if-proxies-gt524288.false (λ z. let a = z.1 in omega arith)
+
+pub new-body-requires-clause-roots : goal.new-body-requires-clause-roots
+new-body-requires-clause-roots c =
+    let read = c.in-Some-read_roots.ensures in
+    let wide = read.4 in let same = ap width (all_pushed c.in_ok-flat.ensures.items read.1) in omega arith
+
+pub new-body-requires-clause-weight : goal.new-body-requires-clause-weight
+new-body-requires-clause-weight c =
+    let read = c.in-Some-read_roots.ensures in
+    let light = read.2.room in let same = ap gapped_weight (all_pushed c.in_ok-flat.ensures.items read.1) in omega arith
 
 pub returns : goal.returns
 returns c =
-    body_read
-    c.in-Some.ensures (rw c.in-Some-2.is at c.in_ok-trees.ensures) (omega arith) c.if-roots-gt256.false c.if-proxies-gt524288.false (omega arith) (omega arith) refl
+    let read = c.in-Some-read_roots.ensures in
+    rw (c.new-body.ensures ∙ all_pushed c.in_ok-flat.ensures.items read.1)
+    (body_read
+    c.in-Some.ensures (read.2, read.3, read.4) (omega arith) c.if-roots-gt256.false c.if-proxies-gt524288.false (omega arith) (omega arith) refl)

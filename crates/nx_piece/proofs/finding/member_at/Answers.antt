@@ -2,7 +2,7 @@ use Rattle.std.proofs.Common.{arith, ◌≡◌, ◌+◌, ◌-◌, ℕ, get_or, s
 use Rattle.nx_piece.specs.declared.piece.Proxy.{Proxy}
 use Rattle.nx_piece.proofs.WalkLemmas.{next_at}
 use Rattle.nx_piece.proofs.LocateLemmas.{IsPassed, is_member, one_passed}
-use Rattle.nx_piece.proofs.locating.member_at.Goals as goal
+use Rattle.nx_piece.proofs.finding.member_at.Goals as goal
 
 pub returns-then-left-roots-clause-found : goal.returns-then-left-roots-clause-found
 returns-then-left-roots-clause-found c =

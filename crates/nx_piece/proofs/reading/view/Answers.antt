@@ -1,7 +1,7 @@
 use Rattle.std.proofs.Common.{arith, ap, ◌<◌, length}
 use Rattle.std.proofs.lemmas.Bool.Decides.{nat_tests}
 use Rattle.nx_piece.proofs.BodyLemmas.{no_body, no_stored}
-use Rattle.nx_piece.proofs.reading.decode.Goals as goal
+use Rattle.nx_piece.proofs.reading.view.Goals as goal
 
 pub returns-in_default : goal.returns-in_default
 returns-in_default c = no_body c.args.bytes.now (rw c.in_default.is at c.in_ok-head.ensures)

@@ -4,7 +4,7 @@ use Rattle.std.proofs.lemmas.List.Sums.{sum_by-cons}
 use Rattle.nx_piece.specs.declared.piece.Proxy.{Proxy}
 use Rattle.nx_piece.proofs.WalkLemmas.{next_at}
 use Rattle.nx_piece.proofs.LocateLemmas.{roots_most}
-use Rattle.nx_piece.proofs.locating.roots_of.Goals as goal
+use Rattle.nx_piece.proofs.finding.roots_of.Goals as goal
 
 pub overflow_add-roots : goal.overflow_add-roots
 overflow_add-roots c =

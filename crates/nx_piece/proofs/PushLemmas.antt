@@ -1,0 +1,141 @@
+-- Items pushed onto a flat list: which forest they spell.
+use Rattle.std.proofs.Common.{◌≡◌, ℕ, ◌+◌, ◌-◌, Bool, true, false, List, [], ◌∷◌, ◌++◌, length, drop, slice_set, refl, sym, ap, ◌∙◌, subst, arith, append_assoc}
+use Rattle.std.proofs.lemmas.List.{length-append, append-nil}
+use Rattle.std.proofs.Math.Seq.{take-append_seam, drop-append_seam, set-append_seam}
+use Rattle.nx_tree.specs.declared.node.Node.{Node}
+use Rattle.nx_piece.specs.declared.viewing.NodeView.{NodeView}
+use Rattle.nx_piece.specs.declared.viewing.Flat.{Flat}
+use Rattle.nx_piece.specs.declared.viewing.Flat.TheVariants.{Tree, Run}
+use Rattle.nx_piece.specs.declared.reading.Left.{Left}
+use Rattle.nx_piece.specs.Gapped.{Gapped, GappedTree, End, Grow, Gap, item_count}
+use Rattle.nx_piece.specs.Flat.{seen_node, forest_of, Spells}
+use Rattle.nx_piece.specs.Reading.{alone, HasPushed, HasTaken, HasTakenNode, IsLeft}
+use Rattle.nx_piece.proofs.ApartLemmas.{row}
+use Rattle.nx_piece.proofs.FlatLemmas.{first_tree}
+use Rattle.nx_piece.proofs.ReadLemmas.{ItemsRead, no_item_read, tree_read, run_read, whole_tree}
+use Rattle.nx_piece.proofs.BodyLemmas.{RootsRead, no_root_read, root_read}
+
+-- what stands behind each other spells a row
+pub spells_row : (a b : List Flat) (f g : Gapped) → Spells a f → Spells b g → Spells (a ++ b) (row f g)
+spells_row a b End g h k = subst (λ (l : List Flat). Spells (l ++ b) g) (sym h) k
+spells_row a b (Gap c s) g h k = (h.0 ++ b, ap (λ (l : List Flat). l ++ b) h.1, spells_row h.0 b s g h.2 k)
+spells_row a b (Grow n d s) g h k = (
+  h.0,
+  h.1,
+  h.2 ++ b,
+  ap (λ (l : List Flat). l ++ b) h.3 ∙ ap (λ (l : List Flat). Tree h.0 (length h.1) ∷ l) (append_assoc h.1 h.2 b),
+  h.4,
+  h.5,
+  spells_row h.2 b s g h.6 k,
+)
+
+-- a forest is the one that its spelling says
+pub spells_forest : (items : List Flat) (f : Gapped) → Spells items f → forest_of items ≡ f
+spells_forest items End h = ap forest_of h
+spells_forest items (Gap c s) h = ap forest_of h.1 ∙ ap (Gap c) (spells_forest h.0 s h.2)
+spells_forest items (Grow n b s) h =
+    ap forest_of h.3
+    ∙ first_tree h.0 (length h.1) (h.1 ++ h.2)
+    ∙ ap (λ (l : List Flat). Grow (seen_node h.0) (forest_of l) (forest_of (drop (length h.1) (h.1 ++ h.2)))) (take-append_seam h.1 h.2)
+    ∙ ap (λ (l : List Flat). Grow (seen_node h.0) (forest_of h.1) (forest_of l)) (drop-append_seam h.1 h.2)
+    ∙ ap (λ (m : Node). Grow m (forest_of h.1) (forest_of h.2)) h.4
+    ∙ ap (λ (g : Gapped). Grow n g (forest_of h.2)) (spells_forest h.1 b h.5)
+    ∙ ap (Grow n b) (spells_forest h.2 s h.6)
+
+pub spells_length : (items : List Flat) (f : Gapped) → Spells items f → length items ≡ item_count f
+spells_length items End h = ap length h
+spells_length items (Gap c s) h = let e = ap length h.1 in let r = spells_length h.0 s h.2 in omega arith
+spells_length items (Grow n b s) h =
+    let e = ap length h.3 in let a = length-append h.1 h.2 in
+    let p = spells_length h.1 b h.5 in let q = spells_length h.2 s h.6 in
+    omega arith
+
+pub none_pushed : (old : List Flat) → HasPushed old old End
+none_pushed old = record { added = []; same = sym (append-nil old); spells = refl }
+
+pub more_pushed : {old mid new : List Flat} {f g : Gapped} → HasPushed old mid f → HasPushed mid new g → HasPushed old new (row f g)
+more_pushed {old} {mid} {new} {f} {g} h k = record {
+  added = h.added ++ k.added;
+  same = k.same ∙ ap (λ (l : List Flat). l ++ k.added) h.same ∙ append_assoc old h.added k.added;
+  spells = spells_row h.added k.added f g h.spells k.spells;
+}
+
+pub run_pushed : {old new : List Flat} (count : ℕ) → new ≡ old ++ Run count ∷ [] → HasPushed old new (Gap count End)
+run_pushed count is = record { added = Run count ∷ []; same = is; spells = ([], refl, refl) }
+
+pub leaf_pushed : {old new : List Flat} (node : NodeView) → new ≡ old ++ Tree node 0 ∷ [] → HasPushed old new (Grow (seen_node node) End End)
+leaf_pushed node is = record { added = Tree node 0 ∷ []; same = is; spells = (node, [], [], refl, refl, refl, refl) }
+
+pub pushed_length : {old new : List Flat} {f : Gapped} → HasPushed old new f → length new ≡ length old + item_count f
+pushed_length {old} {new} {f} h = omega (arith, ap length h.same, length-append old h.added, spells_length h.added f h.spells)
+
+-- what is pushed onto nothing is all
+pub all_pushed : {old new : List Flat} {f : Gapped} → old ≡ [] → HasPushed old new f → forest_of new ≡ f
+all_pushed {old} {new} {f} none h = ap forest_of (h.same ∙ ap (λ (l : List Flat). l ++ h.added) none) ∙ spells_forest h.added f h.spells
+
+-- a node, what stands below it behind it, and then their number in its place
+pub tree_pushed : {old begun now new : List Flat} {f : Gapped} (node : NodeView) (place below : ℕ) → begun ≡ old ++ Tree node 0 ∷ [] → HasPushed begun now f → place ≡ length old → below ≡ item_count f → new ≡ slice_set now place (Tree node below)
+    → HasPushed old new (Grow (seen_node node) f End)
+tree_pushed {old} {begun} {now} {new} {f} node place below begins h at many is =
+    let long : below ≡ length h.added = many ∙ sym (spells_length h.added f h.spells) in
+    record {
+      added = Tree node (length h.added) ∷ h.added;
+      same = is
+          ∙ ap (λ (l : List Flat). slice_set l place (Tree node below)) (h.same ∙ ap (λ (l : List Flat). l ++ h.added) begins ∙ append_assoc old (Tree node 0 ∷ []) h.added)
+          ∙ ap (λ (i : ℕ). slice_set (old ++ Tree node 0 ∷ h.added) i (Tree node below)) at
+          ∙ set-append_seam old (Tree node 0) h.added (Tree node below)
+          ∙ ap (λ (n : ℕ). old ++ Tree node n ∷ h.added) long;
+      spells = (node, h.added, [], ap (λ (l : List Flat). Tree node (length h.added) ∷ l) (sym (append-nil h.added)), refl, h.spells, refl);
+    }
+
+-- what a loop has read and pushed
+pub record ItemsPushed (old new : List Flat) (bytes : List ℕ) (before : Left) (rest : List ℕ) (left : Left) (i : ℕ) (after_run : Bool) : Type 0 where
+  pub forest : Gapped
+  pub pushed : HasPushed old new forest
+  pub read : ItemsRead bytes before forest rest left i after_run
+
+pub no_item_pushed : (old : List Flat) (bytes : List ℕ) (left : Left) → ItemsPushed old old bytes left bytes left 0 false
+no_item_pushed old bytes left = record { forest = End; pushed = none_pushed old; read = no_item_read bytes left }
+
+-- a tree that is read and pushed
+abbrev pub TakesTree : (old new : List Flat) (bytes : List ℕ) (before : Left) (behind : List ℕ) (after : Left) → Type 0
+TakesTree old new bytes before behind after = (t : GappedTree) × HasPushed old new (alone t) × HasTaken bytes before (alone t) behind after
+
+pub tree_item : {old mid new : List Flat} {bytes rest behind : List ℕ} {before between after : Left} {i : ℕ} {after_run : Bool} → ItemsPushed old mid bytes before rest between i after_run → TakesTree mid new rest between behind after
+    → ItemsPushed old new bytes before behind after (i + 1) false
+tree_item {old} {mid} {new} {bytes} {rest} {behind} {before} {between} {after} {i} {after_run} h k =
+    record { forest = row h.forest (alone k.0); pushed = more_pushed h.pushed k.1; read = tree_read h.read k.2 }
+
+pub leaf_item : {old mid new : List Flat} {bytes rest behind : List ℕ} {before between after : Left} {i : ℕ} {after_run : Bool} (node : NodeView) → ItemsPushed old mid bytes before rest between i after_run
+    → HasTaken rest between (Grow (seen_node node) End End) behind after → new ≡ mid ++ Tree node 0 ∷ [] → ItemsPushed old new bytes before behind after (i + 1) false
+leaf_item node h k is = tree_item h (record { node = seen_node node; below = End }, leaf_pushed node is, k)
+
+pub run_item : {old mid new : List Flat} {bytes rest behind : List ℕ} {before between after : Left} {count i : ℕ} {after_run : Bool} → ItemsPushed old mid bytes before rest between i after_run
+    → (after_run ≡ false) × HasTaken rest between (Gap count End) behind after → new ≡ mid ++ Run count ∷ [] → ItemsPushed old new bytes before behind after (i + 1) true
+run_item {old} {mid} {new} {bytes} {rest} {behind} {before} {between} {after} {count} {i} {after_run} h k is =
+    record { forest = row h.forest (Gap count End); pushed = more_pushed h.pushed (run_pushed count is); read = run_read h.read k }
+
+-- no more is left behind what is read
+pub left_few : {bytes rest : List ℕ} {before left : Left} {f : Gapped} → HasTaken bytes before f rest left → IsLeft before → IsLeft left
+left_few h l = let a = h.room in let b = h.proxies in let r = l.room in let p = l.proxies in record { room = omega arith; proxies = omega arith }
+
+-- the head of a tree and all its items are read and pushed
+pub tree_taken : {old begun now new : List Flat} {bytes behind rest : List ℕ} {before between left : Left} {count i place below : ℕ} {after_run : Bool} (node : NodeView) → HasTakenNode bytes before (seen_node node) count behind between
+    → begun ≡ old ++ Tree node 0 ∷ [] → ItemsPushed begun now behind between rest left i after_run → i ≡ count → place ≡ length old → below ≡ between.items - left.items → new ≡ slice_set now place (Tree node below)
+    → TakesTree old new bytes before rest left
+tree_taken {old} {begun} {now} {new} {bytes} {behind} {rest} {before} {between} {left} {count} {i} {place} {below} {after_run} node head begins h all at many is =
+    let sum = h.read.read.items in
+    (record { node = seen_node node; below = h.forest }, tree_pushed node place below begins h.pushed at (let q : below ≡ item_count h.forest = omega arith in q) is, whole_tree head h.read all)
+
+-- the roots that a loop has read and pushed
+pub record RootsPushed (old new : List Flat) (bytes : List ℕ) (before : Left) (rest : List ℕ) (left : Left) (i : ℕ) : Type 0 where
+  pub forest : Gapped
+  pub pushed : HasPushed old new forest
+  pub read : RootsRead bytes before forest rest left i
+
+pub no_root_pushed : (old : List Flat) (bytes : List ℕ) (left : Left) → RootsPushed old old bytes left bytes left 0
+no_root_pushed old bytes left = record { forest = End; pushed = none_pushed old; read = no_root_read bytes left }
+
+pub root_pushed : {old mid new : List Flat} {bytes rest behind : List ℕ} {before between after : Left} {i : ℕ} → RootsPushed old mid bytes before rest between i → TakesTree mid new rest between behind after → RootsPushed old new bytes before behind after (i + 1)
+root_pushed {old} {mid} {new} {bytes} {rest} {behind} {before} {between} {after} {i} h k =
+    record { forest = row h.forest (alone k.0); pushed = more_pushed h.pushed k.1; read = root_read h.read k.2 }

@@ -1,0 +1,73 @@
+// A piece of its own, copied from a record.
+ghost use Rattle.std.specs.Prelude.{◌≡◌, IfOk};
+ghost use Rattle.nx_piece.specs.Valid.{AreTrees};
+ghost use Rattle.nx_piece.specs.Decoded.{IsDecoded};
+ghost use Rattle.nx_piece.specs.Viewing.{seen_tree};
+
+use crate::{
+    Body, BodyView, Item, ItemView, Items, Piece, PieceTree, PieceTrees, PieceView, Stored,
+    StoredView, TreeView, view,
+};
+use nx_tree::NoMemory;
+use std::alloc::Global;
+
+/// What a record of these bytes holds: `Some` of a valid piece exactly where they are the bytes of it, and else
+/// `None`. Of a piece whose proxies stand in a chain only the number of them is looked at.
+///
+/// Errors: `NoMemory`.
+pub fn decode(alloc: Global, bytes: &[u8]) -> Result<Option<Stored>, NoMemory>
+    ensures { IfOk result (λ read. IsDecoded bytes.now read) }
+{
+    let Some(stored) = view(alloc, bytes)? else {
+        return Ok(None);
+    };
+    match stored {
+        StoredView::Inline(piece) => {
+            let PieceView { body, proxies } = piece;
+            let body = copy_body(alloc, &body)?;
+            Ok(Some(Stored::Inline(Piece { body, proxies })))
+        }
+        StoredView::Chained { body, count, chain } => {
+            let body = copy_body(alloc, &body)?;
+            Ok(Some(Stored::Chained { body, count, chain }))
+        }
+    }
+}
+
+// A copy of the nodes.
+fn copy_body(alloc: Global, body: &BodyView<'_>) -> Result<Body, NoMemory>
+    requires { AreTrees body.now.roots }
+    ensures { IfOk result (λ copy. copy ≡ body.now) }
+{
+    let mut trees = Vec::with_capacity(alloc, usize::from(body.root_count()))?;
+    let mut rest = body.roots();
+    while let Some((item, behind)) = rest.split_first() {
+        if let ItemView::Tree(tree) = item {
+            trees.push_reserved(copy_tree(alloc, tree)?);
+        }
+        rest = behind;
+    }
+    Ok(Body {
+        roots: PieceTrees::from_vec(trees),
+    })
+}
+
+// A copy of a tree, to any depth.
+fn copy_tree(alloc: Global, tree: TreeView<'_>) -> Result<PieceTree, NoMemory>
+    ensures { IfOk result (λ copy. copy ≡ seen_tree tree.entry) }
+{
+    let node = tree.node.to_node(alloc)?;
+    let mut children = Vec::with_capacity(alloc, tree.children.len())?;
+    let mut rest = tree.children;
+    while let Some((item, behind)) = rest.split_first() {
+        match item {
+            ItemView::Tree(child) => children.push_reserved(Item::Tree(copy_tree(alloc, child)?)),
+            ItemView::Run { count } => children.push_reserved(Item::Run { count }),
+        }
+        rest = behind;
+    }
+    Ok(PieceTree {
+        node,
+        children: Items::from_vec(children),
+    })
+}
