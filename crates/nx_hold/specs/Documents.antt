@@ -24,16 +24,14 @@ pub record AddsRecords (places : List RecordPlace) (needs : ℕ) (was now : Held
   pub catalog : now.catalog ≡ was.catalog
   pub free : was.free ≤ now.free + needs
 
--- The records hold the document from the record at this place on: the lists that records name are in order, and the document is laid out in the pieces.
+-- The records hold the document from the record at this place on: the lists that records name are in order, and the document is laid out in the pieces, with no part heavier than the settings let it be.
 pub record HasDocument {D : Type 0} (d : Ghosts D) (records : Records) (disk : D) (root : RecordPlace) (document : CutTree) : Type 0 where
   pub saved : Held
   pub now : Held
   pub stands : StandsFor d records disk saved now
   pub tidy : IsTidy now
   pub pieces : PieceMap now
-  -- no part weighs more than this
-  pub k : ℕ
-  pub laid : IsLaidOut k pieces.piece_at root document
+  pub laid : IsLaidOut (now.settings).k pieces.piece_at root document
 
 -- A piece that was added came as a record at its place, with the list that it names.
 abbrev pub PieceAddsRecord : Type 0

@@ -8,4 +8,4 @@ mod lists;
 mod pieces;
 
 pub use entry::DocEntry;
-pub use pieces::{add_piece, read_piece, remove_piece, update_piece};
+pub use pieces::{add_piece, read_piece, remove_piece, update_piece, view_piece};

@@ -6,6 +6,7 @@ ghost use Rattle.nx_holdings.specs.Holdings.{Held, chain_count};
 ghost use Rattle.nx_records.specs.Records.{StandsFor, KeepsSaved, ComesTo, has_ended};
 ghost use Rattle.nx_records.specs.Refusals.{NotRead, NotChanged, NotStored, RunsOn, EndNow};
 ghost use Rattle.nx_piece.specs.Encoding.{proxies_bytes};
+ghost use Rattle.nx_piece.specs.Viewing.{seen_stored};
 ghost use Rattle.nx_piece.specs.Valid.{IsValid, IsValidPiece, HaveRoots, HaveNumbers, HasNumbers};
 ghost use Rattle.nx_hold.specs.Pieces.{IsStored, HoldsNone};
 ghost use Rattle.nx_hold.specs.Changes.{place_of, chain_pages};
@@ -13,8 +14,8 @@ ghost use Rattle.nx_hold.specs.Putting.{told_at, LacksProxies, HasList, FreesCha
 
 use nx_host::Disk;
 use nx_piece::{
-    Piece, Proxies, Stored, decode, decode_proxies, encode_chained, encode_inline, encode_proxies,
-    fits_inline,
+    Piece, Proxies, Stored, StoredView, decode, decode_proxies, encode_chained, encode_inline,
+    encode_proxies, fits_inline, view,
 };
 use nx_records::{Records, Rid, StoreError};
 use nx_tree::Bytes;
@@ -35,6 +36,30 @@ pub(crate) fn stored_at<D: Disk>(
 {
     let bytes = records.read(alloc, disk, rid)?;
     let Ok(read) = decode(alloc, bytes.as_slice()) else {
+        return Err(StoreError::Memory);
+    };
+    let Some(stored) = read else {
+        return Err(damaged(records, rid.page));
+    };
+    Ok(stored)
+}
+
+// As `stored_at`, but the nodes stay in the record's bytes.
+pub(crate) fn viewed_at<'a, D: Disk>(
+    alloc: Global,
+    records: &mut Records,
+    disk: &mut D,
+    rid: Rid,
+    bytes: &'a mut Bytes,
+) -> Result<StoredView<'a>, StoreError>
+    ensures still { IsStill D.Disk disk.old disk.new }
+    ensures reads { D.reads disk.new ≤ D.reads disk.old + 1 }
+    ensures ok { IfOk result (λ view. (has_ended records.old ≡ false) × (records.new ≡ records.old) × IsValid (seen_stored view) × HasNumbers (seen_stored view)
+        × ((saved now : Held) → StandsFor D.Disk records.old disk.old saved now → IsStored now (place_of rid) (seen_stored view))) }
+    ensures refused { IfErr result (λ e. NotRead D.Disk (λ now. HoldsNone now (place_of rid)) rid.page e records.old records.new disk.old disk.new) }
+{
+    *bytes = records.read(alloc, disk, rid)?;
+    let Ok(read) = view(alloc, bytes.as_slice()) else {
         return Err(StoreError::Memory);
     };
     let Some(stored) = read else {

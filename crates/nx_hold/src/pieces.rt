@@ -10,10 +10,11 @@ ghost use Rattle.nx_piece.specs.Valid.{IsValidPiece, HaveNumbers};
 ghost use Rattle.nx_hold.specs.Pieces.{HoldsPiece, HoldsNone, IsTidy};
 ghost use Rattle.nx_hold.specs.Changes.{place_of, place_named, chain_pages, piece_needs, AddsPiece, UpdatesPiece, RemovesPiece, ComesTidy};
 
-use crate::lists::{free_proxies, proxies_at, record_bytes, stored_at};
+use crate::lists::{free_proxies, proxies_at, record_bytes, stored_at, viewed_at};
 use nx_host::Disk;
-use nx_piece::{Piece, Proxy, Stored};
+use nx_piece::{Piece, PieceView, Proxy, Stored, StoredView};
 use nx_records::{Records, Rid, StoreError};
+use nx_tree::Bytes;
 use std::alloc::Global;
 
 /// The piece of the record at a place, with its proxies. It reads the record's page, and the chain
@@ -41,6 +42,33 @@ pub fn read_piece<D: Disk>(
         Stored::Chained { body, count, chain } => {
             let proxies = proxies_at(alloc, records, disk, count, chain, rid.page)?;
             Ok(Piece { body, proxies })
+        }
+    }
+}
+
+/// As `read_piece`, but the nodes stay in the record's bytes, which are put into `bytes` in place of
+/// what that had. Nothing is promised of `bytes` where the call gives up.
+///
+/// Errors: those of `read_piece`.
+pub fn view_piece<'a, D: Disk>(
+    alloc: Global,
+    records: &mut Records,
+    disk: &mut D,
+    rid: Rid,
+    bytes: &'a mut Bytes,
+) -> Result<PieceView<'a>, StoreError>
+    ensures still { IsStill D.Disk disk.old disk.new }
+    ensures reads { IfOk result (λ piece. D.reads disk.new ≤ D.reads disk.old + (1 + chain_pages piece)) }
+    ensures valid { IfOk result (λ piece. IsValidPiece piece × HaveNumbers piece.proxies) }
+    ensures ok { IfOk result (λ piece. (has_ended records.old ≡ false) × (records.new ≡ records.old)
+        × ((saved now : Held) → StandsFor D.Disk records.old disk.old saved now → IsTidy now → HoldsPiece now (place_of rid) piece)) }
+    ensures refused { IfErr result (λ e. NotRead D.Disk (λ now. HoldsNone now (place_of rid)) rid.page e records.old records.new disk.old disk.new) }
+{
+    match viewed_at(alloc, records, disk, rid, bytes)? {
+        StoredView::Inline(piece) => Ok(piece),
+        StoredView::Chained { body, count, chain } => {
+            let proxies = proxies_at(alloc, records, disk, count, chain, rid.page)?;
+            Ok(PieceView { body, proxies })
         }
     }
 }
