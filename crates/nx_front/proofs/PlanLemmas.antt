@@ -60,7 +60,7 @@ one_refused k input first (Bounds e) is is' = absurd is'
 not_both : (k : ℕ) (input : List ℕ) (plan : Plan) (refusal : Refusal) → IsPlannedInput k input plan → RefusesToPlan k input refusal → ⊥
 not_both k input plan (Pyx error) planned is = faulty_not input error planned.reads is
 not_both k input plan (TooHeavy path slots) planned (tree, reads, heavy) =
-    let light = feasible_light k planned.tree plan.parts planned.planned.lean.optimal.feasible in
+    let light = feasible_light k planned.tree plan.parts planned.planned.partitioning.lean.optimal.feasible in
     light_not_refused k tree path slots (subst (IsAtMost k) (one_reading input planned.tree tree planned.reads reads) light) heavy
 not_both k input plan (Bounds error) planned is = is
 
@@ -69,8 +69,8 @@ plan_together k = record { stays = shown_stays k; one_refusal = one_refused k; o
 
 equally_good : (k : ℕ) (tree : OrderedTree) (first second : Plan) → IsPlan k tree first → IsPlan k tree second → AreEquallyGood tree first second
 equally_good k tree first second p q = record {
-  intervals = le_antisymm (p.lean.optimal.fewest second.parts q.lean.optimal.feasible) (q.lean.optimal.fewest first.parts p.lean.optimal.feasible);
-  root = le_antisymm (p.lean.lightest second.parts q.lean.optimal) (q.lean.lightest first.parts p.lean.optimal);
+  intervals = le_antisymm (p.partitioning.lean.optimal.fewest second.parts q.partitioning.lean.optimal.feasible) (q.partitioning.lean.optimal.fewest first.parts p.partitioning.lean.optimal.feasible);
+  root = le_antisymm (p.partitioning.lean.lightest second.parts q.partitioning.lean.optimal) (q.partitioning.lean.lightest first.parts p.partitioning.lean.optimal);
   bounds = minima_once k tree first.bounds second.bounds p.bounds q.bounds;
 }
 

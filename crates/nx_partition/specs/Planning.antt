@@ -13,10 +13,14 @@ use Rattle.nx_choices.specs.declared.child.Stand.TheVariants.{Uncut, Opens, Join
 use Rattle.nx_cuts.specs.Cut.{CutTree, intervals, tree_of}
 use Rattle.nx_minima.specs.Drawing.{Reaches}
 
--- A lean optimal partitioning in document order, with its parts' weights and the minima of all nodes.
+-- A lean optimal partitioning in document order.
+pub record IsLeanInOrder (k : ℕ) (tree : OrderedTree) (parts : List Interval) : Type 0 where
+  pub lean : IsLeanOptimal k tree parts
+  pub in_order : AreInOrder parts
+
+-- Such a partitioning, with its parts' weights and the minima of all nodes.
 pub record IsPlan (k : ℕ) (tree : OrderedTree) (plan : Plan) : Type 0 where
-  pub lean : IsLeanOptimal k tree plan.parts
-  pub in_order : AreInOrder plan.parts
+  pub partitioning : IsLeanInOrder k tree plan.parts
   pub weights : plan.weights ≡ part_weights tree plan.parts
   pub bounds : AreMinima k tree plan.bounds
 

@@ -12,4 +12,4 @@ mod scratch;
 
 pub use bounding::{bound_of, bounds};
 pub use error::PlanError;
-pub use planning::{plan, plan_from};
+pub use planning::{partition, plan, plan_from};

@@ -1,11 +1,11 @@
 // A partitioning that reaches the minima of a tree.
-ghost use Rattle.std.specs.Prelude.{◌≡◌, ◌<◌, ◌≤◌, [], ◌++◌, IfErr, IfOk, OnOk};
-ghost use Rattle.nx_tree.specs.Forest.{Empty, Plant};
+ghost use Rattle.std.specs.Prelude.{◌≡◌, ◌+◌, ◌<◌, ◌≤◌, [], ◌++◌, length, IfErr, IfOk, OnOk};
+ghost use Rattle.nx_tree.specs.Forest.{Empty, Plant, nodes};
 ghost use Rattle.nx_tree.specs.Document.{IsDocument};
 ghost use Rattle.nx_weights.specs.Weight.{IsWithinLimits};
 ghost use Rattle.nx_parts.specs.Minima.{AreMinima, AreMinimaIn};
 ghost use Rattle.nx_partition.specs.Bounding.{IsRefused};
-ghost use Rattle.nx_partition.specs.Planning.{first_bound, opened, IsInside, IsPlan, IsPlanned};
+ghost use Rattle.nx_partition.specs.Planning.{first_bound, opened, IsInside, IsLeanInOrder, IsPlan, IsPlanned};
 
 use crate::scratch::Scratch;
 use crate::{PlanError, bounds};
@@ -43,7 +43,22 @@ pub fn plan(alloc: Global, tree: &Tree, k: u32) -> Result<Plan, PlanError>
     Ok(plan)
 }
 
-/// The same where the minima of all nodes are known, so that no node weighs more than `k`.
+/// The intervals of a lean optimal partitioning of the document alone, in document order of their first
+/// members, the root's first. `k` is from 1 to 256. The minima of the nodes are let go before it returns.
+///
+/// Errors: as of [`bounds`].
+pub fn partition(alloc: Global, tree: &Tree, k: u32) -> Result<Partitioning, PlanError>
+    requires document { IsDocument tree.now }
+    requires some { 1 ≤ k }
+    requires bound { k ≤ 256 }
+    ensures ok { IfOk result (λ parts. IsLeanInOrder k tree.now parts) }
+    ensures err { IfErr result (λ error. IsRefused k tree.now error) }
+{
+    let minima = bounds(alloc, tree, k)?;
+    Ok(parts_from(alloc, tree, k, &minima)?)
+}
+
+/// The plan where the minima of all nodes are known, so that no node weighs more than `k`.
 ///
 /// Errors: `NoMemory`.
 pub fn plan_from(alloc: Global, tree: &Tree, k: u32, minima: Bounds) -> Result<Plan, NoMemory>
@@ -53,10 +68,7 @@ pub fn plan_from(alloc: Global, tree: &Tree, k: u32, minima: Bounds) -> Result<P
     requires minima { AreMinima k tree.now minima }
     ensures { IfOk result (λ plan. IsPlan k tree.now plan) }
 {
-    let mut planner = Planner::new(alloc);
-    planner.parts.push(Interval::Root)?;
-    planner.plan_tree(tree, k, minima.as_slice(), false)?;
-    let Planner { parts, .. } = planner;
+    let parts = parts_from(alloc, tree, k, &minima)?;
     let Ok(weights) = part_weights(alloc, tree, &parts) else {
         return Err(NoMemory);
     };
@@ -65,6 +77,22 @@ pub fn plan_from(alloc: Global, tree: &Tree, k: u32, minima: Bounds) -> Result<P
         weights,
         bounds: minima,
     })
+}
+
+// The intervals where the minima are known.
+fn parts_from(alloc: Global, tree: &Tree, k: u32, minima: &Bounds) -> Result<Partitioning, NoMemory>
+    requires document { IsDocument tree.now }
+    requires some { 1 ≤ k }
+    requires bound { k ≤ 256 }
+    requires minima { AreMinima k tree.now minima.now }
+    ensures ok { IfOk result (λ parts. IsLeanInOrder k tree.now parts) }
+    ensures few { IfOk result (λ parts. length parts ≤ 1 + nodes tree.now.below) }
+{
+    let mut planner = Planner::new(alloc);
+    planner.parts.push(Interval::Root)?;
+    planner.plan_tree(tree, k, minima.as_slice(), false)?;
+    let Planner { parts, .. } = planner;
+    Ok(parts)
 }
 
 impl Planner {
