@@ -5,6 +5,7 @@ pub mod MarkedLemmas
 pub mod OrderLemmas
 pub mod HolderLemmas
 pub mod GapLemmas
+pub mod LeftLemmas
 pub mod WalkLemmas
 pub mod StepLemmas
 pub mod StoreLemmas

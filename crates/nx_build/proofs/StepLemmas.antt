@@ -1,11 +1,9 @@
 -- The steps of the walk, in the words of its calls.
-use Rattle.std.proofs.Common.{◌≡◌, ℕ, ◌+◌, ◌-◌, ◌≤◌, ◌<◌, List, [], ◌∷◌, ◌++◌, length, take, drop, get_or, length-drop, Option, None, Some, refl, sym, ap, ◌∙◌, subst, arith}
+use Rattle.std.proofs.Common.{◌≡◌, ℕ, ◌+◌, ◌-◌, ◌≤◌, ◌<◌, List, [], ◌∷◌, ◌++◌, length, take, drop, Option, None, Some, refl, sym, ap, ◌∙◌, subst, arith}
 use Rattle.std.specs.Prelude.{◌≢◌, Result, Ok, Err, IfOk, IfErr}
-use Rattle.std.proofs.lemmas.List.{drop_all, get_or-take, length-take, length-take-le}
 use Rattle.nx_host.specs.declared.disk.Disk.{Ghosts}
 use Rattle.nx_host.specs.Still.{IsStill}
 use Rattle.nx_tree.specs.Forest.{OrderedTree, Forest, forest_of, nodes}
-use Rattle.nx_tree.proofs.TestLemmas.{next_left}
 use Rattle.nx_parts.specs.declared.marks.Mark.{Mark}
 use Rattle.nx_parts.specs.Marks.{marked_in, holder_by_marks}
 use Rattle.nx_wal.specs.Wal.{pending}
@@ -31,7 +29,7 @@ use Rattle.nx_build.specs.Laying.{proxy_count, page_needs, LaysTrees, LaysMember
 use Rattle.nx_build.specs.Rows.{with_proxy}
 use Rattle.nx_build.proofs.RowLemmas.{joined_cut, last_tree}
 use Rattle.nx_build.proofs.MarkedLemmas.{BeginsGrown, BeginsKept, marked_same, free_begins, none_begins, begins_kept, members_end_is}
-use Rattle.nx_build.proofs.WalkLemmas.{WalksOn, nodes-next, nodes-drop, nodes-take, walk_tree, walk_interval, walk_ends, tree_refused, interval_refused, proxies_few, first_left, members_at, piece_is, members_valid, lays_members, members_refused}
+use Rattle.nx_build.proofs.WalkLemmas.{WalksOn, walk_tree, walk_interval, walk_ends, tree_refused, interval_refused, proxies_few, first_left, members_at, piece_is, members_valid, lays_members, members_refused}
 
 -- the marks below a tree
 abbrev pub AreBelow : List Mark → List Mark → ℕ → Type 0
@@ -49,21 +47,6 @@ pub below_marked : (own : Option ℕ) (marks below : List Mark) (position : ℕ)
 below_marked own marks below position t others rest b are =
     marked_same None (λ path. holder_by_marks marks (position ∷ path)) (holder_by_marks below) 0 t.below t.below b.below (λ next path. sym (are next path)) refl b.inside
 
-pub less_most : (a b : ℕ) → a < b → a ≤ b
-less_most a b less = omega (arith, less)
-
-pub less_then : (a b n : ℕ) → a < b → b ≤ n → a < n
-less_then a b n less most = omega (arith, less, most)
-
-one_left : (p n left : ℕ) → p < n → left ≡ n - p → 1 ≤ left
-one_left p n left low is = omega (arith, low, is)
-
-end_within : (p n left end : ℕ) → p < n → left ≡ n - p → end ≤ n → end ≤ p + left
-end_within p n left end low is within = omega (arith, low, is, within)
-
-end_before : (p n left end : ℕ) → p < n → left ≡ n - p → end < p + left → end < n
-end_before p n left end low is before = omega (arith, low, is, before)
-
 free_rest : (a b : CutForest) → AreFree (joined_cut a b) → AreFree b
 free_rest Bare b free = free
 free_rest (Grown node below beside) b free = free_rest beside b free
@@ -74,22 +57,10 @@ abbrev pub gathered : Gapped → List Proxy → Piece
 gathered roots proxies = record { body = record { roots = roots }; proxies = proxies }
 
 -- the tree is an item
-pub tree_pushed : {D : Type 0} {d : Ghosts D} {own : Option ℕ} {holder : List ℕ → Option ℕ} {trees : List OrderedTree} {p : ℕ} {drawn : CutForest} {r0 r1 : Records} {x0 x1 : D} {had has : List Proxy} (items new : List Item) (made : GappedTree)
-    → WalksOn d own holder trees p drawn r0 r1 x0 x1 (with_last_tree (gapped_of items) made) had has → new ≡ items ++ Tree made ∷ [] → WalksOn d own holder trees p drawn r0 r1 x0 x1 (gapped_of new) had has
-tree_pushed {d = d} {own = own} {holder = holder} {trees = trees} {p = p} {drawn = drawn} {r0 = r0} {r1 = r1} {x0 = x0} {x1 = x1} {had = had} {has = has} items new made w is =
-    subst (λ (g : Gapped). WalksOn d own holder trees p drawn r0 r1 x0 x1 g had has) (sym (ap gapped_of is ∙ gapped_of-push items (Tree made) ∙ last_tree (gapped_of items) made)) w
-
-take_few : (end position : ℕ) (ts : List OrderedTree) → end ≤ position → length (take end ts) ≤ position
-take_few end position ts most = omega (arith, most, length-take end ts)
-
--- the next of the first trees
-pub next_within : (trees : List OrderedTree) (end position : ℕ) (t : OrderedTree) → position < end → end ≤ length trees → t ≡ get_or trees position t → drop position (take end trees) ≡ t ∷ drop (position + 1) (take end trees)
-next_within trees end position t low within is =
-    next_left (take end trees) position t (omega (arith, low, within, length-take-le end trees within)) (is ∙ sym (get_or-take end trees position t low))
-
--- the nodes below the next tree are few
-pub below_few : (trees : List OrderedTree) (position : ℕ) (t : OrderedTree) → drop position trees ≡ t ∷ drop (position + 1) trees → nodes (forest_of trees) ≤ 524288 → nodes t.below ≤ 524288
-below_few trees position t next few = omega (arith, few, nodes-next trees position t (drop (position + 1) trees) next)
+pub tree_pushed : {D : Type 0} {d : Ghosts D} {own : Option ℕ} {holder : List ℕ → Option ℕ} {p : ℕ} {trees : List OrderedTree} {drawn : CutForest} {r0 r1 : Records} {x0 x1 : D} {had has : List Proxy} (items new : List Item) (made : GappedTree)
+    → WalksOn d own holder p trees drawn r0 r1 x0 x1 (with_last_tree (gapped_of items) made) had has → new ≡ items ++ Tree made ∷ [] → WalksOn d own holder p trees drawn r0 r1 x0 x1 (gapped_of new) had has
+tree_pushed {d = d} {own = own} {holder = holder} {p = p} {trees = trees} {drawn = drawn} {r0 = r0} {r1 = r1} {x0 = x0} {x1 = x1} {had = had} {has = has} items new made w is =
+    subst (λ (g : Gapped). WalksOn d own holder p trees drawn r0 r1 x0 x1 g had has) (sym (ap gapped_of is ∙ gapped_of-push items (Tree made) ∙ last_tree (gapped_of items) made)) w
 
 -- more pages would have been needed
 pub needs_fewer : {D : Type 0} (d : Ghosts D) (r0 r1 : Records) (x0 x1 : D) (more most : ℕ) → more ≤ most → (e : StoreError) → NotStored d (λ was. more) (λ was. ⊥) 0 e r0 r1 x0 x1 → NotStored d (λ was. most) (λ was. ⊥) 0 e r0 r1 x0 x1
@@ -106,86 +77,86 @@ needs_fewer d r0 r1 x0 x1 more most le error.Memory refused = refused
 needs_fewer d r0 r1 x0 x1 more most le error.Exists refused = absurd refused
 needs_fewer d r0 r1 x0 x1 more most le error.NotAStore refused = absurd refused
 
--- a range of trees has no more nodes than all of them
-pub range_few : (trees : List OrderedTree) (first end : ℕ) → nodes (forest_of trees) ≤ 524288 → nodes (forest_of (drop first (take end trees))) ≤ 524288
-range_few trees first end few = omega (arith, few, nodes-drop first (take end trees), nodes-take end trees)
-
-module _ {D : Type 0} {d : Ghosts D} (marks : List Mark) (trees : List OrderedTree) {position : ℕ} {drawn : CutForest} {r0 r1 : Records} {x0 x1 : D} {had has : List Proxy} where
+module _ {D : Type 0} {d : Ghosts D} (marks : List Mark) {position : ℕ} {trees : List OrderedTree} {drawn : CutForest} {r0 r1 : Records} {x0 x1 : D} {had has : List Proxy} where
   -- the items below a node, where a tree is next that is in no interval
-  module _ {body : Gapped} (w : WalksOn d None (holder_by_marks marks) trees position drawn r0 r1 x0 x1 body had has)
-      (t : OrderedTree) (below : List Mark) (next : drop position trees ≡ t ∷ drop (position + 1) trees) (none : marked_in marks position [] ≡ None) (are : AreBelow below marks position) where
-    next_tree : BeginsGrown None (holder_by_marks marks) position t (forest_of (drop (position + 1) trees)) w.rest
-    next_tree = first_left None (holder_by_marks marks) position trees w.rest t w.left next (none_begins (holder_by_marks marks) position w.rest (w.left).light (w.left).agrees none)
+  module _ {body : Gapped} (w : WalksOn d None (holder_by_marks marks) position trees drawn r0 r1 x0 x1 body had has)
+      (t : OrderedTree) (others : List OrderedTree) (below : List Mark) (next : trees ≡ t ∷ others) (none : marked_in marks position [] ≡ None) (are : AreBelow below marks position) where
+    next_tree : BeginsGrown None (holder_by_marks marks) position t (forest_of others) w.rest
+    next_tree = first_left None (holder_by_marks marks) position trees others w.rest t w.left next (none_begins (holder_by_marks marks) position w.rest (w.left).light (w.left).agrees none)
 
     tree_marked : IsMarked None (holder_by_marks below) 0 t.below next_tree.below
-    tree_marked = below_marked None marks below position t (forest_of (drop (position + 1) trees)) w.rest next_tree are
+    tree_marked = below_marked None marks below position t (forest_of others) w.rest next_tree are
 
     pub tree_can : CanMark (holder_by_marks below) 0 t.below
     tree_can = (next_tree.below, tree_marked)
 
     pub tree_not : (r2 : Records) (x2 : D) (e : StoreError) → ((c : CutForest) → IsMarked None (holder_by_marks below) 0 t.below c → NotStored d (λ was. page_needs c) (λ was. ⊥) 0 e r1 r2 x1 x2)
         → NotStored d (λ was. page_needs drawn) (λ was. ⊥) 0 e r0 r2 x0 x2
-    tree_not r2 x2 e refused = tree_refused w t next_tree r2 x2 e (refused next_tree.below tree_marked)
+    tree_not r2 x2 e refused = tree_refused w t others next_tree r2 x2 e (refused next_tree.below tree_marked)
 
     module _ {r2 : Records} {x2 : D} (made : GappedTree) (more : List Proxy) (node : made.node ≡ t.node) (lays : (c : CutForest) → IsMarked None (holder_by_marks below) 0 t.below c → LaysTrees d r1 r2 x1 x2 c made.below has more) where
-      pub tree_laid : WalksOn d None (holder_by_marks marks) trees (position + 1) drawn r0 r2 x0 x2 (with_last_tree body made) had more
-      tree_laid = walk_tree w t made more next_tree node (lays next_tree.below tree_marked)
+      pub tree_laid : WalksOn d None (holder_by_marks marks) (position + 1) others drawn r0 r2 x0 x2 (with_last_tree body made) had more
+      tree_laid = walk_tree w t others made more next_tree node (lays next_tree.below tree_marked)
 
       pub tree_memory : RunsOn r0 r2 × KeepsSaved d r0 r2 x0 x2
       tree_memory = ((tree_laid.laid).runs, (tree_laid.laid).keeps)
 
   -- ... where an interval is next
-  module _ {body : Gapped} (w : WalksOn d None (holder_by_marks marks) trees position drawn r0 r1 x0 x1 body had has)
-      (holder end : ℕ) (low : position < length trees) (held : marked_in marks position [] ≡ Some holder) (some : position < end) (within : end ≤ length trees)
-      (run : (j : ℕ) → position < j → j < end → marked_in marks j [] ≡ Some holder) (ends : end < length trees → marked_in marks end [] ≡ Some holder → ⊥) where
-    next_interval : BeginsKept (holder_by_marks marks) position (drop position trees) w.rest
-    next_interval = begins_kept (holder_by_marks marks) position holder (drop position trees) w.rest w.left (one_left position (length trees) (length (drop position trees)) low (length-drop position trees)) held
+  module _ {body : Gapped} (w : WalksOn d None (holder_by_marks marks) position trees drawn r0 r1 x0 x1 body had has)
+      (holder end len : ℕ) (many : len ≡ position + length trees) (low : position < len) (held : marked_in marks position [] ≡ Some holder) (some : position < end) (within : end ≤ len)
+      (run : (j : ℕ) → position < j → j < end → marked_in marks j [] ≡ Some holder) (ends : end < len → marked_in marks end [] ≡ Some holder → ⊥) where
+    next_interval : BeginsKept (holder_by_marks marks) position trees w.rest
+    next_interval = begins_kept (holder_by_marks marks) position holder trees w.rest w.left (omega (arith, low, many)) held
 
     end_is : end ≡ position + width next_interval.members
     end_is =
-        members_end_is (holder_by_marks marks) position holder end (drop position trees) w.rest next_interval held some
-        (end_within position (length trees) (length (drop position trees)) end low (length-drop position trees) within) run
-        (λ before. ends (end_before position (length trees) (length (drop position trees)) end low (length-drop position trees) before))
+        members_end_is (holder_by_marks marks) position holder end trees w.rest next_interval held some (omega (arith, within, many)) run (λ before. ends (omega (arith, before, many)))
 
-    interval_members : AreMembers (holder_by_marks marks) position (forest_of (drop position (take end trees))) next_interval.members
-    interval_members = members_at (holder_by_marks marks) position end trees w.rest next_interval end_is
+    count_is : end - position ≡ width next_interval.members
+    count_is = omega (arith, end_is)
 
-    pub interval_can : CanHold (holder_by_marks marks) position (forest_of (drop position (take end trees)))
+    interval_members : AreMembers (holder_by_marks marks) position (forest_of (take (end - position) trees)) next_interval.members
+    interval_members = members_at (holder_by_marks marks) position (end - position) trees w.rest next_interval count_is
+
+    pub interval_can : CanHold (holder_by_marks marks) position (forest_of (take (end - position) trees))
     interval_can = (next_interval.members, interval_members)
 
     pub interval_not : (r2 : Records) (x2 : D) (e : StoreError)
-        → ((c : CutForest) → AreMembers (holder_by_marks marks) position (forest_of (drop position (take end trees))) c → NotStored d (λ was. 1 + proxy_count c + page_needs c) (λ was. ⊥) 0 e r1 r2 x1 x2)
+        → ((c : CutForest) → AreMembers (holder_by_marks marks) position (forest_of (take (end - position) trees)) c → NotStored d (λ was. 1 + proxy_count c + page_needs c) (λ was. ⊥) 0 e r1 r2 x1 x2)
         → NotStored d (λ was. page_needs drawn) (λ was. ⊥) 0 e r0 r2 x0 x2
     interval_not r2 x2 e refused = interval_refused w next_interval r2 x2 e (refused next_interval.members interval_members)
 
     pub interval_room : (all : Forest) → IsMarked None (holder_by_marks marks) 0 all drawn → nodes all ≤ 524288 → proxies_in body < 524288
     interval_room all m few = proxies_few w next_interval 524288 m.light (subst (λ (f : Forest). nodes f ≤ 524288) (sym m.trees_are) few)
 
-    module _ {r2 : Records} {x2 : D} (proxy : Proxy) (lays : (c : CutForest) → AreMembers (holder_by_marks marks) position (forest_of (drop position (take end trees))) c → LaysMembers d r1 r2 x1 x2 c proxy) where
-      pub interval_laid : WalksOn d None (holder_by_marks marks) trees end drawn r0 r2 x0 x2 (with_proxy body) had (has ++ proxy ∷ [])
+    module _ {r2 : Records} {x2 : D} (proxy : Proxy) (lays : (c : CutForest) → AreMembers (holder_by_marks marks) position (forest_of (take (end - position) trees)) c → LaysMembers d r1 r2 x1 x2 c proxy) where
+      interval_laid : WalksOn d None (holder_by_marks marks) end (drop (end - position) trees) drawn r0 r2 x0 x2 (with_proxy body) had (has ++ proxy ∷ [])
       interval_laid =
-          subst (λ (n : ℕ). WalksOn d None (holder_by_marks marks) trees n drawn r0 r2 x0 x2 (with_proxy body) had (has ++ proxy ∷ [])) (sym end_is)
-          (walk_interval w proxy next_interval refl (lays next_interval.members interval_members))
+          subst (λ (n : ℕ). WalksOn d None (holder_by_marks marks) n (drop (end - position) trees) drawn r0 r2 x0 x2 (with_proxy body) had (has ++ proxy ∷ [])) (sym end_is)
+          (subst (λ (n : ℕ). WalksOn d None (holder_by_marks marks) (position + width next_interval.members) (drop n trees) drawn r0 r2 x0 x2 (with_proxy body) had (has ++ proxy ∷ [])) (sym count_is)
+          (walk_interval w proxy next_interval refl (lays next_interval.members interval_members)))
 
       pub interval_memory : RunsOn r0 r2 × KeepsSaved d r0 r2 x0 x2
       interval_memory = ((interval_laid.laid).runs, (interval_laid.laid).keeps)
 
-      pub interval_added : (new : List Item) (more : List Proxy) → gapped_of new ≡ with_proxy body → more ≡ has ++ proxy ∷ [] → WalksOn d None (holder_by_marks marks) trees end drawn r0 r2 x0 x2 (gapped_of new) had more
-      interval_added new more items proxies =
-          subst (λ (g : Gapped). WalksOn d None (holder_by_marks marks) trees end drawn r0 r2 x0 x2 g had more) (sym items)
-          (subst (λ (l : List Proxy). WalksOn d None (holder_by_marks marks) trees end drawn r0 r2 x0 x2 (with_proxy body) had l) (sym proxies) interval_laid)
+      pub interval_added : (others : List OrderedTree) (new : List Item) (more : List Proxy) → others ≡ drop (end - position) trees → gapped_of new ≡ with_proxy body → more ≡ has ++ proxy ∷ []
+          → WalksOn d None (holder_by_marks marks) end others drawn r0 r2 x0 x2 (gapped_of new) had more
+      interval_added others new more left items proxies =
+          subst (λ (l : List OrderedTree). WalksOn d None (holder_by_marks marks) end l drawn r0 r2 x0 x2 (gapped_of new) had more) (sym left)
+          (subst (λ (g : Gapped). WalksOn d None (holder_by_marks marks) end (drop (end - position) trees) drawn r0 r2 x0 x2 g had more) (sym items)
+          (subst (λ (l : List Proxy). WalksOn d None (holder_by_marks marks) end (drop (end - position) trees) drawn r0 r2 x0 x2 (with_proxy body) had l) (sym proxies) interval_laid))
 
 -- the members of an interval
-module _ {D : Type 0} {d : Ghosts D} (marks : List Mark) (trees : List OrderedTree) (end : ℕ) {index position : ℕ} {members : CutForest} {r0 r1 : Records} {x0 x1 : D} {roots : Gapped} {has : List Proxy} where
+module _ {D : Type 0} {d : Ghosts D} (marks : List Mark) {index position : ℕ} {trees : List OrderedTree} {members : CutForest} {r0 r1 : Records} {x0 x1 : D} {roots : Gapped} {has : List Proxy} where
   -- where one of them is next
-  module _ (w : WalksOn d (Some index) (holder_by_marks marks) (take end trees) position members r0 r1 x0 x1 roots [] has)
-      (free : AreFree members) (t : OrderedTree) (below : List Mark) (next : drop position (take end trees) ≡ t ∷ drop (position + 1) (take end trees)) (are : AreBelow below marks position) where
-    next_member : BeginsGrown (Some index) (holder_by_marks marks) position t (forest_of (drop (position + 1) (take end trees))) w.rest
+  module _ (w : WalksOn d (Some index) (holder_by_marks marks) position trees members r0 r1 x0 x1 roots [] has)
+      (free : AreFree members) (t : OrderedTree) (others : List OrderedTree) (below : List Mark) (next : trees ≡ t ∷ others) (are : AreBelow below marks position) where
+    next_member : BeginsGrown (Some index) (holder_by_marks marks) position t (forest_of others) w.rest
     next_member =
-        first_left (Some index) (holder_by_marks marks) position (take end trees) w.rest t w.left next (free_begins w.rest (free_rest (without_places w.done) w.rest (subst AreFree (sym w.whole) free)))
+        first_left (Some index) (holder_by_marks marks) position trees others w.rest t w.left next (free_begins w.rest (free_rest (without_places w.done) w.rest (subst AreFree (sym w.whole) free)))
 
     member_marked : IsMarked None (holder_by_marks below) 0 t.below next_member.below
-    member_marked = below_marked (Some index) marks below position t (forest_of (drop (position + 1) (take end trees))) w.rest next_member are
+    member_marked = below_marked (Some index) marks below position t (forest_of others) w.rest next_member are
 
     pub member_can : CanMark (holder_by_marks below) 0 t.below
     member_can = (next_member.below, member_marked)
@@ -195,19 +166,19 @@ module _ {D : Type 0} {d : Ghosts D} (marks : List Mark) (trees : List OrderedTr
 
     pub member_not : (r2 : Records) (x2 : D) (e : StoreError) → ((c : CutForest) → IsMarked None (holder_by_marks below) 0 t.below c → NotStored d (λ was. page_needs c) (λ was. ⊥) 0 e r1 r2 x1 x2)
         → NotStored d (λ was. 1 + proxy_count members + page_needs members) (λ was. ⊥) 0 e r0 r2 x0 x2
-    member_not r2 x2 e refused = needs_fewer d r0 r2 x0 x2 (page_needs members) (1 + proxy_count members + page_needs members) needs_more e (tree_refused w t next_member r2 x2 e (refused next_member.below member_marked))
+    member_not r2 x2 e refused = needs_fewer d r0 r2 x0 x2 (page_needs members) (1 + proxy_count members + page_needs members) needs_more e (tree_refused w t others next_member r2 x2 e (refused next_member.below member_marked))
 
     module _ {r2 : Records} {x2 : D} (made : GappedTree) (more : List Proxy) (node : made.node ≡ t.node) (lays : (c : CutForest) → IsMarked None (holder_by_marks below) 0 t.below c → LaysTrees d r1 r2 x1 x2 c made.below has more) where
-      pub member_laid : WalksOn d (Some index) (holder_by_marks marks) (take end trees) (position + 1) members r0 r2 x0 x2 (with_last_tree roots made) [] more
-      member_laid = walk_tree w t made more next_member node (lays next_member.below member_marked)
+      pub member_laid : WalksOn d (Some index) (holder_by_marks marks) (position + 1) others members r0 r2 x0 x2 (with_last_tree roots made) [] more
+      member_laid = walk_tree w t others made more next_member node (lays next_member.below member_marked)
 
       pub member_memory : RunsOn r0 r2 × KeepsSaved d r0 r2 x0 x2
       member_memory = ((member_laid.laid).runs, (member_laid.laid).keeps)
 
   -- where none is left
-  module _ (w : WalksOn d (Some index) (holder_by_marks marks) (take end trees) position members r0 r1 x0 x1 roots [] has) (most : end ≤ position) where
+  module _ (w : WalksOn d (Some index) (holder_by_marks marks) position trees members r0 r1 x0 x1 roots [] has) (none : trees ≡ []) where
     all_members : LaysTrees d r0 r1 x0 x1 members roots [] has
-    all_members = walk_ends w (drop_all position (take end trees) (take_few end position trees most))
+    all_members = walk_ends w none
 
     gathered_is : gathered roots has ≡ piece_of all_members.layout
     gathered_is = piece_is all_members.layout roots has all_members.body_is all_members.proxies_are
@@ -228,15 +199,15 @@ module _ {D : Type 0} {d : Ghosts D} (marks : List Mark) (trees : List OrderedTr
         (subst (λ (p : Piece). ComesTidy d r1 r2 x1 x2 (λ was now. AddsPiece (place_named proxy) p was now)) gathered_is adds)
 
 -- the call that puts the record of an interval, once its members were gathered
-module _ {D : Type 0} (d : Ghosts D) (marks : List Mark) (trees : List OrderedTree) (end first position : ℕ) (roots : Gapped) (has : List Proxy) (r0 r1 r2 : Records) (x0 x1 x2 : D)
-    (walks : (members : CutForest) (m : AreMembers (holder_by_marks marks) first (forest_of (drop first (take end trees))) members) → WalksOn d (Some m.index) (holder_by_marks marks) (take end trees) position members r0 r1 x0 x1 roots [] has) (most : end ≤ position) where
+module _ {D : Type 0} (d : Ghosts D) (marks : List Mark) (all left : List OrderedTree) (first position : ℕ) (roots : Gapped) (has : List Proxy) (r0 r1 r2 : Records) (x0 x1 x2 : D)
+    (walks : (members : CutForest) (m : AreMembers (holder_by_marks marks) first (forest_of all) members) → WalksOn d (Some m.index) (holder_by_marks marks) position left members r0 r1 x0 x1 roots [] has) (none : left ≡ []) where
   pub put_laid : (r : Result Proxy StoreError) → IfOk r (λ proxy. proxy.roots ≡ gapped.width roots) → IfOk r (λ proxy. ComesTidy d r1 r2 x1 x2 (λ was now. AddsPiece (place_named proxy) (gathered roots has) was now))
       → IfOk r (λ proxy. ComesTo d r1 r2 x1 x2 (λ was now. was.free ≤ now.free + piece_needs (gathered roots has))) → IfOk r (λ proxy. RunsOn r1 r2 × KeepsSaved d r1 r2 x1 x2 × (pending r2.wal ≢ [])) → IsStill d x1 x2
-      → IfOk r (λ proxy. (members : CutForest) → AreMembers (holder_by_marks marks) first (forest_of (drop first (take end trees))) members → LaysMembers d r0 r2 x0 x2 members proxy)
-  put_laid (Ok proxy) width adds takes keeps still = λ members m. piece_laid {d = d} marks trees end (walks members m) most proxy r2 x2 m.free width keeps.0 keeps.1 still takes adds
+      → IfOk r (λ proxy. (members : CutForest) → AreMembers (holder_by_marks marks) first (forest_of all) members → LaysMembers d r0 r2 x0 x2 members proxy)
+  put_laid (Ok proxy) width adds takes keeps still = λ members m. piece_laid {d = d} marks (walks members m) none proxy r2 x2 m.free width keeps.0 keeps.1 still takes adds
   put_laid (Err e) width adds takes keeps still = tt
 
   pub put_not : (r : Result Proxy StoreError) → IfErr r (λ e. NotStored d (λ was. piece_needs (gathered roots has)) (λ was. ⊥) 0 e r1 r2 x1 x2)
-      → IfErr r (λ e. (members : CutForest) → AreMembers (holder_by_marks marks) first (forest_of (drop first (take end trees))) members → NotStored d (λ was. 1 + proxy_count members + page_needs members) (λ was. ⊥) 0 e r0 r2 x0 x2)
+      → IfErr r (λ e. (members : CutForest) → AreMembers (holder_by_marks marks) first (forest_of all) members → NotStored d (λ was. 1 + proxy_count members + page_needs members) (λ was. ⊥) 0 e r0 r2 x0 x2)
   put_not (Ok proxy) refused = tt
-  put_not (Err e) refused = λ members m. piece_not {d = d} marks trees end (walks members m) most r2 x2 e refused
+  put_not (Err e) refused = λ members m. piece_not {d = d} marks (walks members m) none r2 x2 e refused

@@ -1,5 +1,5 @@
 -- A whole document that was laid out is stored.
-use Rattle.std.proofs.Common.{◌≡◌, ℕ, ◌+◌, ◌*◌, ◌^◌, ◌≤◌, ◌<◌, List, [], ◌∷◌, length, take, drop, refl, sym, ap, ◌∙◌, subst, arith}
+use Rattle.std.proofs.Common.{◌≡◌, ℕ, ◌+◌, ◌*◌, ◌^◌, ◌≤◌, ◌<◌, List, [], ◌∷◌, length, take, refl, sym, ap, ◌∙◌, subst, arith}
 use Rattle.std.specs.Prelude.{◌≢◌, Result, Ok, Err, IfOk, IfErr}
 use Rattle.std.proofs.lemmas.List.Sorted.{length_permutation}
 use Rattle.nx_host.specs.declared.disk.Disk.{Ghosts}
@@ -79,6 +79,13 @@ adds_more places needs more was now most adds = record {
   free = let free : was.free ≤ now.free + needs = adds.free in omega (arith, free, most);
 }
 
+-- a document alone has few nodes
+pub one_few : (tree : OrderedTree) (trees : List OrderedTree) → trees ≡ tree ∷ [] → IsDocument tree → nodes (forest_of trees) ≤ 524288
+one_few tree trees alone document =
+    let all : nodes (forest_of trees) ≡ 1 + nodes tree.below + 0 = ap (λ (l : List OrderedTree). nodes (forest_of l)) alone in
+    let small : 1 + nodes tree.below ≤ 524288 = document.small in
+    omega (arith, all, small)
+
 module _ (k : ℕ) (tree : OrderedTree) (parts : List Interval) (most : k ≤ 256) (feasible : IsFeasible k tree parts) where
   abbrev pub cut : IsCut k tree parts
   cut = feasible_drawn k tree parts feasible
@@ -99,10 +106,10 @@ module _ (k : ℕ) (tree : OrderedTree) (parts : List Interval) (most : k ≤ 25
   root_needs : 1 + proxy_count root + page_needs root ≤ 2 * (1 + nodes tree.below)
   root_needs = omega (arith, needs_cuts root, cuts_few k (cut.document).below cut.light, nodes_are)
 
-  pub root_held : (mark : Mark) (marks : List Mark) (trees : List OrderedTree) → ((path : List ℕ) → marked mark path ≡ holder parts path) → marks ≡ mark ∷ [] → trees ≡ tree ∷ [] → AreMembers (holder_by_marks marks) 0 (forest_of (drop 0 (take 1 trees))) root
+  pub root_held : (mark : Mark) (marks : List Mark) (trees : List OrderedTree) → ((path : List ℕ) → marked mark path ≡ holder parts path) → marks ≡ mark ∷ [] → trees ≡ tree ∷ [] → AreMembers (holder_by_marks marks) 0 (forest_of (take 1 trees)) root
   root_held mark marks trees holds one alone =
-      subst (λ (l : List Mark). AreMembers (holder_by_marks l) 0 (forest_of (drop 0 (take 1 trees))) root) (sym one)
-      (subst (λ (l : List OrderedTree). AreMembers (holder_by_marks (mark ∷ [])) 0 (forest_of (drop 0 (take 1 l))) root) (sym alone)
+      subst (λ (l : List Mark). AreMembers (holder_by_marks l) 0 (forest_of (take 1 trees)) root) (sym one)
+      (subst (λ (l : List OrderedTree). AreMembers (holder_by_marks (mark ∷ [])) 0 (forest_of (take 1 l)) root) (sym alone)
       (root_members k tree parts (holder_by_marks (mark ∷ [])) most feasible cut holds))
 
   stored : (place : RecordPlace) (layout : Layout) (was now : Held) → IsDocument tree → without_places layout ≡ root → PutsLayout (Kept place layout Bare) was now → StoresDocument k tree parts place was now
@@ -145,12 +152,12 @@ module _ (k : ℕ) (tree : OrderedTree) (parts : List Interval) (most : k ≤ 25
           subst (λ (l : Layout). page_needs (Kept place l Bare) ≤ 2 * (1 + nodes tree.below)) (tree_laid (cut.document).node (cut.document).below layout same).is all
 
   -- the call that puts the root's record
-  module _ {D : Type 0} (d : Ghosts D) (r0 r1 : Records) (x0 x1 : D) (marks : List Mark) (trees : List OrderedTree) (members : AreMembers (holder_by_marks marks) 0 (forest_of (drop 0 (take 1 trees))) root) where
-    pub root_one : (r : Result Proxy StoreError) → IfOk r (λ proxy. (c : CutForest) → AreMembers (holder_by_marks marks) 0 (forest_of (drop 0 (take 1 trees))) c → LaysMembers d r0 r1 x0 x1 c proxy) → IfOk r (λ proxy. proxy.roots ≡ 1)
+  module _ {D : Type 0} (d : Ghosts D) (r0 r1 : Records) (x0 x1 : D) (marks : List Mark) (trees : List OrderedTree) (members : AreMembers (holder_by_marks marks) 0 (forest_of (take 1 trees)) root) where
+    pub root_one : (r : Result Proxy StoreError) → IfOk r (λ proxy. (c : CutForest) → AreMembers (holder_by_marks marks) 0 (forest_of (take 1 trees)) c → LaysMembers d r0 r1 x0 x1 c proxy) → IfOk r (λ proxy. proxy.roots ≡ 1)
     root_one (Ok proxy) lays = (lays root members).roots
     root_one (Err e) lays = tt
 
-    pub root_stored : IsDocument tree → (r : Result Proxy StoreError) → IfOk r (λ proxy. (c : CutForest) → AreMembers (holder_by_marks marks) 0 (forest_of (drop 0 (take 1 trees))) c → LaysMembers d r0 r1 x0 x1 c proxy)
+    pub root_stored : IsDocument tree → (r : Result Proxy StoreError) → IfOk r (λ proxy. (c : CutForest) → AreMembers (holder_by_marks marks) 0 (forest_of (take 1 trees)) c → LaysMembers d r0 r1 x0 x1 c proxy)
         → IfOk r (λ proxy. ComesTidy d r0 r1 x0 x1 (λ was now. StoresDocument k tree parts (place_named proxy) was now))
     root_stored document (Ok proxy) lays = λ saved was stands tidy.
         let all = lays root members in
@@ -158,13 +165,13 @@ module _ (k : ℕ) (tree : OrderedTree) (parts : List Interval) (most : k ≤ 25
         (now.0, now.1, now.2, stored (place_named proxy) all.layout was now.0 document all.same now.3)
     root_stored document (Err e) lays = tt
 
-    pub root_keeps : (r : Result Proxy StoreError) → IfOk r (λ proxy. (c : CutForest) → AreMembers (holder_by_marks marks) 0 (forest_of (drop 0 (take 1 trees))) c → LaysMembers d r0 r1 x0 x1 c proxy) → IfOk r (λ proxy. pending r1.wal ≢ [])
+    pub root_keeps : (r : Result Proxy StoreError) → IfOk r (λ proxy. (c : CutForest) → AreMembers (holder_by_marks marks) 0 (forest_of (take 1 trees)) c → LaysMembers d r0 r1 x0 x1 c proxy) → IfOk r (λ proxy. pending r1.wal ≢ [])
         → IfOk r (λ proxy. RunsOn r0 r1 × KeepsSaved d r0 r1 x0 x1 × (pending r1.wal ≢ []))
     root_keeps (Ok proxy) lays changes = (((lays root members).laid).runs, ((lays root members).laid).keeps, changes)
     root_keeps (Err e) lays changes = tt
 
     pub root_refused : (r : Result Proxy StoreError)
-        → IfErr r (λ e. (c : CutForest) → AreMembers (holder_by_marks marks) 0 (forest_of (drop 0 (take 1 trees))) c → NotStored d (λ was. 1 + proxy_count c + page_needs c) (λ was. ⊥) 0 e r0 r1 x0 x1)
+        → IfErr r (λ e. (c : CutForest) → AreMembers (holder_by_marks marks) 0 (forest_of (take 1 trees)) c → NotStored d (λ was. 1 + proxy_count c + page_needs c) (λ was. ⊥) 0 e r0 r1 x0 x1)
         → IfErr r (λ e. NotStored d (λ was. 2 * (1 + nodes tree.below)) (λ was. ⊥) 0 e r0 r1 x0 x1)
     root_refused (Ok proxy) refused = tt
     root_refused (Err e) refused = needs_fewer d r0 r1 x0 x1 (1 + proxy_count root + page_needs root) (2 * (1 + nodes tree.below)) root_needs e (refused root members)

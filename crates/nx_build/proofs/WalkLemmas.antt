@@ -1,6 +1,5 @@
 -- A walk over trees beside each other, tree by tree and interval by interval.
-use Rattle.std.proofs.Common.{◌≡◌, ℕ, zero, suc, ◌+◌, ◌≤◌, ◌<◌, List, [], ◌∷◌, ◌++◌, length, take, drop, Option, None, refl, sym, ap, ◌∙◌, subst, arith, append_assoc, append-nil, false}
-use Rattle.std.proofs.lemmas.List.{drop-drop, drop-take}
+use Rattle.std.proofs.Common.{◌≡◌, ℕ, ◌+◌, ◌≤◌, ◌<◌, List, [], ◌∷◌, ◌++◌, length, take, drop, Option, None, refl, sym, ap, ◌∙◌, subst, arith, append_assoc, append-nil, false}
 use Rattle.nx_host.specs.declared.disk.Disk.{Ghosts}
 use Rattle.nx_host.specs.Still.{IsStill}
 use Rattle.nx_tree.specs.declared.node.Node.{Node}
@@ -28,45 +27,29 @@ use Rattle.nx_build.proofs.RowLemmas.{joined_cut, joined_cut-assoc, joined_cut-n
 use Rattle.nx_build.proofs.CallLemmas.{laid_none, laid_both, laid_grown, laid_kept, laid_refused}
 use Rattle.nx_build.proofs.MarkedLemmas.{BeginsGrown, BeginsFree, BeginsKept, begins_grown, nothing_left}
 
--- What a walk over some trees has done, and what of them it has left from a position on.
-pub record WalksOn {D : Type 0} (d : Ghosts D) (own : Option ℕ) (holder : List ℕ → Option ℕ) (trees : List OrderedTree) (position : ℕ) (drawn : CutForest) (old new : Records) (before after : D) (body : Gapped) (had has : List Proxy) : Type 0 where
+-- What a walk over some trees has done, and what it has left: these trees, from a position on.
+pub record WalksOn {D : Type 0} (d : Ghosts D) (own : Option ℕ) (holder : List ℕ → Option ℕ) (position : ℕ) (trees : List OrderedTree) (drawn : CutForest) (old new : Records) (before after : D) (body : Gapped) (had has : List Proxy) : Type 0 where
   pub done : Layout
   pub rest : CutForest
   pub whole : joined_cut (without_places done) rest ≡ drawn
-  pub left : IsMarked own holder position (forest_of (drop position trees)) rest
+  pub left : IsMarked own holder position (forest_of trees) rest
   pub body_is : body ≡ piece_body done
   pub proxies_are : has ≡ had ++ proxies_of done
   pub laid : IsLaid d old new before after done
 
-pub nodes-drop : (n : ℕ) (ts : List OrderedTree) → nodes (forest_of (drop n ts)) ≤ nodes (forest_of ts)
-nodes-drop zero ts = omega arith
-nodes-drop (suc n) [] = omega arith
-nodes-drop (suc n) (t ∷ ts) = omega (arith, nodes-drop n ts)
-
-pub nodes-take : (n : ℕ) (ts : List OrderedTree) → nodes (forest_of (take n ts)) ≤ nodes (forest_of ts)
-nodes-take zero ts = omega arith
-nodes-take (suc n) [] = omega arith
-nodes-take (suc n) (t ∷ ts) = omega (arith, nodes-take n ts)
-
--- a tree has fewer nodes than those that it stands among
-pub nodes-next : (ts : List OrderedTree) (position : ℕ) (t : OrderedTree) (rest : List OrderedTree) → drop position ts ≡ t ∷ rest → nodes t.below ≤ nodes (forest_of ts)
-nodes-next ts position t rest next =
-    let first : nodes (forest_of (drop position ts)) ≡ 1 + nodes t.below + nodes (forest_of rest) = ap (λ (l : List OrderedTree). nodes (forest_of l)) next in
-    omega (arith, first, nodes-drop position ts)
-
 -- the first of some trees, and those behind it
-pub first_left : (own : Option ℕ) (holder : List ℕ → Option ℕ) (position : ℕ) (trees : List OrderedTree) (rest : CutForest) (t : OrderedTree) → IsMarked own holder position (forest_of (drop position trees)) rest
-    → drop position trees ≡ t ∷ drop (position + 1) trees → BeginsFree rest → BeginsGrown own holder position t (forest_of (drop (position + 1) trees)) rest
-first_left own holder position trees rest t left next free =
-    begins_grown own holder position t (forest_of (drop (position + 1) trees)) rest free (subst (λ (f : Forest). IsMarked own holder position f rest) (ap forest_of next) left)
+pub first_left : (own : Option ℕ) (holder : List ℕ → Option ℕ) (position : ℕ) (trees others : List OrderedTree) (rest : CutForest) (t : OrderedTree) → IsMarked own holder position (forest_of trees) rest
+    → trees ≡ t ∷ others → BeginsFree rest → BeginsGrown own holder position t (forest_of others) rest
+first_left own holder position trees others rest t left next free =
+    begins_grown own holder position t (forest_of others) rest free (subst (λ (f : Forest). IsMarked own holder position f rest) (ap forest_of next) left)
 
 proxy_is : (proxy : Proxy) (roots : ℕ) → proxy.roots ≡ roots → proxy ≡ record { page = proxy.page; slot = proxy.slot; roots = roots }
 proxy_is proxy roots e = ap (λ (n : ℕ). let p : Proxy = record { page = proxy.page; slot = proxy.slot; roots = n } in p) e
 
 module _ {D : Type 0} {d : Ghosts D} where
-  pub walk_begins : (own : Option ℕ) (holder : List ℕ → Option ℕ) (trees : List OrderedTree) (position : ℕ) (drawn : CutForest) (r : Records) (x : D) (had : List Proxy) → has_ended r ≡ false → IsMarked own holder position (forest_of (drop position trees)) drawn
-      → WalksOn d own holder trees position drawn r r x x End had had
-  walk_begins own holder trees position drawn r x had runs marked = record {
+  pub walk_begins : (own : Option ℕ) (holder : List ℕ → Option ℕ) (position : ℕ) (trees : List OrderedTree) (drawn : CutForest) (r : Records) (x : D) (had : List Proxy) → has_ended r ≡ false → IsMarked own holder position (forest_of trees) drawn
+      → WalksOn d own holder position trees drawn r r x x End had had
+  walk_begins own holder position trees drawn r x had runs marked = record {
     done = Bare;
     rest = drawn;
     whole = refl;
@@ -76,11 +59,11 @@ module _ {D : Type 0} {d : Ghosts D} where
     laid = laid_none r x runs;
   }
 
-  module _ {own : Option ℕ} {holder : List ℕ → Option ℕ} {trees : List OrderedTree} {position : ℕ} {drawn : CutForest} {r0 r1 : Records} {x0 x1 : D} {body : Gapped} {had has : List Proxy} (w : WalksOn d own holder trees position drawn r0 r1 x0 x1 body had has) where
+  module _ {own : Option ℕ} {holder : List ℕ → Option ℕ} {position : ℕ} {trees : List OrderedTree} {drawn : CutForest} {r0 r1 : Records} {x0 x1 : D} {body : Gapped} {had has : List Proxy} (w : WalksOn d own holder position trees drawn r0 r1 x0 x1 body had has) where
     -- one tree more, which stands with the node above
-    pub walk_tree : {r2 : Records} {x2 : D} (t : OrderedTree) (made : GappedTree) (more : List Proxy) → (b : BeginsGrown own holder position t (forest_of (drop (position + 1) trees)) w.rest) → made.node ≡ t.node → LaysTrees d r1 r2 x1 x2 b.below made.below has more
-        → WalksOn d own holder trees (position + 1) drawn r0 r2 x0 x2 (with_last_tree body made) had more
-    walk_tree t made more b node lays = record {
+    pub walk_tree : {r2 : Records} {x2 : D} (t : OrderedTree) (others : List OrderedTree) (made : GappedTree) (more : List Proxy) → (b : BeginsGrown own holder position t (forest_of others) w.rest) → made.node ≡ t.node → LaysTrees d r1 r2 x1 x2 b.below made.below has more
+        → WalksOn d own holder (position + 1) others drawn r0 r2 x0 x2 (with_last_tree body made) had more
+    walk_tree t others made more b node lays = record {
       done = joined_layout w.done (Grown t.node lays.layout Bare);
       rest = b.beside;
       whole = ap (λ (c : CutForest). joined_cut c b.beside) (without-joined w.done (Grown t.node lays.layout Bare))
@@ -100,8 +83,8 @@ module _ {D : Type 0} {d : Ghosts D} where
     }
 
     -- one interval more, whose record was put
-    pub walk_interval : {r2 : Records} {x2 : D} (proxy : Proxy) → (f : BeginsKept holder position (drop position trees) w.rest) → own ≡ None → LaysMembers d r1 r2 x1 x2 f.members proxy
-        → WalksOn d own holder trees (position + width f.members) drawn r0 r2 x0 x2 (with_proxy body) had (has ++ proxy ∷ [])
+    pub walk_interval : {r2 : Records} {x2 : D} (proxy : Proxy) → (f : BeginsKept holder position trees w.rest) → own ≡ None → LaysMembers d r1 r2 x1 x2 f.members proxy
+        → WalksOn d own holder (position + width f.members) (drop (width f.members) trees) drawn r0 r2 x0 x2 (with_proxy body) had (has ++ proxy ∷ [])
     walk_interval proxy f none lays = record {
       done = joined_layout w.done (Kept (place_named proxy) lays.layout Bare);
       rest = f.beside;
@@ -110,8 +93,7 @@ module _ {D : Type 0} {d : Ghosts D} where
           ∙ ap (λ (c : CutForest). joined_cut (without_places w.done) (Kept tt c f.beside)) lays.same
           ∙ ap (joined_cut (without_places w.done)) (sym f.is)
           ∙ w.whole;
-      left = subst (λ (o : Option ℕ). IsMarked o holder (position + width f.members) (forest_of (drop (position + width f.members) trees)) f.beside) (sym none)
-          (subst (λ (l : List OrderedTree). IsMarked None holder (position + width f.members) (forest_of l) f.beside) (drop-drop (width f.members) position trees) f.along);
+      left = subst (λ (o : Option ℕ). IsMarked o holder (position + width f.members) (forest_of (drop (width f.members) trees)) f.beside) (sym none) f.along;
       body_is = ap with_proxy w.body_is ∙ sym (body-proxy w.done (place_named proxy) lays.layout);
       proxies_are = ap (λ (p : Proxy). has ++ p ∷ []) (proxy_is proxy (width lays.layout) (lays.roots ∙ ap width (sym lays.same) ∙ width-without lays.layout))
           ∙ ap (λ (l : List Proxy). l ++ proxies_of (Kept (place_named proxy) lays.layout Bare)) w.proxies_are ∙ append_assoc had (proxies_of w.done) (proxies_of (Kept (place_named proxy) lays.layout Bare))
@@ -120,7 +102,7 @@ module _ {D : Type 0} {d : Ghosts D} where
     }
 
     -- no tree is left
-    pub walk_ends : drop position trees ≡ [] → LaysTrees d r0 r1 x0 x1 drawn body had has
+    pub walk_ends : trees ≡ [] → LaysTrees d r0 r1 x0 x1 drawn body had has
     walk_ends none = record {
       layout = w.done;
       same = sym (joined_cut-nothing (without_places w.done))
@@ -135,19 +117,19 @@ module _ {D : Type 0} {d : Ghosts D} where
     needs_left = sym (ap (λ (n : ℕ). n + page_needs w.rest) (needs-without w.done)) ∙ sym (needs-joined_cut (without_places w.done) w.rest) ∙ ap page_needs w.whole
 
     -- the walk was refused at a tree, or at an interval
-    pub tree_refused : (t : OrderedTree) (b : BeginsGrown own holder position t (forest_of (drop (position + 1) trees)) w.rest) (r2 : Records) (x2 : D) (e : StoreError) → NotStored d (λ was. page_needs b.below) (λ was. ⊥) 0 e r1 r2 x1 x2
+    pub tree_refused : (t : OrderedTree) (others : List OrderedTree) (b : BeginsGrown own holder position t (forest_of others) w.rest) (r2 : Records) (x2 : D) (e : StoreError) → NotStored d (λ was. page_needs b.below) (λ was. ⊥) 0 e r1 r2 x1 x2
         → NotStored d (λ was. page_needs drawn) (λ was. ⊥) 0 e r0 r2 x0 x2
-    tree_refused t b r2 x2 e refused =
+    tree_refused t others b r2 x2 e refused =
         laid_refused w.done r2 x2 (page_needs b.below) (page_needs drawn) w.laid (let all = needs_left in let rest : page_needs w.rest ≡ page_needs b.below + page_needs b.beside = ap page_needs b.is in omega (arith, all, rest)) e refused
 
-    pub interval_refused : (f : BeginsKept holder position (drop position trees) w.rest) (r2 : Records) (x2 : D) (e : StoreError) → NotStored d (λ was. 1 + proxy_count f.members + page_needs f.members) (λ was. ⊥) 0 e r1 r2 x1 x2
+    pub interval_refused : (f : BeginsKept holder position trees w.rest) (r2 : Records) (x2 : D) (e : StoreError) → NotStored d (λ was. 1 + proxy_count f.members + page_needs f.members) (λ was. ⊥) 0 e r1 r2 x1 x2
         → NotStored d (λ was. page_needs drawn) (λ was. ⊥) 0 e r0 r2 x0 x2
     interval_refused f r2 x2 e refused =
         laid_refused w.done r2 x2 (1 + proxy_count f.members + page_needs f.members) (page_needs drawn) w.laid
         (let all = needs_left in let rest : page_needs w.rest ≡ 1 + proxy_count f.members + page_needs f.members + page_needs f.beside = ap page_needs f.is in omega (arith, all, rest)) e refused
 
     -- there is room for one proxy more
-    pub proxies_few : (f : BeginsKept holder position (drop position trees) w.rest) (most : ℕ) → AreParts 256 drawn → nodes (forest drawn) ≤ most → proxies_in body < most
+    pub proxies_few : (f : BeginsKept holder position trees w.rest) (most : ℕ) → AreParts 256 drawn → nodes (forest drawn) ≤ most → proxies_in body < most
     proxies_few f most parts few =
         let all : proxy_count w.done + proxy_count w.rest ≡ proxy_count drawn =
         sym (ap (λ (n : ℕ). n + proxy_count w.rest) (count-without w.done)) ∙ sym (count-joined_cut (without_places w.done) w.rest) ∙ ap proxy_count w.whole in
@@ -155,12 +137,10 @@ module _ {D : Type 0} {d : Ghosts D} where
         let body : proxies_in body ≡ proxy_count w.done = ap proxies_in w.body_is ∙ sym (proxies_counted w.done) ∙ length-proxies w.done in
         omega (arith, all, rest, body, count_cuts drawn, cuts_few 256 drawn parts, few)
 
--- the members of the next interval, as a range of the trees
-pub members_at : (holder : List ℕ → Option ℕ) (position end : ℕ) (trees : List OrderedTree) (rest : CutForest) (f : BeginsKept holder position (drop position trees) rest) → end ≡ position + width f.members
-    → AreMembers holder position (forest_of (drop position (take end trees))) f.members
-members_at holder position end trees rest f e =
-    subst (λ (n : ℕ). AreMembers holder position (forest_of (drop position (take n trees))) f.members) (sym e)
-    (subst (λ (l : List OrderedTree). AreMembers holder position (forest_of l) f.members) (sym (drop-take position (width f.members) trees)) f.inside)
+-- the members of the next interval, as so many of the trees
+pub members_at : (holder : List ℕ → Option ℕ) (position count : ℕ) (trees : List OrderedTree) (rest : CutForest) (f : BeginsKept holder position trees rest) → count ≡ width f.members
+    → AreMembers holder position (forest_of (take count trees)) f.members
+members_at holder position count trees rest f e = subst (λ (n : ℕ). AreMembers holder position (forest_of (take n trees)) f.members) (sym e) f.inside
 
 -- the piece that was gathered is that of the members
 pub piece_is : (layout : Layout) (roots : Gapped) (proxies : List Proxy) → roots ≡ piece_body layout → proxies ≡ proxies_of layout → record { body = record { roots = roots }; proxies = proxies } ≡ piece_of layout

@@ -1,5 +1,6 @@
 // Steps of the walk.
-ghost use Rattle.std.specs.Prelude.{◌≡◌, ◌+◌, ◌<◌, ◌≤◌, ◌++◌, ◌∷◌, [], ℕ, length, Some, IfOk, OnOk};
+ghost use Rattle.std.specs.Prelude.{◌≡◌, ◌+◌, ◌<◌, ◌≤◌, ◌++◌, ◌∷◌, [], ℕ, length, Some, OnOk};
+ghost use Rattle.std.specs.Vec.Iter.{into_iter_items};
 ghost use Rattle.nx_parts.specs.Marks.{marked_in};
 ghost use Rattle.nx_piece.specs.Gapped.{proxies_in};
 ghost use Rattle.nx_piece.specs.declared.piece.Item.TheVariants.{Run};
@@ -8,8 +9,8 @@ ghost use Rattle.nx_build.specs.Rows.{with_proxy, last_gap};
 
 use nx_parts::{Mark, holder_in};
 use nx_piece::{Item, Proxies, Proxy};
-use nx_tree::{Bytes, NoMemory, Node};
-use std::alloc::Global;
+use nx_tree::{NoMemory, Tree};
+use std::vec::IntoIter;
 
 // Adds a proxy, and counts it in the run at the end of the items, or in a new one.
 pub(crate) fn add_proxy(
@@ -68,13 +69,13 @@ pub(crate) fn members_end(marks: &[Mark], holder: u32, first: usize, len: usize)
     len
 }
 
-// A copy of the node.
-pub(crate) fn copy_node(alloc: Global, node: &Node) -> Result<Node, NoMemory>
-    ensures { IfOk result (λ copied. copied ≡ node.now) }
+// The first of the trees that are left.
+pub(crate) fn next_tree(trees: &mut IntoIter<Tree>) -> Tree
+    requires { 1 ≤ length (into_iter_items trees.old) }
+    ensures { into_iter_items trees.old ≡ result ∷ into_iter_items trees.new }
 {
-    Ok(Node {
-        kind: node.kind,
-        name: Bytes::from_slice(alloc, node.name.as_slice())?,
-        content: Bytes::from_slice(alloc, node.content.as_slice())?,
-    })
+    let Some(tree) = trees.next() else {
+        unreachable!()
+    };
+    tree
 }

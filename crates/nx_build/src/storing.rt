@@ -20,7 +20,9 @@ use std::alloc::Global;
 use std::slice::from_ref;
 
 /// Stores a document: one record for each interval of the partitioning. It answers the proxy of the
-/// record that has the root. The partitioning has to be feasible for the K of these records.
+/// record that has the root. The partitioning has to be feasible for the K of these records. The nodes
+/// move into the records' pieces, each of which is let go when its record is put; also where the call
+/// gives up the document is gone.
 ///
 /// Errors: `Full`, over sound pages only where fewer pages were free than twice the number of nodes;
 /// `Damaged` with page 0, only where the pages aren't sound; `Disk`, only where `faults` rose; `Ended`
@@ -29,16 +31,16 @@ pub fn store<D: Disk>(
     alloc: Global,
     records: &mut Records,
     disk: &mut D,
-    tree: &Tree,
+    tree: Tree,
     parts: &Partitioning,
 ) -> Result<Proxy, StoreError>
-    requires document { IsDocument tree.now }
-    requires feasible { IsFeasible (settings_of records.old).k tree.now parts.now }
+    requires document { IsDocument tree }
+    requires feasible { IsFeasible (settings_of records.old).k tree parts.now }
     ensures still { IsStill D.Disk disk.old disk.new }
     ensures roots { IfOk result (λ proxy. proxy.roots ≡ 1) }
-    ensures ok { IfOk result (λ proxy. ComesTidy D.Disk records.old records.new disk.old disk.new (λ was now. StoresDocument (settings_of records.old).k tree.now parts.now (place_named proxy) was now)) }
+    ensures ok { IfOk result (λ proxy. ComesTidy D.Disk records.old records.new disk.old disk.new (λ was now. StoresDocument (settings_of records.old).k tree parts.now (place_named proxy) was now)) }
     ensures keeps { IfOk result (λ proxy. RunsOn records.old records.new × KeepsSaved D.Disk records.old records.new disk.old disk.new × (pending records.new.wal ≢ [])) }
-    ensures refused { IfErr result (λ e. NotStored D.Disk (λ was. 2 * (1 + nodes tree.now.below)) (λ was. ⊥) 0 e records.old records.new disk.old disk.new) }
+    ensures refused { IfErr result (λ e. NotStored D.Disk (λ was. 2 * (1 + nodes tree.below)) (λ was. ⊥) 0 e records.old records.new disk.old disk.new) }
 {
     if records.is_ended() {
         return Err(StoreError::Ended);
@@ -46,5 +48,10 @@ pub fn store<D: Disk>(
     let Ok(mark) = mark_members(alloc, parts.as_slice()) else {
         return Err(StoreError::Memory);
     };
-    put_members(alloc, records, disk, from_ref(tree), from_ref(&mark), 0, 1)
+    let mut trees = Vec::new(alloc);
+    let Ok(()) = trees.push(tree) else {
+        return Err(StoreError::Memory);
+    };
+    let mut trees = trees.into_iter();
+    put_members(alloc, records, disk, &mut trees, from_ref(&mark), 0, 1)
 }

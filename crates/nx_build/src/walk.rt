@@ -1,5 +1,6 @@
 // The walk over a tree and its marks, which puts a record for each interval below it.
-ghost use Rattle.std.specs.Prelude.{◌≡◌, ◌≢◌, ◌+◌, ◌<◌, ◌≤◌, ◌++◌, ◌∷◌, [], ℕ, false, length, take, drop, Some, IfOk, IfErr, OnOk};
+ghost use Rattle.std.specs.Prelude.{◌≡◌, ◌≢◌, ◌+◌, ◌-◌, ◌≤◌, [], ℕ, false, length, take, drop, IfOk, IfErr, OnOk};
+ghost use Rattle.std.specs.Vec.Iter.{into_iter_items};
 ghost use Rattle.nx_host.specs.Still.{IsStill};
 ghost use Rattle.nx_tree.specs.Forest.{forest_of, nodes};
 ghost use Rattle.nx_wal.specs.Wal.{pending};
@@ -10,7 +11,7 @@ ghost use Rattle.nx_cuts.specs.Cut.{CutForest};
 ghost use Rattle.nx_build.specs.Marked.{IsMarked, AreMembers, CanMark, CanHold};
 ghost use Rattle.nx_build.specs.Laying.{LaysTrees, LaysMembers, page_needs, proxy_count};
 
-use crate::items::{add_proxy, copy_node, members_end};
+use crate::items::{add_proxy, members_end, next_tree};
 use nx_hold::add_piece;
 use nx_host::Disk;
 use nx_parts::{Mark, below_in, holder_in};
@@ -18,6 +19,7 @@ use nx_piece::{Body, Item, Items, Piece, PieceTree, PieceTrees, Proxies, Proxy};
 use nx_records::{Records, StoreError};
 use nx_tree::Tree;
 use std::alloc::Global;
+use std::vec::IntoIter;
 
 // The tree of a piece: its node, and what stands below it in the same record. A record is put for each
 // interval below it, and the proxies of those that its piece names are added.
@@ -26,31 +28,22 @@ fn piece_tree<D: Disk>(
     alloc: Global,
     records: &mut Records,
     disk: &mut D,
-    tree: &Tree,
+    tree: Tree,
     marks: &[Mark],
     proxies: &mut Proxies,
 ) -> Result<PieceTree, StoreError>
     requires runs { has_ended records.old ≡ false }
-    requires few { nodes tree.now.below ≤ 524288 }
-    requires marked { CanMark (holder_by_marks marks.now) 0 tree.now.below }
+    requires few { nodes tree.below ≤ 524288 }
+    requires marked { CanMark (holder_by_marks marks.now) 0 tree.below }
     ensures still { IsStill D.Disk disk.old disk.new }
-    ensures node { IfOk result (λ made. made.node ≡ tree.now.node) }
-    ensures ok { IfOk result (λ made. (drawn : CutForest) → IsMarked None (holder_by_marks marks.now) 0 tree.now.below drawn →
+    ensures node { IfOk result (λ made. made.node ≡ tree.node) }
+    ensures ok { IfOk result (λ made. (drawn : CutForest) → IsMarked None (holder_by_marks marks.now) 0 tree.below drawn →
         LaysTrees D.Disk records.old records.new disk.old disk.new drawn made.below proxies.old proxies.new) }
-    ensures refused { IfErr result (λ e. (drawn : CutForest) → IsMarked None (holder_by_marks marks.now) 0 tree.now.below drawn →
+    ensures refused { IfErr result (λ e. (drawn : CutForest) → IsMarked None (holder_by_marks marks.now) 0 tree.below drawn →
         NotStored D.Disk (λ was. page_needs drawn) (λ was. ⊥) 0 e records.old records.new disk.old disk.new) }
 {
-    let children = items_of(
-        alloc,
-        records,
-        disk,
-        tree.children.as_slice(),
-        marks,
-        proxies,
-    )?;
-    let Ok(node) = copy_node(alloc, &tree.node) else {
-        return Err(StoreError::Memory);
-    };
+    let Tree { node, children } = tree;
+    let children = items_of(alloc, records, disk, children.into_vec(), marks, proxies)?;
     Ok(PieceTree { node, children })
 }
 
@@ -61,25 +54,27 @@ fn items_of<D: Disk>(
     alloc: Global,
     records: &mut Records,
     disk: &mut D,
-    trees: &[Tree],
+    trees: Vec<Tree>,
     marks: &[Mark],
     proxies: &mut Proxies,
 ) -> Result<Items, StoreError>
     requires runs { has_ended records.old ≡ false }
-    requires few { nodes (forest_of trees.now) ≤ 524288 }
-    requires marked { CanMark (holder_by_marks marks.now) 0 (forest_of trees.now) }
+    requires few { nodes (forest_of trees.items) ≤ 524288 }
+    requires marked { CanMark (holder_by_marks marks.now) 0 (forest_of trees.items) }
     ensures still { IsStill D.Disk disk.old disk.new }
-    ensures ok { IfOk result (λ items. (drawn : CutForest) → IsMarked None (holder_by_marks marks.now) 0 (forest_of trees.now) drawn →
+    ensures ok { IfOk result (λ items. (drawn : CutForest) → IsMarked None (holder_by_marks marks.now) 0 (forest_of trees.items) drawn →
         LaysTrees D.Disk records.old records.new disk.old disk.new drawn items proxies.old proxies.new) }
-    ensures refused { IfErr result (λ e. (drawn : CutForest) → IsMarked None (holder_by_marks marks.now) 0 (forest_of trees.now) drawn →
+    ensures refused { IfErr result (λ e. (drawn : CutForest) → IsMarked None (holder_by_marks marks.now) 0 (forest_of trees.items) drawn →
         NotStored D.Disk (λ was. page_needs drawn) (λ was. ⊥) 0 e records.old records.new disk.old disk.new) }
 {
+    let len = trees.len();
+    let mut rest = trees.into_iter();
     let mut items = Vec::new(alloc);
     let mut position = 0;
-    while position < trees.len() {
+    while position < len {
         match holder_in(marks, position) {
             None => {
-                let tree = &trees[position];
+                let tree = next_tree(&mut rest);
                 let below = below_in(marks, position);
                 let made = piece_tree(alloc, records, disk, tree, below, proxies)?;
                 let Ok(()) = items.push(Item::Tree(made)) else {
@@ -88,8 +83,8 @@ fn items_of<D: Disk>(
                 position += 1;
             }
             Some(holder) => {
-                let end = members_end(marks, holder, position, trees.len());
-                let proxy = put_members(alloc, records, disk, trees, marks, position, end)?;
+                let end = members_end(marks, holder, position, len);
+                let proxy = put_members(alloc, records, disk, &mut rest, marks, position, end)?;
                 let Ok(()) = add_proxy(&mut items, proxies, proxy) else {
                     return Err(StoreError::Memory);
                 };
@@ -100,35 +95,37 @@ fn items_of<D: Disk>(
     Ok(Items::from_vec(items))
 }
 
-// Puts the record of an interval, whose members are the trees from the first position up to the end, once
-// the records of all intervals below them are put. It answers its proxy.
+// Puts the record of an interval, once the records of all intervals below its members are put, and answers
+// its proxy. The members stand from the first position up to the end. They are taken from the trees that are
+// left, which begin with them.
 #[cycle(walk)]
 pub(crate) fn put_members<D: Disk>(
     alloc: Global,
     records: &mut Records,
     disk: &mut D,
-    trees: &[Tree],
+    trees: &mut IntoIter<Tree>,
     marks: &[Mark],
     first: usize,
     end: usize,
 ) -> Result<Proxy, StoreError>
     requires runs { has_ended records.old ≡ false }
-    requires few { nodes (forest_of trees.now) ≤ 524288 }
+    requires few { nodes (forest_of (into_iter_items trees.old)) ≤ 524288 }
     requires order { first ≤ end }
-    requires within { end ≤ length trees.now }
-    requires marked { CanHold (holder_by_marks marks.now) first (forest_of (drop first (take end trees.now))) }
+    requires within { end ≤ first + length (into_iter_items trees.old) }
+    requires marked { CanHold (holder_by_marks marks.now) first (forest_of (take (end - first) (into_iter_items trees.old))) }
     ensures still { IsStill D.Disk disk.old disk.new }
-    ensures ok { IfOk result (λ proxy. (members : CutForest) → AreMembers (holder_by_marks marks.now) first (forest_of (drop first (take end trees.now))) members →
+    ensures ok { IfOk result (λ proxy. (members : CutForest) → AreMembers (holder_by_marks marks.now) first (forest_of (take (end - first) (into_iter_items trees.old))) members →
         LaysMembers D.Disk records.old records.new disk.old disk.new members proxy) }
+    ensures rest { OnOk result (into_iter_items trees.new ≡ drop (end - first) (into_iter_items trees.old)) }
     ensures changes { IfOk result (λ proxy. pending records.new.wal ≢ []) }
-    ensures refused { IfErr result (λ e. (members : CutForest) → AreMembers (holder_by_marks marks.now) first (forest_of (drop first (take end trees.now))) members →
+    ensures refused { IfErr result (λ e. (members : CutForest) → AreMembers (holder_by_marks marks.now) first (forest_of (take (end - first) (into_iter_items trees.old))) members →
         NotStored D.Disk (λ was. 1 + proxy_count members + page_needs members) (λ was. ⊥) 0 e records.old records.new disk.old disk.new) }
 {
     let mut roots = PieceTrees::new(alloc);
     let mut proxies = Proxies::new(alloc);
     for position in first..end {
         let below = below_in(marks, position);
-        let made = piece_tree(alloc, records, disk, &trees[position], below, &mut proxies)?;
+        let made = piece_tree(alloc, records, disk, next_tree(trees), below, &mut proxies)?;
         let Ok(()) = roots.push(made) else {
             return Err(StoreError::Memory);
         };

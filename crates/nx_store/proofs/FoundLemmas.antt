@@ -112,7 +112,6 @@ module _ {D : Type 0} {d : Ghosts D} where
           stands = at.stands;
           tidy = holds.tidy;
           pieces = holds.pieces;
-          k = ((at.held).settings).k;
           laid = record { layout = (there.0).layout; laid = one.laid };
         });
         counted = ap (λ (e : DocEntry). e.nodes) (sym there.2) ∙ one.counted;

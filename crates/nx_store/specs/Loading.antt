@@ -5,8 +5,7 @@ use Rattle.nx_host.specs.Disk.{Rose}
 use Rattle.nx_host.specs.declared.disk.Disk.{Ghosts}
 use Rattle.nx_tree.specs.Forest.{OrderedTree, nodes}
 use Rattle.nx_parts.specs.declared.interval.Interval.{Interval}
-use Rattle.nx_parts.specs.Minima.{IsLeanOptimal}
-use Rattle.nx_parts.specs.Order.{AreInOrder}
+use Rattle.nx_partition.specs.Planning.{IsLeanInOrder}
 use Rattle.nx_holdings.specs.Holdings.{Held}
 use Rattle.nx_records.specs.Records.{StandsFor, KeepsSaved, settings_of}
 use Rattle.nx_records.specs.Refusals.{RunsOn}
@@ -32,9 +31,8 @@ abbrev pub IsNew : Store → List ℕ → Type 0
 IsNew store name = get (store.catalog).documents name ≡ None
 
 -- A lean optimal partitioning of the tree for the parts of this store, in document order.
-pub record IsChosen (store : Store) (tree : OrderedTree) (parts : List Interval) : Type 0 where
-  pub lean : IsLeanOptimal (settings_of store.records).k tree parts
-  pub in_order : AreInOrder parts
+abbrev pub IsChosen : Store → OrderedTree → List Interval → Type 0
+IsChosen store tree parts = IsLeanInOrder (settings_of store.records).k tree parts
 
 -- The records and the catalog have the document besides, which is cut so. The last commit holds the state without it.
 pub record IsKept {D : Type 0} (d : Ghosts D) (store : Store) (disk : D) (state : State) (name : List ℕ) (tree : OrderedTree) (parts : List Interval) : Type 0 where

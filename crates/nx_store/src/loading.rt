@@ -22,8 +22,8 @@ use crate::{EngineError, Store};
 use nx_build::store;
 use nx_hold::DocEntry;
 use nx_host::Disk;
-use nx_partition::{PlanError, plan};
-use nx_parts::{Partitioning, Plan};
+use nx_partition::{PlanError, partition};
+use nx_parts::Partitioning;
 use nx_records::{Rid, StoreError};
 use nx_script::{LoadBody, Reply, ReplyError, write_reply};
 use nx_tree::{Bytes, Tree, count};
@@ -55,7 +55,7 @@ impl Store {
         }
         match body {
             LoadBody::Wrong(error) => told(self.alloc, Reply::Refused(ReplyError::Pyx(error))),
-            LoadBody::Read(tree) => self.load_tree(disk, &name, &tree),
+            LoadBody::Read(tree) => self.load_tree(disk, &name, tree),
         }
     }
 
@@ -64,14 +64,14 @@ impl Store {
         &mut self,
         disk: &mut D,
         name: &Bytes,
-        tree: &Tree,
+        tree: Tree,
     ) -> Result<(Reply, Bytes), EngineError>
         requires runs { is_ended self.old ≡ false }
         requires named { IsTrue (is_document_name name.now) }
         requires new { IsNew self.old name.now }
-        requires document { IsDocument tree.now }
+        requires document { IsDocument tree }
         ensures loads { (state : State) → IsAt D.Disk self.old disk.old state → IsSome (D.contents disk.new) →
-            IsApplied D.Disk (reply_of result) state (Load name.now (Read tree.now)) self.new disk.old disk.new }
+            IsApplied D.Disk (reply_of result) state (Load name.now (Read tree)) self.new disk.old disk.new }
         ensures ok { IfOk result (λ answer. GoesOn self.old self.new × HasText answer) }
         ensures refused { IfErr result (λ e. NotApplied D.Disk e self.old self.new disk.old disk.new) }
         ensures areas { WritesAlone D.Disk disk.old disk.new (λ _. Unit {0}) }
@@ -100,22 +100,22 @@ impl Store {
         &mut self,
         disk: &mut D,
         name: &Bytes,
-        tree: &Tree,
+        tree: Tree,
     ) -> Result<(Reply, Bytes), EngineError>
         requires runs { is_ended self.old ≡ false }
         requires short { log_length_of self.old.records ≤ 67108864 }
         requires named { IsTrue (is_document_name name.now) }
         requires new { IsNew self.old name.now }
-        requires document { IsDocument tree.now }
+        requires document { IsDocument tree }
         ensures loads { (state : State) → IsAt D.Disk self.old disk.old state → IsSome (D.contents disk.new) →
-            IsApplied D.Disk (reply_of result) state (Load name.now (Read tree.now)) self.new disk.old disk.new }
+            IsApplied D.Disk (reply_of result) state (Load name.now (Read tree)) self.new disk.old disk.new }
         ensures ok { IfOk result (λ answer. GoesOn self.old self.new × HasText answer) }
         ensures refused { IfErr result (λ e. NotApplied D.Disk e self.old self.new disk.old disk.new) }
         ensures areas { WritesAlone D.Disk disk.old disk.new (λ _. Unit {0}) }
     {
         let k = u32::from(self.records.settings().k);
-        match plan(self.alloc, tree, k) {
-            Ok(plan) => self.load_parts(disk, name, tree, &parts_of(plan)),
+        match partition(self.alloc, &tree, k) {
+            Ok(parts) => self.load_parts(disk, name, tree, &parts),
             Err(PlanError::TooHeavy { path, weight }) => told(
                 self.alloc,
                 Reply::Refused(ReplyError::TooHeavy { path, weight }),
@@ -129,17 +129,17 @@ impl Store {
         &mut self,
         disk: &mut D,
         name: &Bytes,
-        tree: &Tree,
+        tree: Tree,
         parts: &Partitioning,
     ) -> Result<(Reply, Bytes), EngineError>
         requires runs { is_ended self.old ≡ false }
         requires short { log_length_of self.old.records ≤ 67108864 }
         requires named { IsTrue (is_document_name name.now) }
         requires new { IsNew self.old name.now }
-        requires document { IsDocument tree.now }
-        requires chosen { IsChosen self.old tree.now parts.now }
+        requires document { IsDocument tree }
+        requires chosen { IsChosen self.old tree parts.now }
         ensures loads { (state : State) → IsAt D.Disk self.old disk.old state → IsSome (D.contents disk.new) →
-            IsApplied D.Disk (reply_of result) state (Load name.now (Read tree.now)) self.new disk.old disk.new }
+            IsApplied D.Disk (reply_of result) state (Load name.now (Read tree)) self.new disk.old disk.new }
         ensures ok { IfOk result (λ answer. GoesOn self.old self.new × HasText answer) }
         ensures refused { IfErr result (λ e. NotApplied D.Disk e self.old self.new disk.old disk.new) }
         ensures areas { WritesAlone D.Disk disk.old disk.new (λ _. Unit {0}) }
@@ -147,7 +147,7 @@ impl Store {
         let loaded = told(
             self.alloc,
             Reply::Loaded {
-                nodes: count(tree),
+                nodes: count(&tree),
                 intervals: parts.len() as u32,
             },
         )?;
@@ -170,26 +170,27 @@ impl Store {
         &mut self,
         disk: &mut D,
         name: &Bytes,
-        tree: &Tree,
+        tree: Tree,
         parts: &Partitioning,
     ) -> Result<(), StoreError>
         requires runs { is_ended self.old ≡ false }
         requires named { IsTrue (is_document_name name.now) }
         requires new { IsNew self.old name.now }
-        requires document { IsDocument tree.now }
-        requires chosen { IsChosen self.old tree.now parts.now }
+        requires document { IsDocument tree }
+        requires chosen { IsChosen self.old tree parts.now }
         ensures still { IsStill D.Disk disk.old disk.new }
         ensures runs { OnOk result (RunsOn self.old.records self.new.records × (pending self.new.records.wal ≢ [])) }
-        ensures ok { OnOk result ((state : State) → IsAt D.Disk self.old disk.old state → IsKept D.Disk self.new disk.new state name.now tree.now parts.now) }
-        ensures refused { IfErr result (λ e. NotKept D.Disk tree.now e self.old self.new disk.old disk.new) }
+        ensures ok { OnOk result ((state : State) → IsAt D.Disk self.old disk.old state → IsKept D.Disk self.new disk.new state name.now tree parts.now) }
+        ensures refused { IfErr result (λ e. NotKept D.Disk tree e self.old self.new disk.old disk.new) }
     {
+        let nodes = count(&tree);
         let root = store(self.alloc, &mut self.records, disk, tree, parts)?;
         let entry = DocEntry {
             root: Rid {
                 page: root.page,
                 slot: root.slot,
             },
-            nodes: count(tree),
+            nodes,
         };
         self.put_entry(name, entry)?;
         self.save_entry(disk, name)
@@ -228,13 +229,6 @@ impl Store {
         }
         saved
     }
-}
-
-// The intervals of a plan. Its bounds, of all nodes, are let go before the document is put into records.
-fn parts_of(plan: Plan) -> Partitioning
-    ensures { result ≡ plan.parts }
-{
-    plan.parts
 }
 
 // What a load is answered whose document wasn't kept.

@@ -10,7 +10,7 @@ use Rattle.nx_store.proofs.store.Store.load_parts.Goals as goal
 
 pub overflow_cast-len : goal.overflow_cast-len
 overflow_cast-len g c =
-    let few = few_parts (settings_of c.args.self.now.records).k c.args.tree.now c.args.parts.now c.requires.chosen.lean.optimal.feasible in
+    let few = few_parts (settings_of c.args.self.now.records).k c.args.tree c.args.parts.now c.requires.chosen.lean.optimal.feasible in
     let small = c.requires.document.small in
     let long : c.len.result ≡ length c.args.parts.now = c.len.ensures in
     omega (arith, few, small, long)
@@ -19,31 +19,31 @@ pub returns-in-Err-clause-loads : goal.returns-in-Err-clause-loads
 returns-in-Err-clause-loads g c state at told =
     let now : Store = record { alloc = c.keep.new.self.alloc; records = c.abandon.new.self; catalog = c.keep.new.self.catalog } in
     refusal_applied g.D.Disk c.args.self.now c.keep.new.self now c.args.disk.now c.keep.new.disk c.abandon.ensures.follows c.abandon.ensures.none_left c.abandon.ensures.saved c.abandon.ensures.stays.0 refl
-    c.args.name.now c.args.tree.now c.args.parts.now c.requires.new c.requires.chosen c.in-Err.ensures.still c.in-Err.error c.refused.result c.refused.ensures c.in-Err.ensures.refused state at
+    c.args.name.now c.args.tree c.args.parts.now c.requires.new c.requires.chosen c.in-Err.ensures.still c.in-Err.error c.refused.result c.refused.ensures c.in-Err.ensures.refused state at
 
 pub returns-in-Err-clause-ok : goal.returns-in-Err-clause-ok
 returns-in-Err-clause-ok g c =
     let now : Store = record { alloc = c.keep.new.self.alloc; records = c.abandon.new.self; catalog = c.keep.new.self.catalog } in
     refusal_ok g.D.Disk c.args.self.now c.keep.new.self now c.args.disk.now c.keep.new.disk c.abandon.ensures.follows c.abandon.ensures.none_left c.abandon.ensures.saved c.abandon.ensures.stays.0 refl
-    c.args.name.now c.args.tree.now c.args.parts.now c.requires.new c.requires.chosen c.in-Err.ensures.still c.in-Err.error c.refused.result c.refused.ensures c.in-Err.ensures.refused
+    c.args.name.now c.args.tree c.args.parts.now c.requires.new c.requires.chosen c.in-Err.ensures.still c.in-Err.error c.refused.result c.refused.ensures c.in-Err.ensures.refused
 
 pub returns-in-Err-clause-refused : goal.returns-in-Err-clause-refused
 returns-in-Err-clause-refused g c =
     let now : Store = record { alloc = c.keep.new.self.alloc; records = c.abandon.new.self; catalog = c.keep.new.self.catalog } in
     refusal_refused g.D.Disk c.args.self.now c.keep.new.self now c.args.disk.now c.keep.new.disk c.abandon.ensures.follows c.abandon.ensures.none_left c.abandon.ensures.saved c.abandon.ensures.stays.0 refl
-    c.args.name.now c.args.tree.now c.args.parts.now c.requires.new c.requires.chosen c.in-Err.ensures.still c.in-Err.error c.refused.result c.refused.ensures c.in-Err.ensures.refused
+    c.args.name.now c.args.tree c.args.parts.now c.requires.new c.requires.chosen c.in-Err.ensures.still c.in-Err.error c.refused.result c.refused.ensures c.in-Err.ensures.refused
 
 pub returns-in-Err-clause-areas : goal.returns-in-Err-clause-areas
 returns-in-Err-clause-areas g c = still_areas g.D.Disk c.in-Err.ensures.still
 
 pub returns-in_default-clause-loads : goal.returns-in_default-clause-loads
 returns-in_default-clause-loads g c state at told =
-    commit_begun c.args.self.now c.args.disk.now c.args.name.now c.args.tree.now c.args.parts.now c.requires.new c.requires.chosen c.keep.new.self c.keep.new.disk c.commit.new.disk c.in-Ok.ensures.still c.commit.ensures.goes state at
+    commit_begun c.args.self.now c.args.disk.now c.args.name.now c.args.tree c.args.parts.now c.requires.new c.requires.chosen c.keep.new.self c.keep.new.disk c.commit.new.disk c.in-Ok.ensures.still c.commit.ensures.goes state at
     (c.in-Ok.ensures.ok state at) told
 
 pub returns-clause-loads : goal.returns-clause-loads
 returns-clause-loads g c state at told =
     let k = c.in-Ok.ensures.ok state at in
-    commit_applied c.args.self.now c.args.disk.now c.args.name.now c.args.tree.now c.args.parts.now c.requires.new c.requires.chosen c.keep.new.self c.keep.new.disk c.commit.new.disk c.in-Ok.ensures.still c.commit.ensures.goes state at k told
+    commit_applied c.args.self.now c.args.disk.now c.args.name.now c.args.tree c.args.parts.now c.requires.new c.requires.chosen c.keep.new.self c.keep.new.disk c.commit.new.disk c.in-Ok.ensures.still c.commit.ensures.goes state at k told
     (record { alloc = c.keep.new.self.alloc; records = c.commit.new.self; catalog = c.keep.new.self.catalog }) c.in_ok-loaded.loaded.0 c.in-Ok-commit.ensures.ok c.in-Ok-commit.ensures.none_left.2 refl
     (ap (λ (a : Reply × List ℕ). a.0) c.in_ok-loaded.ensures ∙ ap₂ (λ (n m : ℕ). reply.Loaded n m) c.count.ensures c.len.ensures)

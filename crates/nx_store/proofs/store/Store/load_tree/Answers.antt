@@ -14,15 +14,15 @@ use Rattle.nx_store.proofs.store.Store.load_tree.Goals as goal
 
 pub returns-in_err-shorten_log-clause-loads : goal.returns-in_err-shorten_log-clause-loads
 returns-in_err-shorten_log-clause-loads g c state at told =
-    handed c.from_residual.result (λ (r : Result (Reply × List ℕ) EngineError). IsApplied g.D.Disk (reply_of r) state (Load c.args.name.now (Read c.args.tree.now)) c.shorten_log.new.self c.args.disk.now c.shorten_log.new.disk)
+    handed c.from_residual.result (λ (r : Result (Reply × List ℕ) EngineError). IsApplied g.D.Disk (reply_of r) state (Load c.args.name.now (Read c.args.tree)) c.shorten_log.new.self c.args.disk.now c.shorten_log.new.disk)
     c.in_err-shorten_log.field-0.0 (err_from_is_err_and c.from_residual.result c.from_residual.ensures.1)
-    (subst (λ (e : EngineError). IsApplied g.D.Disk (Err e) state (Load c.args.name.now (Read c.args.tree.now)) c.shorten_log.new.self c.args.disk.now c.shorten_log.new.disk) (sym c.in_err-shorten_log.ensures.refused.0)
+    (subst (λ (e : EngineError). IsApplied g.D.Disk (Err e) state (Load c.args.name.now (Read c.args.tree)) c.shorten_log.new.self c.args.disk.now c.shorten_log.new.disk) (sym c.in_err-shorten_log.ensures.refused.0)
     (inl (shows_written g.D.Disk c.in_err-shorten_log.ensures.goes told (λ i of. of state at))))
 
 pub returns-clause-loads : goal.returns-clause-loads
 returns-clause-loads g c state at told =
     let before = c.load_planned.ensures.areas.told told in
-    later_applied g.D.Disk c.args.self.now c.args.disk.now c.shorten_log.new.disk c.load_planned.new.disk state (Load c.args.name.now (Read c.args.tree.now)) c.in_ok-shorten_log.ensures.goes at before c.load_planned.new.self
+    later_applied g.D.Disk c.args.self.now c.args.disk.now c.shorten_log.new.disk c.load_planned.new.disk state (Load c.args.name.now (Read c.args.tree)) c.in_ok-shorten_log.ensures.goes at before c.load_planned.new.self
     (reply_of c.load_planned.result) (c.load_planned.ensures.loads state (c.in_ok-shorten_log.ensures.ok.2 state at before) told)
 
 pub returns-clause-refused : goal.returns-clause-refused
