@@ -77,7 +77,7 @@ at_front front x rest all n e l =
     let place : n ≡ length front + 0 = omega arith in
     ap (λ ys. slice_get ys n) e ∙ ap (slice_get (front ++ x ∷ rest)) place ∙ get_behind front (x ∷ rest) 0
 
-at_here : (o : Option OrderedTree) → option_and_then (λ t. at t []) o ≡ o
+pub at_here : (o : Option OrderedTree) → option_and_then (λ t. at t []) o ≡ o
 at_here None = refl
 at_here (Some t) = refl
 

@@ -6,15 +6,19 @@ use Rattle.nx_host.specs.Disk.{Image}
 use Rattle.nx_host.specs.Still.{IsStill}
 use Rattle.nx_host.specs.declared.disk.Disk.{Ghosts}
 use Rattle.nx_records.specs.declared.records.Records.{Records}
-use Rattle.nx_tree.specs.Forest.{nodes}
+use Rattle.nx_tree.specs.Forest.{Forest, Empty, Plant, nodes}
 use Rattle.nx_tree.specs.Document.{depth}
 use Rattle.nx_cuts.specs.Cut.{Bare, Grown, Kept, CutForest, CutTree, forest, width, part_weight, tree_of}
 use Rattle.nx_layouts.specs.Layout.{RecordPlace, Layout, without_places}
 use Rattle.nx_hold.specs.Documents.{HasDocument}
 use Rattle.nx_nav.specs.declared.error.NavError.{NavError}
+use Rattle.nx_nav.specs.declared.visited.Visited.{Visited}
+use Rattle.nx_nav.specs.Nodes.{CanStand}
+use Rattle.nx_nav.specs.Visited.{HasVisited}
 use Rattle.nx_nav.specs.Refusals.{HoldsNoneWith, IsRefused}
 use Rattle.nx_nav.specs.Steps.{Step, steps, steps_of}
 use Rattle.nx_nav.specs.Walk.{HasTold, HasStopped, IsNone, IsIntervalAt, TellsDocument, StopsWithin}
+use Rattle.nx_nav.proofs.NodeLemmas.{document_stands}
 use Rattle.nx_nav.proofs.PartLemmas.{document_held, document_forest}
 use Rattle.nx_nav.proofs.RefusalLemmas.{refused_later}
 
@@ -48,17 +52,24 @@ module _ {D : Type 0} {d : Ghosts D} {r0 : Records} {x : D} {root : RecordPlace}
   pub document_seen : {y : D} {document : CutTree} → IsStill d x y → HasDocument d r0 x root document → IsSome (d.contents y)
   document_seen still h = subst (λ (o : Option Image). IsSome o) (sym (still.contents_stay ∙ (((h.stands).keeps).step).settled.here)) refl
 
-  pub none_such : (y : D) (left : ℕ) → IsNone d y (IsIntervalAt d r0 x root 1) 257 left → IsSome (d.contents y) → HoldsNoneWith d r0 x root left
-  none_such y left none seen document h count =
+  pub none_such : (y : D) (left : ℕ) (v : Visited) → HasVisited v [] → IsNone d y (IsIntervalAt d r0 x root 1) 257 left v → IsSome (d.contents y) → HoldsNoneWith d r0 x root left
+  none_such y left v fresh none seen document h count =
       let size = ap nodes (document_forest h) in
       let high = ap depth (document_forest h) in
       let shallow : depth (tree_of document).below ≤ 256 = h.laid.laid.is_document.shallow in
-      none seen (Kept root (Grown document.node h.laid.layout Bare) Bare) (as_interval h) (omega arith) (omega arith)
+      none seen (Kept root (Grown document.node h.laid.layout Bare) Bare) (as_interval h) (record {
+        shallow = omega arith;
+        small = omega arith;
+        stands = subst (λ (f : Forest). CanStand 0 (Plant document.node f Empty)) (sym (document_forest h)) (document_stands (tree_of document) h.laid.laid.is_document);
+        earlier = [];
+        were = fresh;
+        once = h.laid.laid.once;
+      })
 
 module _ {D : Type 0} (d : Ghosts D) (Unwritten : Type 0) (r0 r1 : Records) (x y : D) (root : RecordPlace) where
-  pub document_refused : (left : ℕ) (e : NavError) → IsRefused d ⊥ Unwritten (IsNone d y (IsIntervalAt d r0 x root 1) 257 left) e r0 r1 x y → IsRefused d ⊥ Unwritten (IsSome (d.contents y) → HoldsNoneWith d r0 x root left) e r0 r1 x y
-  document_refused left e refused =
-      refused_later d ⊥ Unwritten (IsSome (d.contents y) → HoldsNoneWith d r0 x root left) r0 r0 r1 x x y refl (omega arith) (λ bad. bad) (λ u. u) (none_such y left) e refused
+  pub document_refused : (left : ℕ) (v : Visited) → HasVisited v [] → (e : NavError) → IsRefused d ⊥ Unwritten (IsNone d y (IsIntervalAt d r0 x root 1) 257 left v) e r0 r1 x y → IsRefused d ⊥ Unwritten (IsSome (d.contents y) → HoldsNoneWith d r0 x root left) e r0 r1 x y
+  document_refused left v fresh e refused =
+      refused_later d ⊥ Unwritten (IsSome (d.contents y) → HoldsNoneWith d r0 x root left) r0 r0 r1 x x y refl (omega arith) (λ bad. bad) (λ u. u) (none_such y left v fresh) e refused
 
 -- a call that asked the disk alone gave up for what it says
 pub asked_refused : {D : Type 0} (d : Ghosts D) (r0 r1 : Records) (x y : D) (root : RecordPlace) (left : ℕ) (e : NavError) → IsStill d x y
@@ -67,8 +78,8 @@ asked_refused d r0 r1 x y root left e still refused =
     refused_later d ⊥ ⊥ (HoldsNoneWith d r0 x root left) r0 r0 r1 x x y refl (omega arith) (λ bad. bad) (λ bad. bad) (λ none document h. none (document_seen still h) document h) e refused
 
 module _ {A D : Type 0} {d : Ghosts D} {Told : A → D → List Step → A → D → Type 0} {r0 : Records} {x : D} {root : RecordPlace} {a : A} where
-  pub document_told : (left rest : ℕ) (b : A) (y : D) → HasTold d Told (IsIntervalAt d r0 x root 1) a x left b y rest → TellsDocument d Told r0 x root a b y
-  document_told left rest b y has = record {
+  pub document_told : (left rest : ℕ) (b : A) (y : D) (v w : Visited) → HasTold d Told (IsIntervalAt d r0 x root 1) a x left v b y rest w → TellsDocument d Told r0 x root a b y
+  document_told left rest b y v w has = record {
     told = has.told;
     goes = has.goes;
     all = λ seen document h. (has.all seen (Kept root (Grown document.node h.laid.layout Bare) Bare) (as_interval h)).0 ∙ document_steps root h.laid.layout document h.laid.laid.same;
@@ -85,8 +96,8 @@ module _ {A D : Type 0} {d : Ghosts D} {Told : A → D → List Step → A → D
   }
 
   -- it told all, and more was to come
-  pub document_all_told : (left rest : ℕ) (b : A) (y : D) → HasTold d Told (IsIntervalAt d r0 x root 1) a x left b y rest → StopsWithin d Told r0 x root a y
-  document_all_told left rest b y has = record {
+  pub document_all_told : (left rest : ℕ) (b : A) (y : D) (v w : Visited) → HasTold d Told (IsIntervalAt d r0 x root 1) a x left v b y rest w → StopsWithin d Told r0 x root a y
+  document_all_told left rest b y v w has = record {
     told = has.told;
     last = b;
     goes = has.goes;
@@ -94,8 +105,8 @@ module _ {A D : Type 0} {d : Ghosts D} {Told : A → D → List Step → A → D
         ([], sym ((has.all seen (Kept root (Grown document.node h.laid.layout Bare) Bare) (as_interval h)).0 ∙ document_steps root h.laid.layout document h.laid.laid.same) ∙ sym (append-nil has.told));
   }
 
-  pub none_so_large : (left rest : ℕ) (b : A) (y : D) → HasTold d Told (IsIntervalAt d r0 x root 1) a x left b y rest → (rest ≡ 0 → ⊥) → IsSome (d.contents y) → HoldsNoneWith d r0 x root left
-  none_so_large left rest b y has some seen document h count =
+  pub none_so_large : (left rest : ℕ) (b : A) (y : D) (v w : Visited) → HasTold d Told (IsIntervalAt d r0 x root 1) a x left v b y rest w → (rest ≡ 0 → ⊥) → IsSome (d.contents y) → HoldsNoneWith d r0 x root left
+  none_so_large left rest b y v w has some seen document h count =
       let all = has.all seen (Kept root (Grown document.node h.laid.layout Bare) Bare) (as_interval h) in
       let taken : left ≡ rest + (1 + nodes (forest h.laid.layout) + 0) = all.1 in
       let size = ap nodes (document_forest h) in

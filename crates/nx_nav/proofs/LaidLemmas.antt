@@ -171,14 +171,14 @@ light-without_places k (Kept p m s) h =
     (omega arith, free-without_places m h.1, omega arith, light-without_places k m h.3, light-without_places k s h.4)
 
 module _ {D : Type 0} {d : Ghosts D} {records : Records} {disk : D} {root : RecordPlace} {document : CutTree} (h : HasDocument d records disk root document) where
-  document_light : AreParts h.k document.below
-  document_light = subst (λ (c : CutForest). AreParts h.k c) h.laid.laid.same (light-without_places h.k h.laid.layout h.laid.laid.light.3.0)
+  document_light : AreParts (h.now.settings).k document.below
+  document_light = subst (λ (c : CutForest). AreParts (h.now.settings).k c) h.laid.laid.same (light-without_places (h.now.settings).k h.laid.layout h.laid.laid.light.3.0)
 
   laid : course_behind (at_course [] 0 [] []) (steps_of document) ≡ at_course [] 1 (parts_of document) (part_weight (Grown document.node document.below Bare) ∷ weights_below document.below)
-  laid = laid_document h.k document document_light (let few : 1 + nodes (forest document.below) ≤ 524288 = h.laid.laid.is_document.small in omega arith)
+  laid = laid_document (h.now.settings).k document document_light (let few : 1 + nodes (forest document.below) ≤ 524288 = h.laid.laid.is_document.small in omega arith)
 
   pub has_parts : (course_behind (at_course [] 0 [] []) (steps_of document)).parts ≡ parts_of document
   has_parts = ap (λ (at : Course). at.parts) laid
 
   pub has_weights : (course_behind (at_course [] 0 [] []) (steps_of document)).weights ≡ part_weights (tree_of document) (parts_of document)
-  has_weights = ap (λ (at : Course). at.weights) laid ∙ sym (drawn_weights h.k document document_light)
+  has_weights = ap (λ (at : Course). at.weights) laid ∙ sym (drawn_weights (h.now.settings).k document document_light)

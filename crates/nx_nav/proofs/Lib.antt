@@ -9,3 +9,5 @@ pub mod DocumentLemmas
 pub mod TextLemmas
 pub mod LaidLemmas
 pub mod GivenLemmas
+pub mod NodeLemmas
+pub mod VisitLemmas

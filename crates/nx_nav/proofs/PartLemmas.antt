@@ -1,22 +1,24 @@
 -- What a call knows that has read one record: its piece is that of the interval, or there is no such interval.
-use Rattle.std.proofs.Common.{◌≡◌, ℕ, Option, refl, sym, ap, ◌∙◌, subst, arith}
+use Rattle.std.proofs.Common.{◌≡◌, ◌<◌, ◌≤◌, ℕ, Option, refl, sym, ap, ◌∙◌, subst, arith}
 use Rattle.std.specs.Prelude.{IsSome}
 use Rattle.std.specs.Option.{MatchOption}
 use Rattle.nx_host.specs.Disk.{Image, Keeps}
 use Rattle.nx_host.specs.declared.disk.Disk.{Ghosts}
 use Rattle.nx_host.specs.Still.{IsStill}
 use Rattle.nx_host.proofs.DiskLemmas.{settled_kept}
+use Rattle.nx_holdings.specs.declared.header.Settings.{Settings}
 use Rattle.nx_holdings.specs.Holdings.{Held}
 use Rattle.nx_records.specs.declared.records.Records.{Records}
 use Rattle.nx_records.specs.declared.error.StoreError.{StoreError}
 use Rattle.nx_records.specs.declared.error.StoreError.TheVariants as store
-use Rattle.nx_records.specs.Records.{StandsFor}
+use Rattle.nx_records.specs.Records.{StandsFor, settings_of}
 use Rattle.nx_records.specs.Refusals.{NotRead}
 use Rattle.nx_piece.specs.Gapped as gapped
 use Rattle.nx_piece.specs.Gapped.{Gapped}
 use Rattle.nx_piece.specs.declared.piece.Piece.{Piece}
-use Rattle.nx_cuts.specs.Cut.{CutForest, CutTree, Bare, Grown, Kept, forest, width, AreFree, AreParts, tree_of}
+use Rattle.nx_cuts.specs.Cut.{CutForest, CutTree, Bare, Grown, Kept, forest, width, part_weight, AreFree, AreParts, tree_of}
 use Rattle.nx_layouts.specs.Layout.{RecordPlace, Layout, without_places, piece_body, piece_of, AreHeld}
+use Rattle.nx_layouts.proofs.ValidLemmas.{body_weight}
 use Rattle.nx_hold.specs.Documents.{HasDocument}
 use Rattle.nx_hold.specs.Pieces.{HoldsPiece, HoldsNone, IsTidy}
 use Rattle.nx_hold.proofs.PieceLemmas.{one_piece}
@@ -51,6 +53,15 @@ no_interval roots piece holds other members h as_many =
     let same = ap (λ (p : Piece). gapped.width p.body.roots) (interval_piece h piece holds) in
     other (same ∙ interval_width h ∙ as_many)
 
+-- ... and where its piece is heavier than the settings let a part be
+pub no_light_interval : {D : Type 0} {d : Ghosts D} {records : Records} {disk : D} {place : RecordPlace} (roots : ℕ) (piece : Piece) → ((saved now : Held) → StandsFor d records disk saved now → IsTidy now → HoldsPiece now place piece)
+    → (settings_of records).k < gapped.gapped_weight piece.body.roots → HasNoInterval d records disk place roots
+no_light_interval roots piece holds heavy members h as_many =
+    let weighs = ap (λ (p : Piece). gapped.gapped_weight p.body.roots) (interval_piece h piece holds) ∙ body_weight members in
+    let most = ap (λ (t : Settings). t.k) (((h.stands).holds).behind).settings in
+    let light : part_weight members ≤ (h.now.settings).k = h.light.2 in
+    omega arith
+
 -- the refusal of a call that reads one record
 module _ {D : Type 0} (d : Ghosts D) (place : RecordPlace) (roots named : ℕ) (r0 r1 : Records) (x0 x1 : D) where
   pub read_refused : (e : StoreError) → NotRead d (λ now. HoldsNone now place) named e r0 r1 x0 x1 → IsRefused d ⊥ ⊥ (HasNoInterval d r0 x0 place roots) (nav_error e) r0 r1 x0 x1
@@ -71,12 +82,11 @@ layout_later {r0 = r0} {r1 = r1} same still h = record {
   tidy = h.tidy;
   pieces = h.pieces;
   held = h.held;
-  k = h.k;
   light = h.light;
 }
 
 -- the same pieces hold another layout
-pub layout_of : {D : Type 0} {d : Ghosts D} {records : Records} {disk : D} {layout : Layout} (h : HasLayout d records disk layout) (part : Layout) → AreHeld h.pieces.piece_at part → AreParts h.k part → HasLayout d records disk part
+pub layout_of : {D : Type 0} {d : Ghosts D} {records : Records} {disk : D} {layout : Layout} (h : HasLayout d records disk layout) (part : Layout) → AreHeld h.pieces.piece_at part → AreParts (h.now.settings).k part → HasLayout d records disk part
 layout_of h part held light = record {
   saved = h.saved;
   now = h.now;
@@ -84,7 +94,6 @@ layout_of h part held light = record {
   tidy = h.tidy;
   pieces = h.pieces;
   held = held;
-  k = h.k;
   light = light;
 }
 
@@ -102,7 +111,6 @@ document_held h = record {
   tidy = h.tidy;
   pieces = h.pieces;
   held = h.laid.laid.held;
-  k = h.k;
   light = h.laid.laid.light;
 }
 
@@ -128,6 +136,5 @@ layout_goes {d = d} {x1 = x1} same stands layout h = record {
   tidy = h.tidy;
   pieces = h.pieces;
   held = h.held;
-  k = h.k;
   light = h.light;
 }

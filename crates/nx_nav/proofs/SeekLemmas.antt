@@ -6,8 +6,9 @@ use Rattle.nx_host.specs.declared.disk.Disk.{Ghosts}
 use Rattle.nx_host.specs.Still.{IsStill}
 use Rattle.nx_host.proofs.DiskLemmas.{none_still, still_then}
 use Rattle.nx_records.specs.declared.records.Records.{Records}
-use Rattle.nx_tree.specs.Forest.{OrderedTree, Forest}
-use Rattle.nx_tree.specs.Edit.{at}
+use Rattle.nx_tree.specs.declared.node.Node.{Node}
+use Rattle.nx_tree.specs.Forest.{OrderedTree, Forest, trees_of}
+use Rattle.nx_tree.specs.Edit.{at, has_children}
 use Rattle.nx_piece.specs.declared.piece.Piece.{Piece}
 use Rattle.nx_piece.specs.declared.piece.Proxy.{Proxy}
 use Rattle.nx_piece.specs.Gapped.{Gapped, GappedTree}
@@ -22,7 +23,9 @@ use Rattle.nx_nav.specs.declared.error.NavError.{NavError}
 use Rattle.nx_nav.specs.declared.finding.Shown.{Shown}
 use Rattle.nx_nav.specs.Parts.{HasInterval, HasNoInterval, IsPieceAt}
 use Rattle.nx_nav.specs.Refusals.{OfEach, HoldsNone, IsRefused}
-use Rattle.nx_nav.specs.Shows.{ShowsNode}
+use Rattle.nx_nav.specs.Nodes.{CanBe}
+use Rattle.nx_nav.specs.Shows.{ShowsNode, CanBeShown}
+use Rattle.nx_nav.proofs.NodeLemmas.{found_has_come}
 use Rattle.nx_nav.proofs.RefusalLemmas.{refused_later}
 use Rattle.nx_nav.proofs.PartLemmas.{layout_later, layout_of, document_held, document_forest}
 use Rattle.nx_nav.proofs.ChildLemmas.{at_member, IsEnd, interval_end, children_counted, trees-forest, trees-length, path_falls}
@@ -61,13 +64,13 @@ module _ {D : Type 0} {d : Ghosts D} {r0 : Records} {x0 : D} {root : RecordPlace
       (piece : Piece) (is : IsPieceAt d r1 x1 place roots piece) where
     -- where the path leads in the piece that was read
     leads : (document : CutTree) (h : HasDocument d r0 x0 root document) (end : Reached) → reached_in piece member rest ≡ end
-        → let on = seeking.each document h in IsEnd on.there.pieces.piece_at on.there.k (proxies_of on.members) 0 rest end (at (tree_of document) path)
+        → let on = seeking.each document h in IsEnd on.there.pieces.piece_at (on.there.now.settings).k (proxies_of on.members) 0 rest end (at (tree_of document) path)
     leads document h end e =
         let on = seeking.each document h in
         let there = on.there in
         let same : piece ≡ piece_of on.members = is on.members there on.as_many in
-        let ends = interval_end there.pieces.piece_at there.k place on.members member rest there.held there.light in
-        let Ends : Reached → Option OrderedTree → Type 0 = λ r o. IsEnd there.pieces.piece_at there.k (proxies_of on.members) 0 rest r o in
+        let ends = interval_end there.pieces.piece_at (there.now.settings).k place on.members member rest there.held there.light in
+        let Ends : Reached → Option OrderedTree → Type 0 = λ r o. IsEnd there.pieces.piece_at (there.now.settings).k (proxies_of on.members) 0 rest r o in
         subst (λ r. Ends r (at (tree_of document) path)) (ap (λ (p : Piece). reached_in p member rest) (sym same) ∙ e)
         (subst (λ o. Ends (reached_in (piece_of on.members) member rest) o) (sym on.same) ends)
 
@@ -78,12 +81,25 @@ module _ {D : Type 0} {d : Ghosts D} {r0 : Records} {x0 : D} {root : RecordPlace
         let on = seeking.each document h in
         let own = leads document h (Inside tree first) e in
         let same : piece.proxies ≡ proxies_of on.members = ap (λ (p : Piece). p.proxies) (is on.members on.there on.as_many) in
-        let counted = children_counted on.there.pieces.piece_at on.there.k (proxies_of on.members) own.below own.front own.back first own.here own.first_is in (
+        let counted = children_counted on.there.pieces.piece_at (on.there.now.settings).k (proxies_of on.members) own.below own.front own.back first own.here own.first_is in (
           record { node = tree.node; below = forest own.below },
           own.is,
           node,
           children ∙ ap (λ (ps : List Proxy). length (children_of ps first tree.below)) same ∙ ap (λ (f : Gapped). length (children_of (proxies_of on.members) first f)) own.shape
               ∙ counted ∙ sym (trees-forest own.below) ∙ sym (trees-length (forest own.below)),
+        )
+
+    -- which isn't one that a document may have
+    pub shows_none : (tree : GappedTree) (first : ℕ) (shown : Shown) → reached_in piece member rest ≡ Inside tree first → shown.node ≡ tree.node → shown.children ≡ length (children_of piece.proxies first tree.below)
+        → (CanBeShown (length path) shown → ⊥) → HoldsNone d r0 x0 root
+    shows_none tree first shown e node children cannot document h =
+        let there = shows_found tree first shown e node children document h in
+        let come = found_has_come (tree_of document) path there.0 h.laid.laid.is_document there.1 in
+        let same : shown.node ≡ there.0.node = there.2 in
+        let counted : shown.children ≡ length (trees_of there.0.below) = there.3 in
+        cannot (
+          subst (λ (n : Node). CanBe (length path) n) (sym same) come.be,
+          λ none. counted ∙ ap (λ (f : Forest). length (trees_of f)) (come.have (ap (λ (n : Node). has_children n.kind) (sym same) ∙ none)),
         )
 
     -- or nowhere

@@ -13,15 +13,17 @@ use Rattle.nx_piece.specs.declared.piece.Proxy.{Proxy}
 use Rattle.nx_piece.specs.Gapped.{Gapped, GappedTree, End, Grow, Gap, proxies_in}
 use Rattle.nx_piece.specs.Valid.{BeginsNoGap, AreApart}
 use Rattle.nx_cuts.specs.Cut.{Bare, Grown, Kept, joined, forest, width, part_weight, AreParts}
-use Rattle.nx_layouts.specs.Layout.{RecordPlace, Layout, gap_more, piece_body, proxy_of, proxies_of, AreHeld}
+use Rattle.nx_layouts.specs.Layout.{RecordPlace, Layout, gap_more, piece_body, proxy_of, proxies_of, places_of, AreHeld}
 use Rattle.nx_layouts.specs.Replace.{joined_layout}
 use Rattle.nx_layouts.proofs.LayoutLemmas.{proxies_counted, no_bare, no_grown}
 use Rattle.nx_layouts.proofs.ReplaceLemmas.{forest-joined_layout, proxies-joined_layout}
 use Rattle.nx_layouts.proofs.ValidLemmas.{body_apart}
 use Rattle.nx_hold.specs.Changes.{place_named}
+use Rattle.nx_nav.specs.Nodes.{CanStand}
 use Rattle.nx_nav.specs.Parts.{HasLayout}
 use Rattle.nx_nav.specs.Steps.{Begin, Open, Close, steps}
 use Rattle.nx_nav.specs.Walk.{AreIntervals, IsIntervalAt, IsTreeOf, AreOf, AreIntervalsOf}
+use Rattle.nx_nav.proofs.NodeLemmas.{stands_joined}
 use Rattle.nx_nav.proofs.PartLemmas.{layout_of}
 use Rattle.nx_nav.proofs.WayLemmas.{IsSplit}
 
@@ -37,6 +39,15 @@ pub steps-joined_layout : (a b : Layout) → steps (joined_layout a b) ≡ steps
 steps-joined_layout Bare b = refl
 steps-joined_layout (Grown n d s) b = ap (λ xs. Open n ∷ (steps d ++ Close n ∷ xs)) (steps-joined_layout s b) ∙ ap (λ xs. Open n ∷ xs) (sym (append_assoc (steps d) (Close n ∷ steps s) (steps b)))
 steps-joined_layout (Kept p m s) b = ap (λ xs. Begin (width m) (part_weight m) ∷ (steps m ++ xs)) (steps-joined_layout s b) ∙ ap (λ xs. Begin (width m) (part_weight m) ∷ xs) (sym (append_assoc (steps m) (steps s) (steps b)))
+
+pub places-joined_layout : (a b : Layout) → places_of (joined_layout a b) ≡ places_of a ++ places_of b
+places-joined_layout Bare b = refl
+places-joined_layout (Grown n d s) b = ap (λ ps. places_of d ++ ps) (places-joined_layout s b) ∙ sym (append_assoc (places_of d) (places_of s) (places_of b))
+places-joined_layout (Kept p m s) b = ap (λ ps. p ∷ (places_of m ++ ps)) (places-joined_layout s b) ∙ ap (λ ps. p ∷ ps) (sym (append_assoc (places_of m) (places_of s) (places_of b)))
+
+pub joined-empty : (f : Forest) → joined f Empty ≡ f
+joined-empty Empty = refl
+joined-empty (Plant n b s) = ap (Plant n b) (joined-empty s)
 
 pub held_front : (pieces : RecordPlace → Option Piece) (a b : Layout) → AreHeld pieces (joined_layout a b) → AreHeld pieces a × AreHeld pieces b
 held_front pieces Bare b h = (tt, h)
@@ -127,9 +138,11 @@ module _ {D : Type 0} (d : Ghosts D) (r0 r1 : Records) (x0 x1 : D) (moved : (lay
         first = (b, ap (λ (x : Node). Grown x b Bare) (sym e.0), e.1, (proxies_of s ++ more.0, shape), layout_of has (Grown n b Bare) (has.held.0, tt) (has.light.0, tt));
         next = (e.2, (more.0, ap (drop (proxies_in tree.below)) shape ∙ drop_part (proxies_of b) (proxies_of s ++ more.0) (proxies_in tree.below) long), moved s (layout_of has s has.held.1 has.light.1));
         steps_are = ap (λ xs. Open n ∷ xs) (sym (append_assoc (steps b) (Close n ∷ []) (steps s)));
+        places_are = ap (λ ps. ps ++ places_of s) (sym (append-nil (places_of b)));
         nodes_are = omega arith;
         front_shallow = omega arith;
         behind_shallow = omega arith;
+        stand = λ level stands. stands_joined level (Plant n (forest b) Empty) (forest s) stands;
       }
 
   -- a row of intervals before the other items
@@ -141,7 +154,7 @@ module _ {D : Type 0} (d : Ghosts D) (r0 r1 : Records) (x0 x1 : D) (moved : (lay
       let more = h.1 in
       let has = h.2 in
       let held = held_front has.pieces.piece_at row.row row.behind (subst (λ x. AreHeld has.pieces.piece_at x) row.whole has.held) in
-      let light = light_front has.k row.row row.behind (subst (λ x. AreParts has.k x) row.whole has.light) in
+      let light = light_front (has.now.settings).k row.row row.behind (subst (λ x. AreParts (has.now.settings).k x) row.whole has.light) in
       let shape : proxies ≡ proxies_of row.row ++ (proxies_of row.behind ++ more.0) =
       more.1 ∙ ap (λ xs. xs ++ more.0) (ap proxies_of row.whole ∙ proxies-joined_layout row.row row.behind) ∙ append_assoc (proxies_of row.row) (proxies_of row.behind) more.0 in
       let trees = ap forest row.whole ∙ forest-joined_layout row.row row.behind in
@@ -153,9 +166,11 @@ module _ {D : Type 0} (d : Ghosts D) (r0 r1 : Records) (x0 x1 : D) (moved : (lay
         first = (row.are, ap (take count) shape ∙ take_part (proxies_of row.row) (proxies_of row.behind ++ more.0) count row.counted, layout_of has row.row held.0 light.0);
         next = (row.rest, (more.0, ap (drop count) shape ∙ drop_part (proxies_of row.row) (proxies_of row.behind ++ more.0) count row.counted), moved row.behind (layout_of has row.behind held.1 light.1));
         steps_are = ap steps row.whole ∙ steps-joined_layout row.row row.behind;
+        places_are = ap places_of row.whole ∙ places-joined_layout row.row row.behind;
         nodes_are = n;
         front_shallow = omega (arith, deep);
         behind_shallow = omega (arith, deep);
+        stand = λ level stands. stands_joined level (forest row.row) (forest row.behind) (subst (λ (f : Forest). CanStand level f) trees stands);
       }
 
   -- an interval before the others of a row
@@ -178,20 +193,24 @@ module _ {D : Type 0} (d : Ghosts D) (r0 r1 : Records) (x0 x1 : D) (moved : (lay
         first = (m, ap (λ (x : RecordPlace). Kept x m Bare) (sym named), roots, layout_of has (Kept p m Bare) (has.held.0, has.held.1, tt) (has.light.0, has.light.1, has.light.2, has.light.3, tt));
         next = (h.0, parts.1, moved s (layout_of has s has.held.2 has.light.4));
         steps_are = ap (λ xs. Begin (width m) (part_weight m) ∷ xs) (ap (λ xs. xs ++ steps s) (sym (append-nil (steps m))));
+        places_are = ap (λ ps. p ∷ (ps ++ places_of s)) (sym (append-nil (places_of m)));
         nodes_are = omega (arith, n, alone);
         front_shallow = omega (arith, deep, alone_deep);
         behind_shallow = omega (arith, deep);
+        stand = λ level stands.
+            let two = stands_joined level (forest m) (forest s) stands in
+            (subst (λ (f : Forest). CanStand level f) (sym (joined-empty (forest m))) two.0, two.1);
       }
 
 -- where no proxy is left there is no interval
-pub row_ends : {D : Type 0} {d : Ghosts D} {r : Records} {x : D} (proxies : List Proxy) (l : Layout) → AreIntervalsOf d r x proxies l → proxies ≡ [] → (steps l ≡ []) × (nodes (forest l) ≡ 0)
-row_ends proxies Bare h e = (refl, refl)
+pub row_ends : {D : Type 0} {d : Ghosts D} {r : Records} {x : D} (proxies : List Proxy) (l : Layout) → AreIntervalsOf d r x proxies l → proxies ≡ [] → (steps l ≡ []) × (nodes (forest l) ≡ 0) × (places_of l ≡ [])
+row_ends proxies Bare h e = (refl, refl, refl)
 row_ends proxies (Grown n b s) h e = absurd h.0
 row_ends proxies (Kept p m s) h e = absurd (let f = h.1 in cc)
 
 -- where no item is left there is no tree and no interval
-pub items_end : {D : Type 0} {d : Ghosts D} {r : Records} {x : D} (items : Gapped) (proxies : List Proxy) (l : Layout) → AreOf d r x items proxies l → items ≡ End → (steps l ≡ []) × (nodes (forest l) ≡ 0)
-items_end items proxies Bare h e = (refl, refl)
+pub items_end : {D : Type 0} {d : Ghosts D} {r : Records} {x : D} (items : Gapped) (proxies : List Proxy) (l : Layout) → AreOf d r x items proxies l → items ≡ End → (steps l ≡ []) × (nodes (forest l) ≡ 0) × (places_of l ≡ [])
+items_end items proxies Bare h e = (refl, refl, refl)
 items_end items proxies (Grown n b s) h e = absurd (let f = h.0 in cc)
 items_end items proxies (Kept p m s) h e = absurd (no_bare (piece_body s) (sym h.0 ∙ e))
 

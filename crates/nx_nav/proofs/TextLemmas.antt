@@ -30,7 +30,7 @@ events-joined (Plant n b s) g =
     let own = if is_element n.kind then Start n.name ∷ events b ++ End n.name ∷ [] else Single n ∷ [] in
     ap (λ es. own ++ es) (events-joined s g) ∙ sym (append_assoc own (events s) (events g))
 
-joined_forests : (f g : Forest) → IsForest (joined f g) → IsForest f × IsForest g
+pub joined_forests : (f g : Forest) → IsForest (joined f g) → IsForest f × IsForest g
 joined_forests Empty g h = (tt, h)
 joined_forests (Plant n b s) g h = let r = joined_forests s g h.3 in ((h.0, h.1, h.2, r.0), r.1)
 

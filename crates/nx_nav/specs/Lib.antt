@@ -7,3 +7,5 @@ pub mod Told
 pub mod Laid
 pub mod Given
 pub mod GivenLaws
+pub mod Nodes
+pub mod Visited

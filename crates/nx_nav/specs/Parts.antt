@@ -9,7 +9,7 @@ use Rattle.nx_cuts.specs.Cut.{Bare, Kept, width, AreParts}
 use Rattle.nx_layouts.specs.Layout.{RecordPlace, Layout, piece_of, AreHeld}
 use Rattle.nx_hold.specs.Pieces.{IsTidy, PieceMap}
 
--- The records hold the pieces of all intervals of this layout, whose parts are light enough for some limit.
+-- The records hold the pieces of all intervals of this layout, whose parts are as light as the settings want them.
 pub record HasLayout {D : Type 0} (d : Ghosts D) (records : Records) (disk : D) (layout : Layout) : Type 0 where
   pub saved : Held
   pub now : Held
@@ -17,8 +17,7 @@ pub record HasLayout {D : Type 0} (d : Ghosts D) (records : Records) (disk : D) 
   pub tidy : IsTidy now
   pub pieces : PieceMap now
   pub held : AreHeld pieces.piece_at layout
-  pub k : ℕ
-  pub light : AreParts k layout
+  pub light : AreParts (now.settings).k layout
 
 -- they hold an interval with these members in the record at a place
 abbrev pub HasInterval : {D : Type 0} → Ghosts D → Records → D → RecordPlace → Layout → Type 0

@@ -1,9 +1,14 @@
 -- What is shown of a node.
-use Rattle.std.specs.Prelude.{◌≡◌, ℕ, List, length, Some}
+use Rattle.std.specs.Prelude.{◌≡◌, ℕ, false, List, length, Some}
 use Rattle.nx_tree.specs.Forest.{OrderedTree, trees_of}
-use Rattle.nx_tree.specs.Edit.{at}
+use Rattle.nx_tree.specs.Edit.{at, has_children}
+use Rattle.nx_nav.specs.Nodes.{CanBe}
 use Rattle.nx_nav.specs.declared.finding.Shown.{Shown}
 
 -- the node at the end of the path, and how many children it has
 abbrev pub ShowsNode : OrderedTree → List ℕ → Shown → Type 0
 ShowsNode tree path shown = (t : OrderedTree) × (at tree path ≡ Some t) × (shown.node ≡ t.node) × (shown.children ≡ length (trees_of t.below))
+
+-- a document may have the node at this depth, with children where it has some
+abbrev pub CanBeShown : ℕ → Shown → Type 0
+CanBeShown depth shown = CanBe depth shown.node × (has_children shown.node.kind ≡ false → shown.children ≡ 0)

@@ -1,22 +1,32 @@
 -- What a walk has told, and of what.
-use Rattle.std.specs.Prelude.{◌≡◌, ℕ, ◌+◌, ◌≤◌, List, ◌++◌, IsSome}
+use Rattle.std.specs.Prelude.{◌≡◌, ℕ, ◌+◌, ◌-◌, ◌≤◌, List, ◌++◌, IsSome}
 use Rattle.nx_host.specs.declared.disk.Disk.{Ghosts}
 use Rattle.nx_records.specs.declared.records.Records.{Records}
 use Rattle.nx_tree.specs.Forest.{nodes}
-use Rattle.nx_tree.specs.Document.{depth}
+use Rattle.nx_tree.specs.Document.{depth, deepest}
 use Rattle.nx_piece.specs.declared.piece.Proxy.{Proxy}
 use Rattle.nx_piece.specs.Gapped.{Gapped, GappedTree}
 use Rattle.nx_cuts.specs.Cut.{Bare, Grown, Kept, forest, width}
-use Rattle.nx_layouts.specs.Layout.{RecordPlace, Layout, piece_body, proxies_of}
+use Rattle.nx_layouts.specs.Layout.{RecordPlace, Layout, piece_body, proxies_of, places_of, ArePlacedOnce}
 use Rattle.nx_nav.specs.Parts.{HasLayout}
 use Rattle.nx_nav.specs.Refusals.{OfEach}
+use Rattle.nx_nav.specs.Nodes.{CanStand}
+use Rattle.nx_nav.specs.declared.visited.Visited.{Visited}
+use Rattle.nx_nav.specs.Visited.{HasVisited}
 use Rattle.nx_nav.specs.Steps.{Step, steps, steps_of}
 
--- From a teller and a disk to others, where the disk's contents are told at the end: what is told of each layout that P speaks of, and its nodes are taken off those that are left.
-pub record HasTold {A D : Type 0} (d : Ghosts D) (Told : A → D → List Step → A → D → Type 0) (P : Layout → Type 0) (old : A) (before : D) (left : ℕ) (new : A) (after : D) (rest : ℕ) : Type 0 where
+-- these places come behind all those that were visited before
+abbrev pub Visits : Visited → List RecordPlace → Visited → Type 0
+Visits old places new = (earlier : List RecordPlace) → HasVisited old earlier → HasVisited new (earlier ++ places)
+
+-- From a teller and a disk to others, where the disk's contents are told at the end: what is told of each layout that P speaks of. Its nodes are taken off those that are left,
+-- and the places of its records are visited.
+pub record HasTold {A D : Type 0} (d : Ghosts D) (Told : A → D → List Step → A → D → Type 0) (P : Layout → Type 0) (old : A) (before : D) (left : ℕ) (visited : Visited) (new : A) (after : D) (rest : ℕ) (now : Visited) : Type 0 where
   pub told : List Step
   pub goes : Told old before told new after
-  pub all : IsSome (d.contents after) → (layout : Layout) → P layout → (told ≡ steps layout) × (left ≡ rest + nodes (forest layout))
+  pub places : List RecordPlace
+  pub visits : Visits visited places now
+  pub all : IsSome (d.contents after) → (layout : Layout) → P layout → (told ≡ steps layout) × (left ≡ rest + nodes (forest layout)) × (places ≡ places_of layout)
 
 -- ... or of the first part of each, and what came then.
 pub record HasStopped {A D : Type 0} (d : Ghosts D) (Told : A → D → List Step → A → D → Type 0) (P : Layout → Type 0) (old : A) (before after : D) : Type 0 where
@@ -25,9 +35,18 @@ pub record HasStopped {A D : Type 0} (d : Ghosts D) (Told : A → D → List Ste
   pub goes : Told old before told last after
   pub first : IsSome (d.contents after) → (layout : Layout) → P layout → (more : List Step) × (steps layout ≡ told ++ more)
 
--- where the contents of this disk are told, there is no such layout that is so deep and so large at most
-abbrev pub IsNone : {D : Type 0} → Ghosts D → D → (Layout → Type 0) → (deep left : ℕ) → Type 0
-IsNone d after P deep left = IsSome (d.contents after) → (layout : Layout) → P layout → depth (forest layout) ≤ deep → nodes (forest layout) ≤ left → ⊥
+-- A document may have these trees where so many levels are left, of those that it has at most. They are so deep and so large at most, and no record of them was visited or comes twice.
+pub record IsWalkable (deep left : ℕ) (visited : Visited) (layout : Layout) : Type 0 where
+  pub shallow : depth (forest layout) ≤ deep
+  pub small : nodes (forest layout) ≤ left
+  pub stands : CanStand (deepest + 1 - deep) (forest layout)
+  pub earlier : List RecordPlace
+  pub were : HasVisited visited earlier
+  pub once : ArePlacedOnce (earlier ++ places_of layout)
+
+-- where the contents of this disk are told, there is no such layout that a walk may tell
+abbrev pub IsNone : {D : Type 0} → Ghosts D → D → (Layout → Type 0) → (deep left : ℕ) → Visited → Type 0
+IsNone d after P deep left visited = IsSome (d.contents after) → (layout : Layout) → P layout → IsWalkable deep left visited layout → ⊥
 
 -- intervals alone
 abbrev pub AreIntervals : Layout → Type 0

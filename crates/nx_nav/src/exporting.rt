@@ -10,10 +10,12 @@ ghost use Rattle.nx_nav.specs.Refusals.{OfEach, OfEachWith, HoldsNoneWith, IsRef
 
 use crate::NavError;
 use crate::telling::{push_end, push_start};
+use crate::visited::Visited;
 use crate::walking::{Tells, Walk, tell_document};
 use nx_host::{Disk, Host};
+use nx_piece::NodeView;
 use nx_records::{Records, Rid};
-use nx_tree::{Bytes, NoMemory, Node};
+use nx_tree::{Bytes, NoMemory};
 use std::alloc::Global;
 use std::mem;
 
@@ -49,6 +51,7 @@ pub fn export<H: Host>(
             block: mem::replace(block, Bytes::new(alloc)),
         },
         left: nodes,
+        visited: Visited::new(alloc),
     };
     tell_document(&mut walk, records, host, root)?;
     *block = walk.teller.block;
@@ -88,11 +91,11 @@ impl<H: Host> Tells<H> for Exporting {
         Ok(())
     }
 
-    fn open(&mut self, node: &Node) -> Result<(), NoMemory> {
+    fn open(&mut self, node: NodeView<'_>) -> Result<(), NoMemory> {
         push_start(&mut self.block, node)
     }
 
-    fn close(&mut self, node: &Node) -> Result<(), NoMemory> {
+    fn close(&mut self, node: NodeView<'_>) -> Result<(), NoMemory> {
         push_end(&mut self.block, node)
     }
 

@@ -1,19 +1,22 @@
 // The node at a path.
-ghost use Rattle.std.specs.Prelude.{◌≡◌, None, false, length, IfOk, IfErr};
+ghost use Rattle.std.specs.Prelude.{◌≡◌, ◌↔◌, None, true, false, length, IfOk, IfErr};
 ghost use Rattle.nx_host.specs.Still.{IsStill};
 ghost use Rattle.nx_records.specs.Records.{has_ended};
 ghost use Rattle.nx_tree.specs.Edit.{at};
 ghost use Rattle.nx_piece.specs.Valid.{IsPiece};
+ghost use Rattle.nx_piece.specs.Flat.{seen_node};
+ghost use Rattle.nx_piece.specs.Viewing.{seen_items, seen_tree};
 ghost use Rattle.nx_piece.specs.Locate.{children_of, IsPartOf};
 ghost use Rattle.nx_cuts.specs.Cut.{tree_of};
 ghost use Rattle.nx_hold.specs.Changes.{place_of};
 ghost use Rattle.nx_nav.specs.Refusals.{OfEach, HoldsNone, IsRefused};
-ghost use Rattle.nx_nav.specs.Shows.{ShowsNode};
+ghost use Rattle.nx_nav.specs.Shows.{ShowsNode, CanBeShown};
 
 use crate::NavError;
-use crate::reading::piece_at;
+use crate::judging::{may_be, may_have_children};
+use crate::reading::{damaged, piece_at};
 use nx_host::Disk;
-use nx_piece::{Located, Piece, PieceTree, children, locate};
+use nx_piece::{LocatedView, PieceView, TreeView, count_children, find};
 use nx_records::{Records, Rid};
 use nx_tree::{Bytes, NoMemory, Node};
 use std::alloc::Global;
@@ -26,11 +29,12 @@ pub struct Shown {
 }
 
 /// The node at the path in the document whose root's record stands at `root`. It reads the records on
-/// its path alone.
+/// its path alone. What it gives is one that a document may have at that place.
 ///
-/// Errors: `NoNode` where the path leads nowhere; `Damaged` only where the records hold no document
-/// from there on; `Disk`, only where `faults` rose; `Ended` exactly where the records had ended;
-/// `Memory`. The records are as they were then, but that they end with `Damaged` and `Disk`.
+/// Errors: `NoNode` where the path leads nowhere; `Damaged` only where the records hold no document, in
+/// parts of at most K of the settings, from there on; `Disk`, only where `faults` rose; `Ended` exactly
+/// where the records had ended; `Memory`. The records are as they were then, but that they end with
+/// `Damaged` and `Disk`.
 pub fn get<D: Disk>(
     alloc: Global,
     records: &mut Records,
@@ -41,6 +45,7 @@ pub fn get<D: Disk>(
     ensures still { IsStill D.Disk disk.old disk.new }
     ensures ok { IfOk result (λ shown. (has_ended records.old ≡ false) × (records.new ≡ records.old)
         × OfEach D.Disk records.old disk.old (place_of root) (λ document. ShowsNode (tree_of document) path.now shown)) }
+    ensures possible { IfOk result (λ shown. CanBeShown (length path.now) shown) }
     ensures refused { IfErr result (λ e. IsRefused D.Disk (OfEach D.Disk records.old disk.old (place_of root) (λ document. at (tree_of document) path.now ≡ None)) ⊥
         (HoldsNone D.Disk records.old disk.old (place_of root)) e records.old records.new disk.old disk.new) }
 {
@@ -49,10 +54,17 @@ pub fn get<D: Disk>(
     let mut member = 0;
     let mut rest = path;
     loop {
-        let piece = piece_at(alloc, records, disk, rid, roots)?;
-        match locate(&piece, member, rest) {
-            Located::Here { tree, first } => return Ok(show(alloc, &piece, tree, first)?),
-            Located::Away {
+        let mut bytes = Bytes::new(alloc);
+        let piece = piece_at(alloc, records, disk, rid, roots, &mut bytes)?;
+        match find(&piece, member, rest) {
+            LocatedView::Here { tree, first } => {
+                let shown = show(alloc, &piece, tree, first)?;
+                if !is_shown(&shown, path.len()) {
+                    return Err(damaged(records, rid.page));
+                }
+                return Ok(shown);
+            }
+            LocatedView::Away {
                 proxy,
                 member: next,
                 used,
@@ -66,30 +78,37 @@ pub fn get<D: Disk>(
                 member = next;
                 rest = &rest[used as usize..];
             }
-            Located::Nowhere => return Err(NavError::NoNode),
+            LocatedView::Nowhere => return Err(NavError::NoNode),
         }
     }
 }
 
 // The node of a piece, and how many children it has.
-fn show(alloc: Global, piece: &Piece, tree: &PieceTree, first: u32) -> Result<Shown, NoMemory>
+fn show(
+    alloc: Global,
+    piece: &PieceView<'_>,
+    tree: TreeView<'_>,
+    first: u32,
+) -> Result<Shown, NoMemory>
     requires piece { IsPiece piece.now }
-    requires node { IsPartOf piece.now tree.now first }
-    ensures { IfOk result (λ shown. (shown.node ≡ tree.now.node) × (shown.children ≡ length (children_of piece.now.proxies first tree.now.below))) }
+    requires node { IsPartOf piece.now (seen_tree tree) first }
+    ensures { IfOk result (λ shown. (shown.node ≡ seen_node tree.entry.node) × (shown.children ≡ length (children_of piece.now.proxies first (seen_items tree.entry.children)))) }
 {
     Ok(Shown {
-        node: copied(alloc, &tree.node)?,
-        children: children(piece, tree, first),
+        node: tree.node.to_node(alloc)?,
+        children: count_children(piece, tree, first),
     })
 }
 
-// A copy of the node.
-fn copied(alloc: Global, node: &Node) -> Result<Node, NoMemory>
-    ensures { IfOk result (λ made. made ≡ node.now) }
+// Whether a document may have the node at this depth, with so many children.
+fn is_shown(shown: &Shown, depth: usize) -> bool
+    ensures { (result ≡ true) ↔ CanBeShown depth shown.now }
 {
-    Ok(Node {
-        kind: node.kind,
-        name: Bytes::from_slice(alloc, node.name.as_slice())?,
-        content: Bytes::from_slice(alloc, node.content.as_slice())?,
-    })
+    let node = &shown.node;
+    may_be(
+        node.kind,
+        node.name.as_slice(),
+        node.content.as_slice(),
+        depth,
+    ) && (may_have_children(node.kind) || shown.children == 0)
 }

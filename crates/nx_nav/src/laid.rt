@@ -9,11 +9,13 @@ ghost use Rattle.nx_nav.specs.Laid.{interval_at};
 ghost use Rattle.nx_nav.specs.Refusals.{OfEachWith, HoldsNoneWith, IsRefused};
 
 use crate::NavError;
+use crate::visited::Visited;
 use crate::walking::{Tells, Walk, tell_document};
 use nx_host::Disk;
 use nx_parts::{Interval, Partitioning};
+use nx_piece::NodeView;
 use nx_records::{Records, Rid};
-use nx_tree::{NoMemory, Node, Path};
+use nx_tree::{NoMemory, Path};
 use nx_weights::Weights;
 use std::alloc::Global;
 
@@ -29,9 +31,9 @@ pub struct Laid {
 /// The stored intervals of the document of so many nodes, its root counted, whose root's record stands at
 /// `root`, and what their parts weigh.
 ///
-/// Errors: `Damaged` only where the records hold no document of so many nodes from there on; `Disk`,
-/// only where `faults` rose; `Ended` exactly where the records had ended; `Memory`. The records are as
-/// they were then, but that they end with `Damaged` and `Disk`.
+/// Errors: `Damaged` only where the records hold no document of so many nodes, in parts of at most K of
+/// the settings, from there on; `Disk`, only where `faults` rose; `Ended` exactly where the records had
+/// ended; `Memory`. The records are as they were then, but that they end with `Damaged` and `Disk`.
 pub fn layout<D: Disk>(
     alloc: Global,
     records: &mut Records,
@@ -49,6 +51,7 @@ pub fn layout<D: Disk>(
         alloc,
         teller: Laying::new(alloc),
         left: nodes,
+        visited: Visited::new(alloc),
     };
     tell_document(&mut walk, records, disk, root)?;
     Ok(Laid {
@@ -107,13 +110,13 @@ impl<D: Disk> Tells<D> for Laying {
         self.weights.push(u64::from(weight))
     }
 
-    fn open(&mut self, _node: &Node) -> Result<(), NoMemory> {
+    fn open(&mut self, _node: NodeView<'_>) -> Result<(), NoMemory> {
         self.path.push(self.position)?;
         self.position = 0;
         Ok(())
     }
 
-    fn close(&mut self, _node: &Node) -> Result<(), NoMemory> {
+    fn close(&mut self, _node: NodeView<'_>) -> Result<(), NoMemory> {
         if let Some(last) = self.path.as_slice().last().copied() {
             self.path.truncate(self.path.len() - 1);
             self.position = last.saturating_add(1);

@@ -9,9 +9,11 @@
 mod error;
 mod exporting;
 mod finding;
+mod judging;
 mod laid;
 mod reading;
 mod telling;
+mod visited;
 mod walking;
 
 pub use error::NavError;

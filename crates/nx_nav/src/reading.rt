@@ -1,38 +1,46 @@
-// The piece of a record, which has to have as many roots as its proxy says.
-ghost use Rattle.std.specs.Prelude.{◌≡◌, false, IfOk, IfErr};
+// The piece of a record, which has to have as many roots as its proxy says, and to be as light as the
+// settings want it.
+ghost use Rattle.std.specs.Prelude.{◌≡◌, ◌≤◌, false, IfOk, IfErr};
 ghost use Rattle.nx_host.specs.Still.{IsStill};
-ghost use Rattle.nx_records.specs.Records.{has_ended};
+ghost use Rattle.nx_records.specs.Records.{has_ended, settings_of};
 ghost use Rattle.nx_records.specs.Refusals.{EndNow};
-ghost use Rattle.nx_piece.specs.Gapped.{width};
+ghost use Rattle.nx_piece.specs.Gapped.{width, gapped_weight};
 ghost use Rattle.nx_piece.specs.Valid.{IsValidPiece};
 ghost use Rattle.nx_hold.specs.Changes.{place_of};
 ghost use Rattle.nx_nav.specs.Refusals.{IsRefused};
 ghost use Rattle.nx_nav.specs.Parts.{IsPieceAt, HasNoInterval};
 
 use crate::NavError;
-use nx_hold::read_piece;
+use nx_hold::view_piece;
 use nx_host::Disk;
-use nx_piece::Piece;
+use nx_piece::PieceView;
 use nx_records::{Records, Rid};
+use nx_tree::Bytes;
 use std::alloc::Global;
 
-// The piece of the record at a place, which has so many roots.
-pub fn piece_at<D: Disk>(
+// The piece of the record at a place, which has so many roots and isn't heavier than a part may be, seen in
+// the record's bytes.
+pub fn piece_at<'a, D: Disk>(
     alloc: Global,
     records: &mut Records,
     disk: &mut D,
     rid: Rid,
     roots: u16,
-) -> Result<Piece, NavError>
+    bytes: &'a mut Bytes,
+) -> Result<PieceView<'a>, NavError>
     ensures still { IsStill D.Disk disk.old disk.new }
     ensures stays { IfOk result (λ piece. (has_ended records.old ≡ false) × (records.new ≡ records.old)) }
     ensures valid { IfOk result (λ piece. IsValidPiece piece) }
     ensures roots { IfOk result (λ piece. width piece.body.roots ≡ roots) }
+    ensures light { IfOk result (λ piece. gapped_weight piece.body.roots ≤ (settings_of records.old).k) }
     ensures ok { IfOk result (λ piece. IsPieceAt D.Disk records.old disk.old (place_of rid) roots piece) }
     ensures refused { IfErr result (λ e. IsRefused D.Disk ⊥ ⊥ (HasNoInterval D.Disk records.old disk.old (place_of rid) roots) e records.old records.new disk.old disk.new) }
 {
-    let piece = read_piece(alloc, records, disk, rid)?;
-    if piece.body.roots.len() != usize::from(roots) {
+    let piece = view_piece(alloc, records, disk, rid, bytes)?;
+    if piece.body.root_count() != roots {
+        return Err(damaged(records, rid.page));
+    }
+    if piece.body.weight() > records.settings().k {
         return Err(damaged(records, rid.page));
     }
     Ok(piece)

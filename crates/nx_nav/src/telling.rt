@@ -3,6 +3,7 @@ ghost use Rattle.std.specs.Prelude.{◌≡◌, ◌++◌, false, IfOk, IfErr, OnO
 ghost use Rattle.nx_host.specs.Still.{IsStill};
 ghost use Rattle.nx_records.specs.Records.{has_ended};
 ghost use Rattle.nx_pyx.specs.Text.{text};
+ghost use Rattle.nx_piece.specs.Flat.{seen_node};
 ghost use Rattle.nx_cuts.specs.Cut.{tree_of};
 ghost use Rattle.nx_hold.specs.Changes.{place_of};
 ghost use Rattle.nx_nav.specs.Steps.{Open, Close};
@@ -10,19 +11,21 @@ ghost use Rattle.nx_nav.specs.Told.{step_text};
 ghost use Rattle.nx_nav.specs.Refusals.{OfEachWith, HoldsNoneWith, IsRefused};
 
 use crate::NavError;
+use crate::visited::Visited;
 use crate::walking::{Tells, Walk, tell_document};
 use nx_host::Disk;
-use nx_pyx::push_node_line;
+use nx_piece::NodeView;
+use nx_pyx::push_parts_line;
 use nx_records::{Records, Rid};
-use nx_tree::{Bytes, Kind, NoMemory, Node};
+use nx_tree::{Bytes, Kind, NoMemory};
 use std::alloc::Global;
 
 /// The canonical text of the document of so many nodes, its root counted, whose root's record stands at
 /// `root`.
 ///
-/// Errors: `Damaged` only where the records hold no document of so many nodes from there on; `Disk`,
-/// only where `faults` rose; `Ended` exactly where the records had ended; `Memory`. The records are as
-/// they were then, but that they end with `Damaged` and `Disk`.
+/// Errors: `Damaged` only where the records hold no document of so many nodes, in parts of at most K of
+/// the settings, from there on; `Disk`, only where `faults` rose; `Ended` exactly where the records had
+/// ended; `Memory`. The records are as they were then, but that they end with `Damaged` and `Disk`.
 pub fn text_of<D: Disk>(
     alloc: Global,
     records: &mut Records,
@@ -41,6 +44,7 @@ pub fn text_of<D: Disk>(
             bytes: Bytes::new(alloc),
         },
         left: nodes,
+        visited: Visited::new(alloc),
     };
     tell_document(&mut walk, records, disk, root)?;
     Ok(walk.teller.bytes)
@@ -70,11 +74,11 @@ impl<D: Disk> Tells<D> for Text {
         Ok(())
     }
 
-    fn open(&mut self, node: &Node) -> Result<(), NoMemory> {
+    fn open(&mut self, node: NodeView<'_>) -> Result<(), NoMemory> {
         push_start(&mut self.bytes, node)
     }
 
-    fn close(&mut self, node: &Node) -> Result<(), NoMemory> {
+    fn close(&mut self, node: NodeView<'_>) -> Result<(), NoMemory> {
         push_end(&mut self.bytes, node)
     }
 
@@ -96,26 +100,26 @@ impl<D: Disk> Tells<D> for Text {
 }
 
 // Adds the line with which a node begins, but for the root of a document.
-pub(crate) fn push_start(text: &mut Bytes, node: &Node) -> Result<(), NoMemory>
-    ensures { OnOk result (text.new ≡ text.old ++ step_text (Open node.now)) }
+pub(crate) fn push_start(text: &mut Bytes, node: NodeView<'_>) -> Result<(), NoMemory>
+    ensures { OnOk result (text.new ≡ text.old ++ step_text (Open (seen_node node.entry))) }
 {
     match node.kind {
         Kind::Doc => Ok(()),
         _ => {
-            push_node_line(text, node)?;
+            push_parts_line(text, node.kind, node.name, node.content)?;
             text.push(b'\n')
         }
     }
 }
 
 // Adds the line with which an element ends.
-pub(crate) fn push_end(text: &mut Bytes, node: &Node) -> Result<(), NoMemory>
-    ensures { OnOk result (text.new ≡ text.old ++ step_text (Close node.now)) }
+pub(crate) fn push_end(text: &mut Bytes, node: NodeView<'_>) -> Result<(), NoMemory>
+    ensures { OnOk result (text.new ≡ text.old ++ step_text (Close (seen_node node.entry))) }
 {
     match node.kind {
         Kind::Element => {
             text.push(b')')?;
-            text.extend_from_slice(node.name.as_slice())?;
+            text.extend_from_slice(node.name)?;
             text.push(b'\n')
         }
         _ => Ok(()),

@@ -1,23 +1,29 @@
 // A walk over the records of a document, which tells its nodes and its intervals.
-ghost use Rattle.std.specs.Prelude.{◌≡◌, ◌≤◌, false, ℕ, List, [], ◌∷◌, ◌++◌, OnOk, IfOk, IfErr, length, drop, OnErr, IsSome};
+ghost use Rattle.std.specs.Prelude.{◌≡◌, ◌⊎◌, ◌≤◌, false, ℕ, List, [], ◌∷◌, ◌++◌, OnOk, IfOk, IfErr, length, drop, OnErr, IsSome};
 ghost use Rattle.nx_host.specs.Disk.{Image, Keeps};
 ghost use Rattle.nx_host.specs.Still.{IsStill};
 ghost use Rattle.nx_records.specs.Records.{has_ended};
+ghost use Rattle.nx_tree.specs.Document.{IsNode};
 ghost use Rattle.nx_piece.specs.Gapped.{proxies_in};
-ghost use Rattle.nx_piece.specs.Items.{gapped_of};
+ghost use Rattle.nx_piece.specs.Flat.{seen_node};
+ghost use Rattle.nx_piece.specs.Viewing.{seen_items, seen_tree};
 ghost use Rattle.nx_piece.specs.Valid.{HaveRoots};
 ghost use Rattle.nx_hold.specs.Changes.{place_of};
 ghost use Rattle.nx_nav.specs.Refusals.{IsRefused, HoldsNoneWith};
+ghost use Rattle.nx_nav.specs.Nodes.{IsRoot};
+ghost use Rattle.nx_nav.specs.Visited.{HasVisited};
 ghost use Rattle.nx_nav.specs.Walk.{HasTold, HasStopped, IsNone, IsIntervalAt, IsTreeOf, AreOf, AreIntervalsOf, TellsDocument, StopsWithin};
 ghost use Rattle.nx_nav.specs.Steps.{Step, Begin, Open, Close};
 
 use crate::NavError;
+use crate::judging::is_possible;
 use crate::reading::{damaged, piece_at};
+use crate::visited::Visited;
 use nx_host::Disk;
 use nx_lists::DEEPEST;
-use nx_piece::{Item, PieceTree, Proxy, weight};
+use nx_piece::{ItemView, ItemsView, NodeView, Proxy, TreeView};
 use nx_records::{Records, Rid};
-use nx_tree::{NoMemory, Node};
+use nx_tree::{Bytes, NoMemory};
 use std::alloc::Global;
 
 // What a walk tells a document to.
@@ -38,13 +44,14 @@ pub trait Tells<D: Disk> {
         requires { 1 ≤ roots }
         ensures { OnOk result ((disk : D) → Told self.old disk (Begin roots weight ∷ []) self.new disk) };
 
-    // A node begins.
-    fn open(&mut self, node: &Node) -> Result<(), NoMemory>
-        ensures { OnOk result ((disk : D) → Told self.old disk (Open node.now ∷ []) self.new disk) };
+    // A node begins, which a document may have.
+    fn open(&mut self, node: NodeView<'_>) -> Result<(), NoMemory>
+        requires { IsRoot (seen_node node) ⊎ IsNode (seen_node node) }
+        ensures { OnOk result ((disk : D) → Told self.old disk (Open (seen_node node.entry) ∷ []) self.new disk) };
 
     // A node ends.
-    fn close(&mut self, node: &Node) -> Result<(), NoMemory>
-        ensures { OnOk result ((disk : D) → Told self.old disk (Close node.now ∷ []) self.new disk) };
+    fn close(&mut self, node: NodeView<'_>) -> Result<(), NoMemory>
+        ensures { OnOk result ((disk : D) → Told self.old disk (Close (seen_node node.entry) ∷ []) self.new disk) };
 
     // Where the disk is asked alone nothing is told.
     ghost asked: { (a : Self) (x y : D) → IsStill D.Disk x y → Told a x [] a y };
@@ -71,6 +78,7 @@ pub fn tell_document<D: Disk, T: Tells<D>>(
     disk: &mut D,
     root: Rid,
 ) -> Result<(), NavError>
+    requires fresh { HasVisited walk.old.visited [] }
     ensures stays { OnOk result ((has_ended records.old ≡ false) × (records.new ≡ records.old)) }
     ensures told { OnOk result (TellsDocument D.Disk T.Told records.old disk.old (place_of root) walk.old.teller walk.new.teller disk.new) }
     ensures stops { OnErr result (StopsWithin D.Disk T.Told records.old disk.old (place_of root) walk.old.teller disk.new) }
@@ -86,12 +94,13 @@ pub fn tell_document<D: Disk, T: Tells<D>>(
     Ok(())
 }
 
-// A walk: what it tells to, and how many nodes may still come.
+// A walk: what it tells to, how many nodes may still come, and the records that it has come to.
 #[derive(Drop)]
 pub struct Walk<T> {
     pub alloc: Global,
     pub teller: T,
     pub left: u32,
+    pub visited: Visited,
 }
 
 // Where a walk is: in a record of this page, with so many levels of nodes left.
@@ -112,22 +121,32 @@ fn tell_interval<D: Disk, T: Tells<D>>(
     depth: u32,
 ) -> Result<(), NavError>
     requires runs { has_ended records.old ≡ false }
+    requires levels { depth ≤ 257 }
     requires some { 1 ≤ roots }
     ensures stays { OnOk result (records.new ≡ records.old) }
-    ensures told { OnOk result (HasTold D.Disk T.Told (IsIntervalAt D.Disk records.old disk.old (place_of rid) roots) walk.old.teller disk.old walk.old.left walk.new.teller disk.new walk.new.left) }
+    ensures told { OnOk result (HasTold D.Disk T.Told (IsIntervalAt D.Disk records.old disk.old (place_of rid) roots) walk.old.teller disk.old walk.old.left walk.old.visited walk.new.teller disk.new walk.new.left walk.new.visited) }
     ensures stops { OnErr result (HasStopped D.Disk T.Told (IsIntervalAt D.Disk records.old disk.old (place_of rid) roots) walk.old.teller disk.old disk.new) }
-    ensures refused { IfErr result (λ e. IsRefused D.Disk ⊥ (T.Unwritten disk.old disk.new) (IsNone D.Disk disk.new (IsIntervalAt D.Disk records.old disk.old (place_of rid) roots) depth walk.old.left) e records.old records.new disk.old disk.new) }
+    ensures refused { IfErr result (λ e. IsRefused D.Disk ⊥ (T.Unwritten disk.old disk.new) (IsNone D.Disk disk.new (IsIntervalAt D.Disk records.old disk.old (place_of rid) roots) depth walk.old.left walk.old.visited) e records.old records.new disk.old disk.new) }
 {
     walk.teller.pause(disk)?;
-    let piece = piece_at(walk.alloc, records, disk, rid, roots)?;
-    walk.teller.begin(roots, weight(&piece.body))?;
+    if !walk.visited.visit(rid)? {
+        return Err(damaged(records, rid.page));
+    }
+    let mut bytes = Bytes::new(walk.alloc);
+    let piece = piece_at(walk.alloc, records, disk, rid, roots, &mut bytes)?;
+    walk.teller.begin(roots, piece.body.weight())?;
     let spot = Spot {
         page: rid.page,
         depth,
     };
     let mut proxies = piece.proxies.as_slice();
-    for root in piece.body.roots.as_slice() {
-        proxies = tell_tree(walk, records, disk, root, proxies, spot)?;
+    let mut items = piece.body.roots();
+    while let Some((item, beside)) = items.split_first() {
+        // No proxy stands between the roots of a piece.
+        if let ItemView::Tree(root) = item {
+            proxies = tell_tree(walk, records, disk, root, proxies, spot)?;
+        }
+        items = beside;
     }
     Ok(())
 }
@@ -138,37 +157,34 @@ fn tell_tree<'a, D: Disk, T: Tells<D>>(
     walk: &mut Walk<T>,
     records: &mut Records,
     disk: &mut D,
-    tree: &PieceTree,
+    tree: TreeView<'_>,
     proxies: &'a [Proxy],
     spot: Spot,
 ) -> Result<&'a [Proxy], NavError>
     requires runs { has_ended records.old ≡ false }
-    requires fits { proxies_in tree.now.below ≤ length proxies.now }
+    requires levels { spot.depth ≤ 257 }
+    requires fits { proxies_in (seen_items tree.children) ≤ length proxies.now }
     requires rooted { HaveRoots proxies.now }
     ensures stays { OnOk result (records.new ≡ records.old) }
-    ensures behind { IfOk result (λ behind. behind.now ≡ drop (proxies_in tree.now.below) proxies.now) }
-    ensures told { OnOk result (HasTold D.Disk T.Told (IsTreeOf D.Disk records.old disk.old tree.now proxies.now) walk.old.teller disk.old walk.old.left walk.new.teller disk.new walk.new.left) }
-    ensures stops { OnErr result (HasStopped D.Disk T.Told (IsTreeOf D.Disk records.old disk.old tree.now proxies.now) walk.old.teller disk.old disk.new) }
-    ensures refused { IfErr result (λ e. IsRefused D.Disk ⊥ (T.Unwritten disk.old disk.new) (IsNone D.Disk disk.new (IsTreeOf D.Disk records.old disk.old tree.now proxies.now) spot.depth walk.old.left) e records.old records.new disk.old disk.new) }
+    ensures behind { IfOk result (λ behind. behind.now ≡ drop (proxies_in (seen_items tree.entry.children)) proxies.now) }
+    ensures told { OnOk result (HasTold D.Disk T.Told (IsTreeOf D.Disk records.old disk.old (seen_tree tree.entry) proxies.now) walk.old.teller disk.old walk.old.left walk.old.visited walk.new.teller disk.new walk.new.left walk.new.visited) }
+    ensures stops { OnErr result (HasStopped D.Disk T.Told (IsTreeOf D.Disk records.old disk.old (seen_tree tree.entry) proxies.now) walk.old.teller disk.old disk.new) }
+    ensures refused { IfErr result (λ e. IsRefused D.Disk ⊥ (T.Unwritten disk.old disk.new) (IsNone D.Disk disk.new (IsTreeOf D.Disk records.old disk.old (seen_tree tree.entry) proxies.now) spot.depth walk.old.left walk.old.visited) e records.old records.new disk.old disk.new) }
 {
     if spot.depth == 0 || walk.left == 0 {
         return Err(damaged(records, spot.page));
     }
+    if !is_possible(tree, DEEPEST + 1 - spot.depth as usize) {
+        return Err(damaged(records, spot.page));
+    }
     walk.left -= 1;
-    walk.teller.open(&tree.node)?;
+    walk.teller.open(tree.node)?;
     let below = Spot {
         page: spot.page,
         depth: spot.depth - 1,
     };
-    let behind = tell_items(
-        walk,
-        records,
-        disk,
-        tree.children.as_slice(),
-        proxies,
-        below,
-    )?;
-    walk.teller.close(&tree.node)?;
+    let behind = tell_items(walk, records, disk, tree.children, proxies, below)?;
+    walk.teller.close(tree.node)?;
     Ok(behind)
 }
 
@@ -178,29 +194,32 @@ fn tell_items<'a, D: Disk, T: Tells<D>>(
     walk: &mut Walk<T>,
     records: &mut Records,
     disk: &mut D,
-    items: &[Item],
+    items: ItemsView<'_>,
     proxies: &'a [Proxy],
     spot: Spot,
 ) -> Result<&'a [Proxy], NavError>
     requires runs { has_ended records.old ≡ false }
-    requires fits { proxies_in (gapped_of items.now) ≤ length proxies.now }
+    requires levels { spot.depth ≤ 257 }
+    requires fits { proxies_in (seen_items items) ≤ length proxies.now }
     requires rooted { HaveRoots proxies.now }
     ensures stays { OnOk result (records.new ≡ records.old) }
-    ensures behind { IfOk result (λ behind. behind.now ≡ drop (proxies_in (gapped_of items.now)) proxies.now) }
-    ensures told { OnOk result (HasTold D.Disk T.Told (AreOf D.Disk records.old disk.old (gapped_of items.now) proxies.now) walk.old.teller disk.old walk.old.left walk.new.teller disk.new walk.new.left) }
-    ensures stops { OnErr result (HasStopped D.Disk T.Told (AreOf D.Disk records.old disk.old (gapped_of items.now) proxies.now) walk.old.teller disk.old disk.new) }
-    ensures refused { IfErr result (λ e. IsRefused D.Disk ⊥ (T.Unwritten disk.old disk.new) (IsNone D.Disk disk.new (AreOf D.Disk records.old disk.old (gapped_of items.now) proxies.now) spot.depth walk.old.left) e records.old records.new disk.old disk.new) }
+    ensures behind { IfOk result (λ behind. behind.now ≡ drop (proxies_in (seen_items items.entry)) proxies.now) }
+    ensures told { OnOk result (HasTold D.Disk T.Told (AreOf D.Disk records.old disk.old (seen_items items.entry) proxies.now) walk.old.teller disk.old walk.old.left walk.old.visited walk.new.teller disk.new walk.new.left walk.new.visited) }
+    ensures stops { OnErr result (HasStopped D.Disk T.Told (AreOf D.Disk records.old disk.old (seen_items items.entry) proxies.now) walk.old.teller disk.old disk.new) }
+    ensures refused { IfErr result (λ e. IsRefused D.Disk ⊥ (T.Unwritten disk.old disk.new) (IsNone D.Disk disk.new (AreOf D.Disk records.old disk.old (seen_items items.entry) proxies.now) spot.depth walk.old.left walk.old.visited) e records.old records.new disk.old disk.new) }
 {
     let mut rest = proxies;
-    for item in items {
+    let mut left = items;
+    while let Some((item, beside)) = left.split_first() {
         match item {
-            Item::Tree(tree) => rest = tell_tree(walk, records, disk, tree, rest, spot)?,
-            Item::Run { count } => {
-                let (here, behind) = rest.split_at(*count as usize);
+            ItemView::Tree(tree) => rest = tell_tree(walk, records, disk, tree, rest, spot)?,
+            ItemView::Run { count } => {
+                let (here, behind) = rest.split_at(count as usize);
                 tell_row(walk, records, disk, here, spot.depth)?;
                 rest = behind;
             }
         }
+        left = beside;
     }
     Ok(rest)
 }
@@ -215,11 +234,12 @@ fn tell_row<D: Disk, T: Tells<D>>(
     depth: u32,
 ) -> Result<(), NavError>
     requires runs { has_ended records.old ≡ false }
+    requires levels { depth ≤ 257 }
     requires rooted { HaveRoots proxies.now }
     ensures stays { OnOk result (records.new ≡ records.old) }
-    ensures told { OnOk result (HasTold D.Disk T.Told (AreIntervalsOf D.Disk records.old disk.old proxies.now) walk.old.teller disk.old walk.old.left walk.new.teller disk.new walk.new.left) }
+    ensures told { OnOk result (HasTold D.Disk T.Told (AreIntervalsOf D.Disk records.old disk.old proxies.now) walk.old.teller disk.old walk.old.left walk.old.visited walk.new.teller disk.new walk.new.left walk.new.visited) }
     ensures stops { OnErr result (HasStopped D.Disk T.Told (AreIntervalsOf D.Disk records.old disk.old proxies.now) walk.old.teller disk.old disk.new) }
-    ensures refused { IfErr result (λ e. IsRefused D.Disk ⊥ (T.Unwritten disk.old disk.new) (IsNone D.Disk disk.new (AreIntervalsOf D.Disk records.old disk.old proxies.now) depth walk.old.left) e records.old records.new disk.old disk.new) }
+    ensures refused { IfErr result (λ e. IsRefused D.Disk ⊥ (T.Unwritten disk.old disk.new) (IsNone D.Disk disk.new (AreIntervalsOf D.Disk records.old disk.old proxies.now) depth walk.old.left walk.old.visited) e records.old records.new disk.old disk.new) }
 {
     for proxy in proxies {
         let rid = Rid {

@@ -4,53 +4,63 @@ use Rattle.std.proofs.lemmas.List.{length-drop}
 use Rattle.nx_records.specs.declared.records.Records.{Records}
 use Rattle.nx_records.specs.Records.{has_ended}
 use Rattle.nx_tree.specs.Edit.{at}
+use Rattle.nx_piece.specs.Viewing.{seen_tree}
 use Rattle.nx_cuts.specs.Cut.{tree_of}
 use Rattle.nx_hold.specs.Changes.{place_of, place_named}
-use Rattle.nx_nav.specs.Refusals.{OfEach}
-use Rattle.nx_nav.proofs.SeekLemmas.{part_left, seek_begins, shows_found, finds_none, seek_goes_on, seek_falls, seek_refused, IsSeeking}
+use Rattle.nx_nav.specs.Refusals.{OfEach, HoldsNone}
+use Rattle.nx_nav.proofs.RefusalLemmas.{is_damaged}
+use Rattle.nx_nav.proofs.SeekLemmas.{part_left, seek_begins, shows_found, shows_none, finds_none, seek_goes_on, seek_falls, seek_refused, IsSeeking}
 use Rattle.nx_nav.proofs.finding.get.Goals as goal
 
-pub loop-piece-init : goal.loop-piece-init
-loop-piece-init g c = seek_begins
+pub loop-bytes-init : goal.loop-bytes-init
+loop-bytes-init g c = seek_begins
 
 pub returns-in_err-piece-clause-refused : goal.returns-in_err-piece-clause-refused
 returns-in_err-piece-clause-refused g c =
     let p = err_from_is_err_and c.from_residual.result c.from_residual.ensures.1 in
     rw (p.1, p.2)
-    (seek_refused c.piece_at.new.records c.piece_at.new.disk c.loop-piece.invariant (OfEach g.D.Disk c.args.records.now c.args.disk.now (place_of c.args.root) (λ document. at (tree_of document) c.args.path.now ≡ None))
+    (seek_refused c.piece_at.new.records c.piece_at.new.disk c.loop-bytes.invariant (OfEach g.D.Disk c.args.records.now c.args.disk.now (place_of c.args.root) (λ document. at (tree_of document) c.args.path.now ≡ None))
     c.in_err-piece.field-0.0 c.in_err-piece.ensures.refused)
 
 pub returns-in-Here-clause-ok : goal.returns-in-Here-clause-ok
 returns-in-Here-clause-ok g c = (
-  sym (ap (λ (r : Records). has_ended r) c.loop-piece.invariant.stays) ∙ c.in_ok-piece.ensures.stays.0,
-  c.in_ok-piece.ensures.stays.1 ∙ c.loop-piece.invariant.stays,
-  shows_found c.loop-piece.invariant c.in_ok-piece.piece c.in_ok-piece.ensures.ok c.in-Here.tree.now c.in-Here.first c.in_ok-show-in-Here.field-0 c.in-Here.ensures.0 c.in_ok-show-in-Here.ensures.0 c.in_ok-show-in-Here.ensures.1,
+  sym (ap (λ (r : Records). has_ended r) c.loop-bytes.invariant.stays) ∙ c.in_ok-piece.ensures.stays.0,
+  c.in_ok-piece.ensures.stays.1 ∙ c.loop-bytes.invariant.stays,
+  shows_found c.loop-bytes.invariant c.in_ok-piece.piece c.in_ok-piece.ensures.ok (seen_tree c.in-Here.tree) c.in-Here.first c.in_ok-shown-in-Here.shown c.in-Here.ensures.0 c.in_ok-shown-in-Here.ensures.0 c.in_ok-shown-in-Here.ensures.1,
 )
 
+pub returns-then-not-is_shown-clause-refused : goal.returns-then-not-is_shown-clause-refused
+returns-then-not-is_shown-clause-refused g c =
+    is_damaged g.D.Disk (OfEach g.D.Disk c.args.records.now c.args.disk.now (place_of c.args.root) (λ document. at (tree_of document) c.args.path.now ≡ None)) ⊥
+    (HoldsNone g.D.Disk c.args.records.now c.args.disk.now (place_of c.args.root)) {r0 = c.args.records.now} {r1 = c.piece_at.new.records} {r2 = c.damaged.new.records} c.args.disk.now c.piece_at.new.disk c.damaged.result c.damaged.ensures.result
+    (sym (ap (λ (r : Records). has_ended r) c.loop-bytes.invariant.stays) ∙ c.in_ok-piece.ensures.stays.0) (c.in_ok-piece.ensures.stays.1 ∙ c.loop-bytes.invariant.stays) c.damaged.ensures.ends
+    (shows_none c.loop-bytes.invariant c.in_ok-piece.piece c.in_ok-piece.ensures.ok (seen_tree c.in-Here.tree) c.in-Here.first c.in_ok-shown-in-Here.shown c.in-Here.ensures.0 c.in_ok-shown-in-Here.ensures.0 c.in_ok-shown-in-Here.ensures.1
+    (λ can. absurd (let yes = c.is_shown.ensures.1 can in let no = c.if-not-is_shown.true in cc)))
+
 pub slice_bounds-rest-count : goal.slice_bounds-rest-count
-slice_bounds-rest-count g c = (seek_falls c.loop-piece.invariant c.in_ok-piece.piece c.in_ok-piece.ensures.ok c.in-Away.index c.in-Away.next c.in-Away.used c.in_ok-piece.ensures.valid c.in-Away.ensures.0).1
+slice_bounds-rest-count g c = (seek_falls c.loop-bytes.invariant c.in_ok-piece.piece c.in_ok-piece.ensures.ok c.in-Away.index c.in-Away.next c.in-Away.used c.in_ok-piece.ensures.valid c.in-Away.ensures.0).1
 
 pub slice_bounds-rest-start : goal.slice_bounds-rest-start
-slice_bounds-rest-start g c = (seek_falls c.loop-piece.invariant c.in_ok-piece.piece c.in_ok-piece.ensures.ok c.in-Away.index c.in-Away.next c.in-Away.used c.in_ok-piece.ensures.valid c.in-Away.ensures.0).1
+slice_bounds-rest-start g c = (seek_falls c.loop-bytes.invariant c.in_ok-piece.piece c.in_ok-piece.ensures.ok c.in-Away.index c.in-Away.next c.in-Away.used c.in_ok-piece.ensures.valid c.in-Away.ensures.0).1
 
 pub returns-in-Nowhere-clause-refused : goal.returns-in-Nowhere-clause-refused
 returns-in-Nowhere-clause-refused g c = (
-  finds_none c.loop-piece.invariant c.in_ok-piece.piece c.in_ok-piece.ensures.ok c.in-Nowhere.ensures,
-  sym (ap (λ (r : Records). has_ended r) c.loop-piece.invariant.stays) ∙ c.in_ok-piece.ensures.stays.0,
-  c.in_ok-piece.ensures.stays.1 ∙ c.loop-piece.invariant.stays,
+  finds_none c.loop-bytes.invariant c.in_ok-piece.piece c.in_ok-piece.ensures.ok c.in-Nowhere.ensures,
+  sym (ap (λ (r : Records). has_ended r) c.loop-bytes.invariant.stays) ∙ c.in_ok-piece.ensures.stays.0,
+  c.in_ok-piece.ensures.stays.1 ∙ c.loop-bytes.invariant.stays,
 )
 
-pub loop-piece-smaller : goal.loop-piece-smaller
-loop-piece-smaller g c =
-    let falls = seek_falls c.loop-piece.invariant c.in_ok-piece.piece c.in_ok-piece.ensures.ok c.in-Away.index c.in-Away.next c.in-Away.used c.in_ok-piece.ensures.valid c.in-Away.ensures.0 in
+pub loop-bytes-smaller : goal.loop-bytes-smaller
+loop-bytes-smaller g c =
+    let falls = seek_falls c.loop-bytes.invariant c.in_ok-piece.piece c.in_ok-piece.ensures.ok c.in-Away.index c.in-Away.next c.in-Away.used c.in_ok-piece.ensures.valid c.in-Away.ensures.0 in
     let some : 1 ≤ c.in-Away.used = falls.0 in
-    let few : c.in-Away.used ≤ length c.loop-piece.rest.now = falls.1 in
-    let left = ap length (part_left c.loop-piece.rest.now c.in-Away.used) in
-    let long = length-drop c.in-Away.used c.loop-piece.rest.now in
+    let few : c.in-Away.used ≤ length c.loop-bytes.rest.now = falls.1 in
+    let left = ap length (part_left c.loop-bytes.rest.now c.in-Away.used) in
+    let long = length-drop c.in-Away.used c.loop-bytes.rest.now in
     omega arith
 
-pub loop-piece-preserved : goal.loop-piece-preserved
-loop-piece-preserved g c =
+pub loop-bytes-preserved : goal.loop-bytes-preserved
+loop-bytes-preserved g c =
     subst (λ (rest : List ℕ). IsSeeking g.D.Disk c.args.records.now c.piece_at.new.records c.args.disk.now c.piece_at.new.disk (place_of c.args.root) c.args.path.now (place_named c.in-Away.proxy) c.in-Away.proxy.roots c.in-Away.next rest)
-    (sym (part_left c.loop-piece.rest.now c.in-Away.used))
-    (seek_goes_on c.loop-piece.invariant c.in_ok-piece.piece c.in_ok-piece.ensures.ok c.in_ok-piece.ensures.stays.1 c.piece_at.ensures.still c.in-Away.proxy c.in-Away.index c.in-Away.next c.in-Away.used c.in-Away.ensures.0 c.in-Away.ensures.1)
+    (sym (part_left c.loop-bytes.rest.now c.in-Away.used))
+    (seek_goes_on c.loop-bytes.invariant c.in_ok-piece.piece c.in_ok-piece.ensures.ok c.in_ok-piece.ensures.stays.1 c.piece_at.ensures.still c.in-Away.proxy c.in-Away.index c.in-Away.next c.in-Away.used c.in-Away.ensures.0 c.in-Away.ensures.1)

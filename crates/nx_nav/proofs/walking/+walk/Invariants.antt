@@ -1,7 +1,7 @@
 use Rattle.std.proofs.Common.{◌≡◌, ◌+◌, ◌*◌, ◌≤◌, ℕ, drop, length}
-use Rattle.nx_piece.specs.Gapped.{grown_of, proxies_in}
-use Rattle.nx_piece.specs.Items.{gapped_of}
-use Rattle.nx_piece.specs.Valid.{HaveRoots}
+use Rattle.nx_piece.specs.Gapped.{item_count, proxies_in}
+use Rattle.nx_piece.specs.Viewing.{seen_items}
+use Rattle.nx_piece.specs.Valid.{AreTrees, HaveRoots}
 use Rattle.nx_hold.specs.Changes.{place_of}
 use Rattle.nx_nav.specs.Walk.{IsIntervalAt, AreOf, AreIntervalsOf}
 use Rattle.nx_nav.proofs.WayLemmas.{IsOnWay}
@@ -19,29 +19,36 @@ decreases-tell_row g l = 4 * l.depth + 2
 abbrev pub decreases-tell_tree : goal.decreases-tell_tree
 decreases-tell_tree g l = 4 * l.spot.depth
 
-abbrev pub invariant-tell_interval-loop-root : goal.invariant-tell_interval-loop-root
-invariant-tell_interval-loop-root g l =
+abbrev pub invariant-tell_interval-loop-item : goal.invariant-tell_interval-loop-item
+invariant-tell_interval-loop-item g l =
     record {
       stays : l.records ≡ l.fn.records;
-      fits : proxies_in (grown_of (drop l.root-index l.root-items)) ≤ length l.proxies;
+      trees : AreTrees (seen_items l.items);
+      fits : proxies_in (seen_items l.items) ≤ length l.proxies;
       rooted : HaveRoots l.proxies;
-      way : IsOnWay g.D.Disk g.T.Tells.Told (IsIntervalAt g.D.Disk l.fn.records l.fn.disk (place_of l.fn.rid) l.fn.roots) (AreOf g.D.Disk l.records l.disk (grown_of (drop l.root-index l.root-items)) l.proxies)
-          l.fn.walk.teller l.fn.disk l.fn.walk.left l.walk.teller l.disk l.walk.left;
+      way : IsOnWay g.D.Disk g.T.Tells.Told (IsIntervalAt g.D.Disk l.fn.records l.fn.disk (place_of l.fn.rid) l.fn.roots) (AreOf g.D.Disk l.records l.disk (seen_items l.items) l.proxies)
+          l.fn.walk.teller l.fn.disk l.fn.walk.left l.fn.walk.visited l.walk.teller l.disk l.walk.left l.walk.visited;
     }
+
+abbrev pub decreases-tell_interval-loop-item : goal.decreases-tell_interval-loop-item
+decreases-tell_interval-loop-item g l = item_count (seen_items l.items)
 
 abbrev pub invariant-tell_items-loop-item : goal.invariant-tell_items-loop-item
 invariant-tell_items-loop-item g l =
     record {
       stays : l.records ≡ l.fn.records;
-      passed : (n : ℕ) × (l.rest ≡ drop n l.proxies) × (n + proxies_in (gapped_of (drop l.item-index l.items)) ≡ proxies_in (gapped_of l.items));
-      way : IsOnWay g.D.Disk g.T.Tells.Told (AreOf g.D.Disk l.fn.records l.fn.disk (gapped_of l.items) l.proxies) (AreOf g.D.Disk l.records l.disk (gapped_of (drop l.item-index l.items)) l.rest)
-          l.fn.walk.teller l.fn.disk l.fn.walk.left l.walk.teller l.disk l.walk.left;
+      passed : (n : ℕ) × (l.rest ≡ drop n l.proxies) × (n + proxies_in (seen_items l.left) ≡ proxies_in (seen_items l.items));
+      way : IsOnWay g.D.Disk g.T.Tells.Told (AreOf g.D.Disk l.fn.records l.fn.disk (seen_items l.items) l.proxies) (AreOf g.D.Disk l.records l.disk (seen_items l.left) l.rest)
+          l.fn.walk.teller l.fn.disk l.fn.walk.left l.fn.walk.visited l.walk.teller l.disk l.walk.left l.walk.visited;
     }
+
+abbrev pub decreases-tell_items-loop-item : goal.decreases-tell_items-loop-item
+decreases-tell_items-loop-item g l = item_count (seen_items l.left)
 
 abbrev pub invariant-tell_row-loop-proxy : goal.invariant-tell_row-loop-proxy
 invariant-tell_row-loop-proxy g l =
     record {
       stays : l.records ≡ l.fn.records;
       way : IsOnWay g.D.Disk g.T.Tells.Told (AreIntervalsOf g.D.Disk l.fn.records l.fn.disk l.proxies) (AreIntervalsOf g.D.Disk l.records l.disk (drop l.proxy-index l.proxies))
-          l.fn.walk.teller l.fn.disk l.fn.walk.left l.walk.teller l.disk l.walk.left;
+          l.fn.walk.teller l.fn.disk l.fn.walk.left l.fn.walk.visited l.walk.teller l.disk l.walk.left l.walk.visited;
     }

@@ -25,17 +25,17 @@ returns-in_err-tell_interval-clause-stops g c =
 pub returns-in_err-tell_interval-clause-refused : goal.returns-in_err-tell_interval-clause-refused
 returns-in_err-tell_interval-clause-refused g c =
     let p = err_from_is_err_and c.from_residual.result c.from_residual.ensures.1 in
-    rw (p.1, p.2) (document_refused g.D.Disk (g.T.Tells.Unwritten c.args.disk.now c.tell_interval.new.disk) c.args.records.now c.tell_interval.new.records c.args.disk.now c.tell_interval.new.disk (place_of c.args.root) c.args.walk.now.left c.in_err-tell_interval.field-0.0 c.in_err-tell_interval.ensures.refused)
+    rw (p.1, p.2) (document_refused g.D.Disk (g.T.Tells.Unwritten c.args.disk.now c.tell_interval.new.disk) c.args.records.now c.tell_interval.new.records c.args.disk.now c.tell_interval.new.disk (place_of c.args.root) c.args.walk.now.left c.args.walk.now.visited c.requires.fresh c.in_err-tell_interval.field-0.0 c.in_err-tell_interval.ensures.refused)
 
 pub returns-then-walk-ne0-clause-stops : goal.returns-then-walk-ne0-clause-stops
-returns-then-walk-ne0-clause-stops g c = document_all_told c.args.walk.now.left c.tell_interval.new.walk.left c.tell_interval.new.walk.teller c.tell_interval.new.disk c.in_ok-tell_interval.ensures.told
+returns-then-walk-ne0-clause-stops g c = document_all_told c.args.walk.now.left c.tell_interval.new.walk.left c.tell_interval.new.walk.teller c.tell_interval.new.disk c.args.walk.now.visited c.tell_interval.new.walk.visited c.in_ok-tell_interval.ensures.told
 
 pub returns-then-walk-ne0-clause-refused : goal.returns-then-walk-ne0-clause-refused
 returns-then-walk-ne0-clause-refused g c =
     is_damaged g.D.Disk ⊥ (g.T.Tells.Unwritten c.args.disk.now c.tell_interval.new.disk) (IsSome (g.D.Disk.contents c.tell_interval.new.disk) → HoldsNoneWith g.D.Disk c.args.records.now c.args.disk.now (place_of c.args.root) c.args.walk.now.left)
     {r0 = c.args.records.now} {r1 = c.tell_interval.new.records} {r2 = c.damaged.new.records} c.args.disk.now c.tell_interval.new.disk c.damaged.result c.damaged.ensures.result (sym c.is_ended.ensures ∙ c.if-is_ended.false) c.in_ok-tell_interval.ensures.stays
     c.damaged.ensures.ends
-    (none_so_large c.args.walk.now.left c.tell_interval.new.walk.left c.tell_interval.new.walk.teller c.tell_interval.new.disk c.in_ok-tell_interval.ensures.told c.if-walk-ne0.true)
+    (none_so_large c.args.walk.now.left c.tell_interval.new.walk.left c.tell_interval.new.walk.teller c.tell_interval.new.disk c.args.walk.now.visited c.tell_interval.new.walk.visited c.in_ok-tell_interval.ensures.told c.if-walk-ne0.true)
 
 pub returns-clause-told : goal.returns-clause-told
-returns-clause-told g c = document_told c.args.walk.now.left c.tell_interval.new.walk.left c.tell_interval.new.walk.teller c.tell_interval.new.disk c.in_ok-tell_interval.ensures.told
+returns-clause-told g c = document_told c.args.walk.now.left c.tell_interval.new.walk.left c.tell_interval.new.walk.teller c.tell_interval.new.disk c.args.walk.now.visited c.tell_interval.new.walk.visited c.in_ok-tell_interval.ensures.told
