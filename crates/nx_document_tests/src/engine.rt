@@ -124,38 +124,79 @@ fn rule(alloc: Global) -> Result<Rule, NoMemory>
     })
 }
 
+fn load(alloc: Global, name: &[u8], text: &[u8]) -> Result<Command, ReadError>
+    ensures { IfOk result (λ command. CanCome command) }
+{
+    if !is_document_name(name) {
+        return Ok(Command::Bad);
+    }
+    let body = document(alloc, text)?;
+    Ok(Command::Load {
+        name: Bytes::from_slice(alloc, name)?,
+        body,
+    })
+}
+
+fn insert(alloc: Global, name: Bytes, path: Path, text: &[u8]) -> Result<Command, ReadError>
+    ensures { IfOk result (λ command. CanCome command) }
+{
+    let line = line(alloc, text)?;
+    Ok(Command::Insert { name, path, line })
+}
+
+fn retext(alloc: Global, name: Bytes, path: Path, text: &[u8]) -> Result<Command, ReadError>
+    ensures { IfOk result (λ command. CanCome command) }
+{
+    let text = content(alloc, text)?;
+    Ok(Command::Retext { name, path, text })
+}
+
+// A command of a document and a path.
+fn edit(
+    alloc: Global,
+    word: &str,
+    name: Bytes,
+    path: Path,
+    text: &[u8],
+) -> Result<Command, ReadError>
+    ensures { IfOk result (λ command. CanCome command) }
+{
+    match word {
+        "insert" => insert(alloc, name, path, text),
+        "retext" => retext(alloc, name, path, text),
+        "delete" => Ok(Command::Delete { name, path }),
+        _ => Ok(Command::Get { name, path }),
+    }
+}
+
+// A command of a document.
+fn look(word: &str, name: Bytes) -> Command
+    ensures { CanCome result }
+{
+    match word {
+        "drop" => Command::Discard { name },
+        "export" => Command::Export { name },
+        _ => Command::Layout { name },
+    }
+}
+
 fn command(alloc: Global, step: Step) -> Result<Command, ReadError>
     ensures { IfOk result (λ command. CanCome command) }
 {
-    let name = Bytes::from_slice(alloc, step.1)?;
-    let path = Path::from_slice(alloc, step.2)?;
-    let text = step.3;
-    Ok(match step.0 {
-        "load" if is_document_name(step.1) => Command::Load {
-            name,
-            body: document(alloc, text)?,
-        },
-        "drop" => Command::Discard { name },
-        "names" => Command::Names,
-        "export" => Command::Export { name },
-        "insert" => Command::Insert {
-            name,
-            path,
-            line: line(alloc, text)?,
-        },
-        "delete" => Command::Delete { name, path },
-        "retext" => Command::Retext {
-            name,
-            path,
-            text: content(alloc, text)?,
-        },
-        "get" => Command::Get { name, path },
-        "layout" => Command::Layout { name },
-        "rule" => Command::SetRule { rule: rule(alloc)? },
-        "rules" => Command::Rules,
-        "checkpoint" => Command::Checkpoint,
-        _ => Command::Bad,
-    })
+    match step.0 {
+        "load" => load(alloc, step.1, step.3),
+        "insert" | "retext" | "delete" | "get" => {
+            let name = Bytes::from_slice(alloc, step.1)?;
+            let path = Path::from_slice(alloc, step.2)?;
+            edit(alloc, step.0, name, path, step.3)
+        }
+        "drop" | "export" | "layout" => Ok(look(step.0, Bytes::from_slice(alloc, step.1)?)),
+        "names" => Ok(Command::Names),
+        "rule" => Ok(Command::SetRule { rule: rule(alloc)? }),
+        "rules" => Ok(Command::Rules),
+        "checkpoint" => Ok(Command::Checkpoint),
+        _ => Ok(Command::Bad),
+    }
 }
 
 fn check(

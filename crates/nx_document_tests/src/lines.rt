@@ -160,24 +160,63 @@ fn add(
     trees.push(Tree { node, children })
 }
 
+// Adds a node with nothing below it.
+fn add_leaf(
+    trees: &mut Trees,
+    alloc: Global,
+    kind: Kind,
+    name: &[u8],
+    content: &[u8],
+) -> Result<(), NoMemory> {
+    add(trees, alloc, kind, name, content, Trees::new(alloc))
+}
+
+fn add_text_and_d(trees: &mut Trees, alloc: Global) -> Result<(), NoMemory> {
+    add_leaf(trees, alloc, Kind::Text, b"", b"")?;
+    add_leaf(trees, alloc, Kind::Element, b"d", b"x")
+}
+
+fn add_text_over_x(trees: &mut Trees, alloc: Global) -> Result<(), NoMemory> {
+    let mut below = Trees::new(alloc);
+    add_leaf(&mut below, alloc, Kind::Element, b"x", b"")?;
+    add(trees, alloc, Kind::Text, b"", b"x\ny", below)
+}
+
+fn add_c(trees: &mut Trees, alloc: Global) -> Result<(), NoMemory> {
+    let mut below = Trees::new(alloc);
+    add_text_and_d(&mut below, alloc)?;
+    add(trees, alloc, Kind::Element, b"c", b"", below)
+}
+
+fn add_below_a(trees: &mut Trees, alloc: Global) -> Result<(), NoMemory> {
+    add_leaf(trees, alloc, Kind::Attribute, b"k", b"v\\")?;
+    add_leaf(trees, alloc, Kind::Element, b"b", b"")?;
+    add_text_over_x(trees, alloc)?;
+    add_c(trees, alloc)
+}
+
+fn add_a(trees: &mut Trees, alloc: Global) -> Result<(), NoMemory> {
+    let mut below = Trees::new(alloc);
+    add_below_a(&mut below, alloc)?;
+    add(trees, alloc, Kind::Element, b"a", b"", below)
+}
+
+fn add_top(trees: &mut Trees, alloc: Global) -> Result<(), NoMemory> {
+    add_leaf(trees, alloc, Kind::Instruction, b"p", b"")?;
+    add_a(trees, alloc)?;
+    add_leaf(trees, alloc, Kind::Instruction, b"q", b"r")
+}
+
 // The tree of `TEXT`. It has parts that no document has and that have no line: a content of an
 // element, and a child of a text.
 fn document(alloc: Global) -> Result<Tree, NoMemory> {
-    let none = || Trees::new(alloc);
-    let mut inner = none();
-    add(&mut inner, alloc, Kind::Text, b"", b"", none())?;
-    add(&mut inner, alloc, Kind::Element, b"d", b"x", none())?;
-    let mut below_text = none();
-    add(&mut below_text, alloc, Kind::Element, b"x", b"", none())?;
-    let mut outer = none();
-    add(&mut outer, alloc, Kind::Attribute, b"k", b"v\\", none())?;
-    add(&mut outer, alloc, Kind::Element, b"b", b"", none())?;
-    add(&mut outer, alloc, Kind::Text, b"", b"x\ny", below_text)?;
-    add(&mut outer, alloc, Kind::Element, b"c", b"", inner)?;
-    let mut children = none();
-    add(&mut children, alloc, Kind::Instruction, b"p", b"", none())?;
-    add(&mut children, alloc, Kind::Element, b"a", b"", outer)?;
-    add(&mut children, alloc, Kind::Instruction, b"q", b"r", none())?;
+    let mut children = Trees::new(alloc);
+    add_top(&mut children, alloc)?;
+    over(alloc, children)
+}
+
+// The trees below the root of a document.
+fn over(alloc: Global, children: Trees) -> Result<Tree, NoMemory> {
     Ok(Tree {
         node: node(alloc, Kind::Doc, b"", b"")?,
         children,
@@ -197,13 +236,10 @@ fn node_lines(rt: HostRuntime) -> Result<(), Fail> {
 // An element over one node of the name `k`.
 fn element_over(alloc: Global, kind: Kind, content: &[u8]) -> Result<Tree, NoMemory> {
     let mut inner = Trees::new(alloc);
-    add(&mut inner, alloc, kind, b"k", content, Trees::new(alloc))?;
+    add_leaf(&mut inner, alloc, kind, b"k", content)?;
     let mut children = Trees::new(alloc);
     add(&mut children, alloc, Kind::Element, b"a", b"", inner)?;
-    Ok(Tree {
-        node: node(alloc, Kind::Doc, b"", b"")?,
-        children,
-    })
+    over(alloc, children)
 }
 
 #[test]

@@ -281,25 +281,41 @@ fn check(
     for piece in pieces {
         let before = len;
         len = before.saturating_add(piece.len());
-        let fed = reader.feed(piece);
-        if let Err(error) = fed {
-            assert_eq!(rt; reader.feed(b"(a\n)a\n"), fed);
-            assert_eq!(rt; reader.finish().err(), Some(error));
-            if error == ReadError::Memory {
-                return Err(error.into());
-            }
+        if let Err(error) = reader.feed(piece) {
+            check_stopped(rt, reader, error)?;
             assert!(rt; before <= told && told < len, "{error:?}");
             assert_eq!(rt; Some(error), want.err().map(|e| ReadError::Pyx(e)));
             return Ok(());
         }
     }
+    check_end(rt, alloc, reader, len == told, want)
+}
+
+// What told a fault tells it from then on.
+fn check_stopped(rt: &impl Abort, mut reader: Reader, error: ReadError) -> Result<(), Fail> {
+    assert_eq!(rt; reader.feed(b"(a\n)a\n"), Err(error));
+    assert_eq!(rt; reader.finish().err(), Some(error));
+    match error {
+        ReadError::Memory => Err(error.into()),
+        ReadError::Pyx(_) => Ok(()),
+    }
+}
+
+// At the end of a stream comes its text, or its fault where the end tells that.
+fn check_end(
+    rt: &impl Abort,
+    alloc: Global,
+    reader: Reader,
+    tells: bool,
+    want: Result<&[u8], PyxError>,
+) -> Result<(), Fail> {
     match reader.finish() {
         Ok(tree) => {
             let text = write(alloc, &tree)?;
             assert_eq!(rt; Ok(text.as_slice()), want);
         }
         Err(ReadError::Pyx(error)) => {
-            assert_eq!(rt; len, told, "{error:?}");
+            assert!(rt; tells, "{error:?}");
             assert_eq!(rt; Some(error), want.err());
         }
         Err(ReadError::Memory) => return Err(ReadError::Memory.into()),
