@@ -66,10 +66,10 @@ impl Store {
             shut: false,
             group: Vec::new(),
         };
-        if store.pages.metadata()?.len() == 0 || store.log.metadata()?.len() == 0 {
-            let folder = name.rsplit_once('/').map_or(".", |(folder, _)| folder);
-            File::open(folder)?.sync_all()?;
-        }
+        store.pages.sync_data()?;
+        store.log.sync_data()?;
+        let folder = name.rsplit_once('/').map_or(".", |(folder, _)| folder);
+        File::open(folder)?.sync_all()?;
         while store.read_group()? {}
         Ok(store)
     }

@@ -67,10 +67,10 @@ impl Log {
             shut: false,
             block: Vec::with_capacity(BLOCK + PAGE + 4),
         };
-        if log.pages.metadata()?.len() == 0 || log.log.metadata()?.len() == 0 {
-            let folder = name.rsplit_once('/').map_or(".", |(folder, _)| folder);
-            File::open(folder)?.sync_all()?;
-        }
+        log.pages.sync_data()?;
+        log.log.sync_data()?;
+        let folder = name.rsplit_once('/').map_or(".", |(folder, _)| folder);
+        File::open(folder)?.sync_all()?;
         let length = log.log.metadata()?.len();
         while log.read_group(length)? {}
         Ok(log)

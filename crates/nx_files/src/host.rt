@@ -1,12 +1,14 @@
 // The host over files.
-ghost use Rattle.std.specs.Prelude.{◌≡◌, ◌+◌, ◌<◌, ◌≤◌, ℕ, length, take, None, IfOk, IsSome, OnOk, OnErr, refl};
+ghost use Rattle.std.specs.Prelude.{◌≡◌, ◌+◌, ◌<◌, ◌≤◌, ℕ, length, take, None, IfOk, IsErr, IsSome, OnOk, OnErr, refl};
 ghost use Rattle.std.specs.Io.KnownBytes.{Appends, Consumes, IsAtEnd, Keeps};
 ghost use Rattle.std.proofs.Common.{subst, sym};
 ghost use Rattle.nx_host.specs.Disk.{HoldsBytes, Rose, no_bytes};
 ghost use Rattle.nx_host.proofs.DiskLemmas.{no_bytes_hold_bytes, untold};
+ghost use Rattle.nx_files.specs.Files.{IsUnopened, IsSynced, HasEnded, LeavesOther};
 
 use crate::store::Store;
 use crate::stream::{read_some, write_whole};
+use crate::{Folder, SystemFolder};
 use nx_host::{Area, Disk, Failed, Host};
 use nx_lists::NoMemory;
 use std::alloc::Global;
@@ -16,11 +18,12 @@ use std::io::{Read, Write};
 /// A host over the two files of a store, a reader and a writer. It tells nothing of their bytes.
 ///
 /// The files are opened, and made where they are missing, at the first call of `Disk` and not
-/// before. From then on both are locked until the host is dropped.
+/// before. From then on both are locked until the host is dropped. Before anything is read or written,
+/// both and their names are made durable, whoever wrote and made them.
 #[derive(Drop)]
-pub struct FileHost<F, R, W> {
-    files: F,
-    store: Store,
+pub struct FileHost<D: Folder, R, W> {
+    folder: D,
+    store: Store<D::File>,
     reader: R,
     writer: W,
     // Each count stops at its type's end.
@@ -30,7 +33,7 @@ pub struct FileHost<F, R, W> {
     out_faults: u64,
 }
 
-impl<F: Drop, R: Drop, W: Drop> FileHost<F, R, W> {
+impl<F: Files<File = File> + Drop, R: Drop, W: Drop> FileHost<SystemFolder<F>, R, W> {
     /// A host over the file `name` for the pages, the file `name.log` for the log, and these two,
     /// neither of which is buffered here. No file is touched yet.
     ///
@@ -41,12 +44,32 @@ impl<F: Drop, R: Drop, W: Drop> FileHost<F, R, W> {
         name: &str,
         reader: R,
         writer: W,
-    ) -> Result<FileHost<F, R, W>, NoMemory>
+    ) -> Result<FileHost<SystemFolder<F>, R, W>, NoMemory>
+        ensures named { IfOk result (λ host. IsUnopened name.now host.store) }
+        ensures over { IfOk result (λ host. (host.reader ≡ reader) × (host.writer ≡ writer)) }
+        ensures no_fault { IfOk result (λ host. (host.faults ≡ 0) × (host.in_faults ≡ 0) × (host.out_faults ≡ 0)) }
+    {
+        FileHost::over(alloc, SystemFolder::new(files), name, reader, writer)
+    }
+}
+
+impl<D: Folder + Drop, R: Drop, W: Drop> FileHost<D, R, W> {
+    /// The same over files of this folder.
+    ///
+    /// Errors: `NoMemory`.
+    pub fn over(
+        alloc: Global,
+        folder: D,
+        name: &str,
+        reader: R,
+        writer: W,
+    ) -> Result<FileHost<D, R, W>, NoMemory>
+        ensures named { IfOk result (λ host. IsUnopened name.now host.store) }
         ensures over { IfOk result (λ host. (host.reader ≡ reader) × (host.writer ≡ writer)) }
         ensures no_fault { IfOk result (λ host. (host.faults ≡ 0) × (host.in_faults ≡ 0) × (host.out_faults ≡ 0)) }
     {
         Ok(FileHost {
-            files,
+            folder,
             store: Store::new(alloc, name)?,
             reader,
             writer,
@@ -58,7 +81,7 @@ impl<F: Drop, R: Drop, W: Drop> FileHost<F, R, W> {
     }
 }
 
-impl<F: Files<File = File>, R: Read, W: Write> Disk for FileHost<F, R, W> {
+impl<D: Folder, R: Read, W: Write> Disk for FileHost<D, R, W> {
     ghost contents = { λ _. None };
 
     ghost may_leave = { λ _ image. HoldsBytes image };
@@ -74,7 +97,7 @@ impl<F: Files<File = File>, R: Read, W: Write> Disk for FileHost<F, R, W> {
     ghost reads = { λ host. host.reads };
 
     fn length(&mut self, area: Area) -> Result<u64, Failed> {
-        let length = self.store.length(&self.files, area);
+        let length = self.store.length(&mut self.folder, area);
         if length.is_err() {
             self.faults = self.faults.saturating_add(1);
         }
@@ -83,7 +106,7 @@ impl<F: Files<File = File>, R: Read, W: Write> Disk for FileHost<F, R, W> {
 
     fn read(&mut self, area: Area, at: u64, into: &mut [u8]) -> Result<usize, Failed> {
         self.reads = self.reads.saturating_add(1);
-        let count = self.store.read(&self.files, area, at, into);
+        let count = self.store.read(&mut self.folder, area, at, into);
         if count.is_err() {
             self.faults = self.faults.saturating_add(1);
         }
@@ -91,15 +114,23 @@ impl<F: Files<File = File>, R: Read, W: Write> Disk for FileHost<F, R, W> {
     }
 
     fn write_at(&mut self, area: Area, at: u64, bytes: &[u8]) -> Result<(), Failed> {
-        let written = self.store.write_at(&self.files, area, at, bytes);
+        let written = self.store.write_at(&mut self.folder, area, at, bytes);
         if written.is_err() {
             self.faults = self.faults.saturating_add(1);
         }
         written
     }
 
-    fn sync(&mut self, area: Area) -> Result<(), Failed> {
-        let synced = self.store.sync(&self.files, area);
+    fn sync(&mut self, area: Area) -> Result<(), Failed>
+        ensures synced { OnOk result (IsSynced D.File.StoreFile area self.new.store.state) }
+        ensures failed { OnErr result (HasEnded self.new.store.state) }
+        ensures ended { HasEnded self.old.store.state → IsErr result × HasEnded self.new.store.state }
+        ensures other { OnOk result (LeavesOther area self.old.store.state self.new.store.state) }
+        ensures others { self.new ≡ record self.old { folder = self.new.folder; store = self.new.store; faults = self.new.faults } }
+        ensures faults { self.old.faults ≤ self.new.faults }
+        ensures cause { OnErr result (Rose self.old.faults self.new.faults) }
+    {
+        let synced = self.store.sync(&mut self.folder, area);
         if synced.is_err() {
             self.faults = self.faults.saturating_add(1);
         }
@@ -125,7 +156,7 @@ impl<F: Files<File = File>, R: Read, W: Write> Disk for FileHost<F, R, W> {
     ghost input_is_bytes = { λ _ input is. untold input is };
 }
 
-impl<F: Files<File = File>, R: Read, W: Write> Host for FileHost<F, R, W> {
+impl<D: Folder, R: Read, W: Write> Host for FileHost<D, R, W> {
     fn read_in(&mut self, into: &mut [u8]) -> Result<usize, Failed>
         ensures room { IfOk result (λ n. n ≤ length into.old) }
         ensures taken { IfOk result (λ n. Consumes (R.remaining self.old.reader) (R.remaining self.new.reader) (take n into.new)) }

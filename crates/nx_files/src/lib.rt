@@ -6,8 +6,13 @@
 #![tactic(auto)]
 
 mod cursor;
+mod file;
 mod host;
+mod settled;
 mod store;
 mod stream;
+mod system;
 
+pub use file::{Folder, StoreFile};
 pub use host::FileHost;
+pub use system::{SystemFile, SystemFolder};

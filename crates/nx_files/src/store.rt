@@ -1,45 +1,40 @@
 // The two files of a store.
-ghost use Rattle.std.specs.Prelude.{◌≡◌, ◌≤◌, ◌++◌, length, IfOk, codes, string_bytes};
+ghost use Rattle.std.specs.Prelude.{◌≡◌, ◌≢◌, ◌≤◌, ◌+◌, ◌^◌, length, string_bytes, IfOk, IfSome, IsErr, IsTrue, OnOk, OnErr};
+ghost use Rattle.nx_files.specs.Files.{IsUnopened, AreAt, AreDurable, file_of, other_file_of, IsOpen, HasEnded, HasTriedOpening, IsSynced, LeavesOther};
 
-use crate::cursor::FileCursor;
-use crate::stream::{read_full, write_whole};
+use crate::settled::SettledFile;
+use crate::{Folder, StoreFile};
 use nx_host::{Area, Failed};
 use nx_lists::NoMemory;
 use std::alloc::Global;
-use std::fs::{File, Files};
-use std::io;
-use std::io::ErrorKind;
-use std::path::Path;
 
-// The files of a store, opened and locked at the first use.
+// The files of a store, opened at the first use.
 #[derive(Drop)]
-pub struct Store {
+pub struct Store<T: StoreFile> {
     pages: String,
     log: String,
-    state: State,
+    state: State<T>,
 }
 
 #[derive(Drop)]
-enum State {
+pub enum State<T: StoreFile> {
     Unopened,
-    Open(OpenStore),
+    Open(OpenStore<T>),
     // The files couldn't be opened, or a sync failed. What a sync that fails leaves behind, the
     // system may take for written, so that a later one would succeed without it.
     Broken,
 }
 
-// Both files, each locked against every other open of it.
 #[derive(Drop)]
-struct OpenStore {
-    pages: File,
-    log: File,
+pub struct OpenStore<T: StoreFile> {
+    pages: SettledFile<T>,
+    log: SettledFile<T>,
 }
 
-impl Store {
+impl<T: StoreFile + Drop> Store<T> {
     // The store of this name, whose log has the name with `.log` behind it. No file is touched.
-    pub fn new(alloc: Global, name: &str) -> Result<Store, NoMemory>
-        ensures pages { IfOk result (λ store. string_bytes store.pages ≡ name.now) }
-        ensures log { IfOk result (λ store. string_bytes store.log ≡ name.now ++ codes ".log") }
+    pub fn new(alloc: Global, name: &str) -> Result<Store<T>, NoMemory>
+        ensures { IfOk result (IsUnopened name.now) }
     {
         let pages = String::from_str(alloc, name)?;
         let mut log = String::from_str(alloc, name)?;
@@ -51,114 +46,155 @@ impl Store {
         })
     }
 
-    pub fn length<F: Files<File = File>>(&mut self, files: &F, area: Area) -> Result<u64, Failed> {
-        let file = self.file(files, area)?;
-        length_of(file).map_err(|_| Failed)
+    pub fn length<D: Folder<File = T>>(&mut self, folder: &mut D, area: Area) -> Result<u64, Failed>
+        ensures ok { OnOk result (IsOpen self.new.state) }
+        ensures ended { HasEnded self.old.state → IsErr result × HasEnded self.new.state }
+        ensures other { LeavesOther area self.old.state self.new.state }
+    {
+        self.open(folder);
+        match &mut self.state {
+            State::Open(store) => store.length(area),
+            State::Unopened | State::Broken => Err(Failed),
+        }
     }
 
     // Fills the slice from an offset on, as far as the file goes.
-    pub fn read<F: Files<File = File>>(
+    pub fn read<D: Folder<File = T>>(
         &mut self,
-        files: &F,
+        folder: &mut D,
         area: Area,
         at: u64,
         into: &mut [u8],
     ) -> Result<usize, Failed>
         ensures room { IfOk result (λ n. n ≤ length into.old) }
+        ensures ok { OnOk result (IsOpen self.new.state) }
+        ensures ended { HasEnded self.old.state → IsErr result × HasEnded self.new.state }
+        ensures other { LeavesOther area self.old.state self.new.state }
     {
-        let file = self.file(files, area)?;
-        read_full(&mut FileCursor::new(file, at), into)
+        self.open(folder);
+        match &mut self.state {
+            State::Open(store) => store.read(area, at, into),
+            State::Unopened | State::Broken => Err(Failed),
+        }
     }
 
     // Writes the slice at an offset. A write of no bytes behind the end makes the file as long too.
-    pub fn write_at<F: Files<File = File>>(
+    pub fn write_at<D: Folder<File = T>>(
         &mut self,
-        files: &F,
+        folder: &mut D,
         area: Area,
         at: u64,
         bytes: &[u8],
-    ) -> Result<(), Failed> {
-        let file = self.file(files, area)?;
-        if bytes.is_empty() {
-            return reach(file, at).map_err(|_| Failed);
+    ) -> Result<(), Failed>
+        requires { at + length bytes.now ≤ 2 ^ 63 }
+        ensures ok { OnOk result (IsOpen self.new.state) }
+        ensures ended { HasEnded self.old.state → IsErr result × HasEnded self.new.state }
+        ensures other { LeavesOther area self.old.state self.new.state }
+    {
+        self.open(folder);
+        match &mut self.state {
+            State::Open(store) => store.write_at(area, at, bytes),
+            State::Unopened | State::Broken => Err(Failed),
         }
-        write_whole(&mut FileCursor::new(file, at), bytes)
     }
 
-    // Makes what was written to the file durable, with the length that it needs.
-    pub fn sync<F: Files<File = File>>(&mut self, files: &F, area: Area) -> Result<(), Failed> {
-        let synced = self.file(files, area)?.sync_data();
+    // Makes what the file holds durable, with the length that it needs.
+    pub fn sync<D: Folder<File = T>>(&mut self, folder: &mut D, area: Area) -> Result<(), Failed>
+        ensures ok { OnOk result (IsSynced T.StoreFile area self.new.state) }
+        ensures err { OnErr result (HasEnded self.new.state) }
+        ensures ended { HasEnded self.old.state → IsErr result × HasEnded self.new.state }
+        ensures other { OnOk result (LeavesOther area self.old.state self.new.state) }
+    {
+        self.open(folder);
+        let synced = match &mut self.state {
+            State::Open(store) => store.sync(area),
+            State::Unopened | State::Broken => Err(Failed),
+        };
         if synced.is_err() {
             self.state = State::Broken;
         }
-        synced.map_err(|_| Failed)
+        synced
     }
 
-    // The open file of an area.
-    fn file<F: Files<File = File>>(&mut self, files: &F, area: Area) -> Result<&File, Failed> {
+    // Opens the files where that wasn't tried yet.
+    fn open<D: Folder<File = T>>(&mut self, folder: &mut D)
+        ensures again { self.old.state ≢ State.Unopened → self.new ≡ self.old }
+        ensures first { self.old.state ≡ State.Unopened → HasTriedOpening T.StoreFile (string_bytes self.old.pages) (string_bytes self.old.log) self.new.state }
+        ensures names { self.old.state ≡ State.Unopened → IsOpen self.new.state → IsTrue (D.is_durable folder.new) }
+    {
         if let State::Unopened = self.state {
-            self.state = match open(files, self.pages.as_str(), self.log.as_str()) {
+            self.state = match open(folder, self.pages.as_str(), self.log.as_str()) {
                 Ok(store) => State::Open(store),
-                Err(_) => State::Broken,
+                Err(Failed) => State::Broken,
             };
-        }
-        match (&self.state, area) {
-            (State::Open(store), Area::Pages) => Ok(&store.pages),
-            (State::Open(store), Area::Log) => Ok(&store.log),
-            _ => Err(Failed),
         }
     }
 }
 
-// Opens both files, and makes them where they are missing.
-fn open<F: Files<File = File>>(files: &F, pages: &str, log: &str) -> io::Result<OpenStore> {
-    let store = OpenStore {
-        pages: open_locked(files, pages)?,
-        log: open_locked(files, log)?,
-    };
-    // Who made a file may have ended before its name was durable. It wrote nothing to it then.
-    if length_of(&store.pages)? == 0 || length_of(&store.log)? == 0 {
-        sync_folder(files, pages)?;
+impl<T: StoreFile> OpenStore<T> {
+    fn length(&mut self, area: Area) -> Result<u64, Failed>
+        ensures other { other_file_of area self.new ≡ other_file_of area self.old }
+    {
+        match area {
+            Area::Pages => self.pages.length(),
+            Area::Log => self.log.length(),
+        }
     }
+
+    fn read(&mut self, area: Area, at: u64, into: &mut [u8]) -> Result<usize, Failed>
+        ensures room { IfOk result (λ n. n ≤ length into.old) }
+        ensures other { other_file_of area self.new ≡ other_file_of area self.old }
+    {
+        match area {
+            Area::Pages => self.pages.read_at(at, into),
+            Area::Log => self.log.read_at(at, into),
+        }
+    }
+
+    fn write_at(&mut self, area: Area, at: u64, bytes: &[u8]) -> Result<(), Failed>
+        requires { at + length bytes.now ≤ 2 ^ 63 }
+        ensures other { other_file_of area self.new ≡ other_file_of area self.old }
+    {
+        match area {
+            Area::Pages => self.pages.write_at(at, bytes),
+            Area::Log => self.log.write_at(at, bytes),
+        }
+    }
+
+    fn sync(&mut self, area: Area) -> Result<(), Failed>
+        ensures durable { OnOk result (IsTrue (T.is_durable (file_of area self.new).file)) }
+        ensures other { other_file_of area self.new ≡ other_file_of area self.old }
+    {
+        match area {
+            Area::Pages => self.pages.sync(),
+            Area::Log => self.log.sync(),
+        }
+    }
+}
+
+// Opens both files, and makes them where they are missing. All of both is made durable before anything
+// is read, and then their names are.
+fn open<D: Folder>(folder: &mut D, pages: &str, log: &str) -> Result<OpenStore<D::File>, Failed>
+    ensures paths { IfOk result (AreAt D.File.StoreFile pages.now log.now) }
+    ensures durable { IfOk result (AreDurable D.File.StoreFile) }
+    ensures names { OnOk result (IsTrue (D.is_durable folder.new)) }
+{
+    let pages_file = open_locked(folder, pages)?;
+    let log_file = open_locked(folder, log)?;
+    let store = OpenStore {
+        pages: SettledFile::settle(pages_file)?,
+        log: SettledFile::settle(log_file)?,
+    };
+    folder.sync(pages)?;
     Ok(store)
 }
 
-// A regular file, which no other open of it may use until this one is closed.
-fn open_locked<F: Files<File = File>>(files: &F, path: &str) -> io::Result<File> {
-    let file = open_or_make(files, path)?;
-    file.try_lock()?;
-    if !file.metadata()?.is_file() {
-        return Err(io::Error::from(ErrorKind::InvalidInput));
-    }
+// The file at the path, which no other open of it may use until this one is closed.
+fn open_locked<D: Folder>(folder: &mut D, path: &str) -> Result<D::File, Failed>
+    ensures path { IfOk result (λ file. IfSome (D.File.path file) (λ told. told ≡ path.now)) }
+    ensures locked { IfOk result (λ file. IsTrue (D.File.is_locked file)) }
+{
+    let mut file = folder.open(path)?;
+    file.lock()?;
     Ok(file)
-}
-
-// A new file is made at the path itself, and not where a link there leads to, so that it has its
-// name in the path's folder.
-fn open_or_make<F: Files<File = File>>(files: &F, path: &str) -> io::Result<File> {
-    match File::options().read(true).write(true).open(files, path) {
-        Err(error) if error.kind() == ErrorKind::NotFound => File::create_new(files, path),
-        opened => opened,
-    }
-}
-
-// Makes the names in the path's folder durable.
-fn sync_folder<F: Files<File = File>>(files: &F, path: &str) -> io::Result<()> {
-    let folder = match Path::new(path).parent() {
-        Some(parent) if !parent.as_str().is_empty() => parent.as_str(),
-        _ => ".",
-    };
-    File::open(files, folder)?.sync_all()
-}
-
-fn length_of(file: &File) -> io::Result<u64> {
-    Ok(file.metadata()?.len())
-}
-
-// Makes a file that ends before this offset end there.
-fn reach(file: &File, at: u64) -> io::Result<()> {
-    if length_of(file)? < at {
-        file.set_len(at)?;
-    }
-    Ok(())
 }

@@ -1,4 +1,9 @@
-// A reader and a writer that fail where a test says.
+// A reader, a writer and a folder that fail where a test says.
+ghost use Rattle.std.specs.Prelude.{None, true};
+
+use nx_files::{Folder, StoreFile};
+use nx_host::{Area, Failed};
+use std::cell::RefCell;
 use std::io;
 use std::io::{ErrorKind, Read, Write};
 
@@ -87,5 +92,129 @@ impl Write for FakeWriter {
 
     fn flush(&mut self) -> io::Result<()> {
         Ok(())
+    }
+}
+
+/// What a folder and the files in it were asked.
+#[derive(Clone, Copy, Debug, PartialEq, Eq)]
+pub enum Call {
+    Open(Area),
+    Lock(Area),
+    Sync(Area),
+    SyncFolder,
+    Length(Area),
+    Read(Area),
+    Write(Area),
+}
+
+/// The calls so far, in order, and which of them fails, counted from 1.
+#[derive(Drop)]
+pub struct Calls {
+    made: RefCell<Vec<Call>>,
+    failing: usize,
+}
+
+impl Calls {
+    pub fn new(rt: &HostRuntime, failing: usize) -> Calls {
+        Calls {
+            made: RefCell::new(Vec::new(rt.alloc())),
+            failing,
+        }
+    }
+
+    /// Whether these were the calls, and no others.
+    pub fn are(&self, calls: &[Call]) -> bool {
+        self.made
+            .try_borrow()
+            .is_ok_and(|made| made.as_slice() == calls)
+    }
+
+    fn note(&self, call: Call) -> Result<(), Failed> {
+        let mut made = self.made.try_borrow_mut().map_err(|_| Failed)?;
+        made.push(call).map_err(|_| Failed)?;
+        if made.len() == self.failing {
+            return Err(Failed);
+        }
+        Ok(())
+    }
+}
+
+/// A folder of empty files. What has a name in `.log` is a log.
+#[derive(Drop)]
+pub struct FakeFolder<'a> {
+    pub calls: &'a Calls,
+}
+
+impl<'a> Folder for FakeFolder<'a> {
+    type File = FakeFile<'a>;
+
+    ghost is_durable = { λ _. true };
+
+    fn open(&mut self, path: &str) -> Result<FakeFile<'a>, Failed> {
+        let area = if path.ends_with(".log") {
+            Area::Log
+        } else {
+            Area::Pages
+        };
+        self.calls.note(Call::Open(area))?;
+        Ok(FakeFile {
+            area,
+            calls: self.calls,
+            is_locked: false,
+            is_settled: false,
+            is_durable: false,
+        })
+    }
+
+    fn sync(&mut self, _path: &str) -> Result<(), Failed> {
+        self.calls.note(Call::SyncFolder)
+    }
+}
+
+/// An empty file that tells what was done to it.
+#[derive(Drop)]
+pub struct FakeFile<'a> {
+    area: Area,
+    calls: &'a Calls,
+    is_locked: bool,
+    is_settled: bool,
+    is_durable: bool,
+}
+
+impl StoreFile for FakeFile<'_> {
+    ghost path = { λ _. None };
+
+    ghost is_locked = { λ file. file.is_locked };
+
+    ghost is_settled = { λ file. file.is_settled };
+
+    ghost is_durable = { λ file. file.is_durable };
+
+    fn lock(&mut self) -> Result<(), Failed> {
+        self.calls.note(Call::Lock(self.area))?;
+        self.is_locked = true;
+        Ok(())
+    }
+
+    fn sync(&mut self) -> Result<(), Failed> {
+        self.calls.note(Call::Sync(self.area))?;
+        self.is_settled = true;
+        self.is_durable = true;
+        Ok(())
+    }
+
+    fn length(&mut self) -> Result<u64, Failed> {
+        self.calls.note(Call::Length(self.area))?;
+        Ok(0)
+    }
+
+    fn read_at(&mut self, _at: u64, _into: &mut [u8]) -> Result<usize, Failed> {
+        self.calls.note(Call::Read(self.area))?;
+        Ok(0)
+    }
+
+    fn write_at(&mut self, _at: u64, _bytes: &[u8]) -> Result<(), Failed> {
+        self.is_durable = false;
+        self.calls.note(Call::Write(self.area))
     }
 }

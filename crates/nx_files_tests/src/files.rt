@@ -1,8 +1,9 @@
 // The calls of `Disk` over real files.
 use crate::fakes::{FakeReader, Trouble};
-use nx_files::FileHost;
+use nx_files::{FileHost, Folder, StoreFile, SystemFile, SystemFolder};
 use nx_host::{Area, Disk, Failed, Host};
 use std::alloc::AllocError;
+use std::fs::File;
 use std::io::Stdout;
 use std::test::Fail;
 use std::{env, fs, process};
@@ -23,7 +24,7 @@ fn in_folder(rt: &HostRuntime, folder: &str, name: &str) -> Result<String, Alloc
 fn host<'a>(
     rt: &'a HostRuntime,
     name: &str,
-) -> Result<FileHost<&'a HostRuntime, FakeReader, Stdout>, Fail> {
+) -> Result<FileHost<SystemFolder<&'a HostRuntime>, FakeReader, Stdout>, Fail> {
     let reader = FakeReader::new(b"", Trouble::NONE);
     Ok(FileHost::new(rt.alloc(), rt, name, reader, rt.stdout())?)
 }
@@ -118,5 +119,16 @@ fn what_is_no_file_is_a_fault(rt: HostRuntime) -> Result<(), Fail> {
     }
     assert!(rt; !fs::exists(&rt, log.as_str())?);
     fs::remove_dir_all(&rt, folder.as_str())?;
+    Ok(())
+}
+
+// The system refuses to sync what has nothing to be kept.
+#[test]
+fn a_sync_of_the_system_that_fails_is_told(rt: HostRuntime) -> Result<(), Fail> {
+    let mut file = SystemFile::new(File::open(&rt, "/dev/null")?);
+    assert_eq!(rt; file.sync(), Err(Failed));
+    let mut folder = SystemFolder::new(&rt);
+    assert!(rt; folder.open("/dev/null").is_err());
+    assert_eq!(rt; folder.sync("/none/s"), Err(Failed));
     Ok(())
 }

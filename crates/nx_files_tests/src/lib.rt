@@ -1,4 +1,4 @@
-//! Tests of `FileHost`: over readers and writers that fail where a test says, and over real files.
+//! Tests of `FileHost`: over readers, writers and folders that fail where a test says, and over real files.
 //! It has nothing but tests, so that all of it is proved once.
 #![tactic(auto)]
 
@@ -6,5 +6,7 @@
 mod fakes;
 #[cfg(test)]
 mod files;
+#[cfg(test)]
+mod opening;
 #[cfg(test)]
 mod streams;
