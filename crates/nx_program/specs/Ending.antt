@@ -1,7 +1,7 @@
 -- What the program tells of how a command ended.
-use Rattle.std.specs.Prelude.{ℕ, List, ◌++◌, Option, None, Some, codes, decimal}
-use Rattle.nx_front.specs.declared.status.Status.{Status}
-use Rattle.nx_front.specs.declared.status.Status.TheVariants.{Done, Usage, Refused, DiskFault, ReadFault, WriteFault, NoMemory, NotAStore, Damaged, TooMuch}
+use Rattle.std.specs.Prelude.{◌≡◌, ℕ, List, ◌++◌, Option, None, Some, IfSome, codes, decimal}
+use Rattle.nx_filters.specs.declared.status.Status.{Status}
+use Rattle.nx_filters.specs.declared.status.Status.TheVariants.{Done, Usage, Refused, DiskFault, ReadFault, WriteFault, NoMemory, NotAStore, Damaged, TooMuch}
 
 -- the exit status
 abbrev pub exit_number : Status → ℕ
@@ -37,3 +37,7 @@ error_line TooMuch = Some (codes "too much input")
 abbrev pub fixed_line : Status → Option (List ℕ)
 fixed_line (Damaged page) = None
 fixed_line status = error_line status
+
+-- The program ends with this number, as for a status that is P, and the line of that status was said, if it has one without a number.
+abbrev pub EndsAs : ℕ → (List ℕ → Type 0) → (Status → Type 0) → Type 0
+EndsAs number says P = (status : Status) × P status × (number ≡ exit_number status) × IfSome (fixed_line status) says

@@ -1,6 +1,6 @@
 use Rattle.std.proofs.Common.{◌≡◌, ◌++◌, drop, map, string_bytes}
 use Rattle.std.specs.Vec.Iter.{into_iter_items, into_iter_len}
-use Rattle.natix.proofs.words_of.Given as goal
+use Rattle.nx_program.proofs.arguments.words_of.Given as goal
 
 -- the words so far, and those of the arguments that are left
 abbrev pub invariant-loop-argument : goal.invariant-loop-argument

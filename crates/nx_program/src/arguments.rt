@@ -1,0 +1,52 @@
+// The words of a command line.
+ghost use Rattle.std.specs.Prelude.{◌≡◌, ◌≢◌, drop, map, string_bytes, Err, IfOk, IfErr, IsOk};
+ghost use Rattle.std.specs.IoError.{error_kind};
+ghost use Rattle.std.specs.Vec.Iter.{into_iter_items};
+ghost use Rattle.nx_program.specs.Command.{store_name};
+
+use nx_front::{Status, Word, Words};
+use nx_lists::NoMemory;
+use std::alloc::Global;
+use std::env::Args;
+use std::io;
+use std::io::ErrorKind;
+
+// The words of a command line, of which the first argument, the program's own name, is none.
+//
+// An argument that is no UTF-8 is no command and no word of one, so it ends as a usage error.
+pub fn words(alloc: Global, arguments: io::Result<Args>) -> Result<Words, Status>
+    ensures given { IfOk result (λ words. IfOk arguments (λ given. words ≡ map string_bytes (drop 1 (into_iter_items given)))) }
+    ensures had { IfOk result (λ _. IsOk arguments) }
+    ensures memory { IfErr result (λ status. IfOk arguments (λ _. status ≡ Status.NoMemory)) }
+    ensures no_memory { IfErr arguments (λ error. error_kind error ≡ ErrorKind.OutOfMemory → result ≡ Err Status.NoMemory) }
+    ensures no_text { IfErr arguments (λ error. error_kind error ≢ ErrorKind.OutOfMemory → result ≡ Err Status.Usage) }
+{
+    match arguments {
+        Ok(arguments) => words_of(alloc, arguments).map_err(|_| Status::NoMemory),
+        Err(error) => Err(match error.kind() {
+            ErrorKind::OutOfMemory => Status::NoMemory,
+            _ => Status::Usage,
+        }),
+    }
+}
+
+fn words_of(alloc: Global, mut arguments: Args) -> Result<Words, NoMemory>
+    ensures { IfOk result (λ words. words ≡ map string_bytes (drop 1 (into_iter_items arguments))) }
+{
+    let mut words = Words::new(alloc);
+    let _ = arguments.next();
+    while let Some(argument) = arguments.next() {
+        words.push(Word::new(alloc, argument.as_str())?)?;
+    }
+    Ok(words)
+}
+
+// The word that names the store.
+pub fn store_of(words: &Words) -> &str
+    ensures { result.now ≡ store_name words.now }
+{
+    match words.as_slice() {
+        [store, ..] => store.as_str(),
+        [] => "_",
+    }
+}

@@ -1,0 +1,35 @@
+// The program over the files of the system.
+use crate::program;
+use nx_files::FileHost;
+use nx_front::run;
+use std::env::Args;
+use std::fs::{File, Files};
+use std::io;
+use std::io::{Read, Write};
+use std::process::ExitCode;
+
+/// Runs the command of a process's arguments over the files of the store that its first word names, and
+/// over this reader and this writer; says on standard error, by `say`, what there is to say of how it
+/// ended; and gives the code to exit with.
+pub fn run_process<P, R, W, S>(
+    process: &P,
+    arguments: io::Result<Args>,
+    reader: R,
+    writer: W,
+    say: S,
+) -> ExitCode
+where
+    P: AllocGlobal + Files<File = File>,
+    R: Read + Drop,
+    W: Write + Drop,
+    S: FnOnce(&str),
+    requires { S.IsAlwaysCallable say }
+{
+    program(
+        process.alloc(),
+        arguments,
+        |name| FileHost::new(process.alloc(), process, name, reader, writer),
+        |words, mut host| run(process.alloc(), &words, &mut host),
+        say,
+    )
+}
