@@ -4,7 +4,7 @@ use Rattle.std.proofs.Math.ListN.{replicate}
 use Rattle.std.proofs.lemmas.List.{append_assoc, append-nil, drop-drop, drop-replicate, drop_at, take_at}
 use Rattle.nx_numbers.specs.Numbers.{number_at, number_bytes, with_number}
 use Rattle.nx_numbers.proofs.Numbers.{length-number_bytes, number_at-number_bytes}
-use Rattle.nx_wal.specs.Reading.{mark}
+use Rattle.nx_replay.specs.Log.{mark}
 use Rattle.nx_holdings.specs.declared.header.Header.{Header}
 use Rattle.nx_holdings.specs.declared.header.Settings.{Settings}
 use Rattle.nx_holdings.specs.Header.{fields_bytes, fields_of, header_bytes, IsHeader, IsLaid}

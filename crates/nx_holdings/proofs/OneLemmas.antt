@@ -24,11 +24,11 @@ one_header one other range range_too same =
 
 -- the first byte of a page says which it is
 
-first_of_chain : (next : ℕ) (content : List ℕ) → slice_index (chain_bytes next content) 0 ≡ 2
+pub first_of_chain : (next : ℕ) (content : List ℕ) → slice_index (chain_bytes next content) 0 ≡ 2
 unfolding chain_bytes
 first_of_chain next content = refl
 
-first_of_free : (next : ℕ) → slice_index (free_bytes next) 0 ≡ 0
+pub first_of_free : (next : ℕ) → slice_index (free_bytes next) 0 ≡ 0
 unfolding free_bytes
 first_of_free next = refl
 

@@ -2,7 +2,7 @@
 use Rattle.std.specs.Prelude.{◌≡◌, ℕ, ◌^◌, ◌-◌, ◌<◌, ◌≤◌, List, [], ◌∷◌, ◌++◌, length}
 use Rattle.std.proofs.Math.ListN.{replicate}
 use Rattle.nx_numbers.specs.Numbers.{number_bytes}
-use Rattle.nx_wal.specs.Reading.{mark}
+use Rattle.nx_replay.specs.Log.{mark}
 use Rattle.nx_holdings.specs.declared.header.Header.{Header}
 use Rattle.nx_holdings.specs.declared.header.Settings.{Settings}
 

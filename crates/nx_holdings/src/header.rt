@@ -2,7 +2,7 @@
 ghost use Rattle.nx_holdings.specs.Header.{AreSettings, IsHeader, IsInRange, IsLaid, IsNoHeader, header_bytes};
 ghost use Rattle.nx_numbers.specs.Numbers.{number_at};
 ghost use Rattle.std.specs.Prelude.{◌≡◌, ◌↔◌, ◌+◌, ◌∷◌, ◌++◌, [], ◌≤◌, ℕ, List, length, drop, true, MatchOption};
-ghost use Rattle.nx_wal.specs.Reading.{mark};
+ghost use Rattle.nx_replay.specs.Log.{mark};
 
 use crate::free::blank;
 use nx_numbers::{set_u16_at, set_u32_at, set_u64_at, u16_at, u32_at, u64_at};

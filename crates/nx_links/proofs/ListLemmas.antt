@@ -268,7 +268,7 @@ module _ {pages : Pages} {head : Header} {held : Held} (by : HoldsBy pages head 
             let list = list_of_first pages cs page by.behind.shared.chains (chain_numbers by) begin in
             let fails : (page == head.catalog) ≡ false = elim (cases_Bool (page == head.catalog)) [ inl holds ↦ absurd (other (eqb-true page head.catalog holds)) | inr no_one ↦ no_one ] in
             inl (by.behind.lists page ∙ ap (λ (b : Bool). if b then None else list_at cs page) fails ∙ list.1 ∙ ap (λ (b : List ℕ). Some b) (one_begins list.2 (begins from)))
-        | inr named_one ↦ inr (named_one.0, (named_one.1, (named_one.2).there))
+        | inr named_one ↦ inr (some, (named_one.0, (named_one.1, (named_one.2).there)))
       ]
 
 -- a list that begins somewhere has a byte

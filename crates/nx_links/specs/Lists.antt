@@ -19,9 +19,9 @@ pub record IsListFrom (limit : ℕ) (pages : Pages) (page : ℕ) (bytes : List �
   pub first : next_of links ≡ page
   pub are : content_of links ≡ bytes
 
--- a chain page names this page as its next
+-- a chain page names this page, which isn't 0, as its next
 abbrev pub IsNamed : Pages → ℕ → Type 0
-IsNamed pages page = (by : ℕ) × ((content : List ℕ) × (pages by ≡ Some (chain_bytes page content)))
+IsNamed pages page = (page ≢ 0) × ((by : ℕ) × ((content : List ℕ) × (pages by ≡ Some (chain_bytes page content))))
 
 -- A page adds its content in front of what the next one begins, and is the only way to do so.
 pub record IsListStep (limit : ℕ) (pages : Pages) (page next : ℕ) (content : List ℕ) : Type 0 where

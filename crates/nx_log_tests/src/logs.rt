@@ -126,3 +126,28 @@ fn stale_groups_count_for_nothing(rt: HostRuntime) -> Result<(), Fail> {
     assert_eq!(rt; bytes_of(alloc, image)?.as_slice(), [3u8, 2, 3].as_slice());
     Ok(())
 }
+
+#[test]
+fn groups_are_told_one_by_one(rt: HostRuntime) -> Result<(), Fail> {
+    let alloc = rt.alloc();
+    let mut host = empty_host(alloc)?;
+    let mut wal = Wal::create(&mut host, alloc)?;
+    assert_eq!(rt; wal.groups(), 0);
+    commit_two(&rt, &mut host, &mut wal, [(0, 1), (1, 1)])??;
+    commit_two(&rt, &mut host, &mut wal, [(1, 2), (7, 3)])??;
+    let mut opened = Wal::open(&mut host, alloc)?;
+    let count = opened.groups();
+    assert!(rt; count == 2);
+    let group = opened.group(&mut host, count - 1)?;
+    assert_eq!(rt; (group.number, group.pages.len()), (0, 2));
+    for (number, byte, found) in [(1, 2, group.pages.get(0)), (7, 3, group.pages.get(1))] {
+        let Some(told) = found else {
+            return Err(Fail::new(WalError::NotAStore));
+        };
+        assert_eq!(rt; (told.page, told.bytes.bytes[8]), (number, byte));
+    }
+    wal.abandon();
+    wal.checkpoint(&mut host)?;
+    assert_eq!(rt; wal.groups(), 0);
+    Ok(())
+}

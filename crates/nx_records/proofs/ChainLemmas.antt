@@ -22,6 +22,7 @@ use Rattle.nx_records.specs.Records.{StandsFor}
 use Rattle.nx_records.specs.Changes.{LacksList, IsListRead}
 use Rattle.nx_records.specs.Refusals.{EndNow, NotRead, NotChanged}
 use Rattle.nx_records.specs.Pages.{SeesSo}
+use Rattle.nx_records.proofs.LeaveLemmas.{leaves_same}
 use Rattle.nx_records.specs.Chains.{HasLink, NoLink, NoListFrom, NotListed}
 
 pub names_of : {pages : Pages} {page next : ℕ} {content : List ℕ} → IsLinkAt pages page next content → Names pages page next content
@@ -99,7 +100,7 @@ module _ {D : Type 0} (d : Ghosts D) (r0 r1 : Records) (x0 x1 : D) (named : ℕ)
     ends = refused.1;
     lacks = λ saved now stands. lacks saved now stands (refused.2 (stands.keeps).image (stands.keeps).step);
   }
-  listed_read Lacks P error.Memory lacks refused = refused
+  listed_read Lacks P error.Memory lacks refused = (refused.0, leaves_same refused.1)
   listed_read Lacks P error.Ended lacks refused = absurd refused
   listed_read Lacks P error.Exists lacks refused = absurd refused
   listed_read Lacks P error.NotAStore lacks refused = absurd refused

@@ -2,7 +2,7 @@
 use Rattle.std.proofs.Common.{◌≡◌, ◌⊎◌, ℕ, ◌+◌, ◌-◌, ◌≤◌, List, [], ◌∷◌, ◌++◌, refl, sym, ap, subst, ◌∙◌, arith, Bool, true, false, inl, inr}
 use Rattle.std.proofs.Math.ListN.{replicate}
 use Rattle.std.proofs.lemmas.Bool.{cases_Bool, false≢true}
-use Rattle.std.specs.Prelude.{◌==◌, ◌^◌, min, if◌then◌else◌, Option, Some, None}
+use Rattle.std.specs.Prelude.{◌==◌, ◌^◌, min, if◌then◌else◌, Option, Some, None, IsSome}
 use Rattle.std.specs.Option.{option_or}
 use Rattle.nx_host.specs.Disk.{Image, Rose}
 use Rattle.nx_host.specs.declared.disk.Disk.{Ghosts}
@@ -27,7 +27,7 @@ use Rattle.nx_records.specs.declared.records.Records.{Records}
 use Rattle.nx_records.specs.Records.{has_ended, StandsFor}
 use Rattle.nx_records.specs.Changes.{nothing_held}
 use Rattle.nx_records.specs.First.{first_head, first_pages}
-use Rattle.nx_records.specs.Refusals.{IsCreated}
+use Rattle.nx_records.specs.Refusals.{IsNewStore}
 use Rattle.nx_records.proofs.StandLemmas.{current_none}
 
 some_is : {x y : List ℕ} → ◌≡◌ {A = Option (List ℕ)} (Some x) (Some y) → x ≡ y
@@ -146,7 +146,7 @@ first_replay {was = was} {now = now} wal header number none put more =
     ∙ nothing-over (entry_pages (pending wal)) ∙ put
 
 pub first_created : {was now : Image} (settings : Settings) (wal : Wal) → IsInRange (first_head settings) → ((p : ℕ) → replay was p ≡ None) → entry_pages (pending wal) ≡ first_pages (first_head settings)
-    → HasGroup (next_group 0 wal) was now → IsCreated settings was now
+    → HasGroup (next_group 0 wal) was now → IsNewStore settings was now
 first_created settings wal range none put more = record {
   none_before = none;
   group = next_group 0 wal;
@@ -158,7 +158,7 @@ first_created settings wal range none put more = record {
 module _ {D : Type 0} (d : Ghosts D) (settings : Settings) where
   -- at each moment there is no store, or the new one
   abbrev pub Creates : D → D → Type 0
-  Creates x0 x1 = WritesAlone d x0 x1 (λ i. (was : Image) → IsSettled d x0 was → HasSame was i ⊎ IsCreated settings was i)
+  Creates x0 x1 = WritesAlone d x0 x1 (λ i. (was : Image) → IsSettled d x0 was → HasSame was i ⊎ IsNewStore settings was i)
 
   same_image : {was i : Image} → i ≡ was → HasSame was i
   same_image same = record { area = ap (λ (x : Image). x.pages) same; log = ap (λ (x : Image). groups x.log) same }
@@ -187,3 +187,7 @@ commit_rose d old new error.Ended runs still refused = absurd (false≢true (sym
 commit_rose d old new error.Exists runs still refused = absurd refused
 commit_rose d old new error.NotAStore runs still refused = absurd refused
 commit_rose d old new error.Memory runs still refused = absurd refused
+
+-- a page is there of which it was read that there is none
+pub no_page : {T P : Image → Type 0} {Q : Type 0} → ((was : Image) → P was → T was × ((p : ℕ) → replay was p ≡ None)) → (was : Image) (p : ℕ) → P was → IsSome (replay was p) → Q
+no_page made was p is some = absurd (false≢true (subst IsSome ((made was is).1 p) some))

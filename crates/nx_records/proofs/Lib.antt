@@ -1,6 +1,9 @@
 pub mod StandLemmas
 pub mod StepLemmas
+pub mod LeaveLemmas
 pub mod RefusalLemmas
 pub mod FirstLemmas
 pub mod ChainLemmas
 pub mod WritingLemmas
+pub mod FreedLemmas
+pub mod RoomLemmas

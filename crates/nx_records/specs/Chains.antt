@@ -25,6 +25,10 @@ pub record HasLink (pages : Pages) (page next : ℕ) (content : List ℕ) : Type
 abbrev pub NoLink : (limit page : ℕ) → Pages → Type 0
 NoLink limit page pages = page < limit → (next : ℕ) (content : List ℕ) → HasLink pages page next content → ⊥
 
+-- each chain page was one before
+abbrev pub AddsNoLink : (was now : Pages) → Type 0
+AddsNoLink was now = (page next : ℕ) (content : List ℕ) → HasLink now page next content → HasLink was page next content
+
 -- no list of so many bytes begins at the page
 abbrev pub NoListFrom : (limit page len : ℕ) → Pages → Type 0
 NoListFrom limit page len pages = (bytes : List ℕ) → IsListFrom limit pages page bytes → length bytes ≡ len → ⊥

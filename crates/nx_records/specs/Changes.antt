@@ -5,7 +5,7 @@ use Rattle.nx_holdings.specs.declared.header.Settings.{Settings}
 use Rattle.nx_holdings.specs.Holdings.{Held, chain_count}
 use Rattle.nx_holdings.specs.Laws.{pages_of_list}
 use Rattle.nx_replay.specs.Log.{Pages}
-use Rattle.nx_links.specs.Lists.{IsNamed}
+use Rattle.nx_links.specs.Lists.{IsListFrom, IsNamed}
 
 -- the records, with this at one place
 abbrev pub records_with : (ℕ → ℕ → Option (List ℕ)) → ℕ → ℕ → Option (List ℕ) → ℕ → ℕ → Option (List ℕ)
@@ -59,9 +59,13 @@ pub record RemovesRecord (page slot : ℕ) (was now : Held) : Type 0 where
 abbrev pub LacksList : Held → (first len : ℕ) → Type 0
 LacksList held first len = (list : List ℕ) → held.lists first ≡ Some list → length list ≡ len → ⊥
 
--- The bytes are the list at the first page. Where none is there, the page is one behind the first of a chain, and another page names it.
+-- The bytes are the list at the first page. Where none is there, the page is one behind the first of a chain: it isn't 0, and another page names it.
 abbrev pub IsListRead : Pages → Held → (first : ℕ) → (bytes : List ℕ) → Type 0
 IsListRead pages held first bytes = MatchOption (held.lists first) (IsNamed pages first) (λ list. bytes ≡ list)
+
+-- From this page on, 0 for none, chain pages below the limit hold just so many bytes.
+abbrev pub HasListFrom : ℕ → Pages → (page len : ℕ) → Type 0
+HasListFrom limit pages page len = (bytes : List ℕ) × (length bytes ≡ len) × IsListFrom limit pages page bytes
 
 -- the lists alone are changed
 pub record ChangesLists (was now : Held) (changed : ℕ → Option (List ℕ)) : Type 0 where

@@ -1,11 +1,11 @@
 -- The laws of records.
-use Rattle.std.specs.Prelude.{◌≡◌, nat_lt, ℕ, [], List}
+use Rattle.std.specs.Prelude.{◌≡◌, nat_lt}
 use Rattle.nx_host.specs.declared.disk.Disk.{Ghosts}
+use Rattle.nx_host.specs.Still.{IsStill}
 use Rattle.nx_replay.specs.Log.{Pages}
-use Rattle.nx_wal.specs.Wal.{Follows, pending}
 use Rattle.nx_holdings.specs.declared.header.Header.{Header}
 use Rattle.nx_holdings.specs.Holdings.{Held, HoldsBy}
-use Rattle.nx_records.specs.Records.{has_ended, has_free_by, HasSaved, StandsFor}
+use Rattle.nx_records.specs.Records.{has_ended, has_free_by, HasNoChanges, FollowsOn, LeavesRecords, HasSaved, StandsFor}
 use Rattle.nx_records.specs.declared.records.Records.{Records}
 
 -- Of sound pages the header tells exactly whether a page is free.
@@ -14,11 +14,16 @@ HeaderTells = (pages : Pages) (head : Header) (held : Held) → HoldsBy pages he
 
 -- What was changed since the last commit was dropped.
 pub record IsAbandoned (old new : Records) : Type 0 where
-  pub follows : (log : List ℕ) → Follows old.wal log → Follows new.wal log
-  pub none_left : pending new.wal ≡ []
+  pub follows : FollowsOn old new
+  pub none_left : HasNoChanges new
   pub saved : (new.saved ≡ old.saved) × (new.head ≡ old.saved)
   pub stays : has_ended new ≡ has_ended old
 
 -- Then what the last commit holds is what the records stand for.
 abbrev pub AbandonLeadsBack : {D : Type 0} → Ghosts D → Type 0
 AbandonLeadsBack {D = D} d = (old new : Records) (disk : D) (saved : Held) → IsAbandoned old new → HasSaved d old disk saved → StandsFor d new disk saved saved
+
+-- What a call leaves that only reads stands for the same, over a disk that was asked alone.
+abbrev pub ReadingLeaves : {D : Type 0} → Ghosts D → Type 0
+ReadingLeaves {D = D} d =
+    (old new : Records) (before after : D) (saved now : Held) → LeavesRecords old new → IsStill d before after → StandsFor d old before saved now → StandsFor d new after saved now

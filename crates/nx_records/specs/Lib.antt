@@ -1,6 +1,7 @@
 pub mod Numbering
 pub mod Records
 pub mod Changes
+pub mod Room
 pub mod Refusals
 pub mod Pages
 pub mod Chains

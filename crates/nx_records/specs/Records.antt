@@ -1,9 +1,9 @@
 -- What records and their disk stand for.
-use Rattle.std.specs.Prelude.{◌≡◌, ◌==◌, if◌then◌else◌, nat_lt, ℕ, Bool, true, false, List}
+use Rattle.std.specs.Prelude.{◌≡◌, ◌≢◌, ◌==◌, if◌then◌else◌, nat_lt, ℕ, Bool, true, false, List, []}
 use Rattle.nx_host.specs.Disk.{Image}
 use Rattle.nx_host.specs.declared.disk.Disk.{Ghosts}
-use Rattle.nx_replay.specs.Log.{replay}
-use Rattle.nx_wal.specs.Wal.{IsInStep, Follows, current, length_of}
+use Rattle.nx_replay.specs.Log.{Pages, replay, HasMark}
+use Rattle.nx_wal.specs.Wal.{IsInStep, Follows, current, pending, length_of}
 use Rattle.nx_holdings.specs.declared.header.Header.{Header}
 use Rattle.nx_holdings.specs.declared.header.Settings.{Settings}
 use Rattle.nx_holdings.specs.Holdings.{Held, HoldsBy}
@@ -36,21 +36,57 @@ has_free_by h = if h.free == 0 then nat_lt h.pages h.settings.limit else true
 abbrev pub has_free : Records → Bool
 has_free records = has_free_by records.head
 
--- the number that the next group has
+-- the number of the last commit's group, and that which the next one has
+abbrev pub last_number : Records → ℕ
+last_number records = (records.saved).number
+
 abbrev pub next_number : Records → ℕ
-next_number records = number_behind (records.saved).number
+next_number records = number_behind (last_number records)
+
+-- something waits for a commit
+abbrev pub HasChanges : Records → Type 0
+HasChanges records = pending records.wal ≢ []
+
+-- nothing does
+abbrev pub HasNoChanges : Records → Type 0
+HasNoChanges records = pending records.wal ≡ []
+
+-- The disk stands as the last call of these records left it, and has this image alone.
+abbrev pub IsInStepWith : {D : Type 0} → Ghosts D → Records → D → Image → Type 0
+IsInStepWith d records disk image = IsInStep d records.wal disk image
+
+-- the pages as the changes that wait, else those of the image, have them
+abbrev pub current_pages : Records → Image → Pages
+current_pages records image = current records.wal image
+
+-- page 0 of the image begins as that of a store does
+abbrev pub HasHeader : Image → Type 0
+HasHeader image = HasMark (replay image)
+
+-- each log that the old ones follow the new ones follow
+abbrev pub FollowsOn : Records → Records → Type 0
+FollowsOn old new = (log : List ℕ) → Follows old.wal log → Follows new.wal log
+
+-- What a call that only reads leaves of records: the log that they follow, the changes that wait for a commit, the headers, and whether they have ended.
+pub record LeavesRecords (old new : Records) : Type 0 where
+  pub follows : FollowsOn old new
+  pub changes_stay : pending new.wal ≡ pending old.wal
+  pub saved_stays : new.saved ≡ old.saved
+  pub head_stays : new.head ≡ old.head
+  pub ended_stays : has_ended new ≡ has_ended old
+  pub length_stays : log_length_of new ≡ log_length_of old
 
 -- The records run, the disk stands as the last call left it, and the last commit holds this.
 pub record HasSaved {D : Type 0} (d : Ghosts D) (records : Records) (disk : D) (saved : Held) : Type 0 where
   pub runs : has_ended records ≡ false
   pub image : Image
-  pub step : IsInStep d records.wal disk image
+  pub step : IsInStepWith d records disk image
   pub holds : HoldsBy (replay image) records.saved saved
 
 -- ... and what was changed since then makes that of it.
 pub record StandsFor {D : Type 0} (d : Ghosts D) (records : Records) (disk : D) (saved now : Held) : Type 0 where
   pub keeps : HasSaved d records disk saved
-  pub holds : HoldsBy (current records.wal keeps.image) records.head now
+  pub holds : HoldsBy (current_pages records keeps.image) records.head now
 
 -- What the last commit holds is left.
 abbrev pub KeepsSaved : {D : Type 0} → Ghosts D → Records → Records → D → D → Type 0
@@ -59,7 +95,7 @@ KeepsSaved d old new before after = (saved : Held) → HasSaved d old before sav
 -- The object runs on and follows the log that it followed, with the header of the last commit.
 pub record KeepsLog (old new : Records) : Type 0 where
   pub runs : has_ended new ≡ false
-  pub follows : (log : List ℕ) → Follows old.wal log → Follows new.wal log
+  pub follows : FollowsOn old new
   pub saved : new.saved ≡ old.saved
   pub length_stays : log_length_of new ≡ log_length_of old
   pub settings_stay : settings_of new ≡ settings_of old

@@ -6,9 +6,8 @@ use Rattle.nx_host.specs.Still.{IsSettled, IsStill}
 use Rattle.nx_replay.specs.Log.{Group, replay, HasGroup}
 use Rattle.nx_holdings.specs.declared.header.Settings.{Settings}
 use Rattle.nx_records.specs.Changes.{nothing_held}
-use Rattle.nx_wal.specs.Reading.{HasMark}
 use Rattle.nx_holdings.specs.Holdings.{Held, Holds}
-use Rattle.nx_records.specs.Records.{has_ended, has_free, log_length_of, settings_of, StandsFor, KeepsSaved}
+use Rattle.nx_records.specs.Records.{has_ended, has_free, log_length_of, settings_of, LeavesRecords, HasHeader, StandsFor, KeepsSaved}
 use Rattle.nx_records.specs.declared.records.Records.{Records}
 use Rattle.nx_records.specs.declared.error.StoreError.{StoreError}
 use Rattle.nx_records.specs.declared.error.StoreError.TheVariants as error
@@ -27,6 +26,10 @@ pub record RunsOn (old new : Records) : Type 0 where
   pub length_stays : log_length_of new ≡ log_length_of old
   pub settings_stay : settings_of new ≡ settings_of old
 
+-- The records had ended before the call, which left them and the disk alone.
+abbrev pub HadEnded : {D : Type 0} → Records → Records → D → D → Type 0
+HadEnded old new before after = (has_ended old ≡ true) × LeavesRecords old new × (after ≡ before)
+
 -- Where the pages are sound, what is held lacks what the call names. This page is what is told.
 pub record IsDamaged {D : Type 0} (d : Ghosts D) (Lacks : Held → Type 0) (named told : ℕ) (old new : Records) (before : D) : Type 0 where
   pub page : told ≡ named
@@ -37,8 +40,8 @@ pub record IsDamaged {D : Type 0} (d : Ghosts D) (Lacks : Held → Type 0) (name
 abbrev pub NotRead : {D : Type 0} → Ghosts D → (Held → Type 0) → ℕ → StoreError → Records → Records → D → D → Type 0
 NotRead d Lacks named error.Disk old new before after = Rose (d.faults before) (d.faults after) × EndNow old new
 NotRead d Lacks named (error.Damaged page) old new before after = IsDamaged d Lacks named page old new before
-NotRead d Lacks named error.Ended old new before after = (has_ended old ≡ true) × (new ≡ old)
-NotRead d Lacks named error.Memory old new before after = (has_ended old ≡ false) × (new ≡ old)
+NotRead d Lacks named error.Ended old new before after = HadEnded old new before after
+NotRead d Lacks named error.Memory old new before after = (has_ended old ≡ false) × LeavesRecords old new
 NotRead d Lacks named error.Exists old new before after = ⊥
 NotRead d Lacks named error.NotAStore old new before after = ⊥
 NotRead d Lacks named error.Full old new before after = ⊥
@@ -47,7 +50,7 @@ NotRead d Lacks named error.Full old new before after = ⊥
 abbrev pub NotChanged : {D : Type 0} → Ghosts D → (Held → Type 0) → ℕ → StoreError → Records → Records → D → D → Type 0
 NotChanged d Lacks named error.Disk old new before after = Rose (d.faults before) (d.faults after) × EndNow old new
 NotChanged d Lacks named (error.Damaged page) old new before after = IsDamaged d Lacks named page old new before
-NotChanged d Lacks named error.Ended old new before after = (has_ended old ≡ true) × (new ≡ old)
+NotChanged d Lacks named error.Ended old new before after = HadEnded old new before after
 NotChanged d Lacks named error.Memory old new before after = RunsOn old new × KeepsSaved d old new before after
 NotChanged d Lacks named error.Exists old new before after = ⊥
 NotChanged d Lacks named error.NotAStore old new before after = ⊥
@@ -65,7 +68,7 @@ abbrev pub NotStored : {D : Type 0} → Ghosts D → (Held → ℕ) → (Held �
 NotStored d needs Lacks named error.Disk old new before after = Rose (d.faults before) (d.faults after) × EndNow old new
 NotStored d needs Lacks named error.Full old new before after = IsFull d needs old new before after
 NotStored d needs Lacks named (error.Damaged page) old new before after = IsDamaged d Lacks named page old new before
-NotStored d needs Lacks named error.Ended old new before after = (has_ended old ≡ true) × (new ≡ old)
+NotStored d needs Lacks named error.Ended old new before after = HadEnded old new before after
 NotStored d needs Lacks named error.Memory old new before after = RunsOn old new × KeepsSaved d old new before after
 NotStored d needs Lacks named error.Exists old new before after = ⊥
 NotStored d needs Lacks named error.NotAStore old new before after = ⊥
@@ -73,7 +76,7 @@ NotStored d needs Lacks named error.NotAStore old new before after = ⊥
 -- Why a commit or a checkpoint gave up.
 abbrev pub NotWritten : {D : Type 0} → Ghosts D → StoreError → Records → Records → D → D → Type 0
 NotWritten d error.Disk old new before after = Rose (d.faults before) (d.faults after) × EndNow old new
-NotWritten d error.Ended old new before after = (has_ended old ≡ true) × (new ≡ old) × IsStill d before after
+NotWritten d error.Ended old new before after = HadEnded old new before after
 NotWritten d error.Memory old new before after = ⊥
 NotWritten d (error.Damaged page) old new before after = ⊥
 NotWritten d error.Exists old new before after = ⊥
@@ -81,16 +84,16 @@ NotWritten d error.NotAStore old new before after = ⊥
 NotWritten d error.Full old new before after = ⊥
 
 -- A disk without pages has become that of a new store: its log has one group more, whose number is 0.
-pub record IsCreated (settings : Settings) (was now : Image) : Type 0 where
+pub record IsNewStore (settings : Settings) (was now : Image) : Type 0 where
   pub none_before : (p : ℕ) → replay was p ≡ None
   pub group : Group
   pub number : group.number ≡ 0
   pub more : HasGroup group was now
   pub holds : Holds (replay now) (nothing_held settings)
 
--- Why no store was created.
+-- Why no store was created. A disk that has a page was asked alone.
 abbrev pub NotCreated : {D : Type 0} → Ghosts D → StoreError → D → D → Type 0
-NotCreated d error.Disk before after = Rose (d.faults before) (d.faults after)
+NotCreated d error.Disk before after = Rose (d.faults before) (d.faults after) × ((was : Image) (p : ℕ) → IsSettled d before was → IsSome (replay was p) → IsStill d before after)
 NotCreated d error.Exists before after = IsStill d before after × ((was : Image) → IsSettled d before was → (p : ℕ) × IsSome (replay was p))
 NotCreated d error.Memory before after = IsStill d before after
 NotCreated d error.Ended before after = ⊥
@@ -101,8 +104,8 @@ NotCreated d error.Full before after = ⊥
 -- Why none was opened.
 abbrev pub NotOpened : {D : Type 0} → Ghosts D → StoreError → D → D → Type 0
 NotOpened d error.Disk before after = Rose (d.faults before) (d.faults after)
-NotOpened d error.NotAStore before after = (was : Image) → IsSettled d before was → HasMark (replay was) → ⊥
-NotOpened d (error.Damaged page) before after = (page ≡ 0) × ((was : Image) → IsSettled d before was → HasMark (replay was) × ((held : Held) → Holds (replay was) held → ⊥))
+NotOpened d error.NotAStore before after = (was : Image) → IsSettled d before was → HasHeader was → ⊥
+NotOpened d (error.Damaged page) before after = (page ≡ 0) × ((was : Image) → IsSettled d before was → HasHeader was × ((held : Held) → Holds (replay was) held → ⊥))
 NotOpened d error.Memory before after = Unit {0}
 NotOpened d error.Ended before after = ⊥
 NotOpened d error.Exists before after = ⊥

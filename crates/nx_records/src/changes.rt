@@ -1,7 +1,8 @@
 // Putting records into pages, and taking them out.
 ghost use Rattle.std.specs.Prelude.{◌≡◌, ◌≢◌, ◌+◌, ◌<◌, ◌≤◌, ℕ, [], length, true, false, Some, None, IfOk, IfErr, IfSome, IfNone, OnOk};
+ghost use Rattle.nx_host.specs.Disk.{Image};
 ghost use Rattle.nx_host.specs.Still.{IsStill};
-ghost use Rattle.nx_wal.specs.Wal.{pending};
+ghost use Rattle.nx_wal.specs.Wal.{current};
 ghost use Rattle.nx_slots.specs.Edits.{HasRecord};
 
 use crate::{Records, Rid, StoreError};
@@ -11,6 +12,7 @@ use nx_slots::{Page, PageBytes, put_in};
 impl Records {
     ghost use Rattle.nx_records.specs.Records.{has_ended, KeepsLog};
     ghost use Rattle.nx_records.specs.Changes.{AddsRecord, RemovesRecord, UpdatesRecord, update_needs};
+    ghost use Rattle.nx_records.specs.Room.{FitsRoom, HasRoomFor, TakesNoPage};
     ghost use Rattle.nx_records.specs.Pages.{HasSlots, SeesSo, StepsTo, NotPut};
 
     // Takes a record out of a slotted page, which is given back where that was its last.
@@ -43,6 +45,8 @@ impl Records {
         requires few { length bytes.now ≤ 8176 }
         ensures put { IfSome result (λ rid. KeepsLog self.old self.new × StepsTo D.Disk self.old self.new disk.now (λ was now. AddsRecord rid.page rid.slot bytes.now was now)) }
         ensures none { IfNone result (self.new ≡ self.old) }
+        ensures head { self.new.head ≡ self.old.head }
+        ensures fits { IfSome result (λ rid. (was : Image) → FitsRoom (current self.old.wal was) self.old.head bytes.now) }
     {
         let room = self.head.room;
         match self.wal.put_record(room, bytes) {
@@ -65,7 +69,11 @@ impl Records {
         ensures still { IsStill D.Disk disk.old disk.new }
         ensures ok { IfOk result (λ found. IfSome found (λ rid. KeepsLog self.old self.new × StepsTo D.Disk self.old self.new disk.old (λ was now. AddsRecord rid.page rid.slot bytes.now was now))) }
         ensures none { IfOk result (λ found. IfNone found (self.new ≡ self.old)) }
+        ensures takes { IfOk result (λ found. IfSome found (λ rid. TakesNoPage self.old self.new)) }
+        ensures fits { IfOk result (λ found. IfSome found (λ rid. SeesSo D.Disk self.old disk.old (λ pages. FitsRoom pages self.old.head bytes.now))) }
+        ensures full { IfOk result (λ found. IfNone found (SeesSo D.Disk self.old disk.old (λ pages. FitsRoom pages self.old.head bytes.now → ⊥))) }
         ensures refused { IfErr result (λ e. NotPut D.Disk (λ held. ⊥) named e self.old self.new disk.old disk.new) }
+        ensures memory { IfErr result (λ e. e ≡ StoreError.Memory → SeesSo D.Disk self.old disk.old (λ pages. FitsRoom pages self.old.head bytes.now)) }
     {
         let room = self.head.room;
         let mut page = PageBytes { bytes: [0; 8192] };
@@ -90,7 +98,11 @@ impl Records {
         ensures still { IsStill D.Disk disk.old disk.new }
         ensures ok { IfOk result (λ found. IfSome found (λ rid. KeepsLog self.old self.new × StepsTo D.Disk self.old self.new disk.old (λ was now. AddsRecord rid.page rid.slot bytes.now was now))) }
         ensures none { IfOk result (λ found. IfNone found (self.new ≡ self.old)) }
+        ensures takes { IfOk result (λ found. IfSome found (λ rid. TakesNoPage self.old self.new)) }
+        ensures fits { IfOk result (λ found. IfSome found (λ rid. SeesSo D.Disk self.old disk.old (λ pages. FitsRoom pages self.old.head bytes.now))) }
+        ensures full { IfOk result (λ found. IfNone found (SeesSo D.Disk self.old disk.old (λ pages. FitsRoom pages self.old.head bytes.now → ⊥))) }
         ensures refused { IfErr result (λ e. NotPut D.Disk (λ held. ⊥) named e self.old self.new disk.old disk.new) }
+        ensures memory { IfErr result (λ e. e ≡ StoreError.Memory → SeesSo D.Disk self.old disk.old (λ pages. FitsRoom pages self.old.head bytes.now)) }
     {
         if self.head.room == 0 {
             return Ok(None);
@@ -113,7 +125,10 @@ impl Records {
         requires few { length bytes.now ≤ 8176 }
         ensures still { IsStill D.Disk disk.old disk.new }
         ensures ok { IfOk result (λ rid. KeepsLog self.old self.new × StepsTo D.Disk self.old self.new disk.old (λ was now. AddsRecord rid.page rid.slot bytes.now was now)) }
+        ensures room { IfOk result (λ rid. SeesSo D.Disk self.old disk.old (λ pages. FitsRoom pages self.old.head bytes.now → TakesNoPage self.old self.new)) }
+        ensures has_room { IfOk result (λ rid. SeesSo D.Disk self.old disk.old (λ pages. HasRoomFor self.old pages bytes.now)) }
         ensures refused { IfErr result (λ e. NotPut D.Disk (λ held. held.free ≡ 0) named e self.old self.new disk.old disk.new) }
+        ensures memory { IfErr result (λ e. e ≡ StoreError.Memory → SeesSo D.Disk self.old disk.old (λ pages. HasRoomFor self.old pages bytes.now)) }
     {
         if let Some(rid) = self.put_in_room(disk, bytes, named)? {
             return Ok(rid);

@@ -1,8 +1,9 @@
 // Byte lists on chain pages, and the catalog.
-ghost use Rattle.std.specs.Prelude.{List as Items, ◌≡◌, ◌≢◌, ◌+◌, ◌≤◌, [], ℕ, length, false, Some, IfOk, IfErr, OnOk};
+ghost use Rattle.std.specs.Prelude.{List as Items, ◌≡◌, ◌≢◌, ◌+◌, ◌≤◌, [], ℕ, length, true, false, Some, None, IfOk, IfErr, OnOk};
+ghost use Rattle.nx_host.specs.Disk.{Image};
 ghost use Rattle.nx_host.specs.Still.{IsStill};
-ghost use Rattle.nx_wal.specs.Wal.{current, pending};
 ghost use Rattle.nx_holdings.specs.Holdings.{Held, chain_count};
+ghost use Rattle.nx_links.specs.Lists.{IsListFrom, IsNamed};
 
 use crate::{Records, StoreError};
 use nx_host::Disk;
@@ -10,13 +11,13 @@ use nx_lists::List;
 use std::alloc::Global;
 
 impl Records {
-    ghost use Rattle.nx_records.specs.Records.{StandsFor, KeepsSaved, ComesTo, has_ended, catalog_length_of, page_count_of};
-    ghost use Rattle.nx_records.specs.Changes.{LacksList, IsListRead, WritesList, FreesList, SetsCatalog, catalog_needs};
+    ghost use Rattle.nx_records.specs.Records.{StandsFor, KeepsSaved, LeavesRecords, ComesTo, HasChanges, IsInStepWith, current_pages, has_ended, has_free, catalog_length_of, page_count_of};
+    ghost use Rattle.nx_records.specs.Changes.{LacksList, HasListFrom, IsListRead, WritesList, FreesList, SetsCatalog, catalog_needs};
     ghost use Rattle.nx_records.specs.Refusals.{NotRead, NotChanged, NotStored, RunsOn};
 
     /// The byte list of so many bytes at a first page. It reads its chain pages, and whatever stands on
-    /// them no more pages than the header counts. Where the page is one behind the first of a chain, it
-    /// may give what stands from there on.
+    /// them no more pages than the header counts. It gives what stands on these pages, also where the
+    /// first is one behind the first page of a chain.
     ///
     /// Errors: `Damaged` with the first page, only where the pages aren't sound or no list of that
     /// length is there; `Disk`, only where `faults` rose; `Ended` exactly where the records had ended;
@@ -31,8 +32,9 @@ impl Records {
         ensures still { IsStill D.Disk disk.old disk.new }
         ensures reads { D.reads disk.new ≤ D.reads disk.old + chain_count len }
         ensures reads_pages { D.reads disk.new ≤ D.reads disk.old + page_count_of self.old }
-        ensures ok { IfOk result (λ bytes. (has_ended self.old ≡ false) × (self.new ≡ self.old) × (length bytes ≡ len)
-            × ((saved now : Held) (stands : StandsFor D.Disk self.old disk.old saved now) → IsListRead (current self.old.wal (stands.keeps).image) now first bytes)) }
+        ensures ok { IfOk result (λ bytes. (has_ended self.old ≡ false) × LeavesRecords self.old self.new × (length bytes ≡ len)
+            × ((saved now : Held) (stands : StandsFor D.Disk self.old disk.old saved now) → IsListRead (current_pages self.old (stands.keeps).image) now first bytes)) }
+        ensures list { IfOk result (λ bytes. (was : Image) → IsInStepWith D.Disk self.old disk.old was → IsListFrom (page_count_of self.old) (current_pages self.old was) first bytes) }
         ensures refused { IfErr result (λ e. NotRead D.Disk (λ now. LacksList now first len) first e self.old self.new disk.old disk.new) }
     {
         if self.ended {
@@ -56,7 +58,7 @@ impl Records {
         ensures still { IsStill D.Disk disk.old disk.new }
         ensures reads { D.reads disk.new ≤ D.reads disk.old + chain_count (catalog_length_of self.old) }
         ensures reads_pages { D.reads disk.new ≤ D.reads disk.old + page_count_of self.old }
-        ensures ok { IfOk result (λ bytes. (has_ended self.old ≡ false) × (self.new ≡ self.old) × (length bytes ≡ catalog_length_of self.old)
+        ensures ok { IfOk result (λ bytes. (has_ended self.old ≡ false) × LeavesRecords self.old self.new × (length bytes ≡ catalog_length_of self.old)
             × ((saved now : Held) → StandsFor D.Disk self.old disk.old saved now → now.catalog ≡ bytes)) }
         ensures refused { IfErr result (λ e. NotRead D.Disk (λ now. ⊥) 0 e self.old self.new disk.old disk.new) }
     {
@@ -70,15 +72,16 @@ impl Records {
     ///
     /// Errors: `Full`, over sound pages only where fewer pages were free than the list takes chain
     /// pages, one for each 8,184 bytes begun; `Damaged` with page 0, only where the pages aren't
-    /// sound; `Disk`, only where `faults` rose; `Ended` exactly where the records had ended; `Memory`.
-    /// After `Full` and `Memory` the caller calls `abandon`.
+    /// sound; `Disk`, only where `faults` rose; `Ended` exactly where the records had ended; `Memory`,
+    /// only where a page was free. After `Full` and `Memory` the caller calls `abandon`.
     pub fn write_list<D: Disk>(&mut self, disk: &mut D, bytes: &[u8]) -> Result<u32, StoreError>
         requires { 1 ≤ length bytes.now }
         ensures still { IsStill D.Disk disk.old disk.new }
         ensures reads { D.reads disk.new ≤ D.reads disk.old + chain_count (length bytes.now) }
         ensures ok { IfOk result (λ first. ComesTo D.Disk self.old self.new disk.old disk.new (λ was now. WritesList first bytes.now was now)) }
-        ensures keeps { IfOk result (λ first. RunsOn self.old self.new × KeepsSaved D.Disk self.old self.new disk.old disk.new × (pending self.new.wal ≢ [])) }
+        ensures keeps { IfOk result (λ first. RunsOn self.old self.new × KeepsSaved D.Disk self.old self.new disk.old disk.new × HasChanges self.new) }
         ensures refused { IfErr result (λ e. NotStored D.Disk (λ was. chain_count (length bytes.now)) (λ was. ⊥) 0 e self.old self.new disk.old disk.new) }
+        ensures memory { IfErr result (λ e. e ≡ StoreError.Memory → has_free self.old ≡ true) }
     {
         if self.ended {
             return Err(StoreError::Ended);
@@ -89,8 +92,9 @@ impl Records {
     }
 
     /// Takes the byte list of so many bytes at a first page away, and gives its chain pages back. It
-    /// reads them, and no more pages than the header counts. What it leaves is said only where a list
-    /// begins at that page, not where the page is one behind.
+    /// reads them, and no more pages than the header counts. Chain pages of just that length stood there,
+    /// whatever the other pages are. What it leaves is said only where a list begins at that page; else
+    /// another page names it, and it is neither page 0 nor where the catalog begins.
     ///
     /// Errors: `Damaged` with the first page, only where the pages aren't sound or no list of that
     /// length is there; `Disk`, only where `faults` rose; `Ended` exactly where the records had ended;
@@ -107,13 +111,16 @@ impl Records {
         ensures reads_pages { D.reads disk.new ≤ D.reads disk.old + page_count_of self.old }
         ensures ok { OnOk result ((saved now : Held) (list : Items ℕ) → StandsFor D.Disk self.old disk.old saved now → now.lists first ≡ Some list
             → (length list ≡ len) × ((next : Held) × StandsFor D.Disk self.new disk.new saved next × FreesList first now next)) }
-        ensures keeps { OnOk result (RunsOn self.old self.new × KeepsSaved D.Disk self.old self.new disk.old disk.new × (pending self.new.wal ≢ [])) }
+        ensures list { OnOk result ((was : Image) → IsInStepWith D.Disk self.old disk.old was → HasListFrom (page_count_of self.old) (current_pages self.old was) first len) }
+        ensures behind { OnOk result ((saved now : Held) (stands : StandsFor D.Disk self.old disk.old saved now) → now.lists first ≡ None → IsNamed (current_pages self.old (stands.keeps).image) first) }
+        ensures keeps { OnOk result (RunsOn self.old self.new × KeepsSaved D.Disk self.old self.new disk.old disk.new × HasChanges self.new) }
         ensures refused { IfErr result (λ e. NotChanged D.Disk (λ was. LacksList was first len) first e self.old self.new disk.old disk.new) }
     {
         if self.ended {
             return Err(StoreError::Ended);
         }
-        if !self.may_begin(first, len) {
+        let begins = self.may_begin(first, len);
+        if !begins {
             return Err(self.damaged(first));
         }
         self.give_chain(alloc, disk, first, len, first)?;
@@ -138,7 +145,7 @@ impl Records {
         ensures reads { D.reads disk.new ≤ D.reads disk.old + (chain_count (catalog_length_of self.old) + chain_count (length bytes.now)) }
         ensures reads_pages { D.reads disk.new ≤ D.reads disk.old + (page_count_of self.old + chain_count (length bytes.now)) }
         ensures ok { OnOk result (ComesTo D.Disk self.old self.new disk.old disk.new (λ was now. SetsCatalog bytes.now was now)) }
-        ensures keeps { OnOk result (RunsOn self.old self.new × KeepsSaved D.Disk self.old self.new disk.old disk.new × (pending self.new.wal ≢ [])) }
+        ensures keeps { OnOk result (RunsOn self.old self.new × KeepsSaved D.Disk self.old self.new disk.old disk.new × HasChanges self.new) }
         ensures refused { IfErr result (λ e. NotStored D.Disk (λ was. catalog_needs bytes.now was) (λ was. ⊥) 0 e self.old self.new disk.old disk.new) }
     {
         if self.ended {

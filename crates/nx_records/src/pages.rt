@@ -1,5 +1,5 @@
 // Reading pages, taking them and giving them back.
-ghost use Rattle.std.specs.Prelude.{◌≡◌, ◌≢◌, ◌+◌, ◌<◌, ◌≤◌, ℕ, [], true, false, Some, None, IfOk, IfErr, OnOk};
+ghost use Rattle.std.specs.Prelude.{◌≡◌, ◌≢◌, ◌+◌, ◌<◌, ◌≤◌, ℕ, [], true, false, Some, None, IsSome, IfOk, IfErr, OnOk};
 ghost use Rattle.nx_host.specs.Disk.{Image};
 ghost use Rattle.nx_host.specs.Still.{IsStill};
 ghost use Rattle.nx_replay.specs.Log.{entry_pages};
@@ -64,6 +64,7 @@ impl Records {
         requires { has_ended self.old ≡ false }
         ensures still { IsStill D.Disk disk.old disk.new }
         ensures reads { D.reads disk.new ≤ D.reads disk.old + 1 }
+        ensures waits { IsSome (entry_pages (pending self.old.wal) page) → disk.new ≡ disk.old }
         ensures ok { IfOk result (λ found. (self.new ≡ self.old) × SeesSo D.Disk self.old disk.old (λ pages. pages page ≡ page_found found into.new.bytes)) }
         ensures refused { IfErr result (λ e. NotLoaded D.Disk e self.old self.new disk.old disk.new) }
     {
@@ -85,6 +86,7 @@ impl Records {
         requires { has_ended self.old ≡ false }
         ensures still { IsStill D.Disk disk.old disk.new }
         ensures reads { D.reads disk.new ≤ D.reads disk.old + 1 }
+        ensures waits { IsSome (entry_pages (pending self.old.wal) page) → disk.new ≡ disk.old }
         ensures ok { OnOk result ((self.new ≡ self.old) × (page < self.old.head.pages) × SeesSo D.Disk self.old disk.old (λ pages. pages page ≡ Some into.new.bytes)) }
         ensures refused { IfErr result (λ e. NotFound D.Disk (λ pages. page < self.old.head.pages → pages page ≡ None) named e self.old self.new disk.old disk.new) }
     {
@@ -195,6 +197,7 @@ impl Records {
         ensures reads { D.reads disk.new ≤ D.reads disk.old + 1 }
         ensures keeps { IfOk result (λ page. KeepsLog self.old self.new × (self.new.wal ≡ self.old.wal) × (page < 16777216)) }
         ensures ok { IfOk result (λ page. SeesSo D.Disk self.old disk.old (λ pages. IsPageTaken pages page self.old.head self.new.head)) }
+        ensures free { IfOk result (λ page. has_free self.old ≡ true) }
         ensures refused { IfErr result (λ e. NotTaken D.Disk named e self.old self.new disk.old disk.new) }
     {
         let page = self.head.free;
@@ -220,6 +223,7 @@ impl Records {
         requires none { self.old.head.free ≡ 0 }
         requires runs { has_ended self.old ≡ false }
         ensures ok { IfOk result (λ page. KeepsLog self.old self.new × (self.new.wal ≡ self.old.wal) × (page < 16777216) × IsFirstUnused page self.old.head self.new.head) }
+        ensures free { IfOk result (λ page. has_free self.old ≡ true) }
         ensures refused { IfErr result (λ e. (e ≡ StoreError.Full) × (self.new ≡ self.old) × (has_free self.old ≡ false)) }
     {
         let page = self.head.pages;

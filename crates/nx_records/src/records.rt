@@ -1,11 +1,10 @@
 // Records, byte lists and a catalog over pages under a log.
-ghost use Rattle.std.specs.Prelude.{List as Items, ◌≡◌, ◌≢◌, ◌⊎◌, ◌+◌, ◌*◌, ◌/◌, ◌^◌, ◌<◌, ◌≤◌, [], ℕ, length, true, false, Some, None, IfOk, IfErr, IfSome, OnOk};
+ghost use Rattle.std.specs.Prelude.{List as Items, ◌≡◌, ◌≢◌, ◌⊎◌, ◌+◌, ◌*◌, ◌/◌, ◌^◌, ◌<◌, ◌≤◌, [], ℕ, length, true, false, Some, None, IsSome, IfOk, IfErr, IfSome, OnOk};
 ghost use Rattle.std.proofs.Props.{props};
 ghost use Rattle.nx_host.specs.Disk.{Image};
 ghost use Rattle.nx_host.specs.Still.{IsStill, IsSettled, WritesAlone};
 ghost use Rattle.nx_replay.specs.Log.{entry_pages, groups, replay, size_of, Stays, HasSame, HasGroup};
-ghost use Rattle.nx_wal.specs.Reading.{HasMark};
-ghost use Rattle.nx_wal.specs.Wal.{IsInStep, Follows, pending, next_group, has_ended as wal_ended};
+ghost use Rattle.nx_wal.specs.Wal.{pending, next_group, has_ended as wal_ended};
 ghost use Rattle.nx_holdings.specs.Header.{AreSettings, IsInRange, header_bytes};
 ghost use Rattle.nx_holdings.specs.Holdings.{Held, Holds};
 ghost use Rattle.nx_records.specs.Numbering.{number_behind};
@@ -49,9 +48,10 @@ pub struct Records {
 }
 
 impl Records {
-    ghost use Rattle.nx_records.specs.Records.{HasSaved, StandsFor, KeepsSaved, KeepsLog, ComesTo, has_ended, has_free, settings_of, log_length_of, next_number};
+    ghost use Rattle.nx_records.specs.Records.{HasSaved, StandsFor, KeepsSaved, KeepsLog, LeavesRecords, FollowsOn, ComesTo, HasChanges, HasNoChanges, HasHeader, IsInStepWith, current_pages, has_ended, has_free, settings_of, log_length_of, last_number, next_number};
     ghost use Rattle.nx_records.specs.Changes.{nothing_held, AddsRecord, UpdatesRecord, RemovesRecord, update_needs};
-    ghost use Rattle.nx_records.specs.Refusals.{IsCreated, NotRead, NotChanged, NotStored, NotWritten, NotCreated, NotOpened, RunsOn};
+    ghost use Rattle.nx_records.specs.Room.{FitsRoom, HasRoomFor, TakesNoPage};
+    ghost use Rattle.nx_records.specs.Refusals.{IsNewStore, NotRead, NotChanged, NotStored, NotWritten, NotCreated, NotOpened, RunsOn};
 
     /// A store on a disk that has no pages, committed: with these settings, and without records,
     /// lists, and documents in its catalog. The settings are in range: K from 1 to 256, a target of at
@@ -65,10 +65,11 @@ impl Records {
         settings: Settings,
     ) -> Result<Records, StoreError>
         requires { AreSettings settings }
-        ensures goes { WritesAlone D.Disk disk.old disk.new (λ i. (was : Image) → IsSettled D.Disk disk.old was → HasSame was i ⊎ IsCreated settings was i) }
+        ensures goes { WritesAlone D.Disk disk.old disk.new (λ i. (was : Image) → IsSettled D.Disk disk.old was → HasSame was i ⊎ IsNewStore settings was i) }
         ensures ok { IfOk result (λ records. (was now : Image) → IsSettled D.Disk disk.old was → D.contents disk.new ≡ Some now →
-            StandsFor D.Disk records disk.new (nothing_held settings) (nothing_held settings) × IsInStep D.Disk records.wal disk.new now × IsCreated settings was now) }
-        ensures fresh { IfOk result (λ records. (has_ended records ≡ false) × (pending records.wal ≡ []) × (settings_of records ≡ settings)) }
+            StandsFor D.Disk records disk.new (nothing_held settings) (nothing_held settings) × IsInStepWith D.Disk records disk.new now × IsNewStore settings was now) }
+        ensures fresh { IfOk result (λ records. (has_ended records ≡ false) × HasNoChanges records × (settings_of records ≡ settings)) }
+        ensures number { IfOk result (λ records. last_number records ≡ 0) }
         ensures refused { IfErr result (λ e. NotCreated D.Disk e disk.old disk.new) }
     {
         let mut wal = match Wal::create(disk, alloc) {
@@ -100,8 +101,8 @@ impl Records {
     pub fn open<D: Disk>(alloc: Global, disk: &mut D) -> Result<Records, StoreError>
         ensures still { IsStill D.Disk disk.old disk.new }
         ensures ok { IfOk result (λ records. (was : Image) (held : Held) → IsSettled D.Disk disk.old was → Holds (replay was) held → StandsFor D.Disk records disk.new held held) }
-        ensures step { IfOk result (λ records. (was : Image) → IsSettled D.Disk disk.old was → IsInStep D.Disk records.wal disk.new was × HasMark (replay was)) }
-        ensures fresh { IfOk result (λ records. (has_ended records ≡ false) × (pending records.wal ≡ [])) }
+        ensures step { IfOk result (λ records. (was : Image) → IsSettled D.Disk disk.old was → IsInStepWith D.Disk records disk.new was × HasHeader was) }
+        ensures fresh { IfOk result (λ records. (has_ended records ≡ false) × HasNoChanges records) }
         ensures reads { IfSome (D.contents disk.old) (λ was. D.reads disk.new ≤ D.reads disk.old + (3 * (length was.log / 8196 + 1) + 2)) }
         ensures refused { IfErr result (λ e. NotOpened D.Disk e disk.old disk.new) }
     {
@@ -168,7 +169,7 @@ impl Records {
         self.ended = true;
     }
 
-    /// The record at a place.
+    /// The record at a place. It reads one page at most, and none where that waits for a commit.
     ///
     /// Errors: `Damaged` with the place's page, only where the pages aren't sound or no record is
     /// there; `Disk`, only where `faults` rose; `Ended` exactly where the records had ended;
@@ -181,7 +182,8 @@ impl Records {
     ) -> Result<List<u8>, StoreError>
         ensures still { IsStill D.Disk disk.old disk.new }
         ensures reads { D.reads disk.new ≤ D.reads disk.old + 1 }
-        ensures ok { IfOk result (λ bytes. (has_ended self.old ≡ false) × (self.new ≡ self.old)
+        ensures waits { IsSome (entry_pages (pending self.old.wal) rid.page) → disk.new ≡ disk.old }
+        ensures ok { IfOk result (λ bytes. (has_ended self.old ≡ false) × LeavesRecords self.old self.new
             × ((saved now : Held) → StandsFor D.Disk self.old disk.old saved now → now.records rid.page rid.slot ≡ Some bytes)) }
         ensures refused { IfErr result (λ e. NotRead D.Disk (λ now. now.records rid.page rid.slot ≡ None) rid.page e self.old self.new disk.old disk.new) }
     {
@@ -199,7 +201,8 @@ impl Records {
         }
     }
 
-    /// Adds a record of 1 to 8,176 bytes, and answers its place.
+    /// Adds a record of 1 to 8,176 bytes, and answers its place. One that fits on the room page takes no
+    /// other page. `Memory` is told only where it fits there or a page is free.
     ///
     /// Errors: `Full`, over sound pages only where no page was free; `Damaged` with page 0, only
     /// where the pages aren't sound; `Disk`, only where `faults` rose; `Ended` exactly where the
@@ -209,8 +212,10 @@ impl Records {
         requires few { length bytes.now ≤ 8176 }
         ensures still { IsStill D.Disk disk.old disk.new }
         ensures ok { IfOk result (λ rid. ComesTo D.Disk self.old self.new disk.old disk.new (λ was now. AddsRecord rid.page rid.slot bytes.now was now)) }
-        ensures keeps { IfOk result (λ rid. RunsOn self.old self.new × KeepsSaved D.Disk self.old self.new disk.old disk.new × (pending self.new.wal ≢ [])) }
+        ensures keeps { IfOk result (λ rid. RunsOn self.old self.new × KeepsSaved D.Disk self.old self.new disk.old disk.new × HasChanges self.new) }
+        ensures room { IfOk result (λ rid. (was : Image) → IsInStepWith D.Disk self.old disk.old was → FitsRoom (current_pages self.old was) self.old.head bytes.now → TakesNoPage self.old self.new) }
         ensures refused { IfErr result (λ e. NotStored D.Disk (λ was. 1) (λ was. ⊥) 0 e self.old self.new disk.old disk.new) }
+        ensures memory { IfErr result (λ e. e ≡ StoreError.Memory → (was : Image) → IsInStepWith D.Disk self.old disk.old was → HasRoomFor self.old (current_pages self.old was) bytes.now) }
     {
         if self.ended {
             return Err(StoreError::Ended);
@@ -237,7 +242,7 @@ impl Records {
         requires few { length bytes.now ≤ 8176 }
         ensures still { IsStill D.Disk disk.old disk.new }
         ensures ok { IfOk result (λ place. ComesTo D.Disk self.old self.new disk.old disk.new (λ was now. UpdatesRecord rid.page rid.slot bytes.now place.page place.slot was now)) }
-        ensures keeps { IfOk result (λ place. RunsOn self.old self.new × KeepsSaved D.Disk self.old self.new disk.old disk.new × (pending self.new.wal ≢ [])) }
+        ensures keeps { IfOk result (λ place. RunsOn self.old self.new × KeepsSaved D.Disk self.old self.new disk.old disk.new × HasChanges self.new) }
         ensures refused { IfErr result (λ e. NotStored D.Disk (update_needs rid.page rid.slot bytes.now) (λ was. was.records rid.page rid.slot ≡ None) rid.page e self.old self.new disk.old disk.new) }
     {
         if self.ended {
@@ -260,7 +265,7 @@ impl Records {
     pub fn remove<D: Disk>(&mut self, disk: &mut D, rid: Rid) -> Result<(), StoreError>
         ensures still { IsStill D.Disk disk.old disk.new }
         ensures ok { OnOk result (ComesTo D.Disk self.old self.new disk.old disk.new (λ was now. RemovesRecord rid.page rid.slot was now)) }
-        ensures keeps { OnOk result (RunsOn self.old self.new × KeepsSaved D.Disk self.old self.new disk.old disk.new × (pending self.new.wal ≢ [])) }
+        ensures keeps { OnOk result (RunsOn self.old self.new × KeepsSaved D.Disk self.old self.new disk.old disk.new × HasChanges self.new) }
         ensures refused { IfErr result (λ e. NotChanged D.Disk (λ was. was.records rid.page rid.slot ≡ None) rid.page e self.old self.new disk.old disk.new) }
     {
         if self.ended {
@@ -280,14 +285,15 @@ impl Records {
     ///
     /// Errors: `Disk`, only where `faults` rose; `Ended` exactly where the records had ended.
     pub fn commit<D: Disk>(&mut self, disk: &mut D) -> Result<(), StoreError>
-        requires changed { pending self.old.wal ≢ [] }
+        requires changed { HasChanges self.old }
         requires room { log_length_of self.old ≤ 2 ^ 62 }
         ensures goes { WritesAlone D.Disk disk.old disk.new (λ i. (saved now : Held) → StandsFor D.Disk self.old disk.old saved now → Holds (replay i) saved ⊎ Holds (replay i) now) }
-        ensures groups_go { WritesAlone D.Disk disk.old disk.new (λ i. (was : Image) → IsInStep D.Disk self.old.wal disk.old was → HasSame was i ⊎ HasGroup (next_group (next_number self.old) self.old.wal) was i) }
+        ensures groups_go { WritesAlone D.Disk disk.old disk.new (λ i. (was : Image) → IsInStepWith D.Disk self.old disk.old was → HasSame was i ⊎ HasGroup (next_group (next_number self.old) self.old.wal) was i) }
         ensures ok { OnOk result ((saved now : Held) (image : Image) → StandsFor D.Disk self.old disk.old saved now → D.contents disk.new ≡ Some image → StandsFor D.Disk self.new disk.new now now) }
-        ensures group { OnOk result ((was now : Image) → IsInStep D.Disk self.old.wal disk.old was → D.contents disk.new ≡ Some now → HasGroup (next_group (next_number self.old) self.old.wal) was now) }
-        ensures none_left { OnOk result ((has_ended self.old ≡ false) × (has_ended self.new ≡ false) × (pending self.new.wal ≡ [])) }
-        ensures header { OnOk result ((self.new.saved ≡ self.old.head) × (self.new.head ≡ self.old.head) × ((self.new.saved).number ≡ next_number self.old)) }
+        ensures group { OnOk result ((was now : Image) → IsInStepWith D.Disk self.old disk.old was → D.contents disk.new ≡ Some now → HasGroup (next_group (next_number self.old) self.old.wal) was now) }
+        ensures step { OnOk result ((was now : Image) → IsInStepWith D.Disk self.old disk.old was → D.contents disk.new ≡ Some now → IsInStepWith D.Disk self.new disk.new now) }
+        ensures none_left { OnOk result ((has_ended self.old ≡ false) × (has_ended self.new ≡ false) × HasNoChanges self.new) }
+        ensures header { OnOk result ((self.new.saved ≡ self.old.head) × (self.new.head ≡ self.old.head) × (last_number self.new ≡ next_number self.old)) }
         ensures length { OnOk result (log_length_of self.new ≡ log_length_of self.old + size_of (length (pending self.old.wal))) }
         ensures reads { D.reads disk.new ≡ D.reads disk.old }
         ensures refused { IfErr result (λ e. NotWritten D.Disk e self.old self.new disk.old disk.new) }
@@ -306,8 +312,8 @@ impl Records {
 
     /// Drops what was changed since the last commit. It takes no memory.
     pub fn abandon(&mut self)
-        ensures follows { (log : Items ℕ) → Follows self.old.wal log → Follows self.new.wal log }
-        ensures none_left { pending self.new.wal ≡ [] }
+        ensures follows { FollowsOn self.old self.new }
+        ensures none_left { HasNoChanges self.new }
         ensures saved { (self.new.saved ≡ self.old.saved) × (self.new.head ≡ self.old.saved) }
         ensures stays { (has_ended self.new ≡ has_ended self.old) × (log_length_of self.new ≡ log_length_of self.old) }
     {
@@ -317,17 +323,20 @@ impl Records {
     }
 
     /// Moves the pages of the log to the pages area, and empties the log. Nothing was changed since the
-    /// last commit or `abandon`. At every moment the disk holds the same. It takes no memory.
+    /// last commit or `abandon`. At every moment the disk holds the same. Where the log has no group nothing
+    /// is done. It takes no memory.
     ///
     /// Errors: `Disk`, only where `faults` rose; `Ended` exactly where the records had ended.
     pub fn checkpoint<D: Disk>(&mut self, disk: &mut D) -> Result<(), StoreError>
-        requires none { pending self.old.wal ≡ [] }
+        requires none { HasNoChanges self.old }
         ensures goes { WritesAlone D.Disk disk.old disk.new (λ i. (saved : Held) → HasSaved D.Disk self.old disk.old saved → Holds (replay i) saved) }
         ensures ok { OnOk result ((saved now : Held) (image : Image) → StandsFor D.Disk self.old disk.old saved now → D.contents disk.new ≡ Some image → StandsFor D.Disk self.new disk.new saved now) }
-        ensures stays { WritesAlone D.Disk disk.old disk.new (λ i. (was : Image) → IsInStep D.Disk self.old.wal disk.old was → Stays (replay was) (replay i)) }
+        ensures step { OnOk result ((was now : Image) → IsInStepWith D.Disk self.old disk.old was → D.contents disk.new ≡ Some now → IsInStepWith D.Disk self.new disk.new now × Stays (replay was) (replay now)) }
+        ensures nothing { log_length_of self.old ≡ 0 → LeavesRecords self.old self.new × (disk.new ≡ disk.old) }
+        ensures stays { WritesAlone D.Disk disk.old disk.new (λ i. (was : Image) → IsInStepWith D.Disk self.old disk.old was → Stays (replay was) (replay i)) }
         ensures header { (self.new.saved ≡ self.old.saved) × (self.new.head ≡ self.old.head) }
-        ensures empty { OnOk result ((has_ended self.old ≡ false) × (has_ended self.new ≡ false) × (log_length_of self.new ≡ 0) × (pending self.new.wal ≡ [])
-            × ((was now : Image) → IsInStep D.Disk self.old.wal disk.old was → D.contents disk.new ≡ Some now → groups now.log ≡ [])) }
+        ensures empty { OnOk result ((has_ended self.old ≡ false) × (has_ended self.new ≡ false) × (log_length_of self.new ≡ 0) × HasNoChanges self.new
+            × ((was now : Image) → IsInStepWith D.Disk self.old disk.old was → D.contents disk.new ≡ Some now → groups now.log ≡ [])) }
         ensures refused { IfErr result (λ e. NotWritten D.Disk e self.old self.new disk.old disk.new) }
     {
         if self.ended {

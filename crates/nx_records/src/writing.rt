@@ -1,7 +1,9 @@
 // Writing chains and giving them back, page by page. A chain is written from its last page on, so that each step
 // puts a page in front of a chain that is whole, and given back from its first page on.
-ghost use Rattle.std.specs.Prelude.{List as Items, ◌≡◌, ◌≢◌, ◌+◌, ◌^◌, ◌<◌, ◌≤◌, [], ℕ, length, false, IfOk, IfErr, OnOk};
+ghost use Rattle.std.specs.Prelude.{List as Items, ◌≡◌, ◌≢◌, ◌+◌, ◌^◌, ◌<◌, ◌≤◌, [], ℕ, length, true, false, IfOk, IfErr, OnOk};
+ghost use Rattle.nx_host.specs.Disk.{Image};
 ghost use Rattle.nx_host.specs.Still.{IsStill};
+ghost use Rattle.nx_wal.specs.Wal.{current};
 ghost use Rattle.nx_holdings.specs.Holdings.{chain_count, next_of, content_of};
 ghost use Rattle.nx_records.specs.Chains.{IsContentAt};
 
@@ -29,8 +31,10 @@ fn content_at(bytes: &[u8], index: usize) -> &[u8]
 }
 
 impl Records {
-    ghost use Rattle.nx_records.specs.Records.{has_ended, page_count_of, KeepsLog};
-    ghost use Rattle.nx_records.specs.Chains.{MayLead, ChainStepsTo, NotLed, NotGiven, link_before, with_catalog};
+    ghost use Rattle.nx_records.specs.Records.{has_ended, has_free, page_count_of, KeepsLog};
+    ghost use Rattle.nx_records.specs.Pages.{SeesSo};
+    ghost use Rattle.nx_records.specs.Changes.{HasListFrom};
+    ghost use Rattle.nx_records.specs.Chains.{HasLink, AddsNoLink, MayLead, ChainStepsTo, NotLed, NotGiven, link_before, with_catalog};
 
     // Puts a page with these bytes, which was free, in front of a chain that begins at a page, 0 for none, and
     // answers its number.
@@ -48,7 +52,9 @@ impl Records {
         ensures reads { D.reads disk.new ≤ D.reads disk.old + 1 }
         ensures keeps { IfOk result (λ page. KeepsLog self.old self.new) }
         ensures ok { IfOk result (λ page. ChainStepsTo D.Disk self.old self.new disk.old (MayLead next content.now) (λ links more. more ≡ link_before page content.now links)) }
+        ensures free { IfOk result (λ page. has_free self.old ≡ true) }
         ensures refused { IfErr result (λ e. NotLed D.Disk (MayLead next content.now) (λ links held. held.free ≡ 0) named e self.old self.new disk.old disk.new) }
+        ensures memory { IfErr result (λ e. e ≡ StoreError.Memory → has_free self.old ≡ true) }
     {
         let page = self.take(disk, named)?;
         let bytes = chain_page(next, content);
@@ -68,7 +74,9 @@ impl Records {
         ensures reads { D.reads disk.new ≤ D.reads disk.old + chain_count (length bytes.now) }
         ensures keeps { IfOk result (λ first. KeepsLog self.old self.new) }
         ensures ok { IfOk result (λ first. ChainStepsTo D.Disk self.old self.new disk.old (λ links. links ≡ []) (λ links more. (next_of more ≡ first) × (content_of more ≡ bytes.now))) }
+        ensures free { IfOk result (λ first. 1 ≤ length bytes.now → has_free self.old ≡ true) }
         ensures refused { IfErr result (λ e. NotLed D.Disk (λ links. links ≡ []) (λ links held. held.free < chain_count (length bytes.now)) named e self.old self.new disk.old disk.new) }
+        ensures memory { IfErr result (λ e. e ≡ StoreError.Memory → has_free self.old ≡ true) }
     {
         let mut left = chain_pages(bytes.len());
         let mut next = 0;
@@ -95,6 +103,8 @@ impl Records {
         ensures reads { D.reads disk.new ≤ D.reads disk.old + 1 }
         ensures keeps { IfOk result (λ link. KeepsLog self.old self.new × (1 ≤ length link.content)) }
         ensures full { IfOk result (λ link. link.next ≢ 0 → length link.content ≡ 8184) }
+        ensures link { IfOk result (λ link. (page < page_count_of self.old) × SeesSo D.Disk self.old disk.old (λ pages. HasLink pages page link.next link.content)) }
+        ensures fewer { IfOk result (λ link. (page_count_of self.new ≡ page_count_of self.old) × ((was : Image) → AddsNoLink (current self.old.wal was) (current self.new.wal was))) }
         ensures ok { IfOk result (λ link. ChainStepsTo D.Disk self.old self.new disk.old (λ links. next_of links ≡ page)
             (λ links more. (links ≡ link_before page link.content more) × (next_of more ≡ link.next))) }
         ensures refused { IfErr result (λ e. NotGiven D.Disk (λ links. next_of links ≡ page) named e self.old self.new disk.old disk.new) }
@@ -118,6 +128,7 @@ impl Records {
         ensures reads { D.reads disk.new ≤ D.reads disk.old + chain_count len }
         ensures reads_pages { D.reads disk.new ≤ D.reads disk.old + page_count_of self.old }
         ensures keeps { OnOk result (KeepsLog self.old self.new) }
+        ensures list { OnOk result (SeesSo D.Disk self.old disk.old (λ pages. HasListFrom (page_count_of self.old) pages first len)) }
         ensures ok { OnOk result (ChainStepsTo D.Disk self.old self.new disk.old (λ links. next_of links ≡ first) (λ links more. (more ≡ []) × (length (content_of links) ≡ len))) }
         ensures refused { IfErr result (λ e. NotGiven D.Disk (λ links. (next_of links ≡ first) × (length (content_of links) ≡ len)) named e self.old self.new disk.old disk.new) }
     {

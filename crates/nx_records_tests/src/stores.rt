@@ -1,7 +1,7 @@
 // Records over a host in memory, which are asked for nothing that they don't promise to do.
-ghost use Rattle.std.specs.Prelude.{◌≡◌, ◌≢◌, [], true};
+ghost use Rattle.std.specs.Prelude.{◌≡◌, true};
 ghost use Rattle.nx_holdings.specs.Header.{AreSettings};
-ghost use Rattle.nx_wal.specs.Wal.{pending};
+ghost use Rattle.nx_records.specs.Records.{HasChanges};
 
 use nx_lists::{List, NoMemory};
 use nx_memory::{Image, MemoryHost};
@@ -40,7 +40,7 @@ pub fn empty_host(alloc: Global) -> Result<MemoryHost, NoMemory> {
 pub struct Store {
     records: Records,
     changed: bool,
-    ghost waits: { changed ≡ true → pending records.wal ≢ [] },
+    ghost waits: { changed ≡ true → HasChanges records },
 }
 
 impl Store {

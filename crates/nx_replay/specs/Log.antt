@@ -84,6 +84,14 @@ pages_of area p = if nat_lt p 16777216 && nat_le (8192 * p + 8192) (length area)
 abbrev pub replay : Image → Pages
 replay image = over (logged (groups image.log)) (pages_of image.pages)
 
+-- the eight bytes that a store begins with
+abbrev pub mark : List ℕ
+mark = 78 ∷ 65 ∷ 84 ∷ 73 ∷ 88 ∷ 83 ∷ 84 ∷ 49 ∷ []
+
+-- page 0 is there and begins with them
+abbrev pub HasMark : Pages → Type 0
+HasMark pages = (bytes : List ℕ) × (pages 0 ≡ Some bytes) × (take 8 bytes ≡ mark)
+
 abbrev pub entry_bytes : List Entry → List ℕ
 entry_bytes [] = []
 entry_bytes (e ∷ es) = big_bytes 4 e.page ++ (e.bytes ++ entry_bytes es)

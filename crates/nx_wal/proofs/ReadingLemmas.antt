@@ -4,19 +4,19 @@ use Rattle.std.proofs.Common.{get_or-drop, length-drop, length-take}
 use Rattle.std.proofs.lemmas.List.{take-take, drop-drop, append-nil}
 use Rattle.std.proofs.lemmas.Bool.{false≢true, and_parts, leb-true, le-leb, ltb-true, lt-ltb, cases_Bool}
 use Rattle.std.proofs.lemmas.Bool.Decides.{nat_tests}
-use Rattle.std.specs.Prelude.{slice_index, ◌==◌, ◌&&◌, nat_le, nat_lt, min, if◌then◌else◌, ◌↔◌, Option, Some, None, Result, Ok, Err, IfOk, IfSome}
+use Rattle.std.specs.Prelude.{slice_get, slice_index, ◌==◌, ◌&&◌, nat_le, nat_lt, min, if◌then◌else◌, ◌↔◌, Option, Some, None, Result, Ok, Err, IfOk, IfSome}
 use Rattle.std.specs.BTreeMap.{get, is_at}
 use Rattle.std.specs.Ordering.{nat_cmp}
 use Rattle.byteorder.specs.Endian.{big_number}
 use Rattle.nx_host.specs.Disk.{Image}
 use Rattle.std.specs.Option.{option_or}
-use Rattle.nx_replay.specs.Log.{Pages, replay, pages_of, Entry, Group, entries_of, entry_pages, rise, logged, groups, groups_behind, end_of, count_of, size_of, group_of, is_group}
-use Rattle.nx_replay.proofs.GroupLemmas.{IsGroup, group_says, says_group, groups-first, groups-none, entries-prefix, number-one, count-prefix, length-entries_of}
+use Rattle.nx_replay.specs.Log.{Pages, replay, pages_of, Entry, Group, entries_of, entry_pages, rise, logged, groups, groups_behind, end_of, count_of, size_of, group_of, is_group, HasMark, mark}
+use Rattle.nx_replay.proofs.GroupLemmas.{IsGroup, group_says, says_group, groups-first, groups-none, entries-prefix, number-prefix, prefix-drop, prefix-less, number-one, count-prefix, length-entries_of}
 use Rattle.nx_replay.proofs.StepLemmas.{drop_taken, end_more}
 use Rattle.nx_replay.proofs.ReplayLemmas.{logged-more, page-there}
 use Rattle.nx_wal.specs.declared.reading.Head.{Head}
-use Rattle.nx_wal.specs.Reading.{numbers_of, Gives, usable, IsHeadOf, IsHead, IsReadTo, IsRead, HasMark, mark}
-use Rattle.nx_wal.specs.Places.{Places, place_in, LeadsTo, Notes, AreWithin}
+use Rattle.nx_wal.specs.Reading.{numbers_of, Gives, usable, IsHeadOf, IsHead, IsReadTo, IsRead, StandsAt, page_at}
+use Rattle.nx_wal.specs.Places.{Places, place_in, LeadsTo, Notes, AreWithin, starts_from}
 
 -- Numbers.
 
@@ -223,8 +223,125 @@ pub leads_none : (places : Places) (log : List ℕ) → places.entries ≡ [] �
 unfolding logged
 leads_none places log none p = sym (ap (λ (o : Option (Option ℕ)). place_in o log) (nothing_at places none p))
 
-pub nothing_read : (places : Places) (log : List ℕ) → places.entries ≡ [] → IsReadTo places 0 log
-nothing_read places log none = record {
+-- where a group more begins
+pub starts_more : (base : ℕ) (gs : List Group) (g : Group) → starts_from base (gs ++ g ∷ []) ≡ starts_from base gs ++ (base + end_of gs) ∷ []
+starts_more base [] g = ap (λ (n : ℕ). n ∷ []) (let h : base ≡ base + 0 = omega arith in h)
+starts_more base (x ∷ gs) g =
+    let size = size_of (length x.entries) in
+    ap (λ (ns : List ℕ). base ∷ ns) (starts_more (base + size) gs g ∙ ap (λ (n : ℕ). starts_from (base + size) gs ++ n ∷ []) (let h : base + size + end_of gs ≡ base + (size + end_of gs) = omega arith in h))
+
+pub starts_count : (base : ℕ) (gs : List Group) → length (starts_from base gs) ≡ length gs
+starts_count base [] = refl
+starts_count base (g ∷ gs) = ap suc (starts_count (base + size_of (length g.entries)) gs)
+
+-- a group by its index, and where it begins
+pub record IsIndexed (bytes : List ℕ) (base index : ℕ) : Type 0 where
+  pub at : ℕ
+  pub begins : get_or (starts_from base (groups_behind 0 bytes)) index 0 ≡ base + at
+  pub is : is_group (drop at bytes) ≡ true
+  pub group : slice_get (groups_behind 0 bytes) index ≡ Some (group_of (drop at bytes))
+
+none_indexed : (bytes : List ℕ) (base index : ℕ) → is_group bytes ≡ false → index < length (groups_behind 0 bytes) → IsIndexed bytes base index
+none_indexed bytes base index none below = absurd (
+    let lost : length (groups_behind 0 bytes) ≡ 0 = ap (λ (gs : List Group). length gs) (groups-none bytes none) in omega (arith, below, lost)
+    )
+
+pub indexed : (fuel : ℕ) (bytes : List ℕ) → length bytes ≤ fuel → (base index : ℕ) → index < length (groups_behind 0 bytes) → IsIndexed bytes base index
+indexed zero bytes fits base index below =
+    elim (cases_Bool (is_group bytes)) [
+      | inr none ↦ none_indexed bytes base index none below
+      | inl some ↦ absurd (let w = (group_says bytes some).whole in omega (arith, w, fits))
+    ]
+indexed (suc fuel) bytes fits base zero below =
+    elim (cases_Bool (is_group bytes)) [
+      | inr none ↦ none_indexed bytes base 0 none below
+      | inl some ↦
+          let first = groups-first bytes some in
+          record {
+            at = 0;
+            begins = ap (λ (gs : List Group). get_or (starts_from base gs) 0 0) first ∙ (let h : base ≡ base + 0 = omega arith in h);
+            is = some;
+            group = ap (λ (gs : List Group). slice_get gs 0) first;
+          }
+    ]
+indexed (suc fuel) bytes fits base (suc index) below =
+    elim (cases_Bool (is_group bytes)) [
+      | inr none ↦ none_indexed bytes base (suc index) none below
+      | inl some ↦
+          let size = size_of (count_of bytes) in
+          let first = groups-first bytes some in
+          let rest = drop size bytes in
+          let count : length (groups_behind 0 bytes) ≡ suc (length (groups_behind 0 rest)) = ap (λ (gs : List Group). length gs) first in
+          let more = indexed fuel rest (let w = (group_says bytes some).whole in omega (arith, w, fits, length-drop size bytes)) (base + size) index (omega (arith, below, count)) in
+          let long : length (group_of bytes).entries ≡ count_of bytes = length-entries_of (count_of bytes) (drop 13 bytes) in
+          let here : drop more.at rest ≡ drop (size + more.at) bytes = drop-drop more.at size bytes in
+          record {
+            at = size + more.at;
+            begins = ap (λ (gs : List Group). get_or (starts_from base gs) (suc index) 0) first
+                ∙ ap (λ (n : ℕ). get_or (starts_from (base + size_of n) (groups_behind 0 rest)) index 0) long
+                ∙ more.begins ∙ (let h : base + size + more.at ≡ base + (size + more.at) = omega arith in h);
+            is = ap (λ (x : List ℕ). is_group x) (sym here) ∙ more.is;
+            group = ap (λ (gs : List Group). slice_get gs (suc index)) first ∙ more.group ∙ ap (λ (x : List ℕ). Some (group_of x)) here;
+          }
+    ]
+
+-- the page behind so many of a group
+pub entries_more : (k : ℕ) (bytes : List ℕ) → entries_of (suc k) bytes ≡ entries_of k bytes ++ page_at (drop (8196 * k) bytes) ∷ []
+entries_more zero bytes = refl
+entries_more (suc k) bytes =
+    ap (λ (es : List Entry). page_at bytes ∷ es) (
+    entries_more k (drop 8196 bytes)
+    ∙ ap (λ (x : List ℕ). entries_of k (drop 8196 bytes) ++ page_at x ∷ []) (drop-drop (8196 * k) 8196 bytes ∙ ap (λ (n : ℕ). drop n bytes) (let h : 8196 + 8196 * k ≡ 8196 * suc k = omega arith in h))
+    )
+
+-- bytes that were given whole
+pub given_all : (n room : ℕ) (prefix bytes : List ℕ) → Gives n room prefix bytes → room ≤ length bytes → take room prefix ≡ take room bytes
+given_all n room prefix bytes gives fits =
+    let full : n ≡ room = let c = gives.count in omega (arith, c, fits, length-take room bytes) in
+    ap (λ (k : ℕ). take k prefix) (sym full) ∙ gives.same
+
+pub unit_page : (unit bytes : List ℕ) → take 8196 unit ≡ take 8196 bytes → (big_number 4 unit ≡ big_number 4 bytes) × (take 8192 (drop 4 unit) ≡ take 8192 (drop 4 bytes))
+unit_page unit bytes same = (number-prefix 4 8196 unit bytes (omega arith) same, prefix-drop 4 8192 unit bytes same)
+
+pub head_numbers : (head bytes : List ℕ) → take 13 head ≡ take 13 bytes → (big_number 8 (drop 1 head) ≡ big_number 8 (drop 1 bytes)) × (big_number 4 (drop 9 head) ≡ big_number 4 (drop 9 bytes))
+head_numbers head bytes same = (
+  number-prefix 8 8 (drop 1 head) (drop 1 bytes) (omega arith) (prefix-drop 1 8 head bytes (prefix-less 9 13 head bytes (omega arith) same)),
+  number-prefix 4 4 (drop 9 head) (drop 9 bytes) (omega arith) (prefix-drop 9 4 head bytes same),
+)
+
+-- What a group at an offset says, and that all its bytes are there.
+pub record ReadsAt (at : ℕ) (log : List ℕ) : Type 0 where
+  pub number : big_number 8 (drop 1 (drop at log)) ≡ (group_of (drop at (usable log))).number
+  pub count : big_number 4 (drop 9 (drop at log)) ≡ count_of (drop at (usable log))
+  pub long : length (group_of (drop at (usable log))).entries ≡ count_of (drop at (usable log))
+  pub some : 1 ≤ count_of (drop at (usable log))
+  pub fits : at + size_of (count_of (drop at (usable log))) < length log
+  pub low : at + size_of (count_of (drop at (usable log))) < 2 ^ 63
+  pub entries : entries_of (count_of (drop at (usable log))) (drop (at + 13) log) ≡ (group_of (drop at (usable log))).entries
+
+pub reads_at : (at : ℕ) (log : List ℕ) → StandsAt at log → ReadsAt at log
+reads_at at log stands =
+    let bytes = drop at (usable log) in
+    let is = group_says bytes stands.group in
+    let count = count_of bytes in
+    let whole : size_of count < length bytes = is.whole in
+    let same : take 13 (drop at log) ≡ take 13 bytes =
+    sym (ap (λ (x : List ℕ). take 13 x) (drop_taken at (2 ^ 63) log) ∙ take-take 13 (2 ^ 63 - at) (drop at log) (omega (arith, whole, length-drop at (usable log), length-take (2 ^ 63) log))) in
+    let said = head_numbers (drop at log) bytes same in
+    let low : at + 13 + 8196 * count < 2 ^ 63 = omega (arith, whole, length-drop at (usable log), length-take (2 ^ 63) log) in
+    record {
+      number = said.0;
+      count = said.1 ∙ sym (unfold_count bytes);
+      long = length-entries_of count (drop 13 bytes);
+      some = is.some;
+      fits = omega (arith, whole, length-drop at (usable log), length-take (2 ^ 63) log);
+      low = omega (arith, low);
+      entries = sym (entries_usable at count log low);
+    }
+
+pub nothing_read : (places : Places) (starts : List ℕ) (log : List ℕ) → places.entries ≡ [] → starts ≡ [] → IsReadTo places starts 0 log
+nothing_read places starts log none none_begun = record {
+  begun = none_begun;
   prefix = [];
   split = refl;
   here = refl;
@@ -253,9 +370,9 @@ module _ (at count : ℕ) (log : List ℕ) (head : IsHeadOf count (drop at (usab
       ]
 
   -- one group more was read
-  pub read_more : {old new : Places} → IsGroup (drop at (usable log)) → IsReadTo old at log
-      → Notes (entries_of count (drop (at + 13) log)) log old new → IsReadTo new (at + (13 + 8196 * count)) log
-  read_more there so_far notes =
+  pub read_more : {old new : Places} {before after : List ℕ} → IsGroup (drop at (usable log)) → IsReadTo old before at log
+      → Notes (entries_of count (drop (at + 13) log)) log old new → after ≡ before ++ at ∷ [] → IsReadTo new after (at + (13 + 8196 * count)) log
+  read_more {before = before} there so_far notes more_begun =
       let rest = drop at (usable log) in
       let g = group_of rest in
       let entries : g.entries ≡ entries_of count (drop (at + 13) log) =
@@ -268,20 +385,23 @@ module _ (at count : ℕ) (log : List ℕ) (head : IsHeadOf count (drop at (usab
         split = so_far.split ∙ ap (λ (gs : List Group). so_far.prefix ++ gs) (first ∙ ap (λ (x : List ℕ). g ∷ groups_behind 0 x) (drop-drop (size_of count) at (usable log)))
             ∙ sym (append_assoc so_far.prefix (g ∷ []) (groups_behind 0 (drop (at + size_of count) (usable log))));
         here = ap (λ (k : ℕ). k + (13 + 8196 * count)) so_far.here ∙ ap (λ (n : ℕ). end_of so_far.prefix + size_of n) (sym long) ∙ sym (end_more so_far.prefix g);
+        begun = more_begun ∙ ap (λ (ns : List ℕ). ns ++ at ∷ []) so_far.begun ∙ ap (λ (n : ℕ). starts_from 0 so_far.prefix ++ n ∷ []) (let h = so_far.here in let e : at ≡ 0 + end_of so_far.prefix = omega (arith, h) in e)
+            ∙ sym (starts_more 0 so_far.prefix g);
         leads = λ p.
             ap (λ (f : ℕ → Option (List ℕ)). f p) (logged-more so_far.prefix g) ∙ ap (λ (es : List Entry). option_or (entry_pages es p) (logged so_far.prefix p)) entries
             ∙ ap (λ (o : Option (List ℕ)). option_or (entry_pages (entries_of count (drop (at + 13) log)) p) o) (so_far.leads p) ∙ sym (notes p);
       }
 
 -- at the first place with no group
-pub read_whole : (places : Places) (at : ℕ) (head : Head) (log : List ℕ) → IsReadTo places at log → is_group (drop at (usable log)) ≡ false → IsHead at head log → AreWithin at places
-    → IsRead places (record { at = at; shut = head.shut }) log
-read_whole places at head log so_far none is within =
+pub read_whole : (places : Places) (starts : List ℕ) (at : ℕ) (head : Head) (log : List ℕ) → IsReadTo places starts at log → is_group (drop at (usable log)) ≡ false → IsHead at head log → AreWithin at places
+    → IsRead places starts (record { at = at; shut = head.shut }) log
+read_whole places starts at head log so_far none is within =
     let all : groups log ≡ so_far.prefix = so_far.split ∙ ap (λ (gs : List Group). so_far.prefix ++ gs) (groups-none (drop at (usable log)) none) ∙ append-nil so_far.prefix in
     record {
       at = record { here = so_far.here ∙ ap end_of (sym all); closed = is.closed; opened = is.opened };
       leads = λ p. ap (λ (gs : List Group). logged gs p) all ∙ so_far.leads p;
       within = within;
+      begun = so_far.begun ∙ ap (λ (gs : List Group). starts_from 0 gs) (sym all);
     }
 
 -- The mark.

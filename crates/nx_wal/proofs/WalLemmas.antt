@@ -1,9 +1,9 @@
 -- What a log and its disk stand for, from what was read.
 use Rattle.std.proofs.Common.{◌≡◌, ◌⊎◌, ℕ, ◌+◌, ◌^◌, ◌<◌, ◌≤◌, List, [], ◌∷◌, length, take, Bool, refl, sym, ap, subst, ◌∙◌, arith, inl, inr}
-use Rattle.std.proofs.Common.{cond}
+use Rattle.std.proofs.Common.{cond, get_or, drop}
 use Rattle.std.proofs.lemmas.Bool.{cases_Bool}
-use Rattle.std.specs.Prelude.{Option, Some, None, ◌==◌, if◌then◌else◌, is_some}
-use Rattle.std.proofs.lemmas.List.{length-map}
+use Rattle.std.specs.Prelude.{Option, Some, None, ◌==◌, if◌then◌else◌, is_some, slice_get}
+use Rattle.std.proofs.lemmas.List.{length-map, get_or_default}
 use Rattle.std.specs.Prelude.{All}
 use Rattle.std.specs.List.Sorted.{IsStrictlySortedBy}
 use Rattle.std.specs.Map.{lookup, keys_of}
@@ -15,20 +15,20 @@ use Rattle.nx_host.specs.declared.disk.Disk.{Ghosts}
 use Rattle.nx_host.specs.Still.{WritesAlone}
 use Rattle.nx_host.proofs.DiskLemmas.{written_alone_weaker}
 use Rattle.std.specs.Option.{option_or, option_map}
-use Rattle.nx_replay.specs.Log.{Group, entry_pages, replay, groups, logged, end_of, Stays, IsAtEnd, HasSame, HasGroup}
+use Rattle.nx_replay.specs.Log.{Group, entry_pages, replay, groups, group_of, is_group, logged, end_of, Stays, IsAtEnd, HasSame, HasGroup, HasMark}
 use Rattle.nx_replay.specs.Commit.{IsOpened, IsBody}
 use Rattle.nx_replay.proofs.ReplayLemmas.{logged-more}
 use Rattle.nx_wal.specs.declared.wal.Wal.{Wal}
 use Rattle.nx_wal.specs.declared.error.WalError.{WalError}
 use Rattle.nx_wal.specs.declared.error.WalError.TheVariants.{Disk, Exists, NotAStore, Ended, Memory}
 use Rattle.nx_wal.specs.declared.reading.End.{End}
-use Rattle.nx_wal.specs.Reading.{IsRead, IsNotOpened, HasMark}
-use Rattle.nx_wal.specs.Places.{Kept, Places, place_in, AreWithin, LeadsTo, Notes}
+use Rattle.nx_wal.specs.Reading.{IsRead, IsNotOpened, StandsAt, usable}
+use Rattle.nx_wal.specs.Places.{Kept, Places, place_in, AreWithin, LeadsTo, Notes, starts_from}
 use Rattle.nx_wal.specs.Writing.{entries_of, body_of}
 use Rattle.nx_wal.specs.Wal.{Follows, IsInStep, NotOpened, pending, next_group}
 use Rattle.nx_wal.proofs.WaitingLemmas.{waiting_few, waiting_group, place_same}
 use Rattle.nx_wal.specs.Moving.{IsLed}
-use Rattle.nx_wal.proofs.ReadingLemmas.{leads_none, none_within, some_same, at_number}
+use Rattle.nx_wal.proofs.ReadingLemmas.{leads_none, none_within, some_same, at_number, starts_count, indexed}
 use Rattle.nx_wal.proofs.WritingLemmas.{end_fits}
 
 pub not_opened : {D : Type 0} (d : Ghosts D) (e : WalError) (old new : D) → IsNotOpened e (d.faults old) (d.faults new) ((was : Image) → d.contents old ≡ Some was → HasMark (replay was) → ⊥)
@@ -40,11 +40,12 @@ not_opened d Ended old new h = h
 not_opened d Memory old new h = tt
 
 -- what was read is followed
-pub follows_read : (wal : Wal) (end : End) (log : List ℕ) → wal.end ≡ end.at → wal.shut ≡ end.shut → IsRead wal.places end log → Follows wal log
+pub follows_read : (wal : Wal) (end : End) (log : List ℕ) → wal.end ≡ end.at → wal.shut ≡ end.shut → IsRead wal.places wal.starts.items end log → Follows wal log
 follows_read wal end log at shut read = record {
   at = rw (at, shut) read.at;
   leads = read.leads;
   within = rw at read.within;
+  starts = read.begun;
 }
 
 -- A checkpoint.
@@ -67,13 +68,14 @@ pub stays_self : (i : Image) → Stays (replay i) (replay i)
 stays_self i = record { each = λ p some. refl; dense = λ all. refl }
 
 -- an empty log is followed with no places
-pub follows_none : (wal : Wal) (log : List ℕ) → wal.places.entries ≡ [] → wal.end ≡ 0 → IsAtEnd 0 wal.shut log → Follows wal log
-follows_none wal log none at ends =
+pub follows_none : (wal : Wal) (log : List ℕ) → wal.places.entries ≡ [] → wal.starts.items ≡ [] → wal.end ≡ 0 → IsAtEnd 0 wal.shut log → Follows wal log
+follows_none wal log none none_begun at ends =
     let gs : groups log ≡ [] = ended_none (groups log) (sym ends.here) in
     record {
       at = rw at ends;
       leads = λ p. ap (λ (gs : List Group). logged gs p) gs ∙ leads_none wal.places log none p;
       within = none_within wal.end wal.places none;
+      starts = none_begun ∙ ap (λ (gs : List Group). starts_from 0 gs) (sym gs);
     }
 
 pub checkpoint_goes : {D : Type 0} (d : Ghosts D) (wal : Wal) (a b : D) → 0 < wal.end
@@ -93,10 +95,11 @@ checkpoint_none d wal a was now none step told =
 
 -- A put.
 
-pub follows_same : (old new : Wal) (log : List ℕ) → new.end ≡ old.end → new.shut ≡ old.shut
+pub follows_same : (old new : Wal) (log : List ℕ) → new.end ≡ old.end → new.shut ≡ old.shut → new.starts.items ≡ old.starts.items
     → ((q : ℕ) (l : List ℕ) → place_in (get nat_cmp new.places q) l ≡ place_in (get nat_cmp old.places q) l)
     → ((limit : ℕ) → AreWithin limit old.places → AreWithin limit new.places) → Follows old log → Follows new log
-follows_same old new log ends shut leads within follows = record {
+follows_same old new log ends shut starts leads within follows = record {
+  starts = starts ∙ follows.starts;
   at = rw (ends, shut) follows.at;
   leads = λ p. follows.leads p ∙ sym (leads p log);
   within = rw ends (within old.end follows.within);
@@ -149,6 +152,46 @@ count_more old new p counted =
     let same : is_some (entry_pages (entries_of old) p) ≡ is_some (lookup (is_at (nat_cmp p)) old) =
     ap (λ (o : Option (List ℕ)). is_some o) (pending_page old p) ∙ map_some (λ (kept : Kept). kept.value.bytes) (lookup (is_at (nat_cmp p)) old) in
     now ∙ counted ∙ ap (λ (b : Bool). length old + more b) (sym same) ∙ ap (λ (n : ℕ). n + more (is_some (entry_pages (entries_of old) p))) (sym before)
+
+-- A group by its index.
+
+pub record IsGroupAt (wal : Wal) (index : ℕ) (log : List ℕ) : Type 0 where
+  pub stands : StandsAt (get_or wal.starts.items index 0) log
+  pub group : slice_get (groups log) index ≡ Some (group_of (drop (get_or wal.starts.items index 0) (usable log)))
+
+pub group_at : (wal : Wal) (index : ℕ) (log : List ℕ) → Follows wal log → index < length wal.starts.items → IsGroupAt wal index log
+group_at wal index log follows below =
+    let bytes = usable log in
+    let count : length wal.starts.items ≡ length (groups log) = ap (λ (ns : List ℕ). length ns) follows.starts ∙ starts_count 0 (groups log) in
+    let found = indexed (length bytes) bytes (omega arith) 0 index (omega (arith, below, count)) in
+    let at : found.at ≡ get_or wal.starts.items index 0 =
+    (let h = found.begins in let e : found.at ≡ get_or (starts_from 0 (groups log)) index 0 = omega (arith, h) in e) ∙ ap (λ (ns : List ℕ). get_or ns index 0) (sym follows.starts) in
+    record {
+      stands = record { group = ap (λ (n : ℕ). is_group (drop n bytes)) (sym at) ∙ found.is };
+      group = found.group ∙ ap (λ (n : ℕ). Some (group_of (drop n bytes))) at;
+    }
+
+-- ... by where it is said to begin
+pub record IsGroupFrom (at index : ℕ) (log : List ℕ) : Type 0 where
+  pub stands : StandsAt at log
+  pub group : slice_get (groups log) index ≡ Some (group_of (drop at (usable log)))
+
+pub group_from : (wal : Wal) (at index : ℕ) (log : List ℕ) → Follows wal log → index < length wal.starts.items → at ≡ get_or wal.starts.items index at → IsGroupFrom at index log
+group_from wal at index log follows below said =
+    let here : at ≡ get_or wal.starts.items index 0 = said ∙ get_or_default wal.starts.items index at 0 below in
+    let is = group_at wal index log follows below in
+    record {
+      stands = subst (λ (n : ℕ). StandsAt n log) (sym here) is.stands;
+      group = is.group ∙ ap (λ (n : ℕ). Some (group_of (drop n (usable log)))) (sym here);
+    }
+
+-- how many pages it has
+pub group_long : {at index : ℕ} {log : List ℕ} (g : Group) → IsGroupFrom at index log → slice_get (groups log) index ≡ Some g
+    → length (group_of (drop at (usable log))).entries ≡ length g.entries
+group_long g is there = let same = some_same (sym is.group ∙ there) in ap (λ (x : Group). length x.entries) same
+
+pub group_counted : (wal : Wal) (log : List ℕ) → Follows wal log → length wal.starts.items ≡ length (groups log)
+group_counted wal log follows = ap (λ (ns : List ℕ). length ns) follows.starts ∙ starts_count 0 (groups log)
 
 -- A commit.
 

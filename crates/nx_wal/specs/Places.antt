@@ -1,11 +1,11 @@
 -- Where the pages of a log stand.
-use Rattle.std.specs.Prelude.{ℕ, ◌+◌, ◌≡◌, ◌<◌, ◌≤◌, List, length, take, drop, Option, Some, None, IsSome, Box}
+use Rattle.std.specs.Prelude.{ℕ, ◌+◌, ◌≡◌, ◌<◌, ◌≤◌, List, [], ◌∷◌, length, take, drop, Option, Some, None, IsSome, Box}
 use Rattle.std.specs.Option.{option_or}
 use Rattle.std.specs.BTreeMap.{BTreeMap, get}
 use Rattle.std.specs.Ordering.{nat_cmp}
 use Rattle.std.specs.declared.alloc.Global.{Global}
 use Rattle.nx_slots.specs.declared.page.PageBytes.{PageBytes}
-use Rattle.nx_replay.specs.Log.{Entry, Group, entry_pages, logged}
+use Rattle.nx_replay.specs.Log.{Entry, Group, size_of, entry_pages, logged}
 
 -- where the log has a page, or none where it is only pending
 abbrev pub Places : Type 0
@@ -20,6 +20,11 @@ place_in None log = None
 -- The places lead to the pages of these groups.
 abbrev pub LeadsTo : List Group → Places → List ℕ → Type 0
 LeadsTo gs places log = (p : ℕ) → logged gs p ≡ place_in (get nat_cmp places p) log
+
+-- where groups begin, the first at an offset
+abbrev pub starts_from : ℕ → List Group → List ℕ
+starts_from at [] = []
+starts_from at (g ∷ gs) = at ∷ starts_from (at + size_of (length g.entries)) gs
 
 -- These pages of a group were noted.
 abbrev pub Notes : List Entry → List ℕ → Places → Places → Type 0

@@ -1,12 +1,13 @@
 -- What is read of a log.
-use Rattle.std.specs.Prelude.{ℕ, ◌^◌, ◌≡◌, ◌<◌, ◌≤◌, ◌==◌, Bool, true, false, List, [], ◌∷◌, ◌++◌, length, map, take, drop, slice_index, Option, Some, None}
+use Rattle.std.specs.Prelude.{ℕ, ◌^◌, ◌≡◌, ◌<◌, ◌≤◌, ◌==◌, Bool, true, false, List, ◌++◌, length, map, take, drop, slice_index, Option, Some, None}
+use Rattle.byteorder.specs.Endian.{big_number}
 use Rattle.nx_host.specs.Disk.{Rose}
-use Rattle.nx_replay.specs.Log.{Pages, Entry, Group, groups, groups_behind, end_of, count_of, size_of, is_group, IsAtEnd}
+use Rattle.nx_replay.specs.Log.{Entry, Group, groups, groups_behind, end_of, count_of, size_of, is_group, IsAtEnd}
 use Rattle.nx_wal.specs.declared.reading.Head.{Head}
 use Rattle.nx_wal.specs.declared.reading.End.{End}
 use Rattle.nx_wal.specs.declared.error.WalError.{WalError}
 use Rattle.nx_wal.specs.declared.error.WalError.TheVariants as error
-use Rattle.nx_wal.specs.Places.{Places, LeadsTo, AreWithin}
+use Rattle.nx_wal.specs.Places.{Places, LeadsTo, AreWithin, starts_from}
 
 -- the numbers of pages
 abbrev pub numbers_of : List Entry → List ℕ
@@ -35,26 +36,28 @@ pub record IsHead (at : ℕ) (head : Head) (log : List ℕ) : Type 0 where
   pub none : head.count ≡ 0 → is_group (drop at (usable log)) ≡ false
   pub some : 0 < head.count → IsHeadOf head.count (drop at (usable log))
 
+-- the page of a group that stands at the beginning, behind its number
+abbrev pub page_at : List ℕ → Entry
+page_at bytes = record { page = big_number 4 bytes; bytes = take 8192 (drop 4 bytes) }
+
 -- The log was read up to an offset.
-pub record IsReadTo (places : Places) (at : ℕ) (log : List ℕ) : Type 0 where
+pub record IsReadTo (places : Places) (starts : List ℕ) (at : ℕ) (log : List ℕ) : Type 0 where
   pub prefix : List Group
   pub split : groups log ≡ prefix ++ groups_behind 0 (drop at (usable log))
   pub here : at ≡ end_of prefix
   pub leads : LeadsTo prefix places log
+  pub begun : starts ≡ starts_from 0 prefix
 
 -- The log was read whole.
-pub record IsRead (places : Places) (end : End) (log : List ℕ) : Type 0 where
+pub record IsRead (places : Places) (starts : List ℕ) (end : End) (log : List ℕ) : Type 0 where
   pub at : IsAtEnd end.at end.shut log
   pub leads : LeadsTo (groups log) places log
   pub within : AreWithin end.at places
+  pub begun : starts ≡ starts_from 0 (groups log)
 
--- The eight bytes that a store begins with.
-abbrev pub mark : List ℕ
-mark = 78 ∷ 65 ∷ 84 ∷ 73 ∷ 88 ∷ 83 ∷ 84 ∷ 49 ∷ []
-
--- page 0 is there and begins with them
-abbrev pub HasMark : Pages → Type 0
-HasMark pages = (bytes : List ℕ) × (pages 0 ≡ Some bytes) × (take 8 bytes ≡ mark)
+-- A group stands at the offset, as it may in a log.
+pub record StandsAt (at : ℕ) (log : List ℕ) : Type 0 where
+  pub group : is_group (drop at (usable log)) ≡ true
 
 -- Why reading gave up: a call failed, or for want of memory.
 abbrev pub FailsBy : WalError → ℕ → ℕ → Type 0

@@ -1,13 +1,12 @@
 -- What a log and its disk stand for.
-use Rattle.std.specs.Prelude.{◌≡◌, ℕ, ◌-◌, ◌<◌, ◌≤◌, Bool, true, false, List, [], ◌∷◌, Option, Some, None, IsSome}
+use Rattle.std.specs.Prelude.{◌≡◌, ℕ, ◌-◌, ◌<◌, ◌≤◌, Bool, true, false, List, [], ◌∷◌, length, Option, Some, None, IsSome}
 use Rattle.nx_host.specs.Disk.{Image, Rose}
 use Rattle.nx_host.specs.declared.disk.Disk.{Ghosts}
 use Rattle.nx_host.specs.Still.{IsSettled}
 use Rattle.nx_slots.specs.Edits.{free_in, needed_for}
 use Rattle.nx_slots.specs.Slots.{slots_of, IsSlotted}
-use Rattle.nx_replay.specs.Log.{Pages, Entry, Group, over, replay, groups, entry_pages, IsAtEnd}
-use Rattle.nx_wal.specs.Places.{LeadsTo, AreWithin}
-use Rattle.nx_wal.specs.Reading.{HasMark}
+use Rattle.nx_replay.specs.Log.{Pages, Entry, Group, over, replay, groups, entry_pages, IsAtEnd, HasMark}
+use Rattle.nx_wal.specs.Places.{LeadsTo, AreWithin, starts_from}
 use Rattle.nx_wal.specs.Writing.{entries_of, group_with}
 use Rattle.nx_wal.specs.InPlace.{PutsInto}
 use Rattle.nx_wal.specs.declared.wal.Wal.{Wal}
@@ -22,6 +21,10 @@ has_ended wal = wal.ended
 abbrev pub length_of : Wal → ℕ
 length_of wal = wal.end
 
+-- how many groups the log has
+abbrev pub group_count : Wal → ℕ
+group_count wal = length wal.starts.items
+
 -- the pages that wait for a commit, as the entries of its group, by their numbers
 abbrev pub pending : Wal → List Entry
 pending wal = entries_of wal.waiting.pages.entries
@@ -35,6 +38,7 @@ pub record Follows (wal : Wal) (log : List ℕ) : Type 0 where
   pub at : IsAtEnd wal.end wal.shut log
   pub leads : LeadsTo (groups log) wal.places log
   pub within : AreWithin wal.end wal.places
+  pub starts : wal.starts.items ≡ starts_from 0 (groups log)
 
 -- The disk stands as the last call left it: it has this image alone, and the object follows its log.
 pub record IsInStep {D : Type 0} (d : Ghosts D) (wal : Wal) (disk : D) (image : Image) : Type 0 where
@@ -77,6 +81,14 @@ Refused d error.Ended old new before after = (has_ended old ≡ true) × (new �
 Refused d error.Exists old new before after = ⊥
 Refused d error.NotAStore old new before after = ⊥
 Refused d error.Memory old new before after = ⊥
+
+-- Why no group was read.
+abbrev pub NotGiven : {D : Type 0} → Ghosts D → WalError → Wal → Wal → D → D → Type 0
+NotGiven d error.Disk old new before after = Rose (d.faults before) (d.faults after) × Ends old new
+NotGiven d error.Ended old new before after = (has_ended old ≡ true) × (new ≡ old) × (after ≡ before)
+NotGiven d error.Memory old new before after = (has_ended old ≡ false) × (new ≡ old)
+NotGiven d error.Exists old new before after = ⊥
+NotGiven d error.NotAStore old new before after = ⊥
 
 -- Why no log was created.
 abbrev pub NotCreated : {D : Type 0} → Ghosts D → WalError → D → D → Type 0

@@ -14,5 +14,6 @@ mod wal;
 mod writing;
 
 pub use error::WalError;
+pub use nx_groups::{Group, GroupPage, GroupPages};
 pub use nx_slots::PageBytes;
 pub use wal::Wal;

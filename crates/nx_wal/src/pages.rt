@@ -2,9 +2,9 @@
 ghost use Rattle.std.specs.Prelude.{◌≡◌, ℕ, List, ◌+◌, ◌*◌, ◌^◌, ◌<◌, ◌≤◌, length, take, drop, true, false, Some, None, IsSome, IfOk, IfSome, IfNone, OnErr, ◌↔◌};
 ghost use Rattle.nx_host.specs.Disk.{Image, area_of, Rose};
 ghost use Rattle.nx_host.specs.Still.{IsStill};
-ghost use Rattle.nx_replay.specs.Log.{groups, replay};
+ghost use Rattle.nx_replay.specs.Log.{groups, replay, HasMark, mark};
 ghost use Rattle.nx_wal.specs.Places.{LeadsTo, AreWithin};
-ghost use Rattle.nx_wal.specs.Reading.{HasMark, mark, page_found};
+ghost use Rattle.nx_wal.specs.Reading.{page_found};
 
 use crate::PageBytes;
 use crate::places::place_of;

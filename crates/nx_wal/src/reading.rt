@@ -1,17 +1,19 @@
 // Reading a log: its groups by their heads and page numbers.
-ghost use Rattle.std.specs.Prelude.{◌≡◌, Bool, ℕ, List, ◌+◌, ◌*◌, ◌/◌, ◌^◌, ◌<◌, ◌≤◌, ◌==◌, min, length, take, drop, slice_index, true, false, Some, None, IsSome, IfOk, IfErr, IfSome, IfNone, OnOk, OnErr, ◌↔◌};
+ghost use Rattle.std.specs.Prelude.{◌≡◌, [], Bool, ℕ, List, ◌+◌, ◌*◌, ◌/◌, ◌^◌, ◌<◌, ◌≤◌, ◌==◌, min, length, take, drop, slice_index, true, false, Some, None, IsSome, IfOk, IfErr, IfSome, IfNone, OnOk, OnErr, ◌↔◌};
 ghost use Rattle.nx_host.specs.Disk.{Image, area_of, Rose, given_at};
 ghost use Rattle.nx_host.specs.Still.{IsStill};
-ghost use Rattle.nx_replay.specs.Log.{groups, replay, rise, entries_of, IsAtEnd};
+ghost use Rattle.nx_replay.specs.Log.{groups, replay, rise, entries_of, group_of, IsAtEnd, HasMark, mark};
+ghost use Rattle.nx_groups.specs.Groups.{entry, entries, logged_as};
 ghost use Rattle.byteorder.specs.Endian.{big_number};
-ghost use Rattle.nx_wal.specs.Reading.{Gives, IsHead, IsRead, HasMark, mark, FailsBy, IsNotOpened, numbers_of};
+ghost use Rattle.nx_wal.specs.Reading.{Gives, IsHead, IsRead, FailsBy, IsNotOpened, numbers_of, page_at, StandsAt, usable};
 ghost use Rattle.nx_wal.specs.Places.{Notes, AreWithin};
 ghost use Rattle.std.specs.BTreeMap.{IsEmpty, get};
 ghost use Rattle.std.specs.Ordering.{nat_cmp};
 
-use crate::WalError;
 use crate::pages::{area_count, has_mark};
+use crate::{PageBytes, WalError};
 use byteorder::{BigEndian, ByteOrder};
+use nx_groups::{Group, GroupPage, GroupPages};
 use nx_host::{Area, Disk, Failed};
 use std::alloc::Global;
 use std::collections::BTreeMap;
@@ -166,18 +168,20 @@ fn note_pages(
     Ok(())
 }
 
-// Reads the log below the limit, and notes where its pages stand.
+// Reads the log below the limit, and notes where its groups and pages stand.
 fn read_log<D: Disk>(
     places: &mut BTreeMap<u32, Option<u64>>,
     disk: &mut D,
+    starts: &mut Vec<u64>,
     limit: u64,
     alloc: Global,
 ) -> Result<End, WalError>
     requires none { IsEmpty places.old }
+    requires none_begun { starts.old.items ≡ [] }
     requires limit { limit ≤ 2 ^ 63 }
     ensures still { IsStill D.Disk disk.old disk.new }
     ensures reads { D.reads disk.new ≤ D.reads disk.old + (3 * (limit / 8196) + 1) }
-    ensures read { IfOk result (λ end. (was : Image) → D.contents disk.old ≡ Some was → limit ≡ min (2 ^ 63) (length was.log) → IsRead places.new end was.log) }
+    ensures read { IfOk result (λ end. (was : Image) → D.contents disk.old ≡ Some was → limit ≡ min (2 ^ 63) (length was.log) → IsRead places.new starts.new.items end was.log) }
     ensures refused { IfErr result (λ e. FailsBy e (D.faults disk.old) (D.faults disk.new)) }
 {
     let mut at = 0u64;
@@ -200,8 +204,83 @@ fn read_log<D: Disk>(
             });
         }
         note_pages(places, at + 13, &numbers)?;
+        let Ok(_) = starts.push(at) else {
+            return Err(WalError::Memory);
+        };
         at += 13 + 8_196 * (head.count as u64);
     }
+}
+
+// Reads a page of a group, behind its number.
+fn read_numbered<D: Disk>(disk: &mut D, at: u64) -> Result<GroupPage, Failed>
+    ensures still { IsStill D.Disk disk.old disk.new }
+    ensures reads { D.reads disk.new ≤ D.reads disk.old + 1 }
+    ensures page { IfOk result (λ page. (was : Image) → D.contents disk.old ≡ Some was → at + 8196 ≤ length was.log → entry page ≡ page_at (drop at was.log)) }
+    ensures cause { OnErr result (Rose (D.faults disk.old) (D.faults disk.new)) }
+{
+    let mut unit = [0u8; 8_196];
+    let _given = read_from(disk, Area::Log, at, &mut unit)?;
+    let mut bytes = PageBytes { bytes: [0; 8192] };
+    bytes.bytes.copy_from_slice(&unit[4..]);
+    Ok(GroupPage {
+        page: BigEndian::read_u32(&unit),
+        bytes,
+    })
+}
+
+// Reads so many pages of a group.
+fn read_pages<D: Disk>(
+    disk: &mut D,
+    at: u64,
+    count: u32,
+    alloc: Global,
+) -> Result<GroupPages, WalError>
+    requires { at ≤ 2 ^ 63 }
+    ensures still { IsStill D.Disk disk.old disk.new }
+    ensures reads { D.reads disk.new ≤ D.reads disk.old + count }
+    ensures pages { IfOk result (λ pages. (was : Image) → D.contents disk.old ≡ Some was → at + 8196 * count ≤ length was.log → entries pages ≡ entries_of count (drop at was.log)) }
+    ensures refused { IfErr result (λ e. FailsBy e (D.faults disk.old) (D.faults disk.new)) }
+{
+    let mut pages = GroupPages::new(alloc);
+    for i in 0..count {
+        let Ok(page) = read_numbered(disk, at + 8_196 * (i as u64)) else {
+            return Err(WalError::Disk);
+        };
+        let Ok(_) = pages.push(page) else {
+            return Err(WalError::Memory);
+        };
+    }
+    Ok(pages)
+}
+
+// Reads the number and the count of a group.
+fn read_numbers_of<D: Disk>(disk: &mut D, at: u64) -> Result<(u64, u32), Failed>
+    ensures still { IsStill D.Disk disk.old disk.new }
+    ensures reads { D.reads disk.new ≤ D.reads disk.old + 1 }
+    ensures head { IfOk result (λ head. (was : Image) → D.contents disk.old ≡ Some was → at + 13 ≤ length was.log
+        → (head.0 ≡ big_number 8 (drop 1 (drop at was.log))) × (head.1 ≡ big_number 4 (drop 9 (drop at was.log)))) }
+    ensures cause { OnErr result (Rose (D.faults disk.old) (D.faults disk.new)) }
+{
+    let mut head = [0u8; 13];
+    let _given = read_from(disk, Area::Log, at, &mut head)?;
+    Ok((
+        BigEndian::read_u64(&head[1..]),
+        BigEndian::read_u32(&head[9..]),
+    ))
+}
+
+// Reads the group at an offset, where one stands.
+pub(crate) fn read_group<D: Disk>(disk: &mut D, at: u64, alloc: Global) -> Result<Group, WalError>
+    ensures still { IsStill D.Disk disk.old disk.new }
+    ensures reads { (was : Image) → D.contents disk.old ≡ Some was → StandsAt at was.log → D.reads disk.new ≤ D.reads disk.old + 1 + length (group_of (drop at (usable was.log))).entries }
+    ensures group { IfOk result (λ group. (was : Image) → D.contents disk.old ≡ Some was → StandsAt at was.log → logged_as group ≡ group_of (drop at (usable was.log))) }
+    ensures refused { IfErr result (λ e. FailsBy e (D.faults disk.old) (D.faults disk.new)) }
+{
+    let Ok((number, count)) = read_numbers_of(disk, at) else {
+        return Err(WalError::Disk);
+    };
+    let pages = read_pages(disk, at.min(9_223_372_036_854_775_000) + 13, count, alloc)?;
+    Ok(Group { number, pages })
 }
 
 // The limit below which a log's groups end.
@@ -224,6 +303,7 @@ fn log_limit<D: Disk>(disk: &mut D) -> Result<u64, Failed>
 #[derive(Drop)]
 pub(crate) struct Opened {
     pub(crate) places: BTreeMap<u32, Option<u64>>,
+    pub(crate) starts: Vec<u64>,
     pub(crate) end: End,
 }
 
@@ -231,21 +311,26 @@ pub(crate) struct Opened {
 pub(crate) fn open_log<D: Disk>(disk: &mut D, alloc: Global) -> Result<Opened, WalError>
     ensures still { IsStill D.Disk disk.old disk.new }
     ensures reads { IfSome (D.contents disk.old) (λ was. D.reads disk.new ≤ D.reads disk.old + (3 * (length was.log / 8196 + 1) + 1)) }
-    ensures read { IfOk result (λ opened. (was : Image) → D.contents disk.old ≡ Some was → IsRead opened.places opened.end was.log × HasMark (replay was)) }
+    ensures read { IfOk result (λ opened. (was : Image) → D.contents disk.old ≡ Some was → IsRead opened.places opened.starts.items opened.end was.log × HasMark (replay was)) }
     ensures refused { IfErr result (λ e. IsNotOpened e (D.faults disk.old) (D.faults disk.new) ((was : Image) → D.contents disk.old ≡ Some was → HasMark (replay was) → ⊥)) }
 {
     let Ok(limit) = log_limit(disk) else {
         return Err(WalError::Disk);
     };
     let mut places = BTreeMap::new(alloc);
-    let end = read_log(&mut places, disk, limit, alloc)?;
+    let mut starts = Vec::new(alloc);
+    let end = read_log(&mut places, disk, &mut starts, limit, alloc)?;
     let Ok(is) = has_mark(disk, &places) else {
         return Err(WalError::Disk);
     };
     if !is {
         return Err(WalError::NotAStore);
     }
-    Ok(Opened { places, end })
+    Ok(Opened {
+        places,
+        starts,
+        end,
+    })
 }
 
 // Whether a group stands at a log's beginning.

@@ -22,7 +22,7 @@ pub(crate) struct Waiting {
     pub(crate) pages: BTreeMap<u32, Box<PageBytes>>,
     // Room in which no page waits.
     spare: Vec<Box<PageBytes>>,
-    alloc: Global,
+    pub(crate) alloc: Global,
     ghost whole: { All IsWholePage (values pages) } by { Prim.hlevel props },
     // Each room can be spare, so that no page takes memory when it waits no longer.
     ghost room: { btree_map_len pages + length spare.items ≤ vec_capacity spare },

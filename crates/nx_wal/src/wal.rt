@@ -1,21 +1,25 @@
 // Pages under a log.
-ghost use Rattle.std.specs.Prelude.{◌≡◌, ◌≢◌, ◌⊎◌, ◌++◌, ◌∷◌, [], ℕ, List, ◌+◌, ◌*◌, ◌/◌, ◌^◌, ◌<◌, ◌≤◌, length, true, false, is_some, if◌then◌else◌, All, Some, None, IsSome, IfSome, IfNone, IfOk, IfErr, OnOk, OnErr};
+ghost use Rattle.std.specs.Prelude.{◌≡◌, ◌≢◌, ◌⊎◌, ◌++◌, ◌∷◌, [], ℕ, List, ◌+◌, ◌*◌, ◌/◌, ◌^◌, ◌<◌, ◌≤◌, length, true, false, is_some, slice_get, if◌then◌else◌, All, Some, None, IsSome, IfSome, IfNone, IfOk, IfErr, OnOk, OnErr};
 ghost use Rattle.std.specs.Option.{option_map};
-ghost use Rattle.std.specs.BTreeMap.{keys};
+ghost use Rattle.std.specs.BTreeMap.{keys, btree_map_len};
+ghost use Rattle.std.specs.Vec.{vec_capacity};
 ghost use Rattle.std.proofs.Props.{props};
 ghost use Rattle.nx_host.specs.Disk.{Image};
 ghost use Rattle.nx_host.specs.Still.{IsStill, IsSettled, WritesAlone};
-ghost use Rattle.nx_replay.specs.Log.{replay, over, groups, size_of, entry_pages, Stays, HasSame, HasGroup};
+ghost use Rattle.nx_replay.specs.Log.{replay, over, groups, size_of, entry_pages, Stays, HasSame, HasGroup, HasMark};
+ghost use Rattle.nx_replay.specs.Log.{Group as LogGroup};
+ghost use Rattle.nx_groups.specs.Groups.{logged_as};
 ghost use Rattle.nx_wal.specs.Places.{MayWait};
 
 use crate::block::Block;
 use crate::moving::empty_log;
 use crate::pages::{area_count, read_page};
 use crate::places::{logged_count, make_place, set_places};
-use crate::reading::{open_log, shut_of_none};
+use crate::reading::{open_log, read_group, shut_of_none};
 use crate::waiting::Waiting;
 use crate::writing::write_group;
 use crate::{PageBytes, WalError};
+use nx_groups::Group;
 use nx_host::Disk;
 use std::alloc::Global;
 use std::collections::BTreeMap;
@@ -29,6 +33,8 @@ use std::collections::BTreeMap;
 pub struct Wal {
     // Where the log has a page, or none where it only waits.
     places: BTreeMap<u32, Option<u64>>,
+    // Where each group begins.
+    starts: Vec<u64>,
     waiting: Waiting,
     block: Block,
     // Where the log ends, and whether a closed byte stands there.
@@ -36,11 +42,13 @@ pub struct Wal {
     shut: bool,
     ended: bool,
     ghost numbers: { All (MayWait places) (keys waiting.pages) } by { Prim.hlevel props },
+    // Where a page waits, there is room for where its group begins.
+    ghost room: { 0 < btree_map_len waiting.pages → length starts.items < vec_capacity starts },
 }
 
 impl Wal {
-    ghost use Rattle.nx_wal.specs.Wal.{Follows, IsInStep, IsPageCount, Ends, pending, current, next_group, has_ended, length_of, PutsRecord, TakesNone, Refused, NotCreated, NotOpened};
-    ghost use Rattle.nx_wal.specs.Reading.{HasMark, page_found};
+    ghost use Rattle.nx_wal.specs.Wal.{Follows, IsInStep, IsPageCount, Ends, group_count, NotGiven, pending, current, next_group, has_ended, length_of, PutsRecord, TakesNone, Refused, NotCreated, NotOpened};
+    ghost use Rattle.nx_wal.specs.Reading.{page_found};
 
     /// A log over a disk that has no pages. Nothing is written.
     ///
@@ -64,6 +72,7 @@ impl Wal {
         };
         Ok(Wal {
             places: BTreeMap::new(alloc),
+            starts: Vec::new(alloc),
             waiting: Waiting::new(alloc),
             block,
             end: 0,
@@ -92,6 +101,7 @@ impl Wal {
         };
         Ok(Wal {
             places: opened.places,
+            starts: opened.starts,
             waiting: Waiting::new(alloc),
             block,
             end: opened.end.at,
@@ -101,7 +111,8 @@ impl Wal {
     }
 
     /// A page as the pending puts, else the log, else the pages area have it; `false` exactly where
-    /// there is none, after which `into` may hold anything. It takes one read at most, and no memory.
+    /// there is none, after which `into` may hold anything. It takes one read at most, none where the page
+    /// waits, and no memory.
     ///
     /// Errors: `Disk`, only where `faults` rose; `Ended` exactly where an earlier call answered
     /// `Disk`.
@@ -113,6 +124,7 @@ impl Wal {
     ) -> Result<bool, WalError>
         ensures still { IsStill D.Disk disk.old disk.new }
         ensures reads { D.reads disk.new ≤ D.reads disk.old + 1 }
+        ensures waits { IsSome (entry_pages (pending self.old) page) → disk.new ≡ disk.old }
         ensures ok { IfOk result (λ found. (self.new ≡ self.old) × (has_ended self.old ≡ false) × ((was : Image) → IsInStep D.Disk self.old disk.old was →
             current self.old was page ≡ page_found found into.new.bytes)) }
         ensures refused { IfErr result (λ e. Refused D.Disk e self.old self.new disk.old disk.new) }
@@ -185,6 +197,9 @@ impl Wal {
         if !make_place(&mut self.places, page) {
             return Err(WalError::Memory);
         }
+        let Ok(_) = self.starts.reserve(1) else {
+            return Err(WalError::Memory);
+        };
         let Ok(()) = self.waiting.put(page, bytes) else {
             return Err(WalError::Memory);
         };
@@ -251,6 +266,9 @@ impl Wal {
             return Err(WalError::Disk);
         };
         set_places(&mut self.places, &self.waiting.pages, self.end + 13);
+        let Ok(_) = self.starts.push(self.end) else {
+            unreachable!()
+        };
         self.waiting.clear();
         self.end += 13 + 8_196 * count;
         self.shut = true;
@@ -268,7 +286,8 @@ impl Wal {
 
     /// Writes the pages of the log to the pages area, in the order of their numbers, and empties the
     /// log. At every moment each page that the disk stands for stays, and none is added where none
-    /// is missing below the greatest. It takes no memory.
+    /// is missing below the greatest. A log without groups is left alone, and the disk with it. It
+    /// takes no memory.
     ///
     /// Errors: `Disk`, only where `faults` rose; `Ended` exactly where an earlier call answered
     /// `Disk`.
@@ -278,6 +297,7 @@ impl Wal {
         ensures ok { OnOk result ((was now : Image) → IsInStep D.Disk self.old disk.old was → D.contents disk.new ≡ Some now →
             IsInStep D.Disk self.new disk.new now × Stays (replay was) (replay now) × (groups now.log ≡ [])) }
         ensures empty { OnOk result ((length_of self.new ≡ 0) × (pending self.new ≡ []) × (has_ended self.old ≡ false) × (has_ended self.new ≡ false)) }
+        ensures nothing { length_of self.old ≡ 0 → (self.new ≡ self.old) × (disk.new ≡ disk.old) }
         ensures refused { IfErr result (λ e. Refused D.Disk e self.old self.new disk.old disk.new) }
     {
         if self.ended {
@@ -291,9 +311,45 @@ impl Wal {
             return Err(WalError::Disk);
         };
         self.places.clear();
+        self.starts.clear();
         self.end = 0;
         self.shut = true;
         Ok(())
+    }
+
+    /// How many groups the log has. It takes no read, and no memory.
+    pub fn groups(&self) -> u64
+        ensures value { result ≡ group_count self.now }
+        ensures count { (log : List ℕ) → Follows self.now log → result ≡ length (groups log) }
+    {
+        self.starts.len() as u64
+    }
+
+    /// The group of the log with this index, below `groups`. It reads that group alone: its head, and each
+    /// of its pages.
+    ///
+    /// Errors: `Disk`, only where `faults` rose; `Ended` exactly where an earlier call answered
+    /// `Disk`; `Memory`. Nothing changes where it is `Memory`.
+    pub fn group<D: Disk>(&mut self, disk: &mut D, index: u64) -> Result<Group, WalError>
+        requires { index < group_count self.old }
+        ensures still { IsStill D.Disk disk.old disk.new }
+        ensures reads { (was : Image) → IsInStep D.Disk self.old disk.old was → (g : LogGroup) → slice_get (groups was.log) index ≡ Some g → D.reads disk.new ≤ D.reads disk.old + 1 + length g.entries }
+        ensures ok { IfOk result (λ group. (self.new ≡ self.old) × (has_ended self.old ≡ false) × ((was : Image) → IsInStep D.Disk self.old disk.old was →
+            slice_get (groups was.log) index ≡ Some (logged_as group))) }
+        ensures refused { IfErr result (λ e. NotGiven D.Disk e self.old self.new disk.old disk.new) }
+    {
+        if self.ended {
+            return Err(WalError::Ended);
+        }
+        let at = self.starts[index as usize];
+        match read_group(disk, at, self.waiting.alloc) {
+            Ok(group) => Ok(group),
+            Err(WalError::Disk) => {
+                self.ended = true;
+                Err(WalError::Disk)
+            }
+            Err(_) => Err(WalError::Memory),
+        }
     }
 
     /// Where the log ends: how many bytes its groups take, their gates counted, but for the gate

@@ -1,6 +1,6 @@
 use Rattle.std.proofs.Common.{List, ℕ, ◌++◌, drop, refl, ap, ◌∙◌, arith}
 use Rattle.std.proofs.lemmas.List.{drop-replicate}
-use Rattle.nx_wal.specs.Reading.{mark}
+use Rattle.nx_replay.specs.Log.{mark}
 use Rattle.nx_holdings.proofs.header.marked.Goals as goal
 
 pub returns : goal.returns

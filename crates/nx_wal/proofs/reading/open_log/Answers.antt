@@ -8,7 +8,7 @@ use Rattle.nx_wal.specs.Places.{Places, AreWithin}
 use Rattle.nx_wal.proofs.WritingLemmas.{end_fits}
 use Rattle.nx_wal.proofs.reading.open_log.Goals as goal
 
-within_log : {places : Places} {end : End} {log : List ℕ} → IsRead places end log → AreWithin (length log) places
+within_log : {places : Places} {starts : List ℕ} {end : End} {log : List ℕ} → IsRead places starts end log → AreWithin (length log) places
 within_log {end = end} {log = log} read p at is = let fits = end_fits end.at end.shut log read.at in let low = read.within p at is in omega (arith, fits, low)
 
 pub returns-then-not-is-clause-refused : goal.returns-then-not-is-clause-refused

@@ -12,7 +12,7 @@ loop-head-init g c = record {
   low = omega arith;
   still = none_still;
   reads = (0, omega arith, omega arith);
-  so_far = λ was told limit_is. nothing_read c.args.places.now was.log c.requires.none;
+  so_far = λ was told limit_is. nothing_read c.args.places.now c.args.starts.now.items was.log c.requires.none c.requires.none_begun;
   within = none_within 0 c.args.places.now c.requires.none;
 }
 
@@ -20,7 +20,7 @@ pub returns-then-head-eq0-clause-read : goal.returns-then-head-eq0-clause-read
 returns-then-head-eq0-clause-read g c was told limit_is =
     let so_far = c.loop-head.invariant in
     let head = c.in-Ok.ensures.head was (told_still was so_far.still told) limit_is in
-    read_whole c.loop-head.places c.loop-head.at c.in-Ok.head was.log (so_far.so_far was told limit_is) (head.none c.if-head-eq0.true) head so_far.within
+    read_whole c.loop-head.places c.loop-head.starts.items c.loop-head.at c.in-Ok.head was.log (so_far.so_far was told limit_is) (head.none c.if-head-eq0.true) head so_far.within
 
 pub returns-then-not-rises-clause-read : goal.returns-then-not-rises-clause-read
 returns-then-not-rises-clause-read g c was told limit_is =
@@ -31,7 +31,7 @@ returns-then-not-rises-clause-read g c was told limit_is =
     let told_here = told_still was so_far.still told in
     let head = c.in-Ok.ensures.head was told_here limit_is in
     let falls = c.in_ok-rises.ensures.rise was (told_still was c.read_head.ensures.still told_here) (omega (arith, room, limit_is)) in
-    read_whole c.loop-head.places c.loop-head.at c.in-Ok.head was.log (so_far.so_far was told limit_is)
+    read_whole c.loop-head.places c.loop-head.starts.items c.loop-head.at c.in-Ok.head was.log (so_far.so_far was told limit_is)
     (no_rise c.loop-head.at count was.log (head.some some) (omega (arith, room, c.requires.limit)) (sym c.if-not-rises.true ∙ falls)) head so_far.within
 
 pub note_pages-requires : goal.note_pages-requires
@@ -66,6 +66,6 @@ loop-head-preserved g c =
           let notes = c.in_ok-note_pages.ensures.notes was.log (same ∙ ap (λ (n : ℕ). numbers_of (entries_of n bytes)) (sym long)) in
           let low : c.loop-head.at + 13 + 8196 * count < 2 ^ 63 = omega (arith, room, c.requires.limit) in
           read_more c.loop-head.at count was.log (head.some some) low (group_there c.loop-head.at count was.log (head.some some) low some (sym c.if-not-rises.false ∙ rises))
-          (so_far.so_far was told limit_is) (subst (λ (n : ℕ). Notes (entries_of n bytes) was.log c.loop-head.places c.note_pages.new.places) long notes);
+          (so_far.so_far was told limit_is) (subst (λ (n : ℕ). Notes (entries_of n bytes) was.log c.loop-head.places c.note_pages.new.places) long notes) c.in-Ok-push.ensures.items;
       within = c.in_ok-note_pages.ensures.within (c.loop-head.at + (13 + 8196 * count)) (omega (arith, long)) (λ p at is. let low = so_far.within p at is in omega (arith, low));
     }

@@ -11,7 +11,7 @@ invariant-loop-head g l = record {
   low : l.at ≤ l.limit;
   still : IsStill g.D.Disk l.initial.disk l.disk;
   reads : (k : ℕ) × (8196 * k ≤ l.at) × (g.D.Disk.reads l.disk ≤ g.D.Disk.reads l.initial.disk + 3 * k);
-  so_far : (was : Image) → g.D.Disk.contents l.initial.disk ≡ Some was → l.limit ≡ min (2 ^ 63) (length was.log) → IsReadTo l.places l.at was.log;
+  so_far : (was : Image) → g.D.Disk.contents l.initial.disk ≡ Some was → l.limit ≡ min (2 ^ 63) (length was.log) → IsReadTo l.places l.starts.items l.at was.log;
   within : AreWithin l.at l.places;
 }
 

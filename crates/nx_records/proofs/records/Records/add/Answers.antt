@@ -5,6 +5,12 @@ use Rattle.nx_records.specs.Changes.{AddsRecord}
 use Rattle.nx_records.specs.Refusals.{NotStored}
 use Rattle.nx_records.proofs.StandLemmas.{keeps_then, saved_kept, steps_lead}
 use Rattle.nx_records.proofs.RefusalLemmas.{err_passed, put_stored, memory_stored, runs_on}
+use Rattle.nx_records.proofs.LeaveLemmas.{had_ended}
+use Rattle.nx_records.proofs.RoomLemmas.{takes_then}
+use Rattle.nx_records.specs.Room.{HasRoomFor}
+use Rattle.nx_records.specs.Records.{next_number, IsInStepWith, current_pages}
+use Rattle.nx_records.specs.declared.error.StoreError.TheVariants as error
+use Rattle.nx_host.specs.Disk.{Image}
 use Rattle.nx_records.proofs.records.Records.add.Goals as goal
 
 pub returns-in_err-rid-clause-refused : goal.returns-in_err-rid-clause-refused
@@ -30,3 +36,21 @@ pub returns-clause-keeps : goal.returns-clause-keeps
 returns-clause-keeps g c =
     let keeps = keeps_then {r0 = c.args.self.now} {r1 = c.place.new.self} {r2 = c.store_header.new.self} c.in_ok-rid.ensures.ok.0 c.store_header.ensures.keeps in
     (runs_on c.if-self.false keeps, saved_kept keeps c.place.ensures.still, c.in_ok-store_header.ensures.ok.1)
+
+pub returns-then-self-clause-refused : goal.returns-then-self-clause-refused
+returns-then-self-clause-refused g c = had_ended c.if-self.true
+
+pub returns-in_err-rid-clause-memory : goal.returns-in_err-rid-clause-memory
+returns-in_err-rid-clause-memory g c =
+    err_passed c.from_residual.result (λ (e : StoreError). e ≡ error.Memory → (was : Image) → IsInStepWith g.D.Disk c.args.self.now c.args.disk.now was → HasRoomFor c.args.self.now (current_pages c.args.self.now was) c.args.bytes.now)
+    c.in_err-rid.field-0.0 (err_from_is_err_and c.from_residual.result c.from_residual.ensures.1) (λ is was step. c.in_err-rid.ensures.memory is was step)
+
+pub returns-in_err-store_header-clause-memory : goal.returns-in_err-store_header-clause-memory
+returns-in_err-store_header-clause-memory g c =
+    err_passed c.from_residual-in_err-store_header.result
+    (λ (e : StoreError). e ≡ error.Memory → (was : Image) → IsInStepWith g.D.Disk c.args.self.now c.args.disk.now was → HasRoomFor c.args.self.now (current_pages c.args.self.now was) c.args.bytes.now)
+    c.in_err-store_header.field-0.0 (err_from_is_err_and c.from_residual-in_err-store_header.result c.from_residual-in_err-store_header.ensures.1) (λ is was step. c.in_ok-rid.ensures.has_room was step)
+
+pub returns-clause-room : goal.returns-clause-room
+returns-clause-room g c was step fits =
+    takes_then c.args.self.now c.place.new.self c.store_header.new.self (next_number c.place.new.self) (c.in_ok-rid.ensures.room was step fits) c.in_ok-store_header.ensures.ok.0

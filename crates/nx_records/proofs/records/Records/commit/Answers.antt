@@ -4,6 +4,7 @@ use Rattle.nx_host.specs.Still.{WritesAlone}
 use Rattle.nx_replay.specs.Log.{HasSame, HasGroup}
 use Rattle.nx_wal.specs.Wal.{IsInStep, next_group}
 use Rattle.nx_records.proofs.StandLemmas.{commit_holds, commit_stands}
+use Rattle.nx_records.proofs.LeaveLemmas.{had_ended}
 use Rattle.nx_records.proofs.records.Records.commit.Goals as goal
 
 pub returns-in_default-clause-goes : goal.returns-in_default-clause-goes
@@ -30,3 +31,9 @@ returns-clause-ok g c saved now image stands told =
 pub returns-clause-group : goal.returns-clause-group
 returns-clause-group g c was now step told =
     subst (λ (n : ℕ). HasGroup (next_group n c.args.self.now.wal) was now) (c.args.self.now.numbered c.requires.changed) (c.in-Ok.ensures.ok was now step told).1
+
+pub returns-clause-step : goal.returns-clause-step
+returns-clause-step g c was now step told = (c.in-Ok.ensures.ok was now step told).0
+
+pub returns-then-self-clause-refused : goal.returns-then-self-clause-refused
+returns-then-self-clause-refused g c = had_ended c.if-self.true

@@ -2,14 +2,15 @@ use Rattle.std.proofs.Common.{◌≡◌, refl, sym, subst, ap, ◌∙◌, arith}
 use Rattle.std.proofs.lemmas.Result.{err_from_is_err_and}
 use Rattle.std.specs.Prelude.{Some}
 use Rattle.nx_replay.specs.Log.{Pages, entry_pages}
-use Rattle.nx_wal.specs.Wal.{pending}
+use Rattle.nx_wal.specs.declared.error.WalError.{WalError}
+use Rattle.nx_wal.specs.Wal.{pending, NotCreated as NotBegun}
 use Rattle.nx_holdings.specs.declared.header.Header.{Header}
 use Rattle.nx_holdings.specs.Header.{header_bytes, IsInRange}
 use Rattle.nx_records.specs.declared.error.StoreError.{StoreError}
 use Rattle.nx_records.specs.First.{first_head, first_pages}
 use Rattle.nx_records.specs.Refusals.{NotCreated}
 use Rattle.nx_records.proofs.RefusalLemmas.{err_passed}
-use Rattle.nx_records.proofs.FirstLemmas.{opened_stands, first_holds, first_replay, first_created, still_creates, commit_creates, commit_rose}
+use Rattle.nx_records.proofs.FirstLemmas.{opened_stands, first_holds, first_replay, first_created, still_creates, commit_creates, commit_rose, no_page}
 use Rattle.nx_holdings.specs.Holdings.{HoldsBy}
 use Rattle.nx_records.specs.Changes.{nothing_held}
 use Rattle.nx_records.proofs.records.Records.create.Goals as goal
@@ -21,7 +22,7 @@ pub returns-in-Err-Disk-clause-goes : goal.returns-in-Err-Disk-clause-goes
 returns-in-Err-Disk-clause-goes g c = still_creates g.D.Disk c.args.settings c.create.ensures.still
 
 pub returns-in-Err : goal.returns-in-Err
-returns-in-Err g c = record { goes = still_creates g.D.Disk c.args.settings c.create.ensures.still; ok = tt; fresh = tt; refused = c.create.ensures.still }
+returns-in-Err g c = record { goes = still_creates g.D.Disk c.args.settings c.create.ensures.still; ok = tt; fresh = tt; number = tt; refused = c.create.ensures.still }
 
 pub returns-in_err-put_first-clause-goes : goal.returns-in_err-put_first-clause-goes
 returns-in_err-put_first-clause-goes g c = still_creates g.D.Disk c.args.settings c.create.ensures.still
@@ -40,8 +41,19 @@ returns-in_default-clause-goes g c =
     c.put_first.ensures.follows (c.in_ok-put_first.ensures.ok ∙ ap first_pages c.first_header-header.ensures.first) c.commit.ensures.goes
 
 pub returns-in_default-clause-refused : goal.returns-in_default-clause-refused
-returns-in_default-clause-refused g c =
-    commit_rose g.D.Disk c.put_first.new.wal c.commit.new.self c.in_default.field-0 (c.put_first.ensures.stays.1 ∙ c.in-Ok.ensures.fresh.0) c.create.ensures.still c.in_default.ensures.refused
+returns-in_default-clause-refused g c = (
+  commit_rose g.D.Disk c.put_first.new.wal c.commit.new.self c.in_default.field-0 (c.put_first.ensures.stays.1 ∙ c.in-Ok.ensures.fresh.0) c.create.ensures.still c.in_default.ensures.refused,
+  λ was p settled some. no_page c.in-Ok.ensures.ok was p settled some,
+)
+
+pub returns-in-Err-Disk-clause-refused : goal.returns-in-Err-Disk-clause-refused
+returns-in-Err-Disk-clause-refused g c = (
+  subst (λ (e : WalError). NotBegun g.D.Disk e c.args.disk.now c.create.new.disk) c.in-Err-Disk.field-0-is c.in-Err-Disk.ensures.refused,
+  λ was p settled some. c.create.ensures.still,
+)
+
+pub returns-clause-number : goal.returns-clause-number
+returns-clause-number g c = ap (λ (h : Header). h.number) c.first_header-header.ensures.first
 
 pub invariant_of-result : goal.invariant_of-result
 invariant_of-result g c = record {

@@ -9,17 +9,19 @@ use Rattle.nx_records.proofs.StandLemmas.{keeps_then, saved_kept, on_ok_then, if
 use Rattle.nx_records.proofs.RefusalLemmas.{err_passed, ended_now, memory_changed, runs_on}
 use Rattle.nx_records.proofs.ChainLemmas.{lacks_list, change_damaged}
 use Rattle.nx_records.proofs.WritingLemmas.{all_there, freed_steps, given_changed, header_stands}
+use Rattle.nx_records.proofs.LeaveLemmas.{had_ended}
+use Rattle.nx_records.proofs.FreedLemmas.{list_behind}
 use Rattle.nx_records.proofs.records.Records.free_list.Goals as goal
 
-pub returns-then-not-may_begin-clause-refused : goal.returns-then-not-may_begin-clause-refused
-returns-then-not-may_begin-clause-refused g c =
+pub returns-then-not-begins-clause-refused : goal.returns-then-not-begins-clause-refused
+returns-then-not-begins-clause-refused g c =
     change_damaged g.D.Disk c.args.self.now c.damaged.new.self c.args.disk.now c.args.disk.now c.args.first (λ now. LacksList now c.args.first c.args.len) c.damaged.result c.damaged.ensures.result
     (ended_now {r0 = c.args.self.now} {r1 = c.args.self.now} {r2 = c.damaged.new.self} c.if-self.false refl c.damaged.ensures.ended)
-    (λ saved now stands. lacks_list stands.holds c.args.first c.args.len (c.may_begin.ensures.no c.if-not-may_begin.true))
+    (λ saved now stands. lacks_list stands.holds c.args.first c.args.len (c.may_begin-begins.ensures.no c.if-not-begins.true))
 
 pub returns-in_err-give_chain-clause-refused : goal.returns-in_err-give_chain-clause-refused
 returns-in_err-give_chain-clause-refused g c =
-    let may = c.may_begin.ensures.yes c.if-not-may_begin.false in
+    let may = c.may_begin-begins.ensures.yes c.if-not-begins.false in
     err_passed c.from_residual.result (λ (e : StoreError). NotChanged g.D.Disk (λ now. LacksList now c.args.first c.args.len) c.args.first e c.args.self.now c.give_chain.new.self c.args.disk.now c.give_chain.new.disk)
     c.in_err-give_chain.field-0.0 (err_from_is_err_and c.from_residual.result c.from_residual.ensures.1)
     (given_changed g.D.Disk c.args.self.now c.give_chain.new.self c.args.disk.now c.give_chain.new.disk c.args.first (λ (links : List Link). (next_of links ≡ c.args.first) × (length (content_of links) ≡ c.args.len))
@@ -32,7 +34,7 @@ returns-in_err-give_chain-clause-refused g c =
 
 pub returns-clause-ok : goal.returns-clause-ok
 returns-clause-ok g c =
-    let may = c.may_begin.ensures.yes c.if-not-may_begin.false in
+    let may = c.may_begin-begins.ensures.yes c.if-not-begins.false in
     let keeps = keeps_then {r0 = c.args.self.now} {r1 = c.give_chain.new.self} {r2 = c.store_header.new.self} c.in_ok-give_chain.ensures.keeps c.store_header.ensures.keeps in
     on_ok_then c.store_header.result c.store_header.ensures.ok (λ ok saved now list stands there.
     let freed = freed_steps g.D.Disk c.args.self.now c.give_chain.new.self c.args.disk.now c.args.first c.args.len may.1 c.in_ok-give_chain.ensures.ok (stands.keeps).image now list (stands.keeps).step
@@ -50,3 +52,15 @@ returns-clause-refused g c =
     if_err_then c.store_header.result c.store_header.ensures.refused (λ e same.
     memory_changed g.D.Disk c.args.self.now c.store_header.new.self c.args.disk.now c.give_chain.new.disk c.args.first (λ now. LacksList now c.args.first c.args.len) e
     same c.if-self.false c.give_chain.ensures.still keeps)
+
+pub returns-then-self-clause-refused : goal.returns-then-self-clause-refused
+returns-then-self-clause-refused g c = had_ended c.if-self.true
+
+pub returns-clause-list : goal.returns-clause-list
+returns-clause-list g c = on_ok_then c.store_header.result c.store_header.ensures.ok (λ ok was step. c.in_ok-give_chain.ensures.list was step)
+
+pub returns-clause-behind : goal.returns-clause-behind
+returns-clause-behind g c =
+    let may = c.may_begin-begins.ensures.yes c.if-not-begins.false in
+    on_ok_then c.store_header.result c.store_header.ensures.ok (λ ok saved now stands none.
+    list_behind stands.holds c.args.first c.args.len may.1 may.0 (c.in_ok-give_chain.ensures.list (stands.keeps).image (stands.keeps).step) none)

@@ -1,13 +1,17 @@
-use Rattle.std.proofs.Common.{◌≡◌, ◌∙◌, ◌-◌, ◌<◌, ◌≤◌, List, [], ℕ, length, refl, sym, ap, subst, arith}
+use Rattle.std.proofs.Common.{◌≡◌, ◌∙◌, ◌-◌, ◌<◌, ◌≤◌, List, [], ◌++◌, ℕ, length, refl, sym, ap, subst, arith, length-append}
 use Rattle.std.proofs.lemmas.Result.{err_from_is_err_and}
 use Rattle.nx_host.proofs.DiskLemmas.{none_still, still_then}
 use Rattle.nx_holdings.specs.Holdings.{Link, next_of, content_of}
+use Rattle.nx_wal.specs.Wal.{current}
+use Rattle.nx_links.specs.Lists.{IsReadTo}
+use Rattle.nx_links.proofs.ListLemmas.{read_none, read_whole}
 use Rattle.nx_links.proofs.BesideLemmas.{chain_from, no_first}
 use Rattle.nx_records.specs.declared.error.StoreError.{StoreError}
 use Rattle.nx_records.specs.Chains.{IsLeft, Nowhere, NotGiven, link_before}
 use Rattle.nx_records.proofs.StandLemmas.{keeps_then, step_kept}
 use Rattle.nx_records.proofs.RefusalLemmas.{err_passed, ended_now, keeps_self}
-use Rattle.nx_records.proofs.ChainLemmas.{reads_within, no_list_past}
+use Rattle.nx_records.proofs.ChainLemmas.{reads_within, no_list_past, read_link, few_pages}
+use Rattle.nx_records.proofs.FreedLemmas.{links_then}
 use Rattle.nx_records.proofs.WritingLemmas.{steps_none, steps_on, steps_weaker, led_later, left_none, left_ends, left_past, given_damaged, ended_behind}
 use Rattle.nx_records.proofs.records.Records.give_chain.Goals as goal
 
@@ -18,6 +22,8 @@ loop-page-init g c = record {
   within = omega arith;
   full = λ goes_on. omega arith;
   reads = omega arith;
+  fewer = (refl, λ was page next content has. has);
+  read = λ was step. ([], omega arith, read_none c.args.self.now.head.pages (current c.args.self.now.wal was) c.args.first);
   steps = steps_none c.args.self.now (λ (links : List Link). next_of links ≡ c.args.first) (λ (links more : List Link). IsLeft c.args.first c.args.len c.args.len links more) (λ links starts. record { first = starts; count = omega arith });
 }
 
@@ -67,6 +73,19 @@ loop-page-preserved g c =
       within = let within = one.within in omega (arith, within);
       full = λ goes_on. let whole = c.in_ok-link.ensures.full goes_on in omega (arith, so_far, once, whole, taken, low);
       reads = reads_within _ _ (c.args.len - c.loop-page.left) c.args.len (let within = one.within in omega (arith, so_far, within)) (let within = one.within in omega (arith, within, some)) _ once;
+      fewer = (c.in_ok-link.ensures.fewer.0 ∙ one.fewer.0, λ was. links_then (one.fewer.1 was) (c.in_ok-link.ensures.fewer.1 was));
+      read = λ was step.
+          let so_far = one.read was step in
+          let here = c.in_ok-link.ensures.link in
+          let counted = so_far.1 in
+          let long = length-append so_far.0 c.in_ok-link.link.content in
+          let under = here.0 in
+          let pages = one.fewer.0 in (
+            so_far.0 ++ c.in_ok-link.link.content,
+            omega (arith, long, counted, taken, low),
+            read_link (few_pages c.args.self.now.head c.args.self.now.head_range) c.loop-page-test.true so_far.2 (omega (arith, under, pages))
+                (one.fewer.1 was c.loop-page.page c.in_ok-link.link.next c.in_ok-link.link.content (here.1 was (step_kept {r0 = c.args.self.now} {r1 = c.loop-page.self} one.keeps one.still step))),
+          );
       steps = steps_on g.D.Disk c.args.self.now c.loop-page.self c.give_link.new.self c.args.disk.now c.loop-page.disk (λ (links : List Link). next_of links ≡ c.args.first)
           (λ (links more : List Link). IsLeft c.loop-page.page c.loop-page.left c.args.len links more) (λ (links : List Link). next_of links ≡ c.loop-page.page)
           (λ (links more : List Link). (links ≡ link_before c.loop-page.page c.in_ok-link.link.content more) × (next_of more ≡ c.in_ok-link.link.next))
@@ -115,3 +134,13 @@ returns-clause-ok g c =
     let count = comes.count in
     let left = c.if-left-ne0.false in
     (none, omega (arith, empty, count, left)))
+
+pub returns-clause-list : goal.returns-clause-list
+returns-clause-list g c was step =
+    let read = c.loop-page.invariant.read was step in
+    let counted = read.1 in
+    let none = c.if-left-ne0.false in (
+      read.0,
+      omega (arith, counted, none),
+      read_whole (subst (λ (p : ℕ). IsReadTo c.args.self.now.head.pages (current c.args.self.now.wal was) c.args.first read.0 p) c.loop-page-test.false read.2),
+    )

@@ -1,4 +1,4 @@
-use Rattle.std.proofs.Common.{◌≡◌, ◌∙◌, List, ℕ, refl, sym, ap, subst, arith}
+use Rattle.std.proofs.Common.{◌≡◌, ◌∙◌, inl, inr, List, ℕ, refl, sym, ap, subst, arith}
 use Rattle.std.proofs.lemmas.Result.{err_from_is_err_and}
 use Rattle.std.specs.Prelude.{Option}
 use Rattle.nx_host.proofs.DiskLemmas.{settled_still, still_then}
@@ -7,11 +7,14 @@ use Rattle.nx_wal.specs.Wal.{IsInStep, current}
 use Rattle.nx_holdings.specs.Holdings.{HoldsBehind}
 use Rattle.nx_records.specs.declared.records.Records.{Records}
 use Rattle.nx_records.specs.declared.error.StoreError.{StoreError}
-use Rattle.nx_records.specs.Records.{has_ended, KeepsLog}
-use Rattle.nx_records.specs.Pages.{NotPut}
+use Rattle.nx_records.specs.Records.{has_ended, has_free, KeepsLog}
+use Rattle.nx_records.specs.Pages.{SeesSo, NotPut}
 use Rattle.nx_records.proofs.StandLemmas.{keeps_then, keeps_under, range_moved}
 use Rattle.nx_records.proofs.StepLemmas.{new_steps, fresh_room}
 use Rattle.nx_records.proofs.RefusalLemmas.{err_passed, put_fewer, put_memory, take_refused, later_refused}
+use Rattle.nx_records.proofs.RoomLemmas.{taken_memory}
+use Rattle.nx_records.specs.Room.{HasRoomFor}
+use Rattle.nx_records.specs.declared.error.StoreError.TheVariants as error
 use Rattle.nx_records.proofs.records.Records.place.Goals as goal
 
 pub returns-in_err-rid-clause-refused : goal.returns-in_err-rid-clause-refused
@@ -83,3 +86,31 @@ returns-in_err-store-clause-still g c = still_then c.put_in_room.ensures.still c
 
 pub returns-clause-still : goal.returns-clause-still
 returns-clause-still g c = still_then c.put_in_room.ensures.still c.take.ensures.still
+
+pub returns-in-Some-clause-room : goal.returns-in-Some-clause-room
+returns-in-Some-clause-room g c was step fits = rw c.in-Some.is at c.in_ok-rid.ensures.takes
+
+pub returns-in-Some-clause-has_room : goal.returns-in-Some-clause-has_room
+returns-in-Some-clause-has_room g c was step = let fits = rw c.in-Some.is at c.in_ok-rid.ensures.fits in inl (fits was step)
+
+pub returns-clause-room : goal.returns-clause-room
+returns-clause-room g c was step fits = let full = rw c.in_default.is at c.in_ok-rid.ensures.full in absurd (full was step fits)
+
+pub returns-clause-has_room : goal.returns-clause-has_room
+returns-clause-has_room g c was step = let same = rw c.in_default.is at c.in_ok-rid.ensures.none in inr (ap (λ (r : Records). has_free r) (sym same) ∙ c.in_ok-page.ensures.free)
+
+pub returns-in_err-rid-clause-memory : goal.returns-in_err-rid-clause-memory
+returns-in_err-rid-clause-memory g c =
+    err_passed c.from_residual.result (λ (e : StoreError). e ≡ error.Memory → SeesSo g.D.Disk c.args.self.now c.args.disk.now (λ pages. HasRoomFor c.args.self.now pages c.args.bytes.now)) c.in_err-rid.field-0.0
+    (err_from_is_err_and c.from_residual.result c.from_residual.ensures.1) (λ is was step. inl (c.in_err-rid.ensures.memory is was step))
+
+pub returns-in_err-page-clause-memory : goal.returns-in_err-page-clause-memory
+returns-in_err-page-clause-memory g c =
+    err_passed c.from_residual-in_err-page.result (λ (e : StoreError). e ≡ error.Memory → SeesSo g.D.Disk c.args.self.now c.args.disk.now (λ pages. HasRoomFor c.args.self.now pages c.args.bytes.now)) c.in_err-page.field-0.0
+    (err_from_is_err_and c.from_residual-in_err-page.result c.from_residual-in_err-page.ensures.1) (taken_memory g.D.Disk c.args.named c.put_in_room.new.self c.take.new.self c.put_in_room.new.disk c.take.new.disk c.in_err-page.field-0.0 c.in_err-page.ensures.refused)
+
+pub returns-in_err-store-clause-memory : goal.returns-in_err-store-clause-memory
+returns-in_err-store-clause-memory g c =
+    let same = rw c.in_default.is at c.in_ok-rid.ensures.none in
+    err_passed c.from_residual-in_err-store.result (λ (e : StoreError). e ≡ error.Memory → SeesSo g.D.Disk c.args.self.now c.args.disk.now (λ pages. HasRoomFor c.args.self.now pages c.args.bytes.now)) c.in_err-store.field-0.0
+    (err_from_is_err_and c.from_residual-in_err-store.result c.from_residual-in_err-store.ensures.1) (λ is was step. inr (ap (λ (r : Records). has_free r) (sym same) ∙ c.in_ok-page.ensures.free))

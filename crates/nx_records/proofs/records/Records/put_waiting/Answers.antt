@@ -1,6 +1,7 @@
 use Rattle.std.proofs.Common.{refl}
 use Rattle.nx_records.proofs.StandLemmas.{header_beside, same_wal}
 use Rattle.nx_records.proofs.StepLemmas.{room_put}
+use Rattle.nx_records.proofs.RoomLemmas.{waited_fits}
 use Rattle.nx_records.proofs.records.Records.put_waiting.Goals as goal
 
 pub returns-in-Some-clause-put : goal.returns-in-Some-clause-put
@@ -23,3 +24,6 @@ pub invariant_of-self-clause-header_waits : goal.invariant_of-self-clause-header
 invariant_of-self-clause-header_waits g c =
     header_beside _ c.args.self.now.waiting_head c.args.self.now.wal c.put_record.new.self c.args.self.now.head.room c.args.bytes.now c.put_record.result c.requires.there
     c.put_record.ensures.put c.put_record.ensures.none c.args.self.now.header_waits
+
+pub returns-in-Some-clause-fits : goal.returns-in-Some-clause-fits
+returns-in-Some-clause-fits g c was = waited_fits c.args.self.now.wal c.put_record.new.self c.args.self.now.head c.requires.there c.in-Some.ensures.put was

@@ -5,6 +5,7 @@ use Rattle.nx_slots.specs.Slots.{slots_of}
 use Rattle.nx_records.specs.declared.error.StoreError.{StoreError}
 use Rattle.nx_records.specs.Refusals.{NotRead}
 use Rattle.nx_records.proofs.StepLemmas.{page_records}
+use Rattle.nx_records.proofs.LeaveLemmas.{leaves_same, had_ended}
 use Rattle.nx_records.proofs.RefusalLemmas.{err_passed, read_refused, missing_slots, record_damaged, ended_now}
 use Rattle.nx_records.proofs.records.Records.read.Goals as goal
 
@@ -23,7 +24,7 @@ returns-in_default-clause-refused g c =
 pub returns-in-Ok-clause-ok : goal.returns-in-Ok-clause-ok
 returns-in-Ok-clause-ok g c = (
   c.if-self.false,
-  c.in_ok-load_used.ensures.ok.0,
+  leaves_same c.in_ok-load_used.ensures.ok.0,
   λ saved now stands.
       let holds = (stands.holds).behind in
       holds.records c.args.rid.page c.args.rid.slot
@@ -31,3 +32,6 @@ returns-in-Ok-clause-ok g c = (
       (record { bytes = c.load_used.new.into.bytes; there = c.in_ok-load_used.ensures.ok.2 (stands.keeps).image (stands.keeps).step; slotted = c.in-Some.ensures.0; are = refl }) c.args.rid.slot
       ∙ c.in-Some.ensures.1 ∙ ap Some (sym c.in-Ok.ensures),
 )
+
+pub returns-then-self-clause-refused : goal.returns-then-self-clause-refused
+returns-then-self-clause-refused g c = had_ended c.if-self.true

@@ -9,6 +9,7 @@ use Rattle.nx_records.specs.Pages.{HasSlots}
 use Rattle.nx_records.specs.Refusals.{NotChanged}
 use Rattle.nx_records.proofs.StandLemmas.{keeps_then, saved_kept, steps_lead, later_steps, sees_later, on_ok_then, if_err_then}
 use Rattle.nx_records.proofs.RefusalLemmas.{err_passed, change_refused, slot_damaged, ended_now, memory_changed, runs_on}
+use Rattle.nx_records.proofs.LeaveLemmas.{had_ended}
 use Rattle.nx_records.proofs.records.Records.remove.Goals as goal
 
 pub returns-in_err-page-clause-refused : goal.returns-in_err-page-clause-refused
@@ -57,3 +58,6 @@ returns-clause-refused g c =
     if_err_then c.store_header.result c.store_header.ensures.refused (λ e same.
     memory_changed g.D.Disk c.args.self.now c.store_header.new.self c.args.disk.now c.slotted.new.disk c.args.rid.page (λ now. now.records c.args.rid.page c.args.rid.slot ≡ None) e
     same c.if-self.false c.slotted.ensures.still keeps)
+
+pub returns-then-self-clause-refused : goal.returns-then-self-clause-refused
+returns-then-self-clause-refused g c = had_ended c.if-self.true

@@ -14,6 +14,7 @@ use Rattle.nx_records.specs.Records.{KeepsLog}
 use Rattle.nx_records.proofs.StandLemmas.{keeps_then, keeps_under, saved_kept, steps_lead, on_ok_then, if_err_then}
 use Rattle.nx_records.proofs.RefusalLemmas.{err_passed, memory_stored, runs_on}
 use Rattle.nx_records.proofs.WritingLemmas.{led_later, led_stored, catalog_steps}
+use Rattle.nx_records.proofs.LeaveLemmas.{had_ended}
 use Rattle.nx_records.proofs.records.Records.set_catalog.Goals as goal
 
 pub returns-in_err-give_chain-clause-refused : goal.returns-in_err-give_chain-clause-refused
@@ -93,3 +94,6 @@ returns-in_err-first-clause-still g c = still_then c.give_chain.ensures.still c.
 
 pub returns-clause-still : goal.returns-clause-still
 returns-clause-still g c = still_then c.give_chain.ensures.still c.write_chain.ensures.still
+
+pub returns-then-self-clause-refused : goal.returns-then-self-clause-refused
+returns-then-self-clause-refused g c = had_ended c.if-self.true

@@ -3,6 +3,7 @@ use Rattle.std.specs.Prelude.{Some}
 use Rattle.nx_wal.specs.Reading.{page_found}
 use Rattle.nx_holdings.specs.declared.header.Header.{Header}
 use Rattle.nx_records.specs.declared.records.Records.{Records}
+use Rattle.nx_records.proofs.RoomLemmas.{first_is_free}
 use Rattle.nx_records.proofs.records.Records.take.Goals as goal
 
 abbrev with_free : ℕ → Header → Header
@@ -21,3 +22,6 @@ returns-clause-ok g c = λ was step.
       };
       head = ap (λ (r : Records). with_free c.in-Some.next r.head) c.in_ok-load.ensures.ok.0;
     })
+
+pub returns-clause-free : goal.returns-clause-free
+returns-clause-free g c = first_is_free c.args.self.now.head c.if-page-eq0.false

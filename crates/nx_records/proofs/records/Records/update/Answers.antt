@@ -10,6 +10,7 @@ use Rattle.nx_records.specs.Pages.{HasSlots}
 use Rattle.nx_records.specs.Refusals.{NotStored}
 use Rattle.nx_records.proofs.StandLemmas.{keeps_then, saved_kept, steps_lead, later_steps, sees_later}
 use Rattle.nx_records.proofs.RefusalLemmas.{err_passed, store_refused, slot_damaged, ended_now, later_refused, put_stored, memory_stored, runs_on}
+use Rattle.nx_records.proofs.LeaveLemmas.{had_ended}
 use Rattle.nx_records.proofs.records.Records.update.Goals as goal
 
 pub returns-in_err-page-clause-refused : goal.returns-in_err-page-clause-refused
@@ -75,3 +76,6 @@ returns-in_err-store_header-clause-still g c = still_then c.slotted.ensures.stil
 
 pub returns-clause-still : goal.returns-clause-still
 returns-clause-still g c = still_then c.slotted.ensures.still c.replace.ensures.still
+
+pub returns-then-self-clause-refused : goal.returns-then-self-clause-refused
+returns-then-self-clause-refused g c = had_ended c.if-self.true

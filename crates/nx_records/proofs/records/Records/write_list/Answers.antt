@@ -1,4 +1,4 @@
-use Rattle.std.proofs.Common.{◌≡◌, ◌<◌, List, [], length, refl}
+use Rattle.std.proofs.Common.{◌≡◌, ◌<◌, List, [], length, refl, true}
 use Rattle.std.proofs.lemmas.Result.{err_from_is_err_and}
 use Rattle.nx_holdings.specs.Holdings.{Link, chain_count}
 use Rattle.nx_links.specs.Beside.{HeldBeside}
@@ -9,6 +9,9 @@ use Rattle.nx_records.specs.Refusals.{NotStored}
 use Rattle.nx_records.proofs.StandLemmas.{keeps_then, saved_kept, steps_lead}
 use Rattle.nx_records.proofs.RefusalLemmas.{err_passed, memory_stored, runs_on}
 use Rattle.nx_records.proofs.WritingLemmas.{led_stored, written_steps}
+use Rattle.nx_records.proofs.LeaveLemmas.{had_ended}
+use Rattle.nx_records.specs.Records.{has_free}
+use Rattle.nx_records.specs.declared.error.StoreError.TheVariants as error
 use Rattle.nx_records.proofs.records.Records.write_list.Goals as goal
 
 pub returns-in_err-first-clause-refused : goal.returns-in_err-first-clause-refused
@@ -37,3 +40,16 @@ pub returns-clause-keeps : goal.returns-clause-keeps
 returns-clause-keeps g c =
     let keeps = keeps_then {r0 = c.args.self.now} {r1 = c.write_chain.new.self} {r2 = c.store_header.new.self} c.in_ok-first.ensures.keeps c.store_header.ensures.keeps in
     (runs_on c.if-self.false keeps, saved_kept keeps c.write_chain.ensures.still, c.in_ok-store_header.ensures.ok.1)
+
+pub returns-then-self-clause-refused : goal.returns-then-self-clause-refused
+returns-then-self-clause-refused g c = had_ended c.if-self.true
+
+pub returns-in_err-first-clause-memory : goal.returns-in_err-first-clause-memory
+returns-in_err-first-clause-memory g c =
+    err_passed c.from_residual.result (λ (e : StoreError). e ≡ error.Memory → has_free c.args.self.now ≡ true) c.in_err-first.field-0.0 (err_from_is_err_and c.from_residual.result c.from_residual.ensures.1)
+    c.in_err-first.ensures.memory
+
+pub returns-in_err-store_header-clause-memory : goal.returns-in_err-store_header-clause-memory
+returns-in_err-store_header-clause-memory g c =
+    err_passed c.from_residual-in_err-store_header.result (λ (e : StoreError). e ≡ error.Memory → has_free c.args.self.now ≡ true) c.in_err-store_header.field-0.0
+    (err_from_is_err_and c.from_residual-in_err-store_header.result c.from_residual-in_err-store_header.ensures.1) (λ is. c.in_ok-first.ensures.free c.requires)

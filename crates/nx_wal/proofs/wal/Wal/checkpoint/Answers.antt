@@ -15,7 +15,7 @@ pub returns-clause-ok : goal.returns-clause-ok
 returns-clause-ok g c was now step told =
     let some : 0 < c.args.self.now.end = omega (arith, c.if-self-eq0.false) in
     let done = c.in-Ok.ensures.ok was now (led g.D.Disk c.args.self.now c.args.disk.now was step) (some_group g.D.Disk c.args.self.now c.args.disk.now was step some) told in (
-      record { settled = done.0; follows = follows_none _ now.log c.clear.ensures.empty refl done.2 },
+      record { settled = done.0; follows = follows_none _ now.log c.clear.ensures.empty c.clear-2.ensures.items refl done.2 },
       done.1,
       ended_none _ (sym (done.2).here),
     )

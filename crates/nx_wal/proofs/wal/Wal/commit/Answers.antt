@@ -1,8 +1,10 @@
-use Rattle.std.proofs.Common.{◌≡◌, ℕ, ◌+◌, ◌*◌, arith, subst, length}
+use Rattle.std.proofs.Common.{◌≡◌, ℕ, ◌+◌, ◌*◌, arith, subst, length, ap, sym, ◌∙◌, List, [], ◌∷◌, ◌++◌}
 use Rattle.std.proofs.lemmas.List.{length-map}
 use Rattle.std.specs.Prelude.{true}
-use Rattle.nx_replay.specs.Log.{size_of, IsAtEnd}
+use Rattle.nx_replay.specs.Log.{Group, groups, end_of, size_of, IsAtEnd}
+use Rattle.nx_wal.specs.Places.{starts_from}
 use Rattle.nx_wal.specs.Writing.{entries_of}
+use Rattle.nx_wal.proofs.ReadingLemmas.{starts_more}
 use Rattle.nx_wal.specs.Wal.{next_group}
 use Rattle.nx_wal.proofs.WaitingLemmas.{entries_stand}
 use Rattle.nx_wal.proofs.WalLemmas.{few_wait, next_body, opened_step, commit_goes, leads_more}
@@ -53,6 +55,9 @@ returns-clause-ok g c was now step told =
         follows = record {
           at = subst (λ (e : ℕ). IsAtEnd e true now.log) ends (done.1).at;
           leads = leads_more c.args.number c.set_places.new.places step.follows done.0 behind.prefix (c.set_places.ensures.notes now.log stand.0 stand.1);
+          starts = c.in-Ok-push.ensures.items ∙ ap (λ (ns : List ℕ). ns ++ wal.end ∷ []) (step.follows).starts
+              ∙ ap (λ (n : ℕ). starts_from 0 (groups was.log) ++ n ∷ []) (let here = ((step.follows).at).here in let e : wal.end ≡ 0 + end_of (groups was.log) = omega (arith, here) in e)
+              ∙ sym (starts_more 0 (groups was.log) group) ∙ ap (λ (gs : List Group). starts_from 0 gs) (sym (done.0).log);
           within = c.set_places.ensures.within (wal.end + (13 + 8196 * c.len-count.result)) (omega (arith, count)) (λ p at is. let low = (step.follows).within p at is in omega (arith, low));
         };
       },
