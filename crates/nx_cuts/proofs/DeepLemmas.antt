@@ -5,7 +5,7 @@ use Rattle.std.proofs.lemmas.Bool.Decides.{nat_tests}
 use Rattle.std.proofs.lemmas.List.Sorted.{IsPermutation-append_left}
 use Rattle.nx_parts.specs.declared.interval.Interval.TheVariants.{Run}
 use Rattle.nx_cuts.specs.Cut.{CutForest, Bare, Grown, Kept, CutTree, width, intervals}
-use Rattle.nx_cuts.proofs.CutEdit.{changed_row}
+use Rattle.nx_cuts.specs.Rows.{changed_row}
 use Rattle.nx_cuts.proofs.Draw.{drawn, AtRow, IsFreeAt}
 use Rattle.nx_cuts.proofs.DrawLemmas.{wrapped_row, moved}
 

@@ -3,7 +3,7 @@ use Rattle.std.specs.Prelude.{ℕ, zero, suc, ◌-◌, ◌≤◌, nat_lt, List, 
 use Rattle.std.specs.Bool.{MatchBool}
 use Rattle.nx_cuts.specs.Cut.{CutForest, Bare, Grown, Kept, CutTree, width}
 use Rattle.std.specs.Bool.{MatchBool}
-use Rattle.nx_cuts.proofs.CutEdit.{first, behind, changed_row}
+use Rattle.nx_cuts.specs.Rows.{first, behind, changed_row}
 
 -- so many trees from a position on become the members of an interval
 abbrev pub wrapped : ℕ → ℕ → CutForest → CutForest

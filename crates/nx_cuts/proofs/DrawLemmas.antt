@@ -5,7 +5,7 @@ use Rattle.nx_tree.specs.Forest.{Plant}
 use Rattle.nx_parts.specs.declared.interval.Interval.{Interval}
 use Rattle.nx_parts.specs.declared.interval.Interval.TheVariants.{Run}
 use Rattle.nx_cuts.specs.Cut.{CutForest, Bare, Grown, Kept, joined, forest, width, intervals}
-use Rattle.nx_cuts.proofs.CutEdit.{first, behind}
+use Rattle.nx_cuts.specs.Rows.{first, behind}
 use Rattle.nx_cuts.proofs.Draw.{wrapped, BeginsFree, IsFreeRun}
 
 pub width-first : (n : ℕ) (c : CutForest) → BeginsFree n c → width (first n c) ≡ n

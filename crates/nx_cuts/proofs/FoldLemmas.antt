@@ -12,7 +12,7 @@ use Rattle.nx_parts.specs.declared.interval.Interval.{Interval}
 use Rattle.nx_parts.specs.declared.interval.Interval.TheVariants.{Root, Run}
 use Rattle.nx_parts.specs.Partitioning.{ShareMember, is_in_tree}
 use Rattle.nx_cuts.specs.Cut.{CutForest, Bare, Grown, Kept, CutTree, joined, forest, width, intervals, part_weight, AreFree, AreParts, tree_of}
-use Rattle.nx_cuts.proofs.CutEdit.{first, behind, changed_row}
+use Rattle.nx_cuts.specs.Rows.{first, behind, changed_row}
 use Rattle.nx_cuts.proofs.Draw.{wrapped, drawn, AtRow, IsFreeAt, IsFreeRun, BeginsFree}
 use Rattle.nx_cuts.proofs.FeasibleLemmas.{trees}
 use Rattle.nx_cuts.proofs.DrawLemmas.{forest-wrapped, width-first}

@@ -1,4 +1,4 @@
-pub mod CutEdit
+pub mod RowLemmas
 pub mod Draw
 pub mod PairLemmas
 pub mod FeasibleLemmas

@@ -13,6 +13,7 @@ use Rattle.nx_parts.specs.declared.interval.Interval.{Interval}
 use Rattle.nx_parts.specs.declared.interval.Interval.TheVariants.{Root, Run}
 use Rattle.nx_parts.specs.Partitioning.{has_member, ShareMember, is_in_tree, IsFeasible}
 use Rattle.nx_cuts.specs.Cut.{CutForest, Bare, Grown, Kept, CutTree, joined, forest, width, intervals, part_weight, AreParts, tree_of, parts_of}
+use Rattle.nx_cuts.proofs.RowLemmas.{joined_assoc, joined_nothing}
 use Rattle.nx_cuts.proofs.PairLemmas.{PairsBy, all_pairs, both, weaker, pairs-append}
 use Rattle.nx_cuts.proofs.FeasibleLemmas.{Members, Reaches, members_reach, free_deeper, child_reaches, drawn_light, deeper, same_step, further, trees, trees-joined, trees-forest, no_truth}
 
@@ -46,14 +47,6 @@ drawn_pairs k path position (Kept u m s) h =
     )
 
 -- the intervals lie in the tree
-joined_assoc : (a b c : Forest) → joined (joined a b) c ≡ joined a (joined b c)
-joined_assoc Empty b c = refl
-joined_assoc (Plant n d s) b c = ap (Plant n d) (joined_assoc s b c)
-
-joined_nothing : (a : Forest) → joined a Empty ≡ a
-joined_nothing Empty = refl
-joined_nothing (Plant n d s) = ap (Plant n d) (joined_nothing s)
-
 child-joined : (prefix : Forest) (n : Node) (b s : Forest) (p : ℕ) → p ≡ trees prefix → child (joined prefix (Plant n b s)) p ≡ Some (record { node = n; below = b })
 child-joined Empty n b s p e = ap (child (Plant n b s)) e
 child-joined (Plant m d t) n b s zero e = absurd (omega arith)

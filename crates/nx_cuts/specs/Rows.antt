@@ -1,6 +1,12 @@
--- The first trees of a row, those behind them, and a row with one tree changed.
+-- Rows of trees with intervals drawn in: behind each other, their first trees and the others, and one tree changed.
 use Rattle.std.specs.Prelude.{ℕ, zero, suc, ◌-◌, nat_lt, if◌then◌else◌}
 use Rattle.nx_cuts.specs.Cut.{Cut, CutForest, Bare, Grown, Kept, CutTree, width}
+
+-- trees with others beside them
+abbrev pub joined_row : {N P : Type 0} → Cut N P → Cut N P → Cut N P
+joined_row Bare last = last
+joined_row (Grown node below beside) last = Grown node below (joined_row beside last)
+joined_row (Kept mark members beside) last = Kept mark members (joined_row beside last)
 
 -- the first trees of a row of free ones, and those behind them
 abbrev pub first : {N P : Type 0} → ℕ → Cut N P → Cut N P

@@ -1,0 +1,11 @@
+pub mod EditLemmas
+pub mod SplitLemmas
+pub mod DeleteLemmas
+pub mod OwnLemmas
+pub mod DividedLemmas
+pub mod FormedLemmas
+pub mod BareLemmas
+pub mod PieceLemmas
+pub mod PlacementLemmas
+pub mod MarkLemmas
+pub mod EditLaws

@@ -1,0 +1,52 @@
+-- The laws of edits and splits.
+use Rattle.std.specs.Prelude.{◌≡◌, ◌↔◌, ℕ, List, Option}
+use Rattle.nx_tree.specs.declared.node.Node.{Node}
+use Rattle.nx_tree.specs.Edit.{put, cut_at, retext}
+use Rattle.nx_cuts.specs.Cut.{CutTree, AreParts, tree_of}
+use Rattle.nx_cuts.specs.Rows.{joined_row}
+use Rattle.nx_matrix.specs.declared.rule.Entry.{Entry}
+use Rattle.nx_matrix.specs.declared.rule.Rule.{Rule}
+use Rattle.nx_holdings.specs.declared.header.Settings.{Settings}
+use Rattle.nx_layouts.specs.Layout.{RecordPlace, Layout, piece_of, without_places}
+use Rattle.nx_split.specs.Piece.{placed_of}
+use Rattle.nx_drawn.specs.Edits.{planted_row, removed_row, inserted, deleted, retexted}
+use Rattle.nx_drawn.specs.Splits.{part_nodes, whole, Splits}
+
+-- An edit of what is drawn is the edit of the tree.
+pub record EditsAreOfTrees (k : ℕ) (document : CutTree) : Type 0 where
+  pub insert : (rules : List Rule) (node : Node) (path : List ℕ) → tree_of (inserted rules node path document) ≡ put node path (tree_of document)
+  pub delete : (path : List ℕ) → tree_of (deleted path document) ≡ cut_at path (tree_of document)
+  pub retext : (content path : List ℕ) → tree_of (retexted content path document) ≡ retext content path (tree_of document)
+
+abbrev pub DrawnEditsAreEdits : Type 0
+DrawnEditsAreEdits = (k : ℕ) (document : CutTree) → AreParts k (whole document) → EditsAreOfTrees k document
+
+-- Behind an edit with its splits each interval has members of its own, and no part is too heavy.
+pub record EditsStayLight (settings : Settings) (document : CutTree) : Type 0 where
+  pub insert : (rules : List Rule) (node : Node) (path : List ℕ) (new : CutTree) → Splits settings rules (inserted rules node path document) new → AreParts settings.k (whole new)
+  pub delete : (path : List ℕ) → AreParts settings.k (whole (deleted path document))
+  pub retext : (rules : List Rule) (content path : List ℕ) (new : CutTree) → Splits settings rules (retexted content path document) new → AreParts settings.k (whole new)
+
+abbrev pub DrawnEditsStayLight : Type 0
+DrawnEditsStayLight = (settings : Settings) (document : CutTree) → AreParts settings.k (whole document) → EditsStayLight settings document
+
+-- A split leaves the tree as it is.
+abbrev pub SplitsLeaveTrees : Type 0
+SplitsLeaveTrees = (settings : Settings) (rules : List Rule) (old new : CutTree) → Splits settings rules old new → tree_of new ≡ tree_of old
+
+-- A document none of whose parts weighs more than k is split nowhere.
+abbrev pub LightStays : Type 0
+LightStays = (settings : Settings) (rules : List Rule) (old new : CutTree) → AreParts settings.k (whole old) → Splits settings rules old new ↔ (new ≡ old)
+
+-- A split sees of the piece of an interval what it sees of the interval's part.
+abbrev pub PieceIsPart : Type 0
+PieceIsPart = (rules : List Rule) (above : Option Node) (members : Layout) → placed_of rules above (piece_of members) ≡ part_nodes rules above (without_places members)
+
+-- A row changes whatever its intervals are marked with: a layout's as what is drawn.
+pub record RowsChangeAlike (row : Layout) : Type 0 where
+  pub joined : (last : Layout) → without_places (joined_row row last) ≡ joined_row (without_places row) (without_places last)
+  pub planted : (alone second : RecordPlace) (entry : Entry) (node : Node) (position : ℕ) → without_places (planted_row alone second entry node position row) ≡ planted_row tt tt entry node position (without_places row)
+  pub removed : (position : ℕ) → without_places (removed_row position row) ≡ removed_row position (without_places row)
+
+abbrev pub MarksAreLeft : Type 0
+MarksAreLeft = (row : Layout) → RowsChangeAlike row

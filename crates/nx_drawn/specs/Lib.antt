@@ -1,0 +1,4 @@
+pub mod Edits
+pub mod Placement
+pub mod Splits
+pub mod Laws
