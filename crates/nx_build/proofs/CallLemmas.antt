@@ -13,7 +13,8 @@ use Rattle.nx_cuts.specs.Cut.{Bare, Grown, Kept}
 use Rattle.nx_layouts.specs.Layout.{RecordPlace, Layout, piece_of}
 use Rattle.nx_layouts.specs.Replace.{joined_layout}
 use Rattle.nx_hold.specs.Changes.{piece_needs, AddsPiece, ComesTidy}
-use Rattle.nx_hold.proofs.RefusalLemmas.{GoesOn, runs_self, saved_self, runs_then, saved_then, comes_then, later_stored}
+use Rattle.nx_records.proofs.LeaveLemmas.{leaves_same, leaves_runs, leaves_saved}
+use Rattle.nx_hold.proofs.RefusalLemmas.{GoesOn, runs_then, saved_then, comes_then, later_stored}
 use Rattle.nx_build.specs.Laying.{page_needs, IsLaid}
 use Rattle.nx_build.proofs.RowLemmas.{needs-joined, length-proxies, piece_few}
 use Rattle.nx_build.proofs.LayingLemmas.{puts_none, puts_both, puts_grown, puts_kept}
@@ -31,8 +32,8 @@ needs_kept place members = omega (arith, piece_few (piece_of members), length-pr
 module _ {D : Type 0} {d : Ghosts D} where
   pub laid_none : (r : Records) (x : D) → has_ended r ≡ false → IsLaid d r r x x Bare
   laid_none r x runs = record {
-    runs = runs_self {r0 = r} {r1 = r} runs refl;
-    keeps = saved_self {d = d} {r0 = r} {r1 = r} runs refl none_still;
+    runs = leaves_runs runs (leaves_same {r0 = r} {r1 = r} refl);
+    keeps = leaves_saved {d = d} (leaves_same {r0 = r} {r1 = r} refl) none_still;
     still = none_still;
     takes = λ saved now stands. (now, stands, omega arith);
     puts = λ saved now stands tidy. (now, stands, tidy, puts_none now);

@@ -6,11 +6,10 @@ use Rattle.nx_host.specs.Still.{IsStill}
 use Rattle.nx_tree.specs.Forest.{OrderedTree, Forest, forest_of, nodes}
 use Rattle.nx_parts.specs.declared.marks.Mark.{Mark}
 use Rattle.nx_parts.specs.Marks.{marked_in, holder_by_marks}
-use Rattle.nx_wal.specs.Wal.{pending}
 use Rattle.nx_records.specs.declared.records.Records.{Records}
 use Rattle.nx_records.specs.declared.error.StoreError.{StoreError}
 use Rattle.nx_records.specs.declared.error.StoreError.TheVariants as error
-use Rattle.nx_records.specs.Records.{KeepsSaved, ComesTo}
+use Rattle.nx_records.specs.Records.{HasChanges, KeepsSaved, ComesTo}
 use Rattle.nx_records.specs.Refusals.{RunsOn, NotStored}
 use Rattle.nx_piece.specs.declared.piece.Item.{Item}
 use Rattle.nx_piece.specs.declared.piece.Item.TheVariants.{Tree}
@@ -202,7 +201,7 @@ module _ {D : Type 0} {d : Ghosts D} (marks : List Mark) {index position : ℕ} 
 module _ {D : Type 0} (d : Ghosts D) (marks : List Mark) (all left : List OrderedTree) (first position : ℕ) (roots : Gapped) (has : List Proxy) (r0 r1 r2 : Records) (x0 x1 x2 : D)
     (walks : (members : CutForest) (m : AreMembers (holder_by_marks marks) first (forest_of all) members) → WalksOn d (Some m.index) (holder_by_marks marks) position left members r0 r1 x0 x1 roots [] has) (none : left ≡ []) where
   pub put_laid : (r : Result Proxy StoreError) → IfOk r (λ proxy. proxy.roots ≡ gapped.width roots) → IfOk r (λ proxy. ComesTidy d r1 r2 x1 x2 (λ was now. AddsPiece (place_named proxy) (gathered roots has) was now))
-      → IfOk r (λ proxy. ComesTo d r1 r2 x1 x2 (λ was now. was.free ≤ now.free + piece_needs (gathered roots has))) → IfOk r (λ proxy. RunsOn r1 r2 × KeepsSaved d r1 r2 x1 x2 × (pending r2.wal ≢ [])) → IsStill d x1 x2
+      → IfOk r (λ proxy. ComesTo d r1 r2 x1 x2 (λ was now. was.free ≤ now.free + piece_needs (gathered roots has))) → IfOk r (λ proxy. RunsOn r1 r2 × KeepsSaved d r1 r2 x1 x2 × HasChanges r2) → IsStill d x1 x2
       → IfOk r (λ proxy. (members : CutForest) → AreMembers (holder_by_marks marks) first (forest_of all) members → LaysMembers d r0 r2 x0 x2 members proxy)
   put_laid (Ok proxy) width adds takes keeps still = λ members m. piece_laid {d = d} marks (walks members m) none proxy r2 x2 m.free width keeps.0 keeps.1 still takes adds
   put_laid (Err e) width adds takes keeps still = tt

@@ -11,11 +11,10 @@ use Rattle.nx_parts.specs.declared.interval.Interval.{Interval}
 use Rattle.nx_parts.specs.declared.marks.Mark.{Mark}
 use Rattle.nx_parts.specs.Marks.{marked, holder_by_marks}
 use Rattle.nx_parts.specs.Partitioning.{holder, IsFeasible}
-use Rattle.nx_wal.specs.Wal.{pending}
 use Rattle.nx_holdings.specs.Holdings.{Held}
 use Rattle.nx_records.specs.declared.records.Records.{Records}
 use Rattle.nx_records.specs.declared.error.StoreError.{StoreError}
-use Rattle.nx_records.specs.Records.{KeepsSaved}
+use Rattle.nx_records.specs.Records.{HasChanges, KeepsSaved}
 use Rattle.nx_records.specs.Refusals.{RunsOn, NotStored}
 use Rattle.nx_piece.specs.declared.piece.Proxy.{Proxy}
 use Rattle.nx_cuts.specs.Cut.{CutForest, Bare, Grown, Kept, forest, part_weight, AreParts, parts_of}
@@ -24,7 +23,7 @@ use Rattle.nx_cuts.proofs.DrawnLaw.{feasible_drawn}
 use Rattle.nx_cuts.proofs.NumberLemmas.{length-parts}
 use Rattle.nx_layouts.specs.Layout.{RecordPlace, Layout, without_places, places_of, whole}
 use Rattle.nx_hold.specs.Changes.{place_named, ComesTidy}
-use Rattle.nx_hold.specs.Documents.{AddsRecords}
+use Rattle.nx_hold.proofs.MoveLemmas.{moves_more}
 use Rattle.nx_build.specs.Marked.{AreMembers}
 use Rattle.nx_build.specs.Laying.{proxy_count, page_needs, PutsLayout, LaysMembers}
 use Rattle.nx_build.specs.Storing.{StoresDocument}
@@ -66,18 +65,6 @@ tree_laid node below (Grown own inside beside) e =
       same = cc;
     }
 tree_laid node below (Kept place members beside) e = absurd (no_kept (without_places members) (without_places beside) node below Bare e)
-
--- with more pages
-adds_more : (places : List RecordPlace) (needs more : ℕ) (was now : Held) → needs ≤ more → AddsRecords places needs was now → AddsRecords places more was now
-adds_more places needs more was now most adds = record {
-  fresh = adds.fresh;
-  kept = adds.kept;
-  lists_stay = adds.lists_stay;
-  lists_come = adds.lists_come;
-  settings = adds.settings;
-  catalog = adds.catalog;
-  free = let free : was.free ≤ now.free + needs = adds.free in omega (arith, free, most);
-}
 
 -- a document alone has few nodes
 pub one_few : (tree : OrderedTree) (trees : List OrderedTree) → trees ≡ tree ∷ [] → IsDocument tree → nodes (forest_of trees) ≤ 524288
@@ -125,7 +112,7 @@ module _ (k : ℕ) (tree : OrderedTree) (parts : List Interval) (most : k ≤ 25
       light = (omega arith, tt, root_light, (parts_with k laid.inside (subst (AreParts k) (sym laid.same) cut.light), tt), tt);
       is_document = subst IsDocument (sym cut.tree_is) document;
     };
-    adds = adds_more (places_of (whole place (cut.document).node laid.inside)) (page_needs (whole place (cut.document).node laid.inside)) (2 * (1 + nodes tree.below)) was now few here.adds;
+    adds = moves_more [] (places_of (whole place (cut.document).node laid.inside)) (page_needs (whole place (cut.document).node laid.inside)) (2 * (1 + nodes tree.below)) was now few here.adds;
   }
     where
       laid : IsTreeLaid (cut.document).node (cut.document).below layout
@@ -165,8 +152,8 @@ module _ (k : ℕ) (tree : OrderedTree) (parts : List Interval) (most : k ≤ 25
         (now.0, now.1, now.2, stored (place_named proxy) all.layout was now.0 document all.same now.3)
     root_stored document (Err e) lays = tt
 
-    pub root_keeps : (r : Result Proxy StoreError) → IfOk r (λ proxy. (c : CutForest) → AreMembers (holder_by_marks marks) 0 (forest_of (take 1 trees)) c → LaysMembers d r0 r1 x0 x1 c proxy) → IfOk r (λ proxy. pending r1.wal ≢ [])
-        → IfOk r (λ proxy. RunsOn r0 r1 × KeepsSaved d r0 r1 x0 x1 × (pending r1.wal ≢ []))
+    pub root_keeps : (r : Result Proxy StoreError) → IfOk r (λ proxy. (c : CutForest) → AreMembers (holder_by_marks marks) 0 (forest_of (take 1 trees)) c → LaysMembers d r0 r1 x0 x1 c proxy) → IfOk r (λ proxy. HasChanges r1)
+        → IfOk r (λ proxy. RunsOn r0 r1 × KeepsSaved d r0 r1 x0 x1 × HasChanges r1)
     root_keeps (Ok proxy) lays changes = (((lays root members).laid).runs, ((lays root members).laid).keeps, changes)
     root_keeps (Err e) lays changes = tt
 

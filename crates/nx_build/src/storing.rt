@@ -1,11 +1,10 @@
 // A document stored.
-ghost use Rattle.std.specs.Prelude.{◌≡◌, ◌≢◌, ◌+◌, ◌*◌, [], IfOk, IfErr};
+ghost use Rattle.std.specs.Prelude.{◌≡◌, ◌+◌, ◌*◌, IfOk, IfErr};
 ghost use Rattle.nx_host.specs.Still.{IsStill};
 ghost use Rattle.nx_tree.specs.Document.{IsDocument};
 ghost use Rattle.nx_tree.specs.Forest.{nodes};
-ghost use Rattle.nx_wal.specs.Wal.{pending};
 ghost use Rattle.nx_parts.specs.Partitioning.{IsFeasible};
-ghost use Rattle.nx_records.specs.Records.{KeepsSaved, settings_of};
+ghost use Rattle.nx_records.specs.Records.{KeepsSaved, HasChanges, settings_of};
 ghost use Rattle.nx_records.specs.Refusals.{NotStored, RunsOn};
 ghost use Rattle.nx_hold.specs.Changes.{place_named, ComesTidy};
 ghost use Rattle.nx_build.specs.Storing.{StoresDocument};
@@ -39,7 +38,7 @@ pub fn store<D: Disk>(
     ensures still { IsStill D.Disk disk.old disk.new }
     ensures roots { IfOk result (λ proxy. proxy.roots ≡ 1) }
     ensures ok { IfOk result (λ proxy. ComesTidy D.Disk records.old records.new disk.old disk.new (λ was now. StoresDocument (settings_of records.old).k tree parts.now (place_named proxy) was now)) }
-    ensures keeps { IfOk result (λ proxy. RunsOn records.old records.new × KeepsSaved D.Disk records.old records.new disk.old disk.new × (pending records.new.wal ≢ [])) }
+    ensures keeps { IfOk result (λ proxy. RunsOn records.old records.new × KeepsSaved D.Disk records.old records.new disk.old disk.new × HasChanges records.new) }
     ensures refused { IfErr result (λ e. NotStored D.Disk (λ was. 2 * (1 + nodes tree.below)) (λ was. ⊥) 0 e records.old records.new disk.old disk.new) }
 {
     if records.is_ended() {

@@ -1,11 +1,10 @@
 // The walk over a tree and its marks, which puts a record for each interval below it.
-ghost use Rattle.std.specs.Prelude.{◌≡◌, ◌≢◌, ◌+◌, ◌-◌, ◌≤◌, [], ℕ, false, length, take, drop, IfOk, IfErr, OnOk};
+ghost use Rattle.std.specs.Prelude.{◌≡◌, ◌+◌, ◌-◌, ◌≤◌, [], ℕ, false, length, take, drop, IfOk, IfErr, OnOk};
 ghost use Rattle.std.specs.Vec.Iter.{into_iter_items};
 ghost use Rattle.nx_host.specs.Still.{IsStill};
 ghost use Rattle.nx_tree.specs.Forest.{forest_of, nodes};
-ghost use Rattle.nx_wal.specs.Wal.{pending};
 ghost use Rattle.nx_parts.specs.Marks.{marked_in, holder_by_marks};
-ghost use Rattle.nx_records.specs.Records.{has_ended};
+ghost use Rattle.nx_records.specs.Records.{HasChanges, has_ended};
 ghost use Rattle.nx_records.specs.Refusals.{NotStored};
 ghost use Rattle.nx_cuts.specs.Cut.{CutForest};
 ghost use Rattle.nx_build.specs.Marked.{IsMarked, AreMembers, CanMark, CanHold};
@@ -117,7 +116,7 @@ pub(crate) fn put_members<D: Disk>(
     ensures ok { IfOk result (λ proxy. (members : CutForest) → AreMembers (holder_by_marks marks.now) first (forest_of (take (end - first) (into_iter_items trees.old))) members →
         LaysMembers D.Disk records.old records.new disk.old disk.new members proxy) }
     ensures rest { OnOk result (into_iter_items trees.new ≡ drop (end - first) (into_iter_items trees.old)) }
-    ensures changes { IfOk result (λ proxy. pending records.new.wal ≢ []) }
+    ensures changes { IfOk result (λ proxy. HasChanges records.new) }
     ensures refused { IfErr result (λ e. (members : CutForest) → AreMembers (holder_by_marks marks.now) first (forest_of (take (end - first) (into_iter_items trees.old))) members →
         NotStored D.Disk (λ was. 1 + proxy_count members + page_needs members) (λ was. ⊥) 0 e records.old records.new disk.old disk.new) }
 {

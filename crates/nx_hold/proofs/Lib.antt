@@ -5,3 +5,4 @@ pub mod PutLemmas
 pub mod RefusalLemmas
 pub mod CallLemmas
 pub mod RecordsLemmas
+pub mod MoveLemmas

@@ -1,13 +1,14 @@
 -- What putting and taking away records and lists makes of pieces.
 use Rattle.std.proofs.Common.{◌≡◌, ℕ, ◌+◌, ◌*◌, ◌≤◌, ◌<◌, Bool, true, false, List, [], length, Option, None, Some, inl, inr, refl, sym, ap, ◌∙◌, subst, arith}
-use Rattle.std.specs.Prelude.{◌⊎◌, if◌then◌else◌, nat_lt}
+use Rattle.std.specs.Prelude.{◌⊎◌, if◌then◌else◌, nat_lt, IsSome}
 use Rattle.std.proofs.lemmas.Bool.{false≢true}
-use Rattle.std.proofs.lemmas.Bool.Decides.{eqb_tells, leb_tells}
+use Rattle.std.proofs.lemmas.Bool.Decides.{eqb_tells, leb_tells, nat_tests}
 use Rattle.nx_holdings.specs.Holdings.{Held, chain_count}
 use Rattle.nx_holdings.specs.Laws.{pages_of_list}
 use Rattle.nx_records.specs.Changes.{records_with, lists_with, AddsRecord, UpdatesRecord, RemovesRecord, WritesList, FreesList, update_needs, needs_than}
 use Rattle.nx_piece.specs.declared.piece.Body.{Body}
 use Rattle.nx_piece.specs.declared.piece.Piece.{Piece}
+use Rattle.nx_piece.specs.declared.piece.Proxy.{Proxy}
 use Rattle.nx_piece.specs.declared.piece.Stored.{Stored}
 use Rattle.nx_piece.specs.declared.piece.Stored.TheVariants.{Inline, Chained}
 use Rattle.nx_piece.specs.Encoding.{encoding, proxies_bytes}
@@ -16,11 +17,12 @@ use Rattle.nx_piece.specs.Valid.{IsValid, IsValidBody, IsValidPiece, is_inline, 
 use Rattle.nx_piece.proofs.BodyLemmas.{proxies_length}
 use Rattle.nx_piece.proofs.Laws.{inline_bytes, chained_bytes, body_fits}
 use Rattle.nx_layouts.specs.Layout.{RecordPlace}
-use Rattle.nx_hold.specs.Pieces.{record_at, IsStored, HoldsPiece, HoldsNone, NamesList, NamesNot, IsTidy, SameBeside, ChangesOne}
+use Rattle.nx_layouts.proofs.PlaceLemmas.{place_is}
+use Rattle.nx_hold.specs.Pieces.{record_at, IsStored, HoldsPiece, HoldsNone, NamesList, NamesNot, HasNamedList, IsTidy, SameBeside, ChangesOne}
 use Rattle.nx_hold.specs.Changes.{piece_needs, chain_pages, AddsPiece, UpdatesPiece, RemovesPiece}
 use Rattle.nx_hold.specs.Putting.{LacksProxies, chain_of, HasList, without_list, with_list, FreesChain, IsFormOf, PutsProxies}
 use Rattle.nx_hold.proofs.PieceLemmas.{some_same, no_value, one_at, no_both, chain_same, count_same}
-use Rattle.nx_hold.proofs.TidyLemmas.{place_is, listed}
+use Rattle.nx_hold.proofs.TidyLemmas.{listed}
 
 -- what a map has at a place that was changed, and at others
 
@@ -196,6 +198,13 @@ few_needs (Some old) bytes = by_cases (nat_lt (length old) (length bytes))
     by_cases true = omega arith
     by_cases false = omega arith
 
+no_more : (a b : ℕ) → b ≤ a → ◌≡◌ {A = ℕ} (if nat_lt a b then 1 else 0) 0
+no_more a b most = grind (arith, nat_tests)
+
+-- bytes that are no longer need no page
+none_needed : (o : Option (List ℕ)) (bytes before : List ℕ) → o ≡ Some before → length bytes ≤ length before → needs_than o bytes ≡ 0
+none_needed o bytes before e most = ap (λ (x : Option (List ℕ)). needs_than x bytes) e ∙ no_more (length before) (length bytes) most
+
 module _ (old new : RecordPlace) (piece : Piece) (bytes : List ℕ) (stored : Stored) (was mid next now : Held) where
   pub updates_piece : IsValidPiece piece → IsStored was old stored → HasList was stored → PutsProxies piece bytes was mid → UpdatesRecord old.page old.slot bytes new.page new.slot mid next → FreesChain stored next now
       → UpdatesPiece old new piece was now
@@ -208,6 +217,11 @@ module _ (old new : RecordPlace) (piece : Piece) (bytes : List ℕ) (stored : St
         ∙ without_other (with_list was.lists (chain_of puts.stored) (proxies_bytes piece.proxies)) (chain_of stored) chain
         (λ gone. not_come was stored (chain_of puts.stored) has puts.was_none chain gone e)
         ∙ with_here was.lists (chain_of puts.stored) (proxies_bytes piece.proxies) chain e);
+    stays = λ before after was_bytes now_bytes fewer.
+        let same : after ≡ bytes = some_same (sym now_bytes ∙ is.bytes) ∙ sym puts.are in
+        let fits : length bytes ≤ length before = subst (λ (l : List ℕ). length l ≤ length before) same fewer in
+        let at_old = updates.stays (none_needed (mid.records old.page old.slot) bytes before (records_at was mid (puts.changes).records old ∙ was_bytes) fits) in
+        place_is new old at_old.0 at_old.1;
     alone = change_one {old = Some old} {new = Some new} {gone = chain_of stored} {come = chain_of puts.stored} {was = was} {now = now} (one_named was old stored was_is) (one_named now new puts.stored is)
         (lists_change (chain_of stored) (chain_of puts.stored) (proxies_bytes piece.proxies) was now lists puts.was_none) (piece_needs piece)
         (λ p not_old not_new.
@@ -328,3 +342,25 @@ frees_chain body count chain was now frees = record {
   changes = frees.changes;
   free = let more : was.free + pages_of_list (was.lists chain) ≤ now.free = frees.free in omega (arith, more);
 }
+
+-- a record that names a list holds the proxies that were read where the list is there
+pub chained_holds : (held : Held) (place : RecordPlace) (body : Body) (count chain : ℕ) (proxies : List Proxy) → IsStored held place (Chained body count chain) → length proxies ≡ count → HaveRoots proxies → HaveNumbers proxies
+    → ((list : List ℕ) → held.lists chain ≡ Some list → list ≡ proxies_bytes proxies) → HasNamedList held place → HoldsPiece held place (record { body = body; proxies = proxies })
+chained_holds held place body count chain proxies is counted rooted numbers read named = by_list (held.lists chain) refl (named count chain (body, is))
+  where
+    by_list : (o : Option (List ℕ)) → held.lists chain ≡ o → IsSome o → HoldsPiece held place (record { body = body; proxies = proxies })
+    by_list None e some = absurd (not_some some)
+      where
+        not_some : IsSome {T = List ℕ} None → ⊥
+        not_some h = cc
+    by_list (Some list) e some = inr (record {
+      chain = chain;
+      stored = subst (λ (n : ℕ). IsStored held place (Chained body n chain)) (sym counted) is;
+      list = e ∙ ap Some (read list e);
+      rooted = rooted;
+      numbers = numbers;
+    })
+
+-- its page was read, and the chain pages of its list
+pub chained_pages : (reads mid all pages : ℕ) → mid ≤ reads + 1 → all ≤ mid + pages → all ≤ reads + (1 + pages)
+chained_pages reads mid all pages one more = omega (arith, one, more)

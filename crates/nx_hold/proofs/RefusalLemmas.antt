@@ -1,5 +1,5 @@
 -- How refusals are handed on, and how calls behind each other compose.
-use Rattle.std.proofs.Common.{◌≡◌, ℕ, ◌+◌, ◌-◌, ◌≤◌, ◌<◌, true, false, refl, sym, ap, ◌∙◌, subst, arith}
+use Rattle.std.proofs.Common.{◌≡◌, ℕ, ◌+◌, ◌-◌, ◌≤◌, ◌<◌, true, false, refl, sym, ◌∙◌, subst, arith}
 use Rattle.std.specs.Prelude.{◌^◌, min}
 use Rattle.std.proofs.lemmas.Bool.{false≢true}
 use Rattle.nx_host.specs.Still.{IsStill}
@@ -10,10 +10,9 @@ use Rattle.nx_holdings.specs.Holdings.{Held}
 use Rattle.nx_records.specs.declared.records.Records.{Records}
 use Rattle.nx_records.specs.declared.error.StoreError.{StoreError}
 use Rattle.nx_records.specs.declared.error.StoreError.TheVariants as error
-use Rattle.nx_records.specs.Records.{has_ended, StandsFor, KeepsSaved, ComesTo}
+use Rattle.nx_records.specs.Records.{has_ended, LeavesRecords, StandsFor, KeepsSaved, ComesTo}
 use Rattle.nx_records.specs.Refusals.{EndNow, RunsOn, IsDamaged, NotRead, NotChanged, NotStored}
-use Rattle.nx_records.proofs.StandLemmas.{step_kept, saved_kept}
-use Rattle.nx_records.proofs.RefusalLemmas.{keeps_self, runs_on}
+use Rattle.nx_records.proofs.LeaveLemmas.{leaves_add_up, leaves_runs, leaves_ends, leaves_saved, leaves_stand}
 use Rattle.nx_hold.specs.Putting.{told_at}
 
 pub runs_then : {r0 r1 r2 : Records} → RunsOn r0 r1 → RunsOn r1 r2 → RunsOn r0 r2
@@ -32,27 +31,10 @@ ends_then one two = record {
   settings_stay = two.settings_stay ∙ one.settings_stay;
 }
 
-pub runs_self : {r0 r1 : Records} → has_ended r0 ≡ false → r1 ≡ r0 → RunsOn r0 r1
-runs_self {r0} {r1} runs same = runs_on {r0 = r0} {r1 = r1} runs (keeps_self r0 r1 runs same)
-
 no_end : (r : Records) → has_ended r ≡ false → has_ended r ≡ true → ⊥
 no_end r runs ended = false≢true (sym runs ∙ ended)
 
 module _ {D : Type 0} {d : Ghosts D} where
-  stands_still : {r : Records} {x0 x1 : D} {saved now : Held} → IsStill d x0 x1 → StandsFor d r x0 saved now → StandsFor d r x1 saved now
-  stands_still {r} still stands =
-      let keeps = stands.keeps in
-      record {
-        keeps = record { runs = keeps.runs; image = keeps.image; step = step_kept {r0 = r} {r1 = r} (keeps_self r r keeps.runs refl) still keeps.step; holds = keeps.holds };
-        holds = stands.holds;
-      }
-
-  pub stands_later : {r0 r1 : Records} {x0 x1 : D} {saved now : Held} → r1 ≡ r0 → IsStill d x0 x1 → StandsFor d r0 x0 saved now → StandsFor d r1 x1 saved now
-  stands_later {x1 = x1} {saved = saved} {now = now} same still stands = subst (λ (r : Records). StandsFor d r x1 saved now) (sym same) (stands_still still stands)
-
-  pub saved_self : {r0 r1 : Records} {x0 x1 : D} → has_ended r0 ≡ false → r1 ≡ r0 → IsStill d x0 x1 → KeepsSaved d r0 r1 x0 x1
-  saved_self {r0} {r1} runs same still = saved_kept {r0 = r0} {r1 = r1} (keeps_self r0 r1 runs same) still
-
   pub saved_then : {r0 r1 r2 : Records} {x0 x1 x2 : D} → KeepsSaved d r0 r1 x0 x1 → KeepsSaved d r1 r2 x1 x2 → KeepsSaved d r0 r2 x0 x2
   saved_then one two saved has = two saved (one saved has)
 
@@ -75,14 +57,14 @@ pub record GoesOn {D : Type 0} (d : Ghosts D) (r0 r1 : Records) (x0 x1 : D) (Com
   pub still : IsStill d x0 x1
   pub comes : ComesTo d r0 r1 x0 x1 Comes
 
--- a call that changed nothing, and what it told of what is held
-pub reads_on : {D : Type 0} {d : Ghosts D} {r0 r1 : Records} {x0 x1 : D} (Told : Held → Type 0) → has_ended r0 ≡ false → r1 ≡ r0 → IsStill d x0 x1 → ((saved now : Held) → StandsFor d r0 x0 saved now → Told now)
+-- a call that only read, and what it told of what is held
+pub reads_on : {D : Type 0} {d : Ghosts D} {r0 r1 : Records} {x0 x1 : D} (Told : Held → Type 0) → has_ended r0 ≡ false → LeavesRecords r0 r1 → IsStill d x0 x1 → ((saved now : Held) → StandsFor d r0 x0 saved now → Told now)
     → GoesOn d r0 r1 x0 x1 (λ was now. (now ≡ was) × Told was)
-reads_on {d = d} {r0 = r0} {r1 = r1} Told runs same still told = record {
-  runs = runs_self {r0 = r0} {r1 = r1} runs same;
-  keeps = saved_self {d = d} {r0 = r0} {r1 = r1} runs same still;
+reads_on {d = d} {r0 = r0} {r1 = r1} Told runs leaves still told = record {
+  runs = leaves_runs runs leaves;
+  keeps = leaves_saved {d = d} leaves still;
   still = still;
-  comes = λ saved was stands. (was, stands_later {r0 = r0} {r1 = r1} same still stands, (refl, told saved was stands));
+  comes = λ saved was stands. (was, leaves_stand {d = d} leaves still stands, (refl, told saved was stands));
 }
 
 -- one call that went well behind another
@@ -143,7 +125,7 @@ module _ {D : Type 0} (d : Ghosts D) (Lacks : Held → Type 0) (named : ℕ) (r0
   read_changed error.Disk refused = refused
   read_changed (error.Damaged told) refused = refused
   read_changed error.Ended refused = refused
-  read_changed error.Memory refused = (runs_self {r0 = r0} {r1 = r1} refused.0 refused.1, saved_self {d = d} {r0 = r0} {r1 = r1} refused.0 refused.1 still)
+  read_changed error.Memory refused = (leaves_runs refused.0 refused.1, leaves_saved {d = d} refused.1 still)
   read_changed error.Exists refused = absurd refused
   read_changed error.NotAStore refused = absurd refused
   read_changed error.Full refused = absurd refused
@@ -168,14 +150,14 @@ module _ {D : Type 0} {d : Ghosts D} {r0 r1 : Records} {x0 x1 : D} {Comes : Held
   }
 
   -- ... where that one only read
-  pub later_read : (r2 : Records) (x2 : D) → r1 ≡ r0 → (e : StoreError) → NotRead d Lacks named e r1 r2 x1 x2 → NotRead d Fewer named e r0 r2 x0 x2
-  later_read r2 x2 same error.Disk refused = (rose_later {d = d} {x0 = x0} {x1 = x1} {x2 = x2} goes.still refused.0, ends_then {r0 = r0} {r1 = r1} {r2 = r2} goes.runs refused.1)
-  later_read r2 x2 same (error.Damaged told) refused = later_damaged r2 refused
-  later_read r2 x2 same error.Ended refused = absurd (no_end r1 (goes.runs).after refused.0)
-  later_read r2 x2 same error.Memory refused = ((goes.runs).before, refused.1 ∙ same)
-  later_read r2 x2 same error.Exists refused = absurd refused
-  later_read r2 x2 same error.NotAStore refused = absurd refused
-  later_read r2 x2 same error.Full refused = absurd refused
+  pub later_read : (r2 : Records) (x2 : D) → LeavesRecords r0 r1 → (e : StoreError) → NotRead d Lacks named e r1 r2 x1 x2 → NotRead d Fewer named e r0 r2 x0 x2
+  later_read r2 x2 leaves error.Disk refused = (rose_later {d = d} {x0 = x0} {x1 = x1} {x2 = x2} goes.still refused.0, ends_then {r0 = r0} {r1 = r1} {r2 = r2} goes.runs refused.1)
+  later_read r2 x2 leaves (error.Damaged told) refused = later_damaged r2 refused
+  later_read r2 x2 leaves error.Ended refused = absurd (no_end r1 (goes.runs).after refused.0)
+  later_read r2 x2 leaves error.Memory refused = ((goes.runs).before, leaves_add_up leaves refused.1)
+  later_read r2 x2 leaves error.Exists refused = absurd refused
+  later_read r2 x2 leaves error.NotAStore refused = absurd refused
+  later_read r2 x2 leaves error.Full refused = absurd refused
 
   pub later_changed : (r2 : Records) (x2 : D) (e : StoreError) → NotChanged d Lacks named e r1 r2 x1 x2 → NotChanged d Fewer named e r0 r2 x0 x2
   later_changed r2 x2 error.Disk refused = (rose_later {d = d} {x0 = x0} {x1 = x1} {x2 = x2} goes.still refused.0, ends_then {r0 = r0} {r1 = r1} {r2 = r2} goes.runs refused.1)
@@ -202,11 +184,11 @@ module _ {D : Type 0} {d : Ghosts D} {r0 r1 : Records} {x0 x1 : D} {Comes : Held
   later_stored r2 x2 more needs few error.NotAStore refused = absurd refused
 
 -- a call that only read found what it names to be damaged, and ended the records
-pub read_damaged : {D : Type 0} (d : Ghosts D) (Lacks : Held → Type 0) (named : ℕ) {r0 r1 r2 : Records} (x0 x1 : D) (e : StoreError) → e ≡ error.Damaged named → has_ended r0 ≡ false → r1 ≡ r0 → (has_ended r1 ≡ false → EndNow r1 r2)
+pub read_damaged : {D : Type 0} (d : Ghosts D) (Lacks : Held → Type 0) (named : ℕ) {r0 r1 r2 : Records} (x0 x1 : D) (e : StoreError) → e ≡ error.Damaged named → has_ended r0 ≡ false → LeavesRecords r0 r1 → (has_ended r1 ≡ false → EndNow r1 r2)
     → ((saved now : Held) → StandsFor d r0 x0 saved now → Lacks now) → NotRead d Lacks named e r0 r2 x0 x1
-read_damaged d Lacks named {r0} {r1} {r2} x0 x1 e is runs same ends lacks =
+read_damaged d Lacks named {r0} {r1} {r2} x0 x1 e is runs leaves ends lacks =
     subst (λ (x : StoreError). NotRead d Lacks named x r0 r2 x0 x1) (sym is) (record {
       page = refl;
-      ends = subst (λ (r : Records). EndNow r r2) same (ends (ap (λ (r : Records). has_ended r) same ∙ runs));
+      ends = leaves_ends leaves (ends (leaves.ended_stays ∙ runs));
       lacks = lacks;
     })

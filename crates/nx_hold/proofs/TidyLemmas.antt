@@ -1,29 +1,18 @@
 -- Lists stay in order where one record changes.
 use Rattle.std.proofs.Common.{◌≡◌, ℕ, ◌*◌, List, length, Option, None, Some, inl, inr, sym, ap, ◌∙◌, subst}
 use Rattle.std.specs.Prelude.{◌⊎◌}
-use Rattle.std.proofs.lemmas.Bool.Decides.{eqb_tells}
+use Rattle.std.specs.Option.{is_some}
 use Rattle.nx_holdings.specs.Holdings.{Held}
 use Rattle.nx_piece.specs.declared.piece.Piece.{Piece}
 use Rattle.nx_piece.specs.declared.piece.Stored.TheVariants.{Inline, Chained}
 use Rattle.nx_piece.specs.Encoding.{proxies_bytes}
 use Rattle.nx_piece.proofs.BodyLemmas.{proxies_length}
 use Rattle.nx_layouts.specs.Layout.{RecordPlace}
-use Rattle.nx_hold.specs.Pieces.{HoldsPiece, NamesList, NamesNot, IsTidy, ChangesOne, ComesPiece}
+use Rattle.nx_layouts.proofs.PlaceLemmas.{same_place}
+use Rattle.nx_hold.specs.Pieces.{HoldsPiece, NamesList, NamesNot, HasNamedList, IsTidy, ChangesOne, ComesPiece}
 use Rattle.nx_hold.specs.Changes.{AddsPiece, IsAdded, piece_needs}
-use Rattle.nx_hold.proofs.PieceLemmas.{some_same, no_value, one_at, no_both, chain_same, count_same, stays_stored, lists_stay, others_stay}
+use Rattle.nx_hold.proofs.PieceLemmas.{one_piece, some_same, no_value, one_at, no_both, chain_same, count_same, stays_stored, lists_stay, others_stay}
 use Rattle.nx_hold.proofs.MapLemmas.{no_record}
-
-pub place_is : (a b : RecordPlace) → a.page ≡ b.page → a.slot ≡ b.slot → a ≡ b
-place_is a b e f =
-    ap (λ (p : ℕ). let r : RecordPlace = record { page = p; slot = a.slot } in r) e
-    ∙ ap (λ (s : ℕ). let r : RecordPlace = record { page = b.page; slot = s } in r) f
-
-pub same_place : (a b : RecordPlace) → (a ≡ b) ⊎ (a ≡ b → ⊥)
-same_place a b =
-    elim (eqb_tells a.page b.page) [
-      | inl h ↦ elim (eqb_tells a.slot b.slot) [ inl k ↦ inl (place_is a b h.1 k.1) | inr k ↦ inr (λ e. k.1 (ap (λ (r : RecordPlace). r.slot) e)) ]
-      | inr h ↦ inr (λ e. h.1 (ap (λ (r : RecordPlace). r.page) e))
-    ]
 
 is_place : (place : RecordPlace) (o : Option RecordPlace) → (Some place ≡ o) ⊎ (Some place ≡ o → ⊥)
 is_place place None = inr (λ e. no_value e)
@@ -38,6 +27,18 @@ listed held place piece count chain (inr h) names =
     let c : h.chain ≡ chain = chain_same piece.body names.0 (length piece.proxies) count h.chain chain e in
     let n : length piece.proxies ≡ count = count_same piece.body names.0 (length piece.proxies) count h.chain chain e in
     (proxies_bytes piece.proxies, ap held.lists (sym c) ∙ h.list, proxies_length piece.proxies ∙ ap (λ (k : ℕ). 8 * k) n)
+
+-- a list that a record names is there where lists are in order,
+pub tidy_named : (held : Held) (place : RecordPlace) → IsTidy held → HasNamedList held place
+tidy_named held place tidy count chain names = ap is_some (tidy.there place count chain names).1
+
+-- ... and where the record holds a piece
+pub held_named : (held : Held) (place : RecordPlace) (piece : Piece) → HoldsPiece held place piece → HasNamedList held place
+held_named held place piece holds count chain names = ap is_some (listed held place piece count chain holds names).1
+
+-- so what the record would hold with the list that it names is what it holds
+pub read_one : (held : Held) (place : RecordPlace) {piece : Piece} → (HasNamedList held place → HoldsPiece held place piece) → (other : Piece) → HoldsPiece held place other → piece ≡ other
+read_one held place {piece} reads other holds = one_piece held place piece other (reads (held_named held place other holds)) holds
 
 module _ {old new : Option RecordPlace} {needs : ℕ} {was now : Held} (tidy : IsTidy was) (h : ChangesOne old new needs was now) where
   -- a record that isn't the new one was there before, and isn't the old one

@@ -1,5 +1,5 @@
 -- What a call makes of the pieces that records hold.
-use Rattle.std.specs.Prelude.{◌≡◌, ℕ, ◌+◌, ◌*◌, if◌then◌else◌, length, Option, None, Some}
+use Rattle.std.specs.Prelude.{◌≡◌, ◌⊎◌, ℕ, ◌+◌, ◌*◌, ◌≤◌, if◌then◌else◌, List, length, Option, None, Some}
 use Rattle.nx_host.specs.declared.disk.Disk.{Ghosts}
 use Rattle.nx_holdings.specs.Holdings.{Held, chain_count}
 use Rattle.nx_records.specs.Records.{StandsFor}
@@ -10,7 +10,7 @@ use Rattle.nx_piece.specs.declared.piece.Proxy.{Proxy}
 use Rattle.nx_piece.specs.declared.piece.Stored.{Stored}
 use Rattle.nx_piece.specs.Valid.{is_inline}
 use Rattle.nx_layouts.specs.Layout.{RecordPlace}
-use Rattle.nx_hold.specs.Pieces.{record_at, IsStored, HoldsPiece, HoldsNone, IsTidy, ChangesOne, PieceMap}
+use Rattle.nx_hold.specs.Pieces.{record_at, IsStored, HoldsPiece, HoldsNone, NamesList, IsTidy, ChangesOne, PieceMap}
 
 abbrev pub place_of : Rid → RecordPlace
 place_of rid = record { page = rid.page; slot = rid.slot }
@@ -27,6 +27,10 @@ chain_pages piece = if is_inline piece then 0 else chain_count (8 * length piece
 abbrev pub piece_needs : Piece → ℕ
 piece_needs piece = 1 + chain_pages piece
 
+-- so many pages are read for the piece of the record at the place: the record's, and the chain pages of the list that it names
+abbrev pub TakesPages : Held → RecordPlace → ℕ → Type 0
+TakesPages held place pages = (pages ≡ 1) ⊎ ((count : ℕ) × (chain : ℕ) × NamesList held place count chain × (pages ≡ 1 + chain_count (8 * count)))
+
 -- the record at the place has the bytes of a valid piece
 abbrev pub IsPieceRecord : Held → RecordPlace → Type 0
 IsPieceRecord held place = (stored : Stored) × IsStored held place stored
@@ -37,11 +41,12 @@ pub record AddsPiece (place : RecordPlace) (piece : Piece) (was now : Held) : Ty
   pub holds : HoldsPiece now place piece
   pub alone : ChangesOne None (Some place) (piece_needs piece) was now
 
--- A piece came in the place of another, or came to a place that was free and the other went.
+-- A piece came in the place of another, or came to a place that was free and the other went. A record that is no longer than the other keeps its place.
 pub record UpdatesPiece (old new : RecordPlace) (piece : Piece) (was now : Held) : Type 0 where
   pub was_there : IsPieceRecord was old
   pub was_free : (old ≡ new → ⊥) → record_at was new ≡ None
   pub holds : HoldsPiece now new piece
+  pub stays : (before after : List ℕ) → record_at was old ≡ Some before → record_at now new ≡ Some after → length after ≤ length before → new ≡ old
   pub alone : ChangesOne (Some old) (Some new) (piece_needs piece) was now
 
 -- A piece went.

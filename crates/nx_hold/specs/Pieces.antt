@@ -1,5 +1,5 @@
 -- Which pieces the records of a store hold. A piece's proxies stand in its record, or in a byte list that the record names.
-use Rattle.std.specs.Prelude.{◌≡◌, ◌⊎◌, ℕ, ◌+◌, ◌*◌, ◌≤◌, List, length, Option, None, Some}
+use Rattle.std.specs.Prelude.{◌≡◌, ◌⊎◌, ℕ, ◌+◌, ◌*◌, ◌≤◌, List, length, Option, None, Some, IsSome}
 use Rattle.std.specs.Option.{MatchOption}
 use Rattle.nx_holdings.specs.Holdings.{Held}
 use Rattle.nx_piece.specs.declared.piece.Body.{Body}
@@ -38,6 +38,10 @@ HoldsPiece held place piece = HoldsInline held place piece ⊎ HoldsChained held
 -- the record at the place names this list, for so many proxies
 abbrev pub NamesList : Held → RecordPlace → (count chain : ℕ) → Type 0
 NamesList held place count chain = (body : Body) × IsStored held place (Chained body count chain)
+
+-- the list that the record at the place names, where it names one, is there
+abbrev pub HasNamedList : Held → RecordPlace → Type 0
+HasNamedList held place = (count chain : ℕ) → NamesList held place count chain → IsSome (held.lists chain)
 
 -- Each list that a record names is there, as long as its proxies need, and no two records name one.
 pub record IsTidy (held : Held) : Type 0 where

@@ -1,7 +1,7 @@
 //! What holds of the pieces that records hold.
 ghost use Rattle.nx_hold.specs.Pieces.{HavePieceMap, OnePiece, OthersStay, PiecesStay, TidyStays};
 ghost use Rattle.nx_hold.specs.Changes.{AddsStay, MapGrows};
-ghost use Rattle.nx_hold.specs.Documents.{PieceAddsRecord, PiecesStayBeside, RecordsAddUp};
+ghost use Rattle.nx_hold.specs.Documents.{MovesAddUp, MovesBeside, MovesSame, PieceAddsRecord, PiecesStayAround, PiecesStayBeside, RecordsAddUp, RemoveMoves, UpdateMoves};
 
 /// The record at a place holds one piece at most.
 pub fn one_piece()
@@ -54,4 +54,36 @@ pub fn records_add_up()
 /// Where records came at places that were free, each piece stays where it was.
 pub fn pieces_stay_beside()
     ensures { PiecesStayBeside }
+{}
+
+/// In which order records are named that move says nothing, and what needs some pages at most needs no more than
+/// more of them.
+pub fn moves_same()
+    ensures { MovesSame }
+{}
+
+/// What moved in two steps moved.
+pub fn moves_add_up()
+    ensures { MovesAddUp }
+{}
+
+/// Records that are there and stay may be counted among those that move.
+pub fn moves_beside()
+    ensures { MovesBeside }
+{}
+
+/// A piece that was put in the place of another moved a record.
+pub fn update_moves()
+    ensures { UpdateMoves }
+{}
+
+/// A piece that was taken away moved a record.
+pub fn remove_moves()
+    ensures { RemoveMoves }
+{}
+
+/// Where records moved and no two named one list, each piece whose record didn't go or change stays, and so does the
+/// list that its record names.
+pub fn pieces_stay_around()
+    ensures { PiecesStayAround }
 {}

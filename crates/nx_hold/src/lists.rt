@@ -1,9 +1,8 @@
 // The records of pieces, and the lists that hold their proxies.
-ghost use Rattle.std.specs.Prelude.{◌≡◌, ◌≢◌, ◌+◌, ◌*◌, ◌≤◌, [], true, false, length, Some, List as Items, ℕ, IfOk, IfErr, OnOk};
+ghost use Rattle.std.specs.Prelude.{◌≡◌, ◌+◌, ◌*◌, ◌≤◌, true, false, length, Some, List as Items, ℕ, IfOk, IfErr, OnOk};
 ghost use Rattle.nx_host.specs.Still.{IsStill};
-ghost use Rattle.nx_wal.specs.Wal.{pending};
 ghost use Rattle.nx_holdings.specs.Holdings.{Held, chain_count};
-ghost use Rattle.nx_records.specs.Records.{StandsFor, KeepsSaved, ComesTo, has_ended};
+ghost use Rattle.nx_records.specs.Records.{StandsFor, KeepsSaved, ComesTo, LeavesRecords, HasChanges, has_ended};
 ghost use Rattle.nx_records.specs.Refusals.{NotRead, NotChanged, NotStored, RunsOn, EndNow};
 ghost use Rattle.nx_piece.specs.Encoding.{proxies_bytes};
 ghost use Rattle.nx_piece.specs.Viewing.{seen_stored};
@@ -30,7 +29,7 @@ pub(crate) fn stored_at<D: Disk>(
 ) -> Result<Stored, StoreError>
     ensures still { IsStill D.Disk disk.old disk.new }
     ensures reads { D.reads disk.new ≤ D.reads disk.old + 1 }
-    ensures ok { IfOk result (λ stored. (has_ended records.old ≡ false) × (records.new ≡ records.old) × IsValid stored × HasNumbers stored
+    ensures ok { IfOk result (λ stored. (has_ended records.old ≡ false) × LeavesRecords records.old records.new × IsValid stored × HasNumbers stored
         × ((saved now : Held) → StandsFor D.Disk records.old disk.old saved now → IsStored now (place_of rid) stored)) }
     ensures refused { IfErr result (λ e. NotRead D.Disk (λ now. HoldsNone now (place_of rid)) rid.page e records.old records.new disk.old disk.new) }
 {
@@ -54,7 +53,7 @@ pub(crate) fn viewed_at<'a, D: Disk>(
 ) -> Result<StoredView<'a>, StoreError>
     ensures still { IsStill D.Disk disk.old disk.new }
     ensures reads { D.reads disk.new ≤ D.reads disk.old + 1 }
-    ensures ok { IfOk result (λ view. (has_ended records.old ≡ false) × (records.new ≡ records.old) × IsValid (seen_stored view) × HasNumbers (seen_stored view)
+    ensures ok { IfOk result (λ view. (has_ended records.old ≡ false) × LeavesRecords records.old records.new × IsValid (seen_stored view) × HasNumbers (seen_stored view)
         × ((saved now : Held) → StandsFor D.Disk records.old disk.old saved now → IsStored now (place_of rid) (seen_stored view))) }
     ensures refused { IfErr result (λ e. NotRead D.Disk (λ now. HoldsNone now (place_of rid)) rid.page e records.old records.new disk.old disk.new) }
 {
@@ -80,7 +79,7 @@ pub(crate) fn proxies_at<D: Disk>(
     requires { has_ended records.old ≡ false }
     ensures still { IsStill D.Disk disk.old disk.new }
     ensures reads { D.reads disk.new ≤ D.reads disk.old + chain_count (8 * count) }
-    ensures ok { IfOk result (λ proxies. (records.new ≡ records.old) × (length proxies ≡ count) × HaveRoots proxies × HaveNumbers proxies
+    ensures ok { IfOk result (λ proxies. LeavesRecords records.old records.new × (length proxies ≡ count) × HaveRoots proxies × HaveNumbers proxies
         × ((saved now : Held) (list : Items ℕ) → StandsFor D.Disk records.old disk.old saved now → now.lists chain ≡ Some list → list ≡ proxies_bytes proxies)) }
     ensures refused { IfErr result (λ e. NotRead D.Disk (λ now. LacksProxies now count chain) named e records.old records.new disk.old disk.new) }
 {
@@ -145,7 +144,7 @@ pub(crate) fn free_proxies<D: Disk>(
     ensures still { IsStill D.Disk disk.old disk.new }
     ensures ok { OnOk result ((saved now : Held) → StandsFor D.Disk records.old disk.old saved now → HasList now stored.now
         → (next : Held) × StandsFor D.Disk records.new disk.new saved next × FreesChain stored.now now next) }
-    ensures keeps { OnOk result (RunsOn records.old records.new × KeepsSaved D.Disk records.old records.new disk.old disk.new × (pending records.old.wal ≢ [] → pending records.new.wal ≢ [])) }
+    ensures keeps { OnOk result (RunsOn records.old records.new × KeepsSaved D.Disk records.old records.new disk.old disk.new × (HasChanges records.old → HasChanges records.new)) }
     ensures refused { IfErr result (λ e. NotChanged D.Disk (λ was. HasList was stored.now → ⊥) named e records.old records.new disk.old disk.new) }
 {
     match stored {

@@ -1,14 +1,14 @@
 // The pieces that records hold: reading them, adding, replacing and taking away.
-ghost use Rattle.std.specs.Prelude.{◌≡◌, ◌≢◌, ◌+◌, ◌≤◌, [], true, false, length, IfOk, IfErr, OnOk};
+ghost use Rattle.std.specs.Prelude.{◌≡◌, ◌+◌, ◌≤◌, ℕ, true, false, length, IfOk, IfErr, OnOk};
 ghost use Rattle.nx_host.specs.Still.{IsStill};
-ghost use Rattle.nx_wal.specs.Wal.{pending};
 ghost use Rattle.nx_holdings.specs.Holdings.{Held};
-ghost use Rattle.nx_records.specs.Records.{StandsFor, KeepsSaved, ComesTo, has_ended};
+ghost use Rattle.nx_records.specs.Records.{StandsFor, KeepsSaved, ComesTo, LeavesRecords, HasChanges, has_ended};
 ghost use Rattle.nx_records.specs.Refusals.{NotRead, NotChanged, NotStored, RunsOn};
+ghost use Rattle.nx_piece.specs.declared.piece.Piece.{Piece};
 ghost use Rattle.nx_piece.specs.Gapped.{width};
 ghost use Rattle.nx_piece.specs.Valid.{IsValidPiece, HaveNumbers};
-ghost use Rattle.nx_hold.specs.Pieces.{HoldsPiece, HoldsNone, IsTidy};
-ghost use Rattle.nx_hold.specs.Changes.{place_of, place_named, chain_pages, piece_needs, AddsPiece, UpdatesPiece, RemovesPiece, ComesTidy};
+ghost use Rattle.nx_hold.specs.Pieces.{HoldsPiece, HoldsNone, HasNamedList};
+ghost use Rattle.nx_hold.specs.Changes.{place_of, place_named, chain_pages, piece_needs, TakesPages, AddsPiece, UpdatesPiece, RemovesPiece, ComesTidy};
 
 use crate::lists::{free_proxies, proxies_at, record_bytes, stored_at, viewed_at};
 use nx_host::Disk;
@@ -17,8 +17,9 @@ use nx_records::{Records, Rid, StoreError};
 use nx_tree::Bytes;
 use std::alloc::Global;
 
-/// The piece of the record at a place, with its proxies. It reads the record's page, and the chain
-/// pages of the proxies that don't stand in the record.
+/// The piece of the record at a place, with its proxies, whatever lists other records name. It reads
+/// the record's page, and the chain pages of the proxies that don't stand in the record, also where it
+/// gives up.
 ///
 /// Errors: `Damaged` with the place's page, only where the pages aren't sound or the record at the
 /// place holds no piece: there is none, its bytes are those of none, or the list that it names
@@ -31,10 +32,13 @@ pub fn read_piece<D: Disk>(
     rid: Rid,
 ) -> Result<Piece, StoreError>
     ensures still { IsStill D.Disk disk.old disk.new }
-    ensures reads { IfOk result (λ piece. D.reads disk.new ≤ D.reads disk.old + (1 + chain_pages piece)) }
+    ensures reads { (pages : ℕ) × (D.reads disk.new ≤ D.reads disk.old + pages)
+        × ((saved now : Held) → StandsFor D.Disk records.old disk.old saved now → TakesPages now (place_of rid) pages) }
+    ensures few { IfOk result (λ piece. D.reads disk.new ≤ D.reads disk.old + (1 + chain_pages piece)) }
     ensures valid { IfOk result (λ piece. IsValidPiece piece × HaveNumbers piece.proxies) }
-    ensures ok { IfOk result (λ piece. (has_ended records.old ≡ false) × (records.new ≡ records.old)
-        × ((saved now : Held) → StandsFor D.Disk records.old disk.old saved now → IsTidy now → HoldsPiece now (place_of rid) piece)) }
+    ensures ok { IfOk result (λ piece. (has_ended records.old ≡ false) × LeavesRecords records.old records.new
+        × ((saved now : Held) (held : Piece) → StandsFor D.Disk records.old disk.old saved now → HoldsPiece now (place_of rid) held → piece ≡ held)) }
+    ensures holds { IfOk result (λ piece. (saved now : Held) → StandsFor D.Disk records.old disk.old saved now → HasNamedList now (place_of rid) → HoldsPiece now (place_of rid) piece) }
     ensures refused { IfErr result (λ e. NotRead D.Disk (λ now. HoldsNone now (place_of rid)) rid.page e records.old records.new disk.old disk.new) }
 {
     match stored_at(alloc, records, disk, rid)? {
@@ -58,10 +62,13 @@ pub fn view_piece<'a, D: Disk>(
     bytes: &'a mut Bytes,
 ) -> Result<PieceView<'a>, StoreError>
     ensures still { IsStill D.Disk disk.old disk.new }
-    ensures reads { IfOk result (λ piece. D.reads disk.new ≤ D.reads disk.old + (1 + chain_pages piece)) }
+    ensures reads { (pages : ℕ) × (D.reads disk.new ≤ D.reads disk.old + pages)
+        × ((saved now : Held) → StandsFor D.Disk records.old disk.old saved now → TakesPages now (place_of rid) pages) }
+    ensures few { IfOk result (λ piece. D.reads disk.new ≤ D.reads disk.old + (1 + chain_pages piece)) }
     ensures valid { IfOk result (λ piece. IsValidPiece piece × HaveNumbers piece.proxies) }
-    ensures ok { IfOk result (λ piece. (has_ended records.old ≡ false) × (records.new ≡ records.old)
-        × ((saved now : Held) → StandsFor D.Disk records.old disk.old saved now → IsTidy now → HoldsPiece now (place_of rid) piece)) }
+    ensures ok { IfOk result (λ piece. (has_ended records.old ≡ false) × LeavesRecords records.old records.new
+        × ((saved now : Held) (held : Piece) → StandsFor D.Disk records.old disk.old saved now → HoldsPiece now (place_of rid) held → piece ≡ held)) }
+    ensures holds { IfOk result (λ piece. (saved now : Held) → StandsFor D.Disk records.old disk.old saved now → HasNamedList now (place_of rid) → HoldsPiece now (place_of rid) piece) }
     ensures refused { IfErr result (λ e. NotRead D.Disk (λ now. HoldsNone now (place_of rid)) rid.page e records.old records.new disk.old disk.new) }
 {
     match viewed_at(alloc, records, disk, rid, bytes)? {
@@ -92,7 +99,7 @@ pub fn add_piece<D: Disk>(
     ensures ok { IfOk result (λ proxy. ComesTidy D.Disk records.old records.new disk.old disk.new (λ was now. AddsPiece (place_named proxy) piece.now was now)) }
     // Also where lists that records name are out of order.
     ensures takes { IfOk result (λ proxy. ComesTo D.Disk records.old records.new disk.old disk.new (λ was now. was.free ≤ now.free + piece_needs piece.now)) }
-    ensures keeps { IfOk result (λ proxy. RunsOn records.old records.new × KeepsSaved D.Disk records.old records.new disk.old disk.new × (pending records.new.wal ≢ [])) }
+    ensures keeps { IfOk result (λ proxy. RunsOn records.old records.new × KeepsSaved D.Disk records.old records.new disk.old disk.new × HasChanges records.new) }
     ensures refused { IfErr result (λ e. NotStored D.Disk (λ was. piece_needs piece.now) (λ was. ⊥) 0 e records.old records.new disk.old disk.new) }
 {
     if records.is_ended() {
@@ -104,7 +111,8 @@ pub fn add_piece<D: Disk>(
 }
 
 /// Puts a piece in the place of another, and answers its proxy, whose place is another one where the
-/// record doesn't fit there. The list of the old piece goes, and that of the new one comes.
+/// record doesn't fit there: a record that is no longer than the old one keeps its place. The list of the
+/// old piece goes, and that of the new one comes.
 ///
 /// Errors: `Full`, over sound pages only where fewer pages were free than one, and one for each
 /// chain page of the new list; `Damaged` with the place's page, only where the pages aren't sound or
@@ -121,7 +129,7 @@ pub fn update_piece<D: Disk>(
     ensures still { IsStill D.Disk disk.old disk.new }
     ensures roots { IfOk result (λ proxy. proxy.roots ≡ width piece.now.body.roots) }
     ensures ok { IfOk result (λ proxy. ComesTidy D.Disk records.old records.new disk.old disk.new (λ was now. UpdatesPiece (place_of rid) (place_named proxy) piece.now was now)) }
-    ensures keeps { IfOk result (λ proxy. RunsOn records.old records.new × KeepsSaved D.Disk records.old records.new disk.old disk.new × (pending records.new.wal ≢ [])) }
+    ensures keeps { IfOk result (λ proxy. RunsOn records.old records.new × KeepsSaved D.Disk records.old records.new disk.old disk.new × HasChanges records.new) }
     ensures refused { IfErr result (λ e. NotStored D.Disk (λ was. piece_needs piece.now) (λ was. HoldsNone was (place_of rid)) rid.page e records.old records.new disk.old disk.new) }
 {
     let old = stored_at(alloc, records, disk, rid)?;
@@ -144,7 +152,7 @@ pub fn remove_piece<D: Disk>(
 ) -> Result<(), StoreError>
     ensures still { IsStill D.Disk disk.old disk.new }
     ensures ok { OnOk result (ComesTidy D.Disk records.old records.new disk.old disk.new (λ was now. RemovesPiece (place_of rid) was now)) }
-    ensures keeps { OnOk result (RunsOn records.old records.new × KeepsSaved D.Disk records.old records.new disk.old disk.new × (pending records.new.wal ≢ [])) }
+    ensures keeps { OnOk result (RunsOn records.old records.new × KeepsSaved D.Disk records.old records.new disk.old disk.new × HasChanges records.new) }
     ensures refused { IfErr result (λ e. NotChanged D.Disk (λ was. HoldsNone was (place_of rid)) rid.page e records.old records.new disk.old disk.new) }
 {
     let old = stored_at(alloc, records, disk, rid)?;

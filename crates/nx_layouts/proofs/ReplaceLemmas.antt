@@ -7,7 +7,8 @@ use Rattle.nx_tree.specs.declared.node.Node.{Node}
 use Rattle.nx_tree.specs.Forest.{Forest, Empty, Plant}
 use Rattle.nx_piece.specs.declared.piece.Proxy.{Proxy}
 use Rattle.nx_piece.specs.declared.piece.Piece.{Piece}
-use Rattle.nx_cuts.specs.Cut.{Bare, Grown, Kept, joined, forest, width}
+use Rattle.nx_weights.specs.Weight.{weight}
+use Rattle.nx_cuts.specs.Cut.{Bare, Grown, Kept, joined, forest, width, part_weight, AreFree, AreParts}
 use Rattle.nx_layouts.specs.Layout.{RecordPlace, Layout, proxies_of, AreHeld}
 use Rattle.nx_layouts.specs.Replace.{joined_layout, replaced_at, kept_at, Replaces}
 
@@ -30,15 +31,74 @@ held-joined_layout pieces Bare b p q = q
 held-joined_layout pieces (Grown n d s) b p q = (p.0, held-joined_layout pieces s b p.1 q)
 held-joined_layout pieces (Kept r m s) b p q = (p.0, p.1, held-joined_layout pieces s b p.2 q)
 
-held_replaced : (pieces : RecordPlace → Option Piece) (index : ℕ) (new old : Layout) → AreHeld pieces old → AreHeld pieces new → AreHeld pieces (replaced_at index new old)
-held_replaced pieces index new Bare p q = p
-held_replaced pieces index new (Grown n b s) p q =
-    elim (nat_lt index (length (proxies_of b))) as (λ t. AreHeld pieces (if t then Grown n (replaced_at index new b) s else Grown n b (replaced_at (index - length (proxies_of b)) new s))) [
-      | true ↦ (held_replaced pieces index new b p.0 q, p.1)
-      | false ↦ (p.0, held_replaced pieces (index - length (proxies_of b)) new s p.1 q)
+held_filled : (pieces : RecordPlace → Option Piece) (index : ℕ) (left row : Layout) → AreHeld pieces (replaced_at index Bare row) → AreHeld pieces left → AreHeld pieces (replaced_at index left row)
+held_filled pieces index left Bare h e = tt
+held_filled pieces index left (Grown n b s) h e =
+    (elim (nat_lt index (length (proxies_of b))) as (λ t. AreHeld pieces (if t then Grown n (replaced_at index Bare b) s else Grown n b (replaced_at (index - length (proxies_of b)) Bare s))
+    → AreHeld pieces (if t then Grown n (replaced_at index left b) s else Grown n b (replaced_at (index - length (proxies_of b)) left s))) [
+      | true ↦ λ g. (held_filled pieces index left b g.0 e, g.1)
+      | false ↦ λ g. (g.0, held_filled pieces (index - length (proxies_of b)) left s g.1 e)
+    ]) h
+held_filled pieces zero left (Kept p m s) h e = held-joined_layout pieces left s e h
+held_filled pieces (suc index) left (Kept p m s) h e = (h.0, h.1, held_filled pieces index left s h.2 e)
+
+held_hole : (pieces : RecordPlace → Option Piece) (index : ℕ) (row : Layout) → AreHeld pieces row → AreHeld pieces (replaced_at index Bare row)
+held_hole pieces index Bare h = tt
+held_hole pieces index (Grown n b s) h =
+    elim (nat_lt index (length (proxies_of b))) as (λ t. AreHeld pieces (if t then Grown n (replaced_at index Bare b) s else Grown n b (replaced_at (index - length (proxies_of b)) Bare s))) [
+      | true ↦ (held_hole pieces index b h.0, h.1)
+      | false ↦ (h.0, held_hole pieces (index - length (proxies_of b)) s h.1)
     ]
-held_replaced pieces zero new (Kept r m s) p q = held-joined_layout pieces new s q p.2
-held_replaced pieces (suc index) new (Kept r m s) p q = (p.0, p.1, held_replaced pieces index new s p.2 q)
+held_hole pieces zero (Kept p m s) h = h.2
+held_hole pieces (suc index) (Kept p m s) h = (h.0, h.1, held_hole pieces index s h.2)
+
+light_joined : (k : ℕ) (a b : Layout) → AreParts k a → AreParts k b → AreParts k (joined_layout a b)
+light_joined k Bare b h g = g
+light_joined k (Grown n d s) b h g = (h.0, light_joined k s b h.1 g)
+light_joined k (Kept p m s) b h g = (h.0, h.1, h.2, h.3, light_joined k s b h.4 g)
+
+light_filled : (k index : ℕ) (left row : Layout) → AreParts k row → AreParts k left → AreParts k (replaced_at index left row)
+light_filled k index left Bare h e = tt
+light_filled k index left (Grown n b s) h e =
+    elim (nat_lt index (length (proxies_of b))) as (λ t. AreParts k (if t then Grown n (replaced_at index left b) s else Grown n b (replaced_at (index - length (proxies_of b)) left s))) [
+      | true ↦ (light_filled k index left b h.0 e, h.1)
+      | false ↦ (h.0, light_filled k (index - length (proxies_of b)) left s h.1 e)
+    ]
+light_filled k zero left (Kept p m s) h e = light_joined k left s e h.4
+light_filled k (suc index) left (Kept p m s) h e = (h.0, h.1, h.2, h.3, light_filled k index left s h.4 e)
+
+free_filled : (index : ℕ) (left row : Layout) → AreFree row → AreFree (replaced_at index left row)
+free_filled index left Bare f = tt
+free_filled index left (Grown n b s) f =
+    elim (nat_lt index (length (proxies_of b))) as (λ t. AreFree (if t then Grown n (replaced_at index left b) s else Grown n b (replaced_at (index - length (proxies_of b)) left s))) [
+      | true ↦ f
+      | false ↦ free_filled (index - length (proxies_of b)) left s f
+    ]
+free_filled index left (Kept p m s) f = absurd f
+
+wide_filled : (index : ℕ) (left row : Layout) → AreFree row → width (replaced_at index left row) ≡ width row
+wide_filled index left Bare f = refl
+wide_filled index left (Grown n b s) f =
+    elim (nat_lt index (length (proxies_of b))) as (λ t. width (if t then Grown n (replaced_at index left b) s else Grown n b (replaced_at (index - length (proxies_of b)) left s)) ≡ 1 + width s) [
+      | true ↦ refl
+      | false ↦ ap (λ (w : ℕ). 1 + w) (wide_filled (index - length (proxies_of b)) left s f)
+    ]
+wide_filled index left (Kept p m s) f = absurd f
+
+weight_joined : (a b : Layout) → part_weight (joined_layout a b) ≡ part_weight a + part_weight b
+weight_joined Bare b = omega arith
+weight_joined (Grown n d s) b = let e = weight_joined s b in omega (arith, e)
+weight_joined (Kept p m s) b = weight_joined s b
+
+heavy_filled : (index : ℕ) (left row : Layout) → part_weight left ≡ 0 → part_weight (replaced_at index left row) ≡ part_weight row
+heavy_filled index left Bare e = refl
+heavy_filled index left (Grown n b s) e =
+    elim (nat_lt index (length (proxies_of b))) as (λ t. part_weight (if t then Grown n (replaced_at index left b) s else Grown n b (replaced_at (index - length (proxies_of b)) left s)) ≡ weight n + part_weight b + part_weight s) [
+      | true ↦ ap (λ (w : ℕ). weight n + w + part_weight s) (heavy_filled index left b e)
+      | false ↦ ap (λ (w : ℕ). weight n + part_weight b + w) (heavy_filled (index - length (proxies_of b)) left s e)
+    ]
+heavy_filled zero left (Kept p m s) e = let f = weight_joined left s in omega (arith, e, f)
+heavy_filled (suc index) left (Kept p m s) e = heavy_filled index left s e
 
 same_replaced : (index : ℕ) (new old members : Layout) → kept_at index old ≡ Some members → forest new ≡ forest members → forest (replaced_at index new old) ≡ forest old
 same_replaced index new Bare members e f = refl
@@ -86,9 +146,14 @@ proxies_replaced (suc index) new (Kept r m s) h =
     let k : suc index + 1 ≡ suc (index + 1) = omega arith in
     ap (λ l. one ∷ l) (proxies_replaced index new s (omega arith)) ∙ ap (λ i. one ∷ (take index (proxies_of s) ++ proxies_of new ++ drop i (one ∷ proxies_of s))) (sym k)
 
-pub replaces : (pieces : RecordPlace → Option Piece) (index : ℕ) (old new : Layout) → index < length (proxies_of old) → Replaces pieces index old new
-replaces pieces index old new h = record {
+pub replaces : (index : ℕ) (old new : Layout) → index < length (proxies_of old) → Replaces index old new
+replaces index old new h = record {
   proxies_are = proxies_replaced index new old h;
-  held = held_replaced pieces index new old;
+  beside = λ pieces. held_hole pieces index old;
+  held = λ pieces. held_filled pieces index new old;
+  light = λ k. light_filled k index new old;
+  free = free_filled index new old;
+  wide = wide_filled index new old;
+  heavy = heavy_filled index new old;
   same = same_replaced index new old;
 }

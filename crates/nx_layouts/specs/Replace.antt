@@ -1,7 +1,7 @@
 -- One interval replaced by several.
 use Rattle.std.specs.Prelude.{◌≡◌, ℕ, zero, suc, ◌+◌, ◌-◌, ◌<◌, nat_lt, if◌then◌else◌, ◌++◌, length, take, drop, Option, None, Some}
 use Rattle.nx_piece.specs.declared.piece.Piece.{Piece}
-use Rattle.nx_cuts.specs.Cut.{Bare, Grown, Kept, forest}
+use Rattle.nx_cuts.specs.Cut.{Bare, Grown, Kept, forest, width, part_weight, AreFree, AreParts}
 use Rattle.nx_layouts.specs.Layout.{RecordPlace, Layout, proxies_of, AreHeld}
 
 -- trees with others beside them
@@ -27,11 +27,17 @@ kept_at index (Grown node below beside) =
 kept_at zero (Kept place members beside) = Some members
 kept_at (suc index) (Kept place members beside) = kept_at index beside
 
--- What a record has after one of its proxies was replaced by several, where these hold the same trees.
-pub record Replaces (pieces : RecordPlace → Option Piece) (index : ℕ) (old new : Layout) : Type 0 where
+-- What a record has after one of its proxies was replaced by several, where these hold the same trees. What is held but that interval, with what is held of the
+-- others, is held so, and so is what is light. Where no tree stands outside of the intervals, the row is as wide, and as heavy where none does in the new ones.
+pub record Replaces (index : ℕ) (old new : Layout) : Type 0 where
   pub proxies_are : proxies_of (replaced_at index new old) ≡ take index (proxies_of old) ++ proxies_of new ++ drop (index + 1) (proxies_of old)
-  pub held : AreHeld pieces old → AreHeld pieces new → AreHeld pieces (replaced_at index new old)
+  pub beside : (pieces : RecordPlace → Option Piece) → AreHeld pieces old → AreHeld pieces (replaced_at index Bare old)
+  pub held : (pieces : RecordPlace → Option Piece) → AreHeld pieces (replaced_at index Bare old) → AreHeld pieces new → AreHeld pieces (replaced_at index new old)
+  pub light : (k : ℕ) → AreParts k old → AreParts k new → AreParts k (replaced_at index new old)
+  pub free : AreFree old → AreFree (replaced_at index new old)
+  pub wide : AreFree old → width (replaced_at index new old) ≡ width old
+  pub heavy : part_weight new ≡ 0 → part_weight (replaced_at index new old) ≡ part_weight old
   pub same : (members : Layout) → kept_at index old ≡ Some members → forest new ≡ forest members → forest (replaced_at index new old) ≡ forest old
 
 abbrev pub OneForSeveral : Type 0
-OneForSeveral = (pieces : RecordPlace → Option Piece) (index : ℕ) (old new : Layout) → index < length (proxies_of old) → Replaces pieces index old new
+OneForSeveral = (index : ℕ) (old new : Layout) → index < length (proxies_of old) → Replaces index old new

@@ -8,8 +8,9 @@ pub fn one_document()
     ensures { OneDocument }
 {}
 
-/// Where one interval of a piece is replaced by others, just its proxy is replaced by theirs. With all of them held
-/// the new layout is held, and with the same trees in them the forest is the same.
+/// Where one interval of a piece is replaced by others, just its proxy is replaced by theirs. With these held, and all
+/// but that interval, the new layout is held, and it is light where both are. The row is as wide and as heavy, and with
+/// the same trees in them the forest is the same.
 pub fn one_for_several()
     ensures { OneForSeveral }
 {}

@@ -9,7 +9,7 @@ use Rattle.nx_holdings.specs.Holdings.{Held, Holds}
 use Rattle.nx_holdings.specs.Laws.{IsAmong, pages_of_lists}
 use Rattle.nx_holdings.proofs.CountLemmas.{have_free}
 use Rattle.nx_layouts.specs.Layout.{RecordPlace}
-use Rattle.nx_hold.proofs.RecordsLemmas.{one_place}
+use Rattle.nx_layouts.proofs.PlaceLemmas.{one_place}
 use Rattle.nx_state.specs.Stands.{StoredDocument, HoldsDocuments, all_places}
 use Rattle.nx_state.specs.Laws.{LeavesFree}
 use Rattle.nx_state.proofs.ListLemmas.{ListsAt, all_lists}

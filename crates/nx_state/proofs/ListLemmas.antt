@@ -16,7 +16,7 @@ use Rattle.nx_hold.specs.Changes.{place_of}
 use Rattle.nx_hold.specs.Pieces.{HoldsPiece, NamesList, PieceMap}
 use Rattle.nx_hold.proofs.PieceLemmas.{one_at, no_both, chain_same}
 use Rattle.nx_hold.proofs.MapLemmas.{held_at}
-use Rattle.nx_hold.proofs.RecordsLemmas.{one_place}
+use Rattle.nx_layouts.proofs.PlaceLemmas.{one_place}
 use Rattle.nx_state.specs.Stands.{StoredDocument, IsStoredIn, record_places, all_places}
 
 -- the items of a piece: each gap stands before a node, behind one, or below one

@@ -1,15 +1,16 @@
 -- The laws of states.
-use Rattle.std.specs.Prelude.{◌≡◌, ℕ, ◌+◌, ◌*◌, ◌≤◌, List, ◌∷◌, ◌++◌, length, map, Option}
+use Rattle.std.specs.Prelude.{◌≡◌, ℕ, ◌+◌, ◌*◌, ◌≤◌, List, [], ◌∷◌, ◌++◌, length, map, Option, All}
 use Rattle.std.specs.List.{sum}
 use Rattle.nx_host.specs.Disk.{Image}
 use Rattle.nx_replay.specs.Log.{Pages}
 use Rattle.nx_holdings.specs.declared.header.Settings.{Settings}
 use Rattle.nx_holdings.specs.Holdings.{Held, Holds, chain_count}
 use Rattle.nx_records.specs.Changes.{SetsCatalog, nothing_held}
+use Rattle.nx_layouts.specs.Layout.{ArePlacedOnce}
 use Rattle.nx_hold.specs.Pieces.{IsTidy, PieceMap}
-use Rattle.nx_hold.specs.Documents.{AddsRecords}
+use Rattle.nx_hold.specs.Documents.{MovesRecords, AddsRecords}
 use Rattle.nx_state.specs.State.{State, new_state, size_of}
-use Rattle.nx_state.specs.Stands.{StoredDocument, IsStoredIn, HoldsDocuments, HoldsState, Recovers, record_places}
+use Rattle.nx_state.specs.Stands.{StoredDocument, IsStoredIn, HoldsDocuments, HoldsState, Recovers, record_places, all_places}
 
 -- An image recovers to one state at most.
 abbrev pub OneState : Type 0
@@ -19,10 +20,21 @@ OneState = (image : Image) (state other : Option State) → Recovers image state
 abbrev pub NewIsHeld : Type 0
 NewIsHeld = (settings : Settings) → HoldsState (nothing_held settings) (new_state settings)
 
+-- Where the records of some documents became those of others, the records are those of the documents beside them and of these. So documents come, go and change.
+abbrev pub DocumentsChange : Type 0
+DocumentsChange = (needs : ℕ) (was now : Held) (before old new after : List StoredDocument) → HoldsDocuments was (before ++ (old ++ after))
+    → MovesRecords (all_places old) (all_places new) needs was now → IsTidy now → ArePlacedOnce (all_places new)
+    → ((pieces : PieceMap now) → All (IsStoredIn (now.settings).k pieces.piece_at) new) → HoldsDocuments now (before ++ (new ++ after))
+
 -- Where records of one more document come, the records are those of the documents and of this one.
 abbrev pub DocumentComes : Type 0
 DocumentComes = (needs : ℕ) (was now : Held) (before after : List StoredDocument) (s : StoredDocument) → HoldsDocuments was (before ++ after)
     → AddsRecords (record_places s) needs was now → IsTidy now → ((pieces : PieceMap now) → IsStoredIn (now.settings).k pieces.piece_at s) → HoldsDocuments now (before ++ s ∷ after)
+
+-- Where all records of a document went, the records are those of the others.
+abbrev pub DocumentGoes : Type 0
+DocumentGoes = (needs : ℕ) (was now : Held) (before after : List StoredDocument) (s : StoredDocument) → HoldsDocuments was (before ++ s ∷ after)
+    → MovesRecords (record_places s) [] needs was now → IsTidy now → HoldsDocuments now (before ++ after)
 
 -- Another catalog changes no document.
 abbrev pub CatalogComes : Type 0

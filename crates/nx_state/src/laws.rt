@@ -1,5 +1,5 @@
 //! What holds of states and of the pages that stand for them.
-ghost use Rattle.nx_state.specs.Laws.{CatalogComes, DocumentComes, DocumentsLeaveFree, NewIsHeld, OneState};
+ghost use Rattle.nx_state.specs.Laws.{CatalogComes, DocumentComes, DocumentGoes, DocumentsChange, DocumentsLeaveFree, NewIsHeld, OneState};
 
 /// An image of a store stands for one state at most, and for none where it has no page.
 pub fn one_state()
@@ -14,6 +14,17 @@ pub fn new_is_held()
 /// Where the records of one more document come, the records are those of all documents.
 pub fn document_comes()
     ensures { DocumentComes }
+{}
+
+/// Where all records of a document went, the records are those of the others.
+pub fn document_goes()
+    ensures { DocumentGoes }
+{}
+
+/// Where the records of some documents became those of others, the records are those of the documents beside them and
+/// of these.
+pub fn documents_change()
+    ensures { DocumentsChange }
 {}
 
 /// Another catalog changes no document.

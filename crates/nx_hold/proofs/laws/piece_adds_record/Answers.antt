@@ -1,4 +1,4 @@
-use Rattle.nx_hold.proofs.RecordsLemmas.{piece_adds_record}
+use Rattle.nx_hold.proofs.MoveLemmas.{piece_adds_record}
 use Rattle.nx_hold.proofs.laws.piece_adds_record.Goals as goal
 
 pub returns : goal.returns

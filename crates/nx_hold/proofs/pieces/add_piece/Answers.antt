@@ -5,6 +5,7 @@ use Rattle.nx_records.specs.declared.error.StoreError.{StoreError}
 use Rattle.nx_records.specs.Records.{ComesTo}
 use Rattle.nx_records.specs.Changes.{AddsRecord}
 use Rattle.nx_records.specs.Refusals.{NotStored}
+use Rattle.nx_records.proofs.LeaveLemmas.{leaves_same}
 use Rattle.nx_records.proofs.RefusalLemmas.{err_passed}
 use Rattle.nx_layouts.specs.Layout.{RecordPlace}
 use Rattle.nx_hold.specs.Changes.{place_of, piece_needs, AddsPiece, ComesTidy}
@@ -18,7 +19,7 @@ returns-in_err-bytes-clause-refused g c =
     err_passed c.from_residual.result (λ (e : StoreError). NotStored g.D.Disk (λ was. piece_needs c.args.piece.now) (λ was. ⊥) 0 e c.args.records.now c.record_bytes.new.records c.args.disk.now c.record_bytes.new.disk) c.in_err-bytes.field-0.0
     (err_from_is_err_and c.from_residual.result c.from_residual.ensures.1)
     (bytes_refused {d = g.D.Disk} {r0 = c.args.records.now} {r1 = c.args.records.now} {x0 = c.args.disk.now} {x1 = c.args.disk.now} {Told = λ held. Unit {0}} c.record_bytes.new.records c.record_bytes.new.disk c.args.piece.now 0 (λ was. ⊥)
-    (reads_on {r0 = c.args.records.now} {r1 = c.args.records.now} (λ held. Unit {0}) (sym c.is_ended.ensures ∙ c.if-is_ended.false) refl none_still (λ saved now stands. tt)) c.in_err-bytes.field-0.0 c.in_err-bytes.ensures.refused)
+    (reads_on {r0 = c.args.records.now} {r1 = c.args.records.now} (λ held. Unit {0}) (sym c.is_ended.ensures ∙ c.if-is_ended.false) (leaves_same refl) none_still (λ saved now stands. tt)) c.in_err-bytes.field-0.0 c.in_err-bytes.ensures.refused)
 
 pub returns-in_err-rid-clause-refused : goal.returns-in_err-rid-clause-refused
 returns-in_err-rid-clause-refused g c =
