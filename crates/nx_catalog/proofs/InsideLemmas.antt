@@ -1,11 +1,13 @@
 -- The documents that a catalog keeps, through its calls.
-use Rattle.std.proofs.Common.{◌≡◌, ℕ, ◌+◌, ◌<◌, ◌≤◌, Bool, true, false, List, [], ◌∷◌, length, refl, sym, ap, subst, ◌∙◌, arith, Option, None, Some, inl, inr}
+use Rattle.std.proofs.Common.{◌≡◌, ℕ, ◌+◌, ◌<◌, ◌≤◌, Bool, true, false, cond, List, [], ◌∷◌, length, refl, sym, ap, ap₂, subst, ◌∙◌, arith, Option, None, Some, inl, inr}
 use Rattle.std.specs.Prelude.{◌⊎◌, All, is_some, if◌then◌else◌, slice_get, option_map}
 use Rattle.std.specs.Global.{Vec}
 use Rattle.std.specs.List.{AllByRecursion}
+use Rattle.std.specs.List.Sorted.{IsStrictlySortedBy}
+use Rattle.nx_script.specs.Field.{name_order}
 use Rattle.std.specs.declared.cmp.Ordering.TheVariants.{Less, Equal, Greater}
 use Rattle.std.specs.Ordering.{match_ordering}
-use Rattle.std.specs.Map.{remove_entry}
+use Rattle.std.specs.Map.{remove_entry, set_value, keys_of}
 use Rattle.std.specs.BTreeMap.{BTreeMap, IsOrdered, btree_map_len, insert_entry}
 use Rattle.std.specs.FinMap.{entries, get, contains_key}
 use Rattle.std.proofs.lemmas.List.{length-map}
@@ -77,6 +79,61 @@ put_documents {m} n key entry are kept is ordered few = record {
   ordered = ordered;
   few = few;
   kept = subst (λ es. All IsKept (by_bytes es)) (sym is) (All-from_recursion IsKept _ (kept_put key entry m.entries kept (recursion_from_All IsKept _ are.kept)));
+}
+
+abbrev name_or : Vec ℕ → List Document → List ℕ
+name_or name [] = name.items
+name_or name (d ∷ ds) = d.0
+
+abbrev rest_of : List Document → List Document
+rest_of [] = []
+rest_of (d ∷ ds) = ds
+
+below_names : (name : Vec ℕ) (other : Vec ℕ) (es fs : List Kept) → name.items ≡ other.items → by_bytes es ≡ by_bytes fs → AllByRecursion (λ y. vector_order name y ≡ Less) (keys_of es) → AllByRecursion (λ y. vector_order other y ≡ Less) (keys_of fs)
+below_names name other [] [] same is h = tt
+below_names name other [] (f ∷ fs) same is h = absurd (cc)
+below_names name other (e ∷ es) [] same is h = absurd (cc)
+below_names name other (e ∷ es) (f ∷ fs) same is h =
+    let key : e.0.items ≡ f.0.items = ap (λ (l : List Document). name_or name l) is in
+    (ap₂ (λ (a b : List ℕ). name_order a b) (sym same) (sym key) ∙ h.0, below_names name other es fs same (ap (λ (l : List Document). rest_of l) is) h.1)
+
+-- entries with the same names are in order too
+by_names : (es fs : List Kept) → by_bytes es ≡ by_bytes fs → IsStrictlySortedBy vector_order (keys_of es) → IsStrictlySortedBy vector_order (keys_of fs)
+unfolding IsStrictlySortedBy
+by_names [] [] is h = tt
+by_names [] (f ∷ fs) is h = absurd (cc)
+by_names (e ∷ es) [] is h = absurd (cc)
+by_names (e ∷ es) (f ∷ fs) is h =
+    (below_names e.0 f.0 es fs (ap (λ (l : List Document). name_or e.0 l) is) (ap (λ (l : List Document). rest_of l) is) h.0, by_names es fs (ap (λ (l : List Document). rest_of l) is) h.1)
+
+kept_set : (test : Vec ℕ → Bool) (entry : DocEntry) (es : List Kept) → entry.root.page < 4294967296 → entry.root.slot < 65536 → entry.nodes < 4294967296 → AllByRecursion IsKept (by_bytes es) → AllByRecursion IsKept (by_bytes (set_value test es entry))
+kept_set test entry [] page slot nodes h = tt
+kept_set test entry (e ∷ es) page slot nodes h =
+    elim (test e.0) as (λ b. AllByRecursion IsKept (by_bytes (cond b ((e.0, entry) ∷ es) (e ∷ set_value test es entry)))) [
+      | true ↦ (record { named = (h.0).named; page = page; slot = slot; nodes = nodes }, h.1)
+      | false ↦ (h.0, kept_set test entry es page slot nodes h.1)
+    ]
+
+-- another entry at a key
+pub set_documents : {m : BTreeMap (Vec ℕ) DocEntry} (n : BTreeMap (Vec ℕ) DocEntry) (test : Vec ℕ → Bool) (entry : DocEntry) → AreDocuments m → (entry.root.page < 4294967296) × (entry.root.slot < 65536) × (entry.nodes < 4294967296)
+    → n.entries ≡ set_value test m.entries entry → IsOrdered vector_order n → btree_map_len n ≡ btree_map_len m → AreDocuments n
+set_documents {m} n test entry are fit is ordered same = record {
+  ordered = ordered;
+  few = let few = are.few in omega (arith, few, same);
+  kept = subst (λ es. All IsKept (by_bytes es)) (sym is) (All-from_recursion IsKept _ (kept_set test entry m.entries fit.0 fit.1 fit.2 (recursion_from_All IsKept _ are.kept)));
+}
+
+-- the same entries
+pub same_documents : {m : BTreeMap (Vec ℕ) DocEntry} (n : BTreeMap (Vec ℕ) DocEntry) → AreDocuments m → by_bytes n.entries ≡ by_bytes m.entries → AreDocuments n
+same_documents {m} n are same = record {
+  ordered = by_names m.entries n.entries (sym same) are.ordered;
+  few =
+      let few = are.few in
+      let one = length-map {B = Document} m.entries (λ (e : Kept). (e.0.items, e.1)) in
+      let other = length-map {B = Document} n.entries (λ (e : Kept). (e.0.items, e.1)) in
+      let l : length (by_bytes n.entries) ≡ length (by_bytes m.entries) = ap (λ (es : List Document). length es) same in
+      omega (arith, few, one, other, l);
+  kept = subst (λ (es : List Document). All IsKept es) (sym same) are.kept;
 }
 
 pub less_documents : {m : BTreeMap (Vec ℕ) DocEntry} (n : BTreeMap (Vec ℕ) DocEntry) (test : Vec ℕ → Bool) → AreDocuments m → n.entries ≡ remove_entry test m.entries → IsOrdered vector_order n

@@ -9,3 +9,4 @@ pub mod ListedLemmas
 pub mod DocumentLemmas
 pub mod RuleLemmas
 pub mod CatalogLemmas
+pub mod SavingLemmas

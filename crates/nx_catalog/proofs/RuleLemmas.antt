@@ -1,8 +1,8 @@
 -- Rules read one after another, into a matrix.
 use Rattle.std.proofs.Common.{Ordering, ◌≡◌, ◌≢◌, ℕ, suc, ◌+◌, ◌-◌, ◌<◌, ◌≤◌, Bool, true, false, cond, T, ◌&&◌, List, [], ◌∷◌, ◌++◌, map, length, drop, Option, Some, None, refl, sym, ap, subst, ◌∙◌, append_assoc, arith}
-use Rattle.std.specs.Prelude.{AllPairs}
-use Rattle.std.specs.List.{AllByRecursion, insert, find as list_find}
-use Rattle.std.specs.Option.{option_map_or}
+use Rattle.std.specs.Prelude.{AllPairs, ◌||◌}
+use Rattle.std.specs.List.{AllByRecursion, insert, find as list_find, list_any}
+use Rattle.std.specs.Option.{option_map_or, is_some}
 use Rattle.std.specs.Cmp.{tied_itself}
 use Rattle.std.proofs.lemmas.Slice.Eq.{bytes_eq-Decides}
 use Rattle.std.specs.Str.{bytes_eq}
@@ -16,7 +16,7 @@ use Rattle.nx_script.specs.Rule.{HasLabels, is_parent_label, is_child_label}
 use Rattle.nx_matrix.specs.declared.rule.Entry.{Entry}
 use Rattle.nx_matrix.specs.declared.rule.Entry.TheVariants.{Standalone, Cluster, Free}
 use Rattle.nx_matrix.specs.declared.rule.Rule.{Rule}
-use Rattle.nx_matrix.specs.Rules.{pair_cmp, pair_of, is_for, entry_of, IsLabel, AreRules, SetsEntry, most_rules}
+use Rattle.nx_matrix.specs.Rules.{pair_cmp, pair_of, is_for, entry_of, has_rule, IsLabel, AreRules, SetsEntry, most_rules}
 use Rattle.nx_matrix.proofs.OrderLemmas.{Pair, pair_total, pair_same, not_less}
 use Rattle.nx_matrix.proofs.EntryLemmas.{entry_insert, is_for_pair}
 use Rattle.nx_catalog.specs.Catalog.{counted, entry_byte, rule_bytes}
@@ -131,7 +131,7 @@ tied Less e = absurd (cc)
 tied Equal e = refl
 tied Greater e = absurd (cc)
 
-is_for_itself : (p c : List ℕ) (r : Rule) → pair_of r ≡ (p, c) → is_for p c r ≡ true
+pub is_for_itself : (p c : List ℕ) (r : Rule) → pair_of r ≡ (p, c) → is_for p c r ≡ true
 is_for_itself p c r same =
     both_true_back _ _ ((bytes_eq-Decides r.parent p).1 (ap (λ (x : Pair). x.0) same)) ((bytes_eq-Decides r.child c).1 (ap (λ (x : Pair). x.1) same))
 
@@ -188,7 +188,7 @@ put_last : (rules : List Rule) (r : Rule) → insert rules (length rules) r ≡ 
 put_last rules r = ap (λ (front : List Rule). front ++ r ∷ drop (length rules) rules) (take_all (length rules) rules (omega arith)) ∙ ap (λ (back : List Rule). rules ++ r ∷ back) (drop_all (length rules) rules (omega arith))
 
 -- what the rules say with one more at their end
-entry_last : (rules : List Rule) (r : Rule) → AllByRecursion (λ x. pair_cmp (pair_of x) (pair_of r) ≡ Less) rules
+pub entry_last : (rules : List Rule) (r : Rule) → AllByRecursion (λ x. pair_cmp (pair_of x) (pair_of r) ≡ Less) rules
     → (p c : List ℕ) → entry_of (rules ++ r ∷ []) p c ≡ cond (bytes_eq r.parent p && bytes_eq r.child c) r.entry (entry_of rules p c)
 entry_last rules r lesser p c =
     ap (λ (rs : List Rule). entry_of rs p c) (sym (put_last rules r))
@@ -281,15 +281,47 @@ named_if : (b : Bool) (x y : Entry) → named (cond b x y) ≡ cond b (named x) 
 named_if true x y = refl
 named_if false x y = refl
 
-pub one_rule_more : (old new : List Rule) (parent child : List ℕ) (entry : Entry) → AreRules old → AreRules new → SetsEntry old new parent child entry → length new ≤ length old + 1
-one_rule_more old new parent child entry are be sets =
-    let same : map_of new ≡ set_in (map_of old) (parent, child) entry = same_map pair_total pair_same _ _ (λ q.
+set_map : (old new : List Rule) (parent child : List ℕ) (entry : Entry) → AreRules old → AreRules new → SetsEntry old new parent child entry → map_of new ≡ set_in (map_of old) (parent, child) entry
+set_map old new parent child entry are be sets = same_map pair_total pair_same _ _ (λ q.
     get_named new be q ∙ ap named (sets q.0 q.1) ∙ named_if (bytes_eq parent q.0 && bytes_eq child q.1) entry (entry_of old q.0 q.1)
     ∙ ap (λ (b : Bool). cond b (named entry) (named (entry_of old q.0 q.1))) (asks parent child q)
     ∙ ap (λ (o : Option Entry). cond (eq_by_cmp pair_cmp q (parent, child)) (named entry) o) (sym (get_named old are q))
-    ∙ sym (get_set (map_of old) (parent, child) entry q)) in
+    ∙ sym (get_set (map_of old) (parent, child) entry q))
+
+pub one_rule_more : (old new : List Rule) (parent child : List ℕ) (entry : Entry) → AreRules old → AreRules new → SetsEntry old new parent child entry → length new ≤ length old + 1
+one_rule_more old new parent child entry are be sets =
+    let same = set_map old new parent child entry are be sets in
     let n = size_of new be in
     let o = size_of old are in
     let s = set_size (map_of old) (parent, child) entry in
     let l = ap len same in
     omega (arith, n, o, s, l)
+
+-- ---- and just one where the pair had none
+
+none_in : (p c : List ℕ) (rules : List Rule) → list_any (is_for p c) rules ≡ false → find pair_cmp (p, c) (entries_of rules) ≡ None
+none_in p c [] none = refl
+none_in p c (r ∷ rules) none =
+    let both = either_false (is_for p c r) (list_any (is_for p c) rules) none in
+    ap (λ (b : Bool). cond b (Some r.entry) (find pair_cmp (p, c) (entries_of rules))) (is_asked p c r ∙ both.0) ∙ none_in p c rules both.1
+  where
+    either_false : (a b : Bool) → a || b ≡ false → (a ≡ false) × (b ≡ false)
+    either_false true b e = absurd (cc)
+    either_false false b e = (refl, e)
+
+lacks_key : (rules : List Rule) (p c : List ℕ) → AreRules rules → has_rule rules p c ≡ false → contains_key (map_of rules) (p, c) ≡ false
+lacks_key rules p c are none = ap is_some (get-from_sorted pair_cmp (entries_of rules) (p, c) (entries_sorted rules are.ordered) ∙ none_in p c rules none)
+
+grows : (m : FinMap pair_cmp Entry) (pair : Pair) (entry : Entry) → entry ≢ Free → contains_key m pair ≡ false → len (set_in m pair entry) ≡ len m + 1
+unfolding set_in
+grows m pair Free bound none = absurd (bound refl)
+grows m pair Standalone bound none = len-insert pair_total m pair Standalone ∙ ap (λ b. cond b (len m) (len m + 1)) none
+grows m pair Cluster bound none = len-insert pair_total m pair Cluster ∙ ap (λ b. cond b (len m) (len m + 1)) none
+
+pub new_rule_more : (old new : List Rule) (parent child : List ℕ) (entry : Entry) → AreRules old → AreRules new → SetsEntry old new parent child entry → entry ≢ Free → has_rule old parent child ≡ false → length new ≡ length old + 1
+new_rule_more old new parent child entry are be sets bound none =
+    let n = size_of new be in
+    let o = size_of old are in
+    let g = grows (map_of old) (parent, child) entry bound (lacks_key old parent child are none) in
+    let l = ap len (set_map old new parent child entry are be sets) in
+    omega (arith, n, o, g, l)

@@ -3,5 +3,6 @@ pub mod Catalog
 pub mod Codes
 pub mod Inside
 pub mod Reading
+pub mod Saving
 pub mod Laws
 pub mod Lending

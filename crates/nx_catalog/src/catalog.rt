@@ -136,6 +136,6 @@ impl Catalog {
 }
 
 // Tells contracts, of each number of an entry, that it fits its type.
-fn numbers_fit(page: u32, slot: u16, nodes: u32)
+pub(crate) fn numbers_fit(page: u32, slot: u16, nodes: u32)
     ensures { (page < 4294967296) × (slot < 65536) × (nodes < 4294967296) }
 {}

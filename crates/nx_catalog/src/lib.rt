@@ -6,9 +6,11 @@
 mod catalog;
 pub mod laws;
 mod reading;
+mod saving;
 mod store;
 mod writing;
 
 pub use catalog::{Catalog, Named};
 pub use reading::catalog_of;
+pub use saving::RuleError;
 pub use store::load_catalog;

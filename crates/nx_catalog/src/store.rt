@@ -1,9 +1,8 @@
 // The catalog of records, loaded and saved.
-ghost use Rattle.std.specs.Prelude.{◌≡◌, ◌≢◌, ◌+◌, ◌≤◌, [], true, false, All, IfOk, IfErr, OnOk};
+ghost use Rattle.std.specs.Prelude.{◌≡◌, ◌+◌, ◌≤◌, true, false, All, IfOk, IfErr, OnOk};
 ghost use Rattle.nx_host.specs.Still.{IsStill};
-ghost use Rattle.nx_wal.specs.Wal.{pending};
 ghost use Rattle.nx_holdings.specs.Holdings.{Held, chain_count};
-ghost use Rattle.nx_records.specs.Records.{StandsFor, KeepsSaved, ComesTo, has_ended, catalog_length_of};
+ghost use Rattle.nx_records.specs.Records.{StandsFor, KeepsSaved, LeavesRecords, ComesTo, HasChanges, has_ended, catalog_length_of};
 ghost use Rattle.nx_records.specs.Changes.{SetsCatalog, catalog_needs};
 ghost use Rattle.nx_records.specs.Refusals.{NotRead, NotStored, RunsOn, EndNow};
 ghost use Rattle.nx_script.specs.Rule.{HasLabels};
@@ -25,7 +24,7 @@ pub fn load_catalog<D: Disk>(
 ) -> Result<Catalog, StoreError>
     ensures still { IsStill D.Disk disk.old disk.new }
     ensures reads { D.reads disk.new ≤ D.reads disk.old + chain_count (catalog_length_of records.old) }
-    ensures ok { IfOk result (λ catalog. (has_ended records.old ≡ false) × (records.new ≡ records.old)
+    ensures ok { IfOk result (λ catalog. (has_ended records.old ≡ false) × LeavesRecords records.old records.new
         × ((saved now : Held) → StandsFor D.Disk records.old disk.old saved now → IsCatalog now.catalog catalog)) }
     ensures refused { IfErr result (λ e. NotRead D.Disk (λ now. (contents : Contents) → IsCatalog now.catalog contents → ⊥) 0 e records.old records.new disk.old disk.new) }
 {
@@ -58,7 +57,7 @@ impl Catalog {
     pub fn save<D: Disk>(&self, records: &mut Records, disk: &mut D) -> Result<(), StoreError>
         ensures still { IsStill D.Disk disk.old disk.new }
         ensures ok { OnOk result (ComesTo D.Disk records.old records.new disk.old disk.new (λ was now. SetsCatalog (catalog_bytes self.now) was now)) }
-        ensures keeps { OnOk result (RunsOn records.old records.new × KeepsSaved D.Disk records.old records.new disk.old disk.new × (pending records.new.wal ≢ [])) }
+        ensures keeps { OnOk result (RunsOn records.old records.new × KeepsSaved D.Disk records.old records.new disk.old disk.new × HasChanges records.new) }
         ensures form { has_ended records.old ≡ false → All HasLabels self.now.rules → IsCatalog (catalog_bytes self.now) self.now }
         ensures refused { IfErr result (λ e. NotStored D.Disk (λ was. catalog_needs (catalog_bytes self.now) was) (λ was. ⊥) 0 e records.old records.new disk.old disk.new) }
     {
