@@ -14,7 +14,7 @@ use Rattle.nx_script.specs.declared.command.Command.TheVariants.{Load, Discard, 
 use Rattle.nx_script.specs.declared.reply.Reply.{Reply}
 use Rattle.nx_script.specs.declared.reply.Reply.TheVariants as reply
 use Rattle.nx_state.specs.State.{State}
-use Rattle.nx_store.specs.Step.{Answers, Refuses}
+use Rattle.nx_steps.specs.Answers.{Answers, Refuses}
 use Rattle.nx_steps.specs.Refusal.{refusal}
 use Rattle.nx_steps.specs.Step.{trees, Edits, Effect, FindsNoRoom}
 use Rattle.nx_steps.specs.Laws.{AreAlike, StepsAgree}

@@ -1,7 +1,8 @@
 -- What the bound of room counts.
-use Rattle.std.proofs.Common.{◌≡◌, ℕ, ◌+◌, List, Option, None, Some, ap, ◌∙◌, arith}
+use Rattle.std.proofs.Common.{◌≡◌, ℕ, ◌+◌, false, List, Option, None, Some, refl, ap, ◌∙◌, arith, if◌then◌else◌}
 use Rattle.std.specs.Prelude.{option_map}
 use Rattle.std.specs.FinMap.{get, contains_key, insert}
+use Rattle.std.specs.Option.{is_some}
 use Rattle.nx_tree.specs.Forest.{OrderedTree, nodes}
 use Rattle.nx_tree.specs.Edit.{put, cut_at, retext}
 use Rattle.nx_cuts.specs.Cut.{CutTree, tree_of}
@@ -14,11 +15,20 @@ use Rattle.nx_engine.specs.Step.{edited, insert_fault, delete_fault, retext_faul
 use Rattle.nx_engine.proofs.EditedLemmas.{edited_at}
 use Rattle.nx_state.specs.State.{State, size_of, all_nodes}
 use Rattle.nx_steps.specs.Refusal.{document_fault, load_fault, inserted_fault, retexted_fault}
-use Rattle.nx_steps.specs.Step.{trees, nodes_of}
+use Rattle.nx_steps.specs.Step.{trees, nodes_of, nodes_after}
 use Rattle.nx_steps.specs.Laws.{RoomIsCounted}
-use Rattle.nx_steps.proofs.TreesLemmas.{get-trees, nodes-trees, nodes-other}
+use Rattle.nx_steps.proofs.TreesLemmas.{get-trees, contains-trees, nodes-trees, nodes-new, nodes-other}
 use Rattle.nx_steps.proofs.TreesLaw.{new_name, none_of, first_of_two}
-use Rattle.nx_steps.proofs.StoreLaw.{load_nodes}
+
+-- a new name's document adds its nodes
+pub load_nodes : (state : State) (name : List ℕ) (tree : OrderedTree) → contains_key state.documents name ≡ false → nodes_after state (Load name (load.Read tree)) ≡ all_nodes state + (1 + nodes tree.below)
+load_nodes state name tree new =
+    ap (λ b. nodes_of (if b then trees state else insert (trees state) name tree)) (contains-trees state name ∙ new)
+    ∙ nodes-new (trees state) name tree (is_none (get (trees state) name) (contains-trees state name ∙ new)) ∙ ap (λ n. n + (1 + nodes tree.below)) (nodes-trees state)
+  where
+    is_none : {X : Type 0} (o : Option X) → is_some o ≡ false → o ≡ None
+    is_none None e = refl
+    is_none (Some x) e = cc
 
 -- an edit that isn't refused
 edit_counted : (state : State) (name : List ℕ) (fault : OrderedTree → Option ReplyError) (change : OrderedTree → OrderedTree) (old : CutTree) → get state.documents name ≡ Some old

@@ -1,66 +1,74 @@
--- The documents of a state that pages stand for are cut into parts that aren't too heavy.
-use Rattle.std.proofs.Common.{◌≡◌, ℕ, cond, true, false, List, [], ◌∷◌, map, Option, Some, refl, sym, ap, subst, ◌∙◌, arith}
+-- Each state that pages stand for is sound.
+use Rattle.std.proofs.Common.{Ordering, ◌≡◌, ℕ, cond, true, false, List, [], ◌∷◌, map, Option, Some, refl, sym, ap, subst, ◌∙◌, Less, Equal, Greater}
+use Rattle.std.specs.Prelude.{All, IsTrue}
 use Rattle.std.specs.List.{AllByRecursion}
-use Rattle.std.specs.Ordering.{eq_by_cmp}
-use Rattle.std.specs.FinMap.{find, get-entries}
+use Rattle.std.specs.Ordering.{is_eq, eq_by_cmp}
+use Rattle.std.specs.FinMap.{find, entries, get-entries, slice_cmp-IsAntisymmetric, nat_cmp-IsAntisymmetric}
 use Rattle.std.proofs.lemmas.List.Elements.{recursion_from_All}
+use Rattle.nx_tree.specs.Document.{IsDocument}
+use Rattle.nx_matrix.specs.Rules.{AreRules}
 use Rattle.nx_piece.specs.declared.piece.Piece.{Piece}
-use Rattle.nx_cuts.specs.Cut.{Bare, Grown, Kept, CutTree, width, part_weight, AreFree, AreParts}
-use Rattle.nx_layouts.specs.Layout.{RecordPlace, Layout, without_places}
+use Rattle.nx_cuts.specs.Cut.{CutTree, AreParts, tree_of}
+use Rattle.nx_hold.specs.Changes.{place_of}
+use Rattle.nx_layouts.specs.Layout.{RecordPlace}
+use Rattle.nx_catalog.specs.Catalog.{IsKept}
 use Rattle.nx_holdings.specs.declared.header.Settings.{Settings}
-use Rattle.nx_script.specs.Field.{name_order}
+use Rattle.nx_script.specs.Field.{name_order, is_document_name}
+use Rattle.nx_script.specs.Rule.{HasLabels}
+use Rattle.nx_state.specs.State.{State}
 use Rattle.nx_state.specs.Stands.{StoredDocument, IsStoredIn}
-use Rattle.nx_steps.specs.Splits.{whole}
-use Rattle.nx_steps.specs.Laws.{StoredIsFeasible}
-
-pub width_bare : (a : Layout) → width (without_places a) ≡ width a
-width_bare Bare = refl
-width_bare (Grown n b s) = omega (arith, width_bare s)
-width_bare (Kept p m s) = omega (arith, width_bare m, width_bare s)
-
-weight_bare : (a : Layout) → part_weight (without_places a) ≡ part_weight a
-weight_bare Bare = refl
-weight_bare (Grown n b s) = omega (arith, weight_bare b, weight_bare s)
-weight_bare (Kept p m s) = weight_bare s
-
-free_bare : (a : Layout) → AreFree a → AreFree (without_places a)
-free_bare Bare f = tt
-free_bare (Grown n b s) f = free_bare s f
-free_bare (Kept p m s) f = absurd f
-
-parts_bare : (k : ℕ) (a : Layout) → AreParts k a → AreParts k (without_places a)
-parts_bare k Bare h = tt
-parts_bare k (Grown n b s) h = (parts_bare k b h.0, parts_bare k s h.1)
-parts_bare k (Kept p m s) h =
-    let w = width_bare m in let v = weight_bare m in let x = h.0 in let y = h.2 in (omega arith, free_bare m h.1, omega arith, parts_bare k m h.3, parts_bare k s h.4)
-
--- one document
-one_feasible : (k : ℕ) (pieces : RecordPlace → Option Piece) (s : StoredDocument) → IsStoredIn k pieces s → AreParts k (whole s.document)
-one_feasible k pieces s h =
-    let l = (h.laid).light in
-    let below = subst (AreParts k) (h.laid).same (parts_bare k s.layout l.3.0) in
-    let same : part_weight (without_places s.layout) ≡ part_weight s.document.below = ap part_weight (h.laid).same in
-    let v = weight_bare s.layout in let x = l.2 in (omega arith, tt, omega (arith, same, v, x), (below, tt), tt)
+use Rattle.nx_drawn.specs.Splits.{whole}
+use Rattle.nx_drawn.proofs.BareLemmas.{laid_parts}
+use Rattle.nx_steps.specs.Sound.{OfEachDocument}
+use Rattle.nx_steps.specs.Laws.{StoredIsSound}
 
 same_some : (a b : CutTree) → Some a ≡ Some b → a ≡ b
 same_some a b e = cc
 
-found_feasible : (k : ℕ) (name : List ℕ) (stored : List StoredDocument) → AllByRecursion (λ (s : StoredDocument). AreParts k (whole s.document)) stored
-    → (document : CutTree) → find name_order name (map (λ (s : StoredDocument). (s.name, s.document)) stored) ≡ Some document → AreParts k (whole document)
-found_feasible k name [] all document e = cc
-found_feasible k name (s ∷ stored) all document e =
-    (elim (eq_by_cmp name_order name s.name) as (λ t. cond t (Some s.document) (find name_order name (map (λ (x : StoredDocument). (x.name, x.document)) stored)) ≡ Some document → AreParts k (whole document)) [
-      | true ↦ λ is. subst (λ (d : CutTree). AreParts k (whole d)) (same_some s.document document is) all.0
-      | false ↦ λ is. found_feasible k name stored all.1 document is
-    ]) e
+tied : (o : Ordering) → is_eq o ≡ true → o ≡ Equal
+tied Less e = absurd (cc)
+tied Equal e = refl
+tied Greater e = absurd (cc)
 
-each_feasible : (k : ℕ) (pieces : RecordPlace → Option Piece) (stored : List StoredDocument) → AllByRecursion (IsStoredIn k pieces) stored → AllByRecursion (λ (s : StoredDocument). AreParts k (whole s.document)) stored
-each_feasible k pieces [] all = tt
-each_feasible k pieces (s ∷ stored) all = (one_feasible k pieces s all.0, each_feasible k pieces stored all.1)
+-- names that tie are one name
+pub one_name : (a b : List ℕ) → eq_by_cmp name_order a b ≡ true → a ≡ b
+one_name a b e = slice_cmp-IsAntisymmetric nat_cmp-IsAntisymmetric a b (tied (name_order a b) e)
 
-pub stored_feasible : StoredIsFeasible
-stored_feasible held state h = λ name document there.
+-- what holds of each stored document holds of the one that is found
+found_has : (P : List ℕ → CutTree → Type 0) (name : List ℕ) (stored : List StoredDocument) → AllByRecursion (λ (s : StoredDocument). P s.name s.document) stored
+    → (document : CutTree) → find name_order name (map (λ (s : StoredDocument). (s.name, s.document)) stored) ≡ Some document → P name document
+found_has P name [] all document e = cc
+found_has P name (s ∷ stored) all document e =
+    (elim (eq_by_cmp name_order name s.name) as (λ t. eq_by_cmp name_order name s.name ≡ t → cond t (Some s.document) (find name_order name (map (λ (x : StoredDocument). (x.name, x.document)) stored)) ≡ Some document → P name document) [
+      | true ↦ λ tie is. subst (λ (q : List ℕ). P q document) (sym (one_name name s.name tie)) (subst (λ (d : CutTree). P s.name d) (same_some s.document document is) all.0)
+      | false ↦ λ tie is. found_has P name stored all.1 document is
+    ]) refl e
+
+each_has : (P : List ℕ → CutTree → Type 0) (held_state : State) (stored : List StoredDocument) → entries held_state.documents ≡ map (λ (s : StoredDocument). (s.name, s.document)) stored
+    → AllByRecursion (λ (s : StoredDocument). P s.name s.document) stored → OfEachDocument P held_state
+each_has P state stored documents all = λ name document there. found_has P name stored all document (ap (find name_order name) (sym documents) ∙ sym (get-entries state.documents name) ∙ there)
+
+each_light : (k : ℕ) (pieces : RecordPlace → Option Piece) (stored : List StoredDocument) → AllByRecursion (IsStoredIn k pieces) stored → AllByRecursion (λ (s : StoredDocument). AreParts k (whole s.document)) stored
+each_light k pieces [] all = tt
+each_light k pieces (s ∷ stored) all = (laid_parts k pieces (place_of s.entry.root) s.document s.layout all.0.laid, each_light k pieces stored all.1)
+
+each_document : (k : ℕ) (pieces : RecordPlace → Option Piece) (stored : List StoredDocument) → AllByRecursion (IsStoredIn k pieces) stored → AllByRecursion (λ (s : StoredDocument). IsDocument (tree_of s.document)) stored
+each_document k pieces [] all = tt
+each_document k pieces (s ∷ stored) all = (((all.0).laid).is_document, each_document k pieces stored all.1)
+
+each_named : (stored : List StoredDocument) → AllByRecursion IsKept (map (λ (s : StoredDocument). (s.name, s.entry)) stored) → AllByRecursion (λ (s : StoredDocument). IsTrue (is_document_name s.name)) stored
+each_named [] all = tt
+each_named (s ∷ stored) all = ((all.0).named, each_named stored all.1)
+
+pub stored_sound : StoredIsSound
+stored_sound held state h =
     let pieces = (h.holds).pieces.piece_at in
-    subst (λ (t : Settings). AreParts t.k (whole document)) h.settings
-    (found_feasible (held.settings).k name h.stored (each_feasible (held.settings).k pieces h.stored (recursion_from_All (IsStoredIn (held.settings).k pieces) h.stored (h.holds).each)) document
-    (ap (find name_order name) (sym h.documents) ∙ sym (get-entries state.documents name) ∙ there))
+    let each = recursion_from_All (IsStoredIn (held.settings).k pieces) h.stored (h.holds).each in
+    let kept = recursion_from_All IsKept (entries (h.contents).documents) (h.catalog).kept in record {
+      named = each_has (λ name document. IsTrue (is_document_name name)) state h.stored h.documents (each_named h.stored (subst (AllByRecursion IsKept) h.names kept));
+      documents = each_has (λ name document. IsDocument (tree_of document)) state h.stored h.documents (each_document (held.settings).k pieces h.stored each);
+      drawn = subst (λ (t : Settings). OfEachDocument (λ name document. AreParts t.k (whole document)) state) h.settings
+          (each_has (λ name document. AreParts (held.settings).k (whole document)) state h.stored h.documents (each_light (held.settings).k pieces h.stored each));
+      rules = subst AreRules h.rules (h.catalog).rules;
+      labels = subst (All HasLabels) h.rules (h.catalog).labels;
+    }

@@ -1,6 +1,6 @@
 -- The trees behind an effect are those of the plain command.
-use Rattle.std.proofs.Common.{◌≡◌, ◌⊎◌, inl, inr, ℕ, Bool, true, false, List, refl, sym, ap, ◌∙◌, Option, None, Some, if◌then◌else◌}
-use Rattle.std.specs.Prelude.{option_map, MatchOption}
+use Rattle.std.proofs.Common.{◌≡◌, ℕ, Bool, true, false, List, refl, sym, ap, ◌∙◌, Option, None, Some, if◌then◌else◌}
+use Rattle.std.specs.Prelude.{option_map}
 use Rattle.std.specs.Option.{option_map_or, option_or}
 use Rattle.std.specs.FinMap.{get, contains_key, insert}
 use Rattle.nx_tree.specs.Forest.{OrderedTree}
@@ -13,21 +13,21 @@ use Rattle.nx_script.specs.declared.command.Command.TheVariants.{Load, Discard, 
 use Rattle.nx_script.specs.declared.command.Command.{Command}
 use Rattle.nx_script.specs.declared.reply.Reply.{Reply}
 use Rattle.nx_script.specs.declared.reply.ReplyError.{ReplyError}
-use Rattle.nx_script.specs.declared.reply.ReplyError.TheVariants.{NoDocument, Exists, Full}
+use Rattle.nx_script.specs.declared.reply.ReplyError.TheVariants.{NoDocument, Exists}
 use Rattle.nx_engine.specs.Step.{after, edited, insert_fault, delete_fault, retext_fault}
 use Rattle.nx_engine.proofs.EditedLemmas.{edited_at}
 use Rattle.nx_state.specs.State.{State}
-use Rattle.nx_store.specs.Step.{Refuses}
-use Rattle.nx_steps.specs.Edits.{inserted, deleted, retexted}
-use Rattle.nx_steps.specs.Splits.{Splits}
+use Rattle.nx_drawn.specs.Edits.{inserted, deleted, retexted}
+use Rattle.nx_drawn.specs.Splits.{Splits}
 use Rattle.nx_steps.specs.Refusal.{refusal, document_fault, load_fault, inserted_fault, retexted_fault}
-use Rattle.nx_steps.specs.Step.{trees, nodes_of, Edits, Effect, FindsNoRoom}
-use Rattle.nx_steps.specs.Laws.{AreFeasible, IsRefused, EffectsLeaveNodes, StepsEditTrees}
+use Rattle.nx_steps.specs.Step.{trees, nodes_of, Edits, Effect}
+use Rattle.nx_steps.specs.Sound.{AreFeasible}
+use Rattle.nx_steps.specs.Laws.{EffectsLeaveNodes}
 use Rattle.nx_steps.proofs.TreesLemmas.{get-trees, contains-trees, nodes-trees, trees-with_document, trees-removed}
-use Rattle.nx_steps.proofs.EditLemmas.{tree-inserted, tree-deleted, tree-retexted}
-use Rattle.nx_steps.proofs.SplitLemmas.{same_tree}
+use Rattle.nx_drawn.proofs.EditLemmas.{tree-inserted, tree-deleted, tree-retexted}
+use Rattle.nx_drawn.proofs.SplitLemmas.{same_tree}
 
-first_none : {X : Type 0} (a b : Option X) → option_or a b ≡ None → a ≡ None
+pub first_none : {X : Type 0} (a b : Option X) → option_or a b ≡ None → a ≡ None
 first_none None b e = refl
 first_none (Some x) b e = cc
 
@@ -84,11 +84,3 @@ effect_trees state Bad r next feasible none effect = absurd effect
 
 pub effect_nodes : EffectsLeaveNodes
 effect_nodes state command r next feasible none effect = sym (nodes-trees next) ∙ ap nodes_of (effect_trees state command r next feasible none effect)
-
-pub step_trees : StepsEditTrees
-step_trees state command r next feasible step =
-    (elim (refusal state command) as (λ o. refusal state command ≡ o → MatchOption o (Effect state command r next ⊎ FindsNoRoom state command r next) (λ error. Refuses state error r next)
-    → (trees next ≡ after (trees state) command) ⊎ IsRefused state r next) [
-      | None ↦ λ none s. elim s [ inl effect ↦ inl (effect_trees state command r next feasible none effect) | inr full ↦ inr (Full, full.refused) ]
-      | Some error ↦ λ is s. inr (error, s)
-    ]) refl step

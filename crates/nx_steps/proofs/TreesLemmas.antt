@@ -13,7 +13,7 @@ use Rattle.nx_cuts.specs.Cut.{CutTree, tree_of}
 use Rattle.nx_script.specs.Field.{name_order}
 use Rattle.nx_engine.specs.Documents.{Documents}
 use Rattle.nx_state.specs.State.{State, size_of, all_nodes}
-use Rattle.nx_store.specs.Step.{with_document}
+use Rattle.nx_steps.specs.Answers.{with_document}
 use Rattle.nx_steps.specs.Step.{trees, nodes_of}
 
 -- a name and a document, without its intervals
@@ -44,7 +44,7 @@ find_bare name (e ∷ es) =
 rising : (state : State) → T (is_sorted name_order (map bare (entries state.documents)))
 rising state = subst T (sym (sorted_bare (entries state.documents))) (entries_sorted state.documents)
 
-entries-trees : (state : State) → entries (trees state) ≡ map bare (entries state.documents)
+pub entries-trees : (state : State) → entries (trees state) ≡ map bare (entries state.documents)
 entries-trees state = entries-from_sorted name_order (map bare (entries state.documents)) (rising state)
 
 pub get-trees : (state : State) (name : List ℕ) → get (trees state) name ≡ option_map tree_of (get state.documents name)

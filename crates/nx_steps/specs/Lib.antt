@@ -1,6 +1,6 @@
-pub mod Edits
-pub mod Placement
-pub mod Splits
+pub mod Answers
 pub mod Refusal
 pub mod Step
+pub mod Sound
+pub mod Plain
 pub mod Laws

@@ -23,7 +23,7 @@ use Rattle.nx_script.specs.declared.reply.ReplyError.{ReplyError}
 use Rattle.nx_script.specs.declared.reply.ReplyError.TheVariants.{Syntax, NoDocument, Exists, Pyx, NoNode, TooManyRules, TooHeavy}
 use Rattle.nx_engine.specs.Step.{insert_fault, delete_fault, retext_fault}
 use Rattle.nx_state.specs.State.{State}
-use Rattle.nx_store.specs.Step.{heavy_fault}
+use Rattle.nx_steps.specs.Answers.{heavy_fault}
 
 -- there is no document of that name, or its tree has this fault
 abbrev pub document_fault : State → List ℕ → (OrderedTree → Option ReplyError) → Option ReplyError

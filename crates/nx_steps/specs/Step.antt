@@ -1,5 +1,5 @@
 -- What a command does to a store, and what it is answered.
-use Rattle.std.specs.Prelude.{◌≡◌, ◌⊎◌, ℕ, ◌+◌, Bool, true, false, IsTrue, List, map, Some}
+use Rattle.std.specs.Prelude.{◌≡◌, ◌⊎◌, ℕ, ◌+◌, Bool, true, false, IsTrue, List, [], ◌∷◌, map, Some}
 use Rattle.std.specs.Option.{option_map_or, MatchOption}
 use Rattle.std.specs.List.{sum}
 use Rattle.std.specs.FinMap.{get, remove, entries, values, from_sorted}
@@ -20,9 +20,9 @@ use Rattle.nx_script.specs.declared.reply.ReplyError.TheVariants.{NoNode, Full}
 use Rattle.nx_engine.specs.Documents.{Documents}
 use Rattle.nx_engine.specs.Step.{shown, after}
 use Rattle.nx_state.specs.State.{State}
-use Rattle.nx_store.specs.Step.{Answers, Refuses, by_document, listed, laid, with_document, Loads, MayBeFull}
-use Rattle.nx_steps.specs.Edits.{inserted, deleted, retexted}
-use Rattle.nx_steps.specs.Splits.{Splits}
+use Rattle.nx_steps.specs.Answers.{Answers, Refuses, by_document, listed, laid, with_document, Loads, MayBeFull}
+use Rattle.nx_drawn.specs.Edits.{inserted, deleted, retexted}
+use Rattle.nx_drawn.specs.Splits.{Splits}
 use Rattle.nx_steps.specs.Refusal.{refusal}
 
 -- the trees of a state, without their intervals
@@ -68,6 +68,16 @@ Effect state Rules r next = Answers state (reply.Rules state.rules) r next
 Effect state Checkpoint r next = Answers state reply.Done r next
 Effect state _ r next = ⊥
 
+-- the command may change what is stored
+abbrev pub may_change : Command → Bool
+may_change (Load name body) = true
+may_change (Discard name) = true
+may_change (Insert name path said) = true
+may_change (Delete name path) = true
+may_change (Retext name path said) = true
+may_change (SetRule rule) = true
+may_change _ = false
+
 -- the command may need pages
 abbrev pub may_need_room : Command → Bool
 may_need_room (Load name body) = true
@@ -87,3 +97,9 @@ pub record FindsNoRoom (state : State) (command : Command) (r : Reply) (next : S
 abbrev pub Step : State → Command → Reply → State → Type 0
 Step state command r next =
     MatchOption (refusal state command) (Effect state command r next ⊎ FindsNoRoom state command r next) (λ error. Refuses state error r next)
+
+-- The commands are answered so, one after the other, from the state on, and leave the last state.
+abbrev pub RunsTo : State → List Command → List Reply → State → Type 0
+RunsTo state [] [] last = last ≡ state
+RunsTo state (command ∷ commands) (r ∷ replies) last = (next : State) × Step state command r next × RunsTo next commands replies last
+RunsTo state commands replies last = ⊥

@@ -1,26 +1,49 @@
-//! What holds of steps.
-ghost use Rattle.nx_steps.specs.Placement.{PlantsRuns, RemovesRuns};
-ghost use Rattle.nx_steps.specs.Laws.{EffectsLeaveNodes, LightStays, PieceIsPart, RoomIsCounted, StepsAgree, StepsEditTrees, StepsStayFeasible, StepsStayPartitioned, StoreStepsAreSteps, StoredIsFeasible};
+//! What holds of steps, and of runs of them.
+ghost use Rattle.nx_steps.specs.Laws.{EffectsLeaveNodes, OthersStay, RoomIsCounted, RunsEditTrees, RunsKeepSound, RunsReplyPlainly, StepsAgree, StepsArePlain, StepsKeepSound, StepsStayFeasible, StepsStayPartitioned, StoredIsSound};
 
-/// The steps of the commands that a store carries out so far are those that it promises.
-pub fn store_steps_are_steps()
-    ensures { StoreStepsAreSteps }
+/// Each state that pages stand for is sound: its documents are such, cut into parts that aren't too heavy,
+/// and its rules are those of a matrix.
+pub fn stored_is_sound()
+    ensures { StoredIsSound }
 {}
 
-/// The documents of each state that pages stand for are cut into parts that aren't too heavy.
-pub fn stored_is_feasible()
-    ensures { StoredIsFeasible }
+/// Each step of a command that a script can give leaves a sound state sound.
+pub fn steps_keep_sound()
+    ensures { StepsKeepSound }
 {}
 
-/// The trees behind a step are those of the same command over trees in memory, where it wasn't refused.
-pub fn steps_edit_trees()
-    ensures { StepsEditTrees }
+/// The same of a run.
+pub fn runs_keep_sound()
+    ensures { RunsKeepSound }
+{}
+
+/// A step that is refused for weight or for want of room changes nothing. Each other one leaves the trees of
+/// the same command over trees in memory, and has its reply, but for the number of intervals and where trees
+/// in memory don't carry the command out.
+pub fn steps_are_plain()
+    ensures { StepsArePlain }
+{}
+
+/// The trees behind a run are those of its commands over trees in memory, those aside that were refused for
+/// weight or for want of room.
+pub fn runs_edit_trees()
+    ensures { RunsEditTrees }
+{}
+
+/// The same of the replies of a run, where trees in memory carry all of its commands out.
+pub fn runs_reply_plainly()
+    ensures { RunsReplyPlainly }
 {}
 
 /// Two steps of one command in one state have the same reply and leave the same trees and rules, where none
 /// was refused for want of room.
 pub fn steps_agree()
     ensures { StepsAgree }
+{}
+
+/// A command that may not change what is stored leaves the state.
+pub fn others_stay()
+    ensures { OthersStay }
 {}
 
 /// A command that has its effect leaves as many nodes as the bound of room counts.
@@ -33,8 +56,7 @@ pub fn room_is_counted()
     ensures { RoomIsCounted }
 {}
 
-/// Behind each step but a `load`'s each document is cut into parts that aren't too heavy, where it was so
-/// before.
+/// Behind each step each document is cut into parts that aren't too heavy, where it was so before.
 pub fn steps_stay_feasible()
     ensures { StepsStayFeasible }
 {}
@@ -42,24 +64,4 @@ pub fn steps_stay_feasible()
 /// Behind each step the intervals of each document are a feasible partitioning of its tree.
 pub fn steps_stay_partitioned()
     ensures { StepsStayPartitioned }
-{}
-
-/// A document none of whose parts is too heavy is split nowhere.
-pub fn light_stays()
-    ensures { LightStays }
-{}
-
-/// A split sees of the piece of an interval what it sees of the interval's part.
-pub fn piece_is_part()
-    ensures { PieceIsPart }
-{}
-
-/// What an `insert` does to the intervals below the new node's parent, by their first and last positions.
-pub fn plants_runs()
-    ensures { PlantsRuns }
-{}
-
-/// What a `delete` does to the intervals below the lost tree's parent, by their first and last positions.
-pub fn removes_runs()
-    ensures { RemovesRuns }
 {}

@@ -1,7 +1,10 @@
 //! What each command of a script does to a store, and what it is answered.
 //!
-//! `specs/Step.antt` says it of all commands, those that no store carries out yet among them. The crate has
-//! definitions and their laws alone.
+//! `specs/Step.antt` says it of all commands, those that no store carries out yet among them. Besides
+//! definitions and their laws the crate has one test: whether a command may change what is stored.
 #![tactic(auto)]
 
+mod change;
 pub mod laws;
+
+pub use change::may_change;

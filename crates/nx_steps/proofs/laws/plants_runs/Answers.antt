@@ -1,5 +1,0 @@
-use Rattle.nx_steps.proofs.PlacementLemmas.{plants_runs}
-use Rattle.nx_steps.proofs.laws.plants_runs.Goals as goal
-
-pub returns : goal.returns
-returns c = plants_runs

@@ -1,5 +1,0 @@
-use Rattle.nx_steps.proofs.PlacementLemmas.{removes_runs}
-use Rattle.nx_steps.proofs.laws.removes_runs.Goals as goal
-
-pub returns : goal.returns
-returns c = removes_runs
