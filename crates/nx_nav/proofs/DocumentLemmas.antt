@@ -1,11 +1,12 @@
 -- A document as the interval of its root, which a walk tells of.
-use Rattle.std.proofs.Common.{◌≡◌, ℕ, ◌+◌, ◌≤◌, List, [], Option, refl, sym, ap, ◌∙◌, subst, arith}
+use Rattle.std.proofs.Common.{◌≡◌, ℕ, ◌+◌, ◌≤◌, List, [], ◌++◌, Option, refl, sym, ap, ◌∙◌, subst, arith}
 use Rattle.std.proofs.lemmas.List.{append-nil}
 use Rattle.std.specs.Prelude.{IsSome}
 use Rattle.nx_host.specs.Disk.{Image}
 use Rattle.nx_host.specs.Still.{IsStill}
 use Rattle.nx_host.specs.declared.disk.Disk.{Ghosts}
 use Rattle.nx_records.specs.declared.records.Records.{Records}
+use Rattle.nx_records.proofs.LeaveLemmas.{leaves_same}
 use Rattle.nx_tree.specs.Forest.{Forest, Empty, Plant, nodes}
 use Rattle.nx_tree.specs.Document.{depth}
 use Rattle.nx_cuts.specs.Cut.{Bare, Grown, Kept, CutForest, CutTree, forest, width, part_weight, tree_of}
@@ -21,6 +22,7 @@ use Rattle.nx_nav.specs.Walk.{HasTold, HasStopped, IsNone, IsIntervalAt, TellsDo
 use Rattle.nx_nav.proofs.NodeLemmas.{document_stands}
 use Rattle.nx_nav.proofs.PartLemmas.{document_held, document_forest}
 use Rattle.nx_nav.proofs.RefusalLemmas.{refused_later}
+use Rattle.nx_nav.proofs.WayLemmas.{IsTeller, told_earlier}
 
 pub width-without_places : (l : Layout) → width (without_places l) ≡ width l
 width-without_places Bare = refl
@@ -69,20 +71,26 @@ module _ {D : Type 0} {d : Ghosts D} {r0 : Records} {x : D} {root : RecordPlace}
 module _ {D : Type 0} (d : Ghosts D) (Unwritten : Type 0) (r0 r1 : Records) (x y : D) (root : RecordPlace) where
   pub document_refused : (left : ℕ) (v : Visited) → HasVisited v [] → (e : NavError) → IsRefused d ⊥ Unwritten (IsNone d y (IsIntervalAt d r0 x root 1) 257 left v) e r0 r1 x y → IsRefused d ⊥ Unwritten (IsSome (d.contents y) → HoldsNoneWith d r0 x root left) e r0 r1 x y
   document_refused left v fresh e refused =
-      refused_later d ⊥ Unwritten (IsSome (d.contents y) → HoldsNoneWith d r0 x root left) r0 r0 r1 x x y refl (omega arith) (λ bad. bad) (λ u. u) (none_such y left v fresh) e refused
+      refused_later d ⊥ Unwritten (IsSome (d.contents y) → HoldsNoneWith d r0 x root left) r0 r0 r1 x x y (leaves_same refl) (λ ended. refl) (omega arith) (λ bad. bad) (λ u. u) (none_such y left v fresh) e refused
 
 -- a call that asked the disk alone gave up for what it says
 pub asked_refused : {D : Type 0} (d : Ghosts D) (r0 r1 : Records) (x y : D) (root : RecordPlace) (left : ℕ) (e : NavError) → IsStill d x y
     → IsRefused d ⊥ ⊥ (IsSome (d.contents y) → HoldsNoneWith d r0 x root left) e r0 r1 x y → IsRefused d ⊥ ⊥ (HoldsNoneWith d r0 x root left) e r0 r1 x y
 asked_refused d r0 r1 x y root left e still refused =
-    refused_later d ⊥ ⊥ (HoldsNoneWith d r0 x root left) r0 r0 r1 x x y refl (omega arith) (λ bad. bad) (λ bad. bad) (λ none document h. none (document_seen still h) document h) e refused
+    refused_later d ⊥ ⊥ (HoldsNoneWith d r0 x root left) r0 r0 r1 x x y (leaves_same refl) (λ ended. refl) (omega arith) (λ bad. bad) (λ bad. bad) (λ none document h. none (document_seen still h) document h) e refused
 
 module _ {A D : Type 0} {d : Ghosts D} {Told : A → D → List Step → A → D → Type 0} {r0 : Records} {x : D} {root : RecordPlace} {a : A} where
-  pub document_told : (left rest : ℕ) (b : A) (y : D) (v w : Visited) → HasTold d Told (IsIntervalAt d r0 x root 1) a x left v b y rest w → TellsDocument d Told r0 x root a b y
-  document_told left rest b y v w has = record {
-    told = has.told;
-    goes = has.goes;
-    all = λ seen document h. (has.all seen (Kept root (Grown document.node h.laid.layout Bare) Bare) (as_interval h)).0 ∙ document_steps root h.laid.layout document h.laid.laid.same;
+  -- all was told, and the teller paused at the end
+  pub document_told : {Unwritten : D → D → Type 0} → IsTeller d Told Unwritten → (left rest : ℕ) (b c : A) (y z : D) (v w : Visited)
+      → HasTold d Told (IsIntervalAt d r0 x root 1) a x left v b y rest w → rest ≡ 0 → Told b y [] c z → TellsDocument d Told r0 x root left a c z
+  document_told teller left rest b c y z v w has none paused = record {
+    told = has.told ++ [];
+    goes = teller.join a b c x y z has.told [] has.goes paused;
+    all = λ seen document h.
+        let all = has.all (told_earlier teller paused seen) (Kept root (Grown document.node h.laid.layout Bare) Bare) (as_interval h) in
+        let taken : left ≡ rest + (1 + nodes (forest h.laid.layout) + 0) = all.1 in
+        let size = ap nodes (document_forest h) in
+        (omega arith, append-nil has.told ∙ all.0 ∙ document_steps root h.laid.layout document h.laid.laid.same);
   }
 
   pub document_stops : (y : D) → HasStopped d Told (IsIntervalAt d r0 x root 1) a x y → StopsWithin d Told r0 x root a y
@@ -103,6 +111,18 @@ module _ {A D : Type 0} {d : Ghosts D} {Told : A → D → List Step → A → D
     goes = has.goes;
     first = λ seen document h.
         ([], sym ((has.all seen (Kept root (Grown document.node h.laid.layout Bare) Bare) (as_interval h)).0 ∙ document_steps root h.laid.layout document h.laid.laid.same) ∙ sym (append-nil has.told));
+  }
+
+  -- ... and where it paused then
+  pub document_stops_paused : {Unwritten : D → D → Type 0} → IsTeller d Told Unwritten → (left rest : ℕ) (b last : A) (y z : D) (v w : Visited)
+      → HasTold d Told (IsIntervalAt d r0 x root 1) a x left v b y rest w → Told b y [] last z → StopsWithin d Told r0 x root a z
+  document_stops_paused teller left rest b last y z v w has paused = record {
+    told = has.told ++ [];
+    last = last;
+    goes = teller.join a b last x y z has.told [] has.goes paused;
+    first = λ seen document h.
+        let all = has.all (told_earlier teller paused seen) (Kept root (Grown document.node h.laid.layout Bare) Bare) (as_interval h) in
+        ([], sym (append-nil (has.told ++ []) ∙ append-nil has.told ∙ all.0 ∙ document_steps root h.laid.layout document h.laid.laid.same));
   }
 
   pub none_so_large : (left rest : ℕ) (b : A) (y : D) (v w : Visited) → HasTold d Told (IsIntervalAt d r0 x root 1) a x left v b y rest w → (rest ≡ 0 → ⊥) → IsSome (d.contents y) → HoldsNoneWith d r0 x root left

@@ -1,13 +1,13 @@
 -- Every node of a document is one that a document may have.
-use Rattle.std.proofs.Common.{◌≡◌, ℕ, zero, suc, ◌+◌, false, List, [], ◌∷◌, length, Option, None, Some, refl, sym, ◌∙◌, subst, arith, inl, inr}
+use Rattle.std.proofs.Common.{◌≡◌, ℕ, zero, suc, ◌+◌, ◌≤◌, ◌<◌, false, List, [], ◌∷◌, length, Option, None, Some, refl, sym, ◌∙◌, subst, arith, inl, inr}
 use Rattle.std.specs.Prelude.{◌⊎◌, ◌||◌, IsTrue, option_and_then}
 use Rattle.nx_tree.specs.declared.node.Kind.{Kind}
 use Rattle.nx_tree.specs.declared.node.Kind.TheVariants.{Doc, Element, Attribute, Text, Instruction}
 use Rattle.nx_tree.specs.declared.node.Node.{Node}
 use Rattle.nx_tree.specs.Forest.{Forest, Empty, Plant, OrderedTree}
-use Rattle.nx_tree.specs.Document.{is_element, is_instruction, IsNode, MayHave, IsTop, IsDocument}
+use Rattle.nx_tree.specs.Document.{is_element, is_instruction, IsNode, MayHave, IsTop, IsDocument, depth, deepest}
 use Rattle.nx_tree.specs.Edit.{child, at, has_children}
-use Rattle.nx_tree.proofs.SoundLemmas.{IsTree, child_tree}
+use Rattle.nx_tree.proofs.SoundLemmas.{IsTree, child_tree, depth_child}
 use Rattle.nx_cuts.specs.Cut.{joined}
 use Rattle.nx_hold.proofs.PieceLemmas.{some_same}
 use Rattle.nx_nav.specs.Nodes.{IsRoot, CanBe, AreRooted, CanStand}
@@ -91,3 +91,19 @@ found_has_come tree (position ∷ path) found h e =
     at_top : (path : List ℕ) → at tree (position ∷ path) ≡ Some found → length (position ∷ path) ≡ 1 → IsTrue (is_element found.node.kind || is_instruction found.node.kind)
     at_top [] there one = child_top tree.below position found h.top (sym (at_here (child tree.below position)) ∙ there)
     at_top (next ∷ path) there one = absurd (omega arith)
+
+-- a path that leads to a node has no more positions than there are levels
+path_within : (path : List ℕ) (tree found : OrderedTree) → at tree path ≡ Some found → length path ≤ depth tree.below
+path_within [] tree found e = omega arith
+path_within (position ∷ path) tree found e =
+    found_from (λ _. length (position ∷ path) ≤ depth tree.below) path (child tree.below position) found
+    (λ t is there. let deeper = depth_child tree.below position t is in let rest = path_within path t found there in omega arith) e
+
+none_found : {A : Type 0} (o : Option A) → ((x : A) → o ≡ Some x → ⊥) → o ≡ None
+none_found None never = refl
+none_found (Some x) never = absurd (never x refl)
+
+-- a longer one leads nowhere
+pub too_deep : (path : List ℕ) (tree : OrderedTree) → IsDocument tree → deepest < length path → at tree path ≡ None
+too_deep path tree h deep =
+    none_found (at tree path) (λ found there. let within = path_within path tree found there in let shallow : depth tree.below ≤ deepest = h.shallow in omega arith)

@@ -5,14 +5,15 @@ use Rattle.std.specs.Option.{MatchOption}
 use Rattle.nx_host.specs.Disk.{Image, Keeps}
 use Rattle.nx_host.specs.declared.disk.Disk.{Ghosts}
 use Rattle.nx_host.specs.Still.{IsStill}
-use Rattle.nx_host.proofs.DiskLemmas.{settled_kept}
+use Rattle.nx_host.proofs.DiskLemmas.{none_still, settled_kept}
 use Rattle.nx_holdings.specs.declared.header.Settings.{Settings}
 use Rattle.nx_holdings.specs.Holdings.{Held}
 use Rattle.nx_records.specs.declared.records.Records.{Records}
 use Rattle.nx_records.specs.declared.error.StoreError.{StoreError}
 use Rattle.nx_records.specs.declared.error.StoreError.TheVariants as store
-use Rattle.nx_records.specs.Records.{StandsFor, settings_of}
+use Rattle.nx_records.specs.Records.{StandsFor, LeavesRecords, settings_of}
 use Rattle.nx_records.specs.Refusals.{NotRead}
+use Rattle.nx_records.proofs.LeaveLemmas.{leaves_stand}
 use Rattle.nx_piece.specs.Gapped as gapped
 use Rattle.nx_piece.specs.Gapped.{Gapped}
 use Rattle.nx_piece.specs.declared.piece.Piece.{Piece}
@@ -20,11 +21,11 @@ use Rattle.nx_cuts.specs.Cut.{CutForest, CutTree, Bare, Grown, Kept, forest, wid
 use Rattle.nx_layouts.specs.Layout.{RecordPlace, Layout, without_places, piece_body, piece_of, AreHeld}
 use Rattle.nx_layouts.proofs.ValidLemmas.{body_weight}
 use Rattle.nx_hold.specs.Documents.{HasDocument}
-use Rattle.nx_hold.specs.Pieces.{HoldsPiece, HoldsNone, IsTidy}
-use Rattle.nx_hold.proofs.PieceLemmas.{one_piece}
-use Rattle.nx_hold.proofs.RefusalLemmas.{stands_later}
+use Rattle.nx_hold.specs.Pieces.{HoldsPiece, HoldsNone}
 use Rattle.nx_nav.specs.Parts.{HasLayout, HasInterval, HasNoInterval}
-use Rattle.nx_nav.specs.Refusals.{IsRefused, nav_error}
+use Rattle.nx_nav.specs.declared.error.NavError.{NavError}
+use Rattle.nx_nav.specs.declared.error.NavError.TheVariants as error
+use Rattle.nx_nav.specs.Refusals.{IsRefused, StopsReading, IsPassedOn}
 
 -- trees none of which is a member of an interval are as many in their piece
 members_wide : (a : Layout) → AreFree a → gapped.width (piece_body a) ≡ width a
@@ -39,22 +40,22 @@ module _ {D : Type 0} {d : Ghosts D} {records : Records} {disk : D} {place : Rec
       let P : Option Piece → Type 0 = λ o. MatchOption o (HoldsNone h.now place) (λ piece. HoldsPiece h.now place piece) in
       subst P h.held.0 (h.pieces.are place)
 
-  pub interval_piece : (h : HasInterval d records disk place members) (piece : Piece) → ((saved now : Held) → StandsFor d records disk saved now → IsTidy now → HoldsPiece now place piece) → piece ≡ piece_of members
-  interval_piece h piece holds = one_piece h.now place piece (piece_of members) (holds h.saved h.now h.stands h.tidy) (interval_held h)
+  pub interval_piece : (h : HasInterval d records disk place members) (piece : Piece) → ((saved now : Held) (held : Piece) → StandsFor d records disk saved now → HoldsPiece now place held → piece ≡ held) → piece ≡ piece_of members
+  interval_piece h piece is = is h.saved h.now (piece_of members) h.stands (interval_held h)
 
   -- as many roots as members
   pub interval_width : HasInterval d records disk place members → gapped.width (piece_body members) ≡ width members
   interval_width h = members_wide members h.light.1
 
 -- where its piece has another number of roots there is no such interval
-pub no_interval : {D : Type 0} {d : Ghosts D} {records : Records} {disk : D} {place : RecordPlace} (roots : ℕ) (piece : Piece) → ((saved now : Held) → StandsFor d records disk saved now → IsTidy now → HoldsPiece now place piece)
+pub no_interval : {D : Type 0} {d : Ghosts D} {records : Records} {disk : D} {place : RecordPlace} (roots : ℕ) (piece : Piece) → ((saved now : Held) (held : Piece) → StandsFor d records disk saved now → HoldsPiece now place held → piece ≡ held)
     → (gapped.width piece.body.roots ≡ roots → ⊥) → HasNoInterval d records disk place roots
 no_interval roots piece holds other members h as_many =
     let same = ap (λ (p : Piece). gapped.width p.body.roots) (interval_piece h piece holds) in
     other (same ∙ interval_width h ∙ as_many)
 
 -- ... and where its piece is heavier than the settings let a part be
-pub no_light_interval : {D : Type 0} {d : Ghosts D} {records : Records} {disk : D} {place : RecordPlace} (roots : ℕ) (piece : Piece) → ((saved now : Held) → StandsFor d records disk saved now → IsTidy now → HoldsPiece now place piece)
+pub no_light_interval : {D : Type 0} {d : Ghosts D} {records : Records} {disk : D} {place : RecordPlace} (roots : ℕ) (piece : Piece) → ((saved now : Held) (held : Piece) → StandsFor d records disk saved now → HoldsPiece now place held → piece ≡ held)
     → (settings_of records).k < gapped.gapped_weight piece.body.roots → HasNoInterval d records disk place roots
 no_light_interval roots piece holds heavy members h as_many =
     let weighs = ap (λ (p : Piece). gapped.gapped_weight p.body.roots) (interval_piece h piece holds) ∙ body_weight members in
@@ -64,26 +65,42 @@ no_light_interval roots piece holds heavy members h as_many =
 
 -- the refusal of a call that reads one record
 module _ {D : Type 0} (d : Ghosts D) (place : RecordPlace) (roots named : ℕ) (r0 r1 : Records) (x0 x1 : D) where
-  pub read_refused : (e : StoreError) → NotRead d (λ now. HoldsNone now place) named e r0 r1 x0 x1 → IsRefused d ⊥ ⊥ (HasNoInterval d r0 x0 place roots) (nav_error e) r0 r1 x0 x1
-  read_refused store.Disk refused = refused
-  read_refused (store.Damaged page) refused = (λ members h as_many. refused.lacks h.saved h.now h.stands (piece_of members) (interval_held h), refused.ends)
-  read_refused store.Ended refused = refused
-  read_refused store.Memory refused = refused
-  read_refused store.Exists refused = absurd refused
-  read_refused store.NotAStore refused = absurd refused
-  read_refused store.Full refused = absurd refused
+  pub read_stops : (e : StoreError) → NotRead d (λ now. HoldsNone now place) named e r0 r1 x0 x1 → StopsReading e
+  read_stops store.Disk refused = tt
+  read_stops (store.Damaged page) refused = tt
+  read_stops store.Ended refused = tt
+  read_stops store.Memory refused = tt
+  read_stops store.Exists refused = absurd refused
+  read_stops store.NotAStore refused = absurd refused
+  read_stops store.Full refused = absurd refused
+
+  abbrev Passed : NavError → Type 0
+  Passed e = IsRefused d ⊥ ⊥ (HasNoInterval d r0 x0 place roots) e r0 r1 x0 x1
+
+  pub read_refused : (e : StoreError) (out : NavError) → IsPassedOn e out → NotRead d (λ now. HoldsNone now place) named e r0 r1 x0 x1 → IsRefused d ⊥ ⊥ (HasNoInterval d r0 x0 place roots) out r0 r1 x0 x1
+  read_refused store.Disk out is refused = subst Passed (sym is) refused
+  read_refused (store.Damaged page) out is refused = subst Passed (sym is) (λ members h as_many. refused.lacks h.saved h.now h.stands (piece_of members) (interval_held h), refused.ends)
+  read_refused store.Ended out is refused = subst Passed (sym is) refused
+  read_refused store.Memory out is refused = subst Passed (sym is) refused
+  read_refused store.Exists out is refused = absurd refused
+  read_refused store.NotAStore out is refused = absurd refused
+  read_refused store.Full out is refused = absurd refused
 
 -- what is held stays so while the disk is asked alone
-pub layout_later : {D : Type 0} {d : Ghosts D} {r0 r1 : Records} {x0 x1 : D} {layout : Layout} → r1 ≡ r0 → IsStill d x0 x1 → HasLayout d r0 x0 layout → HasLayout d r1 x1 layout
+pub layout_later : {D : Type 0} {d : Ghosts D} {r0 r1 : Records} {x0 x1 : D} {layout : Layout} → LeavesRecords r0 r1 → IsStill d x0 x1 → HasLayout d r0 x0 layout → HasLayout d r1 x1 layout
 layout_later {r0 = r0} {r1 = r1} same still h = record {
   saved = h.saved;
   now = h.now;
-  stands = stands_later {r0 = r0} {r1 = r1} same still h.stands;
-  tidy = h.tidy;
+  stands = leaves_stand {r0 = r0} {r1 = r1} same still h.stands;
   pieces = h.pieces;
   held = h.held;
   light = h.light;
 }
+
+-- ... by the same that is held
+pub later_same : {D : Type 0} {d : Ghosts D} {r0 r1 : Records} {x0 x1 : D} {layout : Layout} (same : LeavesRecords r0 r1) (still : IsStill d x0 x1) (h : HasLayout d r0 x0 layout) → (layout_later {r0 = r0} {r1 = r1} same still h).now ≡ h.now
+unfolding layout_later
+later_same same still h = refl
 
 -- the same pieces hold another layout
 pub layout_of : {D : Type 0} {d : Ghosts D} {records : Records} {disk : D} {layout : Layout} (h : HasLayout d records disk layout) (part : Layout) → AreHeld h.pieces.piece_at part → AreParts (h.now.settings).k part → HasLayout d records disk part
@@ -91,11 +108,14 @@ layout_of h part held light = record {
   saved = h.saved;
   now = h.now;
   stands = h.stands;
-  tidy = h.tidy;
   pieces = h.pieces;
   held = held;
   light = light;
 }
+
+pub part_same : {D : Type 0} {d : Ghosts D} {records : Records} {disk : D} {layout : Layout} (h : HasLayout d records disk layout) (part : Layout) (held : AreHeld h.pieces.piece_at part) (light : AreParts (h.now.settings).k part) → (layout_of h part held light).now ≡ h.now
+unfolding layout_of
+part_same h part held light = refl
 
 pub forest-without_places : (l : Layout) → forest (without_places l) ≡ forest l
 forest-without_places Bare = refl
@@ -108,11 +128,14 @@ document_held h = record {
   saved = h.saved;
   now = h.now;
   stands = h.stands;
-  tidy = h.tidy;
   pieces = h.pieces;
   held = h.laid.laid.held;
   light = h.laid.laid.light;
 }
+
+pub document_same : {D : Type 0} {d : Ghosts D} {records : Records} {disk : D} {root : RecordPlace} {document : CutTree} (h : HasDocument d records disk root document) → (document_held h).now ≡ h.now
+unfolding document_held
+document_same h = refl
 
 pub document_forest : {D : Type 0} {d : Ghosts D} {records : Records} {disk : D} {root : RecordPlace} {document : CutTree} (h : HasDocument d records disk root document) → forest h.laid.layout ≡ (tree_of document).below
 document_forest h = sym (forest-without_places h.laid.layout) ∙ ap (λ (c : CutForest). forest c) h.laid.laid.same
@@ -128,12 +151,11 @@ stands_kept kept told fewer stands =
     }
 
 -- ... and so does what is held
-pub layout_goes : {D : Type 0} {d : Ghosts D} {r0 r1 : Records} {x0 x1 : D} → r1 ≡ r0 → ((saved now : Held) → StandsFor d r0 x0 saved now → StandsFor d r0 x1 saved now) → (layout : Layout) → HasLayout d r0 x0 layout → HasLayout d r1 x1 layout
-layout_goes {d = d} {x1 = x1} same stands layout h = record {
+pub layout_goes : {D : Type 0} {d : Ghosts D} {r0 r1 : Records} {x0 x1 : D} → LeavesRecords r0 r1 → ((saved now : Held) → StandsFor d r0 x0 saved now → StandsFor d r0 x1 saved now) → (layout : Layout) → HasLayout d r0 x0 layout → HasLayout d r1 x1 layout
+layout_goes {r0 = r0} {r1 = r1} same stands layout h = record {
   saved = h.saved;
   now = h.now;
-  stands = subst (λ (r : Records). StandsFor d r x1 h.saved h.now) (sym same) (stands h.saved h.now h.stands);
-  tidy = h.tidy;
+  stands = leaves_stand {r0 = r0} {r1 = r1} same none_still (stands h.saved h.now h.stands);
   pieces = h.pieces;
   held = h.held;
   light = h.light;

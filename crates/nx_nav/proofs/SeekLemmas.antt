@@ -1,13 +1,17 @@
 -- The way to a node of a document, from one record to the next.
-use Rattle.std.proofs.Common.{◌≡◌, ℕ, ◌+◌, ◌-◌, ◌≤◌, List, Option, None, Some, length, take, drop, refl, sym, ap, ◌∙◌, subst, arith}
+use Rattle.std.proofs.Common.{◌≡◌, true, false, ℕ, ◌+◌, ◌-◌, ◌≤◌, List, [], ◌∷◌, Option, None, Some, length, take, drop, refl, sym, ap, ◌∙◌, subst, arith}
 use Rattle.std.specs.List.{slice_get}
 use Rattle.std.proofs.lemmas.List.{take_all, length-drop}
 use Rattle.nx_host.specs.declared.disk.Disk.{Ghosts}
 use Rattle.nx_host.specs.Still.{IsStill}
 use Rattle.nx_host.proofs.DiskLemmas.{none_still, still_then}
+use Rattle.nx_holdings.specs.Holdings.{Held}
 use Rattle.nx_records.specs.declared.records.Records.{Records}
+use Rattle.nx_records.specs.Records.{has_ended, LeavesRecords}
+use Rattle.nx_records.proofs.LeaveLemmas.{leaves_same, leaves_add_up}
 use Rattle.nx_tree.specs.declared.node.Node.{Node}
 use Rattle.nx_tree.specs.Forest.{OrderedTree, Forest, trees_of}
+use Rattle.nx_tree.specs.Document.{deepest}
 use Rattle.nx_tree.specs.Edit.{at, has_children}
 use Rattle.nx_piece.specs.declared.piece.Piece.{Piece}
 use Rattle.nx_piece.specs.declared.piece.Proxy.{Proxy}
@@ -16,18 +20,20 @@ use Rattle.nx_piece.specs.Valid.{IsValidPiece}
 use Rattle.nx_piece.specs.Locate.{Reached, Inside, Outside, Missing, reached_in, children_of}
 use Rattle.nx_cuts.specs.Cut.{CutTree, Bare, Grown, Kept, forest, width, tree_of}
 use Rattle.nx_layouts.specs.Layout.{RecordPlace, Layout, proxy_of, proxies_of, piece_of}
-use Rattle.nx_hold.specs.Changes.{place_named}
+use Rattle.nx_hold.specs.Pieces.{HoldsPiece}
+use Rattle.nx_hold.specs.Changes.{TakesPages, place_named}
 use Rattle.nx_hold.specs.Documents.{HasDocument}
 use Rattle.nx_hold.proofs.PieceLemmas.{some_same}
 use Rattle.nx_nav.specs.declared.error.NavError.{NavError}
 use Rattle.nx_nav.specs.declared.finding.Shown.{Shown}
+use Rattle.nx_nav.specs.Along.{LeadsThrough, TakePages, ReadsPiece, ReadsAlong}
 use Rattle.nx_nav.specs.Parts.{HasInterval, HasNoInterval, IsPieceAt}
 use Rattle.nx_nav.specs.Refusals.{OfEach, HoldsNone, IsRefused}
 use Rattle.nx_nav.specs.Nodes.{CanBe}
 use Rattle.nx_nav.specs.Shows.{ShowsNode, CanBeShown}
 use Rattle.nx_nav.proofs.NodeLemmas.{found_has_come}
-use Rattle.nx_nav.proofs.RefusalLemmas.{refused_later}
-use Rattle.nx_nav.proofs.PartLemmas.{layout_later, layout_of, document_held, document_forest}
+use Rattle.nx_nav.proofs.RefusalLemmas.{refused_later, still_runs}
+use Rattle.nx_nav.proofs.PartLemmas.{interval_held, layout_later, later_same, layout_of, part_same, document_held, document_same, document_forest}
 use Rattle.nx_nav.proofs.ChildLemmas.{at_member, IsEnd, interval_end, children_counted, trees-forest, trees-length, path_falls}
 
 -- what is left of a list behind so many of its elements
@@ -35,38 +41,64 @@ pub part_left : {A : Type 0} (xs : List A) (n : ℕ) → take (length xs - n) (d
 part_left xs n = take_all (length xs - n) (drop n xs) (let l = length-drop n xs in omega arith)
 
 -- The path leads on from a member of the interval with the record at this place.
-pub record LeadsOn {D : Type 0} (d : Ghosts D) (records : Records) (disk : D) (place : RecordPlace) (roots member : ℕ) (rest : List ℕ) (found : Option OrderedTree) : Type 0 where
+pub record LeadsOn {D : Type 0} (d : Ghosts D) (records : Records) (disk : D) (held : Held) (place : RecordPlace) (roots member : ℕ) (rest : List ℕ) (found : Option OrderedTree) : Type 0 where
   pub members : Layout
   pub there : HasInterval d records disk place members
+  pub of : there.now ≡ held
   pub as_many : width members ≡ roots
   pub same : found ≡ at_member (forest members) member rest
 
+-- Where the path leads through records from here on, it leads through them from the root on, with so many records and pages before them.
+abbrev pub IsThere : Held → RecordPlace → List ℕ → RecordPlace → ℕ → List ℕ → (levels pages : ℕ) → Type 0
+IsThere held root path place member rest levels pages = (more : List RecordPlace) (n : ℕ) → LeadsThrough held place member rest (place ∷ more) → TakePages held (place ∷ more) n
+    → (all : List RecordPlace) × LeadsThrough held root 0 path (root ∷ all) × TakePages held (root ∷ all) (pages + n) × (length all ≡ levels + length more)
+
 -- So it does in each document, and nothing was changed.
 pub record IsSeeking {D : Type 0} (d : Ghosts D) (r0 r1 : Records) (x0 x1 : D) (root : RecordPlace) (path : List ℕ) (place : RecordPlace) (roots member : ℕ) (rest : List ℕ) : Type 0 where
-  pub stays : r1 ≡ r0
+  pub stays : LeavesRecords r0 r1
   pub still : IsStill d x0 x1
-  pub each : OfEach d r0 x0 root (λ document. LeadsOn d r1 x1 place roots member rest (at (tree_of document) path))
+  pub alone : has_ended r0 ≡ true → x1 ≡ x0
+  pub on : (document : CutTree) (h : HasDocument d r0 x0 root document) → LeadsOn d r1 x1 h.now place roots member rest (at (tree_of document) path)
+  pub pages : ℕ
+  pub few : d.reads x1 ≤ d.reads x0 + pages
+  pub levels : ℕ
+  pub fewer : levels + length rest ≤ length path
+  pub through : (document : CutTree) (h : HasDocument d r0 x0 root document) → IsThere h.now root path place member rest levels pages
 
 module _ {D : Type 0} {d : Ghosts D} {r0 : Records} {x0 : D} {root : RecordPlace} {path : List ℕ} where
   pub seek_begins : IsSeeking d r0 r0 x0 x0 root path root 1 0 path
   seek_begins = record {
-    stays = refl;
+    stays = leaves_same refl;
     still = none_still;
-    each = λ document h. record {
+    alone = λ ended. refl;
+    on = λ document h. record {
       members = Grown document.node h.laid.layout Bare;
       there = document_held h;
+      of = document_same h;
       as_many = refl;
       same = ap (λ (f : Forest). let t : OrderedTree = record { node = document.node; below = f } in at t path) (sym (document_forest h));
     };
+    pages = 0;
+    few = omega arith;
+    levels = 0;
+    fewer = omega arith;
+    through = λ document h more n lead take. (more, lead, subst (λ (m : ℕ). TakePages h.now (root ∷ more) m) (let same : n ≡ 0 + n = omega arith in same) take, omega arith);
   }
+
+  -- the pages of the next piece, of each document
+  own_pages : {r1 : Records} {x1 x2 : D} {place : RecordPlace} {roots member : ℕ} {rest : List ℕ} → IsSeeking d r0 r1 x0 x1 root path place roots member rest → (document : CutTree) (h : HasDocument d r0 x0 root document)
+      → (own : ReadsPiece d r1 x1 x2 place) → TakesPages h.now place own.0
+  own_pages {place = place} seeking document h own =
+      let on = seeking.on document h in
+      subst (λ (now : Held). TakesPages now place own.0) on.of (own.2 on.there.saved on.there.now on.there.stands)
 
   module _ {r1 : Records} {x1 : D} {place : RecordPlace} {roots member : ℕ} {rest : List ℕ} (seeking : IsSeeking d r0 r1 x0 x1 root path place roots member rest)
       (piece : Piece) (is : IsPieceAt d r1 x1 place roots piece) where
     -- where the path leads in the piece that was read
     leads : (document : CutTree) (h : HasDocument d r0 x0 root document) (end : Reached) → reached_in piece member rest ≡ end
-        → let on = seeking.each document h in IsEnd on.there.pieces.piece_at (on.there.now.settings).k (proxies_of on.members) 0 rest end (at (tree_of document) path)
+        → let on = seeking.on document h in IsEnd on.there.pieces.piece_at (on.there.now.settings).k (proxies_of on.members) 0 rest end (at (tree_of document) path)
     leads document h end e =
-        let on = seeking.each document h in
+        let on = seeking.on document h in
         let there = on.there in
         let same : piece ≡ piece_of on.members = is on.members there on.as_many in
         let ends = interval_end there.pieces.piece_at (there.now.settings).k place on.members member rest there.held there.light in
@@ -74,11 +106,18 @@ module _ {D : Type 0} {d : Ghosts D} {r0 : Records} {x0 : D} {root : RecordPlace
         subst (λ r. Ends r (at (tree_of document) path)) (ap (λ (p : Piece). reached_in p member rest) (sym same) ∙ e)
         (subst (λ o. Ends (reached_in (piece_of on.members) member rest) o) (sym on.same) ends)
 
+    -- each document has it there
+    piece_held : (document : CutTree) (h : HasDocument d r0 x0 root document) → HoldsPiece h.now place piece
+    piece_held document h =
+        let on = seeking.on document h in
+        subst (λ (now : Held). HoldsPiece now place piece) on.of
+        (subst (λ (p : Piece). HoldsPiece on.there.now place p) (sym (is on.members on.there on.as_many)) (interval_held on.there))
+
     -- it ends at a tree of the piece
     pub shows_found : (tree : GappedTree) (first : ℕ) (shown : Shown) → reached_in piece member rest ≡ Inside tree first → shown.node ≡ tree.node → shown.children ≡ length (children_of piece.proxies first tree.below)
         → OfEach d r0 x0 root (λ document. ShowsNode (tree_of document) path shown)
     shows_found tree first shown e node children document h =
-        let on = seeking.each document h in
+        let on = seeking.on document h in
         let own = leads document h (Inside tree first) e in
         let same : piece.proxies ≡ proxies_of on.members = ap (λ (p : Piece). p.proxies) (is on.members on.there on.as_many) in
         let counted = children_counted on.there.pieces.piece_at (on.there.now.settings).k (proxies_of on.members) own.below own.front own.back first own.here own.first_is in (
@@ -107,13 +146,14 @@ module _ {D : Type 0} {d : Ghosts D} {r0 : Records} {x0 : D} {root : RecordPlace
     finds_none e document h = leads document h Missing e
 
     -- or it leads on into another record
-    pub seek_goes_on : {r2 : Records} {x2 : D} → r2 ≡ r1 → IsStill d x1 x2 → (proxy : Proxy) (index next used : ℕ) → reached_in piece member rest ≡ Outside index next used → slice_get piece.proxies index ≡ Some proxy
+    pub seek_goes_on : {r2 : Records} {x2 : D} → has_ended r1 ≡ false → LeavesRecords r1 r2 → IsStill d x1 x2 → (own : ReadsPiece d r1 x1 x2 place) → IsValidPiece piece → (proxy : Proxy) (index next used : ℕ) → reached_in piece member rest ≡ Outside index next used → slice_get piece.proxies index ≡ Some proxy
         → IsSeeking d r0 r2 x0 x2 root path (place_named proxy) proxy.roots next (drop used rest)
-    seek_goes_on {r2} {x2} stays still proxy index next used e there = record {
-      stays = stays ∙ seeking.stays;
+    seek_goes_on {r2} {x2} runs stays still own valid proxy index next used e there = record {
+      stays = leaves_add_up seeking.stays stays;
       still = still_then seeking.still still;
-      each = λ document h.
-          let on = seeking.each document h in
+      alone = still_runs r0 (sym (seeking.stays).ended_stays ∙ runs);
+      on = λ document h.
+          let on = seeking.on document h in
           let same : piece.proxies ≡ proxies_of on.members = ap (λ (p : Piece). p.proxies) (is on.members on.there on.as_many) in
           let away = leads document h (Outside index next used) e in
           let inner = away.2 in
@@ -121,21 +161,66 @@ module _ {D : Type 0} {d : Ghosts D} {r0 : Records} {x0 : D} {root : RecordPlace
           let at_place : inner.place ≡ place_named proxy = ap (λ (p : Proxy). place_named p) (sym named) in
           let end : used ≡ 0 + away.0 = away.1 in
           let steps : away.0 ≡ used = omega arith in
+          let part = layout_of on.there (Kept inner.place inner.members Bare) inner.held inner.light in
+          let moved = subst (λ p. (there : HasInterval d r2 x2 p inner.members) × (there.now ≡ h.now)) at_place
+          (layout_later {r0 = r1} {r1 = r2} stays still part, later_same stays still part ∙ part_same on.there (Kept inner.place inner.members Bare) inner.held inner.light ∙ on.of) in
           record {
             members = inner.members;
-            there = subst (λ p. HasInterval d r2 x2 p inner.members) at_place (layout_later {r0 = r1} {r1 = r2} stays still (layout_of on.there (Kept inner.place inner.members Bare) inner.held inner.light));
+            there = moved.0;
+            of = moved.1;
             as_many = ap (λ (p : Proxy). p.roots) (sym named);
             same = inner.is ∙ ap (λ (n : ℕ). at_member (forest inner.members) next (drop n rest)) steps;
           };
+      pages = seeking.pages + own.0;
+      few = let was : d.reads x1 ≤ d.reads x0 + seeking.pages = seeking.few in let now : d.reads x2 ≤ d.reads x1 + own.0 = own.1 in omega (arith, was, now);
+      levels = seeking.levels + 1;
+      fewer =
+          let falls = path_falls piece member rest index next used valid e in
+          let was = seeking.fewer in
+          let left = length-drop used rest in
+          let some = falls.0 in
+          let most = falls.1 in
+          omega (arith, was, left, some, most);
+      through = λ document h more n lead take.
+          let held : HoldsPiece h.now place piece = piece_held document h in
+          let takes : TakesPages h.now place own.0 = own_pages seeking document h own in
+          let all = seeking.through document h (place_named proxy ∷ more) (own.0 + n) (refl, (piece, index, next, used, proxy, held, e, there, lead)) (own.0, n, takes, take, refl) in (
+            all.0,
+            all.1,
+            subst (λ (m : ℕ). TakePages h.now (root ∷ all.0) m) (let sum : seeking.pages + (own.0 + n) ≡ seeking.pages + own.0 + n = omega arith in sum) all.2,
+            let long = all.3 in omega (arith, long),
+          );
     }
 
     -- the path is shorter there
     pub seek_falls : (index next used : ℕ) → IsValidPiece piece → reached_in piece member rest ≡ Outside index next used → (1 ≤ used) × (used ≤ length rest)
     seek_falls index next used valid e = path_falls piece member rest index next used valid e
 
+  -- no page was read but those on the path, with those of the next piece
+  pub seek_reads : {r1 : Records} {x1 : D} (x2 : D) {place : RecordPlace} {roots member : ℕ} {rest : List ℕ} → IsSeeking d r0 r1 x0 x1 root path place roots member rest → length path ≤ deepest → ReadsPiece d r1 x1 x2 place
+      → (document : CutTree) (h : HasDocument d r0 x0 root document) → ReadsAlong h.now root path (d.reads x0) (d.reads x2)
+  seek_reads {x1 = x1} x2 {place = place} {rest = rest} seeking short own document h =
+      let takes : TakesPages h.now place own.0 = own_pages seeking document h own in
+      let all = seeking.through document h [] own.0 refl (own.0, 0, takes, refl, let none : own.0 ≡ own.0 + 0 = omega arith in none) in
+      record {
+        places = root ∷ all.0;
+        lead = all.1;
+        levels =
+            let long : length all.0 ≡ seeking.levels + 0 = all.3 in
+            let few = seeking.fewer in
+            omega (arith, long, few, short);
+        pages = seeking.pages + own.0;
+        are = all.2;
+        few = let was : d.reads x1 ≤ d.reads x0 + seeking.pages = seeking.few in let now : d.reads x2 ≤ d.reads x1 + own.0 = own.1 in omega (arith, was, now);
+      }
+
   -- the record wasn't read
   pub seek_refused : {r1 : Records} (r2 : Records) {x1 : D} (x2 : D) {place : RecordPlace} {roots member : ℕ} {rest : List ℕ} → IsSeeking d r0 r1 x0 x1 root path place roots member rest → (Nowhere : Type 0) (e : NavError)
       → IsRefused d ⊥ ⊥ (HasNoInterval d r1 x1 place roots) e r1 r2 x1 x2 → IsRefused d Nowhere ⊥ (HoldsNone d r0 x0 root) e r0 r2 x0 x2
   seek_refused {r1} r2 {x1} x2 seeking Nowhere e refused =
-      refused_later d Nowhere ⊥ (HoldsNone d r0 x0 root) r0 r1 r2 x0 x1 x2 seeking.stays seeking.still.faults_later absurd (λ bad. bad)
-      (λ none document h. let on = seeking.each document h in none on.members on.there on.as_many) e refused
+      refused_later d Nowhere ⊥ (HoldsNone d r0 x0 root) r0 r1 r2 x0 x1 x2 seeking.stays seeking.alone seeking.still.faults_later absurd (λ bad. bad)
+      (λ none document h. let on = seeking.on document h in none on.members on.there on.as_many) e refused
+
+-- a call that asked nothing read nothing
+pub none_read : (held : Held) (root : RecordPlace) (path : List ℕ) (count : ℕ) → ReadsAlong held root path count count
+none_read held root path count = record { places = []; lead = tt; levels = omega arith; pages = 0; are = refl; few = omega arith }

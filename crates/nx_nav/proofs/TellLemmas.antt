@@ -1,11 +1,13 @@
 -- A tree and an interval told whole, and where telling them stops.
-use Rattle.std.proofs.Common.{◌≡◌, ℕ, ◌+◌, ◌-◌, ◌≤◌, List, [], ◌∷◌, ◌++◌, Contains, Option, refl, sym, ap, ◌∙◌, subst, arith, inl, inr, append_assoc}
+use Rattle.std.proofs.Common.{◌≡◌, false, ℕ, ◌+◌, ◌-◌, ◌≤◌, List, [], ◌∷◌, ◌++◌, Contains, Option, refl, sym, ap, ◌∙◌, subst, arith, inl, inr, append_assoc}
 use Rattle.std.proofs.lemmas.List.{append-nil}
 use Rattle.std.specs.Prelude.{◌⊎◌, IsSome}
 use Rattle.nx_host.specs.Disk.{Image}
 use Rattle.nx_host.specs.declared.disk.Disk.{Ghosts}
 use Rattle.nx_host.specs.Still.{IsStill}
 use Rattle.nx_records.specs.declared.records.Records.{Records}
+use Rattle.nx_records.specs.Records.{has_ended, LeavesRecords}
+use Rattle.nx_records.proofs.LeaveLemmas.{leaves_same}
 use Rattle.nx_tree.specs.Forest.{Forest, Empty, nodes}
 use Rattle.nx_tree.specs.Document.{depth, deepest}
 use Rattle.nx_piece.specs.declared.piece.Piece.{Piece}
@@ -24,7 +26,7 @@ use Rattle.nx_nav.specs.Refusals.{IsRefused}
 use Rattle.nx_nav.specs.Steps.{Step, Begin, Open, Close, steps}
 use Rattle.nx_nav.specs.Walk.{Visits, HasTold, HasStopped, IsWalkable, IsNone, IsIntervalAt, IsTreeOf, AreOf}
 use Rattle.nx_nav.proofs.PartLemmas.{layout_of}
-use Rattle.nx_nav.proofs.RefusalLemmas.{refused_later}
+use Rattle.nx_nav.proofs.RefusalLemmas.{refused_later, still_runs}
 use Rattle.nx_nav.proofs.ChildLemmas.{trees-forest}
 use Rattle.nx_nav.proofs.NodeLemmas.{HasCome, first_stands}
 use Rattle.nx_nav.proofs.SplitLemmas.{nodes-joined, depth-joined, joined-empty}
@@ -136,23 +138,23 @@ module _ {A D : Type 0} {d : Ghosts D} {Told : A → D → List Step → A → D
     pub tree_refused : (deep left : ℕ) → deep ≤ 257 → (r1 : Records) (y : D) (e : NavError) → IsRefused d ⊥ (Unwritten x y) (IsNone d y (AreOf d r0 x tree.below proxies) (deep - 1) (left - 1) v) e r0 r1 x y
         → IsRefused d ⊥ (Unwritten x y) (IsNone d y (IsTreeOf d r0 x tree proxies) deep left v) e r0 r1 x y
     tree_refused deep left levels r1 y e refused =
-        refused_later d ⊥ (Unwritten x y) (IsNone d y (IsTreeOf d r0 x tree proxies) deep left v) r0 r0 r1 x x y refl (omega arith) (λ bad. bad) (λ u. u)
+        refused_later d ⊥ (Unwritten x y) (IsNone d y (IsTreeOf d r0 x tree proxies) deep left v) r0 r0 r1 x x y (leaves_same refl) (λ ended. refl) (omega arith) (λ bad. bad) (λ u. u)
         (λ none seen l p walkable. none seen p.0 (below_of l p) (below_walkable deep left levels l p walkable)) e refused
 
   -- an interval whose record was read
   module _ {b : A} {y z : D} (r0 r1 : Records) (place : RecordPlace) (roots : ℕ) (paused : Told a x [] b y) (still : IsStill d y z) where
     interval_there : IsSome (d.contents z) → (members : Layout) → HasLayout d r0 x (Kept place members Bare) → HasLayout d r0 y (Kept place members Bare)
-    interval_there seen members has = told_stands teller {r0 = r0} {r1 = r0} paused refl (subst (λ (o : Option Image). IsSome o) still.contents_stay seen) (Kept place members Bare) has
+    interval_there seen members has = told_stands teller {r0 = r0} {r1 = r0} paused (leaves_same refl) (subst (λ (o : Option Image). IsSome o) still.contents_stay seen) (Kept place members Bare) has
 
     pub asked_on : Told a x [] b z
     asked_on = teller.join a b b x y z [] [] paused (teller.asked b y z still)
 
-    pub interval_not_read : (deep left : ℕ) (v : Visited) (e : NavError) → IsRefused d ⊥ ⊥ (HasNoInterval d r0 y place roots) e r0 r1 y z → IsRefused d ⊥ (Unwritten x z) (IsNone d z (IsIntervalAt d r0 x place roots) deep left v) e r0 r1 x z
-    interval_not_read deep left v e refused =
-        refused_later d ⊥ (Unwritten x z) (IsNone d z (IsIntervalAt d r0 x place roots) deep left v) r0 r0 r1 x y z refl (teller.faults a b x y [] paused) (λ bad. bad) absurd
+    pub interval_not_read : has_ended r0 ≡ false → (deep left : ℕ) (v : Visited) (e : NavError) → IsRefused d ⊥ ⊥ (HasNoInterval d r0 y place roots) e r0 r1 y z → IsRefused d ⊥ (Unwritten x z) (IsNone d z (IsIntervalAt d r0 x place roots) deep left v) e r0 r1 x z
+    interval_not_read runs deep left v e refused =
+        refused_later d ⊥ (Unwritten x z) (IsNone d z (IsIntervalAt d r0 x place roots) deep left v) r0 r0 r1 x y z (leaves_same refl) (still_runs r0 runs) (teller.faults a b x y [] paused) (λ bad. bad) absurd
         (λ none seen l p walkable. none p.0 (interval_there seen p.0 (subst (λ (i : Layout). HasLayout d r0 x i) p.1 p.3)) p.2) e refused
 
-    pub interval_begins : (left weight : ℕ) (v w : Visited) (piece : Piece) (c : A) → Visits v (place ∷ []) w → r1 ≡ r0 → IsPieceAt d r0 y place roots piece → weight ≡ gapped_weight piece.body.roots → Told b z (Begin roots weight ∷ []) c z
+    pub interval_begins : (left weight : ℕ) (v w : Visited) (piece : Piece) (c : A) → Visits v (place ∷ []) w → LeavesRecords r0 r1 → IsPieceAt d r0 y place roots piece → weight ≡ gapped_weight piece.body.roots → Told b z (Begin roots weight ∷ []) c z
         → IsOnWay d Told (IsIntervalAt d r0 x place roots) (AreOf d r1 z piece.body.roots piece.proxies) a x left v c z left w
     interval_begins left weight v w piece c visits same is weighs begun = record {
       told = Begin roots weight ∷ [];

@@ -6,7 +6,7 @@ use Rattle.std.specs.Option.{option_map_or}
 use Rattle.std.specs.BTreeMap.{get}
 use Rattle.std.proofs.lemmas.List.Elements.{Contains-push, Contains-push_cases, Contains-append_left, Contains-append_right, Contains-append_cases}
 use Rattle.nx_layouts.specs.Layout.{RecordPlace, ArePlacedOnce}
-use Rattle.nx_hold.proofs.RecordsLemmas.{one_place}
+use Rattle.nx_layouts.proofs.PlaceLemmas.{one_place}
 use Rattle.nx_nav.specs.Visited.{HasVisited, Sets, flags_of, is_set}
 use Rattle.nx_nav.specs.declared.visited.Visited.{Visited}
 

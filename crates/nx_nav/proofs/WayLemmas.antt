@@ -1,5 +1,5 @@
 -- How far a walk has come: what is told of each layout that it may walk over, and what of it is left.
-use Rattle.std.proofs.Common.{◌≡◌, ℕ, ◌+◌, ◌-◌, ◌≤◌, List, [], ◌∷◌, ◌++◌, Option, refl, sym, ap, ◌∙◌, subst, arith, append_assoc}
+use Rattle.std.proofs.Common.{◌≡◌, false, ℕ, ◌+◌, ◌-◌, ◌≤◌, List, [], ◌∷◌, ◌++◌, Option, refl, sym, ap, ◌∙◌, subst, arith, append_assoc}
 use Rattle.std.proofs.lemmas.List.{append-nil}
 use Rattle.std.proofs.lemmas.List.Elements.{Contains-append_left}
 use Rattle.std.specs.Prelude.{IsSome}
@@ -8,6 +8,7 @@ use Rattle.nx_host.specs.declared.disk.Disk.{Ghosts}
 use Rattle.nx_host.specs.Still.{IsStill}
 use Rattle.nx_host.proofs.DiskLemmas.{none_still, told_same}
 use Rattle.nx_records.specs.declared.records.Records.{Records}
+use Rattle.nx_records.specs.Records.{has_ended, LeavesRecords}
 use Rattle.nx_tree.specs.Forest.{nodes}
 use Rattle.nx_tree.specs.Document.{depth, deepest}
 use Rattle.nx_cuts.specs.Cut.{forest}
@@ -21,7 +22,7 @@ use Rattle.nx_nav.specs.Visited.{HasVisited}
 use Rattle.nx_nav.specs.Walk.{Visits, HasTold, HasStopped, IsNone}
 use Rattle.nx_nav.specs.declared.visited.Visited.{Visited}
 use Rattle.nx_nav.proofs.PartLemmas.{stands_kept, layout_goes}
-use Rattle.nx_nav.proofs.RefusalLemmas.{refused_later}
+use Rattle.nx_nav.proofs.RefusalLemmas.{refused_later, still_runs}
 
 -- So much of a layout is told, and this is left.
 pub record IsLeft (Q : Layout → Type 0) (told : List Step) (places : List RecordPlace) (left now : ℕ) (layout : Layout) : Type 0 where
@@ -87,7 +88,7 @@ module _ {A D : Type 0} {d : Ghosts D} {Told : A → D → List Step → A → D
   told_earlier {a} {b} {x} {y} {s} goes seen = subst (λ (o : Option Image). IsSome o) (told_same (d.contents x) (d.contents y) (teller.keeps a b x y s goes) seen) seen
 
   -- what records and disk stand for stays
-  pub told_stands : {a b : A} {x y : D} {s : List Step} {r0 r1 : Records} → Told a x s b y → r1 ≡ r0 → IsSome (d.contents y) → (layout : Layout) → HasLayout d r0 x layout → HasLayout d r1 y layout
+  pub told_stands : {a b : A} {x y : D} {s : List Step} {r0 r1 : Records} → Told a x s b y → LeavesRecords r0 r1 → IsSome (d.contents y) → (layout : Layout) → HasLayout d r0 x layout → HasLayout d r1 y layout
   told_stands {a} {b} {x} {y} {s} {r0} {r1} goes same seen =
       layout_goes {r0 = r0} {r1 = r1} same (λ saved now. stands_kept {r = r0} (teller.keeps a b x y s goes) seen (λ i left. teller.fewer a b x y s i goes left))
 
@@ -175,10 +176,10 @@ module _ {A D : Type 0} {d : Ghosts D} {Told : A → D → List Step → A → D
           })
 
       -- ... for the cause that is told of it
-      pub way_refused : (S : Layout → Type 0) (r0 r1 r2 : Records) (z : D) (deep : ℕ) → r1 ≡ r0 → HasStopped d Told R b y z → ((l : Layout) → Q l → IsSplit R S l) → (e : NavError)
+      pub way_refused : (S : Layout → Type 0) (r0 r1 r2 : Records) (z : D) (deep : ℕ) → has_ended r0 ≡ false → LeavesRecords r0 r1 → HasStopped d Told R b y z → ((l : Layout) → Q l → IsSplit R S l) → (e : NavError)
           → IsRefused d ⊥ (Unwritten y z) (IsNone d z R deep rest w) e r1 r2 y z → IsRefused d ⊥ (Unwritten x z) (IsNone d z P deep left v) e r0 r2 x z
-      way_refused S r0 r1 r2 z deep same has split e refused =
-          refused_later d ⊥ (Unwritten x z) (IsNone d z P deep left v) r0 r1 r2 x y z same (teller.faults a b x y way.told way.goes) (λ bad. bad)
+      way_refused S r0 r1 r2 z deep runs same has split e refused =
+          refused_later d ⊥ (Unwritten x z) (IsNone d z P deep left v) r0 r1 r2 x y z same (still_runs r0 runs) (teller.faults a b x y way.told way.goes) (λ bad. bad)
           (λ unwritten. teller.unwritten a b x y z way.told way.goes unwritten) (λ none. way_lacks S z deep has none split) e refused
 
     -- all is told

@@ -5,6 +5,10 @@ use Rattle.nx_host.specs.declared.disk.Disk.{Ghosts}
 use Rattle.nx_host.specs.Host.{Appends, AppendsPrefix}
 use Rattle.nx_host.specs.Time.{Elapses}
 
+-- of so many bytes a block has fewer before a record is read
+abbrev pub block_size : ℕ
+block_size = 65536
+
 -- From old to new the areas were asked, and the host was given output beside that.
 pub record AsksAndGives {D : Type 0} (d : Ghosts D) (old new : D) : Type 0 where
   pub contents_stay : Keeps (d.contents old) (d.contents new)

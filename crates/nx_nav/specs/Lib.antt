@@ -1,6 +1,7 @@
 pub mod Refusals
 pub mod Shows
 pub mod Parts
+pub mod Along
 pub mod Steps
 pub mod Walk
 pub mod Told

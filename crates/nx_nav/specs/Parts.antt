@@ -7,14 +7,13 @@ use Rattle.nx_records.specs.declared.records.Records.{Records}
 use Rattle.nx_piece.specs.declared.piece.Piece.{Piece}
 use Rattle.nx_cuts.specs.Cut.{Bare, Kept, width, AreParts}
 use Rattle.nx_layouts.specs.Layout.{RecordPlace, Layout, piece_of, AreHeld}
-use Rattle.nx_hold.specs.Pieces.{IsTidy, PieceMap}
+use Rattle.nx_hold.specs.Pieces.{PieceMap}
 
 -- The records hold the pieces of all intervals of this layout, whose parts are as light as the settings want them.
 pub record HasLayout {D : Type 0} (d : Ghosts D) (records : Records) (disk : D) (layout : Layout) : Type 0 where
   pub saved : Held
   pub now : Held
   pub stands : StandsFor d records disk saved now
-  pub tidy : IsTidy now
   pub pieces : PieceMap now
   pub held : AreHeld pieces.piece_at layout
   pub light : AreParts (now.settings).k layout

@@ -2,8 +2,8 @@
 use Rattle.std.specs.Prelude.{◌≡◌, ℕ, ◌+◌, true, false}
 use Rattle.nx_host.specs.Disk.{Rose}
 use Rattle.nx_host.specs.declared.disk.Disk.{Ghosts}
-use Rattle.nx_records.specs.Records.{has_ended}
-use Rattle.nx_records.specs.Refusals.{EndNow}
+use Rattle.nx_records.specs.Records.{has_ended, LeavesRecords}
+use Rattle.nx_records.specs.Refusals.{EndNow, HadEnded}
 use Rattle.nx_records.specs.declared.records.Records.{Records}
 use Rattle.nx_records.specs.declared.error.StoreError.{StoreError}
 use Rattle.nx_records.specs.declared.error.StoreError.TheVariants as store
@@ -18,9 +18,13 @@ use Rattle.nx_nav.specs.declared.error.NavError.TheVariants as error
 abbrev pub OfEach : {D : Type 0} → Ghosts D → Records → D → RecordPlace → (CutTree → Type 0) → Type 0
 OfEach d records disk root P = (document : CutTree) → HasDocument d records disk root document → P document
 
--- of each that has so many nodes, its root counted
+-- how many nodes a document has, its root counted
+abbrev pub node_count : CutTree → ℕ
+node_count document = 1 + nodes (tree_of document).below
+
+-- of each that has so many nodes
 abbrev pub OfEachWith : {D : Type 0} → Ghosts D → Records → D → RecordPlace → ℕ → (CutTree → Type 0) → Type 0
-OfEachWith d records disk root count P = OfEach d records disk root (λ document. 1 + nodes (tree_of document).below ≡ count → P document)
+OfEachWith d records disk root count P = OfEach d records disk root (λ document. node_count document ≡ count → P document)
 
 -- there is none
 abbrev pub HoldsNone : {D : Type 0} → Ghosts D → Records → D → RecordPlace → Type 0
@@ -32,19 +36,25 @@ HoldsNoneWith d records disk root count = OfEachWith d records disk root count (
 
 -- Why a call gave up, and what it leaves: `NoNode` comes only where `Nowhere` holds, `Write` only where `Unwritten` does, and `Damaged` only where `Lacks` does.
 abbrev pub IsRefused : {D : Type 0} → Ghosts D → (Nowhere Unwritten Lacks : Type 0) → NavError → Records → Records → D → D → Type 0
-IsRefused d Nowhere Unwritten Lacks error.NoNode old new before after = Nowhere × (has_ended old ≡ false) × (new ≡ old)
+IsRefused d Nowhere Unwritten Lacks error.NoNode old new before after = Nowhere × (has_ended old ≡ false) × LeavesRecords old new
 IsRefused d Nowhere Unwritten Lacks error.Disk old new before after = Rose (d.faults before) (d.faults after) × EndNow old new
-IsRefused d Nowhere Unwritten Lacks error.Write old new before after = Unwritten × (has_ended old ≡ false) × (new ≡ old)
+IsRefused d Nowhere Unwritten Lacks error.Write old new before after = Unwritten × (has_ended old ≡ false) × LeavesRecords old new
 IsRefused d Nowhere Unwritten Lacks (error.Damaged page) old new before after = Lacks × EndNow old new
-IsRefused d Nowhere Unwritten Lacks error.Ended old new before after = (has_ended old ≡ true) × (new ≡ old)
-IsRefused d Nowhere Unwritten Lacks error.Memory old new before after = (has_ended old ≡ false) × (new ≡ old)
+IsRefused d Nowhere Unwritten Lacks error.Ended old new before after = HadEnded old new before after
+IsRefused d Nowhere Unwritten Lacks error.Memory old new before after = (has_ended old ≡ false) × LeavesRecords old new
 
--- the refusal of a call that reads one record
-abbrev pub nav_error : StoreError → NavError
-nav_error store.Disk = error.Disk
-nav_error (store.Damaged page) = error.Damaged page
-nav_error store.Ended = error.Ended
-nav_error store.Memory = error.Memory
-nav_error store.Exists = error.Memory
-nav_error store.NotAStore = error.Memory
-nav_error store.Full = error.Memory
+-- a call that reads a record gives up so
+abbrev pub StopsReading : StoreError → Type 0
+StopsReading store.Disk = Unit {0}
+StopsReading (store.Damaged page) = Unit {0}
+StopsReading store.Ended = Unit {0}
+StopsReading store.Memory = Unit {0}
+StopsReading _ = ⊥
+
+-- the same refusal of a call that looks at a document
+abbrev pub IsPassedOn : StoreError → NavError → Type 0
+IsPassedOn store.Disk e = e ≡ error.Disk
+IsPassedOn (store.Damaged page) e = e ≡ error.Damaged page
+IsPassedOn store.Ended e = e ≡ error.Ended
+IsPassedOn store.Memory e = e ≡ error.Memory
+IsPassedOn _ e = ⊥

@@ -9,7 +9,7 @@ use Rattle.nx_piece.specs.Gapped.{Gapped, GappedTree}
 use Rattle.nx_cuts.specs.Cut.{Bare, Grown, Kept, forest, width}
 use Rattle.nx_layouts.specs.Layout.{RecordPlace, Layout, piece_body, proxies_of, places_of, ArePlacedOnce}
 use Rattle.nx_nav.specs.Parts.{HasLayout}
-use Rattle.nx_nav.specs.Refusals.{OfEach}
+use Rattle.nx_nav.specs.Refusals.{OfEach, node_count}
 use Rattle.nx_nav.specs.Nodes.{CanStand}
 use Rattle.nx_nav.specs.declared.visited.Visited.{Visited}
 use Rattle.nx_nav.specs.Visited.{HasVisited}
@@ -72,11 +72,11 @@ module _ {D : Type 0} (d : Ghosts D) (records : Records) (disk : D) where
   abbrev pub AreIntervalsOf : List Proxy → Layout → Type 0
   AreIntervalsOf proxies layout = AreIntervals layout × (proxies ≡ proxies_of layout) × HasLayout d records disk layout
 
--- From a teller and a disk to others, where the disk's contents are told at the end: all is told of each document that the records hold from this place on.
-pub record TellsDocument {A D : Type 0} (d : Ghosts D) (Told : A → D → List Step → A → D → Type 0) (records : Records) (before : D) (root : RecordPlace) (old new : A) (after : D) : Type 0 where
+-- From a teller and a disk to others, where the disk's contents are told at the end: all is told of each document that the records hold from this place on, and it has so many nodes.
+pub record TellsDocument {A D : Type 0} (d : Ghosts D) (Told : A → D → List Step → A → D → Type 0) (records : Records) (before : D) (root : RecordPlace) (count : ℕ) (old new : A) (after : D) : Type 0 where
   pub told : List Step
   pub goes : Told old before told new after
-  pub all : IsSome (d.contents after) → OfEach d records before root (λ document. told ≡ steps_of document)
+  pub all : IsSome (d.contents after) → OfEach d records before root (λ document. (node_count document ≡ count) × (told ≡ steps_of document))
 
 -- ... or the first part of each, and what came then.
 pub record StopsWithin {A D : Type 0} (d : Ghosts D) (Told : A → D → List Step → A → D → Type 0) (records : Records) (before : D) (root : RecordPlace) (old : A) (after : D) : Type 0 where

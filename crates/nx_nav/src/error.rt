@@ -1,9 +1,7 @@
 // Why a document wasn't told of.
 ghost use Rattle.std.specs.Prelude.{◌≡◌};
 ghost use Rattle.nx_nav.specs.declared.error.NavError.TheVariants.{Memory};
-ghost use Rattle.nx_nav.specs.Refusals.{nav_error};
 
-use nx_records::StoreError;
 use nx_tree::NoMemory;
 use thiserror::Error;
 
@@ -31,21 +29,6 @@ pub enum NavError {
     /// There was no memory for what the call had to keep.
     #[error("out of memory")]
     Memory,
-}
-
-impl From<StoreError> for NavError {
-    ghost from_gives = { λ error e. e ≡ nav_error error };
-
-    // No call that reads a record answers one of the last three.
-    fn from(error: StoreError) -> NavError {
-        match error {
-            StoreError::Disk => NavError::Disk,
-            StoreError::Damaged { page } => NavError::Damaged { page },
-            StoreError::Ended => NavError::Ended,
-            StoreError::Memory | StoreError::Exists | StoreError::NotAStore | StoreError::Full =>
-                NavError::Memory,
-        }
-    }
 }
 
 impl From<NoMemory> for NavError {

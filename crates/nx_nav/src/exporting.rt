@@ -1,12 +1,12 @@
 // The text of a document, given to an output.
-ghost use Rattle.std.specs.Prelude.{◌≡◌, ◌++◌, false, IsSome, IfErr, OnOk};
+ghost use Rattle.std.specs.Prelude.{◌≡◌, ◌<◌, ◌++◌, false, length, IsSome, IfErr, OnOk};
 ghost use Rattle.nx_host.specs.Disk.{Rose};
-ghost use Rattle.nx_records.specs.Records.{has_ended};
+ghost use Rattle.nx_records.specs.Records.{has_ended, LeavesRecords};
 ghost use Rattle.nx_pyx.specs.Text.{text};
 ghost use Rattle.nx_cuts.specs.Cut.{tree_of};
 ghost use Rattle.nx_hold.specs.Changes.{place_of};
-ghost use Rattle.nx_nav.specs.Given.{AsksAndGives, GivesBut, GivesWithin};
-ghost use Rattle.nx_nav.specs.Refusals.{OfEach, OfEachWith, HoldsNoneWith, IsRefused};
+ghost use Rattle.nx_nav.specs.Given.{AsksAndGives, GivesBut, GivesWithin, block_size};
+ghost use Rattle.nx_nav.specs.Refusals.{OfEach, HoldsNoneWith, IsRefused, node_count};
 
 use crate::NavError;
 use crate::telling::{push_end, push_start};
@@ -19,13 +19,13 @@ use nx_tree::{Bytes, NoMemory};
 use std::alloc::Global;
 use std::mem;
 
-// As many bytes at least are given at once.
-const LEAST: usize = 65_536;
+// Once the block has so many bytes, it is given.
+const BLOCK: usize = 65_536;
 
 /// Gives what the block has and, behind it, the canonical text of the document of so many nodes, its
-/// root counted, whose root's record stands at `root`, but for a last part, which is left in the block.
-/// The text is given as records are read, so that it is never in memory as a whole. What is said of
-/// documents holds where the disk's contents are still told afterwards.
+/// root counted, whose root's record stands at `root`, but for a last part of fewer than 65,536 bytes, which is
+/// left in the block. Before each record is read, the block has no more than that: so the text is never in memory as a
+/// whole. What is said of documents holds where the disk's contents are still told afterwards.
 ///
 /// Errors: those of `text_of`; `Write`, only where `out_faults` rose. The block is of no use then.
 pub fn export<H: Host>(
@@ -37,9 +37,10 @@ pub fn export<H: Host>(
     block: &mut Bytes,
 ) -> Result<(), NavError>
     ensures areas { AsksAndGives ⟦<H as Disk>⟧ host.old host.new }
-    ensures stays { OnOk result ((has_ended records.old ≡ false) × (records.new ≡ records.old)) }
-    ensures ok { OnOk result (IsSome (H.contents host.new) → OfEachWith ⟦<H as Disk>⟧ records.old host.old (place_of root) nodes (λ document.
-        GivesBut (block.old ++ text (tree_of document)) block.new (H.beside host.old).output (H.beside host.new).output)) }
+    ensures stays { OnOk result ((has_ended records.old ≡ false) × LeavesRecords records.old records.new) }
+    ensures ok { OnOk result (IsSome (H.contents host.new) → OfEach ⟦<H as Disk>⟧ records.old host.old (place_of root) (λ document. (node_count document ≡ nodes)
+        × GivesBut (block.old ++ text (tree_of document)) block.new (H.beside host.old).output (H.beside host.new).output)) }
+    ensures little { OnOk result (length block.new < block_size) }
     ensures time { IsSome (H.contents host.new) → OfEach ⟦<H as Disk>⟧ records.old host.old (place_of root) (λ document.
         GivesWithin ⟦<H as Disk>⟧ (block.old ++ text (tree_of document)) host.old host.new) }
     ensures refused { IfErr result (λ e. IsRefused ⟦<H as Disk>⟧ ⊥ (Rose (H.beside host.old).out_faults (H.beside host.new).out_faults)
@@ -65,17 +66,19 @@ struct Exporting {
 }
 
 impl<H: Host> Tells<H> for Exporting {
-    ghost use Rattle.std.specs.Prelude.{◌≡◌, ◌++◌};
+    ghost use Rattle.std.specs.Prelude.{◌≡◌, ◌<◌, ◌++◌, length};
     ghost use Rattle.nx_host.specs.Disk.{Rose};
     ghost use Rattle.nx_nav.specs.Told.{told_text};
-    ghost use Rattle.nx_nav.specs.Given.{GivesText};
+    ghost use Rattle.nx_nav.specs.Given.{GivesText, block_size};
 
     ghost Told = { λ a x told b y. GivesText ⟦<H as Disk>⟧ a.block x (told_text told) b.block y };
 
     ghost Unwritten = { λ x y. Rose (H.beside x).out_faults (H.beside y).out_faults };
 
+    ghost IsReady = { λ a. length a.block < block_size };
+
     fn pause(&mut self, host: &mut H) -> Result<(), NavError> {
-        if self.block.len() < LEAST {
+        if self.block.len() < BLOCK {
             return Ok(());
         }
         match host.emit(self.block.as_slice()) {

@@ -1,14 +1,16 @@
 // The node at a path.
 ghost use Rattle.std.specs.Prelude.{◌≡◌, ◌↔◌, None, true, false, length, IfOk, IfErr};
 ghost use Rattle.nx_host.specs.Still.{IsStill};
-ghost use Rattle.nx_records.specs.Records.{has_ended};
+ghost use Rattle.nx_records.specs.Records.{has_ended, LeavesRecords};
 ghost use Rattle.nx_tree.specs.Edit.{at};
 ghost use Rattle.nx_piece.specs.Valid.{IsPiece};
 ghost use Rattle.nx_piece.specs.Flat.{seen_node};
 ghost use Rattle.nx_piece.specs.Viewing.{seen_items, seen_tree};
 ghost use Rattle.nx_piece.specs.Locate.{children_of, IsPartOf};
-ghost use Rattle.nx_cuts.specs.Cut.{tree_of};
+ghost use Rattle.nx_cuts.specs.Cut.{CutTree, tree_of};
 ghost use Rattle.nx_hold.specs.Changes.{place_of};
+ghost use Rattle.nx_hold.specs.Documents.{HasDocument};
+ghost use Rattle.nx_nav.specs.Along.{ReadsAlong};
 ghost use Rattle.nx_nav.specs.Refusals.{OfEach, HoldsNone, IsRefused};
 ghost use Rattle.nx_nav.specs.Shows.{ShowsNode, CanBeShown};
 
@@ -16,6 +18,7 @@ use crate::NavError;
 use crate::judging::{may_be, may_have_children};
 use crate::reading::{damaged, piece_at};
 use nx_host::Disk;
+use nx_lists::DEEPEST;
 use nx_piece::{LocatedView, PieceView, TreeView, count_children, find};
 use nx_records::{Records, Rid};
 use nx_tree::{Bytes, NoMemory, Node};
@@ -28,8 +31,9 @@ pub struct Shown {
     pub children: u32,
 }
 
-/// The node at the path in the document whose root's record stands at `root`. It reads the records on
-/// its path alone. What it gives is one that a document may have at that place.
+/// The node at the path in the document whose root's record stands at `root`. Where there is a document, it reads
+/// whatever its answer no page but those of the records on the path, each once, with the chain pages that they name:
+/// 257 records at most. What it gives is one that a document may have at that place.
 ///
 /// Errors: `NoNode` where the path leads nowhere; `Damaged` only where the records hold no document, in
 /// parts of at most K of the settings, from there on; `Disk`, only where `faults` rose; `Ended` exactly
@@ -43,12 +47,19 @@ pub fn get<D: Disk>(
     path: &[u32],
 ) -> Result<Shown, NavError>
     ensures still { IsStill D.Disk disk.old disk.new }
-    ensures ok { IfOk result (λ shown. (has_ended records.old ≡ false) × (records.new ≡ records.old)
+    ensures ok { IfOk result (λ shown. (has_ended records.old ≡ false) × LeavesRecords records.old records.new
         × OfEach D.Disk records.old disk.old (place_of root) (λ document. ShowsNode (tree_of document) path.now shown)) }
+    ensures reads { (document : CutTree) (held : HasDocument D.Disk records.old disk.old (place_of root) document) → ReadsAlong held.now (place_of root) path.now (D.reads disk.old) (D.reads disk.new) }
     ensures possible { IfOk result (λ shown. CanBeShown (length path.now) shown) }
     ensures refused { IfErr result (λ e. IsRefused D.Disk (OfEach D.Disk records.old disk.old (place_of root) (λ document. at (tree_of document) path.now ≡ None)) ⊥
         (HoldsNone D.Disk records.old disk.old (place_of root)) e records.old records.new disk.old disk.new) }
 {
+    if records.is_ended() {
+        return Err(NavError::Ended);
+    }
+    if path.len() > DEEPEST {
+        return Err(NavError::NoNode);
+    }
     let mut rid = root;
     let mut roots = 1;
     let mut member = 0;

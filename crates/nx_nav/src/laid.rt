@@ -1,12 +1,12 @@
 // The intervals of a document as they are stored.
 ghost use Rattle.std.specs.Prelude.{◌≡◌, ◌≤◌, false, length, IfOk, IfErr};
 ghost use Rattle.nx_host.specs.Still.{IsStill};
-ghost use Rattle.nx_records.specs.Records.{has_ended};
+ghost use Rattle.nx_records.specs.Records.{has_ended, LeavesRecords};
 ghost use Rattle.nx_parts.specs.Partitioning.{part_weights};
 ghost use Rattle.nx_cuts.specs.Cut.{tree_of, parts_of};
 ghost use Rattle.nx_hold.specs.Changes.{place_of};
 ghost use Rattle.nx_nav.specs.Laid.{interval_at};
-ghost use Rattle.nx_nav.specs.Refusals.{OfEachWith, HoldsNoneWith, IsRefused};
+ghost use Rattle.nx_nav.specs.Refusals.{OfEach, HoldsNoneWith, IsRefused, node_count};
 
 use crate::NavError;
 use crate::visited::Visited;
@@ -43,8 +43,8 @@ pub fn layout<D: Disk>(
 ) -> Result<Laid, NavError>
     ensures still { IsStill D.Disk disk.old disk.new }
     ensures pairs { IfOk result (λ laid. length laid.weights ≡ length laid.parts) }
-    ensures ok { IfOk result (λ laid. (has_ended records.old ≡ false) × (records.new ≡ records.old)
-        × OfEachWith D.Disk records.old disk.old (place_of root) nodes (λ document. (laid.parts ≡ parts_of document) × (laid.weights ≡ part_weights (tree_of document) (parts_of document)))) }
+    ensures ok { IfOk result (λ laid. (has_ended records.old ≡ false) × LeavesRecords records.old records.new
+        × OfEach D.Disk records.old disk.old (place_of root) (λ document. (node_count document ≡ nodes) × (laid.parts ≡ parts_of document) × (laid.weights ≡ part_weights (tree_of document) (parts_of document)))) }
     ensures refused { IfErr result (λ e. IsRefused D.Disk ⊥ ⊥ (HoldsNoneWith D.Disk records.old disk.old (place_of root) nodes) e records.old records.new disk.old disk.new) }
 {
     let mut walk = Walk {
@@ -98,6 +98,8 @@ impl<D: Disk> Tells<D> for Laying {
     ghost Told = { λ a x told b y. IsStill D.Disk x y × (course_of b ≡ course_behind (course_of a) told) };
 
     ghost Unwritten = { λ _ _. ⊥ };
+
+    ghost IsReady = { λ _. Unit {0} };
 
     fn pause(&mut self, _disk: &mut D) -> Result<(), NavError> {
         Ok(())

@@ -2,19 +2,20 @@
 // settings want it.
 ghost use Rattle.std.specs.Prelude.{◌≡◌, ◌≤◌, false, IfOk, IfErr};
 ghost use Rattle.nx_host.specs.Still.{IsStill};
-ghost use Rattle.nx_records.specs.Records.{has_ended, settings_of};
+ghost use Rattle.nx_records.specs.Records.{has_ended, settings_of, LeavesRecords};
 ghost use Rattle.nx_records.specs.Refusals.{EndNow};
 ghost use Rattle.nx_piece.specs.Gapped.{width, gapped_weight};
 ghost use Rattle.nx_piece.specs.Valid.{IsValidPiece};
 ghost use Rattle.nx_hold.specs.Changes.{place_of};
-ghost use Rattle.nx_nav.specs.Refusals.{IsRefused};
+ghost use Rattle.nx_nav.specs.Along.{ReadsPiece};
+ghost use Rattle.nx_nav.specs.Refusals.{IsRefused, StopsReading, IsPassedOn};
 ghost use Rattle.nx_nav.specs.Parts.{IsPieceAt, HasNoInterval};
 
 use crate::NavError;
 use nx_hold::view_piece;
 use nx_host::Disk;
 use nx_piece::PieceView;
-use nx_records::{Records, Rid};
+use nx_records::{Records, Rid, StoreError};
 use nx_tree::Bytes;
 use std::alloc::Global;
 
@@ -29,14 +30,18 @@ pub fn piece_at<'a, D: Disk>(
     bytes: &'a mut Bytes,
 ) -> Result<PieceView<'a>, NavError>
     ensures still { IsStill D.Disk disk.old disk.new }
-    ensures stays { IfOk result (λ piece. (has_ended records.old ≡ false) × (records.new ≡ records.old)) }
+    ensures stays { IfOk result (λ piece. (has_ended records.old ≡ false) × LeavesRecords records.old records.new) }
     ensures valid { IfOk result (λ piece. IsValidPiece piece) }
     ensures roots { IfOk result (λ piece. width piece.body.roots ≡ roots) }
     ensures light { IfOk result (λ piece. gapped_weight piece.body.roots ≤ (settings_of records.old).k) }
     ensures ok { IfOk result (λ piece. IsPieceAt D.Disk records.old disk.old (place_of rid) roots piece) }
+    ensures reads { ReadsPiece D.Disk records.old disk.old disk.new (place_of rid) }
     ensures refused { IfErr result (λ e. IsRefused D.Disk ⊥ ⊥ (HasNoInterval D.Disk records.old disk.old (place_of rid) roots) e records.old records.new disk.old disk.new) }
 {
-    let piece = view_piece(alloc, records, disk, rid, bytes)?;
+    let piece = match view_piece(alloc, records, disk, rid, bytes) {
+        Ok(piece) => piece,
+        Err(error) => return Err(passed_on(error)),
+    };
     if piece.body.root_count() != roots {
         return Err(damaged(records, rid.page));
     }
@@ -44,6 +49,20 @@ pub fn piece_at<'a, D: Disk>(
         return Err(damaged(records, rid.page));
     }
     Ok(piece)
+}
+
+// Why a record wasn't read, as the refusal of a call that looks at a document.
+fn passed_on(error: StoreError) -> NavError
+    requires { StopsReading error }
+    ensures { IsPassedOn error result }
+{
+    match error {
+        StoreError::Disk => NavError::Disk,
+        StoreError::Damaged { page } => NavError::Damaged { page },
+        StoreError::Ended => NavError::Ended,
+        StoreError::Memory => NavError::Memory,
+        StoreError::Exists | StoreError::NotAStore | StoreError::Full => unreachable!(),
+    }
 }
 
 // Ends the records, and answers that a page is damaged.

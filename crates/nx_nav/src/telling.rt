@@ -1,14 +1,14 @@
 // The text of a document.
 ghost use Rattle.std.specs.Prelude.{◌≡◌, ◌++◌, false, IfOk, IfErr, OnOk};
 ghost use Rattle.nx_host.specs.Still.{IsStill};
-ghost use Rattle.nx_records.specs.Records.{has_ended};
+ghost use Rattle.nx_records.specs.Records.{has_ended, LeavesRecords};
 ghost use Rattle.nx_pyx.specs.Text.{text};
 ghost use Rattle.nx_piece.specs.Flat.{seen_node};
 ghost use Rattle.nx_cuts.specs.Cut.{tree_of};
 ghost use Rattle.nx_hold.specs.Changes.{place_of};
 ghost use Rattle.nx_nav.specs.Steps.{Open, Close};
 ghost use Rattle.nx_nav.specs.Told.{step_text};
-ghost use Rattle.nx_nav.specs.Refusals.{OfEachWith, HoldsNoneWith, IsRefused};
+ghost use Rattle.nx_nav.specs.Refusals.{OfEach, HoldsNoneWith, IsRefused, node_count};
 
 use crate::NavError;
 use crate::visited::Visited;
@@ -34,8 +34,8 @@ pub fn text_of<D: Disk>(
     nodes: u32,
 ) -> Result<Bytes, NavError>
     ensures still { IsStill D.Disk disk.old disk.new }
-    ensures ok { IfOk result (λ bytes. (has_ended records.old ≡ false) × (records.new ≡ records.old)
-        × OfEachWith D.Disk records.old disk.old (place_of root) nodes (λ document. bytes ≡ text (tree_of document))) }
+    ensures ok { IfOk result (λ bytes. (has_ended records.old ≡ false) × LeavesRecords records.old records.new
+        × OfEach D.Disk records.old disk.old (place_of root) (λ document. (node_count document ≡ nodes) × (bytes ≡ text (tree_of document)))) }
     ensures refused { IfErr result (λ e. IsRefused D.Disk ⊥ ⊥ (HoldsNoneWith D.Disk records.old disk.old (place_of root) nodes) e records.old records.new disk.old disk.new) }
 {
     let mut walk = Walk {
@@ -65,6 +65,8 @@ impl<D: Disk> Tells<D> for Text {
     ghost Told = { λ a x told b y. IsStill D.Disk x y × (b.bytes ≡ a.bytes ++ told_text told) };
 
     ghost Unwritten = { λ _ _. ⊥ };
+
+    ghost IsReady = { λ _. Unit {0} };
 
     fn pause(&mut self, _disk: &mut D) -> Result<(), NavError> {
         Ok(())

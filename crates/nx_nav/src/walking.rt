@@ -2,7 +2,7 @@
 ghost use Rattle.std.specs.Prelude.{◌≡◌, ◌⊎◌, ◌≤◌, false, ℕ, List, [], ◌∷◌, ◌++◌, OnOk, IfOk, IfErr, length, drop, OnErr, IsSome};
 ghost use Rattle.nx_host.specs.Disk.{Image, Keeps};
 ghost use Rattle.nx_host.specs.Still.{IsStill};
-ghost use Rattle.nx_records.specs.Records.{has_ended};
+ghost use Rattle.nx_records.specs.Records.{has_ended, LeavesRecords};
 ghost use Rattle.nx_tree.specs.Document.{IsNode};
 ghost use Rattle.nx_piece.specs.Gapped.{proxies_in};
 ghost use Rattle.nx_piece.specs.Flat.{seen_node};
@@ -34,9 +34,13 @@ pub trait Tells<D: Disk> {
     // The disk shows that nothing more could be told.
     ghost Unwritten: { D → D → Type 0 };
 
-    // Before a record is read.
+    // It holds back so little that a record may be read.
+    ghost IsReady: { Self → Type 0 };
+
+    // Before a record is read, and at the end.
     fn pause(&mut self, disk: &mut D) -> Result<(), NavError>
         ensures ok { OnOk result (Told self.old disk.old [] self.new disk.new) }
+        ensures ready { OnOk result (IsReady self.new) }
         ensures err { IfErr result (λ e. (e ≡ NavError.Write) × Unwritten disk.old disk.new × ((last : Self) × Told self.old disk.old [] last disk.new)) };
 
     // An interval of so many members begins, whose part weighs so much.
@@ -79,8 +83,9 @@ pub fn tell_document<D: Disk, T: Tells<D>>(
     root: Rid,
 ) -> Result<(), NavError>
     requires fresh { HasVisited walk.old.visited [] }
-    ensures stays { OnOk result ((has_ended records.old ≡ false) × (records.new ≡ records.old)) }
-    ensures told { OnOk result (TellsDocument D.Disk T.Told records.old disk.old (place_of root) walk.old.teller walk.new.teller disk.new) }
+    ensures stays { OnOk result ((has_ended records.old ≡ false) × LeavesRecords records.old records.new) }
+    ensures told { OnOk result (TellsDocument D.Disk T.Told records.old disk.old (place_of root) walk.old.left walk.old.teller walk.new.teller disk.new) }
+    ensures ready { OnOk result (T.IsReady walk.new.teller) }
     ensures stops { OnErr result (StopsWithin D.Disk T.Told records.old disk.old (place_of root) walk.old.teller disk.new) }
     ensures refused { IfErr result (λ e. IsRefused D.Disk ⊥ (T.Unwritten disk.old disk.new) (IsSome (D.contents disk.new) → HoldsNoneWith D.Disk records.old disk.old (place_of root) walk.old.left) e records.old records.new disk.old disk.new) }
 {
@@ -91,6 +96,7 @@ pub fn tell_document<D: Disk, T: Tells<D>>(
     if walk.left != 0 {
         return Err(damaged(records, root.page));
     }
+    walk.teller.pause(disk)?;
     Ok(())
 }
 
@@ -123,7 +129,7 @@ fn tell_interval<D: Disk, T: Tells<D>>(
     requires runs { has_ended records.old ≡ false }
     requires levels { depth ≤ 257 }
     requires some { 1 ≤ roots }
-    ensures stays { OnOk result (records.new ≡ records.old) }
+    ensures stays { OnOk result (LeavesRecords records.old records.new) }
     ensures told { OnOk result (HasTold D.Disk T.Told (IsIntervalAt D.Disk records.old disk.old (place_of rid) roots) walk.old.teller disk.old walk.old.left walk.old.visited walk.new.teller disk.new walk.new.left walk.new.visited) }
     ensures stops { OnErr result (HasStopped D.Disk T.Told (IsIntervalAt D.Disk records.old disk.old (place_of rid) roots) walk.old.teller disk.old disk.new) }
     ensures refused { IfErr result (λ e. IsRefused D.Disk ⊥ (T.Unwritten disk.old disk.new) (IsNone D.Disk disk.new (IsIntervalAt D.Disk records.old disk.old (place_of rid) roots) depth walk.old.left walk.old.visited) e records.old records.new disk.old disk.new) }
@@ -165,7 +171,7 @@ fn tell_tree<'a, D: Disk, T: Tells<D>>(
     requires levels { spot.depth ≤ 257 }
     requires fits { proxies_in (seen_items tree.children) ≤ length proxies.now }
     requires rooted { HaveRoots proxies.now }
-    ensures stays { OnOk result (records.new ≡ records.old) }
+    ensures stays { OnOk result (LeavesRecords records.old records.new) }
     ensures behind { IfOk result (λ behind. behind.now ≡ drop (proxies_in (seen_items tree.entry.children)) proxies.now) }
     ensures told { OnOk result (HasTold D.Disk T.Told (IsTreeOf D.Disk records.old disk.old (seen_tree tree.entry) proxies.now) walk.old.teller disk.old walk.old.left walk.old.visited walk.new.teller disk.new walk.new.left walk.new.visited) }
     ensures stops { OnErr result (HasStopped D.Disk T.Told (IsTreeOf D.Disk records.old disk.old (seen_tree tree.entry) proxies.now) walk.old.teller disk.old disk.new) }
@@ -202,7 +208,7 @@ fn tell_items<'a, D: Disk, T: Tells<D>>(
     requires levels { spot.depth ≤ 257 }
     requires fits { proxies_in (seen_items items) ≤ length proxies.now }
     requires rooted { HaveRoots proxies.now }
-    ensures stays { OnOk result (records.new ≡ records.old) }
+    ensures stays { OnOk result (LeavesRecords records.old records.new) }
     ensures behind { IfOk result (λ behind. behind.now ≡ drop (proxies_in (seen_items items.entry)) proxies.now) }
     ensures told { OnOk result (HasTold D.Disk T.Told (AreOf D.Disk records.old disk.old (seen_items items.entry) proxies.now) walk.old.teller disk.old walk.old.left walk.old.visited walk.new.teller disk.new walk.new.left walk.new.visited) }
     ensures stops { OnErr result (HasStopped D.Disk T.Told (AreOf D.Disk records.old disk.old (seen_items items.entry) proxies.now) walk.old.teller disk.old disk.new) }
@@ -236,7 +242,7 @@ fn tell_row<D: Disk, T: Tells<D>>(
     requires runs { has_ended records.old ≡ false }
     requires levels { depth ≤ 257 }
     requires rooted { HaveRoots proxies.now }
-    ensures stays { OnOk result (records.new ≡ records.old) }
+    ensures stays { OnOk result (LeavesRecords records.old records.new) }
     ensures told { OnOk result (HasTold D.Disk T.Told (AreIntervalsOf D.Disk records.old disk.old proxies.now) walk.old.teller disk.old walk.old.left walk.old.visited walk.new.teller disk.new walk.new.left walk.new.visited) }
     ensures stops { OnErr result (HasStopped D.Disk T.Told (AreIntervalsOf D.Disk records.old disk.old proxies.now) walk.old.teller disk.old disk.new) }
     ensures refused { IfErr result (λ e. IsRefused D.Disk ⊥ (T.Unwritten disk.old disk.new) (IsNone D.Disk disk.new (AreIntervalsOf D.Disk records.old disk.old proxies.now) depth walk.old.left walk.old.visited) e records.old records.new disk.old disk.new) }

@@ -10,12 +10,15 @@ returns-in_err-tell_document-clause-time g c = λ seen document h.
     text_within g.H.Disk h c.replace.result c.args.block.now c.replace.ensures.value stops.told first.0 c.args.host.now c.tell_document.new.disk first.1 stops.goes.time
 
 pub returns-clause-ok : goal.returns-clause-ok
-returns-clause-ok g c = λ seen document h count.
+returns-clause-ok g c = λ seen document h.
     let told = c.in_ok-tell_document.ensures.told in
-    text_gives g.H.Disk h c.replace.result c.args.block.now c.replace.ensures.value told.told c.tell_document.new.walk.teller.block (g.H.Disk.beside c.args.host.now).output (g.H.Disk.beside c.tell_document.new.disk).output
-    (told.all seen document h) told.goes.gives
+    let all = told.all seen document h in (
+      all.0,
+      text_gives g.H.Disk h c.replace.result c.args.block.now c.replace.ensures.value told.told c.tell_document.new.walk.teller.block (g.H.Disk.beside c.args.host.now).output (g.H.Disk.beside c.tell_document.new.disk).output
+          all.1 told.goes.gives,
+    )
 
 pub returns-clause-time : goal.returns-clause-time
 returns-clause-time g c = λ seen document h.
     let told = c.in_ok-tell_document.ensures.told in
-    text_within g.H.Disk h c.replace.result c.args.block.now c.replace.ensures.value told.told [] c.args.host.now c.tell_document.new.disk (sym (told.all seen document h) ∙ sym (append-nil told.told)) told.goes.time
+    text_within g.H.Disk h c.replace.result c.args.block.now c.replace.ensures.value told.told [] c.args.host.now c.tell_document.new.disk (sym (told.all seen document h).1 ∙ sym (append-nil told.told)) told.goes.time

@@ -21,9 +21,10 @@ returns-clause-ok g c =
     let end = (told.goes).1 ∙ ap (λ (at : Course). course_behind at told.told) c.new.ensures in (
       c.in_ok-tell_document.ensures.stays.0,
       c.in_ok-tell_document.ensures.stays.1,
-      λ document h count.
-          let all = end ∙ ap (course_behind start) (told.all (document_seen (told.goes).0 h) document h) in
-          (ap (λ (at : Course). at.parts) all ∙ has_parts h, ap (λ (at : Course). at.weights) all ∙ has_weights h),
+      λ document h.
+          let told_all = told.all (document_seen (told.goes).0 h) document h in
+          let all = end ∙ ap (course_behind start) told_all.1 in
+          (told_all.0, ap (λ (at : Course). at.parts) all ∙ has_parts h, ap (λ (at : Course). at.weights) all ∙ has_weights h),
     )
 
 pub returns-in_err-tell_document-clause-refused : goal.returns-in_err-tell_document-clause-refused

@@ -1,36 +1,37 @@
 use Rattle.std.proofs.Common.{◌≡◌, ◌<◌, ap, ◌∙◌, arith}
-use Rattle.std.proofs.lemmas.Result.{err_from_is_err_and}
 use Rattle.nx_piece.specs.declared.piece.Piece.{Piece}
 use Rattle.nx_holdings.specs.declared.header.Settings.{Settings}
-use Rattle.nx_records.specs.declared.records.Records.{Records}
-use Rattle.nx_records.specs.Records.{settings_of}
+use Rattle.nx_holdings.specs.declared.header.Header.{Header}
+use Rattle.nx_records.specs.Records.{LeavesRecords, settings_of}
 use Rattle.nx_piece.specs.Gapped.{width, gapped_weight}
 use Rattle.nx_hold.specs.Changes.{place_of}
 use Rattle.nx_nav.specs.Parts.{HasNoInterval}
 use Rattle.nx_nav.proofs.RefusalLemmas.{is_damaged}
-use Rattle.nx_nav.proofs.PartLemmas.{interval_piece, no_interval, no_light_interval, read_refused}
+use Rattle.nx_nav.proofs.PartLemmas.{interval_piece, no_interval, no_light_interval, read_stops, read_refused}
 use Rattle.nx_nav.proofs.reading.piece_at.Goals as goal
 
-pub returns-in_err-piece-clause-refused : goal.returns-in_err-piece-clause-refused
-returns-in_err-piece-clause-refused g c =
-    let p = err_from_is_err_and c.from_residual.result c.from_residual.ensures.1 in
-    rw (p.1, p.2) (read_refused g.D.Disk (place_of c.args.rid) c.args.roots c.args.rid.page c.args.records.now c.view_piece.new.records c.args.disk.now c.view_piece.new.disk c.in_err-piece.field-0.0 c.in_err-piece.ensures.refused)
+pub passed_on-requires : goal.passed_on-requires
+passed_on-requires g c = read_stops g.D.Disk (place_of c.args.rid) c.args.roots c.args.rid.page c.args.records.now c.view_piece.new.records c.args.disk.now c.view_piece.new.disk c.in-Err.error c.in-Err.ensures.refused
+
+pub returns-in-Err-clause-refused : goal.returns-in-Err-clause-refused
+returns-in-Err-clause-refused g c =
+    read_refused g.D.Disk (place_of c.args.rid) c.args.roots c.args.rid.page c.args.records.now c.view_piece.new.records c.args.disk.now c.view_piece.new.disk c.in-Err.error c.passed_on.result c.passed_on.ensures c.in-Err.ensures.refused
 
 pub returns-then-root_count-roots-clause-refused : goal.returns-then-root_count-roots-clause-refused
 returns-then-root_count-roots-clause-refused g c =
     is_damaged g.D.Disk ⊥ ⊥ (HasNoInterval g.D.Disk c.args.records.now c.args.disk.now (place_of c.args.rid) c.args.roots) {r0 = c.args.records.now} {r1 = c.view_piece.new.records} {r2 = c.damaged.new.records} c.args.disk.now c.view_piece.new.disk
-    c.damaged.result c.damaged.ensures.result c.in_ok-piece.ensures.ok.0 c.in_ok-piece.ensures.ok.1 c.damaged.ensures.ends
-    (no_interval c.args.roots c.in_ok-piece.piece c.in_ok-piece.ensures.ok.2 (λ same. c.if-root_count-roots.true (c.root_count.ensures ∙ ap (λ (p : Piece). width p.body.roots) c.piece.view_is ∙ same)))
+    c.damaged.result c.damaged.ensures.result c.in-Ok.ensures.ok.0 c.in-Ok.ensures.ok.1 c.damaged.ensures.ends
+    (no_interval c.args.roots c.in-Ok.piece c.in-Ok.ensures.ok.2 (λ same. c.if-root_count-roots.true (c.root_count.ensures ∙ ap (λ (p : Piece). width p.body.roots) c.piece.view_is ∙ same)))
 
 pub returns-clause-ok : goal.returns-clause-ok
-returns-clause-ok g c = λ members h as_many. interval_piece h c.in_ok-piece.piece c.in_ok-piece.ensures.ok.2
+returns-clause-ok g c = λ members h as_many. interval_piece h c.in-Ok.piece c.in-Ok.ensures.ok.2
 
 pub returns-then-weight-settings-clause-refused : goal.returns-then-weight-settings-clause-refused
 returns-then-weight-settings-clause-refused g c =
-    let same : c.view_piece.new.records ≡ c.args.records.now = c.in_ok-piece.ensures.ok.1 in
-    let most : c.settings.result.k ≡ (settings_of c.args.records.now).k = ap (λ (t : Settings). t.k) (c.settings.ensures ∙ ap (λ (r : Records). settings_of r) same) in
-    let weighs : c.weight.result ≡ gapped_weight c.in_ok-piece.piece.body.roots = c.weight.ensures ∙ ap (λ (p : Piece). gapped_weight p.body.roots) c.piece.view_is in
-    let heavy : (settings_of c.args.records.now).k < gapped_weight c.in_ok-piece.piece.body.roots = let more = c.if-weight-settings.true in omega arith in
+    let same : LeavesRecords c.args.records.now c.view_piece.new.records = c.in-Ok.ensures.ok.1 in
+    let most : c.settings.result.k ≡ (settings_of c.args.records.now).k = ap (λ (t : Settings). t.k) (c.settings.ensures ∙ ap (λ (h : Header). h.settings) same.head_stays) in
+    let weighs : c.weight.result ≡ gapped_weight c.in-Ok.piece.body.roots = c.weight.ensures ∙ ap (λ (p : Piece). gapped_weight p.body.roots) c.piece.view_is in
+    let heavy : (settings_of c.args.records.now).k < gapped_weight c.in-Ok.piece.body.roots = let more = c.if-weight-settings.true in omega arith in
     is_damaged g.D.Disk ⊥ ⊥ (HasNoInterval g.D.Disk c.args.records.now c.args.disk.now (place_of c.args.rid) c.args.roots) {r0 = c.args.records.now} {r1 = c.view_piece.new.records} {r2 = c.damaged-then-weight-settings.new.records}
-    c.args.disk.now c.view_piece.new.disk c.damaged-then-weight-settings.result c.damaged-then-weight-settings.ensures.result c.in_ok-piece.ensures.ok.0 same c.damaged-then-weight-settings.ensures.ends
-    (no_light_interval c.args.roots c.in_ok-piece.piece c.in_ok-piece.ensures.ok.2 heavy)
+    c.args.disk.now c.view_piece.new.disk c.damaged-then-weight-settings.result c.damaged-then-weight-settings.ensures.result c.in-Ok.ensures.ok.0 same c.damaged-then-weight-settings.ensures.ends
+    (no_light_interval c.args.roots c.in-Ok.piece c.in-Ok.ensures.ok.2 heavy)

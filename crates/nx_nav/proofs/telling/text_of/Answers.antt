@@ -11,7 +11,9 @@ returns-clause-ok g c =
     let told = c.in_ok-tell_document.ensures.told in (
       c.in_ok-tell_document.ensures.stays.0,
       c.in_ok-tell_document.ensures.stays.1,
-      λ document h count. (told.goes).1 ∙ ap (λ (x : List ℕ). x ++ told_text told.told) c.new.ensures ∙ ap told_text (told.all (document_seen (told.goes).0 h) document h) ∙ has_text h,
+      λ document h.
+          let all = told.all (document_seen (told.goes).0 h) document h in
+          (all.0, (told.goes).1 ∙ ap (λ (x : List ℕ). x ++ told_text told.told) c.new.ensures ∙ ap told_text all.1 ∙ has_text h),
     )
 
 pub returns-in_err-tell_document-clause-refused : goal.returns-in_err-tell_document-clause-refused

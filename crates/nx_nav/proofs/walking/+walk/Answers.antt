@@ -3,8 +3,7 @@ use Rattle.std.specs.Prelude.{◌⊎◌, Contains, IsSome}
 use Rattle.std.proofs.lemmas.Result.{err_from_is_err_and}
 use Rattle.std.proofs.lemmas.List.{drop_all}
 use Rattle.nx_host.proofs.DiskLemmas.{none_still}
-use Rattle.nx_records.specs.declared.records.Records.{Records}
-use Rattle.nx_records.specs.Records.{has_ended}
+use Rattle.nx_records.proofs.LeaveLemmas.{leaves_same, leaves_add_up}
 use Rattle.nx_tree.specs.Document.{deepest}
 use Rattle.nx_piece.specs.declared.piece.Piece.{Piece}
 use Rattle.nx_piece.specs.declared.piece.Proxy.{Proxy}
@@ -59,7 +58,7 @@ pub tell_interval-returns-in_err-piece-clause-refused : goal.tell_interval-retur
 tell_interval-returns-in_err-piece-clause-refused g t c =
     let paused = c.in_ok-pause.ensures.ok in
     let p = err_from_is_err_and c.from_residual-in_err-piece.result c.from_residual-in_err-piece.ensures.1 in
-    rw (p.1, p.2) (interval_not_read (teller g) c.args.records.now c.piece_at.new.records (place_of c.args.rid) c.args.roots paused c.piece_at.ensures.still c.args.depth c.args.walk.now.left c.args.walk.now.visited c.in_err-piece.field-0.0 c.in_err-piece.ensures.refused)
+    rw (p.1, p.2) (interval_not_read (teller g) c.args.records.now c.piece_at.new.records (place_of c.args.rid) c.args.roots paused c.piece_at.ensures.still c.requires.runs c.args.depth c.args.walk.now.left c.args.walk.now.visited c.in_err-piece.field-0.0 c.in_err-piece.ensures.refused)
 
 pub tell_interval-returns-in_err-begin-clause-stops : goal.tell_interval-returns-in_err-begin-clause-stops
 tell_interval-returns-in_err-begin-clause-stops g t c =
@@ -90,7 +89,7 @@ tell_interval-returns-in_err-proxies-clause-refused g t c =
     (subst (λ f. AreOf g.D.Disk c.loop-item.records c.loop-item.disk f c.loop-item.proxies.now l) e is) in
     let p = err_from_is_err_and c.from_residual-in_err-proxies.result c.from_residual-in_err-proxies.ensures.1 in
     rw (p.1, p.2)
-    (way_refused (teller g) c.loop-item.invariant.way (AreOf g.D.Disk c.loop-item.records c.loop-item.disk items (drop (proxies_in root.below) c.loop-item.proxies.now)) c.args.records.now c.loop-item.records c.tell_tree.new.records c.tell_tree.new.disk c.args.depth c.loop-item.invariant.stays c.in_err-proxies.ensures.stops split c.in_err-proxies.field-0.0
+    (way_refused (teller g) c.loop-item.invariant.way (AreOf g.D.Disk c.loop-item.records c.loop-item.disk items (drop (proxies_in root.below) c.loop-item.proxies.now)) c.args.records.now c.loop-item.records c.tell_tree.new.records c.tell_tree.new.disk c.args.depth c.requires.runs c.loop-item.invariant.stays c.in_err-proxies.ensures.stops split c.in_err-proxies.field-0.0
     c.in_err-proxies.ensures.refused)
 
 pub tell_interval-returns-clause-told : goal.tell_interval-returns-clause-told
@@ -109,7 +108,7 @@ tell_items-tell_tree-requires g t c =
     enough_left c.args.proxies.now c.loop-item.rest.now passed.0 (proxies_in (seen_items c.loop-item.left)) (proxies_in (seen_items c.args.items)) passed.1 passed.2 c.requires.fits in
     let same = ap proxies_in e in
     let rooted : HaveRoots c.loop-item.rest.now = subst HaveRoots (sym passed.1) (ranged_drop passed.0 c.args.proxies.now c.requires.rooted) in
-    λ κs le. (omega arith, (le.0, (le.1, (ap (λ (r : Records). has_ended r) c.loop-item.invariant.stays ∙ c.requires.runs, (c.requires.levels, (omega arith, rooted))))))
+    λ κs le. (omega arith, (le.0, (le.1, ((c.loop-item.invariant.stays).ended_stays ∙ c.requires.runs, (c.requires.levels, (omega arith, rooted))))))
 
 pub tell_items-returns-in_err-rest-in-Tree-clause-stops : goal.tell_items-returns-in_err-rest-in-Tree-clause-stops
 tell_items-returns-in_err-rest-in-Tree-clause-stops g t c =
@@ -136,7 +135,7 @@ tell_items-returns-in_err-rest-in-Tree-clause-refused g t c =
     (subst (λ f. AreOf g.D.Disk c.loop-item.records c.loop-item.disk f c.loop-item.rest.now l) e is) in
     let p = err_from_is_err_and c.from_residual.result c.from_residual.ensures.1 in
     rw (p.1, p.2)
-    (way_refused (teller g) c.loop-item.invariant.way (AreOf g.D.Disk c.loop-item.records c.loop-item.disk items (drop (proxies_in tree.below) c.loop-item.rest.now)) c.args.records.now c.loop-item.records c.tell_tree.new.records c.tell_tree.new.disk c.args.spot.depth c.loop-item.invariant.stays c.in_err-rest-in-Tree.ensures.stops split c.in_err-rest-in-Tree.field-0.0
+    (way_refused (teller g) c.loop-item.invariant.way (AreOf g.D.Disk c.loop-item.records c.loop-item.disk items (drop (proxies_in tree.below) c.loop-item.rest.now)) c.args.records.now c.loop-item.records c.tell_tree.new.records c.tell_tree.new.disk c.args.spot.depth c.requires.runs c.loop-item.invariant.stays c.in_err-rest-in-Tree.ensures.stops split c.in_err-rest-in-Tree.field-0.0
     c.in_err-rest-in-Tree.ensures.refused)
 
 pub tell_items-tell_row-requires : goal.tell_items-tell_row-requires
@@ -144,7 +143,7 @@ tell_items-tell_row-requires g t c =
     let items = seen_items c.in-Some.beside in
     let passed = c.loop-item.invariant.passed in
     let rooted : HaveRoots c.loop-item.rest.now = subst HaveRoots (sym passed.1) (ranged_drop passed.0 c.args.proxies.now c.requires.rooted) in
-    λ κs le. (omega arith, (le.0, (le.1, (ap (λ (r : Records). has_ended r) c.loop-item.invariant.stays ∙ c.requires.runs, (c.requires.levels, subst HaveRoots (sym c.split_at.ensures.front) (ranged_take c.in-Run.count c.loop-item.rest.now rooted))))))
+    λ κs le. (omega arith, (le.0, (le.1, ((c.loop-item.invariant.stays).ended_stays ∙ c.requires.runs, (c.requires.levels, subst HaveRoots (sym c.split_at.ensures.front) (ranged_take c.in-Run.count c.loop-item.rest.now rooted))))))
 
 pub tell_items-returns-in_err-tell_row-in-Run-clause-stops : goal.tell_items-returns-in_err-tell_row-in-Run-clause-stops
 tell_items-returns-in_err-tell_row-in-Run-clause-stops g t c =
@@ -173,7 +172,7 @@ tell_items-returns-in_err-tell_row-in-Run-clause-refused g t c =
     let stops : HasStopped g.D.Disk g.T.Tells.Told (AreIntervalsOf g.D.Disk c.loop-item.records c.loop-item.disk (take c.in-Run.count c.loop-item.rest.now)) c.loop-item.walk.teller c.loop-item.disk c.tell_row.new.disk =
     subst (λ (ps : List Proxy). HasStopped g.D.Disk g.T.Tells.Told (AreIntervalsOf g.D.Disk c.loop-item.records c.loop-item.disk ps) c.loop-item.walk.teller c.loop-item.disk c.tell_row.new.disk) c.split_at.ensures.front c.in_err-tell_row-in-Run.ensures.stops in
     rw (p.1, p.2)
-    (way_refused (teller g) c.loop-item.invariant.way (AreOf g.D.Disk c.loop-item.records c.loop-item.disk items (drop c.in-Run.count c.loop-item.rest.now)) c.args.records.now c.loop-item.records c.tell_row.new.records c.tell_row.new.disk c.args.spot.depth c.loop-item.invariant.stays stops split c.in_err-tell_row-in-Run.field-0.0
+    (way_refused (teller g) c.loop-item.invariant.way (AreOf g.D.Disk c.loop-item.records c.loop-item.disk items (drop c.in-Run.count c.loop-item.rest.now)) c.args.records.now c.loop-item.records c.tell_row.new.records c.tell_row.new.disk c.args.spot.depth c.requires.runs c.loop-item.invariant.stays stops split c.in_err-tell_row-in-Run.field-0.0
     (subst (λ (ps : List Proxy). IsRefused g.D.Disk ⊥ (g.T.Tells.Unwritten c.loop-item.disk c.tell_row.new.disk) (IsNone g.D.Disk c.tell_row.new.disk (AreIntervalsOf g.D.Disk c.loop-item.records c.loop-item.disk ps) c.args.spot.depth c.loop-item.walk.left c.loop-item.walk.visited) c.in_err-tell_row-in-Run.field-0.0
     c.loop-item.records c.tell_row.new.records c.loop-item.disk c.tell_row.new.disk) c.split_at.ensures.front c.in_err-tell_row-in-Run.ensures.refused))
 
@@ -181,7 +180,7 @@ pub tell_items-returns-clause-told : goal.tell_items-returns-clause-told
 tell_items-returns-clause-told g t c = way_ends (teller g) c.loop-item.invariant.way (λ l is. items_end (seen_items c.loop-item.left) c.loop-item.rest.now l is (rw c.in_default.is at c.split_first.ensures))
 
 pub tell_row-loop-proxy-init : goal.tell_row-loop-proxy-init
-tell_row-loop-proxy-init g t c = record { stays = refl; way = way_begins (teller g) }
+tell_row-loop-proxy-init g t c = record { stays = leaves_same refl; way = way_begins (teller g) }
 
 pub tell_row-tell_interval-requires : goal.tell_row-tell_interval-requires
 tell_row-tell_interval-requires g t c =
@@ -189,7 +188,7 @@ tell_row-tell_interval-requires g t c =
     let proxy = get_or c.args.proxies.now i no_proxy in
     let d : drop i c.args.proxies.now ≡ proxy ∷ drop (i + 1) c.args.proxies.now = next_at c.args.proxies.now i no_proxy c.loop-proxy-test.true in
     let rooted : HaveRoots (proxy ∷ drop (i + 1) c.args.proxies.now) = subst HaveRoots d (ranged_drop i c.args.proxies.now c.requires.rooted) in
-    λ κs le. (omega arith, (le.0, (le.1, (ap (λ (r : Records). has_ended r) c.loop-proxy.invariant.stays ∙ c.requires.runs, (c.requires.levels, rooted.0)))))
+    λ κs le. (omega arith, (le.0, (le.1, ((c.loop-proxy.invariant.stays).ended_stays ∙ c.requires.runs, (c.requires.levels, rooted.0)))))
 
 pub tell_row-returns-in_err-tell_interval-clause-stops : goal.tell_row-returns-in_err-tell_interval-clause-stops
 tell_row-returns-in_err-tell_interval-clause-stops g t c =
@@ -212,7 +211,7 @@ tell_row-returns-in_err-tell_interval-clause-refused g t c =
     λ l is. split_interval g.D.Disk c.loop-proxy.records c.loop-proxy.records c.loop-proxy.disk c.loop-proxy.disk (λ x h. h) proxy (drop (i + 1) c.args.proxies.now) l (subst (λ (ps : List Proxy). AreIntervalsOf g.D.Disk c.loop-proxy.records c.loop-proxy.disk ps l) d is) in
     let p = err_from_is_err_and c.from_residual.result c.from_residual.ensures.1 in
     rw (p.1, p.2)
-    (way_refused (teller g) c.loop-proxy.invariant.way (AreIntervalsOf g.D.Disk c.loop-proxy.records c.loop-proxy.disk (drop (i + 1) c.args.proxies.now)) c.args.records.now c.loop-proxy.records c.tell_interval.new.records c.tell_interval.new.disk c.args.depth c.loop-proxy.invariant.stays c.in_err-tell_interval.ensures.stops split c.in_err-tell_interval.field-0.0
+    (way_refused (teller g) c.loop-proxy.invariant.way (AreIntervalsOf g.D.Disk c.loop-proxy.records c.loop-proxy.disk (drop (i + 1) c.args.proxies.now)) c.args.records.now c.loop-proxy.records c.tell_interval.new.records c.tell_interval.new.disk c.args.depth c.requires.runs c.loop-proxy.invariant.stays c.in_err-tell_interval.ensures.stops split c.in_err-tell_interval.field-0.0
     c.in_err-tell_interval.ensures.refused)
 
 pub tell_row-loop-proxy-preserved : goal.tell_row-loop-proxy-preserved
@@ -225,7 +224,7 @@ tell_row-loop-proxy-preserved g t c =
     → IsSplit (IsIntervalAt g.D.Disk c.loop-proxy.records c.loop-proxy.disk (place_named proxy) proxy.roots) (AreIntervalsOf g.D.Disk c.tell_interval.new.records c.tell_interval.new.disk (drop (i + 1) c.args.proxies.now)) l =
     λ seen l is. split_interval g.D.Disk c.loop-proxy.records c.tell_interval.new.records c.loop-proxy.disk c.tell_interval.new.disk (told_stands (teller g) {r0 = c.loop-proxy.records} {r1 = c.tell_interval.new.records} told.goes c.in_ok-tell_interval.ensures.stays seen) proxy (drop (i + 1) c.args.proxies.now) l (subst (λ (ps : List Proxy). AreIntervalsOf g.D.Disk c.loop-proxy.records c.loop-proxy.disk ps l) d is) in
     record {
-      stays = c.in_ok-tell_interval.ensures.stays ∙ c.loop-proxy.invariant.stays;
+      stays = leaves_add_up c.loop-proxy.invariant.stays c.in_ok-tell_interval.ensures.stays;
       way = way_goes_on (teller g) c.loop-proxy.invariant.way (AreIntervalsOf g.D.Disk c.tell_interval.new.records c.tell_interval.new.disk (drop (i + 1) c.args.proxies.now)) c.tell_interval.new.walk.teller c.tell_interval.new.disk c.tell_interval.new.walk.left c.tell_interval.new.walk.visited told split;
     }
 
@@ -301,7 +300,7 @@ tell_interval-loop-item-preserved-in_ok-proxies g t c =
     λ seen l is. split_tree g.D.Disk c.loop-item.records c.tell_tree.new.records c.loop-item.disk c.tell_tree.new.disk (told_stands (teller g) {r0 = c.loop-item.records} {r1 = c.tell_tree.new.records} told.goes c.in_ok-proxies.ensures.stays seen) root items c.loop-item.proxies.now l
     (subst (λ f. AreOf g.D.Disk c.loop-item.records c.loop-item.disk f c.loop-item.proxies.now l) e is) in
     record {
-      stays = c.in_ok-proxies.ensures.stays ∙ c.loop-item.invariant.stays;
+      stays = leaves_add_up c.loop-item.invariant.stays c.in_ok-proxies.ensures.stays;
       trees = let trees : AreTrees (Grow root.node root.below items) = subst AreTrees e c.loop-item.invariant.trees in trees;
       fits = let fits : proxies_in (seen_items c.loop-item.items) ≤ length c.loop-item.proxies.now = c.loop-item.invariant.fits in
           enough_left c.loop-item.proxies.now c.in_ok-proxies.proxies.now (proxies_in root.below) (proxies_in items) (proxies_in (seen_items c.loop-item.items)) (sym behind) (sym (ap proxies_in e)) fits;
@@ -312,7 +311,7 @@ tell_interval-loop-item-preserved-in_ok-proxies g t c =
     }
 
 pub tell_items-loop-item-init : goal.tell_items-loop-item-init
-tell_items-loop-item-init g t c = record { stays = refl; passed = (0, refl, omega arith); way = way_begins (teller g) }
+tell_items-loop-item-init g t c = record { stays = leaves_same refl; passed = (0, refl, omega arith); way = way_begins (teller g) }
 
 pub tell_items-loop-item-preserved-in_ok-rest-in-Tree : goal.tell_items-loop-item-preserved-in_ok-rest-in-Tree
 tell_items-loop-item-preserved-in_ok-rest-in-Tree g t c =
@@ -329,7 +328,7 @@ tell_items-loop-item-preserved-in_ok-rest-in-Tree g t c =
     λ seen l is. split_tree g.D.Disk c.loop-item.records c.tell_tree.new.records c.loop-item.disk c.tell_tree.new.disk (told_stands (teller g) {r0 = c.loop-item.records} {r1 = c.tell_tree.new.records} told.goes c.in_ok-rest-in-Tree.ensures.stays seen) tree items c.loop-item.rest.now l
     (subst (λ f. AreOf g.D.Disk c.loop-item.records c.loop-item.disk f c.loop-item.rest.now l) e is) in
     record {
-      stays = c.in_ok-rest-in-Tree.ensures.stays ∙ c.loop-item.invariant.stays;
+      stays = leaves_add_up c.loop-item.invariant.stays c.in_ok-rest-in-Tree.ensures.stays;
       passed = (passed.0 + proxies_in tree.below, sym behind ∙ dropped_twice c.args.proxies.now c.loop-item.rest.now passed.0 (proxies_in tree.below) passed.1, omega arith);
       way = subst (λ (ps : List Proxy). IsOnWay g.D.Disk g.T.Tells.Told (AreOf g.D.Disk c.args.records.now c.args.disk.now (seen_items c.args.items) c.args.proxies.now) (AreOf g.D.Disk c.tell_tree.new.records c.tell_tree.new.disk items ps)
           c.args.walk.now.teller c.args.disk.now c.args.walk.now.left c.args.walk.now.visited c.tell_tree.new.walk.teller c.tell_tree.new.disk c.tell_tree.new.walk.left c.tell_tree.new.walk.visited) behind
@@ -351,7 +350,7 @@ tell_items-loop-item-preserved g t c =
     λ seen l is. split_row g.D.Disk c.loop-item.records c.tell_row.new.records c.loop-item.disk c.tell_row.new.disk (told_stands (teller g) {r0 = c.loop-item.records} {r1 = c.tell_row.new.records} told.goes c.in_ok-tell_row-in-Run.ensures.stays seen) c.in-Run.count items c.loop-item.rest.now l
     (subst (λ f. AreOf g.D.Disk c.loop-item.records c.loop-item.disk f c.loop-item.rest.now l) e is) in
     record {
-      stays = c.in_ok-tell_row-in-Run.ensures.stays ∙ c.loop-item.invariant.stays;
+      stays = leaves_add_up c.loop-item.invariant.stays c.in_ok-tell_row-in-Run.ensures.stays;
       passed = (passed.0 + c.in-Run.count, sym behind ∙ dropped_twice c.args.proxies.now c.loop-item.rest.now passed.0 c.in-Run.count passed.1, omega arith);
       way = subst (λ (ps : List Proxy). IsOnWay g.D.Disk g.T.Tells.Told (AreOf g.D.Disk c.args.records.now c.args.disk.now (seen_items c.args.items) c.args.proxies.now) (AreOf g.D.Disk c.tell_row.new.records c.tell_row.new.disk items ps)
           c.args.walk.now.teller c.args.disk.now c.args.walk.now.left c.args.walk.now.visited c.tell_row.new.walk.teller c.tell_row.new.disk c.tell_row.new.walk.left c.tell_row.new.walk.visited) behind
@@ -371,7 +370,7 @@ pub tell_interval-returns-then-not-branch-clause-refused : goal.tell_interval-re
 tell_interval-returns-then-not-branch-clause-refused g t c =
     is_damaged g.D.Disk ⊥ (g.T.Tells.Unwritten c.args.disk.now c.pause.new.disk)
     (IsNone g.D.Disk c.pause.new.disk (IsIntervalAt g.D.Disk c.args.records.now c.args.disk.now (place_of c.args.rid) c.args.roots) c.args.depth c.args.walk.now.left c.args.walk.now.visited)
-    {r0 = c.args.records.now} {r1 = c.args.records.now} {r2 = c.damaged.new.records} c.args.disk.now c.pause.new.disk c.damaged.result c.damaged.ensures.result c.requires.runs refl c.damaged.ensures.ends
+    {r0 = c.args.records.now} {r1 = c.args.records.now} {r2 = c.damaged.new.records} c.args.disk.now c.pause.new.disk c.damaged.result c.damaged.ensures.result c.requires.runs (leaves_same refl) c.damaged.ensures.ends
     (no_other_interval c.args.records.now (place_of c.args.rid) c.args.roots c.args.depth c.args.walk.now.left c.args.walk.now.visited c.pause.new.disk (λ places were. was_old (HasVisited c.visit.new.self (places ++ place_of c.args.rid ∷ [])) (Contains places (place_of c.args.rid)) c.if-not-branch.true (c.in_ok-visit.ensures places were)))
 
 pub tell_tree-returns-then-spot-eq0-clause-refused : goal.tell_tree-returns-then-spot-eq0-clause-refused
@@ -382,7 +381,7 @@ tell_tree-returns-then-spot-eq0-clause-refused g t c =
     ] in
     is_damaged g.D.Disk ⊥ (g.T.Tells.Unwritten c.args.disk.now c.args.disk.now)
     (IsNone g.D.Disk c.args.disk.now (IsTreeOf g.D.Disk c.args.records.now c.args.disk.now (seen_tree c.args.tree) c.args.proxies.now) c.args.spot.depth c.args.walk.now.left c.args.walk.now.visited)
-    {r0 = c.args.records.now} {r1 = c.args.records.now} {r2 = c.damaged.new.records} c.args.disk.now c.args.disk.now c.damaged.result c.damaged.ensures.result c.requires.runs refl c.damaged.ensures.ends
+    {r0 = c.args.records.now} {r1 = c.args.records.now} {r2 = c.damaged.new.records} c.args.disk.now c.args.disk.now c.damaged.result c.damaged.ensures.result c.requires.runs (leaves_same refl) c.damaged.ensures.ends
     (no_room c.args.records.now (seen_tree c.args.tree) c.args.proxies.now c.args.spot.depth c.args.walk.now.left c.args.walk.now.visited c.args.disk.now none)
 
 pub tell_tree-returns-then-not-is_possible-clause-stops : goal.tell_tree-returns-then-not-is_possible-clause-stops
@@ -393,7 +392,7 @@ pub tell_tree-returns-then-not-is_possible-clause-refused : goal.tell_tree-retur
 tell_tree-returns-then-not-is_possible-clause-refused g t c =
     is_damaged g.D.Disk ⊥ (g.T.Tells.Unwritten c.args.disk.now c.args.disk.now)
     (IsNone g.D.Disk c.args.disk.now (IsTreeOf g.D.Disk c.args.records.now c.args.disk.now (seen_tree c.args.tree) c.args.proxies.now) c.args.spot.depth c.args.walk.now.left c.args.walk.now.visited)
-    {r0 = c.args.records.now} {r1 = c.args.records.now} {r2 = c.damaged-then-not-is_possible.new.records} c.args.disk.now c.args.disk.now c.damaged-then-not-is_possible.result c.damaged-then-not-is_possible.ensures.result c.requires.runs refl
+    {r0 = c.args.records.now} {r1 = c.args.records.now} {r2 = c.damaged-then-not-is_possible.new.records} c.args.disk.now c.args.disk.now c.damaged-then-not-is_possible.result c.damaged-then-not-is_possible.ensures.result c.requires.runs (leaves_same refl)
     c.damaged-then-not-is_possible.ensures.ends
     (no_such_tree c.args.records.now (seen_tree c.args.tree) c.args.proxies.now c.args.spot.depth c.args.walk.now.left c.args.walk.now.visited c.args.disk.now
     (λ can. absurd (let yes = c.is_possible.ensures.1 can in let no = c.if-not-is_possible.true in cc)))

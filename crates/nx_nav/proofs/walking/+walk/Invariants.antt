@@ -1,4 +1,5 @@
 use Rattle.std.proofs.Common.{◌≡◌, ◌+◌, ◌*◌, ◌≤◌, ℕ, drop, length}
+use Rattle.nx_records.specs.Records.{LeavesRecords}
 use Rattle.nx_piece.specs.Gapped.{item_count, proxies_in}
 use Rattle.nx_piece.specs.Viewing.{seen_items}
 use Rattle.nx_piece.specs.Valid.{AreTrees, HaveRoots}
@@ -22,7 +23,7 @@ decreases-tell_tree g l = 4 * l.spot.depth
 abbrev pub invariant-tell_interval-loop-item : goal.invariant-tell_interval-loop-item
 invariant-tell_interval-loop-item g l =
     record {
-      stays : l.records ≡ l.fn.records;
+      stays : LeavesRecords l.fn.records l.records;
       trees : AreTrees (seen_items l.items);
       fits : proxies_in (seen_items l.items) ≤ length l.proxies;
       rooted : HaveRoots l.proxies;
@@ -36,7 +37,7 @@ decreases-tell_interval-loop-item g l = item_count (seen_items l.items)
 abbrev pub invariant-tell_items-loop-item : goal.invariant-tell_items-loop-item
 invariant-tell_items-loop-item g l =
     record {
-      stays : l.records ≡ l.fn.records;
+      stays : LeavesRecords l.fn.records l.records;
       passed : (n : ℕ) × (l.rest ≡ drop n l.proxies) × (n + proxies_in (seen_items l.left) ≡ proxies_in (seen_items l.items));
       way : IsOnWay g.D.Disk g.T.Tells.Told (AreOf g.D.Disk l.fn.records l.fn.disk (seen_items l.items) l.proxies) (AreOf g.D.Disk l.records l.disk (seen_items l.left) l.rest)
           l.fn.walk.teller l.fn.disk l.fn.walk.left l.fn.walk.visited l.walk.teller l.disk l.walk.left l.walk.visited;
@@ -48,7 +49,7 @@ decreases-tell_items-loop-item g l = item_count (seen_items l.left)
 abbrev pub invariant-tell_row-loop-proxy : goal.invariant-tell_row-loop-proxy
 invariant-tell_row-loop-proxy g l =
     record {
-      stays : l.records ≡ l.fn.records;
+      stays : LeavesRecords l.fn.records l.records;
       way : IsOnWay g.D.Disk g.T.Tells.Told (AreIntervalsOf g.D.Disk l.fn.records l.fn.disk l.proxies) (AreIntervalsOf g.D.Disk l.records l.disk (drop l.proxy-index l.proxies))
           l.fn.walk.teller l.fn.disk l.fn.walk.left l.fn.walk.visited l.walk.teller l.disk l.walk.left l.walk.visited;
     }

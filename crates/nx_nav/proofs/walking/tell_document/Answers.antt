@@ -2,12 +2,25 @@ use Rattle.std.proofs.Common.{[], refl, sym, ◌∙◌}
 use Rattle.std.specs.Prelude.{IsSome}
 use Rattle.std.proofs.lemmas.Result.{err_from_is_err_and}
 use Rattle.nx_host.proofs.DiskLemmas.{none_still}
+use Rattle.nx_records.proofs.LeaveLemmas.{had_ended}
 use Rattle.nx_hold.specs.Changes.{place_of}
 use Rattle.nx_nav.specs.Refusals.{HoldsNoneWith}
 use Rattle.nx_nav.specs.Steps.{steps_of}
-use Rattle.nx_nav.proofs.RefusalLemmas.{is_damaged}
-use Rattle.nx_nav.proofs.DocumentLemmas.{document_told, document_stops, document_all_told, none_so_large, document_refused}
+use Rattle.nx_nav.proofs.RefusalLemmas.{is_damaged, is_unwritten}
+use Rattle.nx_nav.proofs.DocumentLemmas.{document_told, document_stops, document_all_told, document_stops_paused, none_so_large, document_refused}
+use Rattle.nx_nav.proofs.WayLemmas.{IsTeller}
+use Rattle.nx_nav.proofs.walking.tell_document.Given.{Over}
 use Rattle.nx_nav.proofs.walking.tell_document.Goals as goal
+
+teller : (g : Over) → IsTeller g.D.Disk g.T.Tells.Told g.T.Tells.Unwritten
+teller g = record {
+  asked = g.met.T.Tells.asked;
+  join = g.met.T.Tells.then;
+  keeps = g.met.T.Tells.keeps;
+  fewer = g.met.T.Tells.fewer_images;
+  faults = g.met.T.Tells.faults_later;
+  unwritten = g.met.T.Tells.unwritten_later;
+}
 
 pub returns-then-is_ended-clause-stops : goal.returns-then-is_ended-clause-stops
 returns-then-is_ended-clause-stops g c = record {
@@ -38,4 +51,24 @@ returns-then-walk-ne0-clause-refused g c =
     (none_so_large c.args.walk.now.left c.tell_interval.new.walk.left c.tell_interval.new.walk.teller c.tell_interval.new.disk c.args.walk.now.visited c.tell_interval.new.walk.visited c.in_ok-tell_interval.ensures.told c.if-walk-ne0.true)
 
 pub returns-clause-told : goal.returns-clause-told
-returns-clause-told g c = document_told c.args.walk.now.left c.tell_interval.new.walk.left c.tell_interval.new.walk.teller c.tell_interval.new.disk c.args.walk.now.visited c.tell_interval.new.walk.visited c.in_ok-tell_interval.ensures.told
+returns-clause-told g c =
+    document_told (teller g) c.args.walk.now.left c.tell_interval.new.walk.left c.tell_interval.new.walk.teller c.pause.new.self c.tell_interval.new.disk c.pause.new.disk c.args.walk.now.visited c.tell_interval.new.walk.visited c.in_ok-tell_interval.ensures.told c.if-walk-ne0.false c.in_ok-pause.ensures.ok
+
+pub returns-then-is_ended-clause-refused : goal.returns-then-is_ended-clause-refused
+returns-then-is_ended-clause-refused g c = had_ended (sym c.is_ended.ensures ∙ c.if-is_ended.true)
+
+pub returns-in_err-pause-clause-stops : goal.returns-in_err-pause-clause-stops
+returns-in_err-pause-clause-stops g c =
+    let p = err_from_is_err_and c.from_residual-in_err-pause.result c.from_residual-in_err-pause.ensures.1 in
+    let last = c.in_err-pause.ensures.err.2 in
+    rw p.1 (document_stops_paused (teller g) c.args.walk.now.left c.tell_interval.new.walk.left c.tell_interval.new.walk.teller last.0 c.tell_interval.new.disk c.pause.new.disk c.args.walk.now.visited c.tell_interval.new.walk.visited c.in_ok-tell_interval.ensures.told last.1)
+
+pub returns-in_err-pause-clause-refused : goal.returns-in_err-pause-clause-refused
+returns-in_err-pause-clause-refused g c =
+    let p = err_from_is_err_and c.from_residual-in_err-pause.result c.from_residual-in_err-pause.ensures.1 in
+    let told = c.in_ok-tell_interval.ensures.told in
+    rw (p.1, p.2)
+    (is_unwritten g.D.Disk ⊥ (g.T.Tells.Unwritten c.args.disk.now c.pause.new.disk) (IsSome (g.D.Disk.contents c.pause.new.disk) → HoldsNoneWith g.D.Disk c.args.records.now c.args.disk.now (place_of c.args.root) c.args.walk.now.left)
+    c.args.disk.now c.pause.new.disk c.in_err-pause.field-0.0 c.in_err-pause.ensures.err.0
+    ((teller g).unwritten c.args.walk.now.teller c.tell_interval.new.walk.teller c.args.disk.now c.tell_interval.new.disk c.pause.new.disk told.told told.goes c.in_err-pause.ensures.err.1)
+    (sym c.is_ended.ensures ∙ c.if-is_ended.false) c.in_ok-tell_interval.ensures.stays)
