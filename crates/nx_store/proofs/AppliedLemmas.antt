@@ -1,15 +1,14 @@
 -- What a load is answered, and why it is not applied.
-use Rattle.std.proofs.Common.{◌≡◌, ℕ, List, [], false, refl, sym, ◌∙◌, subst, inl}
+use Rattle.std.proofs.Common.{◌≡◌, ℕ, List, false, refl, sym, ◌∙◌, subst, inl}
 use Rattle.std.specs.Prelude.{IsSome, Result, Ok, Err, IfOk, IfErr}
 use Rattle.std.proofs.lemmas.Bool.{false≢true}
 use Rattle.nx_host.specs.declared.disk.Disk.{Ghosts}
 use Rattle.nx_host.specs.Still.{IsStill, WritesAlone}
 use Rattle.nx_tree.specs.Forest.{OrderedTree}
 use Rattle.nx_parts.specs.declared.interval.Interval.{Interval}
-use Rattle.nx_wal.specs.Wal.{Follows, pending}
 use Rattle.nx_records.specs.declared.error.StoreError.{StoreError}
 use Rattle.nx_records.specs.declared.error.StoreError.TheVariants as below
-use Rattle.nx_records.specs.Records.{has_ended}
+use Rattle.nx_records.specs.Records.{has_ended, HasNoChanges, FollowsOn}
 use Rattle.nx_records.specs.Refusals.{NotWritten, RunsOn}
 use Rattle.nx_script.specs.declared.command.LoadBody.TheVariants.{Read}
 use Rattle.nx_script.specs.declared.command.Command.TheVariants.{Load}
@@ -29,7 +28,7 @@ use Rattle.nx_store.proofs.StepLemmas.{full_answers}
 
 module _ {D : Type 0} (d : Ghosts D) where
   -- what was brought was dropped, so the store is where it was
-  module _ (s0 s1 s2 : Store) (x0 x1 : D) (left : IsLeft d s0 s1 x0 x1) (follows : (log : List ℕ) → Follows (s1.records).wal log → Follows (s2.records).wal log) (none : pending (s2.records).wal ≡ [])
+  module _ (s0 s1 s2 : Store) (x0 x1 : D) (left : IsLeft d s0 s1 x0 x1) (follows : FollowsOn s1.records s2.records) (none : HasNoChanges s2.records)
       (heads : ((s2.records).saved ≡ (s1.records).saved) × ((s2.records).head ≡ (s1.records).saved)) (ended : has_ended s2.records ≡ has_ended s1.records) (catalog : s2.catalog ≡ s1.catalog) where
     pub left_at : (state : State) → IsAt d s0 x0 state → IsAt d s2 x1 state
     left_at state at = abandoned_at d s0 s1 s2 x0 x1 state follows none heads ended left.saved (catalog ∙ left.catalog) at
@@ -43,7 +42,7 @@ module _ {D : Type 0} (d : Ghosts D) where
     full_applied name tree parts new chosen room still state at = (state, full_answers s0 x0 name tree parts new chosen state at (room state at), left_at state at, shows_weaker d (λ i of. inl of) (shows_still still at))
 
   -- what the load is answered then
-  module _ (s0 s1 s2 : Store) (x0 x1 : D) (follows : (log : List ℕ) → Follows (s1.records).wal log → Follows (s2.records).wal log) (none : pending (s2.records).wal ≡ [])
+  module _ (s0 s1 s2 : Store) (x0 x1 : D) (follows : FollowsOn s1.records s2.records) (none : HasNoChanges s2.records)
       (heads : ((s2.records).saved ≡ (s1.records).saved) × ((s2.records).head ≡ (s1.records).saved)) (ended : has_ended s2.records ≡ has_ended s1.records) (catalog : s2.catalog ≡ s1.catalog)
       (name : List ℕ) (tree : OrderedTree) (parts : List Interval) (new : IsNew s0 name) (chosen : IsChosen s0 tree parts) (still : IsStill d x0 x1) where
     -- the store runs on

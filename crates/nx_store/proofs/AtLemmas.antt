@@ -1,5 +1,5 @@
 -- A store at a state, over a disk that is asked alone.
-use Rattle.std.proofs.Common.{◌≡◌, ℕ, List, sym, ap, subst, ◌∙◌, false}
+use Rattle.std.proofs.Common.{◌≡◌, ℕ, List, refl, sym, subst, ◌∙◌, false}
 use Rattle.std.specs.Prelude.{Option, Some, IsSome}
 use Rattle.nx_host.specs.Disk.{Image}
 use Rattle.nx_host.specs.declared.disk.Disk.{Ghosts}
@@ -7,15 +7,19 @@ use Rattle.nx_host.specs.Phase.{LeavesAreas}
 use Rattle.nx_host.specs.Still.{IsStill}
 use Rattle.nx_host.specs.Time.{elapsed_weaker}
 use Rattle.nx_host.proofs.DiskLemmas.{settled_kept, settled_still}
-use Rattle.nx_wal.specs.Wal.{pending}
 use Rattle.nx_holdings.specs.Holdings.{Held}
 use Rattle.nx_records.specs.declared.records.Records.{Records}
 use Rattle.nx_records.specs.Records.{StandsFor}
+use Rattle.nx_records.proofs.LeaveLemmas.{leaves_same, leaves_stand}
 use Rattle.nx_catalog.specs.Catalog.{Contents, IsCatalog}
 use Rattle.nx_state.specs.State.{State}
 use Rattle.nx_state.specs.Stands.{Recovers}
-use Rattle.nx_store.specs.Store.{is_ended, IsAt, Shows, IsOf}
+use Rattle.nx_store.specs.Store.{is_ended, LeavesStore, IsAt, Shows, IsOf}
 use Rattle.nx_store.specs.declared.store.Store.{Store}
+
+-- nothing was asked of it
+pub leaves_self : (s : Store) → LeavesStore s s
+leaves_self s = record { records = leaves_same {r0 = s.records} {r1 = s.records} refl; catalog = refl }
 
 module _ {D : Type 0} {d : Ghosts D} where
   -- over a disk that was asked alone records stand for the same
@@ -30,14 +34,14 @@ module _ {D : Type 0} {d : Ghosts D} where
     holds = stands.holds;
   }
 
-  -- a store that has the same records and the same catalog is at the same state
-  pub at_kept : {s0 s1 : Store} {x0 x1 : D} {state : State} → s1.records ≡ s0.records → s1.catalog ≡ s0.catalog → IsStill d x0 x1 → IsAt d s0 x0 state → IsAt d s1 x1 state
-  at_kept {x1 = x1} records catalog still at = record {
+  -- a store that was looked at is at the same state
+  pub at_kept : {s0 s1 : Store} {x0 x1 : D} {state : State} → LeavesStore s0 s1 → IsStill d x0 x1 → IsAt d s0 x0 state → IsAt d s1 x1 state
+  at_kept {s0} {s1} leaves still at = record {
     held = at.held;
-    stands = subst (λ (r : Records). StandsFor d r x1 at.held at.held) (sym records) (stands_still still at.stands);
-    none_waits = ap (λ (r : Records). pending r.wal) records ∙ at.none_waits;
+    stands = leaves_stand {r0 = s0.records} {r1 = s1.records} leaves.records still at.stands;
+    none_waits = (leaves.records).changes_stay ∙ at.none_waits;
     state_is = at.state_is;
-    catalog = subst (λ (c : Contents). IsCatalog (at.held).catalog c) (sym catalog) at.catalog;
+    catalog = subst (λ (c : Contents). IsCatalog (at.held).catalog c) (sym leaves.catalog) at.catalog;
   }
 
   -- a store at a state runs

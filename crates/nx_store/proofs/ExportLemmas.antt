@@ -8,9 +8,9 @@ use Rattle.nx_host.specs.Disk.{Rose}
 use Rattle.nx_host.specs.declared.disk.Disk.{Ghosts}
 use Rattle.nx_host.specs.Time.{none_elapsed, elapsed_weaker}
 use Rattle.nx_host.proofs.OutputLemmas.{appends_nothing}
-use Rattle.nx_wal.specs.Wal.{pending}
-use Rattle.nx_records.specs.declared.records.Records.{Records}
-use Rattle.nx_records.specs.Records.{StandsFor, has_ended}
+use Rattle.nx_host.proofs.DiskLemmas.{none_still}
+use Rattle.nx_records.proofs.LeaveLemmas.{leaves_stand}
+use Rattle.nx_records.specs.Records.{LeavesRecords}
 use Rattle.nx_pyx.specs.Text.{text}
 use Rattle.nx_cuts.specs.Cut.{CutTree, tree_of}
 use Rattle.nx_hold.specs.declared.entry.DocEntry.{DocEntry}
@@ -27,12 +27,13 @@ use Rattle.nx_script.specs.declared.reply.Reply.TheVariants as reply
 use Rattle.nx_script.specs.declared.reply.ReplyError.TheVariants.{NoDocument}
 use Rattle.nx_script.specs.Reply.{reply_text}
 use Rattle.nx_state.specs.State.{State}
-use Rattle.nx_store.specs.Step.{by_document}
+use Rattle.nx_steps.specs.Answers.{by_document}
 use Rattle.nx_store.specs.Told.{told_by}
 use Rattle.nx_store.specs.Store.{is_ended, IsAt, IsGiven, IsExported, ShowsGiven, NotAnswered}
 use Rattle.nx_store.specs.declared.store.Store.{Store}
 use Rattle.nx_store.specs.declared.error.EngineError.{EngineError}
 use Rattle.nx_store.specs.declared.error.EngineError.TheVariants as error
+use Rattle.nx_store.proofs.CaseLemmas.{export_case}
 use Rattle.nx_store.proofs.AtLemmas.{at_runs, at_image}
 use Rattle.nx_store.proofs.FoundLemmas.{IsFound, at_found}
 use Rattle.nx_store.proofs.LookLemmas.{absent_answer, lacks_nowhere_with}
@@ -43,11 +44,11 @@ last_line = 46 ∷ 10 ∷ []
 
 module _ {D : Type 0} (d : Ghosts D) where
   -- the store is at its state after a call that asked the areas and gave output
-  pub at_given : (s0 s1 : Store) (x0 x1 : D) (state : State) → s1.records ≡ s0.records → s1.catalog ≡ s0.catalog → AsksAndGives d x0 x1 → IsSome (d.contents x1) → IsAt d s0 x0 state → IsAt d s1 x1 state
+  pub at_given : (s0 s1 : Store) (x0 x1 : D) (state : State) → LeavesRecords s0.records s1.records → s1.catalog ≡ s0.catalog → AsksAndGives d x0 x1 → IsSome (d.contents x1) → IsAt d s0 x0 state → IsAt d s1 x1 state
   at_given s0 s1 x0 x1 state records catalog gives told at = record {
     held = at.held;
-    stands = subst (λ (r : Records). StandsFor d r x1 at.held at.held) (sym records) (stands_kept gives.contents_stay told (λ i. (gives.images_stay i).0) at.stands);
-    none_waits = ap (λ (r : Records). pending r.wal) records ∙ at.none_waits;
+    stands = leaves_stand {r0 = s0.records} {r1 = s1.records} records none_still (stands_kept gives.contents_stay told (λ i. (gives.images_stay i).0) at.stands);
+    none_waits = records.changes_stay ∙ at.none_waits;
     state_is = at.state_is;
     catalog = subst (λ (c : Contents). IsCatalog (at.held).catalog c) (sym catalog) at.catalog;
   }
@@ -58,7 +59,7 @@ module _ {D : Type 0} (d : Ghosts D) where
   module _ (s0 s1 : Store) (x0 x1 : D) (state : State) (name block left : List ℕ) (at : IsAt d s0 x0 state) where
     exported : (result : Result (Unit {0}) EngineError) (r : Reply) → r ≡ by_document state name (λ document. reply.Exported (text (tree_of document))) → GivesWithin d (block ++ reply_text r) x0 x1
         → IsGiven d result (block ++ reply_text r) left state s1 x0 x1 → IsExported d result state name block left s1 x0 x1
-    exported result r is within given = record { reply = r; step = (is, refl); given = given; time = gives_within s0 x0 x1 state (block ++ reply_text r) at within }
+    exported result r is within given = record { reply = r; step = export_case state name r state (is, refl); given = given; time = gives_within s0 x0 x1 state (block ++ reply_text r) at within }
 
     -- a document of that name was given, or a first part of it
     module _ (entry : DocEntry) (is : get (s0.catalog).documents name ≡ Some entry) (within : OfEach d s0.records x0 (place_of entry.root) (λ document. GivesWithin d (block ++ text (tree_of document)) x0 x1)) where
@@ -117,7 +118,7 @@ module _ {D : Type 0} (d : Ghosts D) where
       → NotAnswered d (told_by e) s0 s1 x0 x1
   not_exported s0 s1 x0 x1 name entry nav.NoNode runs is refused = absurd refused.0
   not_exported s0 s1 x0 x1 name entry nav.Disk runs is refused = (refused.0, (runs, (refused.1).after))
-  not_exported s0 s1 x0 x1 name entry nav.Write runs is refused = (refused.0, (runs, ap (λ (r : Records). has_ended r) refused.2 ∙ runs))
+  not_exported s0 s1 x0 x1 name entry nav.Write runs is refused = (refused.0, (runs, (refused.2).ended_stays ∙ runs))
   not_exported s0 s1 x0 x1 name entry (nav.Damaged page) runs is refused = ((runs, (refused.1).after), λ told. lacks_nowhere_with name entry is (refused.0 told))
   not_exported s0 s1 x0 x1 name entry nav.Ended runs is refused = absurd (false≢true (sym runs ∙ refused.0))
-  not_exported s0 s1 x0 x1 name entry nav.Memory runs is refused = (runs, ap (λ (r : Records). has_ended r) refused.1 ∙ runs)
+  not_exported s0 s1 x0 x1 name entry nav.Memory runs is refused = (runs, (refused.1).ended_stays ∙ runs)

@@ -16,7 +16,7 @@ use Rattle.nx_hold.specs.Documents.{HasDocument}
 use Rattle.nx_catalog.specs.Catalog.{Contents}
 use Rattle.nx_state.specs.State.{State, size_of}
 use Rattle.nx_state.specs.Stands.{StoredDocument, IsStoredIn}
-use Rattle.nx_store.specs.Step.{listed}
+use Rattle.nx_steps.specs.Answers.{listed}
 use Rattle.nx_store.specs.Told.{line_of}
 use Rattle.nx_store.specs.Store.{IsAt}
 use Rattle.nx_store.specs.declared.store.Store.{Store}
@@ -110,7 +110,6 @@ module _ {D : Type 0} {d : Ghosts D} where
           saved = at.held;
           now = at.held;
           stands = at.stands;
-          tidy = holds.tidy;
           pieces = holds.pieces;
           laid = record { layout = (there.0).layout; laid = one.laid };
         });

@@ -1,5 +1,5 @@
 -- What the steps of a load leave of a store, and what they are refused for.
-use Rattle.std.proofs.Common.{◌≡◌, ◌⊎◌, ℕ, ◌+◌, ◌-◌, ◌*◌, ◌^◌, ◌≤◌, min, List, [], length, None, inl, inr, true, false, sym, ap, ap₂, ◌∙◌, subst, arith}
+use Rattle.std.proofs.Common.{◌≡◌, ◌⊎◌, ℕ, ◌+◌, ◌-◌, ◌*◌, ◌^◌, ◌≤◌, min, List, length, None, inl, inr, true, false, sym, ap, ap₂, ◌∙◌, subst, arith}
 use Rattle.std.specs.Prelude.{All, Result, Ok, Err, IfErr}
 use Rattle.std.specs.FinMap.{entries, get, insert, remove}
 use Rattle.std.proofs.lemmas.Bool.{false≢true}
@@ -9,13 +9,13 @@ use Rattle.nx_host.specs.Still.{IsStill}
 use Rattle.nx_tree.specs.Forest.{OrderedTree, nodes}
 use Rattle.nx_parts.specs.declared.interval.Interval.{Interval}
 use Rattle.nx_parts.specs.Order.{AreInOrder}
-use Rattle.nx_wal.specs.Wal.{Follows, pending, current}
+use Rattle.nx_wal.specs.Wal.{current}
 use Rattle.nx_holdings.specs.declared.header.Settings.{Settings}
 use Rattle.nx_holdings.specs.Holdings.{Held}
 use Rattle.nx_records.specs.declared.records.Records.{Records}
 use Rattle.nx_records.specs.declared.error.StoreError.{StoreError}
 use Rattle.nx_records.specs.declared.error.StoreError.TheVariants as error
-use Rattle.nx_records.specs.Records.{has_ended, settings_of, StandsFor, KeepsSaved, ComesTo}
+use Rattle.nx_records.specs.Records.{has_ended, settings_of, StandsFor, KeepsSaved, ComesTo, HasNoChanges, FollowsOn}
 use Rattle.nx_records.specs.Changes.{SetsCatalog, catalog_needs}
 use Rattle.nx_records.specs.Refusals.{RunsOn, NotStored}
 use Rattle.nx_records.proofs.StandLemmas.{abandon_stands}
@@ -53,7 +53,7 @@ later_rose n m k later rose = let rose : min (m + 1) (2 ^ 64 - 1) ≤ k = rose i
 
 module _ {D : Type 0} (d : Ghosts D) where
   -- what was changed was dropped
-  pub abandoned_at : (s0 s1 s2 : Store) (x0 x1 : D) (state : State) → ((log : List ℕ) → Follows (s1.records).wal log → Follows (s2.records).wal log) → pending (s2.records).wal ≡ []
+  pub abandoned_at : (s0 s1 s2 : Store) (x0 x1 : D) (state : State) → FollowsOn s1.records s2.records → HasNoChanges s2.records
       → ((s2.records).saved ≡ (s1.records).saved) × ((s2.records).head ≡ (s1.records).saved) → has_ended s2.records ≡ has_ended s1.records
       → KeepsSaved d s0.records s1.records x0 x1 → s2.catalog ≡ s0.catalog → IsAt d s0 x0 state → IsAt d s2 x1 state
   abandoned_at s0 s1 s2 x0 x1 state follows none heads ended keeps catalog at = record {

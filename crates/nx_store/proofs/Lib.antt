@@ -1,3 +1,7 @@
+pub mod CaseLemmas
+pub mod CommitLemmas
+pub mod StepsLemmas
+pub mod RuleLemmas
 pub mod AtLemmas
 pub mod ShowLemmas
 pub mod FoundLemmas

@@ -22,7 +22,7 @@ use Rattle.nx_catalog.proofs.LengthLemmas.{most_bytes}
 use Rattle.nx_state.specs.State.{State, size_of, all_nodes}
 use Rattle.nx_state.specs.Stands.{StoredDocument, HoldsDocuments, HoldsState}
 use Rattle.nx_build.specs.Storing.{StoresDocument}
-use Rattle.nx_store.specs.Step.{with_document, MayBeFull}
+use Rattle.nx_steps.specs.Answers.{with_document, MayBeFull}
 use Rattle.nx_state.proofs.ChangeLemmas.{document_comes, catalog_comes}
 use Rattle.nx_state.proofs.FreeLemmas.{documents_leave_free}
 use Rattle.nx_store.proofs.NameLemmas.{front, behind, front-behind, none_either, none_listed, inserted_between}

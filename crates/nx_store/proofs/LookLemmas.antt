@@ -1,5 +1,5 @@
 -- What looks at a store at a state are answered.
-use Rattle.std.proofs.Common.{◌≡◌, ℕ, List, refl, sym, ap, ◌∙◌}
+use Rattle.std.proofs.Common.{◌≡◌, ℕ, List, refl, sym, ap, ◌∙◌, inl}
 use Rattle.std.specs.Prelude.{Some, None, map}
 use Rattle.std.specs.Option.{option_map_or}
 use Rattle.std.specs.FinMap.{get, entries}
@@ -13,13 +13,16 @@ use Rattle.nx_hold.specs.Changes.{place_of}
 use Rattle.nx_nav.specs.Refusals.{OfEach, OfEachWith, HoldsNone, HoldsNoneWith}
 use Rattle.nx_nav.specs.Shows.{ShowsNode}
 use Rattle.nx_nav.specs.declared.finding.Shown.{Shown}
-use Rattle.nx_script.specs.declared.command.Command.TheVariants.{Names}
+use Rattle.nx_script.specs.declared.command.Command.TheVariants.{Names, Rules}
 use Rattle.nx_script.specs.declared.reply.Reply.{Reply}
 use Rattle.nx_script.specs.declared.reply.Reply.TheVariants as reply
 use Rattle.nx_script.specs.declared.reply.ReplyError.TheVariants.{NoDocument, NoNode}
+use Rattle.nx_catalog.specs.Catalog.{Contents}
+use Rattle.nx_catalog.proofs.CatalogLemmas.{one_contents}
 use Rattle.nx_state.specs.State.{State}
 use Rattle.nx_engine.specs.Step.{shown}
-use Rattle.nx_store.specs.Step.{by_document, IsStep}
+use Rattle.nx_steps.specs.Answers.{by_document}
+use Rattle.nx_steps.specs.Step.{Step}
 use Rattle.nx_store.specs.Told.{line_of}
 use Rattle.nx_store.specs.Store.{IsAt, IsNowhere}
 use Rattle.nx_store.specs.declared.store.Store.{Store}
@@ -57,8 +60,15 @@ module _ {D : Type 0} {d : Ghosts D} where
   lacks_nowhere_with name entry is none state at = let found = at_found name entry at is in none found.document found.has (sym found.counted)
 
   -- the lines of the catalog are the answer to `names`
-  pub names_answer : {store : Store} {x : D} {state : State} (r : Reply) → r ≡ reply.Names (map line_of (entries (store.catalog).documents)) → IsAt d store x state → IsStep state Names r state
-  names_answer r is at = (is ∙ ap reply.Names (at_lines at), refl)
+  pub names_answer : {store : Store} {x : D} {state : State} (r : Reply) → r ≡ reply.Names (map line_of (entries (store.catalog).documents)) → IsAt d store x state → Step state Names r state
+  names_answer r is at = inl (is ∙ ap reply.Names (at_lines at), refl)
+
+module _ {D : Type 0} {d : Ghosts D} where
+  -- the rules of the catalog are the answer to `rules`
+  pub rules_answer : {store : Store} {x : D} {state : State} (r : Reply) → r ≡ reply.Rules (store.catalog).rules → IsAt d store x state → Step state Rules r state
+  rules_answer {store} r is at =
+      let same = one_contents (at.held).catalog (at.state_is).contents store.catalog (at.state_is).catalog at.catalog in
+      inl (is ∙ ap (λ (c : Contents). reply.Rules c.rules) (sym same) ∙ ap reply.Rules (at.state_is).rules, refl)
 
 -- the node that is shown is the answer to `get`
 pub shown_answer : (tree : OrderedTree) (path : List ℕ) (found : Shown) → ShowsNode tree path found → reply.Shown found.node found.children ≡ option_map_or shown (at_path tree path) (reply.Refused NoNode)

@@ -1,18 +1,16 @@
 -- How refusals of the crates below are handed on.
-use Rattle.std.proofs.Common.{◌≡◌, ◌≤◌, ℕ, false, sym, ap, subst, ◌∙◌, arith}
+use Rattle.std.proofs.Common.{◌≡◌, ◌≤◌, ℕ, false, sym, subst, ◌∙◌, arith}
 use Rattle.std.proofs.lemmas.Bool.{false≢true}
 use Rattle.std.specs.Prelude.{Result, Err, IfErr}
 use Rattle.nx_host.specs.Disk.{Image, Rose}
 use Rattle.nx_host.specs.declared.disk.Disk.{Ghosts}
 use Rattle.nx_host.specs.Still.{IsStill, IsSettled}
 use Rattle.nx_replay.specs.Log.{replay}
-use Rattle.nx_wal.specs.Reading.{HasMark}
-use Rattle.nx_wal.specs.Wal.{IsInStep}
 use Rattle.nx_holdings.specs.Holdings.{Held, Holds}
 use Rattle.nx_records.specs.declared.records.Records.{Records}
 use Rattle.nx_records.specs.declared.error.StoreError.{StoreError}
 use Rattle.nx_records.specs.declared.error.StoreError.TheVariants as below
-use Rattle.nx_records.specs.Records.{StandsFor, has_ended}
+use Rattle.nx_records.specs.Records.{StandsFor, has_ended, IsInStepWith, HasHeader, LeavesRecords}
 use Rattle.nx_records.specs.Refusals as records
 use Rattle.nx_records.specs.Refusals.{NotRead}
 use Rattle.nx_catalog.specs.Catalog.{Contents, IsCatalog}
@@ -44,7 +42,7 @@ module _ {D : Type 0} (d : Ghosts D) where
 
   pub catalog_refused : (r1 r2 : Records) (x0 x1 x2 : D) (e : StoreError) → IsStill d x0 x1 → has_ended r1 ≡ false
       → ((was : Image) (held : Held) → IsSettled d x0 was → Holds (replay was) held → StandsFor d r1 x1 held held)
-      → ((was : Image) → IsSettled d x0 was → IsInStep d r1.wal x1 was × HasMark (replay was))
+      → ((was : Image) → IsSettled d x0 was → IsInStepWith d r1 x1 was × HasHeader was)
       → NotRead d (λ now. (contents : Contents) → IsCatalog now.catalog contents → ⊥) 0 e r1 r2 x1 x2 → NotOpened d (told_of e) x0 x2
   catalog_refused r1 r2 x0 x1 x2 below.Disk still runs stands step h = rose_later (d.faults x0) (d.faults x1) (d.faults x2) still.faults_later h.0
   catalog_refused r1 r2 x0 x1 x2 (below.Damaged page) still runs stands step h =
@@ -57,18 +55,18 @@ module _ {D : Type 0} (d : Ghosts D) where
 
   -- why a look at a document gave up
   pub look_refused : (s0 s1 : Store) {x0 x1 : D} (Nowhere : Type 0) {Lacks : Type 0} (e : NavError) → (Lacks → IsNowhere d s0 x0) → IsStill d x0 x1
-      → s1.catalog ≡ s0.catalog → (s1.records ≡ s0.records → s1 ≡ s0) → IsRefused d Nowhere ⊥ Lacks e s0.records s1.records x0 x1 → NotApplied d (told_by e) s0 s1 x0 x1
-  look_refused s0 s1 Nowhere nav.NoNode lacks still catalog same h =
-      (h.1, ap (λ (r : Records). has_ended r) h.2 ∙ h.1)
-  look_refused s0 s1 Nowhere nav.Disk lacks still catalog same h = (h.0, (h.1.before, h.1.after))
-  look_refused s0 s1 Nowhere nav.Write lacks still catalog same h = absurd h.0
-  look_refused s0 s1 Nowhere (nav.Damaged page) lacks still catalog same h = ((h.1.before, h.1.after), λ told. lacks h.0)
-  look_refused s0 s1 Nowhere nav.Ended lacks still catalog same h = (h.0, same h.1, still)
-  look_refused s0 s1 Nowhere nav.Memory lacks still catalog same h =
-      (h.0, ap (λ (r : Records). has_ended r) h.1 ∙ h.0)
+      → s1.catalog ≡ s0.catalog → IsRefused d Nowhere ⊥ Lacks e s0.records s1.records x0 x1 → NotApplied d (told_by e) s0 s1 x0 x1
+  look_refused s0 s1 Nowhere nav.NoNode lacks still catalog h =
+      (h.1, (h.2).ended_stays ∙ h.1)
+  look_refused s0 s1 Nowhere nav.Disk lacks still catalog h = (h.0, (h.1.before, h.1.after))
+  look_refused s0 s1 Nowhere nav.Write lacks still catalog h = absurd h.0
+  look_refused s0 s1 Nowhere (nav.Damaged page) lacks still catalog h = ((h.1.before, h.1.after), λ told. lacks h.0)
+  look_refused s0 s1 Nowhere nav.Ended lacks still catalog h = (h.0, record { records = h.1; catalog = catalog }, h.2)
+  look_refused s0 s1 Nowhere nav.Memory lacks still catalog h =
+      (h.0, (h.1).ended_stays ∙ h.0)
 
   -- records that run on are left
-  pub look_same : (Nowhere Lacks : Type 0) (r0 r1 : Records) (x0 x1 : D) (e : NavError) → IsRefused d Nowhere ⊥ Lacks e r0 r1 x0 x1 → has_ended r1 ≡ false → r1 ≡ r0
+  pub look_same : (Nowhere Lacks : Type 0) (r0 r1 : Records) (x0 x1 : D) (e : NavError) → IsRefused d Nowhere ⊥ Lacks e r0 r1 x0 x1 → has_ended r1 ≡ false → LeavesRecords r0 r1
   look_same Nowhere Lacks r0 r1 x0 x1 nav.NoNode h runs = h.2
   look_same Nowhere Lacks r0 r1 x0 x1 nav.Disk h runs = absurd (false≢true (sym runs ∙ h.1.after))
   look_same Nowhere Lacks r0 r1 x0 x1 nav.Write h runs = absurd h.0
@@ -78,5 +76,5 @@ module _ {D : Type 0} (d : Ghosts D) where
 
   -- the path leads nowhere
   pub is_nowhere : (Nowhere Unwritten Lacks : Type 0) (r0 r1 : Records) (x0 x1 : D) (e : NavError) → e ≡ nav.NoNode → IsRefused d Nowhere Unwritten Lacks e r0 r1 x0 x1
-      → Nowhere × (has_ended r0 ≡ false) × (r1 ≡ r0)
+      → Nowhere × (has_ended r0 ≡ false) × LeavesRecords r0 r1
   is_nowhere Nowhere Unwritten Lacks r0 r1 x0 x1 e is refused = subst (λ (x : NavError). IsRefused d Nowhere Unwritten Lacks x r0 r1 x0 x1) is refused

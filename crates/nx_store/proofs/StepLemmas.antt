@@ -1,9 +1,11 @@
 -- A load that came to its commit, or was refused, is a step.
-use Rattle.std.proofs.Common.{◌≡◌, ◌⊎◌, ℕ, ◌+◌, ◌≤◌, List, [], length, Option, None, Some, inl, inr, false, refl, sym, ap, ◌∙◌, subst, arith}
+use Rattle.std.proofs.Common.{◌≡◌, ◌⊎◌, ℕ, ◌+◌, ◌≤◌, List, [], length, Option, None, Some, inl, inr, false, cond, is_eq, refl, sym, ap, ◌∙◌, subst, arith}
 use Rattle.std.specs.Prelude.{IsSome, Ok, MatchOption, option_map}
 use Rattle.std.specs.Bool.{MatchBool}
 use Rattle.std.specs.Option.{is_some}
-use Rattle.std.specs.FinMap.{get}
+use Rattle.std.specs.Cmp.{tied_itself}
+use Rattle.std.specs.Cmp.Lexicographic.{nat_list_cmp_total}
+use Rattle.std.specs.FinMap.{FinMap, get, insert, get-insert}
 use Rattle.std.proofs.lemmas.Bool.{false≢true}
 use Rattle.std.proofs.lemmas.List.Sorted.{length_permutation}
 use Rattle.nx_host.specs.Disk.{Image}
@@ -21,10 +23,9 @@ use Rattle.nx_cuts.proofs.DrawnLaw.{feasible_drawn}
 use Rattle.nx_cuts.proofs.FeasibleLemmas.{length-intervals}
 use Rattle.nx_minima.proofs.BoundLemmas.{cuts-nodes}
 use Rattle.nx_replay.specs.Log.{replay}
-use Rattle.nx_wal.specs.Wal.{pending}
 use Rattle.nx_holdings.specs.declared.header.Settings.{Settings}
 use Rattle.nx_holdings.specs.Holdings.{Held, Holds}
-use Rattle.nx_records.specs.Records.{settings_of, StandsFor}
+use Rattle.nx_records.specs.Records.{settings_of, StandsFor, HasNoChanges}
 use Rattle.nx_catalog.specs.Catalog.{Contents, IsCatalog}
 use Rattle.nx_pyx.specs.declared.error.PyxError.{PyxError}
 use Rattle.nx_script.specs.declared.command.LoadBody.{LoadBody}
@@ -34,7 +35,11 @@ use Rattle.nx_script.specs.declared.reply.Reply.{Reply}
 use Rattle.nx_script.specs.declared.reply.Reply.TheVariants as reply
 use Rattle.nx_script.specs.declared.reply.ReplyError.TheVariants.{Exists, Pyx, TooHeavy, Full}
 use Rattle.nx_state.specs.State.{State, all_nodes}
-use Rattle.nx_store.specs.Step.{Refuses, Loads, MayBeFull, heavy_fault, BodyStep, IsStep, with_document}
+use Rattle.nx_steps.specs.Answers.{Refuses, Loads, MayBeFull, heavy_fault, with_document}
+use Rattle.nx_steps.specs.Step.{Step}
+use Rattle.nx_steps.proofs.StoredLemmas.{stored_sound}
+use Rattle.nx_script.specs.Field.{name_order}
+use Rattle.nx_store.proofs.CaseLemmas.{BodyStep, load_case}
 use Rattle.nx_store.specs.Store.{IsAt, IsOfEither, Shows, ShowsBegun, IsApplied}
 use Rattle.nx_store.specs.Loading.{IsNew, IsChosen, IsKept}
 use Rattle.nx_store.specs.declared.store.Store.{Store}
@@ -57,14 +62,18 @@ few_parts k tree parts feasible =
 no_heavy : (k : ℕ) (tree : OrderedTree) (parts : List Interval) → IsFeasible k tree parts → heavy_fault k tree ≡ None
 no_heavy k tree parts feasible = ap (λ o. option_map (λ heavy. TooHeavy heavy.0 heavy.1) (option_map weighed o)) (light_none k tree (feasible_light k tree parts feasible))
 
+-- what is under a name that was just put there
+get_there : {X : Type 0} (m : FinMap name_order X) (name : List ℕ) (v : X) → get (insert m name v) name ≡ Some v
+get_there m name v = get-insert nat_list_cmp_total m name v name ∙ ap (λ o. cond (is_eq o) (Some v) (get m name)) (tied_itself nat_list_cmp_total name)
+
 -- there is nothing
 pub is_nothing : {T : Type 0} (o : Option T) → is_some o ≡ false → o ≡ None
 is_nothing None is = refl
 is_nothing (Some x) is = absurd (false≢true (sym is))
 
 -- the name is new, so the lines decide
-pub new_step : (state : State) (name : List ℕ) (body : LoadBody) (r : Reply) (next : State) → get state.documents name ≡ None → BodyStep state name body r next → IsStep state (Load name body) r next
-new_step state name body r next none step = subst (λ o. MatchBool (is_some o) (Refuses state Exists r next) (BodyStep state name body r next)) (sym none) step
+pub new_step : (state : State) (name : List ℕ) (body : LoadBody) (r : Reply) (next : State) → get state.documents name ≡ None → BodyStep state name body r next → Step state (Load name body) r next
+new_step state name body r next none step = load_case state name body r next (subst (λ o. MatchBool (is_some o) (Refuses state Exists r next) (BodyStep state name body r next)) (sym none) step)
 
 light_step : (state : State) (name : List ℕ) (tree : OrderedTree) (r : Reply) (next : State) → heavy_fault (state.settings).k tree ≡ None
     → Loads state name tree r next ⊎ (MayBeFull state (all_nodes state + (1 + nodes tree.below)) × Refuses state Full r next) → BodyStep state name (Read tree) r next
@@ -83,23 +92,23 @@ module _ {D : Type 0} {d : Ghosts D} where
   settings_at : (s : Store) (x : D) (state : State) → IsAt d s x state → settings_of s.records ≡ state.settings
   settings_at s x state at = sym (((at.stands).holds).behind).settings ∙ (at.state_is).settings
 
-  pub body_answers : (s0 : Store) (x0 : D) (name : List ℕ) (body : LoadBody) (state : State) (r : Reply) (next : State) → IsNew s0 name → IsAt d s0 x0 state → BodyStep state name body r next → IsStep state (Load name body) r next
+  pub body_answers : (s0 : Store) (x0 : D) (name : List ℕ) (body : LoadBody) (state : State) (r : Reply) (next : State) → IsNew s0 name → IsAt d s0 x0 state → BodyStep state name body r next → Step state (Load name body) r next
   body_answers s0 x0 name body state r next new at step = new_step state name body r next (at_none name at new) step
 
   -- a document has the name
-  pub exists_answers : (s0 : Store) (x0 : D) (name : List ℕ) (body : LoadBody) (state : State) → IsSome (get (s0.catalog).documents name) → IsAt d s0 x0 state → IsStep state (Load name body) (reply.Refused Exists) state
+  pub exists_answers : (s0 : Store) (x0 : D) (name : List ℕ) (body : LoadBody) (state : State) → IsSome (get (s0.catalog).documents name) → IsAt d s0 x0 state → Step state (Load name body) (reply.Refused Exists) state
   exists_answers s0 x0 name body state there at =
       let entry = some_value (get (s0.catalog).documents name) there in
       let found = at_found name entry.0 at entry.1 in
-      subst (λ o. MatchBool (is_some o) (Refuses state Exists (reply.Refused Exists) state) (BodyStep state name body (reply.Refused Exists) state)) (sym found.there) (refl, refl)
+      load_case state name body (reply.Refused Exists) state (subst (λ o. MatchBool (is_some o) (Refuses state Exists (reply.Refused Exists) state) (BodyStep state name body (reply.Refused Exists) state)) (sym found.there) (refl, refl))
 
   -- the lines are no document
-  pub wrong_answers : (s0 : Store) (x0 : D) (name : List ℕ) (error : PyxError) (state : State) → IsNew s0 name → IsAt d s0 x0 state → IsStep state (Load name (Wrong error)) (reply.Refused (Pyx error)) state
+  pub wrong_answers : (s0 : Store) (x0 : D) (name : List ℕ) (error : PyxError) (state : State) → IsNew s0 name → IsAt d s0 x0 state → Step state (Load name (Wrong error)) (reply.Refused (Pyx error)) state
   wrong_answers s0 x0 name error state new at = body_answers s0 x0 name (Wrong error) state (reply.Refused (Pyx error)) state new at (refl, refl)
 
   -- the first node that is too heavy
   pub heavy_answers : (s0 : Store) (x0 : D) (name : List ℕ) (tree : OrderedTree) (state : State) (path : List ℕ) (slots : ℕ) → IsNew s0 name → option_map weighed (first_heavy (settings_of s0.records).k tree) ≡ Some (path, slots)
-      → IsAt d s0 x0 state → IsStep state (Load name (Read tree)) (reply.Refused (TooHeavy path slots)) state
+      → IsAt d s0 x0 state → Step state (Load name (Read tree)) (reply.Refused (TooHeavy path slots)) state
   heavy_answers s0 x0 name tree state path slots new heavy at =
       body_answers s0 x0 name (Read tree) state (reply.Refused (TooHeavy path slots)) state new at
       (heavy_step state name tree path slots (subst (λ (t : Settings). option_map weighed (first_heavy t.k tree) ≡ Some (path, slots)) (settings_at s0 x0 state at) heavy))
@@ -109,13 +118,13 @@ module _ {D : Type 0} {d : Ghosts D} where
     light_at state at = subst (λ (t : Settings). heavy_fault t.k tree ≡ None) (settings_at s0 x0 state at) (no_heavy (settings_of s0.records).k tree parts ((chosen.lean).optimal).feasible)
 
     -- no page was free
-    pub full_answers : (state : State) → IsAt d s0 x0 state → MayBeFull state (all_nodes state + (1 + nodes tree.below)) → IsStep state (Load name (Read tree)) (reply.Refused Full) state
+    pub full_answers : (state : State) → IsAt d s0 x0 state → MayBeFull state (all_nodes state + (1 + nodes tree.below)) → Step state (Load name (Read tree)) (reply.Refused Full) state
     full_answers state at full =
         body_answers s0 x0 name (Read tree) state (reply.Refused Full) state new at (light_step state name tree (reply.Refused Full) state (light_at state at) (inr (full, (refl, refl))))
 
     -- the document is kept
     pub kept_answers : (s1 : Store) (x1 : D) (state : State) → IsAt d s0 x0 state → (k : IsKept d s1 x1 state name tree parts)
-        → IsStep state (Load name (Read tree)) (reply.Loaded (1 + nodes tree.below) (length parts)) (with_document state name k.document)
+        → Step state (Load name (Read tree)) (reply.Loaded (1 + nodes tree.below) (length parts)) (with_document state name k.document)
     kept_answers s1 x1 state at k =
         body_answers s0 x0 name (Read tree) state (reply.Loaded (1 + nodes tree.below) (length parts)) (with_document state name k.document) new at
         (light_step state name tree (reply.Loaded (1 + nodes tree.below) (length parts)) (with_document state name k.document) (light_at state at) (inl (record {
@@ -124,6 +133,7 @@ module _ {D : Type 0} {d : Ghosts D} where
           lean =
               subst (λ (ps : List Interval). IsLeanOptimal (state.settings).k tree ps) (sym k.parts_are)
               (subst (λ (t : Settings). IsLeanOptimal t.k tree parts) (settings_at s0 x0 state at) chosen.lean);
+          drawn = (stored_sound k.now (with_document state name k.document) k.will).drawn name k.document (get_there state.documents name k.document);
           answered = ap (λ (ps : List Interval). reply.Loaded (1 + nodes tree.below) (length ps)) (sym k.parts_are);
           next_is = refl;
         })))
@@ -145,11 +155,11 @@ module _ {D : Type 0} {d : Ghosts D} where
 
       -- after it
       pub commit_applied : (s2 : Store) (r : Reply) → ((saved now : Held) (image : Image) → StandsFor d s1.records x1 saved now → d.contents x2 ≡ Some image → StandsFor d s2.records x2 now now)
-          → pending (s2.records).wal ≡ [] → s2.catalog ≡ s1.catalog → r ≡ reply.Loaded (1 + nodes tree.below) (length parts) → IsApplied d (Ok r) state (Load name (Read tree)) s2 x0 x2
+          → HasNoChanges s2.records → s2.catalog ≡ s1.catalog → r ≡ reply.Loaded (1 + nodes tree.below) (length parts) → IsApplied d (Ok r) state (Load name (Read tree)) s2 x0 x2
       commit_applied s2 r stands none catalog is =
           let image = some_value (d.contents x2) told in (
             with_document state name k.document,
-            subst (λ (answer : Reply). IsStep state (Load name (Read tree)) answer (with_document state name k.document)) (sym is) (kept_answers s1 x1 state at k),
+            subst (λ (answer : Reply). Step state (Load name (Read tree)) answer (with_document state name k.document)) (sym is) (kept_answers s1 x1 state at k),
             record {
               held = k.now;
               stands = stands k.saved k.now image.0 k.stands image.1;

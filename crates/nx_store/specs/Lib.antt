@@ -1,4 +1,5 @@
-pub mod Step
+pub mod Carried
 pub mod Told
 pub mod Store
 pub mod Loading
+pub mod Changing

@@ -20,7 +20,7 @@ use Rattle.nx_script.specs.declared.reply.ReplyError.TheVariants.{Full}
 use Rattle.nx_script.specs.Reply.{reply_text}
 use Rattle.nx_state.specs.State.{State, all_nodes}
 use Rattle.nx_state.specs.Stands.{HoldsState}
-use Rattle.nx_store.specs.Step.{with_document, MayBeFull}
+use Rattle.nx_steps.specs.Answers.{with_document, MayBeFull}
 use Rattle.nx_store.specs.Store.{IsAt, IsNowhere, EndsNow, IsApplied}
 use Rattle.nx_store.specs.declared.store.Store.{Store}
 use Rattle.nx_store.specs.declared.error.EngineError.{EngineError}

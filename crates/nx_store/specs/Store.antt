@@ -1,15 +1,13 @@
 -- What a store and its disk stand for, and what its calls leave and show.
-use Rattle.std.specs.Prelude.{◌≡◌, ◌⊎◌, ◌≤◌, ℕ, List, [], ◌++◌, true, false, Bool, Option, Some, IsSome, Result, Ok, Err}
+use Rattle.std.specs.Prelude.{◌≡◌, ◌⊎◌, ◌≤◌, ℕ, List, ◌++◌, true, false, Bool, Option, Some, IsSome, Result, Ok, Err}
 use Rattle.nx_host.specs.Disk.{Image, Keeps, Rose}
 use Rattle.nx_host.specs.declared.disk.Disk.{Ghosts}
 use Rattle.nx_host.specs.Host.{Appends, AppendsPrefix}
 use Rattle.nx_host.specs.Time.{Stood, Elapses}
 use Rattle.nx_host.specs.Still.{IsSettled, IsStill}
 use Rattle.nx_replay.specs.Log.{replay}
-use Rattle.nx_wal.specs.Reading.{HasMark}
-use Rattle.nx_wal.specs.Wal.{pending}
 use Rattle.nx_holdings.specs.Holdings.{Held}
-use Rattle.nx_records.specs.Records.{StandsFor, has_ended}
+use Rattle.nx_records.specs.Records.{StandsFor, LeavesRecords, HasNoChanges, HasHeader, has_ended}
 use Rattle.nx_catalog.specs.Catalog.{IsCatalog}
 use Rattle.nx_nav.specs.Given.{GivesBut}
 use Rattle.nx_script.specs.declared.command.Command.{Command}
@@ -18,7 +16,7 @@ use Rattle.nx_script.specs.declared.reply.Reply.{Reply}
 use Rattle.nx_script.specs.Reply.{reply_text}
 use Rattle.nx_state.specs.State.{State}
 use Rattle.nx_state.specs.Stands.{HoldsState, Recovers}
-use Rattle.nx_store.specs.Step.{IsStep}
+use Rattle.nx_store.specs.Carried.{StoreStep}
 use Rattle.nx_store.specs.declared.store.Store.{Store}
 use Rattle.nx_store.specs.declared.error.EngineError.{EngineError}
 use Rattle.nx_store.specs.declared.error.EngineError.TheVariants as error
@@ -31,7 +29,7 @@ is_ended store = has_ended store.records
 pub record IsAt {D : Type 0} (d : Ghosts D) (store : Store) (disk : D) (state : State) : Type 0 where
   pub held : Held
   pub stands : StandsFor d store.records disk held held
-  pub none_waits : pending (store.records).wal ≡ []
+  pub none_waits : HasNoChanges store.records
   pub state_is : HoldsState held state
   pub catalog : IsCatalog held.catalog store.catalog
 
@@ -39,7 +37,7 @@ pub record IsAt {D : Type 0} (d : Ghosts D) (store : Store) (disk : D) (state : 
 pub record Turn (state : State) (command : Command) : Type 0 where
   pub reply : Reply
   pub next : State
-  pub step : IsStep state command reply next
+  pub step : StoreStep state command reply next
 
 -- it is an image of this state
 abbrev pub IsOf : State → Image → Type 0
@@ -60,7 +58,7 @@ ShowsBegun d state command before after = Shows d (IsOf state) before after ⊎ 
 -- How a command ended that came in this state, where the store is then, and what stood meanwhile.
 abbrev pub IsApplied : {D : Type 0} → Ghosts D → Result Reply EngineError → State → Command → Store → D → D → Type 0
 IsApplied d (Ok reply) state command store before after =
-    (next : State) × IsStep state command reply next × IsAt d store after next × Shows d (IsOfEither state next) before after
+    (next : State) × StoreStep state command reply next × IsAt d store after next × Shows d (IsOfEither state next) before after
 IsApplied d (Err error.Memory) state command store before after = IsAt d store after state × Shows d (IsOf state) before after
 IsApplied d (Err error.Disk) state command store before after = ShowsBegun d state command before after
 IsApplied d (Err _) state command store before after = ⊥
@@ -97,7 +95,7 @@ IsGiven d (Err _) bytes left state store before after = ⊥
 -- How an export ended that came in this state, whose reply was to be given behind what the block had; what is left of both is in the block.
 pub record IsExported {D : Type 0} (d : Ghosts D) (result : Result (Unit {0}) EngineError) (state : State) (name block left : List ℕ) (store : Store) (before after : D) : Type 0 where
   pub reply : Reply
-  pub step : IsStep state (Export name) reply state
+  pub step : StoreStep state (Export name) reply state
   pub given : IsGiven d result (block ++ reply_text reply) left state store before after
   pub time : ShowsGiven d (block ++ reply_text reply) state before after
 
@@ -113,6 +111,11 @@ pub record TakesNone {D : Type 0} (d : Ghosts D) (old new : D) : Type 0 where
 abbrev pub IsNowhere : {D : Type 0} → Ghosts D → Store → D → Type 0
 IsNowhere d store disk = (state : State) → IsAt d store disk state → ⊥
 
+-- What a call that only looks leaves of a store: what reading leaves of its records, and its catalog.
+pub record LeavesStore (old new : Store) : Type 0 where
+  pub records : LeavesRecords old.records new.records
+  pub catalog : new.catalog ≡ old.catalog
+
 -- The store ran, and has ended in this call.
 abbrev pub EndsNow : Store → Store → Type 0
 EndsNow old new = (is_ended old ≡ false) × (is_ended new ≡ true)
@@ -125,7 +128,7 @@ GoesOn old new = (is_ended old ≡ false) × (is_ended new ≡ false)
 abbrev pub NotApplied : {D : Type 0} → Ghosts D → EngineError → Store → Store → D → D → Type 0
 NotApplied d error.Disk old new before after = Rose (d.faults before) (d.faults after) × EndsNow old new
 NotApplied d (error.Damaged page) old new before after = EndsNow old new × (IsSome (d.contents after) → IsNowhere d old before)
-NotApplied d error.Ended old new before after = (is_ended old ≡ true) × (new ≡ old) × IsStill d before after
+NotApplied d error.Ended old new before after = (is_ended old ≡ true) × LeavesStore old new × (after ≡ before)
 NotApplied d error.Memory old new before after = GoesOn old new
 NotApplied d error.Exists old new before after = ⊥
 NotApplied d error.NotAStore old new before after = ⊥
@@ -141,9 +144,9 @@ NotAnswered d error.Memory old new before after = NotApplied d error.Memory old 
 NotAnswered d error.Exists old new before after = ⊥
 NotAnswered d error.NotAStore old new before after = ⊥
 
--- Why no store was made.
+-- Why no store was made. A disk that has a page was asked alone.
 abbrev pub NotMade : {D : Type 0} → Ghosts D → EngineError → D → D → Type 0
-NotMade d error.Disk before after = Rose (d.faults before) (d.faults after)
+NotMade d error.Disk before after = Rose (d.faults before) (d.faults after) × ((was : Image) (p : ℕ) → IsSettled d before was → IsSome (replay was p) → IsStill d before after)
 NotMade d error.Exists before after = IsStill d before after × ((was : Image) → IsSettled d before was → (p : ℕ) × IsSome (replay was p))
 NotMade d error.Memory before after = IsStill d before after
 NotMade d (error.Damaged page) before after = ⊥
@@ -154,8 +157,8 @@ NotMade d error.Ended before after = ⊥
 -- Why no store was opened.
 abbrev pub NotOpened : {D : Type 0} → Ghosts D → EngineError → D → D → Type 0
 NotOpened d error.Disk before after = Rose (d.faults before) (d.faults after)
-NotOpened d error.NotAStore before after = (was : Image) → IsSettled d before was → HasMark (replay was) → ⊥
-NotOpened d (error.Damaged page) before after = (was : Image) → IsSettled d before was → HasMark (replay was) × ((state : State) → Recovers was (Some state) → ⊥)
+NotOpened d error.NotAStore before after = (was : Image) → IsSettled d before was → HasHeader was → ⊥
+NotOpened d (error.Damaged page) before after = (was : Image) → IsSettled d before was → HasHeader was × ((state : State) → Recovers was (Some state) → ⊥)
 NotOpened d error.Memory before after = Unit {0}
 NotOpened d error.Exists before after = ⊥
 NotOpened d error.Write before after = ⊥

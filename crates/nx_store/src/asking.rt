@@ -7,8 +7,8 @@ ghost use Rattle.nx_records.specs.Records.{log_length_of};
 ghost use Rattle.nx_script.specs.declared.command.Command.TheVariants as command;
 ghost use Rattle.nx_store.specs.Told.{line_of};
 ghost use Rattle.nx_state.specs.State.{State};
-ghost use Rattle.nx_store.specs.Step.{IsStep};
-ghost use Rattle.nx_store.specs.Store.{is_ended, EndsNow, GoesOn, IsAt, IsOf, IsApplied, NotApplied};
+ghost use Rattle.nx_steps.specs.Step.{Step};
+ghost use Rattle.nx_store.specs.Store.{is_ended, LeavesStore, EndsNow, GoesOn, IsAt, IsOf, IsApplied, NotApplied};
 
 use crate::{EngineError, Store};
 use nx_host::Disk;
@@ -32,6 +32,17 @@ impl Store {
         Ok(Reply::Names(lines))
     }
 
+    // Lists the rules of the catalog.
+    pub(crate) fn rules(&self) -> Result<Reply, EngineError>
+        ensures ok { IfOk result (λ reply. reply ≡ Reply.Rules (self.now.catalog).rules) }
+        ensures err { IfErr result (λ e. e ≡ EngineError.Memory) }
+    {
+        let Ok(rules) = self.catalog.matrix().rules() else {
+            return Err(EngineError::Memory);
+        };
+        Ok(Reply::Rules(rules))
+    }
+
     // Gives a document's canonical text.
     pub(crate) fn export<D: Disk>(
         &mut self,
@@ -39,8 +50,8 @@ impl Store {
         name: &Bytes,
     ) -> Result<Reply, EngineError>
         ensures still { IsStill D.Disk disk.old disk.new }
-        ensures same { is_ended self.new ≡ false → self.new ≡ self.old }
-        ensures ok { IfOk result (λ reply. GoesOn self.old self.new × ((state : State) → IsAt D.Disk self.old disk.old state → IsStep state (command.Export name.now) reply state)) }
+        ensures same { is_ended self.new ≡ false → LeavesStore self.old self.new }
+        ensures ok { IfOk result (λ reply. GoesOn self.old self.new × ((state : State) → IsAt D.Disk self.old disk.old state → Step state (command.Export name.now) reply state)) }
         ensures refused { IfErr result (λ e. NotApplied D.Disk e self.old self.new disk.old disk.new) }
     {
         if self.is_ended() {
@@ -61,8 +72,8 @@ impl Store {
         path: &Path,
     ) -> Result<Reply, EngineError>
         ensures still { IsStill D.Disk disk.old disk.new }
-        ensures same { is_ended self.new ≡ false → self.new ≡ self.old }
-        ensures ok { IfOk result (λ reply. GoesOn self.old self.new × ((state : State) → IsAt D.Disk self.old disk.old state → IsStep state (command.Get name.now path.now) reply state)) }
+        ensures same { is_ended self.new ≡ false → LeavesStore self.old self.new }
+        ensures ok { IfOk result (λ reply. GoesOn self.old self.new × ((state : State) → IsAt D.Disk self.old disk.old state → Step state (command.Get name.now path.now) reply state)) }
         ensures refused { IfErr result (λ e. NotApplied D.Disk e self.old self.new disk.old disk.new) }
     {
         if self.is_ended() {
@@ -94,8 +105,8 @@ impl Store {
         name: &Bytes,
     ) -> Result<Reply, EngineError>
         ensures still { IsStill D.Disk disk.old disk.new }
-        ensures same { is_ended self.new ≡ false → self.new ≡ self.old }
-        ensures ok { IfOk result (λ reply. GoesOn self.old self.new × ((state : State) → IsAt D.Disk self.old disk.old state → IsStep state (command.Layout name.now) reply state)) }
+        ensures same { is_ended self.new ≡ false → LeavesStore self.old self.new }
+        ensures ok { IfOk result (λ reply. GoesOn self.old self.new × ((state : State) → IsAt D.Disk self.old disk.old state → Step state (command.Layout name.now) reply state)) }
         ensures refused { IfErr result (λ e. NotApplied D.Disk e self.old self.new disk.old disk.new) }
     {
         if self.is_ended() {

@@ -1,11 +1,10 @@
 // Loading a document.
-ghost use Rattle.std.specs.Prelude.{◌≡◌, ◌≢◌, ◌⊎◌, ◌≤◌, [], false, length, All, IsTrue, IsSome, IfOk, IfErr, OnOk};
+ghost use Rattle.std.specs.Prelude.{◌≡◌, ◌⊎◌, ◌≤◌, false, length, All, IsTrue, IsSome, IfOk, IfErr, OnOk};
 ghost use Rattle.std.specs.FinMap.{entries, insert, remove};
 ghost use Rattle.nx_host.specs.Disk.{Rose};
 ghost use Rattle.nx_host.specs.Still.{IsStill, WritesAlone};
 ghost use Rattle.nx_tree.specs.Document.{IsDocument};
-ghost use Rattle.nx_wal.specs.Wal.{pending};
-ghost use Rattle.nx_records.specs.Records.{KeepsSaved, ComesTo, log_length_of, settings_of};
+ghost use Rattle.nx_records.specs.Records.{KeepsSaved, ComesTo, HasChanges, log_length_of, settings_of};
 ghost use Rattle.nx_records.specs.Changes.{SetsCatalog, catalog_needs};
 ghost use Rattle.nx_records.specs.Refusals.{NotStored, RunsOn};
 ghost use Rattle.nx_script.specs.declared.command.Command.TheVariants.{Load};
@@ -81,7 +80,7 @@ impl Store {
     }
 
     // Empties the log where it is long. Nothing waits.
-    fn shorten_log<D: Disk>(&mut self, disk: &mut D) -> Result<(), EngineError>
+    pub(crate) fn shorten_log<D: Disk>(&mut self, disk: &mut D) -> Result<(), EngineError>
         requires { is_ended self.old ≡ false }
         ensures goes { WritesAlone D.Disk disk.old disk.new (λ i. (state : State) → IsAt D.Disk self.old disk.old state → IsOf state i) }
         ensures ok { OnOk result ((is_ended self.new ≡ false) × (log_length_of self.new.records ≤ 67108864)
@@ -179,7 +178,7 @@ impl Store {
         requires document { IsDocument tree }
         requires chosen { IsChosen self.old tree parts.now }
         ensures still { IsStill D.Disk disk.old disk.new }
-        ensures runs { OnOk result (RunsOn self.old.records self.new.records × (pending self.new.records.wal ≢ [])) }
+        ensures runs { OnOk result (RunsOn self.old.records self.new.records × HasChanges self.new.records) }
         ensures ok { OnOk result ((state : State) → IsAt D.Disk self.old disk.old state → IsKept D.Disk self.new disk.new state name.now tree parts.now) }
         ensures refused { IfErr result (λ e. NotKept D.Disk tree e self.old self.new disk.old disk.new) }
     {
@@ -218,7 +217,7 @@ impl Store {
     fn save_entry<D: Disk>(&mut self, disk: &mut D, name: &Bytes) -> Result<(), StoreError>
         ensures still { IsStill D.Disk disk.old disk.new }
         ensures ok { OnOk result ((self.new.catalog ≡ self.old.catalog) × ComesTo D.Disk self.old.records self.new.records disk.old disk.new (λ was now. SetsCatalog (catalog_bytes self.old.catalog) was now)) }
-        ensures keeps { OnOk result (RunsOn self.old.records self.new.records × KeepsSaved D.Disk self.old.records self.new.records disk.old disk.new × (pending self.new.records.wal ≢ [])) }
+        ensures keeps { OnOk result (RunsOn self.old.records self.new.records × KeepsSaved D.Disk self.old.records self.new.records disk.old disk.new × HasChanges self.new.records) }
         ensures form { is_ended self.old ≡ false → All HasLabels self.old.catalog.rules → IsCatalog (catalog_bytes self.old.catalog) self.old.catalog }
         ensures removed { IfErr result (λ e. (self.new.catalog.documents ≡ remove self.old.catalog.documents name.now) × (self.new.catalog.rules ≡ self.old.catalog.rules)) }
         ensures refused { IfErr result (λ e. NotStored D.Disk (λ was. catalog_needs (catalog_bytes self.old.catalog) was) (λ was. ⊥) 0 e self.old.records self.new.records disk.old disk.new) }
@@ -232,7 +231,7 @@ impl Store {
 }
 
 // What a load is answered whose document wasn't kept.
-fn refused(alloc: Global, error: StoreError) -> Result<(Reply, Bytes), EngineError>
+pub(crate) fn refused(alloc: Global, error: StoreError) -> Result<(Reply, Bytes), EngineError>
     ensures { IsRefusal error result }
 {
     match error {
@@ -247,7 +246,7 @@ fn refused(alloc: Global, error: StoreError) -> Result<(Reply, Bytes), EngineErr
 }
 
 // A reply, and its text beside it.
-fn told(alloc: Global, reply: Reply) -> Result<(Reply, Bytes), EngineError>
+pub(crate) fn told(alloc: Global, reply: Reply) -> Result<(Reply, Bytes), EngineError>
     ensures { IsToldOrNot reply result }
 {
     let text = write_reply(alloc, &reply)?;

@@ -2,20 +2,23 @@
 ghost use Rattle.std.specs.Prelude.{◌≡◌, ◌⊎◌, true, false, Some, None, IsSome, IfOk, IfErr, OnOk};
 ghost use Rattle.nx_host.specs.Disk.{Image};
 ghost use Rattle.nx_host.specs.Still.{IsStill, IsSettled, WritesAlone};
-ghost use Rattle.nx_replay.specs.Log.{replay, HasSame};
-ghost use Rattle.nx_wal.specs.Reading.{HasMark};
+ghost use Rattle.nx_replay.specs.Log.{HasSame};
 ghost use Rattle.nx_holdings.specs.Header.{AreSettings};
-ghost use Rattle.nx_records.specs.Refusals.{IsCreated, NotCreated};
+ghost use Rattle.nx_records.specs.Records.{HasHeader};
+ghost use Rattle.nx_records.specs.Refusals.{IsNewStore, NotCreated};
 ghost use Rattle.nx_script.specs.Commands.{CanCome};
 ghost use Rattle.nx_state.specs.State.{State, new_state};
 ghost use Rattle.nx_state.specs.Stands.{Recovers};
+ghost use Rattle.nx_steps.specs.Step.{may_change};
 
 use crate::EngineError;
+use crate::loading::told;
 use nx_catalog::{Catalog, load_catalog};
 use nx_holdings::Settings;
 use nx_host::{Disk, Host};
 use nx_records::Records;
 use nx_script::{Command, Reply, ReplyError, push_reply, write_reply};
+use nx_steps::may_change;
 use nx_tree::Bytes;
 use std::alloc::Global;
 
@@ -31,8 +34,7 @@ pub struct Store {
 impl Store {
     ghost use Rattle.nx_host.specs.declared.disk.Disk.{Ghosts};
     ghost use Rattle.nx_script.specs.declared.reply.Reply.{Reply};
-    ghost use Rattle.nx_store.specs.Step.{IsStep};
-    ghost use Rattle.nx_store.specs.Loading.{IsWritten};
+    ghost use Rattle.nx_store.specs.Loading.{reply_of, HasText, IsWritten};
     ghost use Rattle.nx_store.specs.Store.{is_ended, IsAt, IsApplied, IsAnswered, IsExported, GoesOn, TakesNone, NotApplied, NotAnswered, NotMade, NotOpened};
 
     /// A store on a disk that has no pages, committed: with these settings, and without documents and
@@ -46,9 +48,9 @@ impl Store {
         settings: Settings,
     ) -> Result<Store, EngineError>
         requires { AreSettings settings }
-        ensures goes { WritesAlone D.Disk disk.old disk.new (λ i. (was : Image) → IsSettled D.Disk disk.old was → HasSame was i ⊎ IsCreated settings was i) }
+        ensures goes { WritesAlone D.Disk disk.old disk.new (λ i. (was : Image) → IsSettled D.Disk disk.old was → HasSame was i ⊎ IsNewStore settings was i) }
         ensures ok { IfOk result (λ store. (was now : Image) → IsSettled D.Disk disk.old was → D.contents disk.new ≡ Some now →
-            IsAt D.Disk store disk.new (new_state settings) × IsSettled D.Disk disk.new now × IsCreated settings was now) }
+            IsAt D.Disk store disk.new (new_state settings) × IsSettled D.Disk disk.new now × IsNewStore settings was now) }
         ensures fresh { IfOk result (λ store. is_ended store ≡ false) }
         ensures refused { IfErr result (λ e. NotMade D.Disk e disk.old disk.new) }
     {
@@ -69,7 +71,7 @@ impl Store {
         ensures still { IsStill D.Disk disk.old disk.new }
         ensures ok { IfOk result (λ store. (was : Image) (state : State) → IsSettled D.Disk disk.old was → Recovers was (Some state) → IsAt D.Disk store disk.new state) }
         ensures fresh { IfOk result (λ store. is_ended store ≡ false) }
-        ensures marked { OnOk result ((was : Image) → IsSettled D.Disk disk.old was → HasMark (replay was)) }
+        ensures marked { OnOk result ((was : Image) → IsSettled D.Disk disk.old was → HasHeader was) }
         ensures refused { IfErr result (λ e. NotOpened D.Disk e disk.old disk.new) }
     {
         let mut records = Records::open(alloc, disk)?;
@@ -108,23 +110,67 @@ impl Store {
         if self.is_ended() {
             return Err(EngineError::Ended);
         }
+        if may_change(&command) {
+            let (reply, _) = self.change(disk, command)?;
+            return Ok(reply);
+        }
+        self.look(disk, command)
+    }
+
+    // Carries out a command that may change the store. Beside the reply is its text, whose memory is taken before the commit.
+    fn change<D: Disk>(
+        &mut self,
+        disk: &mut D,
+        command: Command,
+    ) -> Result<(Reply, Bytes), EngineError>
+        requires runs { is_ended self.old ≡ false }
+        requires come { CanCome command }
+        requires may { may_change command ≡ true }
+        ensures applies { (state : State) → IsAt D.Disk self.old disk.old state → IsSome (D.contents disk.new) → IsApplied D.Disk (reply_of result) state command self.new disk.old disk.new }
+        ensures ok { IfOk result (λ answer. GoesOn self.old self.new × HasText answer) }
+        ensures refused { IfErr result (λ e. NotApplied D.Disk e self.old self.new disk.old disk.new) }
+        ensures areas { WritesAlone D.Disk disk.old disk.new (λ _. Unit {0}) }
+    {
         match command {
-            Command::Load { name, body } => {
-                let (reply, _) = self.load(disk, name, body)?;
-                Ok(reply)
-            }
+            Command::Load { name, body } => self.load(disk, name, body),
+            Command::SetRule { rule } => self.set_rule(disk, &rule),
+            Command::Discard { .. }
+            | Command::Insert { .. }
+            | Command::Delete { .. }
+            | Command::Retext { .. } => told(self.alloc, Reply::Refused(ReplyError::Syntax)),
+            Command::Names
+            | Command::Export { .. }
+            | Command::Get { .. }
+            | Command::Layout { .. }
+            | Command::Rules
+            | Command::Checkpoint
+            | Command::Bad => unreachable!(),
+        }
+    }
+
+    // Carries out a command that leaves what is stored.
+    fn look<D: Disk>(&mut self, disk: &mut D, command: Command) -> Result<Reply, EngineError>
+        requires runs { is_ended self.old ≡ false }
+        requires quiet { may_change command ≡ false }
+        ensures applies { (state : State) → IsAt D.Disk self.old disk.old state → IsSome (D.contents disk.new) → IsApplied D.Disk result state command self.new disk.old disk.new }
+        ensures ok { OnOk result (GoesOn self.old self.new) }
+        ensures refused { IfErr result (λ e. NotApplied D.Disk e self.old self.new disk.old disk.new) }
+        ensures areas { WritesAlone D.Disk disk.old disk.new (λ _. Unit {0}) }
+    {
+        match command {
             Command::Names => self.names(),
             Command::Export { name } => self.export(disk, &name),
             Command::Get { name, path } => self.get(disk, &name, &path),
             Command::Layout { name } => self.layout(disk, &name),
+            Command::Rules => self.rules(),
             Command::Checkpoint => self.checkpoint(disk),
-            Command::Discard { .. }
+            Command::Bad => Ok(Reply::Refused(ReplyError::Syntax)),
+            Command::Load { .. }
+            | Command::Discard { .. }
             | Command::Insert { .. }
             | Command::Delete { .. }
             | Command::Retext { .. }
-            | Command::SetRule { .. }
-            | Command::Rules
-            | Command::Bad => Ok(Reply::Refused(ReplyError::Syntax)),
+            | Command::SetRule { .. } => unreachable!(),
         }
     }
 
@@ -193,25 +239,26 @@ impl Store {
         ensures refused { IfErr result (λ e. NotApplied D.Disk e self.old self.new disk.old disk.new) }
         ensures areas { WritesAlone D.Disk disk.old disk.new (λ _. Unit {0}) }
     {
-        match command {
-            Command::Load { name, body } => {
-                let (_, text) = self.load(disk, name, body)?;
-                Ok(text)
-            }
-            command => self.text_behind(disk, command),
+        if self.is_ended() {
+            return Err(EngineError::Ended);
         }
+        if may_change(&command) {
+            let (_, text) = self.change(disk, command)?;
+            return Ok(text);
+        }
+        self.text_behind(disk, command)
     }
 
     // ... for a command that leaves what is stored. The text is made when it is done.
     fn text_behind<D: Disk>(&mut self, disk: &mut D, command: Command) -> Result<Bytes, EngineError>
-        requires come { CanCome command }
-        requires leaves { (state next : State) (reply : Reply) → IsStep state command reply next → next ≡ state }
+        requires runs { is_ended self.old ≡ false }
+        requires quiet { may_change command ≡ false }
         ensures writes { (state : State) → IsAt D.Disk self.old disk.old state → IsSome (D.contents disk.new) → IsWritten D.Disk result state command self.new disk.old disk.new }
         ensures ok { OnOk result (GoesOn self.old self.new) }
         ensures refused { IfErr result (λ e. NotApplied D.Disk e self.old self.new disk.old disk.new) }
         ensures areas { WritesAlone D.Disk disk.old disk.new (λ _. Unit {0}) }
     {
-        let reply = self.apply(disk, command)?;
+        let reply = self.look(disk, command)?;
         let text = write_reply(self.alloc, &reply)?;
         Ok(text)
     }

@@ -2,7 +2,7 @@
 ghost use Rattle.nx_holdings.specs.Header.{AreSettings};
 
 use crate::documents::{BOOK, SMALL, load, wide};
-use crate::stores::{HEAVY, LIGHT, answers, command_of, empty_host, new_store};
+use crate::stores::{HEAVY, LIGHT, answers, command_of, empty_host, new_store, stored};
 use nx_records::Settings;
 use nx_store::Store;
 use std::alloc::Global;
@@ -111,5 +111,75 @@ fn small_documents(rt: HostRuntime) -> Result<(), Fail> {
             b"checkpoint\n",
         ],
         b"error no-document\nok 4 1\nerror exists\nerror pyx 2 bad-nesting\nnode 2 (a\nerror no-node\nerror no-document\nroot 7\n.\nerror no-document\ndoc e 4\n.\nerror syntax\nok\n",
+    )
+}
+
+#[test]
+fn rules_are_made(rt: HostRuntime) -> Result<(), Fail> {
+    let alloc = rt.alloc();
+    check(
+        &rt,
+        alloc,
+        LIGHT,
+        &[
+            b"rules\n",
+            b"rule a b cluster\n",
+            b"rule #doc a standalone\n",
+            b"rules\n",
+            b"rule a b standalone\n",
+            b"rule a @b free\n",
+            b"rules\n",
+            b"rule a b free\n",
+            b"rule #doc a free\n",
+            b"rules\n",
+            b"rule #text a free\n",
+            b"rule a b\n",
+        ],
+        b".\nok\nok\nrule #doc a standalone\nrule a b cluster\n.\nok\nok\nrule #doc a standalone\nrule a b standalone\n.\nok\nok\n.\nerror syntax\nerror syntax\n",
+    )
+}
+
+// Rules are those of the last commit when the store is opened again.
+#[test]
+fn rules_stay(rt: HostRuntime) -> Result<(), Fail> {
+    let alloc = rt.alloc();
+    let image = new_store(alloc, LIGHT)?;
+    let image = stored(
+        &rt,
+        alloc,
+        &image,
+        b"rule a b cluster\nrule b a cluster\nrule b a free\n",
+    )?;
+    let found = answers(&rt, alloc, &image, b"rules\n")?;
+    assert_eq!(rt; found.as_slice(), b"rule a b cluster\n.\n".as_slice());
+    Ok(())
+}
+
+// What isn't carried out yet is answered as a line that is no command, whatever it
+// says, and leaves the store.
+#[test]
+fn not_carried_out_yet(rt: HostRuntime) -> Result<(), Fail> {
+    let alloc = rt.alloc();
+    let small = load(alloc, b"e", SMALL)?;
+    let output = [
+        b"ok 4 1\nerror syntax\nerror syntax\nerror syntax\nerror syntax\nerror syntax\n",
+        SMALL,
+        b".\n",
+    ]
+    .concat(alloc)?;
+    check(
+        &rt,
+        alloc,
+        LIGHT,
+        &[
+            small.as_slice(),
+            b"insert e /0/1 -x\n",
+            b"delete e /0/1\n",
+            b"retext e /0/1 x\n",
+            b"drop e\n",
+            b"drop f\n",
+            b"export e\n",
+        ],
+        output.as_slice(),
     )
 }

@@ -6,7 +6,7 @@ pub returns-in_default-clause-applies : goal.returns-in_default-clause-applies
 returns-in_default-clause-applies g c state at told = inl (shows_written g.D.Disk c.empty_log.ensures.goes told (λ i of. of state at))
 
 pub returns-clause-applies : goal.returns-clause-applies
-returns-clause-applies g c state at told = (state, (refl, refl), c.in-Ok.ensures.ok.2 state at told, shows_written g.D.Disk c.empty_log.ensures.goes told (λ i of. inl (of state at)))
+returns-clause-applies g c state at told = (state, inl (refl, refl), c.in-Ok.ensures.ok.2 state at told, shows_written g.D.Disk c.empty_log.ensures.goes told (λ i of. inl (of state at)))
 
 pub returns-in_default-clause-areas : goal.returns-in_default-clause-areas
 returns-in_default-clause-areas g c = written_areas g.D.Disk c.empty_log.ensures.goes

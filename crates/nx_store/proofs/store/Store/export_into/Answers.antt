@@ -6,7 +6,7 @@ use Rattle.nx_store.specs.Store.{IsExported, NotAnswered}
 use Rattle.nx_store.specs.Told.{told_by}
 use Rattle.nx_store.specs.declared.store.Store.{Store}
 use Rattle.nx_store.specs.declared.error.EngineError.{EngineError}
-use Rattle.nx_store.proofs.ExportLemmas.{at_given, given_exported, no_memory_exported, refused_exported, told_absent, not_exported}
+use Rattle.nx_store.proofs.ExportLemmas.{at_given, given_exported, no_memory_exported, refused_exported, told_absent, no_memory_absent, not_exported}
 use Rattle.nx_store.proofs.RefusalLemmas.{told_passed}
 use Rattle.nx_store.proofs.store.Store.export_into.Goals as goal
 
@@ -51,5 +51,11 @@ returns-clause-exports g c = λ state at told.
     let x1 = c.export.new.host in
     let e = c.in_ok-export.ensures in
     let later = at_given g.H.Disk c.args.self.now after x0 x1 state e.stays.1 refl e.areas told at in
-    given_exported g.H.Disk c.args.self.now after x0 x1 state c.args.name.now c.args.block.now c.extend_from_slice.new.self at c.in-Some.entry (sym c.in-Some.ensures) (e.time told) c.export.new.block (e.ok told)
+    given_exported g.H.Disk c.args.self.now after x0 x1 state c.args.name.now c.args.block.now c.extend_from_slice.new.self at c.in-Some.entry (sym c.in-Some.ensures) (e.time told) c.export.new.block (λ document has count. (e.ok told document has).1)
     c.in_ok-extend_from_slice.ensures.ok later
+
+pub returns-in_err-push_reply-clause-exports : goal.returns-in_err-push_reply-clause-exports
+returns-in_err-push_reply-clause-exports g c = λ state at told.
+    let p = err_from_is_err_and c.from_residual.result c.from_residual.ensures.1 in
+    subst (λ (r : Result (Unit {0}) EngineError). IsExported g.H.Disk r state c.args.name.now c.args.block.now c.push_reply.new.block c.args.self.now c.args.host.now c.args.host.now) (sym (p.1 ∙ ap Err p.2))
+    (no_memory_absent g.H.Disk c.args.self.now c.args.host.now state c.args.name.now c.args.block.now c.push_reply.new.block at (sym c.in_default.ensures))

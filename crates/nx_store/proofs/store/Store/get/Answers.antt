@@ -7,8 +7,6 @@ use Rattle.nx_cuts.specs.Cut.{CutTree, tree_of}
 use Rattle.nx_hold.specs.Changes.{place_of}
 use Rattle.nx_nav.specs.Refusals.{OfEach, HoldsNone}
 use Rattle.nx_nav.specs.Shows.{ShowsNode}
-use Rattle.nx_records.specs.declared.records.Records.{Records}
-use Rattle.nx_records.specs.Records.{has_ended}
 use Rattle.nx_script.specs.declared.reply.Reply.{Reply}
 use Rattle.nx_script.specs.declared.reply.Reply.TheVariants.{Shown, Refused}
 use Rattle.nx_script.specs.declared.reply.ReplyError.TheVariants.{NoNode}
@@ -16,6 +14,7 @@ use Rattle.nx_engine.specs.Step.{shown}
 use Rattle.nx_store.specs.Store.{NotApplied}
 use Rattle.nx_store.specs.declared.store.Store.{Store}
 use Rattle.nx_store.specs.declared.error.EngineError.{EngineError}
+use Rattle.nx_store.proofs.CaseLemmas.{get_case}
 use Rattle.nx_store.proofs.RefusalLemmas.{look_refused, look_same, is_nowhere}
 use Rattle.nx_store.proofs.LookLemmas.{absent_answer, found_answer, lacks_nowhere, shown_answer, nowhere_answer}
 use Rattle.nx_store.proofs.store.Store.get.Goals as goal
@@ -29,7 +28,7 @@ returns-in_default-clause-ok g c =
     let runs = sym c.is_ended.ensures ∙ c.if-is_ended.false in
     let none = ap (get (c.args.self.now.catalog).documents) (sym c.as_slice.ensures) ∙ sym c.in_default.ensures in (
       (runs, runs),
-      (λ state at. (absent_answer c.args.name.now (answer c.args.path.now) none at, refl)),
+      (λ state at. get_case state c.args.name.now c.args.path.now _ state (absent_answer c.args.name.now (answer c.args.path.now) none at, refl)),
     )
 
 pub returns-in-Ok-clause-ok : goal.returns-in-Ok-clause-ok
@@ -37,8 +36,8 @@ returns-in-Ok-clause-ok g c =
     let ok = c.in-Ok.ensures.ok in
     let after : Store = record c.args.self.now { records = c.get.new.records } in
     let is : get (c.args.self.now.catalog).documents c.args.name.now ≡ Some c.in-Some.entry = ap (get (c.args.self.now.catalog).documents) (sym c.as_slice.ensures) ∙ sym c.in-Some.ensures in (
-      (ok.0, ap (λ (r : Records). has_ended r) ok.1 ∙ ok.0),
-      (λ state at. (
+      (ok.0, (ok.1).ended_stays ∙ ok.0),
+      (λ state at. get_case state c.args.name.now c.args.path.now _ state (
         found_answer c.args.name.now c.in-Some.entry (answer c.args.path.now) (Shown c.in-Ok.shown.node c.in-Ok.shown.children) is
             (λ document has. shown_answer (tree_of document) c.args.path.now c.in-Ok.shown (subst (λ (p : List ℕ). ShowsNode (tree_of document) p c.in-Ok.shown) c.as_slice-2.ensures (ok.2 document has))) at,
         refl,
@@ -52,8 +51,8 @@ returns-in-Err-NoNode-clause-ok g c =
     c.in-Err-NoNode.field-0-is c.in-Err-NoNode.ensures.refused in
     let after : Store = record c.args.self.now { records = c.get.new.records } in
     let is : get (c.args.self.now.catalog).documents c.args.name.now ≡ Some c.in-Some.entry = ap (get (c.args.self.now.catalog).documents) (sym c.as_slice.ensures) ∙ sym c.in-Some.ensures in (
-      (nowhere.1, ap (λ (r : Records). has_ended r) nowhere.2 ∙ nowhere.1),
-      (λ state at. (
+      (nowhere.1, (nowhere.2).ended_stays ∙ nowhere.1),
+      (λ state at. get_case state c.args.name.now c.args.path.now _ state (
         found_answer c.args.name.now c.in-Some.entry (answer c.args.path.now) (Refused NoNode) is
             (λ document has. nowhere_answer (tree_of document) c.args.path.now (subst (λ (p : List ℕ). at_path (tree_of document) p ≡ None) c.as_slice-2.ensures (nowhere.0 document has))) at,
         refl,
@@ -66,16 +65,18 @@ returns-in-Err-clause-refused g c =
     let is : get (c.args.self.now.catalog).documents c.args.name.now ≡ Some c.in-Some.entry = ap (get (c.args.self.now.catalog).documents) (sym c.as_slice.ensures) ∙ sym c.in-Some.ensures in
     subst (λ (e : EngineError). NotApplied g.D.Disk e c.args.self.now after c.args.disk.now c.get.new.disk) (sym c.from.ensures)
     (look_refused g.D.Disk c.args.self.now after (OfEach g.D.Disk c.args.self.now.records c.args.disk.now (place_of c.in-Some.entry.root) (λ document. at_path (tree_of document) c.as_slice-2.result.now ≡ None)) c.in-Err.error
-    (lacks_nowhere c.args.name.now c.in-Some.entry is) c.get.ensures.still refl (λ same. ap (λ (r : Records). record c.args.self.now { records = r }) same) c.in-Err.ensures.refused)
+    (lacks_nowhere c.args.name.now c.in-Some.entry is) c.get.ensures.still refl c.in-Err.ensures.refused)
 
 pub returns-in-Err-NoNode-clause-same : goal.returns-in-Err-NoNode-clause-same
-returns-in-Err-NoNode-clause-same g c runs =
-    ap (λ (r : Records). record c.args.self.now { records = r })
-    (look_same g.D.Disk (OfEach g.D.Disk c.args.self.now.records c.args.disk.now (place_of c.in-Some.entry.root) (λ document. at_path (tree_of document) c.as_slice-2.result.now ≡ None))
-    (HoldsNone g.D.Disk c.args.self.now.records c.args.disk.now (place_of c.in-Some.entry.root)) c.args.self.now.records c.get.new.records c.args.disk.now c.get.new.disk c.in-Err-NoNode.field-0 c.in-Err-NoNode.ensures.refused runs)
+returns-in-Err-NoNode-clause-same g c runs = record {
+  records = look_same g.D.Disk (OfEach g.D.Disk c.args.self.now.records c.args.disk.now (place_of c.in-Some.entry.root) (λ document. at_path (tree_of document) c.as_slice-2.result.now ≡ None))
+      (HoldsNone g.D.Disk c.args.self.now.records c.args.disk.now (place_of c.in-Some.entry.root)) c.args.self.now.records c.get.new.records c.args.disk.now c.get.new.disk c.in-Err-NoNode.field-0 c.in-Err-NoNode.ensures.refused runs;
+  catalog = refl;
+}
 
 pub returns-in-Err-clause-same : goal.returns-in-Err-clause-same
-returns-in-Err-clause-same g c runs =
-    ap (λ (r : Records). record c.args.self.now { records = r })
-    (look_same g.D.Disk (OfEach g.D.Disk c.args.self.now.records c.args.disk.now (place_of c.in-Some.entry.root) (λ document. at_path (tree_of document) c.as_slice-2.result.now ≡ None))
-    (HoldsNone g.D.Disk c.args.self.now.records c.args.disk.now (place_of c.in-Some.entry.root)) c.args.self.now.records c.get.new.records c.args.disk.now c.get.new.disk c.in-Err.error c.in-Err.ensures.refused runs)
+returns-in-Err-clause-same g c runs = record {
+  records = look_same g.D.Disk (OfEach g.D.Disk c.args.self.now.records c.args.disk.now (place_of c.in-Some.entry.root) (λ document. at_path (tree_of document) c.as_slice-2.result.now ≡ None))
+      (HoldsNone g.D.Disk c.args.self.now.records c.args.disk.now (place_of c.in-Some.entry.root)) c.args.self.now.records c.get.new.records c.args.disk.now c.get.new.disk c.in-Err.error c.in-Err.ensures.refused runs;
+  catalog = refl;
+}

@@ -5,7 +5,7 @@ use Rattle.nx_script.specs.declared.command.LoadBody.{LoadBody}
 use Rattle.nx_script.specs.declared.command.Command.TheVariants.{Load}
 use Rattle.nx_script.specs.declared.reply.Reply.TheVariants.{Refused}
 use Rattle.nx_script.specs.declared.reply.ReplyError.TheVariants.{Exists, Pyx}
-use Rattle.nx_store.specs.Step.{IsStep}
+use Rattle.nx_steps.specs.Step.{Step}
 use Rattle.nx_store.specs.Store.{IsApplied}
 use Rattle.nx_store.specs.Loading.{reply_of}
 use Rattle.nx_store.proofs.ShowLemmas.{told_applied}
@@ -22,7 +22,7 @@ returns-in-Wrong-clause-loads g c state at told =
     let none = ap (λ (n : List ℕ). is_some (get c.args.self.now.catalog.documents n)) (sym c.as_slice.ensures) ∙ ap (λ o. is_some o) (sym c.find.ensures) ∙ sym c.is_some.ensures ∙ c.if-is_some.false in
     let new = is_nothing (get c.args.self.now.catalog.documents c.args.name) none in
     told_applied g.D.Disk c.args.self.now c.args.disk.now state (Load c.args.name c.args.body) (Refused (Pyx c.in-Wrong.error)) c.told-in-Wrong.result c.told-in-Wrong.ensures at
-    (subst (λ (b : LoadBody). IsStep state (Load c.args.name b) (Refused (Pyx c.in-Wrong.error)) state) (sym c.in-Wrong.is) (wrong_answers c.args.self.now c.args.disk.now c.args.name c.in-Wrong.error state new at))
+    (subst (λ (b : LoadBody). Step state (Load c.args.name b) (Refused (Pyx c.in-Wrong.error)) state) (sym c.in-Wrong.is) (wrong_answers c.args.self.now c.args.disk.now c.args.name c.in-Wrong.error state new at))
 
 pub returns-clause-loads : goal.returns-clause-loads
 returns-clause-loads g c state at told =

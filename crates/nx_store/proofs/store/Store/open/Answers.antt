@@ -1,12 +1,10 @@
-use Rattle.std.proofs.Common.{sym, ap, subst, ◌∙◌}
+use Rattle.std.proofs.Common.{◌∙◌}
 use Rattle.std.proofs.lemmas.Result.{err_from_is_err_and}
-use Rattle.nx_wal.specs.Wal.{pending}
-use Rattle.nx_records.specs.declared.records.Records.{Records}
 use Rattle.nx_records.specs.Records.{StandsFor}
 use Rattle.nx_store.specs.Told.{told_of}
 use Rattle.nx_store.specs.Store.{NotOpened}
 use Rattle.nx_store.specs.declared.error.EngineError.{EngineError}
-use Rattle.nx_store.proofs.AtLemmas.{stands_still}
+use Rattle.nx_records.proofs.LeaveLemmas.{leaves_stand}
 use Rattle.nx_store.proofs.RefusalLemmas.{told_passed, open_refused, catalog_refused}
 use Rattle.nx_store.proofs.store.Store.open.Goals as goal
 
@@ -28,8 +26,8 @@ returns-clause-ok g c was state settled recovers =
     let same = c.in_ok-catalog.ensures.ok.1 in
     record {
       held = held;
-      stands = subst (λ (r : Records). StandsFor g.D.Disk r c.load_catalog.new.disk held held) (sym same) (stands_still c.in_ok-catalog.ensures.still stands);
-      none_waits = ap (λ (r : Records). pending r.wal) same ∙ c.in_ok-records.ensures.fresh.1;
+      stands = leaves_stand {r0 = c.in_ok-records.records} {r1 = c.load_catalog.new.records} same c.in_ok-catalog.ensures.still stands;
+      none_waits = same.changes_stay ∙ c.in_ok-records.ensures.fresh.1;
       state_is = recovers.2;
       catalog = c.in_ok-catalog.ensures.ok.2 held held stands;
     }

@@ -5,14 +5,15 @@ use Rattle.nx_store.specs.Loading.{IsWritten}
 use Rattle.nx_store.specs.declared.error.EngineError.{EngineError}
 use Rattle.nx_store.specs.declared.error.EngineError.TheVariants.{Memory}
 use Rattle.nx_store.proofs.ShowLemmas.{handed}
+use Rattle.nx_store.proofs.CaseLemmas.{quiet_leaves}
 use Rattle.nx_store.proofs.TextLemmas.{untold_applied}
 use Rattle.nx_store.proofs.store.Store.text_behind.Goals as goal
 
 pub returns-in_err-text-clause-writes : goal.returns-in_err-text-clause-writes
 returns-in_err-text-clause-writes g c state at told =
-    handed c.from_residual-in_err-text.result (λ (r : Result (List ℕ) EngineError). IsWritten g.D.Disk r state c.args.command c.apply.new.self c.args.disk.now c.apply.new.disk) Memory
+    handed c.from_residual-in_err-text.result (λ (r : Result (List ℕ) EngineError). IsWritten g.D.Disk r state c.args.command c.look.new.self c.args.disk.now c.look.new.disk) Memory
     (err_from_is_err_and c.from_residual-in_err-text.result c.from_residual-in_err-text.ensures.1)
-    (untold_applied g.D.Disk c.apply.new.self c.args.disk.now c.apply.new.disk state c.args.command c.in_ok-reply.reply c.requires.leaves (c.in_ok-reply.ensures.applies state at told))
+    (untold_applied g.D.Disk c.look.new.self c.args.disk.now c.look.new.disk state c.args.command c.in_ok-reply.reply (quiet_leaves c.args.command c.requires.quiet) (c.in_ok-reply.ensures.applies state at told))
 
 pub returns-clause-writes : goal.returns-clause-writes
 returns-clause-writes g c state at told = (c.in_ok-reply.reply, c.in_ok-text.ensures, c.in_ok-reply.ensures.applies state at told)

@@ -1,12 +1,15 @@
-use Rattle.std.proofs.Common.{sym, subst}
-use Rattle.std.specs.Prelude.{Ok}
-use Rattle.nx_script.specs.declared.command.Command.{Command}
-use Rattle.nx_store.specs.Store.{IsApplied}
+use Rattle.std.proofs.Common.{ℕ, List}
+use Rattle.std.specs.Prelude.{Result}
+use Rattle.std.proofs.lemmas.Result.{err_from_is_err_and}
+use Rattle.nx_store.specs.Loading.{IsWritten}
+use Rattle.nx_store.specs.declared.error.EngineError.{EngineError}
+use Rattle.nx_store.proofs.ShowLemmas.{handed}
 use Rattle.nx_store.proofs.store.Store.text_for.Goals as goal
 
-pub returns-in_ok-text-in-Load-clause-writes : goal.returns-in_ok-text-in-Load-clause-writes
-returns-in_ok-text-in-Load-clause-writes g c state at told = (
-  c.in_ok-text-in-Load.field-0-0,
-  c.in_ok-text-in-Load.ensures.ok.1,
-  subst (λ (k : Command). IsApplied g.D.Disk (Ok c.in_ok-text-in-Load.field-0-0) state k c.load.new.self c.args.disk.now c.load.new.disk) (sym c.in-Load.is) (c.in_ok-text-in-Load.ensures.loads state at told),
-)
+pub returns-then-may_change-clause-writes : goal.returns-then-may_change-clause-writes
+returns-then-may_change-clause-writes g c state at told = (c.in_ok-text.field-0-0, c.in_ok-text.ensures.ok.1, c.in_ok-text.ensures.applies state at told)
+
+pub returns-in_err-text-clause-writes : goal.returns-in_err-text-clause-writes
+returns-in_err-text-clause-writes g c state at told =
+    handed c.from_residual.result (λ (r : Result (List ℕ) EngineError). IsWritten g.D.Disk r state c.args.command c.change.new.self c.args.disk.now c.change.new.disk)
+    c.in_err-text.field-0.0 (err_from_is_err_and c.from_residual.result c.from_residual.ensures.1) (c.in_err-text.ensures.applies state at told)

@@ -1,0 +1,142 @@
+-- A command that came to its commit, or was refused before it.
+use Rattle.std.proofs.Common.{◌≡◌, ℕ, List, refl, sym, ◌∙◌, subst, inl, inr}
+use Rattle.std.specs.Prelude.{◌⊎◌, Some, IsSome, Result, Ok, Err, IfOk, IfErr}
+use Rattle.nx_host.specs.Disk.{Image}
+use Rattle.nx_host.specs.declared.disk.Disk.{Ghosts}
+use Rattle.nx_host.specs.Still.{IsStill, WritesAlone}
+use Rattle.nx_replay.specs.Log.{replay}
+use Rattle.nx_holdings.specs.Holdings.{Held, Holds}
+use Rattle.nx_records.specs.Records.{has_ended, StandsFor, HasNoChanges, FollowsOn}
+use Rattle.nx_catalog.specs.Catalog.{Contents, IsCatalog}
+use Rattle.nx_script.specs.declared.command.Command.{Command}
+use Rattle.nx_script.specs.declared.reply.Reply.{Reply}
+use Rattle.nx_script.specs.declared.reply.Reply.TheVariants as reply
+use Rattle.nx_script.specs.declared.reply.ReplyError.{ReplyError}
+use Rattle.nx_script.specs.declared.reply.ReplyError.TheVariants as refused
+use Rattle.nx_state.specs.State.{State}
+use Rattle.nx_records.specs.declared.error.StoreError.{StoreError}
+use Rattle.nx_records.specs.declared.error.StoreError.TheVariants as below
+use Rattle.nx_catalog.specs.declared.saving.RuleError.{RuleError}
+use Rattle.nx_catalog.specs.declared.saving.RuleError.TheVariants as rule
+use Rattle.nx_store.specs.Carried.{StoreStep}
+use Rattle.nx_store.specs.Store.{GoesOn, IsAt, IsOfEither, Shows, ShowsBegun, IsApplied, NotApplied}
+use Rattle.nx_store.specs.Loading.{IsLeft, reply_of, HasText, IsToldOrNot, IsRefusal}
+use Rattle.nx_store.specs.Changing.{Prepares, StepsRefused, NotPrepared, RuleNotPrepared, IsRuleRefusal}
+use Rattle.nx_store.specs.declared.store.Store.{Store}
+use Rattle.nx_store.specs.declared.error.EngineError.{EngineError}
+use Rattle.nx_store.specs.declared.error.EngineError.TheVariants as error
+use Rattle.nx_store.proofs.AtLemmas.{shows_still}
+use Rattle.nx_store.proofs.LogLemmas.{some_value}
+use Rattle.nx_store.proofs.ShowLemmas.{shows_then, shows_written, shows_weaker}
+use Rattle.nx_store.proofs.AppliedLemmas.{left_at, left_runs}
+
+module _ {D : Type 0} (d : Ghosts D) (command : Command) where
+  module _ (s0 s1 : Store) (x0 x1 x2 : D) (still : IsStill d x0 x1) (goes : WritesAlone d x1 x2 (λ i. (saved now : Held) → StandsFor d s1.records x1 saved now → Holds (replay i) saved ⊎ Holds (replay i) now))
+      (state : State) (at : IsAt d s0 x0 state) (r : Reply) (k : Prepares d state command r s1 x1) (told : IsSome (d.contents x2)) where
+    -- at each moment of the commit
+    commit_shows : Shows d (IsOfEither state k.next) x0 x2
+    commit_shows = shows_then d (still.beside_stays).output (λ i of. inl of) (λ i of. of) (shows_still still at) (shows_written d goes told (λ i held. elim (held (k.prepared).saved (k.prepared).now (k.prepared).stands) [
+      | inl was ↦ inl ((k.prepared).saved, was, (k.prepared).was)
+      | inr now ↦ inr ((k.prepared).now, now, (k.prepared).will)
+    ]))
+
+    pub commit_begun : ShowsBegun d state command x0 x2
+    commit_begun = inr (record { reply = r; next = k.next; step = k.step }, commit_shows)
+
+    -- after it
+    pub commit_applied : (s2 : Store) (answer : Reply) → ((saved now : Held) (image : Image) → StandsFor d s1.records x1 saved now → d.contents x2 ≡ Some image → StandsFor d s2.records x2 now now)
+        → HasNoChanges s2.records → s2.catalog ≡ s1.catalog → answer ≡ r → IsApplied d (Ok answer) state command s2 x0 x2
+    commit_applied s2 answer stands none catalog is =
+        let image = some_value (d.contents x2) told in
+        let p = k.prepared in (
+          k.next,
+          subst (λ (a : Reply). StoreStep state command a k.next) (sym is) k.step,
+          record {
+            held = p.now;
+            stands = stands p.saved p.now image.0 p.stands image.1;
+            none_waits = none;
+            state_is = p.will;
+            catalog = subst (λ (c : Contents). IsCatalog (p.now).catalog c) (sym catalog) p.catalog;
+          },
+          commit_shows,
+        )
+
+  -- what the command is answered that wasn't prepared
+  module _ (s0 s1 s2 : Store) (x0 x1 : D) (follows : FollowsOn s1.records s2.records) (none : HasNoChanges s2.records)
+      (heads : ((s2.records).saved ≡ (s1.records).saved) × ((s2.records).head ≡ (s1.records).saved)) (ended : has_ended s2.records ≡ has_ended s1.records) (catalog : s2.catalog ≡ s1.catalog) (still : IsStill d x0 x1) where
+    stays_on : IsLeft d s0 s1 x0 x1 → GoesOn s0 s2
+    stays_on left = ((left.runs).before, left_runs d s0 s1 s2 x0 x1 left follows none heads ended catalog)
+
+    memory_left : IsLeft d s0 s1 x0 x1 → (state : State) → IsAt d s0 x0 state → IsApplied d (Err error.Memory) state command s2 x0 x1
+    memory_left left state at = (left_at d s0 s1 s2 x0 x1 left follows none heads ended catalog state at, shows_still still at)
+
+    refused_left : (e : ReplyError) (r : Result (Reply × List ℕ) EngineError) → IsToldOrNot (reply.Refused e) r → IsLeft d s0 s1 x0 x1 → StepsRefused d command e s0 x0 → (state : State) → IsAt d s0 x0 state → IsApplied d (reply_of r) state command s2 x0 x1
+    refused_left e (Ok answer) is left steps state at =
+        subst (λ (a : Reply × List ℕ). IsApplied d (Ok a.0) state command s2 x0 x1) (sym is)
+        (state, steps state at, left_at d s0 s1 s2 x0 x1 left follows none heads ended catalog state at, shows_weaker d (λ i of. inl of) (shows_still still at))
+    refused_left e (Err x) is left steps state at = subst (λ (y : EngineError). IsApplied d (Err y) state command s2 x0 x1) (sym is) (memory_left left state at)
+
+    pub refusal_applied : (e : StoreError) (r : Result (Reply × List ℕ) EngineError) → IsRefusal e r → NotPrepared d e s0 s1 x0 x1 → (state : State) → IsAt d s0 x0 state → IsApplied d (reply_of r) state command s2 x0 x1
+    refusal_applied below.Memory r is why state at = subst (λ x. IsApplied d (reply_of x) state command s2 x0 x1) (sym is) (memory_left why state at)
+    refusal_applied below.Disk r is why state at = subst (λ x. IsApplied d (reply_of x) state command s2 x0 x1) (sym is) (inl (shows_still still at))
+    refusal_applied (below.Damaged page) r is why state at = absurd (why.1 state at)
+    refusal_applied below.Full r is why state at = absurd why
+    refusal_applied below.Ended r is why state at = absurd why
+    refusal_applied below.Exists r is why state at = absurd why
+    refusal_applied below.NotAStore r is why state at = absurd why
+
+    pub rule_applied : (e : RuleError) (r : Result (Reply × List ℕ) EngineError) → IsRuleRefusal e r → RuleNotPrepared d command e s0 s1 x0 x1 → (state : State) → IsAt d s0 x0 state → IsApplied d (reply_of r) state command s2 x0 x1
+    rule_applied rule.TooManyRules r is why state at = refused_left refused.TooManyRules r is why.0 why.1 state at
+    rule_applied (rule.Store below.Full) r is why state at = refused_left refused.Full r is why.0 why.1 state at
+    rule_applied (rule.Store below.Memory) r is why state at = refusal_applied below.Memory r is why state at
+    rule_applied (rule.Store below.Disk) r is why state at = refusal_applied below.Disk r is why state at
+    rule_applied (rule.Store (below.Damaged page)) r is why state at = refusal_applied (below.Damaged page) r is why state at
+    rule_applied (rule.Store below.Ended) r is why state at = absurd why
+    rule_applied (rule.Store below.Exists) r is why state at = absurd why
+    rule_applied (rule.Store below.NotAStore) r is why state at = absurd why
+
+    told_ok : (e : ReplyError) (r : Result (Reply × List ℕ) EngineError) → IsToldOrNot (reply.Refused e) r → IsLeft d s0 s1 x0 x1 → IfOk r (λ answer. GoesOn s0 s2 × HasText answer)
+    told_ok e (Ok answer) is left = (stays_on left, subst (λ (a : Reply × List ℕ). HasText a) (sym is) refl)
+    told_ok e (Err x) is left = tt
+
+    pub refusal_ok : (e : StoreError) (r : Result (Reply × List ℕ) EngineError) → IsRefusal e r → NotPrepared d e s0 s1 x0 x1 → IfOk r (λ answer. GoesOn s0 s2 × HasText answer)
+    refusal_ok below.Memory r is why = subst (λ x. IfOk x (λ answer. GoesOn s0 s2 × HasText answer)) (sym is) tt
+    refusal_ok below.Disk r is why = subst (λ x. IfOk x (λ answer. GoesOn s0 s2 × HasText answer)) (sym is) tt
+    refusal_ok (below.Damaged page) r is why = subst (λ x. IfOk x (λ answer. GoesOn s0 s2 × HasText answer)) (sym is) tt
+    refusal_ok below.Full r is why = absurd why
+    refusal_ok below.Ended r is why = absurd why
+    refusal_ok below.Exists r is why = absurd why
+    refusal_ok below.NotAStore r is why = absurd why
+
+    pub rule_ok : (e : RuleError) (r : Result (Reply × List ℕ) EngineError) → IsRuleRefusal e r → RuleNotPrepared d command e s0 s1 x0 x1 → IfOk r (λ answer. GoesOn s0 s2 × HasText answer)
+    rule_ok rule.TooManyRules r is why = told_ok refused.TooManyRules r is why.0
+    rule_ok (rule.Store below.Full) r is why = told_ok refused.Full r is why.0
+    rule_ok (rule.Store below.Memory) r is why = refusal_ok below.Memory r is why
+    rule_ok (rule.Store below.Disk) r is why = refusal_ok below.Disk r is why
+    rule_ok (rule.Store (below.Damaged page)) r is why = refusal_ok (below.Damaged page) r is why
+    rule_ok (rule.Store below.Ended) r is why = absurd why
+    rule_ok (rule.Store below.Exists) r is why = absurd why
+    rule_ok (rule.Store below.NotAStore) r is why = absurd why
+
+    told_refused : (e : ReplyError) (r : Result (Reply × List ℕ) EngineError) → IsToldOrNot (reply.Refused e) r → IsLeft d s0 s1 x0 x1 → IfErr r (λ y. NotApplied d y s0 s2 x0 x1)
+    told_refused e (Ok answer) is left = tt
+    told_refused e (Err x) is left = subst (λ (y : EngineError). NotApplied d y s0 s2 x0 x1) (sym is) (stays_on left)
+
+    pub refusal_refused : (e : StoreError) (r : Result (Reply × List ℕ) EngineError) → IsRefusal e r → NotPrepared d e s0 s1 x0 x1 → IfErr r (λ y. NotApplied d y s0 s2 x0 x1)
+    refusal_refused below.Memory r is why = subst (λ x. IfErr x (λ y. NotApplied d y s0 s2 x0 x1)) (sym is) (stays_on why)
+    refusal_refused below.Disk r is why = subst (λ x. IfErr x (λ y. NotApplied d y s0 s2 x0 x1)) (sym is) (why.0, ((why.1).0, ended ∙ (why.1).1))
+    refusal_refused (below.Damaged page) r is why = subst (λ x. IfErr x (λ y. NotApplied d y s0 s2 x0 x1)) (sym is) (((why.0).0, ended ∙ (why.0).1), λ told. why.1)
+    refusal_refused below.Full r is why = absurd why
+    refusal_refused below.Ended r is why = absurd why
+    refusal_refused below.Exists r is why = absurd why
+    refusal_refused below.NotAStore r is why = absurd why
+
+    pub rule_refused : (e : RuleError) (r : Result (Reply × List ℕ) EngineError) → IsRuleRefusal e r → RuleNotPrepared d command e s0 s1 x0 x1 → IfErr r (λ y. NotApplied d y s0 s2 x0 x1)
+    rule_refused rule.TooManyRules r is why = told_refused refused.TooManyRules r is why.0
+    rule_refused (rule.Store below.Full) r is why = told_refused refused.Full r is why.0
+    rule_refused (rule.Store below.Memory) r is why = refusal_refused below.Memory r is why
+    rule_refused (rule.Store below.Disk) r is why = refusal_refused below.Disk r is why
+    rule_refused (rule.Store (below.Damaged page)) r is why = refusal_refused (below.Damaged page) r is why
+    rule_refused (rule.Store below.Ended) r is why = absurd why
+    rule_refused (rule.Store below.Exists) r is why = absurd why
+    rule_refused (rule.Store below.NotAStore) r is why = absurd why

@@ -1,0 +1,90 @@
+// Commands that change a store in other ways than `load`.
+ghost use Rattle.std.specs.Prelude.{◌≡◌, ◌≤◌, false, IsSome, IfOk, IfErr, OnOk};
+ghost use Rattle.nx_host.specs.Still.{IsStill, WritesAlone};
+ghost use Rattle.nx_records.specs.Records.{HasChanges, log_length_of};
+ghost use Rattle.nx_records.specs.Refusals.{RunsOn};
+ghost use Rattle.nx_script.specs.Rule.{HasLabels};
+ghost use Rattle.nx_script.specs.declared.command.Command.TheVariants as command;
+ghost use Rattle.nx_state.specs.State.{State};
+ghost use Rattle.nx_store.specs.Store.{is_ended, GoesOn, IsAt, IsApplied, NotApplied};
+ghost use Rattle.nx_store.specs.Loading.{reply_of, HasText};
+ghost use Rattle.nx_store.specs.Changing.{Prepares, RuleNotPrepared, IsRuleRefusal};
+
+use crate::loading::{refused, told};
+use crate::{EngineError, Store};
+use nx_catalog::RuleError;
+use nx_host::Disk;
+use nx_matrix::Rule;
+use nx_script::{Reply, ReplyError};
+use nx_tree::Bytes;
+use std::alloc::Global;
+
+impl Store {
+    // Makes a rule, by one commit. Beside the reply is its text.
+    pub(crate) fn set_rule<D: Disk>(
+        &mut self,
+        disk: &mut D,
+        rule: &Rule,
+    ) -> Result<(Reply, Bytes), EngineError>
+        requires runs { is_ended self.old ≡ false }
+        requires labels { HasLabels rule.now }
+        ensures applies { (state : State) → IsAt D.Disk self.old disk.old state → IsSome (D.contents disk.new) → IsApplied D.Disk (reply_of result) state (command.SetRule rule.now) self.new disk.old disk.new }
+        ensures ok { IfOk result (λ answer. GoesOn self.old self.new × HasText answer) }
+        ensures refused { IfErr result (λ e. NotApplied D.Disk e self.old self.new disk.old disk.new) }
+        ensures areas { WritesAlone D.Disk disk.old disk.new (λ _. Unit {0}) }
+    {
+        self.shorten_log(disk)?;
+        self.set_rule_shortly(disk, rule)
+    }
+
+    // ... where the log is short.
+    fn set_rule_shortly<D: Disk>(
+        &mut self,
+        disk: &mut D,
+        rule: &Rule,
+    ) -> Result<(Reply, Bytes), EngineError>
+        requires runs { is_ended self.old ≡ false }
+        requires short { log_length_of self.old.records ≤ 67108864 }
+        requires labels { HasLabels rule.now }
+        ensures applies { (state : State) → IsAt D.Disk self.old disk.old state → IsSome (D.contents disk.new) → IsApplied D.Disk (reply_of result) state (command.SetRule rule.now) self.new disk.old disk.new }
+        ensures ok { IfOk result (λ answer. GoesOn self.old self.new × HasText answer) }
+        ensures refused { IfErr result (λ e. NotApplied D.Disk e self.old self.new disk.old disk.new) }
+        ensures areas { WritesAlone D.Disk disk.old disk.new (λ _. Unit {0}) }
+    {
+        let done = told(self.alloc, Reply::Done)?;
+        match self.prepare_rule(disk, rule) {
+            Ok(()) => {}
+            Err(error) => {
+                self.records.abandon();
+                return rule_refused(self.alloc, error);
+            }
+        }
+        let Ok(()) = self.records.commit(disk) else {
+            return Err(EngineError::Disk);
+        };
+        Ok(done)
+    }
+
+    // Makes a rule but for the commit. Where this fails the catalog is as it was.
+    fn prepare_rule<D: Disk>(&mut self, disk: &mut D, rule: &Rule) -> Result<(), RuleError>
+        requires runs { is_ended self.old ≡ false }
+        requires labels { HasLabels rule.now }
+        ensures still { IsStill D.Disk disk.old disk.new }
+        ensures runs { OnOk result (RunsOn self.old.records self.new.records × HasChanges self.new.records) }
+        ensures ok { OnOk result ((state : State) → IsAt D.Disk self.old disk.old state → Prepares D.Disk state (command.SetRule rule.now) Reply.Done self.new disk.new) }
+        ensures refused { IfErr result (λ e. RuleNotPrepared D.Disk (command.SetRule rule.now) e self.old self.new disk.old disk.new) }
+    {
+        self.catalog.save_rule(&mut self.records, disk, rule)?;
+        Ok(())
+    }
+}
+
+// What a `rule` is answered that wasn't prepared.
+fn rule_refused(alloc: Global, error: RuleError) -> Result<(Reply, Bytes), EngineError>
+    ensures { IsRuleRefusal error result }
+{
+    match error {
+        RuleError::TooManyRules => told(alloc, Reply::Refused(ReplyError::TooManyRules)),
+        RuleError::Store(error) => refused(alloc, error),
+    }
+}
