@@ -9,8 +9,7 @@ use Rattle.nx_host.specs.Phase.{LeavesAreas, TakesAlone, GivesAlone}
 use Rattle.nx_host.specs.Still.{IsStill, IsSettled}
 use Rattle.nx_host.proofs.DiskLemmas.{keeps_self}
 use Rattle.nx_host.proofs.OutputLemmas.{appends_then, takes_nothing}
-use Rattle.nx_replay.specs.Log.{replay}
-use Rattle.nx_wal.specs.Reading.{HasMark}
+use Rattle.nx_records.specs.Records.{HasHeader}
 use Rattle.nx_script.specs.declared.command.Command.{Command}
 use Rattle.nx_script.specs.declared.script.Script.{Script}
 use Rattle.nx_script.specs.declared.error.ScriptError.{ScriptError}
@@ -26,16 +25,16 @@ use Rattle.nx_store.specs.declared.error.EngineError.{EngineError}
 use Rattle.nx_store.specs.declared.error.EngineError.TheVariants as engine
 use Rattle.nx_store.specs.Store.{IsAt, TakesNone, NotOpened}
 use Rattle.nx_store.proofs.AtLemmas.{at_image}
-use Rattle.nx_front.specs.declared.status.Status.{Status}
-use Rattle.nx_front.specs.declared.status.Status.TheVariants.{Done, Usage, Refused, DiskFault, ReadFault, WriteFault, NoMemory, NotAStore, Damaged, TooMuch}
-use Rattle.nx_front.specs.declared.give.GiveError.{GiveError}
-use Rattle.nx_front.specs.TakeError.{status_of_script, status_of_give_error, status_of_engine}
-use Rattle.nx_front.specs.Outcome.{TakesFew, CountsGrow, EndsWhole, Given}
-use Rattle.nx_front.specs.Session.{AreFirst}
+use Rattle.nx_filters.specs.declared.status.Status.{Status}
+use Rattle.nx_filters.specs.declared.status.Status.TheVariants.{Done, Usage, Refused, DiskFault, ReadFault, WriteFault, NoMemory, NotAStore, Damaged, TooMuch}
+use Rattle.nx_filters.specs.declared.give.GiveError.{GiveError}
+use Rattle.nx_filters.specs.TakeError.{status_of_script, status_of_give_error}
+use Rattle.nx_filters.specs.Outcome.{TakesFew, CountsGrow, EndsWhole, Given}
+use Rattle.nx_filters.specs.Session.{AreFirst}
 use Rattle.nx_front.specs.Serving.{Turn, state_after, commands_of, texts_of, ShowsMoment, EndsServing, ServesFrom, IsCaused, EndsWithoutHeader, Serves}
-use Rattle.nx_front.specs.Conversation.{ShowsReached, HasRun, GoesOn, IsConversing, Answers, Begins, StopsShort, IsStopped, IsEnded, Converses}
-use Rattle.nx_front.proofs.OutcomeLemmas.{rose_since, told_at_first, kept_appends}
-use Rattle.nx_front.proofs.SessionLemmas.{first_given, few_given}
+use Rattle.nx_front.specs.Conversation.{ShowsReached, HasRun, GoesOn, IsConversing, Answers, Begins, StopsShort, IsStopped, IsEnded, Converses, status_of_engine}
+use Rattle.nx_filters.proofs.OutcomeLemmas.{rose_since, told_at_first, kept_appends}
+use Rattle.nx_filters.proofs.SessionLemmas.{first_given, few_given}
 use Rattle.nx_front.proofs.MomentLemmas.{every_moment, reached_none, commands_more}
 use Rattle.nx_front.proofs.ServeLemmas.{served_none, served_filled, given_block, run_block, all_given, stops_giving, block_stopped}
 use Rattle.nx_front.proofs.ServingLaws.{serving_together}
@@ -417,7 +416,7 @@ module _ {D : Type 0} {d : Ghosts D} where
   opened_cause Refused still opens talk cause = absurd cause
 
   pub serves_opened : {a b c : D} {begun : Store} (status : Status) → IsStill d a b → ((was : Image) (state : State) → IsSettled d a was → Recovers was (Some state) → IsAt d begun b state) →
-      ((was : Image) → IsSettled d a was → HasMark (replay was)) → Converses d begun status b c → Serves d status a c
+      ((was : Image) → IsSettled d a was → HasHeader was) → Converses d begun status b c → Serves d status a c
   serves_opened {a = a} {b = b} {c = c} status still opens marked talk =
       let goes = goes_then (still_goes still) talk.goes in
       record {
@@ -454,7 +453,7 @@ module _ {D : Type 0} (d : Ghosts D) (a b : D) where
   unopened_cause engine.Write why = absurd why
   unopened_cause engine.Ended why = absurd why
 
-  unopened_header : (was : Image) (e : EngineError) → NotOpened d e a b → IsSettled d a was → (HasMark (replay was) → ⊥) → EndsWithoutHeader (status_of_engine e)
+  unopened_header : (was : Image) (e : EngineError) → NotOpened d e a b → IsSettled d a was → (HasHeader was → ⊥) → EndsWithoutHeader (status_of_engine e)
   unopened_header was engine.Disk why settled none = tt
   unopened_header was engine.Memory why settled none = tt
   unopened_header was engine.NotAStore why settled none = tt

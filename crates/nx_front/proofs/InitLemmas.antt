@@ -15,13 +15,13 @@ use Rattle.nx_holdings.specs.declared.header.Settings.{Settings}
 use Rattle.nx_holdings.specs.Holdings.{Held, Holds}
 use Rattle.nx_holdings.proofs.OneLemmas.{hold_one}
 use Rattle.nx_records.specs.Changes.{nothing_held}
-use Rattle.nx_records.specs.Refusals.{IsCreated}
+use Rattle.nx_records.specs.Refusals.{IsNewStore}
 use Rattle.nx_state.proofs.FirstLemmas.{new_is_held}
-use Rattle.nx_front.specs.declared.status.Status.{Status}
-use Rattle.nx_front.specs.declared.status.Status.TheVariants.{Done, Usage, Refused, DiskFault, ReadFault, WriteFault, NoMemory, NotAStore, Damaged, TooMuch}
-use Rattle.nx_front.specs.Outcome.{FailsGiving}
+use Rattle.nx_filters.specs.declared.status.Status.{Status}
+use Rattle.nx_filters.specs.declared.status.Status.TheVariants.{Done, Usage, Refused, DiskFault, ReadFault, WriteFault, NoMemory, NotAStore, Damaged, TooMuch}
+use Rattle.nx_filters.specs.Outcome.{FailsGiving}
 use Rattle.nx_front.specs.Init.{made_line, exists_line, HasNoPage, HasPage, IsOldOrNew, Says, IsMaking, IsMade, Makes, FindsPages, GivesUp, Initializes, IsUntroubled, CompletesInit, InitHoldsTogether, HoldsNothing}
-use Rattle.nx_front.proofs.OutcomeLemmas.{told_at_first, kept_appends, fails_then}
+use Rattle.nx_filters.proofs.OutcomeLemmas.{told_at_first, kept_appends, fails_then}
 
 -- a line behind an output that stayed
 says_after : (line : List ℕ) (whole status : Status) (old middle new : Beside) → LeavesBeside old middle → Says line whole status middle new → Says line whole status old new
@@ -69,7 +69,7 @@ module _ {D : Type 0} {d : Ghosts D} {a b c : D} where
 
   -- the store was made, and `ok` is given
   pub makes : (settings : Settings) (status : Status) → WritesAlone d a b (λ i. (was : Image) → IsSettled d a was → IsOldOrNew settings was i) →
-      ((was now : Image) → IsSettled d a was → d.contents b ≡ Some now → IsSettled d b now × IsCreated settings was now) →
+      ((was now : Image) → IsSettled d a was → d.contents b ≡ Some now → IsSettled d b now × IsNewStore settings was now) →
       Says made_line Done status (d.beside b) (d.beside c) → GivesAlone d made_line b c → Initializes d settings status a c
   makes settings status goes made says gives =
       let told_there : IsSome (d.contents c) → IsSome (d.contents b) = told_at_first (d.contents b) (d.contents c) gives.areas.contents_stay in
@@ -84,7 +84,7 @@ module _ {D : Type 0} {d : Ghosts D} {a b c : D} where
               λ was settled told.
                   let (now, is) = some_of (d.contents b) (told_there told) in
                   let (alone, created) = made was now settled is in
-                  subst (λ (i : Image). IsCreated settings was i) (sym (alone.only s.image h.1)) created,
+                  subst (λ (i : Image). IsNewStore settings was i) (sym (alone.only s.image h.1)) created,
             ));
         made = λ was now settled is.
             let told : IsSome (d.contents c) = is_some (d.contents c) is in

@@ -1,11 +1,3 @@
-pub mod OutcomeLemmas
-pub mod GiveLemmas
-pub mod ConsumerLemmas
-pub mod TidyLemmas
-pub mod PlanLemmas
-pub mod PlannedLemmas
-pub mod VerifyLemmas
-pub mod SessionLemmas
 pub mod MomentLemmas
 pub mod ServeLemmas
 pub mod ServingLaws

@@ -5,14 +5,12 @@ use Rattle.std.specs.Prelude.{codes}
 use Rattle.std.specs.List.{flat_map, zip}
 use Rattle.nx_host.specs.Disk.{Image}
 use Rattle.nx_script.specs.declared.command.Command.{Command}
-use Rattle.nx_script.specs.declared.command.LoadBody.{LoadBody}
-use Rattle.nx_script.specs.declared.command.Command.TheVariants.{Load, Discard, Names, Export, Insert, Delete, Retext, Get, Layout, SetRule, Rules, Checkpoint, Bad}
 use Rattle.nx_script.specs.declared.reply.Reply.{Reply}
 use Rattle.nx_script.specs.declared.reply.Reply.TheVariants as reply
 use Rattle.nx_script.specs.Reply.{reply_text, doc_line, part_line, rule_line}
 use Rattle.nx_state.specs.State.{State}
 use Rattle.nx_state.specs.Stands.{Recovers}
-use Rattle.nx_store.specs.Step.{IsStep}
+use Rattle.nx_store.specs.Carried.{StoreStep}
 use Rattle.nx_store.specs.Store.{IsOf}
 use Rattle.nx_front.specs.Serving.{Turn, IsRun, state_after, commands_of, texts_of, BeginsWith, AreWholeReplies, IsMoment}
 use Rattle.nx_front.specs.Conversation.{IsReached}
@@ -20,7 +18,7 @@ use Rattle.nx_front.specs.Conversation.{IsReached}
 -- One turn more:
 
 -- it is a step from the state after all others
-pub run_more : (state : State) (turns : List Turn) (turn : Turn) → IsRun state turns → IsStep (state_after state turns) turn.command turn.reply turn.next → IsRun state (turns ++ turn ∷ [])
+pub run_more : (state : State) (turns : List Turn) (turn : Turn) → IsRun state turns → StoreStep (state_after state turns) turn.command turn.reply turn.next → IsRun state (turns ++ turn ∷ [])
 run_more state [] turn run step = (step, tt)
 run_more state (t ∷ ts) turn run step = (run.0, run_more t.next ts turn run.1 step)
 
@@ -50,42 +48,6 @@ reply_some (reply.Exported text) = dot_behind text
 reply_some (reply.Laid parts weights) = dot_behind (flat_map part_line (zip parts weights))
 reply_some (reply.Rules rules) = dot_behind (flat_map rule_line rules)
 reply_some (reply.Refused error) = omega arith
-
--- `load` alone changes a state:
-
-abbrev pub IsQuiet : Command → Type 0
-IsQuiet (Load name body) = ⊥
-IsQuiet _ = Unit {0}
-
-pub quiet : (command : Command) → ((name : List ℕ) (body : LoadBody) → command ≡ Load name body → ⊥) → IsQuiet command
-quiet (Load name body) other = other name body refl
-quiet (Discard name) other = tt
-quiet Names other = tt
-quiet (Export name) other = tt
-quiet (Insert name path line) other = tt
-quiet (Delete name path) other = tt
-quiet (Retext name path text) other = tt
-quiet (Get name path) other = tt
-quiet (Layout name) other = tt
-quiet (SetRule rule) other = tt
-quiet Rules other = tt
-quiet Checkpoint other = tt
-quiet Bad other = tt
-
-pub stays : (state : State) (command : Command) (reply : Reply) (next : State) → IsQuiet command → IsStep state command reply next → next ≡ state
-stays state (Load name body) reply next calm step = absurd calm
-stays state (Discard name) reply next calm step = step.1
-stays state Names reply next calm step = step.1
-stays state (Export name) reply next calm step = step.1
-stays state (Insert name path line) reply next calm step = step.1
-stays state (Delete name path) reply next calm step = step.1
-stays state (Retext name path text) reply next calm step = step.1
-stays state (Get name path) reply next calm step = step.1
-stays state (Layout name) reply next calm step = step.1
-stays state (SetRule rule) reply next calm step = step.1
-stays state Rules reply next calm step = step.1
-stays state Checkpoint reply next calm step = step.1
-stays state Bad reply next calm step = step.1
 
 -- Moments:
 

@@ -1,5 +1,5 @@
 -- A script over a store: turns that are had, and what was given of their replies.
-use Rattle.std.proofs.Common.{◌≡◌, ◌⊎◌, inl, inr, ℕ, ◌+◌, ◌-◌, ◌<◌, ◌≤◌, List, [], ◌∷◌, ◌++◌, take, length, Option, None, Some, IsSome, Result, Ok, Err, refl, sym, ap, ◌∙◌, subst, arith, append_assoc, append-nil, length-append}
+use Rattle.std.proofs.Common.{◌≡◌, false, ◌⊎◌, inl, inr, ℕ, ◌+◌, ◌-◌, ◌<◌, ◌≤◌, List, [], ◌∷◌, ◌++◌, take, length, Option, None, Some, IsSome, Result, Ok, Err, refl, sym, ap, ◌∙◌, subst, arith, append_assoc, append-nil, length-append}
 use Rattle.std.proofs.lemmas.List.{take_all, take-append-le}
 use Rattle.std.proofs.Math.Seq.{take-append-add}
 use Rattle.nx_host.specs.declared.disk.Disk.{Ghosts}
@@ -17,18 +17,20 @@ use Rattle.nx_state.specs.State.{State}
 use Rattle.nx_store.specs.declared.store.Store.{Store}
 use Rattle.nx_store.specs.declared.error.EngineError.{EngineError}
 use Rattle.nx_store.specs.declared.error.EngineError.TheVariants as engine
-use Rattle.nx_store.specs.Step.{IsStep}
+use Rattle.nx_store.specs.Carried.{StoreStep}
 use Rattle.nx_store.specs.Store.{Turn as StoreTurn, IsAt, IsOf, IsOfEither, Shows, ShowsAnswer, ShowsGiven, IsGiven, IsApplied, IsAnswered, IsExported, TakesNone, NotApplied}
 use Rattle.nx_store.proofs.AtLemmas.{at_beside, at_image}
-use Rattle.nx_front.specs.declared.status.Status.TheVariants.{NoMemory}
-use Rattle.nx_front.specs.declared.give.GiveError.{GiveError}
-use Rattle.nx_front.specs.declared.give.GiveError.TheVariants as give_error
-use Rattle.nx_front.specs.TakeError.{status_of_give_error, status_of_engine}
-use Rattle.nx_front.specs.Outcome.{Given}
+use Rattle.nx_store.proofs.CaseLemmas.{quiet_leaves}
+use Rattle.nx_steps.specs.Step.{may_change}
+use Rattle.nx_filters.specs.declared.status.Status.TheVariants.{NoMemory}
+use Rattle.nx_filters.specs.declared.give.GiveError.{GiveError}
+use Rattle.nx_filters.specs.declared.give.GiveError.TheVariants as give_error
+use Rattle.nx_filters.specs.TakeError.{status_of_give_error}
+use Rattle.nx_filters.specs.Outcome.{Given}
 use Rattle.nx_front.specs.Serving.{Turn, state_after, commands_of, texts_of}
-use Rattle.nx_front.specs.Conversation.{IsReached, ShowsReached, HasRun, HasServed, HasBegun, Answers, Begins, StopsShort, IsStopped}
-use Rattle.nx_front.proofs.OutcomeLemmas.{kept_appends, gives_appends, keeps_of}
-use Rattle.nx_front.proofs.MomentLemmas.{run_more, after_more, texts_more, commands_more, longer, last, le_or, IsQuiet, stays}
+use Rattle.nx_front.specs.Conversation.{IsReached, ShowsReached, HasRun, HasServed, HasBegun, Answers, Begins, StopsShort, IsStopped, status_of_engine}
+use Rattle.nx_filters.proofs.OutcomeLemmas.{kept_appends, gives_appends, keeps_of}
+use Rattle.nx_front.proofs.MomentLemmas.{run_more, after_more, texts_more, commands_more, longer, last, le_or}
 
 -- What is given:
 
@@ -104,7 +106,7 @@ module _ {D : Type 0} {d : Ghosts D} where
 
   -- Behind what the block has comes the reply of a turn that changes nothing.
   served_quietly : {first now : D} {state : State} {turns : List Turn} {store : Store} {block : List ℕ} (turn : Turn) → HasServed d state turns store block first now →
-      IsStep (state_after state turns) turn.command turn.reply turn.next → turn.next ≡ state_after state turns →
+      StoreStep (state_after state turns) turn.command turn.reply turn.next → turn.next ≡ state_after state turns →
       HasServed d state (turns ++ turn ∷ []) store (block ++ reply_text turn.reply) first now
   served_quietly {first = first} {now = now} {state = state} {turns = turns} {store = store} {block = block} turn served step same =
       let text = reply_text turn.reply in
@@ -180,7 +182,7 @@ module _ {D : Type 0} {d : Ghosts D} where
 
   -- the moments of a turn that may change the state, once all replies before it are out
   run_loudly : {first now next : D} {state : State} {turns : List Turn} {store : Store} {block : List ℕ} (turn : Turn) → HasServed d state turns store block first now → block ≡ [] →
-      IsStep (state_after state turns) turn.command turn.reply turn.next →
+      StoreStep (state_after state turns) turn.command turn.reply turn.next →
       Elapses d.moment d.stood_since now next (ShowsAnswer (d.beside now).output (state_after state turns) (reply_text turn.reply) turn.next) →
       HasRun d state (turns ++ turn ∷ []) first next
   run_loudly {first = first} {now = now} {state = state} {turns = turns} turn served none step time = record {
@@ -190,7 +192,7 @@ module _ {D : Type 0} {d : Ghosts D} where
 
   -- The reply of a turn that may change the state is given at once.
   served_loudly : {first now next : D} {state : State} {turns : List Turn} {store store' : Store} {block : List ℕ} (turn : Turn) → HasServed d state turns store block first now → block ≡ [] →
-      IsStep (state_after state turns) turn.command turn.reply turn.next → IsAt d store' next turn.next → Appends (reply_text turn.reply) (d.beside now).output (d.beside next).output →
+      StoreStep (state_after state turns) turn.command turn.reply turn.next → IsAt d store' next turn.next → Appends (reply_text turn.reply) (d.beside now).output (d.beside next).output →
       Elapses d.moment d.stood_since now next (ShowsAnswer (d.beside now).output (state_after state turns) (reply_text turn.reply) turn.next) →
       HasServed d state (turns ++ turn ∷ []) store' block first next
   served_loudly {first = first} {now = now} {next = next} {state = state} {turns = turns} {store' = store'} {block = block} turn served none step at appends time =
@@ -271,12 +273,12 @@ module _ {D : Type 0} {d : Ghosts D} where
       (shows_gives d now next (state_after state turns) block (quiet_shows d now next (state_after state turns) after same shows))
 
   -- ... and its reply stands behind what the block has
-  pub quiet_answers : {now next : D} {store store' : Store} {block left : List ℕ} {P : Image → Type 0} (command : Command) (reply : Reply) → IsQuiet command → left ≡ block ++ reply_text reply →
+  pub quiet_answers : {now next : D} {store store' : Store} {block left : List ℕ} {P : Image → Type 0} (command : Command) (reply : Reply) → may_change command ≡ false → left ≡ block ++ reply_text reply →
       WritesAlone d now next P → ((state : State) → IsAt d store now state → IsSome (d.contents next) → IsApplied d (Ok reply) state command store' now next) →
       Answers d command store store' block left now next
   quiet_answers {now = now} {next = next} {store' = store'} {block = block} command reply calm is alone applies first state turns served told =
       let (after, step, at, shows) = applies (state_after state turns) served.at told in
-      let same = stays (state_after state turns) command reply after calm step in
+      let same = quiet_leaves command calm (state_after state turns) after reply step in
       let turn : Turn = record { command = command; reply = reply; next = after } in (
         turn,
         refl,
@@ -284,15 +286,15 @@ module _ {D : Type 0} {d : Ghosts D} where
       )
 
   -- ... but for the text of its reply
-  pub quiet_pushless : {now next : D} {store store' : Store} {block : List ℕ} (command : Command) (reply : Reply) → IsQuiet command →
+  pub quiet_pushless : {now next : D} {store store' : Store} {block : List ℕ} (command : Command) (reply : Reply) → may_change command ≡ false →
       ((state : State) → IsAt d store now state → IsSome (d.contents next) → IsApplied d (Ok reply) state command store' now next) → Begins d command NoMemory store block now next
   quiet_pushless {now = now} {next = next} {block = block} command reply calm applies first state turns served told =
       let (after, step, at, shows) = applies (state_after state turns) served.at told in
       let before = state_after state turns in
-      let same = stays before command reply after calm step in
+      let same = quiet_leaves command calm before after reply step in
       (tt, begun_none turns command (run_given served (shows_gives d now next before block (quiet_shows d now next before after same shows))))
 
-  quiet_stops : {first now next : D} {store : Store} {state : State} {turns : List Turn} {block : List ℕ} (store' : Store) (command : Command) (e : EngineError) → IsQuiet command →
+  quiet_stops : {first now next : D} {store : Store} {state : State} {turns : List Turn} {block : List ℕ} (store' : Store) (command : Command) (e : EngineError) → may_change command ≡ false →
       HasServed d state turns store block first now → IsApplied d (Err e) (state_after state turns) command store' now next →
       StopsShort (status_of_engine e) × HasBegun d state (commands_of turns ++ command ∷ []) first next
   quiet_stops {now = now} {next = next} {state = state} {turns = turns} {block = block} store' command engine.Memory calm served (at, shows) =
@@ -301,7 +303,7 @@ module _ {D : Type 0} {d : Ghosts D} where
       (tt, begun_none turns command (run_given served (shows_gives d now next (state_after state turns) block shows)))
   quiet_stops {now = now} {next = next} {state = state} {turns = turns} {block = block} store' command engine.Disk calm served (inr (turn, shows)) =
       let before = state_after state turns in
-      let same = stays before command turn.reply turn.next calm turn.step in
+      let same = quiet_leaves command calm before turn.next turn.reply turn.step in
       (tt, begun_none turns command (run_given served (shows_gives d now next before block (quiet_shows d now next before turn.next same shows))))
   quiet_stops store' command engine.Write calm served applied = absurd applied
   quiet_stops store' command engine.Exists calm served applied = absurd applied
@@ -309,7 +311,7 @@ module _ {D : Type 0} {d : Ghosts D} where
   quiet_stops store' command (engine.Damaged page) calm served applied = absurd applied
   quiet_stops store' command engine.Ended calm served applied = absurd applied
 
-  pub quiet_begins : {now next : D} {store : Store} {block : List ℕ} (store' : Store) (command : Command) (e : EngineError) → IsQuiet command →
+  pub quiet_begins : {now next : D} {store : Store} {block : List ℕ} (store' : Store) (command : Command) (e : EngineError) → may_change command ≡ false →
       ((state : State) → IsAt d store now state → IsSome (d.contents next) → IsApplied d (Err e) state command store' now next) → Begins d command (status_of_engine e) store block now next
   quiet_begins store' command e calm applies first state turns served told = quiet_stops store' command e calm served (applies (state_after state turns) served.at told)
 

@@ -2,15 +2,15 @@
 use Rattle.std.proofs.Common.{◌≡◌, inl, inr, ◌⊎◌, ℕ, List, take, Some, refl, sym, ◌∙◌, subst}
 use Rattle.nx_host.specs.declared.disk.Disk.{Ghosts}
 use Rattle.nx_host.specs.Disk.{Image}
-use Rattle.nx_wal.specs.Reading.{mark}
+use Rattle.nx_replay.specs.Log.{mark}
 use Rattle.nx_holdings.specs.declared.header.Header.{Header}
 use Rattle.nx_holdings.specs.Header.{header_bytes}
 use Rattle.nx_script.proofs.OneList.{one_list}
 use Rattle.nx_state.proofs.OneLemmas.{one_state}
-use Rattle.nx_front.specs.declared.status.Status.{Status}
-use Rattle.nx_front.specs.declared.status.Status.TheVariants.{Done, Usage, Refused, DiskFault, ReadFault, WriteFault, NoMemory, NotAStore, Damaged, TooMuch}
+use Rattle.nx_filters.specs.declared.status.Status.{Status}
+use Rattle.nx_filters.specs.declared.status.Status.TheVariants.{Done, Usage, Refused, DiskFault, ReadFault, WriteFault, NoMemory, NotAStore, Damaged, TooMuch}
 use Rattle.nx_front.specs.Serving.{Serves, IsCalm, IsCaused, EndsWell, EndsWithoutHeader, EndsServing, CompletesServing, ServingHoldsTogether, HasOneScript}
-use Rattle.nx_front.proofs.OutcomeLemmas.{not_too_much}
+use Rattle.nx_filters.proofs.OutcomeLemmas.{not_too_much}
 
 module _ {D : Type 0} {d : Ghosts D} {a b : D} where
   -- a run over a store in some state where all is well

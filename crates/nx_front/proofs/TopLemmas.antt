@@ -4,20 +4,20 @@ use Rattle.nx_host.specs.declared.disk.Disk.{Ghosts}
 use Rattle.nx_host.specs.Disk.{Beside}
 use Rattle.nx_host.specs.Input.{most_input}
 use Rattle.nx_host.proofs.OutputLemmas.{takes_nothing}
-use Rattle.nx_front.specs.declared.status.Status.{Status}
-use Rattle.nx_front.specs.declared.status.Status.TheVariants.{Done, Usage, Refused, DiskFault, ReadFault, WriteFault, NoMemory, NotAStore, Damaged, TooMuch}
+use Rattle.nx_filters.specs.declared.status.Status.{Status}
+use Rattle.nx_filters.specs.declared.status.Status.TheVariants.{Done, Usage, Refused, DiskFault, ReadFault, WriteFault, NoMemory, NotAStore, Damaged, TooMuch}
 use Rattle.nx_front.specs.declared.words.CommandLine.{CommandLine}
 use Rattle.nx_front.specs.declared.words.CommandLine.TheVariants.{Tidy, Plain, Run, Plan, Verify, Init}
-use Rattle.nx_front.specs.Outcome.{Meaning, RunsBeside, TakesFew, CountsGrow, Completes, HoldsTogether}
+use Rattle.nx_filters.specs.Outcome.{Meaning, RunsBeside, TakesFew, CountsGrow, Completes, HoldsTogether}
 use Rattle.nx_front.specs.Run.{IsCarriedOut, CompletesInput, IsCompleted, IsCoherent, Agrees}
-use Rattle.nx_front.specs.Plan.{IsLightInput, plan}
-use Rattle.nx_front.specs.Verify.{IsSoundInput, verify}
-use Rattle.nx_front.proofs.OutcomeLemmas.{completes}
-use Rattle.nx_front.proofs.TidyLemmas.{tidy_together, tidy_once}
-use Rattle.nx_front.proofs.SessionLemmas.{script_together, script_once}
+use Rattle.nx_filters.specs.Plan.{IsLightInput, plan}
+use Rattle.nx_filters.specs.Verify.{IsSoundInput, verify}
+use Rattle.nx_filters.proofs.OutcomeLemmas.{completes}
+use Rattle.nx_filters.proofs.TidyLemmas.{tidy_together, tidy_once}
+use Rattle.nx_filters.proofs.SessionLemmas.{script_together, script_once}
 use Rattle.nx_front.proofs.ServingLaws.{serving_completes, serving_together, one_script}
-use Rattle.nx_front.proofs.PlanLemmas.{plan_together, equal_plans, light_excludes}
-use Rattle.nx_front.proofs.VerifyLemmas.{verify_together, verify_once, excludes}
+use Rattle.nx_filters.proofs.PlanLemmas.{plan_together, equal_plans, light_excludes}
+use Rattle.nx_filters.proofs.VerifyLemmas.{verify_together, verify_once, excludes}
 use Rattle.nx_front.proofs.InitLemmas.{init_completes, init_not_usage, init_together, holds_nothing}
 
 module _ {D : Type 0} (d : Ghosts D) (a b : D) where

@@ -12,11 +12,13 @@ use Rattle.nx_script.specs.Commands.{AreCommands, AreWhole}
 use Rattle.nx_script.specs.Reply.{reply_text}
 use Rattle.nx_script.specs.Script.{HasGivenIn}
 use Rattle.nx_state.specs.State.{State}
+use Rattle.nx_store.specs.declared.error.EngineError.{EngineError}
+use Rattle.nx_store.specs.declared.error.EngineError.TheVariants as engine
 use Rattle.nx_store.specs.declared.store.Store.{Store}
 use Rattle.nx_store.specs.Store.{IsAt, IsOf}
-use Rattle.nx_front.specs.declared.status.Status.{Status}
-use Rattle.nx_front.specs.declared.status.Status.TheVariants.{Done, Usage, Refused, DiskFault, ReadFault, WriteFault, NoMemory, NotAStore, Damaged, TooMuch}
-use Rattle.nx_front.specs.Outcome.{TakesFew, CountsGrow, EndsWhole}
+use Rattle.nx_filters.specs.declared.status.Status.{Status}
+use Rattle.nx_filters.specs.declared.status.Status.TheVariants.{Done, Usage, Refused, DiskFault, ReadFault, WriteFault, NoMemory, NotAStore, Damaged, TooMuch}
+use Rattle.nx_filters.specs.Outcome.{TakesFew, CountsGrow, EndsWhole}
 use Rattle.nx_front.specs.Serving.{Turn, IsRun, state_after, commands_of, texts_of, ServesFrom}
 
 -- A moment of a run, turn by turn. Nothing of the first reply is out, and the image is of the state before it; or a part of it is, and the image is of the state
@@ -57,6 +59,16 @@ pub record IsConversing {D : Type 0} (d : Ghosts D) (begun : Store) (taken : Lis
   pub given : HasGivenIn script taken commands (d.beside first).input (d.beside now).input
   pub goes : GoesOn d first now
   pub served : (state : State) → IsAt d begun first state → IsSome (d.contents now) → (turns : List Turn) × (commands_of turns ≡ commands) × HasServed d state turns store block first now
+
+-- the status where the store stops a run
+abbrev pub status_of_engine : EngineError → Status
+status_of_engine engine.Disk = DiskFault
+status_of_engine engine.Write = WriteFault
+status_of_engine engine.NotAStore = NotAStore
+status_of_engine (engine.Damaged page) = Damaged page
+status_of_engine engine.Memory = NoMemory
+status_of_engine engine.Ended = NoMemory
+status_of_engine engine.Exists = NoMemory
 
 -- with one of these a command isn't answered, from a state that the store was at
 abbrev pub StopsShort : Status → Type 0

@@ -9,12 +9,12 @@ use Rattle.nx_replay.specs.Log.{replay, HasSame}
 use Rattle.nx_holdings.specs.declared.header.Settings.{Settings}
 use Rattle.nx_holdings.specs.Holdings.{Held, Holds}
 use Rattle.nx_records.specs.Changes.{nothing_held}
-use Rattle.nx_records.specs.Refusals.{IsCreated}
+use Rattle.nx_records.specs.Refusals.{IsNewStore}
 use Rattle.nx_state.specs.State.{new_state}
 use Rattle.nx_state.specs.Stands.{Recovers}
-use Rattle.nx_front.specs.declared.status.Status.{Status}
-use Rattle.nx_front.specs.declared.status.Status.TheVariants.{Done, Refused, DiskFault, WriteFault, NoMemory}
-use Rattle.nx_front.specs.Outcome.{FailsGiving}
+use Rattle.nx_filters.specs.declared.status.Status.{Status}
+use Rattle.nx_filters.specs.declared.status.Status.TheVariants.{Done, Refused, DiskFault, WriteFault, NoMemory}
+use Rattle.nx_filters.specs.Outcome.{FailsGiving}
 
 -- the line for a store that was made
 abbrev pub made_line : List ℕ
@@ -34,7 +34,7 @@ HasPage image = (p : ℕ) × IsSome (replay image p)
 
 -- The image is as the disk was, or it is the new store, with these settings and nothing in it.
 abbrev pub IsOldOrNew : Settings → Image → Image → Type 0
-IsOldOrNew settings was i = HasSame was i ⊎ IsCreated settings was i
+IsOldOrNew settings was i = HasSame was i ⊎ IsNewStore settings was i
 
 -- At first the disk had one image and nothing unsynced, and now it still tells its contents: so this is said of that image.
 abbrev pub OfTheDisk : {D : Type 0} → Ghosts D → D → D → (Image → Type 0) → Type 0
@@ -50,13 +50,13 @@ IsMaking d settings old new s = Keeps (d.beside old).output s.output × OfTheDis
 
 -- a moment at which a prefix of `ok` was given, and the image is the new store
 abbrev pub IsMade : {D : Type 0} → Ghosts D → Settings → D → D → Stood → Type 0
-IsMade d settings old new s = AppendsPrefix made_line (d.beside old).output s.output × OfTheDisk d old new (λ was. IsCreated settings was s.image)
+IsMade d settings old new s = AppendsPrefix made_line (d.beside old).output s.output × OfTheDisk d old new (λ was. IsNewStore settings was s.image)
 
 -- The store was made, and then `ok` given: while a byte of it is out, each image is the new store, and so is the one that is left.
 pub record Makes {D : Type 0} (d : Ghosts D) (settings : Settings) (status : Status) (old new : D) : Type 0 where
   pub says : Says made_line Done status (d.beside old) (d.beside new)
   pub time : Elapses d.moment d.stood_since old new (λ s. IsMaking d settings old new s ⊎ IsMade d settings old new s)
-  pub made : (was now : Image) → IsSettled d old was → d.contents new ≡ Some now → IsSettled d new now × IsCreated settings was now
+  pub made : (was now : Image) → IsSettled d old was → d.contents new ≡ Some now → IsSettled d new now × IsNewStore settings was now
 
 -- The disk had pages. Both areas were left as they were, and the line was given that says so.
 pub record FindsPages {D : Type 0} (d : Ghosts D) (status : Status) (old new : D) : Type 0 where
@@ -97,10 +97,10 @@ CompletesInit was _ = ⊥
 -- What is said of a disk holds together: it has pages or none, an image is as it was or the new store, and what that holds is known.
 pub record InitHoldsTogether (settings : Settings) : Type 0 where
   pub one_outcome : (was : Image) → HasNoPage was → HasPage was → ⊥
-  pub one_disk : (was i : Image) → HasSame was i → IsCreated settings was i → ⊥
+  pub one_disk : (was i : Image) → HasSame was i → IsNewStore settings was i → ⊥
 
 -- What the disk was is no store, and the new store holds its settings, and nothing else.
 pub record HoldsNothing (settings : Settings) : Type 0 where
   pub absent : (was i : Image) → HasNoPage was → HasSame was i → Recovers i None
-  pub recovers : (was now : Image) → IsCreated settings was now → Recovers now (Some (new_state settings))
-  pub alone : (was now : Image) (held : Held) → IsCreated settings was now → Holds (replay now) held → held ≡ nothing_held settings
+  pub recovers : (was now : Image) → IsNewStore settings was now → Recovers now (Some (new_state settings))
+  pub alone : (was now : Image) (held : Held) → IsNewStore settings was now → Holds (replay now) held → held ≡ nothing_held settings

@@ -1,14 +1,5 @@
 pub mod CommandLine
-pub mod Refusal
-pub mod TakeError
-pub mod Outcome
-pub mod Consumer
-pub mod Tidy
-pub mod Session
 pub mod Serving
 pub mod Conversation
-pub mod Planned
-pub mod Plan
-pub mod Verify
 pub mod Init
 pub mod Run

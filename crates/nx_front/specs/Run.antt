@@ -2,15 +2,15 @@
 use Rattle.std.specs.Prelude.{ℕ, List}
 use Rattle.nx_host.specs.declared.disk.Disk.{Ghosts}
 use Rattle.nx_host.specs.Disk.{Image, Beside}
-use Rattle.nx_front.specs.declared.status.Status.{Status}
+use Rattle.nx_filters.specs.declared.status.Status.{Status}
 use Rattle.nx_front.specs.declared.words.CommandLine.{CommandLine}
 use Rattle.nx_front.specs.declared.words.CommandLine.TheVariants.{Tidy, Plain, Run, Plan, Verify, Init}
-use Rattle.nx_front.specs.Outcome.{Meaning, HasOneText, RunsBeside, HoldsTogether, IsUndisturbed, Completes}
-use Rattle.nx_front.specs.Tidy.{tidy}
-use Rattle.nx_front.specs.Session.{script_run}
+use Rattle.nx_filters.specs.Outcome.{Meaning, HasOneText, RunsBeside, HoldsTogether, IsUndisturbed, Completes}
+use Rattle.nx_filters.specs.Tidy.{tidy}
+use Rattle.nx_filters.specs.Session.{script_run}
 use Rattle.nx_front.specs.Serving.{Serves, CompletesServing, ServingHoldsTogether, HasOneScript}
-use Rattle.nx_front.specs.Plan.{plan, HasEqualPlans}
-use Rattle.nx_front.specs.Verify.{verify}
+use Rattle.nx_filters.specs.Plan.{plan, HasEqualPlans}
+use Rattle.nx_filters.specs.Verify.{verify}
 use Rattle.nx_front.specs.Init.{Initializes, IsUntroubled, CompletesInit, InitHoldsTogether, HoldsNothing}
 
 -- how a command line is carried out

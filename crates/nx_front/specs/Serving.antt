@@ -7,19 +7,18 @@ use Rattle.nx_host.specs.Host.{Takes, Appends}
 use Rattle.nx_host.specs.Input.{most_input}
 use Rattle.nx_host.specs.Still.{IsSettled, IsStill}
 use Rattle.nx_host.specs.Time.{Stood, Elapses}
-use Rattle.nx_replay.specs.Log.{replay}
-use Rattle.nx_wal.specs.Reading.{HasMark}
+use Rattle.nx_records.specs.Records.{HasHeader}
 use Rattle.nx_script.specs.declared.command.Command.{Command}
 use Rattle.nx_script.specs.declared.reply.Reply.{Reply}
 use Rattle.nx_script.specs.Commands.{AreCommands, AreWhole}
 use Rattle.nx_script.specs.Reply.{reply_text}
 use Rattle.nx_state.specs.State.{State}
 use Rattle.nx_state.specs.Stands.{Recovers}
-use Rattle.nx_store.specs.Step.{IsStep}
-use Rattle.nx_front.specs.declared.status.Status.{Status}
-use Rattle.nx_front.specs.declared.status.Status.TheVariants.{Done, Usage, Refused, DiskFault, ReadFault, WriteFault, NoMemory, NotAStore, Damaged, TooMuch}
-use Rattle.nx_front.specs.Session.{AreFirst}
-use Rattle.nx_front.specs.Outcome.{TakesFew, CountsGrow, EndsWhole}
+use Rattle.nx_store.specs.Carried.{StoreStep}
+use Rattle.nx_filters.specs.declared.status.Status.{Status}
+use Rattle.nx_filters.specs.declared.status.Status.TheVariants.{Done, Usage, Refused, DiskFault, ReadFault, WriteFault, NoMemory, NotAStore, Damaged, TooMuch}
+use Rattle.nx_filters.specs.Session.{AreFirst}
+use Rattle.nx_filters.specs.Outcome.{TakesFew, CountsGrow, EndsWhole}
 
 -- a command, its reply, and the state after it
 pub record Turn : Type 0 where
@@ -30,7 +29,7 @@ pub record Turn : Type 0 where
 -- Each turn is a step: the first one from this state on, each other from the state after the one before it.
 abbrev pub IsRun : State → List Turn → Type 0
 IsRun state [] = Unit {0}
-IsRun state (turn ∷ turns) = IsStep state turn.command turn.reply turn.next × IsRun turn.next turns
+IsRun state (turn ∷ turns) = StoreStep state turn.command turn.reply turn.next × IsRun turn.next turns
 
 -- the state after all turns
 abbrev pub state_after : State → List Turn → State
@@ -100,7 +99,7 @@ IsCaused d ReadFault old new =
     Rose (d.beside old).in_faults (d.beside new).in_faults × (taken : List ℕ) × (length taken < most_input) × Takes taken (d.beside old).input (d.beside new).input
 IsCaused d WriteFault old new = Rose (d.beside old).out_faults (d.beside new).out_faults
 IsCaused d NoMemory old new = Unit {0}
-IsCaused d NotAStore old new = (was : Image) → IsSettled d old was → HasMark (replay was) → ⊥
+IsCaused d NotAStore old new = (was : Image) → IsSettled d old was → HasHeader was → ⊥
 IsCaused d (Damaged page) old new = (was : Image) (state : State) → IsSettled d old was → IsSome (d.contents new) → Recovers was (Some state) → ⊥
 IsCaused d TooMuch old new = (taken : List ℕ) × (length taken ≡ most_input) × Takes taken (d.beside old).input (d.beside new).input
 IsCaused d Usage old new = ⊥
@@ -117,7 +116,7 @@ EndsWithoutHeader _ = ⊥
 pub record Serves {D : Type 0} (d : Ghosts D) (status : Status) (old new : D) : Type 0 where
   pub from : (was : Image) (state : State) → IsSettled d old was → IsSome (d.contents new) → Recovers was (Some state) → ServesFrom d state status old new
   pub cause : IsCaused d status old new
-  pub no_header : (was : Image) → IsSettled d old was → (HasMark (replay was) → ⊥) → EndsWithoutHeader status × IsStill d old new
+  pub no_header : (was : Image) → IsSettled d old was → (HasHeader was → ⊥) → EndsWithoutHeader status × IsStill d old new
   pub bounded : TakesFew (d.beside old).input (d.beside new).input
   pub counts : CountsGrow (d.beside old) (d.beside new)
   pub faults_later : d.faults old ≤ d.faults new
@@ -142,12 +141,12 @@ EndsWell _ = ⊥
 -- Where all is well, a run over a store in some state ends with all commands answered, unless memory runs out; and one over a disk without a header says so.
 pub record CompletesServing {D : Type 0} (d : Ghosts D) (status : Status) (old new : D) : Type 0 where
   pub store : (was : Image) (input : List ℕ) (state : State) → IsCalm d was input old new → Recovers was (Some state) → EndsWell status
-  pub no_store : (was : Image) (input : List ℕ) → IsCalm d was input old new → (HasMark (replay was) → ⊥) → (status ≡ NotAStore) ⊎ (status ≡ NoMemory)
+  pub no_store : (was : Image) (input : List ℕ) → IsCalm d was input old new → (HasHeader was → ⊥) → (status ≡ NotAStore) ⊎ (status ≡ NoMemory)
 
 -- What is said of a disk holds together: it holds one state at most, and one without a header holds none.
 pub record ServingHoldsTogether : Type 0 where
   pub one_state : (image : Image) (first second : State) → Recovers image (Some first) → Recovers image (Some second) → first ≡ second
-  pub header : (image : Image) (state : State) → Recovers image (Some state) → HasMark (replay image)
+  pub header : (image : Image) (state : State) → Recovers image (Some state) → HasHeader image
 
 -- an input has one list of commands
 abbrev pub HasOneScript : Type 0

@@ -1,18 +1,20 @@
 // A run of a script over a store.
-ghost use Rattle.std.specs.Prelude.{◌≡◌, ℕ, List, OnOk, IfErr};
+ghost use Rattle.std.specs.Prelude.{◌≡◌, ℕ, List, false, OnOk, IfErr};
 ghost use Rattle.nx_script.specs.declared.command.Command.{Command};
 ghost use Rattle.nx_script.specs.Commands.{CanCome};
 ghost use Rattle.nx_script.specs.Script.{HasGiven, IsDrained};
+ghost use Rattle.nx_steps.specs.Step.{may_change};
 ghost use Rattle.nx_store.specs.Store.{TakesNone};
-ghost use Rattle.nx_front.specs.Session.{session_status};
+ghost use Rattle.nx_filters.specs.Session.{session_status};
 ghost use Rattle.nx_front.specs.Serving.{Serves};
-ghost use Rattle.nx_front.specs.Conversation.{Answers, Begins, IsStopped, AnswersAll, EndsConversing, Converses};
+ghost use Rattle.nx_front.specs.Conversation.{Answers, Begins, IsStopped, AnswersAll, EndsConversing, Converses, status_of_engine};
 
 use crate::Status;
-use crate::give::{BLOCK, give_block};
+use nx_filters::{BLOCK, give_block};
 use nx_host::{Disk, Host};
 use nx_script::{Command, Script, push_reply};
-use nx_store::Store;
+use nx_steps::may_change;
+use nx_store::{EngineError, Store};
 use nx_tree::Bytes;
 use std::alloc::Global;
 
@@ -26,7 +28,7 @@ pub fn serve<H: Host>(alloc: Global, host: &mut H) -> Status
             Ok(()) => Status::Done,
             Err(status) => status,
         },
-        Err(error) => Status::from(error),
+        Err(error) => status_of(error),
     }
 }
 
@@ -73,7 +75,7 @@ fn answer_ready<H: Host>(
 }
 
 // Answers a command: adds the reply's text to the block, or gives what the block has and a prefix of the
-// text where it is long. All replies before a command that may change the disk are given first, and its
+// text where it is long. All replies before a command that may write to the disk are given first, and its
 // own at once.
 fn answer<H: Host>(
     host: &mut H,
@@ -87,16 +89,83 @@ fn answer<H: Host>(
     ensures cause { IfErr result (λ status. IsStopped ⟦<H as Disk>⟧ status host.old host.new) }
     ensures beside { TakesNone ⟦<H as Disk>⟧ host.old host.new }
 {
+    if writes(&command) {
+        return answer_alone(host, store, block, command);
+    }
+    answer_behind(host, store, block, command)
+}
+
+// ... one that may write to the disk.
+fn answer_alone<H: Host>(
+    host: &mut H,
+    store: &mut Store,
+    block: &mut Bytes,
+    command: Command,
+) -> Result<(), Status>
+    requires { CanCome command }
+    ensures ok { OnOk result (Answers ⟦<H as Disk>⟧ command store.old store.new block.old block.new host.old host.new) }
+    ensures err { IfErr result (λ status. Begins ⟦<H as Disk>⟧ command status store.old block.old host.old host.new) }
+    ensures cause { IfErr result (λ status. IsStopped ⟦<H as Disk>⟧ status host.old host.new) }
+    ensures beside { TakesNone ⟦<H as Disk>⟧ host.old host.new }
+{
+    give_block(host, block)?;
+    if let Err(error) = store.answer(host, command) {
+        return Err(status_of(error));
+    }
+    Ok(())
+}
+
+// ... one that leaves what is stored.
+fn answer_behind<H: Host>(
+    host: &mut H,
+    store: &mut Store,
+    block: &mut Bytes,
+    command: Command,
+) -> Result<(), Status>
+    requires can_come { CanCome command }
+    requires leaves { may_change command ≡ false }
+    ensures ok { OnOk result (Answers ⟦<H as Disk>⟧ command store.old store.new block.old block.new host.old host.new) }
+    ensures err { IfErr result (λ status. Begins ⟦<H as Disk>⟧ command status store.old block.old host.old host.new) }
+    ensures cause { IfErr result (λ status. IsStopped ⟦<H as Disk>⟧ status host.old host.new) }
+    ensures beside { TakesNone ⟦<H as Disk>⟧ host.old host.new }
+{
     match command {
-        Command::Load { .. } | Command::Checkpoint => {
-            give_block(host, block)?;
-            store.answer(host, command)?;
+        Command::Export { name } => {
+            if let Err(error) = store.export_into(host, name.as_slice(), block) {
+                return Err(status_of(error));
+            }
         }
-        Command::Export { name } => store.export_into(host, name.as_slice(), block)?,
         command => {
-            let reply = store.apply(host, command)?;
+            let reply = match store.apply(host, command) {
+                Ok(reply) => reply,
+                Err(error) => return Err(status_of(error)),
+            };
             push_reply(block, &reply)?;
         }
     }
     Ok(())
+}
+
+// Whether the command may write to the disk: it may change what is stored, or moves the log's pages.
+fn writes(command: &Command) -> bool
+    ensures { result ≡ false → may_change command.now ≡ false }
+{
+    match command {
+        Command::Checkpoint => true,
+        other => may_change(other),
+    }
+}
+
+// How a run ends that the store stops.
+fn status_of(error: EngineError) -> Status
+    ensures { result ≡ status_of_engine error }
+{
+    // A store that runs is never told that it has ended, and none is made here.
+    match error {
+        EngineError::Disk => Status::DiskFault,
+        EngineError::Write => Status::WriteFault,
+        EngineError::NotAStore => Status::NotAStore,
+        EngineError::Damaged { page } => Status::Damaged { page },
+        EngineError::Memory | EngineError::Ended | EngineError::Exists => Status::NoMemory,
+    }
 }

@@ -1,23 +1,18 @@
 // The top call.
 ghost use Rattle.std.specs.Prelude.{◌≡◌, ◌≤◌, ◌⊎◌, ◌↔◌, ℕ, List, None, Some};
 ghost use Rattle.nx_front.specs.CommandLine.{command_line};
-ghost use Rattle.nx_front.specs.Outcome.{TakesFew, CountsGrow, IsUndisturbed, RunsBeside};
+ghost use Rattle.nx_filters.specs.Outcome.{TakesFew, CountsGrow, IsUndisturbed};
 ghost use Rattle.nx_front.specs.Run.{IsCarriedOut, IsCompleted};
-ghost use Rattle.nx_front.specs.Tidy.{tidy};
-ghost use Rattle.nx_front.specs.Plan.{IsLightInput};
-ghost use Rattle.nx_front.specs.Verify.{IsSoundInput};
+ghost use Rattle.nx_filters.specs.Plan.{IsLightInput};
+ghost use Rattle.nx_filters.specs.Verify.{IsSoundInput};
 ghost use Rattle.nx_front.specs.declared.words.CommandLine.{CommandLine};
 ghost use Rattle.nx_front.specs.declared.words.CommandLine.TheVariants.{Plan, Verify};
 
-use crate::give::{end_after, give_text, status_of};
 use crate::init::init;
-use crate::plan::plan;
-use crate::read::read;
 use crate::serve::serve;
-use crate::session::session;
-use crate::verify::verify;
 use crate::words::{CommandLine, command_line};
 use crate::{Status, Words};
+use nx_filters::{plan, session, tidy, verify};
 use nx_host::{Disk, Host};
 use std::alloc::Global;
 
@@ -66,15 +61,5 @@ pub fn run<H: Host>(alloc: Global, words: &Words, host: &mut H) -> Status
         Some(CommandLine::Verify(k)) => verify(alloc, host, k),
         Some(CommandLine::Init(settings)) => init(alloc, host, settings),
         None => Status::Usage,
-    }
-}
-
-// Reads the document and gives its canonical text.
-fn tidy<H: Host>(alloc: Global, host: &mut H) -> Status
-    ensures { RunsBeside ⟦<H as Disk>⟧ tidy result host.old host.new }
-{
-    match read(alloc, host) {
-        Ok(tree) => status_of(give_text(alloc, host, &tree), Status::Done),
-        Err(stop) => end_after(alloc, host, stop),
     }
 }

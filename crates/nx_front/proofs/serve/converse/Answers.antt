@@ -3,10 +3,10 @@ use Rattle.std.proofs.lemmas.Bool.{MatchBool-at_true}
 use Rattle.std.proofs.lemmas.Result.{err_from_is_err_and}
 use Rattle.nx_script.specs.Commands.{AreCommands, AreWhole}
 use Rattle.nx_script.proofs.ScriptLemmas.{stops}
-use Rattle.nx_front.specs.declared.status.Status.{Status}
-use Rattle.nx_front.specs.declared.status.Status.TheVariants.{NoMemory}
-use Rattle.nx_front.specs.TakeError.{status_of_script, status_of_give_error}
-use Rattle.nx_front.specs.Session.{session_status}
+use Rattle.nx_filters.specs.declared.status.Status.{Status}
+use Rattle.nx_filters.specs.declared.status.Status.TheVariants.{NoMemory}
+use Rattle.nx_filters.specs.TakeError.{status_of_script, status_of_give_error}
+use Rattle.nx_filters.specs.Session.{session_status}
 use Rattle.nx_front.specs.Conversation.{Converses}
 use Rattle.nx_front.proofs.ConversationLemmas.{conversing_none, conversing_given, conversing_filled, converses_blocked, converses_done, converses_unfilled, converses_unbegun}
 use Rattle.nx_front.proofs.serve.converse.Goals as goal

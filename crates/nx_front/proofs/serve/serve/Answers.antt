@@ -1,6 +1,6 @@
 use Rattle.std.proofs.Common.{sym, ap, subst}
-use Rattle.nx_front.specs.declared.status.Status.{Status}
-use Rattle.nx_front.specs.Session.{session_status}
+use Rattle.nx_filters.specs.declared.status.Status.{Status}
+use Rattle.nx_filters.specs.Session.{session_status}
 use Rattle.nx_front.specs.Serving.{Serves}
 use Rattle.nx_front.proofs.ConversationLemmas.{serves_opened, serves_unopened}
 use Rattle.nx_front.proofs.serve.serve.Goals as goal
@@ -17,5 +17,5 @@ returns-in-Ok g c =
 
 pub returns : goal.returns
 returns g c =
-    subst (λ (s : Status). Serves g.H.Disk s c.args.host.now c.open.new.disk) (sym c.from.ensures)
+    subst (λ (s : Status). Serves g.H.Disk s c.args.host.now c.open.new.disk) (sym c.status_of.ensures)
     (serves_unopened g.H.Disk c.args.host.now c.open.new.disk c.in-Err.error c.open.ensures.still c.in-Err.ensures.refused)

@@ -1,0 +1,9 @@
+pub mod Refusal
+pub mod TakeError
+pub mod Outcome
+pub mod Consumer
+pub mod Tidy
+pub mod Session
+pub mod Planned
+pub mod Plan
+pub mod Verify
