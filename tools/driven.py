@@ -1,5 +1,6 @@
 """The files of a store that nx_wal_driver fills, read and made without it: for tools/test-kills and tools/test-disk."""
 
+import functools
 import os
 import struct
 import subprocess
@@ -7,9 +8,10 @@ import subprocess
 PAGE = 8192
 MOST_PAGES = 16_777_216
 ROOT = os.path.join(os.path.dirname(os.path.abspath(__file__)), "..")
-DRIVER = os.path.join(ROOT, "crates", "nx_wal_driver", "out", "nx_wal_driver")
+DRIVER = os.environ.get("DRIVER", os.path.join(ROOT, "crates", "nx_wal_driver", "out", "nx_wal_driver"))
 
 
+@functools.lru_cache(maxsize=10_000)
 def page_bytes(page, group, seed):
     """The page that a group of a run with this seed writes."""
     return b"".join(b"NATIXST1" + struct.pack(">QQLL", seed, group, page, unit) for unit in range(PAGE // 32))
