@@ -2,7 +2,7 @@
 use Rattle.std.specs.Prelude.{◌≡◌, ℕ, ◌+◌, ◌*◌, List, IsPermutation}
 use Rattle.nx_tree.specs.Forest.{OrderedTree, nodes}
 use Rattle.nx_parts.specs.declared.interval.Interval.{Interval}
-use Rattle.nx_holdings.specs.Holdings.{Held}
+use Rattle.nx_records.specs.Words.{Held}
 use Rattle.nx_cuts.specs.Cut.{CutTree, tree_of, parts_of}
 use Rattle.nx_layouts.specs.Layout.{RecordPlace, Layout, places_of, whole, IsLaidOutAs}
 use Rattle.nx_hold.specs.Pieces.{PieceMap}

@@ -1,7 +1,7 @@
 // The catalog of records, loaded and saved.
 ghost use Rattle.std.specs.Prelude.{◌≡◌, ◌+◌, ◌≤◌, true, false, All, IfOk, IfErr, OnOk};
 ghost use Rattle.nx_host.specs.Still.{IsStill};
-ghost use Rattle.nx_holdings.specs.Holdings.{Held, chain_count};
+ghost use Rattle.nx_records.specs.Words.{Held, chain_count};
 ghost use Rattle.nx_records.specs.Records.{StandsFor, KeepsSaved, LeavesRecords, ComesTo, HasChanges, has_ended, catalog_length_of};
 ghost use Rattle.nx_records.specs.Changes.{SetsCatalog, catalog_needs};
 ghost use Rattle.nx_records.specs.Refusals.{NotRead, NotStored, RunsOn, EndNow};

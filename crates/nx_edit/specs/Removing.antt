@@ -2,7 +2,7 @@
 use Rattle.std.specs.Prelude.{◌≡◌, List, []}
 use Rattle.nx_host.specs.Disk.{Rose}
 use Rattle.nx_host.specs.declared.disk.Disk.{Ghosts}
-use Rattle.nx_holdings.specs.Holdings.{Held}
+use Rattle.nx_records.specs.Words.{Held}
 use Rattle.nx_records.specs.Records.{KeepsSaved}
 use Rattle.nx_records.specs.Refusals.{EndNow, RunsOn, HadEnded}
 use Rattle.nx_records.specs.declared.records.Records.{Records}

@@ -3,8 +3,7 @@ use Rattle.std.specs.Prelude.{ℕ, ◌/◌, ◌≤◌, Bool, false, not, ◌&&�
 use Rattle.std.specs.Str.{bytes_eq}
 use Rattle.std.specs.Option.{option_map}
 use Rattle.nx_pyx.specs.Field.{is_position, value_of}
-use Rattle.nx_holdings.specs.declared.header.Settings.{Settings}
-use Rattle.nx_holdings.specs.Header.{AreSettings}
+use Rattle.nx_records.specs.Words.{Settings, AreSettings}
 use Rattle.nx_front.specs.declared.words.CommandLine.{CommandLine}
 use Rattle.nx_front.specs.declared.words.CommandLine.TheVariants.{Tidy, Plain, Run, Plan, Verify, Init}
 

@@ -5,9 +5,7 @@ use Rattle.nx_host.specs.Disk.{Image, Beside, Keeps, Rose}
 use Rattle.nx_host.specs.Host.{Appends, AppendsPrefix}
 use Rattle.nx_host.specs.Time.{Stood, Elapses}
 use Rattle.nx_host.specs.Still.{IsStill, WritesAlone, IsSettled}
-use Rattle.nx_replay.specs.Log.{replay, HasSame}
-use Rattle.nx_holdings.specs.declared.header.Settings.{Settings}
-use Rattle.nx_holdings.specs.Holdings.{Held, Holds}
+use Rattle.nx_records.specs.Words.{replay, HasSame, Settings, Held, Holds}
 use Rattle.nx_records.specs.Changes.{nothing_held}
 use Rattle.nx_records.specs.Refusals.{IsNewStore}
 use Rattle.nx_state.specs.State.{new_state}

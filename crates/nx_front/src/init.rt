@@ -1,11 +1,11 @@
 // A run that makes a store.
 ghost use Rattle.std.specs.Prelude.{◌≤◌, length};
-ghost use Rattle.nx_holdings.specs.Header.{AreSettings};
+ghost use Rattle.nx_records.specs.Words.{AreSettings};
 ghost use Rattle.nx_host.specs.Phase.{GivesAlone};
 ghost use Rattle.nx_front.specs.Init.{Says, Initializes};
 
 use crate::Status;
-use nx_holdings::Settings;
+use nx_records::Settings;
 use nx_host::{Disk, Host};
 use nx_store::{EngineError, Store};
 use std::alloc::Global;

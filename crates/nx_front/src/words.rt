@@ -1,10 +1,10 @@
 // The words of a command line.
 ghost use Rattle.std.specs.Prelude.{◌≡◌, ◌≤◌, true, false, IfOk, IfSome, MatchOption};
 ghost use Rattle.nx_pyx.specs.Field.{value_of};
-ghost use Rattle.nx_holdings.specs.Header.{AreSettings};
+ghost use Rattle.nx_records.specs.Words.{AreSettings};
 ghost use Rattle.nx_front.specs.CommandLine.{is_store, is_named_store, is_within, is_weight_limit, usual_settings, settings_of, command_of_two, command_of_three, command_of_init, command_of, command_line, IsLimited};
 
-use nx_holdings::Settings;
+use nx_records::Settings;
 use nx_lists::List;
 use nx_pyx::position;
 use nx_tree::NoMemory;

@@ -1,7 +1,7 @@
 -- What a call makes of the pieces that records hold.
 use Rattle.std.specs.Prelude.{◌≡◌, ◌⊎◌, ℕ, ◌+◌, ◌*◌, ◌≤◌, if◌then◌else◌, List, length, Option, None, Some}
 use Rattle.nx_host.specs.declared.disk.Disk.{Ghosts}
-use Rattle.nx_holdings.specs.Holdings.{Held, chain_count}
+use Rattle.nx_records.specs.Words.{Held, chain_count}
 use Rattle.nx_records.specs.Records.{StandsFor}
 use Rattle.nx_records.specs.declared.records.Records.{Records}
 use Rattle.nx_records.specs.declared.records.Rid.{Rid}

@@ -1,7 +1,7 @@
 -- Records that went, changed and came, and records that hold a whole document.
 use Rattle.std.specs.Prelude.{◌≡◌, ◌⊎◌, ℕ, ◌+◌, ◌≤◌, List, [], ◌∷◌, ◌++◌, None, Some, IsSome, Contains}
 use Rattle.nx_host.specs.declared.disk.Disk.{Ghosts}
-use Rattle.nx_holdings.specs.Holdings.{Held}
+use Rattle.nx_records.specs.Words.{Held}
 use Rattle.nx_records.specs.Records.{StandsFor}
 use Rattle.nx_records.specs.declared.records.Records.{Records}
 use Rattle.nx_piece.specs.declared.piece.Piece.{Piece}

@@ -1,7 +1,7 @@
 -- Which pieces the records of a store hold. A piece's proxies stand in its record, or in a byte list that the record names.
 use Rattle.std.specs.Prelude.{◌≡◌, ◌⊎◌, ℕ, ◌+◌, ◌*◌, ◌≤◌, List, length, Option, None, Some, IsSome}
 use Rattle.std.specs.Option.{MatchOption}
-use Rattle.nx_holdings.specs.Holdings.{Held}
+use Rattle.nx_records.specs.Words.{Held}
 use Rattle.nx_piece.specs.declared.piece.Body.{Body}
 use Rattle.nx_piece.specs.declared.piece.Piece.{Piece}
 use Rattle.nx_piece.specs.declared.piece.Stored.{Stored}

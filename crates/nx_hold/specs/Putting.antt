@@ -1,6 +1,6 @@
 -- What the inner functions of a call on a piece read of what records hold, and make of it.
 use Rattle.std.specs.Prelude.{◌≡◌, ℕ, ◌+◌, ◌*◌, ◌≤◌, List, length, Option, None, Some}
-use Rattle.nx_holdings.specs.Holdings.{Held}
+use Rattle.nx_records.specs.Words.{Held}
 use Rattle.nx_records.specs.Changes.{ChangesLists, lists_with}
 use Rattle.nx_records.specs.declared.error.StoreError.{StoreError}
 use Rattle.nx_records.specs.declared.error.StoreError.TheVariants as error

@@ -1,7 +1,7 @@
 // The records of pieces, and the lists that hold their proxies.
 ghost use Rattle.std.specs.Prelude.{◌≡◌, ◌+◌, ◌*◌, ◌≤◌, true, false, length, Some, List as Items, ℕ, IfOk, IfErr, OnOk};
 ghost use Rattle.nx_host.specs.Still.{IsStill};
-ghost use Rattle.nx_holdings.specs.Holdings.{Held, chain_count};
+ghost use Rattle.nx_records.specs.Words.{Held, chain_count};
 ghost use Rattle.nx_records.specs.Records.{StandsFor, KeepsSaved, ComesTo, LeavesRecords, HasChanges, has_ended};
 ghost use Rattle.nx_records.specs.Refusals.{NotRead, NotChanged, NotStored, RunsOn, EndNow};
 ghost use Rattle.nx_piece.specs.Encoding.{proxies_bytes};

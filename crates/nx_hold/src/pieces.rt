@@ -1,7 +1,7 @@
 // The pieces that records hold: reading them, adding, replacing and taking away.
 ghost use Rattle.std.specs.Prelude.{◌≡◌, ◌+◌, ◌≤◌, ℕ, true, false, length, IfOk, IfErr, OnOk};
 ghost use Rattle.nx_host.specs.Still.{IsStill};
-ghost use Rattle.nx_holdings.specs.Holdings.{Held};
+ghost use Rattle.nx_records.specs.Words.{Held};
 ghost use Rattle.nx_records.specs.Records.{StandsFor, KeepsSaved, ComesTo, LeavesRecords, HasChanges, has_ended};
 ghost use Rattle.nx_records.specs.Refusals.{NotRead, NotChanged, NotStored, RunsOn};
 ghost use Rattle.nx_piece.specs.declared.piece.Piece.{Piece};

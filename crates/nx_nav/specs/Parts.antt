@@ -1,7 +1,7 @@
 -- What the inner functions read of the records: the pieces of a part of a layout.
 use Rattle.std.specs.Prelude.{◌≡◌, ℕ}
 use Rattle.nx_host.specs.declared.disk.Disk.{Ghosts}
-use Rattle.nx_holdings.specs.Holdings.{Held}
+use Rattle.nx_records.specs.Words.{Held}
 use Rattle.nx_records.specs.Records.{StandsFor}
 use Rattle.nx_records.specs.declared.records.Records.{Records}
 use Rattle.nx_piece.specs.declared.piece.Piece.{Piece}

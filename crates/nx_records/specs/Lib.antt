@@ -1,4 +1,5 @@
 pub mod Numbering
+pub mod Words
 pub mod Records
 pub mod Changes
 pub mod Room

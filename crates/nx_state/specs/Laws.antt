@@ -2,9 +2,7 @@
 use Rattle.std.specs.Prelude.{◌≡◌, ℕ, ◌+◌, ◌*◌, ◌≤◌, List, [], ◌∷◌, ◌++◌, length, map, Option, All}
 use Rattle.std.specs.List.{sum}
 use Rattle.nx_host.specs.Disk.{Image}
-use Rattle.nx_replay.specs.Log.{Pages}
-use Rattle.nx_holdings.specs.declared.header.Settings.{Settings}
-use Rattle.nx_holdings.specs.Holdings.{Held, Holds, chain_count}
+use Rattle.nx_records.specs.Words.{Pages, Settings, Held, Holds, chain_count}
 use Rattle.nx_records.specs.Changes.{SetsCatalog, nothing_held}
 use Rattle.nx_layouts.specs.Layout.{ArePlacedOnce}
 use Rattle.nx_hold.specs.Pieces.{IsTidy, PieceMap}

@@ -2,8 +2,7 @@
 use Rattle.std.specs.Prelude.{◌≡◌, ℕ, List, [], ◌∷◌, ◌++◌, map, Option, None, Some, IsSome, All, Contains}
 use Rattle.std.specs.FinMap.{entries}
 use Rattle.nx_host.specs.Disk.{Image}
-use Rattle.nx_replay.specs.Log.{Pages, replay}
-use Rattle.nx_holdings.specs.Holdings.{Held, Holds}
+use Rattle.nx_records.specs.Words.{Pages, replay, Held, Holds}
 use Rattle.nx_piece.specs.declared.piece.Piece.{Piece}
 use Rattle.nx_cuts.specs.Cut.{CutTree}
 use Rattle.nx_layouts.specs.Layout.{RecordPlace, Layout, places_of, whole, ArePlacedOnce, IsLaidOutAs}

@@ -4,7 +4,7 @@ use Rattle.std.specs.FinMap.{FinMap, empty, values}
 use Rattle.std.specs.List.{sum}
 use Rattle.nx_tree.specs.Forest.{nodes}
 use Rattle.nx_matrix.specs.declared.rule.Rule.{Rule}
-use Rattle.nx_holdings.specs.declared.header.Settings.{Settings}
+use Rattle.nx_records.specs.Words.{Settings}
 use Rattle.nx_cuts.specs.Cut.{CutTree, forest}
 use Rattle.nx_script.specs.Field.{name_order}
 

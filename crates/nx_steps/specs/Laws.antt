@@ -6,7 +6,7 @@ use Rattle.nx_tree.specs.Forest.{OrderedTree, nodes}
 use Rattle.nx_tree.specs.Edit.{put, cut_at, retext}
 use Rattle.nx_parts.specs.Partitioning.{IsFeasible}
 use Rattle.nx_cuts.specs.Cut.{CutTree, tree_of, parts_of}
-use Rattle.nx_holdings.specs.Holdings.{Held}
+use Rattle.nx_records.specs.Words.{Held}
 use Rattle.nx_state.specs.Stands.{HoldsState}
 use Rattle.nx_script.specs.declared.command.LoadBody.TheVariants as load
 use Rattle.nx_script.specs.declared.command.LineBody.TheVariants as line

@@ -6,7 +6,7 @@ use Rattle.nx_host.specs.declared.disk.Disk.{Ghosts}
 use Rattle.nx_tree.specs.Forest.{OrderedTree, nodes}
 use Rattle.nx_parts.specs.declared.interval.Interval.{Interval}
 use Rattle.nx_partition.specs.Planning.{IsLeanInOrder}
-use Rattle.nx_holdings.specs.Holdings.{Held}
+use Rattle.nx_records.specs.Words.{Held}
 use Rattle.nx_records.specs.Records.{StandsFor, KeepsSaved, settings_of}
 use Rattle.nx_records.specs.Refusals.{RunsOn}
 use Rattle.nx_records.specs.declared.error.StoreError.{StoreError}

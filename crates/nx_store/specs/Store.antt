@@ -5,8 +5,7 @@ use Rattle.nx_host.specs.declared.disk.Disk.{Ghosts}
 use Rattle.nx_host.specs.Host.{Appends, AppendsPrefix}
 use Rattle.nx_host.specs.Time.{Stood, Elapses}
 use Rattle.nx_host.specs.Still.{IsSettled, IsStill}
-use Rattle.nx_replay.specs.Log.{replay}
-use Rattle.nx_holdings.specs.Holdings.{Held}
+use Rattle.nx_records.specs.Words.{replay, Held}
 use Rattle.nx_records.specs.Records.{StandsFor, LeavesRecords, HasNoChanges, HasHeader, has_ended}
 use Rattle.nx_catalog.specs.Catalog.{IsCatalog}
 use Rattle.nx_nav.specs.Given.{GivesBut}
