@@ -1,8 +1,8 @@
 -- What records and their disk stand for.
-use Rattle.std.specs.Prelude.{◌≡◌, ◌≢◌, ◌==◌, if◌then◌else◌, nat_lt, ℕ, Bool, true, false, List, []}
+use Rattle.std.specs.Prelude.{◌≡◌, ◌≢◌, ◌==◌, if◌then◌else◌, nat_lt, ℕ, Bool, true, false, List, [], length}
 use Rattle.nx_host.specs.Disk.{Image}
 use Rattle.nx_host.specs.declared.disk.Disk.{Ghosts}
-use Rattle.nx_replay.specs.Log.{Pages, replay, HasMark}
+use Rattle.nx_replay.specs.Log.{Pages, groups, end_of, replay, HasMark}
 use Rattle.nx_wal.specs.Wal.{IsInStep, Follows, current, pending, length_of}
 use Rattle.nx_holdings.specs.declared.header.Header.{Header}
 use Rattle.nx_holdings.specs.declared.header.Settings.{Settings}
@@ -28,6 +28,14 @@ page_count_of records = (records.head).pages
 -- where the log ends
 abbrev pub log_length_of : Records → ℕ
 log_length_of records = length_of records.wal
+
+-- how many groups the log of an image has
+abbrev pub group_count : Image → ℕ
+group_count image = length (groups image.log)
+
+-- ... and how many bytes they take
+abbrev pub log_end : Image → ℕ
+log_end image = end_of (groups image.log)
 
 -- a page is free by this header: one of the free list, or one that was never used
 abbrev pub has_free_by : Header → Bool
