@@ -7,9 +7,10 @@
 ghost use Rattle.nx_chain.specs.Chain.{chain_bytes, IsBegun, IsChainPage, IsNoChainPage};
 ghost use Rattle.nx_numbers.specs.Numbers.{number_at};
 ghost use Rattle.std.specs.Prelude.{◌≡◌, ◌+◌, ◌<◌, ◌≤◌, length, take, drop, IfOk, MatchOption, true, false};
+ghost use Rattle.nx_numbers.specs.Sizes.{page_room};
 
 use nx_lists::{List, NoMemory};
-use nx_numbers::{set_u16_at, set_u32_at, u16_at, u32_at};
+use nx_numbers::{PAGE_ROOM, PAGE_SIZE, set_u16_at, set_u32_at, u16_at, u32_at};
 use nx_slots::PageBytes;
 use std::alloc::Global;
 
@@ -26,7 +27,7 @@ pub struct ChainPage {
 /// memory.
 pub fn chain_page(next: u32, content: &[u8]) -> PageBytes
     requires some { 1 ≤ length content.now }
-    requires few { length content.now ≤ 8184 }
+    requires few { length content.now ≤ page_room }
     ensures { result.bytes ≡ chain_bytes next content.now }
 {
     let mut page = begun();
@@ -40,7 +41,9 @@ pub fn chain_page(next: u32, content: &[u8]) -> PageBytes
 fn begun() -> PageBytes
     ensures { IsBegun result.bytes }
 {
-    let mut page = PageBytes { bytes: [0; 8192] };
+    let mut page = PageBytes {
+        bytes: [0; PAGE_SIZE],
+    };
     page.bytes[0] = 2;
     page
 }
@@ -64,11 +67,11 @@ pub fn read_chain_page(alloc: Global, bytes: &PageBytes) -> Result<Option<ChainP
 // Whether the bytes are the chain page of what they say, which is so many bytes.
 fn is_chain_page(bytes: &PageBytes, len: usize) -> bool
     requires { len ≡ number_at 2 bytes.now.bytes 2 }
-    ensures fits { result ≡ true → len ≤ 8184 }
+    ensures fits { result ≡ true → len ≤ page_room }
     ensures yes { result ≡ true → IsChainPage bytes.now.bytes (number_at 4 bytes.now.bytes 4) (take len (drop 8 bytes.now.bytes)) }
     ensures no { result ≡ false → IsNoChainPage bytes.now.bytes }
 {
-    if len < 1 || len > 8184 {
+    if len < 1 || len > PAGE_ROOM {
         return false;
     }
     let page = chain_page(u32_at(&bytes.bytes, 4), &bytes.bytes[8..8 + len]);

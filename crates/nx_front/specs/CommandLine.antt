@@ -3,7 +3,7 @@ use Rattle.std.specs.Prelude.{ℕ, ◌/◌, ◌≤◌, Bool, false, not, ◌&&�
 use Rattle.std.specs.Str.{bytes_eq}
 use Rattle.std.specs.Option.{option_map}
 use Rattle.nx_pyx.specs.Field.{is_position, value_of}
-use Rattle.nx_records.specs.Words.{Settings, AreSettings}
+use Rattle.nx_records.specs.Words.{most_pages, Settings, AreSettings}
 use Rattle.nx_front.specs.declared.words.CommandLine.{CommandLine}
 use Rattle.nx_front.specs.declared.words.CommandLine.TheVariants.{Tidy, Plain, Run, Plan, Verify, Init}
 
@@ -32,12 +32,12 @@ abbrev pub is_tolerance : List ℕ → Bool
 is_tolerance digits = is_within 0 256 digits
 
 abbrev pub is_page_limit : List ℕ → Bool
-is_page_limit digits = is_within 64 16777216 digits
+is_page_limit digits = is_within 64 most_pages digits
 
 -- the settings where the words say alone what a part weighs at most: the target is in the middle, the tolerance a quarter of that weight, rounded down, and
 -- the limit of pages the greatest that there is
 abbrev pub usual_settings : ℕ → Settings
-usual_settings k = record { k = k; target = 50; tolerance = k / 4; limit = 16777216 }
+usual_settings k = record { k = k; target = 50; tolerance = k / 4; limit = most_pages }
 
 -- the settings that these words say: what a part weighs at most, and then a target, a tolerance and a limit of pages, each of which may be left out with those
 -- behind it

@@ -5,8 +5,8 @@ ghost use Rattle.nx_host.specs.Phase.{GivesAlone};
 ghost use Rattle.nx_front.specs.Init.{Says, Initializes};
 
 use crate::Status;
-use nx_records::Settings;
 use nx_host::{Disk, Host};
+use nx_records::Settings;
 use nx_store::{EngineError, Store};
 use std::alloc::Global;
 

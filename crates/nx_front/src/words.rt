@@ -4,9 +4,9 @@ ghost use Rattle.nx_pyx.specs.Field.{value_of};
 ghost use Rattle.nx_records.specs.Words.{AreSettings};
 ghost use Rattle.nx_front.specs.CommandLine.{is_store, is_named_store, is_within, is_weight_limit, usual_settings, settings_of, command_of_two, command_of_three, command_of_init, command_of, command_line, IsLimited};
 
-use nx_records::Settings;
 use nx_lists::List;
 use nx_pyx::position;
+use nx_records::{MOST_PAGES, Settings};
 use nx_tree::NoMemory;
 use std::alloc::Global;
 use std::marker::Model;
@@ -50,9 +50,6 @@ pub type Words = List<Word>;
 
 // Where a split aims, in percent, where the words don't say it.
 const TARGET: u32 = 50;
-
-// As many pages as a store has at most.
-const MOST_PAGES: u32 = 16_777_216;
 
 // A command line.
 #[derive(Clone, Copy)]

@@ -6,7 +6,7 @@ ghost use Rattle.nx_records.specs.Records.{StandsFor, KeepsSaved, ComesTo, Leave
 ghost use Rattle.nx_records.specs.Refusals.{NotRead, NotChanged, NotStored, RunsOn, EndNow};
 ghost use Rattle.nx_piece.specs.Encoding.{proxies_bytes};
 ghost use Rattle.nx_piece.specs.Viewing.{seen_stored};
-ghost use Rattle.nx_piece.specs.Valid.{IsValid, IsValidPiece, HaveRoots, HaveNumbers, HasNumbers};
+ghost use Rattle.nx_piece.specs.Valid.{longest_inline, IsValid, IsValidPiece, HaveRoots, HaveNumbers, HasNumbers};
 ghost use Rattle.nx_hold.specs.Pieces.{IsStored, HoldsNone};
 ghost use Rattle.nx_hold.specs.Changes.{place_of, chain_pages};
 ghost use Rattle.nx_hold.specs.Putting.{told_at, LacksProxies, HasList, FreesChain, PutsProxies};
@@ -108,7 +108,7 @@ pub(crate) fn record_bytes<D: Disk>(
     requires valid { IsValidPiece piece.now }
     ensures still { IsStill D.Disk disk.old disk.new }
     ensures some { IfOk result (λ bytes. 1 ≤ length bytes) }
-    ensures few { IfOk result (λ bytes. length bytes ≤ 8176) }
+    ensures few { IfOk result (λ bytes. length bytes ≤ longest_inline) }
     ensures ok { IfOk result (λ bytes. ComesTo D.Disk records.old records.new disk.old disk.new (λ was now. PutsProxies piece.now bytes was now)) }
     ensures keeps { IfOk result (λ bytes. RunsOn records.old records.new × KeepsSaved D.Disk records.old records.new disk.old disk.new) }
     ensures refused { IfErr result (λ e. NotStored D.Disk (λ was. chain_pages piece.now) (λ was. ⊥) named e records.old records.new disk.old disk.new) }

@@ -1,6 +1,7 @@
 -- The header of a store, which is its page 0, by its bytes.
 use Rattle.std.specs.Prelude.{◌≡◌, ℕ, ◌^◌, ◌-◌, ◌<◌, ◌≤◌, List, [], ◌∷◌, ◌++◌, length}
 use Rattle.std.proofs.Math.ListN.{replicate}
+use Rattle.nx_numbers.specs.Sizes.{page_size, most_pages}
 use Rattle.nx_numbers.specs.Numbers.{number_bytes}
 use Rattle.nx_replay.specs.Log.{mark}
 use Rattle.nx_holdings.specs.declared.header.Header.{Header}
@@ -19,14 +20,14 @@ fields_of h =
 
 -- the page with this header: the mark, the fields, and zero bytes
 unfoldable pub header_bytes : Header → List ℕ
-header_bytes h = mark ++ (fields_bytes (fields_of h) ++ replicate 8140 0)
+header_bytes h = mark ++ (fields_bytes (fields_of h) ++ replicate (page_size - 52) 0)
 
 -- settings that a store may have
 pub record AreSettings (s : Settings) : Type 0 where
   pub k : (1 ≤ s.k) × (s.k ≤ 256)
   pub target : s.target ≤ 100
   pub tolerance : s.tolerance ≤ 256
-  pub limit : (64 ≤ s.limit) × (s.limit ≤ 16777216)
+  pub limit : (64 ≤ s.limit) × (s.limit ≤ most_pages)
 
 -- each field is in its range, and fits its bytes
 pub record IsInRange (h : Header) : Type 0 where
@@ -49,5 +50,5 @@ IsNoHeader bytes = (h : Header) → IsHeader bytes h → ⊥
 -- a page to which the mark and these fields are written, up to an offset, with zero bytes behind them
 pub record IsLaid (page : List ℕ) (at : ℕ) (fields : List (ℕ × ℕ)) : Type 0 where
   pub here : length (mark ++ fields_bytes fields) ≡ at
-  pub low : at ≤ 8192
-  pub are : page ≡ (mark ++ fields_bytes fields) ++ replicate (8192 - at) 0
+  pub low : at ≤ page_size
+  pub are : page ≡ (mark ++ fields_bytes fields) ++ replicate (page_size - at) 0

@@ -2,6 +2,7 @@
 use Rattle.std.specs.Prelude.{◌≡◌, ◌≢◌, ◌==◌, if◌then◌else◌, ℕ, ◌+◌, ◌-◌, ◌/◌, ◌<◌, ◌≤◌, List, [], ◌∷◌, ◌++◌, length, slice_index, slice_index_or, Option, Some, None}
 use Rattle.std.specs.List.{AllByRecursion}
 use Rattle.std.proofs.Math.ListN.{replicate}
+use Rattle.nx_numbers.specs.Sizes.{page_room}
 use Rattle.nx_numbers.specs.Numbers.{number_bytes}
 use Rattle.nx_slots.specs.Slots.{IsSlotted, slots_of}
 use Rattle.nx_chain.specs.Chain.{chain_bytes}
@@ -21,7 +22,7 @@ times p (q ∷ qs) = (if p == q then 1 else 0) + times p qs
 
 -- a free page, whole: four zero bytes, the next free page or 0, and zero bytes
 unfoldable pub free_bytes : ℕ → List ℕ
-free_bytes next = 0 ∷ 0 ∷ 0 ∷ 0 ∷ number_bytes 4 next ++ replicate 8184 0
+free_bytes next = 0 ∷ 0 ∷ 0 ∷ 0 ∷ number_bytes 4 next ++ replicate page_room 0
 
 -- From this page on the free list has these pages.
 abbrev pub IsFreeList : Pages → ℕ → List ℕ → Type 0
@@ -42,12 +43,12 @@ next_of (l ∷ ls) = l.page
 pub record IsLink (pages : Pages) (link : Link) (next : ℕ) : Type 0 where
   pub there : pages link.page ≡ Some (chain_bytes next link.content)
   pub some : 1 ≤ length link.content
-  pub few : length link.content ≤ 8184
+  pub few : length link.content ≤ page_room
 
 -- each of these pages names the next, and all but the last are full
 abbrev pub AreLinked : Pages → List Link → Type 0
 AreLinked pages [] = Unit {0}
-AreLinked pages (l ∷ ls) = IsLink pages l (next_of ls) × (1 ≤ length ls → length l.content ≡ 8184) × AreLinked pages ls
+AreLinked pages (l ∷ ls) = IsLink pages l (next_of ls) × (1 ≤ length ls → length l.content ≡ page_room) × AreLinked pages ls
 
 -- a chain: its first page, and those behind it
 pub record Chain : Type 0 where
@@ -141,4 +142,4 @@ Holds pages held = (head : Header) × HoldsBy pages head held
 
 -- so many chain pages a list of so many bytes takes
 abbrev pub chain_count : ℕ → ℕ
-chain_count n = (n + 8183) / 8184
+chain_count n = (n + (page_room - 1)) / page_room

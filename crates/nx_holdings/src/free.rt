@@ -3,15 +3,18 @@ ghost use Rattle.nx_holdings.specs.Holdings.{free_bytes};
 ghost use Rattle.nx_holdings.specs.Free.{IsFreePage, IsNoFreePage};
 ghost use Rattle.std.specs.Prelude.{◌≡◌, MatchOption};
 ghost use Rattle.std.proofs.Math.ListN.{replicate};
+ghost use Rattle.nx_numbers.specs.Sizes.{page_size};
 
-use nx_numbers::{set_u32_at, u32_at};
+use nx_numbers::{PAGE_SIZE, set_u32_at, u32_at};
 use nx_slots::PageBytes;
 
 // A page of zero bytes.
 pub(crate) fn blank() -> PageBytes
-    ensures { result.bytes ≡ replicate 8192 0 }
+    ensures { result.bytes ≡ replicate page_size 0 }
 {
-    PageBytes { bytes: [0; 8192] }
+    PageBytes {
+        bytes: [0; PAGE_SIZE],
+    }
 }
 
 /// The free page with this next free page, 0 for none. It takes no memory.

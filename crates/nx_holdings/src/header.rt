@@ -2,10 +2,11 @@
 ghost use Rattle.nx_holdings.specs.Header.{AreSettings, IsHeader, IsInRange, IsLaid, IsNoHeader, header_bytes};
 ghost use Rattle.nx_numbers.specs.Numbers.{number_at};
 ghost use Rattle.std.specs.Prelude.{◌≡◌, ◌↔◌, ◌+◌, ◌∷◌, ◌++◌, [], ◌≤◌, ℕ, List, length, drop, true, MatchOption};
+ghost use Rattle.nx_numbers.specs.Sizes.{page_size};
 ghost use Rattle.nx_replay.specs.Log.{mark};
 
 use crate::free::blank;
-use nx_numbers::{set_u16_at, set_u32_at, set_u64_at, u16_at, u32_at, u64_at};
+use nx_numbers::{MOST_PAGES, set_u16_at, set_u32_at, set_u64_at, u16_at, u32_at, u64_at};
 use nx_slots::PageBytes;
 
 /// What a store is set to when it is made.
@@ -54,7 +55,7 @@ pub fn are_settings(settings: &Settings) -> bool
         && settings.target <= 100
         && settings.tolerance <= 256
         && settings.limit >= 64
-        && settings.limit <= 16_777_216
+        && settings.limit <= MOST_PAGES
 }
 
 // Whether each field is in its range.
@@ -90,7 +91,7 @@ fn marked() -> PageBytes
 
 // Writes the next field of two bytes.
 fn lay_u16(page: &mut PageBytes, at: usize, number: u16)
-    requires { at + 2 ≤ 8192 }
+    requires { at + 2 ≤ page_size }
     ensures { (fields : List (ℕ × ℕ)) → IsLaid page.old.bytes at fields → IsLaid page.new.bytes (at + 2) (fields ++ (2, number) ∷ []) }
 {
     set_u16_at(&mut page.bytes, at, number);
@@ -98,7 +99,7 @@ fn lay_u16(page: &mut PageBytes, at: usize, number: u16)
 
 // Writes the next field of four bytes.
 fn lay_u32(page: &mut PageBytes, at: usize, number: u32)
-    requires { at + 4 ≤ 8192 }
+    requires { at + 4 ≤ page_size }
     ensures { (fields : List (ℕ × ℕ)) → IsLaid page.old.bytes at fields → IsLaid page.new.bytes (at + 4) (fields ++ (4, number) ∷ []) }
 {
     set_u32_at(&mut page.bytes, at, number);
@@ -106,7 +107,7 @@ fn lay_u32(page: &mut PageBytes, at: usize, number: u32)
 
 // Writes the next field of eight bytes.
 fn lay_u64(page: &mut PageBytes, at: usize, number: u64)
-    requires { at + 8 ≤ 8192 }
+    requires { at + 8 ≤ page_size }
     ensures { (fields : List (ℕ × ℕ)) → IsLaid page.old.bytes at fields → IsLaid page.new.bytes (at + 8) (fields ++ (8, number) ∷ []) }
 {
     set_u64_at(&mut page.bytes, at, number);
@@ -135,7 +136,7 @@ pub fn header_page(header: &Header) -> PageBytes
 
 // What the fields of a header say.
 fn fields_at(bytes: &PageBytes) -> Header
-    requires { length bytes.now.bytes ≡ 8192 }
+    requires { length bytes.now.bytes ≡ page_size }
     ensures settings { result.settings ≡ (record {
       k = number_at 2 bytes.now.bytes 10;
       target = number_at 2 bytes.now.bytes 12;

@@ -1,11 +1,14 @@
-//! Numbers in bytes, the highest byte first, at a place of a slice. It stands on nothing of this
-//! repository. What the words of its contracts mean is said in `specs/Numbers.antt`.
+//! Numbers in bytes, the highest byte first, at a place of a slice; and the numbers of a store's format. It
+//! stands on nothing of this repository. What the words of its contracts mean is said in `specs/Numbers.antt`.
 #![tactic(auto)]
 
 ghost use Rattle.nx_numbers.specs.Numbers.{number_at, with_number};
 ghost use Rattle.std.specs.Prelude.{◌≡◌, ◌+◌, ◌≤◌, length};
 
+mod sizes;
+
 use byteorder::{BigEndian, ByteOrder};
+pub use sizes::{ENTRY_SIZE, LONGEST_RECORD, MOST_PAGES, MOST_SLOTS, PAGE_ROOM, PAGE_SIZE};
 
 /// The number in the two bytes from a place on.
 #[tactic(auto, unfolding(crate::specs::Numbers::number_at))]

@@ -1,5 +1,6 @@
 -- What the steps of a call read of chains, and make of them.
 use Rattle.std.specs.Prelude.{◌≡◌, ◌≢◌, ℕ, ◌+◌, ◌*◌, ◌<◌, ◌≤◌, false, List, ◌∷◌, ◌++◌, length, drop, Some}
+use Rattle.nx_numbers.specs.Sizes.{page_room}
 use Rattle.nx_host.specs.Disk.{Image, Rose}
 use Rattle.nx_host.specs.declared.disk.Disk.{Ghosts}
 use Rattle.nx_replay.specs.Log.{Pages}
@@ -19,7 +20,7 @@ use Rattle.nx_records.specs.declared.error.StoreError.TheVariants as error
 -- The page is the chain page with this next page and this content, full where another page follows.
 pub record HasLink (pages : Pages) (page next : ℕ) (content : List ℕ) : Type 0 where
   pub link : IsLinkAt pages page next content
-  pub full : next ≢ 0 → length content ≡ 8184
+  pub full : next ≢ 0 → length content ≡ page_room
 
 -- the page is no such page below the limit
 abbrev pub NoLink : (limit page : ℕ) → Pages → Type 0
@@ -49,19 +50,19 @@ link_before page content links = record { page = page; content = content } ∷ l
 
 -- a page of this content may come in front of the chain, which begins at this page
 abbrev pub MayLead : (next : ℕ) → (content : List ℕ) → List Link → Type 0
-MayLead next content links = (next_of links ≡ next) × (1 ≤ length links → length content ≡ 8184)
+MayLead next content links = (next_of links ≡ next) × (1 ≤ length links → length content ≡ page_room)
 
 -- what stands on the chain page with this index
 pub record IsContentAt (bytes : List ℕ) (index : ℕ) (content : List ℕ) : Type 0 where
   pub some : 1 ≤ length content
-  pub few : length content ≤ 8184
-  pub full : index + 1 < chain_count (length bytes) → length content ≡ 8184
-  pub are : content ++ drop ((index + 1) * 8184) bytes ≡ drop (index * 8184) bytes
+  pub few : length content ≤ page_room
+  pub full : index + 1 < chain_count (length bytes) → length content ≡ page_room
+  pub are : content ++ drop ((index + 1) * page_room) bytes ≡ drop (index * page_room) bytes
 
 -- The chain begins at the page, and has the bytes behind those that are left for so many pages.
 pub record IsWritten (next left : ℕ) (bytes : List ℕ) (more : List Link) : Type 0 where
   pub first : next_of more ≡ next
-  pub are : content_of more ≡ drop (left * 8184) bytes
+  pub are : content_of more ≡ drop (left * page_room) bytes
   pub count : length more + left ≡ chain_count (length bytes)
 
 -- Of a chain there is left what begins at the page. Where the whole has this length, that has so many bytes.

@@ -1,5 +1,6 @@
 // Reading chains, page by page.
 ghost use Rattle.std.specs.Prelude.{List as Items, ◌≡◌, ◌≢◌, ◌⊎◌, ◌+◌, ◌*◌, ◌<◌, ◌≤◌, ℕ, length, true, false, IfOk, IfErr};
+ghost use Rattle.nx_numbers.specs.Sizes.{page_room};
 ghost use Rattle.nx_host.specs.Still.{IsStill};
 ghost use Rattle.nx_holdings.specs.Holdings.{chain_count};
 ghost use Rattle.nx_links.specs.Lists.{IsListFrom};
@@ -8,15 +9,16 @@ use crate::{Records, StoreError};
 use nx_chain::{ChainPage, read_chain_page};
 use nx_host::Disk;
 use nx_lists::List;
+use nx_numbers::{PAGE_ROOM, PAGE_SIZE};
 use nx_slots::PageBytes;
 use std::alloc::Global;
 
 // Whether a page of so many bytes may have this next page: all but the last of a chain are full.
 fn may_stand(next: u32, len: usize) -> bool
-    ensures yes { result ≡ true → next ≢ 0 → len ≡ 8184 }
-    ensures no { result ≡ false → (next ≢ 0) × (len ≢ 8184) }
+    ensures yes { result ≡ true → next ≢ 0 → len ≡ page_room }
+    ensures no { result ≡ false → (next ≢ 0) × (len ≢ page_room) }
 {
-    next == 0 || len == 8_184
+    next == 0 || len == PAGE_ROOM
 }
 
 impl Records {
@@ -34,10 +36,10 @@ impl Records {
 
     // Whether a chain may have so many bytes: its pages are below the header's number, and none comes twice.
     pub(crate) fn may_have(&self, len: u64) -> bool
-        ensures yes { result ≡ true → len ≤ 8184 * page_count_of self.now }
-        ensures no { result ≡ false → 8184 * page_count_of self.now < len }
+        ensures yes { result ≡ true → len ≤ page_room * page_count_of self.now }
+        ensures no { result ≡ false → page_room * page_count_of self.now < len }
     {
-        len <= u64::from(self.head.pages) * 8_184
+        len <= u64::from(self.head.pages) * PAGE_ROOM as u64
     }
 
     // The chain page with this number.
@@ -51,14 +53,16 @@ impl Records {
         requires { has_ended self.old ≡ false }
         ensures still { IsStill D.Disk disk.old disk.new }
         ensures reads { D.reads disk.new ≤ D.reads disk.old + 1 }
-        ensures ok { IfOk result (λ link. (self.new ≡ self.old) × (page < self.old.head.pages) × (1 ≤ length link.content) × (link.next ≢ 0 → length link.content ≡ 8184)
+        ensures ok { IfOk result (λ link. (self.new ≡ self.old) × (page < self.old.head.pages) × (1 ≤ length link.content) × (link.next ≢ 0 → length link.content ≡ page_room)
             × SeesSo D.Disk self.old disk.old (λ pages. HasLink pages page link.next link.content)) }
         ensures refused { IfErr result (λ e. NotListed D.Disk (NoLink self.old.head.pages page) named e self.old self.new disk.old disk.new) }
     {
         if page >= self.head.pages {
             return Err(self.damaged(named));
         }
-        let mut bytes = PageBytes { bytes: [0; 8192] };
+        let mut bytes = PageBytes {
+            bytes: [0; PAGE_SIZE],
+        };
         if !self.load(disk, page, &mut bytes)? {
             return Err(self.damaged(named));
         }

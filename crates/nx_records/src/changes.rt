@@ -1,5 +1,6 @@
 // Putting records into pages, and taking them out.
 ghost use Rattle.std.specs.Prelude.{◌≡◌, ◌≢◌, ◌+◌, ◌<◌, ◌≤◌, ℕ, [], length, true, false, Some, None, IfOk, IfErr, IfSome, IfNone, OnOk};
+ghost use Rattle.nx_numbers.specs.Sizes.{longest_record};
 ghost use Rattle.nx_host.specs.Disk.{Image};
 ghost use Rattle.nx_host.specs.Still.{IsStill};
 ghost use Rattle.nx_wal.specs.Wal.{current};
@@ -7,6 +8,7 @@ ghost use Rattle.nx_slots.specs.Edits.{HasRecord};
 
 use crate::{Records, Rid, StoreError};
 use nx_host::Disk;
+use nx_numbers::{PAGE_ROOM, PAGE_SIZE};
 use nx_slots::{Page, PageBytes, put_in};
 
 impl Records {
@@ -30,7 +32,7 @@ impl Records {
         ensures refused { IfErr result (λ e. e ≡ StoreError.Memory) }
     {
         page.clear(rid.slot);
-        if page.free_bytes() == 8_184 {
+        if page.free_bytes() == PAGE_ROOM as u32 {
             self.release(rid.page)
         } else {
             self.store(rid.page, page.bytes())
@@ -42,7 +44,7 @@ impl Records {
         requires runs { has_ended self.old ≡ false }
         requires there { self.old.head.room ≢ 0 }
         requires some { 1 ≤ length bytes.now }
-        requires few { length bytes.now ≤ 8176 }
+        requires few { length bytes.now ≤ longest_record }
         ensures put { IfSome result (λ rid. KeepsLog self.old self.new × StepsTo D.Disk self.old self.new disk.now (λ was now. AddsRecord rid.page rid.slot bytes.now was now)) }
         ensures none { IfNone result (self.new ≡ self.old) }
         ensures head { self.new.head ≡ self.old.head }
@@ -65,7 +67,7 @@ impl Records {
         requires runs { has_ended self.old ≡ false }
         requires there { self.old.head.room ≢ 0 }
         requires some { 1 ≤ length bytes.now }
-        requires few { length bytes.now ≤ 8176 }
+        requires few { length bytes.now ≤ longest_record }
         ensures still { IsStill D.Disk disk.old disk.new }
         ensures ok { IfOk result (λ found. IfSome found (λ rid. KeepsLog self.old self.new × StepsTo D.Disk self.old self.new disk.old (λ was now. AddsRecord rid.page rid.slot bytes.now was now))) }
         ensures none { IfOk result (λ found. IfNone found (self.new ≡ self.old)) }
@@ -76,7 +78,9 @@ impl Records {
         ensures memory { IfErr result (λ e. e ≡ StoreError.Memory → SeesSo D.Disk self.old disk.old (λ pages. FitsRoom pages self.old.head bytes.now)) }
     {
         let room = self.head.room;
-        let mut page = PageBytes { bytes: [0; 8192] };
+        let mut page = PageBytes {
+            bytes: [0; PAGE_SIZE],
+        };
         self.load_slotted(disk, room, named, &mut page)?;
         let Ok(slot) = put_in(&mut page, bytes) else {
             return Ok(None);
@@ -94,7 +98,7 @@ impl Records {
     ) -> Result<Option<Rid>, StoreError>
         requires runs { has_ended self.old ≡ false }
         requires some { 1 ≤ length bytes.now }
-        requires few { length bytes.now ≤ 8176 }
+        requires few { length bytes.now ≤ longest_record }
         ensures still { IsStill D.Disk disk.old disk.new }
         ensures ok { IfOk result (λ found. IfSome found (λ rid. KeepsLog self.old self.new × StepsTo D.Disk self.old self.new disk.old (λ was now. AddsRecord rid.page rid.slot bytes.now was now))) }
         ensures none { IfOk result (λ found. IfNone found (self.new ≡ self.old)) }
@@ -122,7 +126,7 @@ impl Records {
     ) -> Result<Rid, StoreError>
         requires runs { has_ended self.old ≡ false }
         requires some { 1 ≤ length bytes.now }
-        requires few { length bytes.now ≤ 8176 }
+        requires few { length bytes.now ≤ longest_record }
         ensures still { IsStill D.Disk disk.old disk.new }
         ensures ok { IfOk result (λ rid. KeepsLog self.old self.new × StepsTo D.Disk self.old self.new disk.old (λ was now. AddsRecord rid.page rid.slot bytes.now was now)) }
         ensures room { IfOk result (λ rid. SeesSo D.Disk self.old disk.old (λ pages. FitsRoom pages self.old.head bytes.now → TakesNoPage self.old self.new)) }
@@ -155,7 +159,7 @@ impl Records {
         requires low { rid.page < self.old.head.pages }
         requires there { HasRecord page rid.slot }
         requires some { 1 ≤ length bytes.now }
-        requires few { length bytes.now ≤ 8176 }
+        requires few { length bytes.now ≤ longest_record }
         ensures still { IsStill D.Disk disk.old disk.new }
         ensures keeps { IfOk result (λ place. KeepsLog self.old self.new) }
         ensures ok { IfOk result (λ place. SeesSo D.Disk self.old disk.old (λ pages. HasSlots pages rid.page page)

@@ -15,4 +15,5 @@ mod writing;
 
 pub use error::StoreError;
 pub use nx_holdings::{Header, Settings, read_header};
+pub use nx_numbers::MOST_PAGES;
 pub use records::{Records, Rid};

@@ -1,5 +1,6 @@
 // Reading pages, taking them and giving them back.
 ghost use Rattle.std.specs.Prelude.{◌≡◌, ◌≢◌, ◌+◌, ◌<◌, ◌≤◌, ℕ, [], true, false, Some, None, IsSome, IfOk, IfErr, OnOk};
+ghost use Rattle.nx_numbers.specs.Sizes.{most_pages};
 ghost use Rattle.nx_host.specs.Disk.{Image};
 ghost use Rattle.nx_host.specs.Still.{IsStill};
 ghost use Rattle.nx_replay.specs.Log.{entry_pages};
@@ -13,6 +14,7 @@ ghost use Rattle.nx_records.specs.Numbering.{number_behind as behind};
 use crate::{Records, StoreError};
 use nx_holdings::{Header, free_page, header_page, read_free_page};
 use nx_host::Disk;
+use nx_numbers::PAGE_SIZE;
 use nx_slots::{Page, PageBytes, is_page};
 
 // The number of the group behind one with this number.
@@ -134,7 +136,9 @@ impl Records {
         ensures ok { IfOk result (λ slots. (self.new ≡ self.old) × (page < self.old.head.pages) × SeesSo D.Disk self.old disk.old (λ pages. HasSlots pages page slots)) }
         ensures refused { IfErr result (λ e. NotFound D.Disk (λ pages. page < self.old.head.pages → (slots : _) → HasSlots pages page slots → ⊥) named e self.old self.new disk.old disk.new) }
     {
-        let mut bytes = PageBytes { bytes: [0; 8192] };
+        let mut bytes = PageBytes {
+            bytes: [0; PAGE_SIZE],
+        };
         self.load_used(disk, page, named, &mut bytes)?;
         let Some(slotted) = Page::from_bytes(&bytes) else {
             return Err(self.damaged(named));
@@ -145,7 +149,7 @@ impl Records {
     // Makes a page wait for the next commit, and gives the header that commit's number.
     pub(crate) fn store(&mut self, page: u32, bytes: &PageBytes) -> Result<(), StoreError>
         requires runs { has_ended self.old ≡ false }
-        requires low { page < 16777216 }
+        requires low { page < most_pages }
         ensures keeps { KeepsLog self.old self.new }
         ensures ok { OnOk result ((self.new.head ≡ numbered (next_number self.old) self.old.head) × (pending self.new.wal ≢ [])
             × ((was : Image) → current self.new.wal was ≡ with_page (current self.old.wal was) page bytes.now.bytes)) }
@@ -195,7 +199,7 @@ impl Records {
         requires { has_ended self.old ≡ false }
         ensures still { IsStill D.Disk disk.old disk.new }
         ensures reads { D.reads disk.new ≤ D.reads disk.old + 1 }
-        ensures keeps { IfOk result (λ page. KeepsLog self.old self.new × (self.new.wal ≡ self.old.wal) × (page < 16777216)) }
+        ensures keeps { IfOk result (λ page. KeepsLog self.old self.new × (self.new.wal ≡ self.old.wal) × (page < most_pages)) }
         ensures ok { IfOk result (λ page. SeesSo D.Disk self.old disk.old (λ pages. IsPageTaken pages page self.old.head self.new.head)) }
         ensures free { IfOk result (λ page. has_free self.old ≡ true) }
         ensures refused { IfErr result (λ e. NotTaken D.Disk named e self.old self.new disk.old disk.new) }
@@ -207,7 +211,9 @@ impl Records {
         if page >= self.head.pages {
             return Err(self.damaged(named));
         }
-        let mut bytes = PageBytes { bytes: [0; 8192] };
+        let mut bytes = PageBytes {
+            bytes: [0; PAGE_SIZE],
+        };
         if !self.load(disk, page, &mut bytes)? {
             return Err(self.damaged(named));
         }
@@ -222,7 +228,7 @@ impl Records {
     fn take_new(&mut self) -> Result<u32, StoreError>
         requires none { self.old.head.free ≡ 0 }
         requires runs { has_ended self.old ≡ false }
-        ensures ok { IfOk result (λ page. KeepsLog self.old self.new × (self.new.wal ≡ self.old.wal) × (page < 16777216) × IsFirstUnused page self.old.head self.new.head) }
+        ensures ok { IfOk result (λ page. KeepsLog self.old self.new × (self.new.wal ≡ self.old.wal) × (page < most_pages) × IsFirstUnused page self.old.head self.new.head) }
         ensures free { IfOk result (λ page. has_free self.old ≡ true) }
         ensures refused { IfErr result (λ e. (e ≡ StoreError.Full) × (self.new ≡ self.old) × (has_free self.old ≡ false)) }
     {
@@ -237,7 +243,7 @@ impl Records {
     // Gives a page back to the free list.
     pub(crate) fn release(&mut self, page: u32) -> Result<(), StoreError>
         requires runs { has_ended self.old ≡ false }
-        requires low { page < 16777216 }
+        requires low { page < most_pages }
         ensures keeps { KeepsLog self.old self.new }
         ensures ok { OnOk result ((self.new.head ≡ numbered (next_number self.old) (released page self.old.head)) × (pending self.new.wal ≢ [])
             × ((was : Image) → current self.new.wal was ≡ with_page (current self.old.wal was) page (free_bytes self.old.head.free))) }

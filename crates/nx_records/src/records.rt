@@ -1,6 +1,7 @@
 // Records, byte lists and a catalog over pages under a log.
 ghost use Rattle.std.specs.Prelude.{List as Items, ◌≡◌, ◌≢◌, ◌⊎◌, ◌+◌, ◌*◌, ◌/◌, ◌^◌, ◌<◌, ◌≤◌, [], ℕ, length, true, false, Some, None, IsSome, IfOk, IfErr, IfSome, OnOk};
 ghost use Rattle.std.proofs.Props.{props};
+ghost use Rattle.nx_numbers.specs.Sizes.{entry_size, longest_record};
 ghost use Rattle.nx_host.specs.Disk.{Image};
 ghost use Rattle.nx_host.specs.Still.{IsStill, IsSettled, WritesAlone};
 ghost use Rattle.nx_replay.specs.Log.{entry_pages, groups, replay, size_of, Stays, HasSame, HasGroup};
@@ -14,6 +15,7 @@ use crate::first::{first_header, put_first};
 use nx_holdings::{Header, Settings, read_header};
 use nx_host::Disk;
 use nx_lists::List;
+use nx_numbers::PAGE_SIZE;
 use nx_slots::{PageBytes, record_in};
 use nx_wal::{Wal, WalError};
 use std::alloc::Global;
@@ -103,7 +105,7 @@ impl Records {
         ensures ok { IfOk result (λ records. (was : Image) (held : Held) → IsSettled D.Disk disk.old was → Holds (replay was) held → StandsFor D.Disk records disk.new held held) }
         ensures step { IfOk result (λ records. (was : Image) → IsSettled D.Disk disk.old was → IsInStepWith D.Disk records disk.new was × HasHeader was) }
         ensures fresh { IfOk result (λ records. (has_ended records ≡ false) × HasNoChanges records) }
-        ensures reads { IfSome (D.contents disk.old) (λ was. D.reads disk.new ≤ D.reads disk.old + (3 * (length was.log / 8196 + 1) + 2)) }
+        ensures reads { IfSome (D.contents disk.old) (λ was. D.reads disk.new ≤ D.reads disk.old + (3 * (length was.log / entry_size + 1) + 2)) }
         ensures refused { IfErr result (λ e. NotOpened D.Disk e disk.old disk.new) }
     {
         let mut wal = match Wal::open(disk, alloc) {
@@ -112,7 +114,9 @@ impl Records {
             Err(WalError::Disk) => return Err(StoreError::Disk),
             Err(_) => return Err(StoreError::Memory),
         };
-        let mut page = PageBytes { bytes: [0; 8192] };
+        let mut page = PageBytes {
+            bytes: [0; PAGE_SIZE],
+        };
         let Ok(found) = wal.page(disk, 0, &mut page) else {
             return Err(StoreError::Disk);
         };
@@ -190,7 +194,9 @@ impl Records {
         if self.ended {
             return Err(StoreError::Ended);
         }
-        let mut page = PageBytes { bytes: [0; 8192] };
+        let mut page = PageBytes {
+            bytes: [0; PAGE_SIZE],
+        };
         self.load_used(disk, rid.page, rid.page, &mut page)?;
         let Some(bytes) = record_in(&page, rid.slot) else {
             return Err(self.damaged(rid.page));
@@ -209,7 +215,7 @@ impl Records {
     /// records had ended; `Memory`. After `Full` and `Memory` the caller calls `abandon`.
     pub fn add<D: Disk>(&mut self, disk: &mut D, bytes: &[u8]) -> Result<Rid, StoreError>
         requires some { 1 ≤ length bytes.now }
-        requires few { length bytes.now ≤ 8176 }
+        requires few { length bytes.now ≤ longest_record }
         ensures still { IsStill D.Disk disk.old disk.new }
         ensures ok { IfOk result (λ rid. ComesTo D.Disk self.old self.new disk.old disk.new (λ was now. AddsRecord rid.page rid.slot bytes.now was now)) }
         ensures keeps { IfOk result (λ rid. RunsOn self.old self.new × KeepsSaved D.Disk self.old self.new disk.old disk.new × HasChanges self.new) }
@@ -239,7 +245,7 @@ impl Records {
         bytes: &[u8],
     ) -> Result<Rid, StoreError>
         requires some { 1 ≤ length bytes.now }
-        requires few { length bytes.now ≤ 8176 }
+        requires few { length bytes.now ≤ longest_record }
         ensures still { IsStill D.Disk disk.old disk.new }
         ensures ok { IfOk result (λ place. ComesTo D.Disk self.old self.new disk.old disk.new (λ was now. UpdatesRecord rid.page rid.slot bytes.now place.page place.slot was now)) }
         ensures keeps { IfOk result (λ place. RunsOn self.old self.new × KeepsSaved D.Disk self.old self.new disk.old disk.new × HasChanges self.new) }

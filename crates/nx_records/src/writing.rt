@@ -1,6 +1,7 @@
 // Writing chains and giving them back, page by page. A chain is written from its last page on, so that each step
 // puts a page in front of a chain that is whole, and given back from its first page on.
 ghost use Rattle.std.specs.Prelude.{List as Items, ◌≡◌, ◌≢◌, ◌+◌, ◌^◌, ◌<◌, ◌≤◌, [], ℕ, length, true, false, IfOk, IfErr, OnOk};
+ghost use Rattle.nx_numbers.specs.Sizes.{page_room};
 ghost use Rattle.nx_host.specs.Disk.{Image};
 ghost use Rattle.nx_host.specs.Still.{IsStill};
 ghost use Rattle.nx_wal.specs.Wal.{current};
@@ -10,6 +11,7 @@ ghost use Rattle.nx_records.specs.Chains.{IsContentAt};
 use crate::{Records, StoreError};
 use nx_chain::{ChainPage, chain_page};
 use nx_host::Disk;
+use nx_numbers::PAGE_ROOM;
 use std::alloc::Global;
 
 // How many chain pages so many bytes take.
@@ -17,7 +19,7 @@ fn chain_pages(len: usize) -> usize
     requires { len < 2 ^ 63 }
     ensures { result ≡ chain_count len }
 {
-    (len + 8_183) / 8_184
+    len.div_ceil(PAGE_ROOM)
 }
 
 // The bytes that stand on the chain page with this index.
@@ -25,8 +27,8 @@ fn content_at(bytes: &[u8], index: usize) -> &[u8]
     requires { index < chain_count (length bytes.now) }
     ensures { IsContentAt bytes.now index result.now }
 {
-    let start = index * 8_184;
-    let end = bytes.len().min(start + 8_184);
+    let start = index * PAGE_ROOM;
+    let end = bytes.len().min(start + PAGE_ROOM);
     &bytes[start..end]
 }
 
@@ -47,7 +49,7 @@ impl Records {
     ) -> Result<u32, StoreError>
         requires runs { has_ended self.old ≡ false }
         requires some { 1 ≤ length content.now }
-        requires few { length content.now ≤ 8184 }
+        requires few { length content.now ≤ page_room }
         ensures still { IsStill D.Disk disk.old disk.new }
         ensures reads { D.reads disk.new ≤ D.reads disk.old + 1 }
         ensures keeps { IfOk result (λ page. KeepsLog self.old self.new) }
@@ -102,7 +104,7 @@ impl Records {
         ensures still { IsStill D.Disk disk.old disk.new }
         ensures reads { D.reads disk.new ≤ D.reads disk.old + 1 }
         ensures keeps { IfOk result (λ link. KeepsLog self.old self.new × (1 ≤ length link.content)) }
-        ensures full { IfOk result (λ link. link.next ≢ 0 → length link.content ≡ 8184) }
+        ensures full { IfOk result (λ link. link.next ≢ 0 → length link.content ≡ page_room) }
         ensures link { IfOk result (λ link. (page < page_count_of self.old) × SeesSo D.Disk self.old disk.old (λ pages. HasLink pages page link.next link.content)) }
         ensures fewer { IfOk result (λ link. (page_count_of self.new ≡ page_count_of self.old) × ((was : Image) → AddsNoLink (current self.old.wal was) (current self.new.wal was))) }
         ensures ok { IfOk result (λ link. ChainStepsTo D.Disk self.old self.new disk.old (λ links. next_of links ≡ page)

@@ -3,6 +3,7 @@ use Rattle.std.specs.Prelude.{ℕ, zero, suc, ◌+◌, ◌*◌, ◌^◌, ◌≡�
 use Rattle.std.specs.List.{AllByRecursion}
 use Rattle.std.specs.Option.{option_or}
 use Rattle.byteorder.specs.Endian.{big_number, big_bytes}
+use Rattle.nx_numbers.specs.Sizes.{page_size, entry_size, most_pages}
 use Rattle.nx_host.specs.Disk.{Image}
 
 -- pages by their numbers
@@ -22,19 +23,19 @@ pub record Group : Type 0 where
 -- so many pages of a group, from its bytes
 abbrev pub entries_of : ℕ → List ℕ → List Entry
 entries_of zero bytes = []
-entries_of (suc n) bytes = record { page = big_number 4 bytes; bytes = take 8192 (drop 4 bytes) } ∷ entries_of n (drop 8196 bytes)
+entries_of (suc n) bytes = record { page = big_number 4 bytes; bytes = take page_size (drop 4 bytes) } ∷ entries_of n (drop entry_size bytes)
 
 -- the numbers rise strictly, and none is below the least or a page too far
 abbrev pub rise : ℕ → List Entry → Bool
 rise least [] = true
-rise least (e ∷ es) = nat_le least e.page && nat_lt e.page 16777216 && rise (e.page + 1) es
+rise least (e ∷ es) = nat_le least e.page && nat_lt e.page most_pages && rise (e.page + 1) es
 
 unfoldable pub count_of : List ℕ → ℕ
 count_of bytes = big_number 4 (drop 9 bytes)
 
 -- the bytes from a gate up to the next one
 abbrev pub size_of : ℕ → ℕ
-size_of count = 13 + 8196 * count
+size_of count = 13 + entry_size * count
 
 abbrev pub group_of : List ℕ → Group
 group_of bytes = record { number = big_number 8 (drop 1 bytes); entries = entries_of (count_of bytes) (drop 13 bytes) }
@@ -42,13 +43,13 @@ group_of bytes = record { number = big_number 8 (drop 1 bytes); entries = entrie
 -- an open group stands at the beginning, with the next gate behind it
 abbrev pub is_group : List ℕ → Bool
 is_group bytes =
-    (slice_index bytes 0 == 1) && (nat_le 1 (count_of bytes) && (nat_le (count_of bytes) 16777216 && (nat_lt (size_of (count_of bytes)) (length bytes) && rise 0 (group_of bytes).entries)))
+    (slice_index bytes 0 == 1) && (nat_le 1 (count_of bytes) && (nat_le (count_of bytes) most_pages && (nat_lt (size_of (count_of bytes)) (length bytes) && rise 0 (group_of bytes).entries)))
 
 -- the groups behind so many bytes, up to the first place with none
 unfoldable pub groups_behind : ℕ → List ℕ → List Group
 groups_behind skip [] = []
 groups_behind (suc n) (b ∷ bs) = groups_behind n bs
-groups_behind zero (b ∷ bs) = if is_group (b ∷ bs) then group_of (b ∷ bs) ∷ groups_behind (12 + 8196 * count_of (b ∷ bs)) bs else []
+groups_behind zero (b ∷ bs) = if is_group (b ∷ bs) then group_of (b ∷ bs) ∷ groups_behind (12 + entry_size * count_of (b ∷ bs)) bs else []
 
 -- the groups of a log below an offset
 abbrev pub groups_to : ℕ → List ℕ → List Group
@@ -79,7 +80,7 @@ logged (g ∷ gs) = over (logged gs) (entry_pages g.entries)
 
 -- the whole pages of the pages area
 abbrev pub pages_of : List ℕ → Pages
-pages_of area p = if nat_lt p 16777216 && nat_le (8192 * p + 8192) (length area) then Some (take 8192 (drop (8192 * p) area)) else None
+pages_of area p = if nat_lt p most_pages && nat_le (page_size * p + page_size) (length area) then Some (take page_size (drop (page_size * p) area)) else None
 
 abbrev pub replay : Image → Pages
 replay image = over (logged (groups image.log)) (pages_of image.pages)
@@ -102,14 +103,14 @@ group_bytes g = big_bytes 8 g.number ++ (big_bytes 4 (length g.entries) ++ entry
 
 -- each page is whole, and has a number that may be
 pub record IsEntry (e : Entry) : Type 0 where
-  pub long : length e.bytes ≡ 8192
-  pub low : e.page < 16777216
+  pub long : length e.bytes ≡ page_size
+  pub low : e.page < most_pages
 
 -- a group that can be written
 pub record IsWhole (g : Group) : Type 0 where
   pub number : g.number < 2 ^ 64
   pub some : 1 ≤ length g.entries
-  pub few : length g.entries ≤ 16777216
+  pub few : length g.entries ≤ most_pages
   pub rises : rise 0 g.entries ≡ true
   pub entries : AllByRecursion IsEntry g.entries
 
@@ -142,5 +143,5 @@ pub record Stays (was now : Pages) : Type 0 where
 pub record IsPartlyMoved (was now : Image) : Type 0 where
   pub log : now.log ≡ was.log
   pub no_shorter : length was.pages ≤ length now.pages
-  pub kept : (p : ℕ) → 8192 * p + 8192 ≤ length was.pages → logged (groups was.log) p ≡ None → take 8192 (drop (8192 * p) now.pages) ≡ take 8192 (drop (8192 * p) was.pages)
-  pub no_longer : (p : ℕ) → length was.pages < 8192 * p + 8192 → 8192 * p + 8192 ≤ length now.pages → (q : ℕ) × (p ≤ q) × IsSome (logged (groups was.log) q)
+  pub kept : (p : ℕ) → page_size * p + page_size ≤ length was.pages → logged (groups was.log) p ≡ None → take page_size (drop (page_size * p) now.pages) ≡ take page_size (drop (page_size * p) was.pages)
+  pub no_longer : (p : ℕ) → length was.pages < page_size * p + page_size → page_size * p + page_size ≤ length now.pages → (q : ℕ) × (p ≤ q) × IsSome (logged (groups was.log) q)

@@ -1,5 +1,6 @@
 -- What room a slotted page has.
 use Rattle.std.specs.Prelude.{◌≡◌, ℕ, ◌<◌, ◌≤◌, List}
+use Rattle.nx_numbers.specs.Sizes.{page_size}
 use Rattle.nx_slots.specs.Slots.{at_of, count_of, size_of, slots_of, IsSlotted}
 use Rattle.nx_slots.specs.Edits.{first_empty, free_in}
 use Rattle.nx_slots.specs.declared.room.Room.{Room}
@@ -10,5 +11,5 @@ pub record HasRoom (page : List ℕ) (room : Room) : Type 0 where
   pub count : room.count ≡ count_of page
   pub slot : room.slot ≡ first_empty (slots_of page)
   pub free : room.free ≡ free_in (slots_of page)
-  pub within : room.start ≤ 8192
+  pub within : room.start ≤ page_size
   pub behind : (slot : ℕ) → slot < count_of page → 1 ≤ size_of page slot → room.start ≤ at_of page slot

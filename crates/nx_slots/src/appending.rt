@@ -3,11 +3,12 @@ ghost use Rattle.nx_slots.specs.Packing.{edited, CanStand};
 ghost use Rattle.nx_slots.specs.Rooms.{HasRoom};
 ghost use Rattle.nx_slots.specs.Slots.{at_of, count_of, size_of, slots_of, IsSlotted};
 ghost use Rattle.std.specs.Prelude.{◌≡◌, ◌+◌, ◌*◌, ◌<◌, ◌≤◌, ℕ, length};
+ghost use Rattle.nx_numbers.specs.Sizes.{page_size};
 
 use crate::packing::{change, lay};
 use crate::reads::{count_at, offset_in, size_at};
 use crate::room::Room;
-use nx_numbers::set_u16_at;
+use nx_numbers::{PAGE_SIZE, set_u16_at};
 
 /// Where the records begin with that of a further slot.
 fn start_with(page: &[u8], i: usize, start: usize) -> usize
@@ -24,11 +25,11 @@ fn start_with(page: &[u8], i: usize, start: usize) -> usize
 /// Where the records of a page begin, its end where there are none.
 pub(crate) fn records_start(page: &[u8]) -> usize
     requires { IsSlotted page.now }
-    ensures within { result ≤ 8192 }
+    ensures within { result ≤ page_size }
     ensures behind { (i : ℕ) → i < count_of page.now → 1 ≤ size_of page.now i → result ≤ at_of page.now i }
 {
     let count = count_at(page);
-    let mut start = 8192;
+    let mut start = PAGE_SIZE;
     for i in 0..count {
         start = start_with(page, i, start);
     }
@@ -40,7 +41,7 @@ fn append(page: &mut [u8], count: usize, start: usize, bytes: &[u8])
     requires slotted { IsSlotted page.old }
     requires count { count ≡ count_of page.old }
     requires some { 1 ≤ length bytes.now }
-    requires within { start ≤ 8192 }
+    requires within { start ≤ page_size }
     requires behind { (i : ℕ) → i < count_of page.old → 1 ≤ size_of page.old i → start ≤ at_of page.old i }
     requires room { 12 + 4 * count + length bytes.now ≤ start }
     ensures slotted { IsSlotted page.new }

@@ -4,19 +4,21 @@ ghost use Rattle.nx_slots.specs.Refusals.{LacksRoom};
 ghost use Rattle.nx_slots.specs.Rooms.{HasRoom};
 ghost use Rattle.nx_slots.specs.Slots.{slots_of, IsSlotted};
 ghost use Rattle.std.specs.Prelude.{◌≡◌, ◌≤◌, ℕ, true, false, List, [], Option, Some, None, length, slice_index_or, IfErr, IfOk, MatchOption};
+ghost use Rattle.nx_numbers.specs.Sizes.{longest_record};
 
 use crate::changes::{clear_record, put_by, put_record, set_record};
 use crate::form::is_slotted;
 use crate::packing::begin;
 use crate::reads::{free_at, read_record};
 use crate::room::{Room, room_of};
+use nx_numbers::PAGE_SIZE;
 use std::marker::Model;
 use thiserror::Error;
 
 /// The bytes of one page, in place.
 #[derive(Clone, Copy, Debug)]
 pub struct PageBytes {
-    pub bytes: [u8; 8192],
+    pub bytes: [u8; PAGE_SIZE],
 }
 
 /// The record of a slot of a page with the given bytes, without a copy of the page. There is none exactly
@@ -54,7 +56,7 @@ pub fn room_in(page: &PageBytes) -> Option<Room>
 pub fn put_at(page: &mut PageBytes, room: Room, bytes: &[u8]) -> Result<u16, SlotsError>
     requires room { HasRoom page.old.bytes room }
     requires some { 1 ≤ length bytes.now }
-    requires few { length bytes.now ≤ 8176 }
+    requires few { length bytes.now ≤ longest_record }
     ensures slotted { IsSlotted page.new.bytes }
     ensures ok { IfOk result (λ slot. IsPut (slots_of page.old.bytes) bytes.now slot (slots_of page.new.bytes)) }
     ensures no_room { IfErr result (λ e.
@@ -68,7 +70,7 @@ pub fn put_at(page: &mut PageBytes, room: Room, bytes: &[u8]) -> Result<u16, Slo
 pub fn put_in(page: &mut PageBytes, bytes: &[u8]) -> Result<u16, SlotsError>
     requires slotted { IsSlotted page.old.bytes }
     requires some { 1 ≤ length bytes.now }
-    requires few { length bytes.now ≤ 8176 }
+    requires few { length bytes.now ≤ longest_record }
     ensures slotted { IsSlotted page.new.bytes }
     ensures ok { IfOk result (λ slot. IsPut (slots_of page.old.bytes) bytes.now slot (slots_of page.new.bytes)) }
     ensures no_room { IfErr result (λ e.
@@ -110,7 +112,9 @@ impl Page {
     pub fn new() -> Page
         ensures { result ≡ [] }
     {
-        let mut page = PageBytes { bytes: [0; 8192] };
+        let mut page = PageBytes {
+            bytes: [0; PAGE_SIZE],
+        };
         begin(&mut page.bytes, 0);
         Page { page }
     }
@@ -150,7 +154,7 @@ impl Page {
     /// page stays.
     pub fn put(&mut self, bytes: &[u8]) -> Result<u16, SlotsError>
         requires some { 1 ≤ length bytes.now }
-        requires few { length bytes.now ≤ 8176 }
+        requires few { length bytes.now ≤ longest_record }
         ensures ok { IfOk result (λ slot. IsPut self.old bytes.now slot self.new) }
         ensures no_room { IfErr result (λ e.
             LacksRoom self.old (needed_for self.old bytes.now) e
@@ -165,7 +169,7 @@ impl Page {
     pub fn set(&mut self, slot: u16, bytes: &[u8]) -> Result<(), SlotsError>
         requires there { HasRecord self.old slot }
         requires some { 1 ≤ length bytes.now }
-        requires few { length bytes.now ≤ 8176 }
+        requires few { length bytes.now ≤ longest_record }
         ensures ok { IfOk result (λ _. IsSet self.old slot bytes.now self.new) }
         ensures no_room { IfErr result (λ e.
             LacksRoom self.old (growth_of self.old slot bytes.now) e

@@ -4,11 +4,13 @@ ghost use Rattle.nx_slots.specs.Edits.{free_in, needed_for};
 ghost use Rattle.nx_slots.specs.Rooms.{HasRoom};
 ghost use Rattle.nx_slots.specs.Slots.{count_of, slots_of, IsHeaded, IsSlotted};
 ghost use Rattle.std.specs.Prelude.{◌≡◌, ◌↔◌, ◌+◌, ◌<◌, ◌≤◌, ℕ, List, true, false, length, IfSome, MatchOption};
+ghost use Rattle.nx_numbers.specs.Sizes.{page_size, longest_record};
 
 use crate::appending::records_start;
 use crate::changes::needed_at;
 use crate::form::{ends_full, has_slots, is_headed};
 use crate::reads::{count_at, first_empty_slot, free_at, offset_in, size_at};
+use nx_numbers::{PAGE_ROOM, PAGE_SIZE};
 
 /// What room a slotted page has: `room_in` finds it, and `put_at` goes by it.
 #[derive(Clone, Copy, Debug)]
@@ -25,7 +27,7 @@ pub struct Room {
 impl Room {
     /// Whether a page with this room takes a record of so many bytes, at most 8,176.
     pub fn takes(&self, size: usize) -> bool
-        requires { size ≤ 8176 }
+        requires { size ≤ longest_record }
         ensures { (page bytes : List ℕ) → HasRoom page self.now → length bytes ≡ size
             → (result ≡ true) ↔ (needed_for (slots_of page) bytes ≤ free_in (slots_of page)) }
     {
@@ -70,8 +72,8 @@ fn packed_room(page: &[u8], count: usize) -> Option<Room>
     let mut room = Room {
         count,
         slot: count,
-        free: 8184 - 4 * count,
-        start: 8192,
+        free: PAGE_ROOM - 4 * count,
+        start: PAGE_SIZE,
     };
     for i in 0..count {
         match with_slot(page, room, i) {
@@ -97,7 +99,7 @@ fn scanned_room(page: &[u8]) -> Room
 
 /// The room of a page, and none exactly where the bytes are no slotted page.
 pub(crate) fn room_of(page: &[u8]) -> Option<Room>
-    requires { length page.now ≡ 8192 }
+    requires { length page.now ≡ page_size }
     ensures { MatchOption result (IsSlotted page.now → ⊥) (λ room. HasRoom page.now room) }
 {
     if !is_headed(page) {

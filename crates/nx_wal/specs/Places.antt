@@ -4,6 +4,7 @@ use Rattle.std.specs.Option.{option_or}
 use Rattle.std.specs.BTreeMap.{BTreeMap, get}
 use Rattle.std.specs.Ordering.{nat_cmp}
 use Rattle.std.specs.declared.alloc.Global.{Global}
+use Rattle.nx_numbers.specs.Sizes.{page_size, most_pages}
 use Rattle.nx_slots.specs.declared.page.PageBytes.{PageBytes}
 use Rattle.nx_replay.specs.Log.{Entry, Group, size_of, entry_pages, logged}
 
@@ -13,7 +14,7 @@ Places = BTreeMap ℕ (Option ℕ)
 
 -- the page that stands there
 abbrev pub place_in : Option (Option ℕ) → List ℕ → Option (List ℕ)
-place_in (Some (Some at)) log = Some (take 8192 (drop at log))
+place_in (Some (Some at)) log = Some (take page_size (drop at log))
 place_in (Some None) log = None
 place_in None log = None
 
@@ -32,11 +33,11 @@ Notes es log old new = (p : ℕ) → place_in (get nat_cmp new p) log ≡ option
 
 -- Each place has a page's bytes below the limit.
 abbrev pub AreWithin : ℕ → Places → Type 0
-AreWithin limit places = (p at : ℕ) → get nat_cmp places p ≡ Some (Some at) → at + 8192 ≤ limit
+AreWithin limit places = (p at : ℕ) → get nat_cmp places p ≡ Some (Some at) → at + page_size ≤ limit
 
 -- A page with this number may wait for a commit: its place has an entry already, so that the commit takes no memory.
 abbrev pub MayWait : Places → ℕ → Type 0
-MayWait places page = (page < 16777216) × IsSome (get nat_cmp places page)
+MayWait places page = (page < most_pages) × IsSome (get nat_cmp places page)
 
 -- a page in room of its own
 abbrev pub Kept : Type 0
@@ -44,4 +45,4 @@ Kept = Box PageBytes Global
 
 -- all bytes of a page are there
 abbrev pub IsWholePage : Kept → Type 0
-IsWholePage kept = length kept.value.bytes ≡ 8192
+IsWholePage kept = length kept.value.bytes ≡ page_size

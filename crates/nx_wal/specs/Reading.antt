@@ -1,6 +1,7 @@
 -- What is read of a log.
 use Rattle.std.specs.Prelude.{ℕ, ◌^◌, ◌≡◌, ◌<◌, ◌≤◌, ◌==◌, Bool, true, false, List, ◌++◌, length, map, take, drop, slice_index, Option, Some, None}
 use Rattle.byteorder.specs.Endian.{big_number}
+use Rattle.nx_numbers.specs.Sizes.{page_size, most_pages}
 use Rattle.nx_host.specs.Disk.{Rose}
 use Rattle.nx_replay.specs.Log.{Entry, Group, groups, groups_behind, end_of, count_of, size_of, is_group, IsAtEnd}
 use Rattle.nx_wal.specs.declared.reading.Head.{Head}
@@ -26,7 +27,7 @@ pub record Gives (n room : ℕ) (prefix bytes : List ℕ) : Type 0 where
 pub record IsHeadOf (count : ℕ) (bytes : List ℕ) : Type 0 where
   pub gate : slice_index bytes 0 ≡ 1
   pub counted : count_of bytes ≡ count
-  pub few : count ≤ 16777216
+  pub few : count ≤ most_pages
   pub whole : size_of count < length bytes
 
 -- what the head says of a log at the offset
@@ -38,7 +39,7 @@ pub record IsHead (at : ℕ) (head : Head) (log : List ℕ) : Type 0 where
 
 -- the page of a group that stands at the beginning, behind its number
 abbrev pub page_at : List ℕ → Entry
-page_at bytes = record { page = big_number 4 bytes; bytes = take 8192 (drop 4 bytes) }
+page_at bytes = record { page = big_number 4 bytes; bytes = take page_size (drop 4 bytes) }
 
 -- The log was read up to an offset.
 pub record IsReadTo (places : Places) (starts : List ℕ) (at : ℕ) (log : List ℕ) : Type 0 where

@@ -1,6 +1,7 @@
 // Moving pages from the log to the pages area.
 ghost use Rattle.std.specs.Prelude.{◌≡◌, ◌+◌, ◌*◌, ◌^◌, ◌<◌, ◌≤◌, length, take, drop, ℕ, true, Some, None, IsSome, OnOk, OnErr, IfOk};
 ghost use Rattle.std.specs.BTreeMap.{BTreeMap};
+ghost use Rattle.nx_numbers.specs.Sizes.{page_size};
 ghost use Rattle.nx_host.specs.Disk.{Image, Rose, ComesTorn, WritesTo};
 ghost use Rattle.nx_host.specs.declared.disk.Area.TheVariants.{Pages};
 ghost use Rattle.nx_host.specs.Still.{WritesAlone, IsSettled};
@@ -11,26 +12,27 @@ use crate::PageBytes;
 use crate::reading::read_from;
 use crate::writing::write_gate;
 use nx_host::{Area, Disk, Failed};
+use nx_numbers::PAGE_SIZE;
 use std::collections::BTreeMap;
 
 // Writes a page to the pages area.
 fn write_area<D: Disk>(disk: &mut D, page: u32, bytes: &[u8]) -> Result<(), Failed>
-    requires { length bytes.now ≡ 8192 }
+    requires { length bytes.now ≡ page_size }
     ensures writes { WritesPage D.Disk page disk.old disk.new }
-    ensures written { OnOk result ((was now : Image) → D.contents disk.old ≡ Some was → D.contents disk.new ≡ Some now → WritesTo Pages (8192 * page) bytes.now was now) }
+    ensures written { OnOk result ((was now : Image) → D.contents disk.old ≡ Some was → D.contents disk.new ≡ Some now → WritesTo Pages (page_size * page) bytes.now was now) }
     ensures cause { OnErr result (Rose (D.faults disk.old) (D.faults disk.new)) }
 {
-    disk.write_at(Area::Pages, 8_192 * (page as u64), bytes)
+    disk.write_at(Area::Pages, PAGE_SIZE as u64 * (page as u64), bytes)
 }
 
 // Writes the page that stands in the log there to the pages area.
 fn move_page<D: Disk>(disk: &mut D, page: u32, at: u64) -> Result<(), Failed>
     ensures writes { WritesPage D.Disk page disk.old disk.new }
-    ensures moved { OnOk result ((was now : Image) → D.contents disk.old ≡ Some was → D.contents disk.new ≡ Some now → at + 8192 ≤ length was.log
-        → WritesTo Pages (8192 * page) (take 8192 (drop at was.log)) was now) }
+    ensures moved { OnOk result ((was now : Image) → D.contents disk.old ≡ Some was → D.contents disk.new ≡ Some now → at + page_size ≤ length was.log
+        → WritesTo Pages (page_size * page) (take page_size (drop at was.log)) was now) }
     ensures cause { OnErr result (Rose (D.faults disk.old) (D.faults disk.new)) }
 {
-    let mut bytes = [0u8; 8192];
+    let mut bytes = [0u8; PAGE_SIZE];
     read_from(disk, Area::Log, at, &mut bytes)?;
     write_area(disk, page, &bytes)
 }
@@ -39,8 +41,8 @@ fn move_page<D: Disk>(disk: &mut D, page: u32, at: u64) -> Result<(), Failed>
 fn move_from<D: Disk>(disk: &mut D, page: u32, place: &Option<u64>) -> Result<(), Failed>
     ensures none { place.now ≡ None → disk.new ≡ disk.old }
     ensures writes { (at : ℕ) → place.now ≡ Some at → WritesPage D.Disk page disk.old disk.new }
-    ensures moved { OnOk result ((at : ℕ) → place.now ≡ Some at → (was now : Image) → D.contents disk.old ≡ Some was → D.contents disk.new ≡ Some now → at + 8192 ≤ length was.log
-        → WritesTo Pages (8192 * page) (take 8192 (drop at was.log)) was now) }
+    ensures moved { OnOk result ((at : ℕ) → place.now ≡ Some at → (was now : Image) → D.contents disk.old ≡ Some was → D.contents disk.new ≡ Some now → at + page_size ≤ length was.log
+        → WritesTo Pages (page_size * page) (take page_size (drop at was.log)) was now) }
     ensures cause { OnErr result (Rose (D.faults disk.old) (D.faults disk.new)) }
 {
     match place {

@@ -1,5 +1,6 @@
 // Reading pages.
 ghost use Rattle.std.specs.Prelude.{◌≡◌, ℕ, List, ◌+◌, ◌*◌, ◌^◌, ◌<◌, ◌≤◌, length, take, drop, true, false, Some, None, IsSome, IfOk, IfSome, IfNone, OnErr, ◌↔◌};
+ghost use Rattle.nx_numbers.specs.Sizes.{page_size, most_pages};
 ghost use Rattle.nx_host.specs.Disk.{Image, area_of, Rose};
 ghost use Rattle.nx_host.specs.Still.{IsStill};
 ghost use Rattle.nx_replay.specs.Log.{groups, replay, HasMark, mark};
@@ -10,6 +11,7 @@ use crate::PageBytes;
 use crate::places::place_of;
 use crate::reading::read_from;
 use nx_host::{Area, Disk, Failed};
+use nx_numbers::{MOST_PAGES, PAGE_SIZE};
 use std::collections::BTreeMap;
 
 // What a store begins with.
@@ -42,7 +44,7 @@ pub(crate) fn has_mark<D: Disk>(
         return begins_with_mark(disk, Area::Log, at);
     }
     let length = disk.length(Area::Pages)?;
-    if length < 8_192 {
+    if length < PAGE_SIZE as u64 {
         return Ok(false);
     }
     begins_with_mark(disk, Area::Pages, 0)
@@ -57,12 +59,12 @@ fn read_whole<D: Disk>(
 ) -> Result<bool, Failed>
     ensures still { IsStill D.Disk disk.old disk.new }
     ensures reads { D.reads disk.new ≤ D.reads disk.old + 1 }
-    ensures whole { IfOk result (λ found. found ≡ true → (was : Image) → D.contents disk.old ≡ Some was → (at + 8192 ≤ length (area_of area was)) × (into.new.bytes ≡ take 8192 (drop at (area_of area was)))) }
-    ensures missing { IfOk result (λ found. found ≡ false → (was : Image) → D.contents disk.old ≡ Some was → at + 8192 ≤ length (area_of area was) → ⊥) }
+    ensures whole { IfOk result (λ found. found ≡ true → (was : Image) → D.contents disk.old ≡ Some was → (at + page_size ≤ length (area_of area was)) × (into.new.bytes ≡ take page_size (drop at (area_of area was)))) }
+    ensures missing { IfOk result (λ found. found ≡ false → (was : Image) → D.contents disk.old ≡ Some was → at + page_size ≤ length (area_of area was) → ⊥) }
     ensures cause { OnErr result (Rose (D.faults disk.old) (D.faults disk.new)) }
 {
     let given = read_from(disk, area, at, &mut into.bytes)?;
-    if given < 8_192 {
+    if given < PAGE_SIZE {
         return Ok(false);
     }
     Ok(true)
@@ -84,18 +86,18 @@ pub(crate) fn read_page<D: Disk>(
     if let Some(at) = place_of(places, page) {
         return read_whole(disk, Area::Log, at, into);
     }
-    if page >= 16_777_216 {
+    if page >= MOST_PAGES {
         return Ok(false);
     }
-    read_whole(disk, Area::Pages, 8_192 * (page as u64), into)
+    read_whole(disk, Area::Pages, PAGE_SIZE as u64 * (page as u64), into)
 }
 
 // The length of the pages area in whole pages.
 pub(crate) fn area_count<D: Disk>(disk: &mut D) -> Result<u32, Failed>
     ensures still { IsStill D.Disk disk.old disk.new }
     ensures reads { D.reads disk.new ≡ D.reads disk.old }
-    ensures low { IfOk result (λ count. count ≤ 16777216) }
-    ensures count { IfOk result (λ count. (was : Image) → D.contents disk.old ≡ Some was → (p : ℕ) → (p < count) ↔ ((p < 16777216) × (8192 * p + 8192 ≤ length was.pages))) }
+    ensures low { IfOk result (λ count. count ≤ most_pages) }
+    ensures count { IfOk result (λ count. (was : Image) → D.contents disk.old ≡ Some was → (p : ℕ) → (p < count) ↔ ((p < most_pages) × (page_size * p + page_size ≤ length was.pages))) }
     ensures cause { OnErr result (Rose (D.faults disk.old) (D.faults disk.new)) }
 {
     let length = disk.length(Area::Pages)?;
@@ -104,8 +106,8 @@ pub(crate) fn area_count<D: Disk>(disk: &mut D) -> Result<u32, Failed>
 
 // How many whole pages that may be lie within so many bytes.
 fn whole_pages(length: u64) -> u32
-    ensures count { (p : ℕ) → (p < result) ↔ ((p < 16777216) × (8192 * p + 8192 ≤ length)) }
-    ensures low { result ≤ 16777216 }
+    ensures count { (p : ℕ) → (p < result) ↔ ((p < most_pages) × (page_size * p + page_size ≤ length)) }
+    ensures low { result ≤ most_pages }
 {
-    (length / 8_192).min(16_777_216) as u32
+    (length / PAGE_SIZE as u64).min(MOST_PAGES as u64) as u32
 }

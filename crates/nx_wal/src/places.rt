@@ -2,11 +2,13 @@
 ghost use Rattle.std.specs.Prelude.{◌≡◌, ◌⊎◌, ℕ, List, ◌+◌, ◌*◌, ◌^◌, ◌-◌, ◌<◌, ◌≤◌, ◌++◌, min, length, drop, true, false, All, Some, None, IsSome, IfSome, IfNone};
 ghost use Rattle.std.specs.BTreeMap.{get, keys, values, btree_map_len};
 ghost use Rattle.std.specs.Ordering.{nat_cmp};
+ghost use Rattle.nx_numbers.specs.Sizes.{entry_size};
 ghost use Rattle.nx_replay.specs.Log.{entry_bytes};
 ghost use Rattle.nx_wal.specs.Places.{place_in, Notes, AreWithin, MayWait, IsWholePage};
 ghost use Rattle.nx_wal.specs.Writing.{entries_of};
 
 use crate::PageBytes;
+use nx_numbers::ENTRY_SIZE;
 use std::collections::BTreeMap;
 
 // The place of a page in the log.
@@ -45,15 +47,15 @@ pub(crate) fn set_places(
 )
     requires numbers { All (MayWait places.old) (keys waiting.now) }
     requires whole { All IsWholePage (values waiting.now) }
-    requires low { at + 8196 * btree_map_len waiting.now ≤ 2 ^ 63 }
+    requires low { at + entry_size * btree_map_len waiting.now ≤ 2 ^ 63 }
     ensures notes { (log rest : List ℕ) → drop at log ≡ entry_bytes (entries_of waiting.now.entries) ++ rest → Notes (entries_of waiting.now.entries) log places.old places.new }
-    ensures within { (limit : ℕ) → at + 8196 * btree_map_len waiting.now ≤ limit → AreWithin limit places.old → AreWithin limit places.new }
+    ensures within { (limit : ℕ) → at + entry_size * btree_map_len waiting.now ≤ limit → AreWithin limit places.old → AreWithin limit places.new }
     ensures keeps { (q : ℕ) → IsSome (get nat_cmp places.old q) → IsSome (get nat_cmp places.new q) }
 {
     let mut place = at;
     for (page, _) in waiting.iter() {
         match places.insert(*page, Some(place + 4)) {
-            Ok(_) => place += 8_196,
+            Ok(_) => place += ENTRY_SIZE as u64,
             Err(_) => unreachable!(),
         }
     }

@@ -9,12 +9,14 @@ ghost use Rattle.nx_wal.specs.Reading.{Gives, IsHead, IsRead, FailsBy, IsNotOpen
 ghost use Rattle.nx_wal.specs.Places.{Notes, AreWithin};
 ghost use Rattle.std.specs.BTreeMap.{IsEmpty, get};
 ghost use Rattle.std.specs.Ordering.{nat_cmp};
+ghost use Rattle.nx_numbers.specs.Sizes.{entry_size, most_pages};
 
 use crate::pages::{area_count, has_mark};
 use crate::{PageBytes, WalError};
 use byteorder::{BigEndian, ByteOrder};
 use nx_groups::{Group, GroupPage, GroupPages};
 use nx_host::{Area, Disk, Failed};
+use nx_numbers::{ENTRY_SIZE, MOST_PAGES, PAGE_SIZE};
 use std::alloc::Global;
 use std::collections::BTreeMap;
 
@@ -63,16 +65,16 @@ fn is_shut(given: usize, head: &[u8]) -> bool
 // room; else 0.
 fn pages_of(given: usize, head: &[u8], room: u64) -> u32
     requires { 13 ≤ length head.now }
-    ensures whole { 0 < result → (13 ≤ given) × (13 + 8196 * result < room) }
-    ensures counted { 0 < result → (slice_index head.now 0 ≡ 1) × (result ≡ big_number 4 (drop 9 head.now)) × (result ≤ 16777216) }
-    ensures none { result ≡ 0 → 13 ≤ given → slice_index head.now 0 ≡ 1 → 1 ≤ big_number 4 (drop 9 head.now) → big_number 4 (drop 9 head.now) ≤ 16777216
-        → 13 + 8196 * big_number 4 (drop 9 head.now) < room → ⊥ }
+    ensures whole { 0 < result → (13 ≤ given) × (13 + entry_size * result < room) }
+    ensures counted { 0 < result → (slice_index head.now 0 ≡ 1) × (result ≡ big_number 4 (drop 9 head.now)) × (result ≤ most_pages) }
+    ensures none { result ≡ 0 → 13 ≤ given → slice_index head.now 0 ≡ 1 → 1 ≤ big_number 4 (drop 9 head.now) → big_number 4 (drop 9 head.now) ≤ most_pages
+        → 13 + entry_size * big_number 4 (drop 9 head.now) < room → ⊥ }
 {
     if given < 13 || head[0] != 1 {
         return 0;
     }
     let count = BigEndian::read_u32(&head[9..]);
-    if count > 16_777_216 || 13 + 8_196 * (count as u64) >= room {
+    if count > MOST_PAGES || 13 + ENTRY_SIZE as u64 * (count as u64) >= room {
         return 0;
     }
     count
@@ -83,7 +85,7 @@ fn read_head<D: Disk>(disk: &mut D, at: u64, limit: u64) -> Result<Head, Failed>
     requires { at ≤ limit }
     ensures still { IsStill D.Disk disk.old disk.new }
     ensures reads { D.reads disk.new ≤ D.reads disk.old + 1 }
-    ensures room { IfOk result (λ head. 0 < head.count → at + 13 + 8196 * head.count < limit) }
+    ensures room { IfOk result (λ head. 0 < head.count → at + 13 + entry_size * head.count < limit) }
     ensures head { IfOk result (λ head. (was : Image) → D.contents disk.old ≡ Some was → limit ≡ min (2 ^ 63) (length was.log) → IsHead at head was.log) }
     ensures cause { OnErr result (Rose (D.faults disk.old) (D.faults disk.new)) }
 {
@@ -116,25 +118,25 @@ fn read_numbers<D: Disk>(
     count: u32,
     numbers: &mut Vec<u32>,
 ) -> Result<bool, WalError>
-    requires { at + 8196 * count ≤ 2 ^ 63 }
+    requires { at + entry_size * count ≤ 2 ^ 63 }
     ensures still { IsStill D.Disk disk.old disk.new }
     ensures reads { D.reads disk.new ≤ D.reads disk.old + count }
-    ensures rise { IfOk result (λ rises. (was : Image) → D.contents disk.old ≡ Some was → at + 8196 * count ≤ length was.log → rises ≡ rise 0 (entries_of count (drop at was.log))) }
+    ensures rise { IfOk result (λ rises. (was : Image) → D.contents disk.old ≡ Some was → at + entry_size * count ≤ length was.log → rises ≡ rise 0 (entries_of count (drop at was.log))) }
     ensures long { IfOk result (λ rises. rises ≡ true → length numbers.new.items ≡ count) }
-    ensures numbers { IfOk result (λ rises. rises ≡ true → (was : Image) → D.contents disk.old ≡ Some was → at + 8196 * count ≤ length was.log
+    ensures numbers { IfOk result (λ rises. rises ≡ true → (was : Image) → D.contents disk.old ≡ Some was → at + entry_size * count ≤ length was.log
         → numbers.new.items ≡ numbers_of (entries_of count (drop at was.log))) }
     ensures refused { IfErr result (λ e. FailsBy e (D.faults disk.old) (D.faults disk.new)) }
 {
     numbers.clear();
     let mut least = 0u32;
     for i in 0..count {
-        let Ok(read) = read_number(disk, at + 8_196 * (i as u64)) else {
+        let Ok(read) = read_number(disk, at + ENTRY_SIZE as u64 * (i as u64)) else {
             return Err(WalError::Disk);
         };
         let Some(number) = read else {
             return Ok(false);
         };
-        if number < least || number >= 16_777_216 {
+        if number < least || number >= MOST_PAGES {
             return Ok(false);
         }
         let Ok(_) = numbers.push(number) else {
@@ -151,17 +153,17 @@ fn note_pages(
     at: u64,
     numbers: &[u32],
 ) -> Result<(), WalError>
-    requires { at + 8196 * length numbers.now ≤ 2 ^ 63 }
+    requires { at + entry_size * length numbers.now ≤ 2 ^ 63 }
     ensures notes { OnOk result ((log : List ℕ) → numbers.now ≡ numbers_of (entries_of (length numbers.now) (drop at log))
         → Notes (entries_of (length numbers.now) (drop at log)) log places.old places.new) }
-    ensures within { OnOk result ((limit : ℕ) → at + 8196 * length numbers.now ≤ limit → AreWithin limit places.old → AreWithin limit places.new) }
+    ensures within { OnOk result ((limit : ℕ) → at + entry_size * length numbers.now ≤ limit → AreWithin limit places.old → AreWithin limit places.new) }
     ensures refused { IfErr result (λ e. e ≡ WalError.Memory) }
 {
     let mut left = numbers.len();
     while left > 0 {
         left -= 1;
         let number = numbers[left];
-        let Ok(_) = places.insert(number, Some(at + 8_196 * (left as u64) + 4)) else {
+        let Ok(_) = places.insert(number, Some(at + ENTRY_SIZE as u64 * (left as u64) + 4)) else {
             return Err(WalError::Memory);
         };
     }
@@ -180,7 +182,7 @@ fn read_log<D: Disk>(
     requires none_begun { starts.old.items ≡ [] }
     requires limit { limit ≤ 2 ^ 63 }
     ensures still { IsStill D.Disk disk.old disk.new }
-    ensures reads { D.reads disk.new ≤ D.reads disk.old + (3 * (limit / 8196) + 1) }
+    ensures reads { D.reads disk.new ≤ D.reads disk.old + (3 * (limit / entry_size) + 1) }
     ensures read { IfOk result (λ end. (was : Image) → D.contents disk.old ≡ Some was → limit ≡ min (2 ^ 63) (length was.log) → IsRead places.new starts.new.items end was.log) }
     ensures refused { IfErr result (λ e. FailsBy e (D.faults disk.old) (D.faults disk.new)) }
 {
@@ -207,7 +209,7 @@ fn read_log<D: Disk>(
         let Ok(_) = starts.push(at) else {
             return Err(WalError::Memory);
         };
-        at += 13 + 8_196 * (head.count as u64);
+        at += 13 + ENTRY_SIZE as u64 * (head.count as u64);
     }
 }
 
@@ -215,12 +217,14 @@ fn read_log<D: Disk>(
 fn read_numbered<D: Disk>(disk: &mut D, at: u64) -> Result<GroupPage, Failed>
     ensures still { IsStill D.Disk disk.old disk.new }
     ensures reads { D.reads disk.new ≤ D.reads disk.old + 1 }
-    ensures page { IfOk result (λ page. (was : Image) → D.contents disk.old ≡ Some was → at + 8196 ≤ length was.log → entry page ≡ page_at (drop at was.log)) }
+    ensures page { IfOk result (λ page. (was : Image) → D.contents disk.old ≡ Some was → at + entry_size ≤ length was.log → entry page ≡ page_at (drop at was.log)) }
     ensures cause { OnErr result (Rose (D.faults disk.old) (D.faults disk.new)) }
 {
-    let mut unit = [0u8; 8_196];
+    let mut unit = [0u8; ENTRY_SIZE];
     let _given = read_from(disk, Area::Log, at, &mut unit)?;
-    let mut bytes = PageBytes { bytes: [0; 8192] };
+    let mut bytes = PageBytes {
+        bytes: [0; PAGE_SIZE],
+    };
     bytes.bytes.copy_from_slice(&unit[4..]);
     Ok(GroupPage {
         page: BigEndian::read_u32(&unit),
@@ -238,12 +242,12 @@ fn read_pages<D: Disk>(
     requires { at ≤ 2 ^ 63 }
     ensures still { IsStill D.Disk disk.old disk.new }
     ensures reads { D.reads disk.new ≤ D.reads disk.old + count }
-    ensures pages { IfOk result (λ pages. (was : Image) → D.contents disk.old ≡ Some was → at + 8196 * count ≤ length was.log → entries pages ≡ entries_of count (drop at was.log)) }
+    ensures pages { IfOk result (λ pages. (was : Image) → D.contents disk.old ≡ Some was → at + entry_size * count ≤ length was.log → entries pages ≡ entries_of count (drop at was.log)) }
     ensures refused { IfErr result (λ e. FailsBy e (D.faults disk.old) (D.faults disk.new)) }
 {
     let mut pages = GroupPages::new(alloc);
     for i in 0..count {
-        let Ok(page) = read_numbered(disk, at + 8_196 * (i as u64)) else {
+        let Ok(page) = read_numbered(disk, at + ENTRY_SIZE as u64 * (i as u64)) else {
             return Err(WalError::Disk);
         };
         let Ok(_) = pages.push(page) else {
@@ -310,7 +314,7 @@ pub(crate) struct Opened {
 // Reads the log of a store.
 pub(crate) fn open_log<D: Disk>(disk: &mut D, alloc: Global) -> Result<Opened, WalError>
     ensures still { IsStill D.Disk disk.old disk.new }
-    ensures reads { IfSome (D.contents disk.old) (λ was. D.reads disk.new ≤ D.reads disk.old + (3 * (length was.log / 8196 + 1) + 1)) }
+    ensures reads { IfSome (D.contents disk.old) (λ was. D.reads disk.new ≤ D.reads disk.old + (3 * (length was.log / entry_size + 1) + 1)) }
     ensures read { IfOk result (λ opened. (was : Image) → D.contents disk.old ≡ Some was → IsRead opened.places opened.starts.items opened.end was.log × HasMark (replay was)) }
     ensures refused { IfErr result (λ e. IsNotOpened e (D.faults disk.old) (D.faults disk.new) ((was : Image) → D.contents disk.old ≡ Some was → HasMark (replay was) → ⊥)) }
 {
@@ -336,9 +340,9 @@ pub(crate) fn open_log<D: Disk>(disk: &mut D, alloc: Global) -> Result<Opened, W
 // Whether a group stands at a log's beginning.
 fn has_group<D: Disk>(disk: &mut D, head: Head, alloc: Global) -> Result<bool, WalError>
     ensures still { IsStill D.Disk disk.old disk.new }
-    ensures some { IfOk result (λ has. has ≡ true → (0 < head.count) × ((was : Image) → D.contents disk.old ≡ Some was → 13 + 8196 * head.count ≤ length was.log
+    ensures some { IfOk result (λ has. has ≡ true → (0 < head.count) × ((was : Image) → D.contents disk.old ≡ Some was → 13 + entry_size * head.count ≤ length was.log
         → rise 0 (entries_of head.count (drop 13 was.log)) ≡ true)) }
-    ensures none { IfOk result (λ has. has ≡ false → 0 < head.count → (was : Image) → D.contents disk.old ≡ Some was → 13 + 8196 * head.count ≤ length was.log
+    ensures none { IfOk result (λ has. has ≡ false → 0 < head.count → (was : Image) → D.contents disk.old ≡ Some was → 13 + entry_size * head.count ≤ length was.log
         → rise 0 (entries_of head.count (drop 13 was.log)) ≡ false) }
     ensures refused { IfErr result (λ e. FailsBy e (D.faults disk.old) (D.faults disk.new)) }
 {

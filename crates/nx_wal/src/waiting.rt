@@ -5,6 +5,7 @@ ghost use Rattle.std.specs.Vec.{vec_capacity};
 ghost use Rattle.std.specs.BTreeMap.{get, insert_entry, btree_map_len, values, IsEmpty, IsUnchanged, Updates};
 ghost use Rattle.std.specs.Ordering.{nat_cmp};
 ghost use Rattle.std.proofs.Props.{props};
+ghost use Rattle.nx_numbers.specs.Sizes.{page_size, longest_record};
 ghost use Rattle.nx_slots.specs.Rooms.{HasRoom};
 ghost use Rattle.nx_slots.specs.Slots.{IsSlotted};
 ghost use Rattle.nx_wal.specs.Places.{Kept, IsWholePage};
@@ -98,7 +99,7 @@ impl Waiting {
     // Puts a record into the page that waits under a number, which has this room and takes it.
     pub(crate) fn put_record(&mut self, page: u32, room: Room, bytes: &[u8]) -> u16
         requires some { 1 ≤ length bytes.now }
-        requires few { length bytes.now ≤ 8176 }
+        requires few { length bytes.now ≤ longest_record }
         requires waits { WaitsWith self.old.pages page room bytes.now }
         ensures { ChangesOne self.old.pages self.new.pages page bytes.now result }
     {
@@ -133,7 +134,7 @@ fn filled(mut kept: Box<PageBytes>, page: &PageBytes) -> Box<PageBytes>
 // A page, all of whose bytes are there.
 fn copy_of(page: &PageBytes) -> PageBytes
     ensures same { result ≡ page.now }
-    ensures whole { length result.bytes ≡ 8192 }
+    ensures whole { length result.bytes ≡ page_size }
 {
     PageBytes { bytes: page.bytes }
 }

@@ -4,6 +4,7 @@ ghost use Rattle.std.specs.Option.{option_map};
 ghost use Rattle.std.specs.BTreeMap.{keys, btree_map_len};
 ghost use Rattle.std.specs.Vec.{vec_capacity};
 ghost use Rattle.std.proofs.Props.{props};
+ghost use Rattle.nx_numbers.specs.Sizes.{entry_size, longest_record, most_pages};
 ghost use Rattle.nx_host.specs.Disk.{Image};
 ghost use Rattle.nx_host.specs.Still.{IsStill, IsSettled, WritesAlone};
 ghost use Rattle.nx_replay.specs.Log.{replay, over, groups, size_of, entry_pages, Stays, HasSame, HasGroup, HasMark};
@@ -21,6 +22,7 @@ use crate::writing::write_group;
 use crate::{PageBytes, WalError};
 use nx_groups::Group;
 use nx_host::Disk;
+use nx_numbers::{ENTRY_SIZE, PAGE_SIZE};
 use std::alloc::Global;
 use std::collections::BTreeMap;
 
@@ -89,7 +91,7 @@ impl Wal {
         ensures still { IsStill D.Disk disk.old disk.new }
         ensures ok { IfOk result (λ wal. (was : Image) → IsSettled D.Disk disk.old was → IsInStep D.Disk wal disk.new was × HasMark (replay was)) }
         ensures fresh { IfOk result (λ wal. (has_ended wal ≡ false) × (pending wal ≡ [])) }
-        ensures reads { IfSome (D.contents disk.old) (λ was. D.reads disk.new ≤ D.reads disk.old + (3 * (length was.log / 8196 + 1) + 1)) }
+        ensures reads { IfSome (D.contents disk.old) (λ was. D.reads disk.new ≤ D.reads disk.old + (3 * (length was.log / entry_size + 1) + 1)) }
         ensures refused { IfErr result (λ e. NotOpened D.Disk e disk.old disk.new) }
     {
         let opened = match open_log(disk, alloc) {
@@ -160,7 +162,9 @@ impl Wal {
         ensures untouched { IfOk result (λ found. found ≡ false → into.new ≡ into.old) }
         ensures refused { IfErr result (λ e. Refused D.Disk e self.old self.new disk.old disk.new) }
     {
-        let mut bytes = PageBytes { bytes: [0; 8192] };
+        let mut bytes = PageBytes {
+            bytes: [0; PAGE_SIZE],
+        };
         let found = self.load(disk, page, &mut bytes)?;
         if found {
             *into = bytes;
@@ -182,7 +186,7 @@ impl Wal {
     /// Errors: `Memory`; `Ended` exactly where an earlier call answered `Disk`. The pages that wait
     /// stay then.
     pub fn put(&mut self, page: u32, bytes: &PageBytes) -> Result<(), WalError>
-        requires { page < 16777216 }
+        requires { page < most_pages }
         ensures follows { (log : List ℕ) → Follows self.old log → Follows self.new log }
         ensures pending { OnOk result (entry_pages (pending self.new) ≡ over (entry_pages (record { page = page; bytes = bytes.now.bytes } ∷ [])) (entry_pages (pending self.old))) }
         ensures some { OnOk result (pending self.new ≢ []) }
@@ -213,7 +217,7 @@ impl Wal {
     /// room for the record, or where an earlier call answered `Disk`. Nothing changes then.
     pub fn put_record(&mut self, page: u32, bytes: &[u8]) -> Option<u16>
         requires some { 1 ≤ length bytes.now }
-        requires few { length bytes.now ≤ 8176 }
+        requires few { length bytes.now ≤ longest_record }
         ensures follows { (log : List ℕ) → Follows self.old log → Follows self.new log }
         ensures put { IfSome result (λ slot. PutsRecord page bytes.now slot self.old self.new) }
         ensures none { IfNone result ((self.new ≡ self.old) × (has_ended self.old ≡ false → TakesNone (entry_pages (pending self.old) page) bytes.now)) }
@@ -270,7 +274,7 @@ impl Wal {
             unreachable!()
         };
         self.waiting.clear();
-        self.end += 13 + 8_196 * count;
+        self.end += 13 + ENTRY_SIZE as u64 * count;
         self.shut = true;
         Ok(())
     }

@@ -7,6 +7,7 @@ ghost use Rattle.nx_host.specs.Still.{WritesAlone, IsSettled};
 ghost use Rattle.nx_replay.specs.Log.{Group, size_of, entry_bytes, HasGroup, HasSame};
 ghost use Rattle.nx_replay.specs.Commit.{IsOpened, IsBody, IsLaid};
 ghost use Rattle.byteorder.specs.Endian.{big_bytes};
+ghost use Rattle.nx_numbers.specs.Sizes.{page_size, entry_size};
 ghost use Rattle.nx_wal.specs.Gathering.{Adds, Reaches};
 ghost use Rattle.nx_wal.specs.Writing.{Lays, Writes, StandsBehind, body_of, head_of, entries_of};
 
@@ -44,7 +45,7 @@ fn flush<D: Disk>(disk: &mut D, block: &mut Block) -> Result<(), Failed>
 // Sees that so many bytes have room in the block.
 fn make_room<D: Disk>(disk: &mut D, block: &mut Block, count: usize) -> Result<(), Failed>
     requires low { block.old.at + length block.old.bytes.items ≤ 2 ^ 63 }
-    requires few { count ≤ 8192 }
+    requires few { count ≤ page_size }
     ensures adds { OnOk result (Adds D.Disk [] block.old block.new disk.old disk.new) }
     ensures room { OnOk result (length block.new.bytes.items + count ≤ 262285) }
     ensures ends { OnOk result (block.new.at + length block.new.bytes.items ≡ block.old.at + length block.old.bytes.items) }
@@ -72,7 +73,7 @@ fn fill(block: &mut Block, bytes: &[u8])
 // Gathers bytes.
 fn add<D: Disk>(disk: &mut D, block: &mut Block, bytes: &[u8]) -> Result<(), Failed>
     requires low { block.old.at + length block.old.bytes.items ≤ 2 ^ 63 }
-    requires few { length bytes.now ≤ 8192 }
+    requires few { length bytes.now ≤ page_size }
     ensures adds { OnOk result (Adds D.Disk bytes.now block.old block.new disk.old disk.new) }
     ensures ends { OnOk result (block.new.at + length block.new.bytes.items ≡ block.old.at + length block.old.bytes.items + length bytes.now) }
     ensures reaches { Reaches D.Disk (length bytes.now) block.old disk.old disk.new }
@@ -128,7 +129,7 @@ fn add_head<D: Disk>(disk: &mut D, block: &mut Block, number: u64, count: u32) -
 // The bytes of a page.
 fn bytes_of(page: &PageBytes) -> &[u8]
     ensures value { result.now ≡ page.now.bytes }
-    ensures long { length page.now.bytes ≡ 8192 }
+    ensures long { length page.now.bytes ≡ page_size }
 {
     &page.bytes
 }
@@ -140,11 +141,11 @@ fn add_page<D: Disk>(
     page: u32,
     bytes: &PageBytes,
 ) -> Result<(), Failed>
-    requires { block.old.at + length block.old.bytes.items + 8196 ≤ 2 ^ 63 }
+    requires { block.old.at + length block.old.bytes.items + entry_size ≤ 2 ^ 63 }
     ensures adds { OnOk result (Adds D.Disk (big_bytes 4 page ++ bytes.now.bytes) block.old block.new disk.old disk.new) }
-    ensures ends { OnOk result (block.new.at + length block.new.bytes.items ≡ block.old.at + length block.old.bytes.items + 8196) }
-    ensures long { OnOk result (length bytes.now.bytes ≡ 8192) }
-    ensures reaches { Reaches D.Disk 8196 block.old disk.old disk.new }
+    ensures ends { OnOk result (block.new.at + length block.new.bytes.items ≡ block.old.at + length block.old.bytes.items + entry_size) }
+    ensures long { OnOk result (length bytes.now.bytes ≡ page_size) }
+    ensures reaches { Reaches D.Disk entry_size block.old disk.old disk.new }
     ensures faults { D.faults disk.old ≤ D.faults disk.new }
     ensures cause { OnErr result (Rose (D.faults disk.old) (D.faults disk.new)) }
 {
@@ -158,11 +159,11 @@ fn add_pages<D: Disk>(
     block: &mut Block,
     waiting: &BTreeMap<u32, Box<PageBytes>>,
 ) -> Result<(), Failed>
-    requires { block.old.at + length block.old.bytes.items + 8196 * btree_map_len waiting.now ≤ 2 ^ 63 }
+    requires { block.old.at + length block.old.bytes.items + entry_size * btree_map_len waiting.now ≤ 2 ^ 63 }
     ensures adds { OnOk result (Adds D.Disk (entry_bytes (entries_of waiting.now.entries)) block.old block.new disk.old disk.new) }
-    ensures ends { OnOk result (block.new.at + length block.new.bytes.items ≡ block.old.at + length block.old.bytes.items + 8196 * btree_map_len waiting.now) }
-    ensures long { OnOk result (length (entry_bytes (entries_of waiting.now.entries)) ≡ 8196 * btree_map_len waiting.now) }
-    ensures reaches { Reaches D.Disk (8196 * btree_map_len waiting.now) block.old disk.old disk.new }
+    ensures ends { OnOk result (block.new.at + length block.new.bytes.items ≡ block.old.at + length block.old.bytes.items + entry_size * btree_map_len waiting.now) }
+    ensures long { OnOk result (length (entry_bytes (entries_of waiting.now.entries)) ≡ entry_size * btree_map_len waiting.now) }
+    ensures reaches { Reaches D.Disk (entry_size * btree_map_len waiting.now) block.old disk.old disk.new }
     ensures faults { D.faults disk.old ≤ D.faults disk.new }
     ensures cause { OnErr result (Rose (D.faults disk.old) (D.faults disk.new)) }
 {
@@ -188,9 +189,9 @@ fn write_body<D: Disk>(
     number: u64,
     waiting: &BTreeMap<u32, Box<PageBytes>>,
 ) -> Result<(), Failed>
-    requires low { at + 13 + 8196 * btree_map_len waiting.now ≤ 2 ^ 63 }
+    requires low { at + 13 + entry_size * btree_map_len waiting.now ≤ 2 ^ 63 }
     requires few { btree_map_len waiting.now < 2 ^ 32 }
-    ensures writes { Writes D.Disk at (13 + 8196 * btree_map_len waiting.now) disk.old disk.new }
+    ensures writes { Writes D.Disk at (13 + entry_size * btree_map_len waiting.now) disk.old disk.new }
     ensures lays { OnOk result (Lays D.Disk at (body_of number waiting.now.entries) disk.old disk.new) }
     ensures cause { OnErr result (Rose (D.faults disk.old) (D.faults disk.new)) }
 {
@@ -248,7 +249,7 @@ fn lay_waiting<D: Disk>(
     number: u64,
     waiting: &BTreeMap<u32, Box<PageBytes>>,
 ) -> Result<(), Failed>
-    requires low { end + 14 + 8196 * btree_map_len waiting.now ≤ 2 ^ 63 }
+    requires low { end + 14 + entry_size * btree_map_len waiting.now ≤ 2 ^ 63 }
     requires few { btree_map_len waiting.now < 2 ^ 32 }
     ensures goes { WritesAlone D.Disk disk.old disk.new (λ i. (was : Image) → IsOpened D.Disk end true disk.old was → HasSame was i) }
     ensures ok { OnOk result ((was now : Image) (g : Group) → IsOpened D.Disk end true disk.old was → IsBody g end (body_of number waiting.now.entries) → D.contents disk.new ≡ Some now
@@ -284,7 +285,7 @@ pub(crate) fn write_group<D: Disk>(
     number: u64,
     waiting: &BTreeMap<u32, Box<PageBytes>>,
 ) -> Result<(), Failed>
-    requires low { end + 14 + 8196 * btree_map_len waiting.now ≤ 2 ^ 63 }
+    requires low { end + 14 + entry_size * btree_map_len waiting.now ≤ 2 ^ 63 }
     requires few { btree_map_len waiting.now < 2 ^ 32 }
     ensures goes { WritesAlone D.Disk disk.old disk.new (λ i. (was : Image) (g : Group) → IsOpened D.Disk end shut disk.old was → IsBody g end (body_of number waiting.now.entries) → HasSame was i ⊎ HasGroup g was i) }
     ensures ok { OnOk result ((was now : Image) (g : Group) → IsOpened D.Disk end shut disk.old was → IsBody g end (body_of number waiting.now.entries) → D.contents disk.new ≡ Some now

@@ -12,5 +12,5 @@ pub returns-clause-mark : goal.returns-clause-mark
 returns-clause-mark g c = if_ok c.begins_with_mark-2.result c.begins_with_mark-2.ensures.mark (λ is said was told leads within.
     let told_now = c.in_ok-length.ensures.contents ∙ told in
     let same : c.in_ok-length.length ≡ length was.pages = if_some (λ now. c.in_ok-length.length ≡ length now.pages) _ was c.in_ok-length.ensures.value told_now in
-    let long : 8192 ≤ length was.pages = omega (arith, same, c.if-length-lt8192.false) in
+    let long : 8192 ≤ length was.pages = omega (arith, same, c.if-length.false) in
     mark_in_area was c.args.places.now is leads c.in_default.ensures.none long (said was told_now (omega (arith, long))))

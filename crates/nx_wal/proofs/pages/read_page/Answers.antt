@@ -10,5 +10,5 @@ returns-in-Some-clause-found g c = if_ok_both c.read_whole.result c.read_whole.e
 
 pub returns-clause-found : goal.returns-clause-found
 returns-clause-found g c = if_ok_both c.read_whole-2.result c.read_whole-2.ensures.whole c.read_whole-2.ensures.missing (λ found whole missing was told leads within.
-    page_in_area was c.args.page found c.read_whole-2.new.into.bytes (page_lacking was c.args.places.now c.args.page leads c.in_default.ensures.none) c.if-page-ge16777216.false
+    page_in_area was c.args.page found c.read_whole-2.new.into.bytes (page_lacking was c.args.places.now c.args.page leads c.in_default.ensures.none) c.if-page-ge-MOST_PAGES.false
     (λ is. whole is was told, λ is. missing is was told))

@@ -6,7 +6,7 @@ use Rattle.nx_replay.proofs.SettledLemmas.{told_still}
 use Rattle.nx_wal.specs.Reading.{numbers_of}
 use Rattle.nx_wal.proofs.ReadingLemmas.{rise_more, rise_ends, numbers_more, some_same}
 use Rattle.nx_wal.proofs.reading.read_numbers.Goals as goal
-use Rattle.nx_wal.proofs.reading.read_numbers.Goals.{then-number-least-via-then-number-least, then-number-least-via-else-number-least+then-number-ge16777216}
+use Rattle.nx_wal.proofs.reading.read_numbers.Goals.{then-number-least-via-then-number-least, then-number-least-via-else-number-least+then-number-ge-MOST_PAGES}
 
 pub returns-then-number-least-clause-rise : goal.returns-then-number-least-clause-rise
 returns-then-number-least-clause-rise g c was told fits =
@@ -15,7 +15,7 @@ returns-then-number-least-clause-rise g c was told fits =
     let number : c.in-Some.number ≡ big_number 4 (drop (c.args.at + 8196 * c.loop-i.i) was.log) =
     some_same (sym c.in-Some.is ∙ c.in-Ok.ensures.number was (told_still was so_far.still told) (omega (arith, more, fits))) in
     let bad : (c.in-Some.number < c.loop-i.least) ⊎ (16777216 ≤ c.in-Some.number) =
-    elim c.then-number-least.branch [ then-number-least-via-then-number-least w ↦ inl w.if-number-least.true | then-number-least-via-else-number-least+then-number-ge16777216 w ↦ inr w.if-number-ge16777216.true ] in
+    elim c.then-number-least.branch [ then-number-least-via-then-number-least w ↦ inl w.if-number-least.true | then-number-least-via-else-number-least+then-number-ge-MOST_PAGES w ↦ inr w.if-number-ge-MOST_PAGES.true ] in
     rise_ends c.args.at c.args.count c.loop-i.i was.log more c.loop-i.least c.in-Some.number number bad ∙ sym (so_far.rest was told fits)
 
 pub loop-i-preserved : goal.loop-i-preserved
@@ -31,7 +31,7 @@ loop-i-preserved g c =
       rest = λ was told fits.
           let number : c.in-Some.number ≡ big_number 4 (drop (c.args.at + 8196 * c.loop-i.i) was.log) =
           some_same (sym c.in-Some.is ∙ c.in-Ok.ensures.number was (told_still was so_far.still told) (omega (arith, more, fits))) in
-          so_far.rest was told fits ∙ rise_more c.args.at c.args.count c.loop-i.i was.log more c.loop-i.least c.in-Some.number number c.if-number-least.false c.if-number-ge16777216.false;
+          so_far.rest was told fits ∙ rise_more c.args.at c.args.count c.loop-i.i was.log more c.loop-i.least c.in-Some.number number c.if-number-least.false c.if-number-ge-MOST_PAGES.false;
       numbers = λ was told fits.
           let number : c.in-Some.number ≡ big_number 4 (drop (c.args.at + 8196 * c.loop-i.i) was.log) =
           some_same (sym c.in-Some.is ∙ c.in-Ok.ensures.number was (told_still was so_far.still told) (omega (arith, more, fits))) in
