@@ -3,3 +3,9 @@ pub mod ReplaceLemmas
 pub mod ValidLemmas
 pub mod PlaceLemmas
 pub mod HeldLemmas
+pub mod WithoutLemmas
+pub mod RunLemmas
+pub mod FillLemmas
+pub mod StandLemmas
+pub mod PathLemmas
+pub mod CountLemmas

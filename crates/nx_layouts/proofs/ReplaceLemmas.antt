@@ -31,7 +31,7 @@ held-joined_layout pieces Bare b p q = q
 held-joined_layout pieces (Grown n d s) b p q = (p.0, held-joined_layout pieces s b p.1 q)
 held-joined_layout pieces (Kept r m s) b p q = (p.0, p.1, held-joined_layout pieces s b p.2 q)
 
-held_filled : (pieces : RecordPlace → Option Piece) (index : ℕ) (left row : Layout) → AreHeld pieces (replaced_at index Bare row) → AreHeld pieces left → AreHeld pieces (replaced_at index left row)
+pub held_filled : (pieces : RecordPlace → Option Piece) (index : ℕ) (left row : Layout) → AreHeld pieces (replaced_at index Bare row) → AreHeld pieces left → AreHeld pieces (replaced_at index left row)
 held_filled pieces index left Bare h e = tt
 held_filled pieces index left (Grown n b s) h e =
     (elim (nat_lt index (length (proxies_of b))) as (λ t. AreHeld pieces (if t then Grown n (replaced_at index Bare b) s else Grown n b (replaced_at (index - length (proxies_of b)) Bare s))
@@ -52,7 +52,7 @@ held_hole pieces index (Grown n b s) h =
 held_hole pieces zero (Kept p m s) h = h.2
 held_hole pieces (suc index) (Kept p m s) h = (h.0, h.1, held_hole pieces index s h.2)
 
-light_joined : (k : ℕ) (a b : Layout) → AreParts k a → AreParts k b → AreParts k (joined_layout a b)
+pub light_joined : (k : ℕ) (a b : Layout) → AreParts k a → AreParts k b → AreParts k (joined_layout a b)
 light_joined k Bare b h g = g
 light_joined k (Grown n d s) b h g = (h.0, light_joined k s b h.1 g)
 light_joined k (Kept p m s) b h g = (h.0, h.1, h.2, h.3, light_joined k s b h.4 g)

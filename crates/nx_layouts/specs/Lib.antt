@@ -1,3 +1,4 @@
 pub mod Layout
 pub mod Replace
 pub mod Valid
+pub mod Cutting

@@ -1,4 +1,5 @@
 //! What holds of records and the documents that are laid out in them.
+ghost use Rattle.nx_layouts.specs.Cutting.{IntervalIsLight, IntervalStandsIn, NodesOfRecords, PathIsMissing, PathLeadsOn, PathStays, RowIsFilled, RunsAfter, TreeGoesOut};
 ghost use Rattle.nx_layouts.specs.Replace.{OneForSeveral};
 ghost use Rattle.nx_layouts.specs.Layout.{OneDocument};
 ghost use Rattle.nx_layouts.specs.Valid.{PieceIsValid};
@@ -19,4 +20,50 @@ pub fn one_for_several()
 /// is at most 256, and at most 524,288 intervals are below them.
 pub fn piece_is_valid()
     ensures { PieceIsValid }
+{}
+
+/// What a record has without a tree of its own: the proxies and the places around the tree, and what is held, light and
+/// counted then.
+pub fn tree_goes_out()
+    ensures { TreeGoesOut }
+{}
+
+/// What becomes of the runs of a record where one of its proxies changes or goes.
+pub fn runs_after()
+    ensures { RunsAfter }
+{}
+
+/// Where an interval stands that a path leads into.
+pub fn interval_stands_in()
+    ensures { IntervalStandsIn }
+{}
+
+/// A row in which an interval is replaced.
+pub fn row_is_filled()
+    ensures { RowIsFilled }
+{}
+
+/// An interval in whose row one is replaced by light ones is light.
+pub fn interval_is_light()
+    ensures { IntervalIsLight }
+{}
+
+/// Where a path leads to a tree of a piece, it stays in each row of members whose piece that is.
+pub fn path_stays()
+    ensures { PathStays }
+{}
+
+/// Where a path leads from a piece into the record of a proxy, it leads into the interval of that proxy.
+pub fn path_leads_on()
+    ensures { PathLeadsOn }
+{}
+
+/// Where a path leads to nothing in a piece, no tree of the document is there.
+pub fn path_is_missing()
+    ensures { PathIsMissing }
+{}
+
+/// The nodes of a row, record by record.
+pub fn nodes_of_records()
+    ensures { NodesOfRecords }
 {}

@@ -10,3 +10,7 @@ pub mod CopyLemmas
 pub mod Laws
 pub mod LocateLemmas
 pub mod StoredOf
+pub mod TakeLemmas
+pub mod RootLemmas
+pub mod LeftLemmas
+pub mod ShortLemmas

@@ -21,11 +21,11 @@ get_behind [] back i = ap (slice_get back) (let q : 0 + i ≡ i = omega arith in
 get_behind (y ∷ front) back i =
     ap (slice_get (y ∷ front ++ back)) (let q : length (y ∷ front) + i ≡ suc (length front + i) = omega arith in q) ∙ get_behind front back i
 
-roots_length : (index member count : ℕ) → length (roots_from index member count) ≡ count
+pub roots_length : (index member count : ℕ) → length (roots_from index member count) ≡ count
 roots_length index member zero = refl
 roots_length index member (suc count) = let h = roots_length index (member + 1) count in omega arith
 
-root_there : (index member count i : ℕ) → i < count → slice_get (roots_from index member count) i ≡ Some (Kept index (member + i))
+pub root_there : (index member count i : ℕ) → i < count → slice_get (roots_from index member count) i ≡ Some (Kept index (member + i))
 root_there index member zero i within = absurd (omega arith)
 root_there index member (suc count) zero within = ap (λ (m : ℕ). Some (Kept index m)) (let q : member ≡ member + 0 = omega arith in q)
 root_there index member (suc count) (suc i) within =

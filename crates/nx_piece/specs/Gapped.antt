@@ -28,6 +28,12 @@ width End = 0
 width (Grow node below beside) = 1 + width beside
 width (Gap count beside) = 1 + width beside
 
+-- how many nodes
+abbrev pub gapped_nodes : Gapped → ℕ
+gapped_nodes End = 0
+gapped_nodes (Grow node below beside) = 1 + gapped_nodes below + gapped_nodes beside
+gapped_nodes (Gap count beside) = gapped_nodes beside
+
 -- the sum of the weights of the nodes
 abbrev pub gapped_weight : Gapped → ℕ
 gapped_weight End = 0
@@ -45,6 +51,12 @@ abbrev pub slots_in : Gapped → ℕ
 slots_in End = 0
 slots_in (Grow node below beside) = weight node + slots_in below + slots_in beside
 slots_in (Gap count beside) = 1 + slots_in beside
+
+-- so many proxies more in front; gaps that become neighbours are one
+abbrev pub with_gap : ℕ → Gapped → Gapped
+with_gap count End = Gap count End
+with_gap count (Grow node below beside) = Gap count (Grow node below beside)
+with_gap count (Gap more beside) = Gap (count + more) beside
 
 -- the trees alone, without gaps between them
 abbrev pub grown_of : List GappedTree → Gapped

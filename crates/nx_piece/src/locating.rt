@@ -6,7 +6,7 @@ ghost use Rattle.nx_piece.specs.Gapped.{grown_of, proxies_in};
 ghost use Rattle.nx_piece.specs.Items.{gapped_of};
 ghost use Rattle.nx_piece.specs.Valid.{IsPiece};
 ghost use Rattle.nx_piece.specs.Locate.{Own, children_of, reached_in, IsPartOf, IsLocated};
-ghost use Rattle.nx_piece.specs.Found.{IsFound};
+ghost use Rattle.nx_piece.specs.Found.{IsFound, IsFoundAt};
 
 use crate::finding::{member_at, roots_of};
 use crate::{Item, Piece, PieceTree, Proxy};
@@ -32,8 +32,9 @@ pub enum Located<'a> {
 
 // A child of a node, as `Located` has it.
 #[derive(Clone, Copy)]
-enum Found<'a> {
-    Tree(&'a PieceTree, u32),
+pub(crate) enum Found<'a> {
+    // With the number of proxies before its own, and its index among the items.
+    Tree(&'a PieceTree, u32, usize),
     Root(u32, u16),
 }
 
@@ -50,7 +51,7 @@ pub fn locate<'a>(piece: &'a Piece, member: u16, path: &[u32]) -> Located<'a>
     for (used, position) in path.iter().enumerate() {
         match child_at(tree.children.as_slice(), proxies, first, *position) {
             None => return Located::Nowhere,
-            Some(Found::Tree(child, before)) => {
+            Some(Found::Tree(child, before, _)) => {
                 tree = child;
                 first = before;
             }
@@ -94,7 +95,7 @@ pub fn children(piece: &Piece, at: &PieceTree, first: u32) -> u32
 }
 
 // The root with this index, and how many proxies stand before its own items.
-fn root_at(roots: &[PieceTree], member: u16) -> Option<(&PieceTree, u32)>
+pub(crate) fn root_at(roots: &[PieceTree], member: u16) -> Option<(&PieceTree, u32)>
     requires { proxies_in (grown_of roots.now) ≤ 524288 }
     ensures { MatchOption result ((proxies : List Proxy) → slice_get (children_of proxies 0 (grown_of roots.now)) member ≡ None) (λ found. (proxies : List Proxy) → slice_get (children_of proxies 0 (grown_of roots.now)) member ≡ Some (Own found.0.now found.1)) }
 {
@@ -111,7 +112,7 @@ fn root_at(roots: &[PieceTree], member: u16) -> Option<(&PieceTree, u32)>
 }
 
 // The child at a position among items that have so many proxies before them.
-fn child_at<'a>(
+pub(crate) fn child_at<'a>(
     items: &'a [Item],
     proxies: &[Proxy],
     first: u32,
@@ -119,15 +120,16 @@ fn child_at<'a>(
 ) -> Option<Found<'a>>
     requires fits { first + proxies_in (gapped_of items.now) ≤ length proxies.now }
     requires few { length proxies.now ≤ 524288 }
-    ensures { IsFound (children_of proxies.now first (gapped_of items.now)) position result }
+    ensures found { IsFound (children_of proxies.now first (gapped_of items.now)) position result }
+    ensures place { IsFoundAt items.now proxies.now first position result }
 {
     let mut before = first;
     let mut left = position;
-    for item in items {
+    for (index, item) in items.iter().enumerate() {
         match item {
             Item::Tree(tree) => {
                 if left == 0 {
-                    return Some(Found::Tree(tree, before));
+                    return Some(Found::Tree(tree, before, index));
                 }
                 left -= 1;
                 before += proxies_below(tree);
@@ -146,7 +148,7 @@ fn child_at<'a>(
 }
 
 // How many proxies stand in the runs below a node.
-fn proxies_below(tree: &PieceTree) -> u32
+pub(crate) fn proxies_below(tree: &PieceTree) -> u32
     requires { proxies_in tree.now.below ≤ 524288 }
     ensures { result ≡ proxies_in tree.now.below }
 {

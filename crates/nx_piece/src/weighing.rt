@@ -1,7 +1,7 @@
 // What the nodes of a piece weigh.
 ghost use Rattle.std.specs.Prelude.{◌≡◌, ◌+◌, ◌≤◌};
 ghost use Rattle.nx_weights.specs.Weight.{weight as node_weight};
-ghost use Rattle.nx_piece.specs.Gapped.{gapped_weight};
+ghost use Rattle.nx_piece.specs.Gapped.{gapped_nodes, gapped_weight};
 ghost use Rattle.nx_piece.specs.Weight.{HaveShortNodes, HasShortNodes};
 
 use crate::{Body, Item, PieceTree};
@@ -33,4 +33,18 @@ fn tree_weight(tree: &PieceTree) -> u32
         }
     }
     sum
+}
+
+/// How many nodes the tree has, its own alone. It may weigh 512 slots, as one of a piece does. It takes no memory.
+pub fn count_nodes(tree: &PieceTree) -> u32
+    requires { node_weight tree.now.node + gapped_weight tree.now.below ≤ 512 }
+    ensures { result ≡ 1 + gapped_nodes tree.now.below }
+{
+    let mut nodes = 1;
+    for item in tree.children.as_slice() {
+        if let Item::Tree(child) = item {
+            nodes += count_nodes(child);
+        }
+    }
+    nodes
 }

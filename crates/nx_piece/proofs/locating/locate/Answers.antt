@@ -17,11 +17,11 @@ loop-used-init c =
 pub bounds-proxies-index : goal.bounds-proxies-index
 bounds-proxies-index c =
     kept_child c.as_slice-proxies.result.now c.loop-used.first (gapped_of c.as_slice-in-loop-used.result.now) (get_or c.args.path.now c.loop-used.used 0) c.in-Some-Root.index c.in-Some-Root.member
-    ((rw c.in-Some-Root.is at c.child_at.ensures) ∙ ap (λ x. Some (found_child x)) c.in-Some-Root.field-0-is)
+    ((rw c.in-Some-Root.is at c.child_at.ensures.found) ∙ ap (λ x. Some (found_child x)) c.in-Some-Root.field-0-is)
 
 pub returns-in-Some-Root : goal.returns-in-Some-Root
 returns-in-Some-Root c =
-    let found = (rw c.in-Some-Root.is at c.child_at.ensures) ∙ ap (λ x. Some (found_child x)) c.in-Some-Root.field-0-is in
+    let found = (rw c.in-Some-Root.is at c.child_at.ensures.found) ∙ ap (λ x. Some (found_child x)) c.in-Some-Root.field-0-is in
     let other : Proxy = record { page = 0; slot = 0; roots = 0 } in
     let within : c.in-Some-Root.index < length c.as_slice-proxies.result.now = kept_child c.as_slice-proxies.result.now c.loop-used.first (gapped_of c.as_slice-in-loop-used.result.now) (get_or c.args.path.now c.loop-used.used 0) c.in-Some-Root.index c.in-Some-Root.member found in (
       leads_out _ c.in-Some-Root.index c.in-Some-Root.member c.loop-used.invariant (next_at c.args.path.now c.loop-used.used 0 c.loop-used-test.true)
@@ -31,6 +31,6 @@ returns-in-Some-Root c =
 
 pub loop-used-preserved : goal.loop-used-preserved
 loop-used-preserved c =
-    let found = (rw c.in-Some-Tree.is at c.child_at.ensures) ∙ ap (λ x. Some (found_child x)) c.in-Some-Tree.field-0-is in
+    let found = (rw c.in-Some-Tree.is at c.child_at.ensures.found) ∙ ap (λ x. Some (found_child x)) c.in-Some-Tree.field-0-is in
     way_goes_on _ c.in-Some-Tree.child.now c.in-Some-Tree.before c.loop-used.invariant (next_at c.args.path.now c.loop-used.used 0 c.loop-used-test.true)
     (same_children c.loop-used.first (get_or c.args.path.now c.loop-used.used 0) c.as_slice-proxies.ensures (c.as_slice-in-loop-used.ensures ∙ ap (λ (x : GappedTree). x.below) c.tree.view_is) found)
