@@ -119,7 +119,7 @@ row_keeps k change Q w p (Kept u m s) a t h =
     (λ e. row_keeps k change Q w p m (member_row Q p m s (nat_lt p (width m)) e a) (omega arith) h.3)
     (λ e. row_keeps k change Q w (p - width m) s (beside_row Q p m s (nat_lt p (width m)) e a) (omega arith) h.4)
 
-drawn_keeps : (k : ℕ) (path : List ℕ) (from count : ℕ) → 1 ≤ count → Keeps k (drawn path from count) (IsFreeAt path from count)
+pub drawn_keeps : (k : ℕ) (path : List ℕ) (from count : ℕ) → 1 ≤ count → Keeps k (drawn path from count) (IsFreeAt path from count)
 drawn_keeps k [] from count o = λ t a w h. (refl, wrapped_keeps k from count t.below o a w h)
 drawn_keeps k (step ∷ path) from count o = λ t a w h. (refl, row_keeps k (drawn path from count) (IsFreeAt path from count) (drawn_keeps k path from count o) step t.below a w h)
 

@@ -49,12 +49,12 @@ free_run k above a l position (suc from) count (Kept u m s) h p q o w n =
       | inr e ↦ (e, free_run k above a l (position + width m) (suc from - width m) count s h.4 (omega arith) (omega arith) o (omega arith) (right (Run above a l) (intervals above position m) (intervals above (position + width m) s) n.1))
     ]
 
-child_prefix : (f g : Forest) (p : ℕ) → p < trees f → child (joined f g) p ≡ child f p
+pub child_prefix : (f g : Forest) (p : ℕ) → p < trees f → child (joined f g) p ≡ child f p
 child_prefix Empty g p h = absurd (omega arith)
 child_prefix (Plant n b s) g zero h = refl
 child_prefix (Plant n b s) g (suc p) h = child_prefix s g p (omega arith)
 
-child_back : (f g : Forest) (p : ℕ) → child (joined f g) (trees f + p) ≡ child g p
+pub child_back : (f g : Forest) (p : ℕ) → child (joined f g) (trees f + p) ≡ child g p
 child_back Empty g p = ap (child g) (let e : 0 + p ≡ p = omega arith in e)
 child_back (Plant n b s) g p = ap (child (Plant n b (joined s g))) (let e : 1 + trees s + p ≡ suc (trees s + p) = omega arith in e) ∙ child_back s g p
 

@@ -1,7 +1,8 @@
 -- A layout without its places has the same widths, weights and parts.
-use Rattle.std.proofs.Common.{◌≡◌, ℕ, Option, refl, ap, subst, arith}
+use Rattle.std.proofs.Common.{◌≡◌, ℕ, ◌≤◌, Option, refl, ap, subst, ◌∙◌, arith}
+use Rattle.nx_tree.specs.Forest.{Forest, Plant}
 use Rattle.nx_piece.specs.declared.piece.Piece.{Piece}
-use Rattle.nx_cuts.specs.Cut.{Bare, Grown, Kept, CutTree, width, part_weight, AreFree, AreParts}
+use Rattle.nx_cuts.specs.Cut.{Bare, Grown, Kept, CutTree, joined, forest, width, part_weight, AreFree, AreParts}
 use Rattle.nx_layouts.specs.Layout.{RecordPlace, Layout, without_places, IsLaidOutAs}
 use Rattle.nx_drawn.specs.Splits.{whole}
 
@@ -25,6 +26,29 @@ parts_bare k Bare h = tt
 parts_bare k (Grown n b s) h = (parts_bare k b h.0, parts_bare k s h.1)
 parts_bare k (Kept p m s) h =
     let w = width_bare m in let v = weight_bare m in let x = h.0 in let y = h.2 in (omega arith, free_bare m h.1, omega arith, parts_bare k m h.3, parts_bare k s h.4)
+
+pub forest_bare : (a : Layout) → forest (without_places a) ≡ forest a
+forest_bare Bare = refl
+forest_bare (Grown n b s) = ap (λ (f : Forest). Plant n f (forest (without_places s))) (forest_bare b) ∙ ap (Plant n (forest b)) (forest_bare s)
+forest_bare (Kept p m s) = ap (λ (f : Forest). joined f (forest (without_places s))) (forest_bare m) ∙ ap (joined (forest m)) (forest_bare s)
+
+pub free_with : (a : Layout) → AreFree (without_places a) → AreFree a
+free_with Bare free = tt
+free_with (Grown node below beside) free = free_with beside free
+free_with (Kept place members beside) free = absurd free
+
+pub parts_with : (k : ℕ) (a : Layout) → AreParts k (without_places a) → AreParts k a
+parts_with k Bare parts = tt
+parts_with k (Grown node below beside) parts = (parts_with k below parts.0, parts_with k beside parts.1)
+parts_with k (Kept place members beside) parts =
+    let some : 1 ≤ width (without_places members) = parts.0 in
+    let light : part_weight (without_places members) ≤ k = parts.2 in (
+      omega (arith, some, width_bare members),
+      free_with members parts.1,
+      omega (arith, light, weight_bare members),
+      parts_with k members parts.3,
+      parts_with k beside parts.4,
+    )
 
 -- a document that records hold has parts that aren't too heavy
 pub laid_parts : (k : ℕ) (pieces : RecordPlace → Option Piece) (root : RecordPlace) (document : CutTree) (layout : Layout) → IsLaidOutAs k pieces root document layout → AreParts k (whole document)

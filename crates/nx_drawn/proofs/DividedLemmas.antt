@@ -19,7 +19,7 @@ use Rattle.nx_parts.proofs.Owned.{is_place, owned}
 use Rattle.nx_parts.proofs.OwnerLemmas.{owner-root}
 use Rattle.nx_matrix.specs.declared.rule.Entry.{Entry}
 use Rattle.nx_matrix.specs.declared.rule.Rule.{Rule}
-use Rattle.nx_cuts.specs.Cut.{CutForest, Bare, Grown, Kept, forest, width, intervals, cuts, part_weight, AreFree, AreParts}
+use Rattle.nx_cuts.specs.Cut.{Cut, CutForest, Bare, Grown, Kept, forest, width, intervals, cuts, part_weight, AreFree, AreParts}
 use Rattle.nx_cuts.proofs.FeasibleLemmas.{Members, IsDrawn, agrees-drawn, owned-drawn, weight_at, weight-light, weight-above, length-intervals, child_reaches, le_or, or_nothing, top_nothing, from, trees, trees-forest}
 use Rattle.nx_cuts.proofs.PartitionLemmas.{drawn_feasible}
 use Rattle.nx_sketch.specs.Sketch.{Placed, placed_in}
@@ -32,7 +32,7 @@ use Rattle.nx_drawn.specs.Splits.{part_sketch, part_nodes, Divides}
 use Rattle.nx_drawn.proofs.OwnLemmas.{or_above, own, own_sketch, own-same, own_sketch-same, own-joined, asked_of, owned-own, sketch_sum, any_holds, told, any_holder, none_at, not_true, told_other, asked-told}
 
 -- a heavier limit
-pub heavier_parts : (k l : ℕ) (c : CutForest) → k ≤ l → AreParts k c → AreParts l c
+pub heavier_parts : {P : Type 0} (k l : ℕ) (c : Cut Node P) → k ≤ l → AreParts k c → AreParts l c
 heavier_parts k l Bare le h = tt
 heavier_parts k l (Grown n b s) le h = (heavier_parts k l b le h.0, heavier_parts k l s le h.1)
 heavier_parts k l (Kept u m s) le h = (h.0, h.1, let x = h.2 in omega arith, heavier_parts k l m le h.3, heavier_parts k l s le h.4)

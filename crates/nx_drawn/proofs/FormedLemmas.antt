@@ -8,7 +8,7 @@ use Rattle.nx_weights.specs.Weight.{weight, total}
 use Rattle.nx_matrix.specs.declared.rule.Entry.{Entry}
 use Rattle.nx_matrix.specs.declared.rule.Entry.TheVariants.{Standalone, Cluster, Free}
 use Rattle.nx_matrix.specs.declared.rule.Rule.{Rule}
-use Rattle.nx_cuts.specs.Cut.{CutForest, Bare, Grown, Kept, CutTree, joined, forest, width, part_weight, AreFree, AreParts}
+use Rattle.nx_cuts.specs.Cut.{Cut, CutForest, Bare, Grown, Kept, CutTree, joined, forest, width, part_weight, AreFree, AreParts}
 use Rattle.nx_cuts.specs.Rows.{joined_row, first, behind, changed_row}
 use Rattle.nx_cuts.proofs.RowLemmas.{width-joined_row, free-joined_row, parts-joined_row}
 use Rattle.nx_cuts.proofs.DeepLemmas.{width-changed}
@@ -54,25 +54,25 @@ some_limit (Kept u m s) h =
     )
 
 -- the first trees of a row of free ones, and those behind them
-pub width_first : (p : ℕ) (m : CutForest) → AreFree m → p ≤ width m → width (first p m) ≡ p
+pub width_first : {N P : Type 0} (p : ℕ) (m : Cut N P) → AreFree m → p ≤ width m → width (first p m) ≡ p
 width_first zero m f h = refl
 width_first (suc p) Bare f h = absurd (omega arith)
 width_first (suc p) (Grown n b s) f h = omega (arith, width_first p s f (omega arith))
 width_first (suc p) (Kept u m s) f h = absurd f
 
-pub width_behind : (p : ℕ) (m : CutForest) → AreFree m → p ≤ width m → width (behind p m) + p ≡ width m
+pub width_behind : {N P : Type 0} (p : ℕ) (m : Cut N P) → AreFree m → p ≤ width m → width (behind p m) + p ≡ width m
 width_behind zero m f h = omega arith
 width_behind (suc p) Bare f h = absurd (omega arith)
 width_behind (suc p) (Grown n b s) f h = omega (arith, width_behind p s f (omega arith))
 width_behind (suc p) (Kept u m s) f h = absurd f
 
-pub free_first : (p : ℕ) (m : CutForest) → AreFree m → AreFree (first p m)
+pub free_first : {N P : Type 0} (p : ℕ) (m : Cut N P) → AreFree m → AreFree (first p m)
 free_first zero m f = tt
 free_first (suc p) Bare f = tt
 free_first (suc p) (Grown n b s) f = free_first p s f
 free_first (suc p) (Kept u m s) f = absurd f
 
-pub free_behind : (p : ℕ) (m : CutForest) → AreFree m → AreFree (behind p m)
+pub free_behind : {N P : Type 0} (p : ℕ) (m : Cut N P) → AreFree m → AreFree (behind p m)
 free_behind zero m f = f
 free_behind (suc p) Bare f = tt
 free_behind (suc p) (Grown n b s) f = free_behind p s f
@@ -135,20 +135,20 @@ formed_planted entry node (suc p) Bare h = tt
 formed_planted entry node (suc p) (Grown n b s) h = (h.0, formed_planted entry node p s h.1)
 formed_planted entry node (suc p) (Kept u m s) h = formed_there entry node p u m s (nat_lt (suc p) (width m)) refl h (λ q. formed_planted entry node q s h.3)
 
-module _ (change : CutTree → CutTree) (keeps : (t : CutTree) → AreFormed t.below → AreFormed (change t).below) where
-  free_changed : (p : ℕ) (c : CutForest) → AreFree c → AreFree (changed_row p change c)
-  free_changed p Bare f = tt
-  free_changed zero (Grown n b s) f = f
-  free_changed (suc p) (Grown n b s) f = free_changed p s f
-  free_changed p (Kept u m s) f = absurd f
+pub free_changed : (change : CutTree → CutTree) (p : ℕ) (c : CutForest) → AreFree c → AreFree (changed_row p change c)
+free_changed change p Bare f = tt
+free_changed change zero (Grown n b s) f = f
+free_changed change (suc p) (Grown n b s) f = free_changed change p s f
+free_changed change p (Kept u m s) f = absurd f
 
+module _ (change : CutTree → CutTree) (keeps : (t : CutTree) → AreFormed t.below → AreFormed (change t).below) where
   formed_changed : (p : ℕ) (c : CutForest) → AreFormed c → AreFormed (changed_row p change c)
   formed_changed p Bare h = tt
   formed_changed zero (Grown n b s) h = (keeps (record { node = n; below = b }) h.0, h.1)
   formed_changed (suc p) (Grown n b s) h = (h.0, formed_changed p s h.1)
   formed_changed p (Kept u m s) h =
       elim (nat_lt p (width m)) as (λ t. AreFormed (if t then Kept u (changed_row p change m) s else Kept u m (changed_row (p - width m) change s))) [
-        | true ↦ (let w = width-changed p change m in let x = h.0 in omega arith, free_changed p m h.1, formed_changed p m h.2, h.3)
+        | true ↦ (let w = width-changed p change m in let x = h.0 in omega arith, free_changed change p m h.1, formed_changed p m h.2, h.3)
         | false ↦ (h.0, h.1, h.2, formed_changed (p - width m) s h.3)
       ]
 

@@ -9,3 +9,4 @@ pub mod PieceLemmas
 pub mod PlacementLemmas
 pub mod MarkLemmas
 pub mod EditLaws
+pub mod GrowthLemmas

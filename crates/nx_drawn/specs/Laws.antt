@@ -1,8 +1,8 @@
 -- The laws of edits and splits.
-use Rattle.std.specs.Prelude.{◌≡◌, ◌↔◌, ℕ, List, Option}
+use Rattle.std.specs.Prelude.{◌≡◌, ◌↔◌, ◌≤◌, ℕ, List, Option}
 use Rattle.nx_tree.specs.declared.node.Node.{Node}
 use Rattle.nx_tree.specs.Edit.{put, cut_at, retext}
-use Rattle.nx_cuts.specs.Cut.{CutTree, AreParts, tree_of}
+use Rattle.nx_cuts.specs.Cut.{CutForest, CutTree, AreParts, tree_of}
 use Rattle.nx_cuts.specs.Rows.{joined_row}
 use Rattle.nx_matrix.specs.declared.rule.Entry.{Entry}
 use Rattle.nx_matrix.specs.declared.rule.Rule.{Rule}
@@ -10,7 +10,7 @@ use Rattle.nx_holdings.specs.declared.header.Settings.{Settings}
 use Rattle.nx_layouts.specs.Layout.{RecordPlace, Layout, piece_of, without_places}
 use Rattle.nx_split.specs.Piece.{placed_of}
 use Rattle.nx_drawn.specs.Edits.{planted_row, removed_row, inserted, deleted, retexted}
-use Rattle.nx_drawn.specs.Splits.{part_nodes, whole, Splits}
+use Rattle.nx_drawn.specs.Splits.{part_nodes, Divides, whole, Splits}
 
 -- An edit of what is drawn is the edit of the tree.
 pub record EditsAreOfTrees (k : ℕ) (document : CutTree) : Type 0 where
@@ -37,6 +37,11 @@ SplitsLeaveTrees = (settings : Settings) (rules : List Rule) (old new : CutTree)
 -- A document none of whose parts weighs more than k is split nowhere.
 abbrev pub LightStays : Type 0
 LightStays = (settings : Settings) (rules : List Rule) (old new : CutTree) → AreParts settings.k (whole old) → Splits settings rules old new ↔ (new ≡ old)
+
+-- A part that is divided by a split has no part that weighs more than the limit, k or more, where none below it does.
+abbrev pub DividedIsLight : Type 0
+DividedIsLight =
+    (settings : Settings) (rules : List Rule) (above : Option Node) (members now : CutForest) (limit : ℕ) → settings.k ≤ limit → AreParts limit members → Divides settings rules above members now → AreParts limit now
 
 -- A split sees of the piece of an interval what it sees of the interval's part.
 abbrev pub PieceIsPart : Type 0

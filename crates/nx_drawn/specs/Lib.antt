@@ -1,4 +1,5 @@
 pub mod Edits
 pub mod Placement
 pub mod Splits
+pub mod Growth
 pub mod Laws

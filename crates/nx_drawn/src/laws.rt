@@ -1,6 +1,7 @@
 //! What holds of edits and splits.
 ghost use Rattle.nx_drawn.specs.Placement.{PlantsRuns, RemovesRuns};
-ghost use Rattle.nx_drawn.specs.Laws.{DrawnEditsAreEdits, DrawnEditsStayLight, LightStays, MarksAreLeft, PieceIsPart, SplitsLeaveTrees};
+ghost use Rattle.nx_drawn.specs.Growth.{InsertGrowsLittle, PlantGrowsLittle, RetextGrowsLittle};
+ghost use Rattle.nx_drawn.specs.Laws.{DividedIsLight, DrawnEditsAreEdits, DrawnEditsStayLight, LightStays, MarksAreLeft, PieceIsPart, SplitsLeaveTrees};
 
 /// An edit of what is drawn is the edit of the tree.
 pub fn drawn_edits_are_edits()
@@ -22,6 +23,11 @@ pub fn light_stays()
     ensures { LightStays }
 {}
 
+/// A part that is divided by a split has no part that is too heavy, also under a limit above K.
+pub fn divided_is_light()
+    ensures { DividedIsLight }
+{}
+
 /// A split sees of the piece of an interval what it sees of the interval's part.
 pub fn piece_is_part()
     ensures { PieceIsPart }
@@ -40,4 +46,20 @@ pub fn plants_runs()
 /// What a `delete` does to the intervals below the lost tree's parent, by their first and last positions.
 pub fn removes_runs()
     ensures { RemovesRuns }
+{}
+
+/// Where a node comes into a row of a record that doesn't outweigh K, one part at most becomes too heavy: by no more
+/// than the node's weight, and with one member more at most.
+pub fn plant_grows_little()
+    ensures { PlantGrowsLittle }
+{}
+
+/// An `insert` of a node that doesn't outweigh K makes one part at most too heavy, by no more than the node's weight.
+pub fn insert_grows_little()
+    ensures { InsertGrowsLittle }
+{}
+
+/// So does a `retext`, where the node doesn't outweigh K with its new content.
+pub fn retext_grows_little()
+    ensures { RetextGrowsLittle }
 {}

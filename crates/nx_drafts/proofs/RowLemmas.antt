@@ -1,0 +1,121 @@
+-- One interval of a row that is replaced by a split of it.
+use Rattle.std.proofs.Common.{◌≡◌, ℕ, zero, suc, ◌-◌, ◌<◌, ◌≤◌, nat_lt, if◌then◌else◌, Bool, true, false, length, List, Option, None, Some, refl, sym, ap, subst, arith}
+use Rattle.std.specs.Bool.{MatchBool}
+use Rattle.std.proofs.lemmas.Bool.Decides.{nat_tests}
+use Rattle.nx_tree.specs.declared.node.Node.{Node}
+use Rattle.nx_cuts.specs.Cut.{CutForest, Bare, Grown, Kept, part_weight, AreParts}
+use Rattle.nx_matrix.specs.declared.rule.Rule.{Rule}
+use Rattle.nx_holdings.specs.declared.header.Settings.{Settings}
+use Rattle.nx_layouts.specs.Layout.{RecordPlace, Layout, without_places, proxies_of}
+use Rattle.nx_layouts.specs.Replace.{joined_layout, replaced_at, kept_at}
+use Rattle.nx_cuts.specs.Rows.{joined_row}
+use Rattle.nx_drawn.specs.Splits.{Divides, SplitsInterval, SplitsRow, whole}
+use Rattle.nx_drafts.specs.Rows.{above_at, OneIsSplit, SplitStaysAbove, RootIsSplit}
+use Rattle.nx_drawn.proofs.BareLemmas.{weight_bare, parts_bare}
+
+pub bare-joined : (a b : Layout) → without_places (joined_layout a b) ≡ joined_row (without_places a) (without_places b)
+bare-joined Bare b = refl
+bare-joined (Grown node below beside) b = ap (Grown node (without_places below)) (bare-joined beside b)
+bare-joined (Kept place members beside) b = ap (Kept tt (without_places members)) (bare-joined beside b)
+
+module _ (settings : Settings) (rules : List Rule) where
+  stays_interval : (m : CutForest) (above : Option Node) (t : Bool) → nat_lt settings.k (part_weight m) ≡ t → part_weight m ≤ settings.k → MatchBool t (Divides settings rules above m (Kept tt m Bare)) (Kept tt m Bare ≡ Kept tt m Bare)
+  stays_interval m above true e le = absurd (let l : settings.k < part_weight m = grind (arith, nat_tests) in omega arith)
+  stays_interval m above false e le = refl
+
+  -- where no part is too heavy, all stays
+  pub row_stays : (above : Option Node) (old : CutForest) → AreParts settings.k old → SplitsRow settings rules above old old
+  row_stays above Bare a = refl
+  row_stays above (Grown node below beside) a = (below, beside, row_stays (Some node) below a.0, row_stays above beside a.1, refl)
+  row_stays above (Kept mark members beside) a =
+      (members, Kept tt members Bare, beside, row_stays above members a.3, stays_interval members above (nat_lt settings.k (part_weight members)) refl a.2, row_stays above beside a.4, refl)
+
+  one_split : (above : Option Node) (index : ℕ) (old members row : Layout) → kept_at index old ≡ Some members → AreParts settings.k (replaced_at index Bare old) → AreParts settings.k members
+      → SplitsInterval settings rules (above_at index above old) (without_places members) (without_places row) → SplitsRow settings rules above (without_places old) (without_places (replaced_at index row old))
+  one_split above index Bare members row e a parts splits = cc
+  one_split above index (Grown n b s) members row e a parts splits =
+      (elim (nat_lt index (length (proxies_of b))) as (λ t.
+      (if t then kept_at index b else kept_at (index - length (proxies_of b)) s) ≡ Some members
+      → AreParts settings.k (if t then Grown n (replaced_at index Bare b) s else Grown n b (replaced_at (index - length (proxies_of b)) Bare s))
+      → SplitsInterval settings rules (if t then above_at index (Some n) b else above_at (index - length (proxies_of b)) above s) (without_places members) (without_places row)
+      → SplitsRow settings rules above (Grown n (without_places b) (without_places s)) (without_places (if t then Grown n (replaced_at index row b) s else Grown n b (replaced_at (index - length (proxies_of b)) row s)))) [
+        | true ↦ λ f h w. (without_places (replaced_at index row b), without_places s, one_split (Some n) index b members row f h.0 parts w, row_stays above (without_places s) (parts_bare settings.k s h.1), refl)
+        | false ↦ λ f h w. (
+          without_places b,
+          without_places (replaced_at (index - length (proxies_of b)) row s),
+          row_stays (Some n) (without_places b) (parts_bare settings.k b h.0),
+          one_split above (index - length (proxies_of b)) s members row f h.1 parts w,
+          refl,
+        )
+      ]) e a splits
+  one_split above zero (Kept r m s) members row e a parts splits =
+      let same : m ≡ members = cc in (
+        without_places members,
+        without_places row,
+        without_places s,
+        subst (λ (l : Layout). SplitsRow settings rules above (without_places l) (without_places members)) (sym same) (row_stays above (without_places members) (parts_bare settings.k members parts)),
+        splits,
+        row_stays above (without_places s) (parts_bare settings.k s a),
+        bare-joined row s,
+      )
+  one_split above (suc index) (Kept r m s) members row e a parts splits =
+      let h = parts_bare settings.k (Kept r m (replaced_at index Bare s)) a in (
+        without_places m,
+        Kept tt (without_places m) Bare,
+        without_places (replaced_at index row s),
+        row_stays above (without_places m) h.3,
+        stays_interval (without_places m) above (nat_lt settings.k (part_weight (without_places m))) refl h.2,
+        one_split above index s members row e a.4 parts splits,
+        refl,
+      )
+
+  stays_above : (above : Option Node) (index : ℕ) (place : RecordPlace) (old members now : Layout) → kept_at index old ≡ Some members → AreParts settings.k (replaced_at index Bare old) → part_weight now ≤ settings.k
+      → SplitsRow settings rules (above_at index above old) (without_places members) (without_places now) → SplitsRow settings rules above (without_places old) (without_places (replaced_at index (Kept place now Bare) old))
+  stays_above above index place Bare members now e a light splits = cc
+  stays_above above index place (Grown n b s) members now e a light splits =
+      let row : Layout = Kept place now Bare in
+      (elim (nat_lt index (length (proxies_of b))) as (λ t.
+      (if t then kept_at index b else kept_at (index - length (proxies_of b)) s) ≡ Some members
+      → AreParts settings.k (if t then Grown n (replaced_at index Bare b) s else Grown n b (replaced_at (index - length (proxies_of b)) Bare s))
+      → SplitsRow settings rules (if t then above_at index (Some n) b else above_at (index - length (proxies_of b)) above s) (without_places members) (without_places now)
+      → SplitsRow settings rules above (Grown n (without_places b) (without_places s)) (without_places (if t then Grown n (replaced_at index row b) s else Grown n b (replaced_at (index - length (proxies_of b)) row s)))) [
+        | true ↦ λ f h w. (without_places (replaced_at index row b), without_places s, stays_above (Some n) index place b members now f h.0 light w, row_stays above (without_places s) (parts_bare settings.k s h.1), refl)
+        | false ↦ λ f h w. (
+          without_places b,
+          without_places (replaced_at (index - length (proxies_of b)) row s),
+          row_stays (Some n) (without_places b) (parts_bare settings.k b h.0),
+          stays_above above (index - length (proxies_of b)) place s members now f h.1 light w,
+          refl,
+        )
+      ]) e a splits
+  stays_above above zero place (Kept r m s) members now e a light splits =
+      let same : m ≡ members = cc in (
+        without_places now,
+        Kept tt (without_places now) Bare,
+        without_places s,
+        subst (λ (l : Layout). SplitsRow settings rules above (without_places l) (without_places now)) (sym same) splits,
+        stays_interval (without_places now) above (nat_lt settings.k (part_weight (without_places now))) refl (omega (arith, light, weight_bare now)),
+        row_stays above (without_places s) (parts_bare settings.k s a),
+        refl,
+      )
+  stays_above above (suc index) place (Kept r m s) members now e a light splits =
+      let h = parts_bare settings.k (Kept r m (replaced_at index Bare s)) a in (
+        without_places m,
+        Kept tt (without_places m) Bare,
+        without_places (replaced_at index (Kept place now Bare) s),
+        row_stays above (without_places m) h.3,
+        stays_interval (without_places m) above (nat_lt settings.k (part_weight (without_places m))) refl h.2,
+        stays_above above index place s members now e a.4 light splits,
+        refl,
+      )
+
+pub one_is_split : OneIsSplit
+one_is_split settings rules above index old members row e a parts splits = one_split settings rules above index old members row e a parts splits
+
+pub split_stays_above : SplitStaysAbove
+split_stays_above settings rules above index place old members now e a light splits = stays_above settings rules above index place old members now e a light splits
+
+pub root_is_split : RootIsSplit
+root_is_split settings rules root place old new before after one other splits =
+    subst (λ (b : CutForest). SplitsRow settings rules None (Kept tt (Grown old.node b Bare) Bare) (whole new)) one
+    (subst (λ (b : CutForest). SplitsRow settings rules None (Kept tt (Grown old.node (without_places before) Bare) Bare) (Kept tt (Grown new.node b Bare) Bare)) other splits)

@@ -1,0 +1,41 @@
+-- What holds of splits in documents that are drawn, and of their drafts.
+use Rattle.std.specs.Prelude.{◌≡◌, ℕ, ◌≤◌, List, [], ◌++◌, Option, IsPermutation}
+use Rattle.nx_tree.specs.declared.node.Node.{Node}
+use Rattle.nx_parts.specs.declared.interval.Interval.{Interval}
+use Rattle.nx_matrix.specs.declared.rule.Rule.{Rule}
+use Rattle.nx_cuts.specs.Cut.{intervals, AreParts}
+use Rattle.nx_holdings.specs.declared.header.Settings.{Settings}
+use Rattle.nx_piece.specs.declared.piece.Piece.{Piece}
+use Rattle.nx_piece.specs.Valid.{IsPiece}
+use Rattle.nx_layouts.specs.Layout.{RecordPlace, Layout, piece_of, places_of, without_places}
+use Rattle.nx_sketch.specs.Split.{IsSplit}
+use Rattle.nx_drawn.specs.Splits.{part_nodes}
+use Rattle.nx_drafts.specs.Draft.{Draft, drawn_forest, layout_before, layout_after, came, AreHeldAll}
+
+-- These intervals are drawn into a layout, in which all others stand as they did.
+pub record IsDrafted (k : ℕ) (members : Layout) (parts : List Interval) : Type 0 where
+  pub draft : Draft (Unit {0})
+  pub stands : layout_before draft ≡ members
+  pub drawn : IsPermutation (intervals [] 0 (drawn_forest draft)) (parts ++ intervals [] 0 (without_places members))
+  pub light : AreParts k (drawn_forest draft)
+  pub held : AreHeldAll draft
+
+-- A split can be drawn into the layout of the part that it divides: no part weighs more than the limit, where none below it does, and each root is a member of one of its intervals.
+abbrev pub SplitIsDrafted : Type 0
+SplitIsDrafted =
+    (settings : Settings) (rules : List Rule) (above : Option Node) (limit : ℕ) (members : Layout) (parts : List Interval) → settings.k ≤ limit → AreParts limit members
+    → IsSplit settings.k (part_nodes rules above (without_places members)) settings.target settings.tolerance parts → IsDrafted limit members parts
+
+-- Of a draft whose records have all come, the places are those that came and those that stood.
+abbrev pub PlacesAreBoth : Type 0
+PlacesAreBoth = (draft : Draft RecordPlace) → IsPermutation (places_of (layout_after draft)) (came draft ++ places_of (layout_before draft))
+
+-- Some layout has this piece, and no part below its part weighs more than 256.
+pub record HasMembers (piece : Piece) : Type 0 where
+  pub members : Layout
+  pub is : piece_of members ≡ piece
+  pub light : AreParts 256 members
+
+-- Each piece that may be divided is that of some layout.
+abbrev pub PieceHasMembers : Type 0
+PieceHasMembers = (piece : Piece) → IsPiece piece → HasMembers piece

@@ -1,0 +1,4 @@
+pub mod Draft
+pub mod Rows
+pub mod Once
+pub mod Laws

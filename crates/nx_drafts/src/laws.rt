@@ -1,0 +1,46 @@
+//! What holds of splits in documents that are drawn, and of drafts.
+ghost use Rattle.nx_drafts.specs.Laws.{PieceHasMembers, PlacesAreBoth, SplitIsDrafted};
+ghost use Rattle.nx_drafts.specs.Once.{HeavyIsLaid, HeavyIsThere};
+ghost use Rattle.nx_drafts.specs.Rows.{OneIsSplit, RootIsSplit, SplitStaysAbove};
+
+/// A split can be drawn into the layout of the part that it divides.
+pub fn split_is_drafted()
+    ensures { SplitIsDrafted }
+{}
+
+/// Where one interval is replaced by a split of it, the whole row is split.
+pub fn one_is_split()
+    ensures { OneIsSplit }
+{}
+
+/// Where the members of an interval are split, whose own part stays, the row is split that has the interval: so a
+/// split goes up through the records above it.
+pub fn split_stays_above()
+    ensures { SplitStaysAbove }
+{}
+
+/// The whole document is split where the interval of its root is.
+pub fn root_is_split()
+    ensures { RootIsSplit }
+{}
+
+/// Of a draft whose records have all come, the places are those that came and those that stood.
+pub fn places_are_both()
+    ensures { PlacesAreBoth }
+{}
+
+/// Each piece that may be divided is that of some layout.
+pub fn piece_has_members()
+    ensures { PieceHasMembers }
+{}
+
+/// Where one part of a row at most is too heavy, whoever finds one that is, or that one below it is, knows that it may
+/// be divided, and that no part beside it is too heavy.
+pub fn heavy_is_there()
+    ensures { HeavyIsThere }
+{}
+
+/// With the places of its records one part of a document at most is too heavy where without them one is.
+pub fn heavy_is_laid()
+    ensures { HeavyIsLaid }
+{}
