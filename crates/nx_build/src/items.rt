@@ -12,8 +12,11 @@ use nx_piece::{Item, Proxies, Proxy};
 use nx_tree::{NoMemory, Tree};
 use std::vec::IntoIter;
 
-// Adds a proxy, and counts it in the run at the end of the items, or in a new one.
-pub(crate) fn add_proxy(
+/// Adds a proxy, and counts it in the run at the end of the items, or in a new one. They have fewer than 524,288
+/// proxies before.
+///
+/// Errors: out of memory.
+pub fn add_proxy(
     items: &mut Vec<Item>,
     proxies: &mut Proxies,
     proxy: Proxy,
@@ -53,8 +56,8 @@ fn last_run(items: &[Item]) -> Option<u32>
     }
 }
 
-// Where the members of the interval end that holds the first of them, of so many trees.
-pub(crate) fn members_end(marks: &[Mark], holder: u32, first: usize, len: usize) -> usize
+/// Where the members of the interval end that holds the first of them, of so many trees.
+pub fn members_end(marks: &[Mark], holder: u32, first: usize, len: usize) -> usize
     requires { first < len }
     ensures some { first < result }
     ensures within { result ≤ len }

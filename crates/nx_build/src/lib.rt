@@ -5,4 +5,5 @@ mod items;
 mod storing;
 mod walk;
 
+pub use items::{add_proxy, members_end};
 pub use storing::store;

@@ -10,7 +10,7 @@ use Rattle.nx_layouts.specs.Layout.{RecordPlace}
 use Rattle.nx_layouts.proofs.PlaceLemmas.{no_place, one_place, first_among, is_among}
 use Rattle.nx_hold.specs.Changes.{piece_needs, AddsPiece, UpdatesPiece, RemovesPiece}
 use Rattle.nx_hold.specs.Pieces.{record_at, HoldsPiece, NamesList, NamesNot, ChangesOne}
-use Rattle.nx_hold.specs.Documents.{NamesAmong, MovesRecords, AddsRecords, HaveSame, MovesSame, MovesAddUp, MovesBeside, UpdateMoves, RemoveMoves, PiecesStayAround, PieceAddsRecord, RecordsAddUp, PiecesStayBeside}
+use Rattle.nx_hold.specs.Documents.{NamesAmong, MovesRecords, AddsRecords, HaveSame, MovesSame, MovesAddUp, MovesBeside, UpdateMoves, RemoveMoves, OneWentSeveralCame, PiecesStayAround, PieceAddsRecord, RecordsAddUp, PiecesStayBeside}
 use Rattle.nx_hold.proofs.PieceLemmas.{some_same, no_value, stays_stored, pieces_stay}
 use Rattle.nx_hold.proofs.MapLemmas.{held_at, told_some}
 use Rattle.nx_hold.proofs.RecordsLemmas.{not_none, piece_record, record_there, names_along, names_or_not, not_at, named_at, none_names, none_named}
@@ -297,6 +297,10 @@ pub records_add_up : RecordsAddUp
 records_add_up places more needs then was mid now one two =
     let later : MovesRecords (places ++ []) (places ++ more) then mid now = moves_beside places [] more then mid now one.came (λ place gone among. no_place place gone) two in
     moves_add_up [] places (places ++ more) needs then was mid now one (subst (λ (ps : List RecordPlace). MovesRecords ps (places ++ more) then mid now) (append-nil places) later)
+
+pub one_went_several_came : OneWentSeveralCame
+one_went_several_came place places needs was mid now removes adds =
+    moves_more (place ∷ []) places (0 + needs) needs was now (omega arith) (moves_add_up (place ∷ []) [] places 0 needs was mid now (remove_moves place was mid removes) adds)
 
 -- a record that is none of those that went or changed stays
 pub record_stays : {gone come : List RecordPlace} {needs : ℕ} {was now : Held} (place : RecordPlace) → MovesRecords gone come needs was now → IsSome (record_at was place) → (Contains gone place → ⊥)

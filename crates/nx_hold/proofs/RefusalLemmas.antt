@@ -23,7 +23,7 @@ runs_then one two = record {
   settings_stay = two.settings_stay ∙ one.settings_stay;
 }
 
-ends_then : {r0 r1 r2 : Records} → RunsOn r0 r1 → EndNow r1 r2 → EndNow r0 r2
+pub ends_then : {r0 r1 r2 : Records} → RunsOn r0 r1 → EndNow r1 r2 → EndNow r0 r2
 ends_then one two = record {
   before = one.before;
   after = two.after;
@@ -31,14 +31,14 @@ ends_then one two = record {
   settings_stay = two.settings_stay ∙ one.settings_stay;
 }
 
-no_end : (r : Records) → has_ended r ≡ false → has_ended r ≡ true → ⊥
+pub no_end : (r : Records) → has_ended r ≡ false → has_ended r ≡ true → ⊥
 no_end r runs ended = false≢true (sym runs ∙ ended)
 
 module _ {D : Type 0} {d : Ghosts D} where
   pub saved_then : {r0 r1 r2 : Records} {x0 x1 x2 : D} → KeepsSaved d r0 r1 x0 x1 → KeepsSaved d r1 r2 x1 x2 → KeepsSaved d r0 r2 x0 x2
   saved_then one two saved has = two saved (one saved has)
 
-  rose_later : {x0 x1 x2 : D} → IsStill d x0 x1 → Rose (d.faults x1) (d.faults x2) → Rose (d.faults x0) (d.faults x2)
+  pub rose_later : {x0 x1 x2 : D} → IsStill d x0 x1 → Rose (d.faults x1) (d.faults x2) → Rose (d.faults x0) (d.faults x2)
   rose_later {x0} {x1} {x2} still rose =
       let rose : min (d.faults x1 + 1) (2 ^ 64 - 1) ≤ d.faults x2 = rose in
       let later : d.faults x0 ≤ d.faults x1 = still.faults_later in

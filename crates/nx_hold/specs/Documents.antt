@@ -69,6 +69,10 @@ UpdateMoves = (old new : RecordPlace) (piece : Piece) (was now : Held) → Updat
 abbrev pub RemoveMoves : Type 0
 RemoveMoves = (place : RecordPlace) (was now : Held) → RemovesPiece place was now → MovesRecords (place ∷ []) [] 0 was now
 
+-- Where a piece was taken away and then records came, one record went and several came.
+abbrev pub OneWentSeveralCame : Type 0
+OneWentSeveralCame = (place : RecordPlace) (places : List RecordPlace) (needs : ℕ) (was mid now : Held) → RemovesPiece place was mid → AddsRecords places needs mid now → MovesRecords (place ∷ []) places needs was now
+
 -- Where records moved, each piece whose record isn't among those that went or changed stays, and so does the list that its record names.
 abbrev pub PiecesStayAround : Type 0
 PiecesStayAround = (gone come : List RecordPlace) (needs : ℕ) (was now : Held) → IsTidy was → MovesRecords gone come needs was now

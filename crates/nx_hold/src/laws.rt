@@ -1,7 +1,7 @@
 //! What holds of the pieces that records hold.
 ghost use Rattle.nx_hold.specs.Pieces.{HavePieceMap, OnePiece, OthersStay, PiecesStay, TidyStays};
 ghost use Rattle.nx_hold.specs.Changes.{AddsStay, MapGrows};
-ghost use Rattle.nx_hold.specs.Documents.{MovesAddUp, MovesBeside, MovesSame, PieceAddsRecord, PiecesStayAround, PiecesStayBeside, RecordsAddUp, RemoveMoves, UpdateMoves};
+ghost use Rattle.nx_hold.specs.Documents.{MovesAddUp, MovesBeside, MovesSame, OneWentSeveralCame, PieceAddsRecord, PiecesStayAround, PiecesStayBeside, RecordsAddUp, RemoveMoves, UpdateMoves};
 
 /// The record at a place holds one piece at most.
 pub fn one_piece()
@@ -80,6 +80,11 @@ pub fn update_moves()
 /// A piece that was taken away moved a record.
 pub fn remove_moves()
     ensures { RemoveMoves }
+{}
+
+/// Where a piece was taken away and then records came, one record went and several came.
+pub fn one_went_several_came()
+    ensures { OneWentSeveralCame }
 {}
 
 /// Where records moved and no two named one list, each piece whose record didn't go or change stays, and so does the

@@ -1,0 +1,109 @@
+-- The piece of an interval that became too heavy.
+use Rattle.std.proofs.Common.{◌≡◌, ℕ, ◌+◌, ◌≤◌, List, [], ◌∷◌, ◌++◌, refl, sym, arith}
+use Rattle.nx_tree.specs.Forest.{Forest, Empty, Plant, nodes}
+use Rattle.nx_piece.specs.declared.piece.Proxy.{Proxy}
+use Rattle.nx_piece.specs.Gapped as gapped
+use Rattle.nx_piece.specs.Gapped.{Gapped, End, Grow, Gap, gapped_weight, proxies_in}
+use Rattle.nx_piece.specs.Valid.{AreTrees, HaveRoots}
+use Rattle.nx_cuts.specs.Cut.{Bare, Grown, Kept, joined, forest, width, part_weight, AreFree, AreParts}
+use Rattle.nx_layouts.specs.Layout.{Layout, gap_more, piece_body, proxies_of}
+use Rattle.nx_layouts.proofs.LayoutLemmas.{proxies_counted}
+use Rattle.nx_layouts.proofs.ValidLemmas.{body_apart}
+use Rattle.nx_split.specs.Piece.{AreAtMost}
+use Rattle.nx_drawn.specs.Growth.{PartIsAtMost}
+use Rattle.nx_drawn.proofs.GrowthLemmas.{width_light}
+use Rattle.nx_drawn.proofs.DividedLemmas.{heavier_parts}
+use Rattle.nx_drafts.proofs.FillLemmas.{weight-piece}
+use Rattle.nx_divide.specs.Marked.{many}
+use Rattle.nx_divide.specs.Heavy.{HeavyIsPiece}
+use Rattle.nx_divide.proofs.RowLemmas.{many-gap_more}
+
+free_trees : (a : Layout) → AreFree a → AreTrees (piece_body a)
+free_trees Bare f = tt
+free_trees (Grown n b s) f = free_trees s f
+free_trees (Kept r m s) f = absurd f
+
+free_roots : (a : Layout) → AreFree a → gapped.width (piece_body a) ≡ width a
+free_roots Bare f = refl
+free_roots (Grown n b s) f = omega (arith, free_roots s f)
+free_roots (Kept r m s) f = absurd f
+
+free_nodes : (a : Layout) → AreFree a → width a ≤ nodes (forest a)
+free_nodes Bare f = omega arith
+free_nodes (Grown n b s) f = omega (arith, free_nodes s f)
+free_nodes (Kept r m s) f = absurd f
+
+nodes-joined : (f g : Forest) → nodes (joined f g) ≡ nodes f + nodes g
+nodes-joined Empty g = omega arith
+nodes-joined (Plant n b s) g = omega (arith, nodes-joined s g)
+
+roots_both : (ps qs : List Proxy) → HaveRoots ps → HaveRoots qs → HaveRoots (ps ++ qs)
+roots_both [] qs h k = k
+roots_both (p ∷ ps) qs h k = (h.0, h.1, roots_both ps qs h.2 k)
+
+rooted : (a : Layout) → AreParts 256 a → HaveRoots (proxies_of a)
+rooted Bare h = tt
+rooted (Grown n b s) h = roots_both (proxies_of b) (proxies_of s) (rooted b h.0) (rooted s h.1)
+rooted (Kept r m s) h =
+    let some : 1 ≤ width m = h.0 in
+    let light : part_weight m ≤ 256 = h.2 in
+    let few = width_light m h.1 in
+    (some, omega (arith, light, few), rooted s h.4)
+
+many_nodes : (a : Layout) → AreParts 256 a → many (piece_body a) ≤ nodes (forest a)
+many_nodes Bare h = omega arith
+many_nodes (Grown n b s) h = omega (arith, many_nodes b h.0, many_nodes s h.1)
+many_nodes (Kept r m s) h =
+    let some : 1 ≤ width m = h.0 in
+    let few = free_nodes m h.1 in
+    let x = many-gap_more (piece_body s) in
+    let y = nodes-joined (forest m) (forest s) in
+    omega (arith, some, few, x, y, many_nodes s h.4)
+
+proxies_many : (g : Gapped) → proxies_in g ≤ many g
+proxies_many End = omega arith
+proxies_many (Grow n b s) = omega (arith, proxies_many b, proxies_many s)
+proxies_many (Gap count s) = omega (arith, proxies_many s)
+
+-- each node of a piece weighs something
+pub many_few : (g : Gapped) → many g ≤ gapped_weight g + proxies_in g
+many_few End = omega arith
+many_few (Grow n b s) = omega (arith, many_few b, many_few s)
+many_few (Gap count s) = omega (arith, many_few s)
+
+at_most-gap_more : (k : ℕ) (g : Gapped) → AreAtMost k g → AreAtMost k (gap_more g)
+at_most-gap_more k End q = tt
+at_most-gap_more k (Grow n b s) q = q
+at_most-gap_more k (Gap count s) q = q
+
+nodes_at_most : (k : ℕ) (a : Layout) → PartIsAtMost k a → AreAtMost k (piece_body a)
+nodes_at_most k Bare q = tt
+nodes_at_most k (Grown n b s) q = (q.0, nodes_at_most k b q.1, nodes_at_most k s q.2)
+nodes_at_most k (Kept r m s) q = at_most-gap_more k (piece_body s) (nodes_at_most k s q)
+
+pub heavy_is_piece : HeavyIsPiece
+heavy_is_piece k limit wide members most limited narrow heavy small =
+    let some = heavy.some in
+    let few = heavy.few in
+    let light = heavy.light in
+    let parts : AreParts 256 members = heavier_parts k 256 members most heavy.parts in
+    let w = free_roots members heavy.free in
+    let v = weight-piece members in
+    let c = proxies_counted members in
+    let m = many_nodes members parts in
+    let p = proxies_many (piece_body members) in record {
+      is = record {
+        body = record {
+          trees = free_trees members heavy.free;
+          some = omega (arith, some, w);
+          few = omega (arith, few, narrow, w);
+          light = omega (arith, light, limited, v);
+          apart = body_apart members;
+          counted = sym c;
+          few_proxies = omega (arith, c, p, m, small);
+        };
+        ranged = rooted members parts;
+      };
+      few = omega (arith, m, small);
+      nodes = nodes_at_most k members heavy.nodes;
+    }

@@ -1,0 +1,13 @@
+pub mod SplitLemmas
+pub mod RowLemmas
+pub mod PutLemmas
+pub mod CallLemmas
+pub mod MarkedLemmas
+pub mod WalkLemmas
+pub mod AgreeLemmas
+pub mod RunLemmas
+pub mod StepLemmas
+pub mod TopLemmas
+pub mod LeftLemmas
+pub mod KeepLemmas
+pub mod HeavyLemmas

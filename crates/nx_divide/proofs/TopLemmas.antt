@@ -1,0 +1,251 @@
+-- A part that was put by a draft of its split is divided.
+use Rattle.std.proofs.Common.{◌≡◌, ℕ, zero, suc, ◌+◌, ◌*◌, ◌^◌, ◌≤◌, ◌<◌, List, [], ◌∷◌, ◌++◌, length, Option, None, refl, sym, ap, subst, ◌∙◌, arith, append-nil, length-append}
+use Rattle.std.specs.Prelude.{Result, Ok, Err, IfOk, IfErr}
+use Rattle.std.proofs.lemmas.List.Sorted.{length_permutation}
+use Rattle.nx_host.specs.declared.disk.Disk.{Ghosts}
+use Rattle.nx_tree.specs.declared.node.Node.{Node}
+use Rattle.nx_parts.specs.declared.interval.Interval.{Interval}
+use Rattle.nx_parts.specs.Partitioning.{holder}
+use Rattle.nx_matrix.specs.declared.rule.Rule.{Rule}
+use Rattle.nx_cuts.specs.Cut.{Bare, Grown, Kept, width, forest, intervals, cuts, AreFree, AreParts}
+use Rattle.nx_cuts.proofs.FeasibleLemmas.{length-intervals}
+use Rattle.nx_records.specs.Words.{Settings}
+use Rattle.nx_records.specs.declared.records.Records.{Records}
+use Rattle.nx_records.specs.declared.error.StoreError.{StoreError}
+use Rattle.nx_records.specs.declared.error.StoreError.TheVariants as error
+use Rattle.nx_records.specs.Records.{HasChanges}
+use Rattle.nx_records.specs.Refusals.{NotStored}
+use Rattle.nx_piece.specs.declared.piece.Piece.{Piece}
+use Rattle.nx_piece.specs.declared.piece.Proxy.{Proxy}
+use Rattle.nx_piece.specs.Gapped as gapped
+use Rattle.nx_piece.specs.Gapped.{Gapped, End, Grow, Gap, item_count, gapped_weight}
+use Rattle.nx_piece.specs.Valid.{IsPiece, AreApart, AreTrees, BeginsNoGap}
+use Rattle.nx_weights.specs.Weight.{weight}
+use Rattle.nx_parts.specs.declared.marks.Mark.{Mark}
+use Rattle.nx_parts.specs.Marks.{marked, marked_in, holder_by_marks}
+use Rattle.nx_layouts.specs.Replace.{joined_layout}
+use Rattle.nx_layouts.specs.Layout.{RecordPlace, Layout, without_places, gap_more, piece_body, proxies_of, piece_of}
+use Rattle.nx_sketch.specs.Split.{IsSplit}
+use Rattle.nx_split.specs.Piece.{placed_of}
+use Rattle.nx_drawn.specs.Splits.{part_nodes, Divides}
+use Rattle.nx_drafts.specs.Laws.{IsDrafted}
+use Rattle.nx_drafts.specs.Draft.{Draft, Ends, Grows, Stands, Comes, drawn_forest, layout_before, layout_after, came, unmarked, draft_body, draft_count, draft_needs, AreHeldAll}
+use Rattle.nx_drawn.proofs.BareLemmas.{forest_bare, parts_with}
+use Rattle.nx_drawn.proofs.DividedLemmas.{heavier_parts, feasible_plan}
+use Rattle.nx_drafts.proofs.DraftLemmas.{split_is_drafted}
+use Rattle.nx_drafts.proofs.GatherLemmas.{forest-layout_before}
+use Rattle.nx_drawn.proofs.PieceLemmas.{piece_part}
+use Rattle.nx_drafts.proofs.PlacesLemmas.{body-layout_after, count-layout_after, drawn_forest-layout_after}
+use Rattle.nx_drafts.proofs.SomeLemmas.{piece_has_members}
+use Rattle.nx_divide.specs.Marked.{IsMarkedDraft, many}
+use Rattle.nx_divide.proofs.MarkedLemmas.{marked_same}
+use Rattle.nx_divide.specs.Putting.{PutsRow}
+use Rattle.nx_divide.specs.Dividing.{DividesMembers, NeedsRoom, IsSplitOf}
+use Rattle.nx_divide.proofs.RowLemmas.{drawn_forest-unmarked, layout_before-unmarked, many-gap_more, many-joined}
+use Rattle.nx_divide.proofs.AgreeLemmas.{plan_agrees}
+
+-- where all are held, the piece has one gap
+gap_next : (n : ℕ) (g : Gapped) → (n ≡ 0 → g ≡ End) × (1 ≤ n → g ≡ Gap n End) → (1 + n ≡ 0 → gap_more g ≡ End) × (1 ≤ 1 + n → gap_more g ≡ Gap (1 + n) End)
+gap_next zero g h = (λ e. absurd (omega (arith, e)), λ some. ap gap_more (h.0 refl))
+gap_next (suc n) g h = (λ e. absurd (omega (arith, e)), λ some. ap gap_more (h.1 (omega arith)) ∙ ap (λ (i : ℕ). Gap i End) (let e : suc n + 1 ≡ 1 + suc n = omega arith in e))
+
+one_gap : {P : Type 0} (c : Draft P) → AreHeldAll c → (draft_count c ≡ 0 → draft_body c ≡ End) × (1 ≤ draft_count c → draft_body c ≡ Gap (draft_count c) End)
+one_gap Ends h = (λ e. refl, λ some. absurd (omega (arith, some)))
+one_gap (Grows n b s) h = absurd h
+one_gap (Stands r m s) h = gap_next (draft_count s) (draft_body s) (one_gap s h)
+one_gap (Comes u m s) h = gap_next (draft_count s) (draft_body s) (one_gap s h)
+
+held-unmarked : (c : Draft RecordPlace) → AreHeldAll (unmarked c) → AreHeldAll c
+held-unmarked Ends h = tt
+held-unmarked (Grows n b s) h = absurd h
+held-unmarked (Stands r m s) h = held-unmarked s h
+held-unmarked (Comes u m s) h = held-unmarked s h
+
+no_end : (roots : Gapped) → End ≡ roots → 1 ≤ gapped.width roots → ⊥
+no_end End e some = omega (arith, some)
+no_end (Grow n b s) e some = cc
+no_end (Gap count s) e some = cc
+
+all_gap : (made : Draft RecordPlace) (c : Draft (Unit {0})) → unmarked made ≡ c → AreHeldAll c → (roots : Gapped) → piece_body (layout_before c) ≡ roots → 1 ≤ gapped.width roots → piece_body (layout_after made) ≡ Gap (draft_count made) End
+all_gap made c same held roots are some =
+    let all : AreHeldAll made = held-unmarked made (subst AreHeldAll (sym same) held) in
+    let n : 1 ≤ draft_count made = one_left made c same held roots are some in
+    body-layout_after made ∙ (one_gap made all).1 n
+  where
+    one_left : (made : Draft RecordPlace) (c : Draft (Unit {0})) → unmarked made ≡ c → AreHeldAll c → (roots : Gapped) → piece_body (layout_before c) ≡ roots → 1 ≤ gapped.width roots → 1 ≤ draft_count made
+    one_left Ends c same held roots are some = absurd (no_end roots (ap (λ (x : Draft (Unit {0})). piece_body (layout_before x)) same ∙ are) some)
+    one_left (Grows n b s) c same held roots are some = absurd (subst AreHeldAll (sym same) held)
+    one_left (Stands r m s) c same held roots are some = omega arith
+    one_left (Comes u m s) c same held roots are some = omega arith
+
+module _ (settings : Settings) (rules : List Rule) (above : Option Node) (most : settings.k ≤ 256) (piece : Piece) (parts : List Interval) (split : IsSplit settings.k (placed_of rules above piece) settings.target settings.tolerance parts)
+    (members : Layout) (is : piece_of members ≡ piece) (limit : ℕ) (heavier : settings.k ≤ limit) (few : limit ≤ 256) (light : AreParts limit members) where
+  split_part : IsSplit settings.k (part_nodes rules above (without_places members)) settings.target settings.tolerance parts
+  split_part = subst (λ l. IsSplit settings.k l settings.target settings.tolerance parts) (ap (placed_of rules above) (sym is) ∙ piece_part rules above members) split
+
+  pub made : IsDrafted limit members parts
+  made = split_is_drafted settings rules above limit members parts heavier light split_part
+
+  pub made_marked : IsMarkedDraft None (holder parts) 0 piece.body.roots piece.proxies made.draft
+  made_marked = record {
+    items_are = ap piece_body made.stands ∙ ap (λ (p : Piece). p.body.roots) is;
+    behind = [];
+    olds_are = ap (λ (p : Piece). p.proxies) (sym is) ∙ ap proxies_of (sym made.stands) ∙ sym (append-nil (proxies_of (layout_before made.draft)));
+    light = heavier_parts limit 256 (drawn_forest made.draft) few made.light;
+    agrees = plan_agrees rules above limit members parts light (feasible_plan settings (part_nodes rules above (without_places members)) parts split_part).plan made;
+  }
+
+  pub made_divides : Divides settings rules above (without_places members) (drawn_forest made.draft)
+  made_divides = record {
+    parts = parts;
+    split = split_part;
+    same = sym (forest-layout_before made.draft) ∙ ap forest made.stands ∙ sym (forest_bare members);
+    drawn = made.drawn;
+    limit = limit;
+    formed = made.light;
+  }
+
+module _ {D : Type 0} (d : Ghosts D) (settings : Settings) (rules : List Rule) (above : Option Node) (most : settings.k ≤ 256) (piece : Piece) (parts : List Interval) (split : IsSplit settings.k (placed_of rules above piece) settings.target settings.tolerance parts)
+    (some : 1 ≤ gapped.width piece.body.roots) (r0 r1 : Records) (x0 x1 : D) where
+  pub divides_ok : (r : Result (List Proxy) StoreError) → IfOk r (λ row. (drawn : Draft (Unit {0})) → IsMarkedDraft None (holder parts) 0 piece.body.roots piece.proxies drawn → (body : Gapped) × PutsRow d r0 r1 x0 x1 drawn body [] row)
+      → IfOk r (λ row. (members : Layout) → piece_of members ≡ piece → AreParts settings.k members → DividesMembers d settings rules above r0 r1 x0 x1 members row)
+  divides_ok (Err e) h = tt
+  divides_ok (Ok row) h = λ members is light.
+      let m = made settings rules above most piece parts split members is settings.k (omega arith) most light in
+      let p = (h m.draft (made_marked settings rules above most piece parts split members is settings.k (omega arith) most light)).1 in
+      let bare : without_places (layout_after p.draft) ≡ drawn_forest m.draft = drawn_forest-layout_after p.draft ∙ sym (drawn_forest-unmarked p.draft) ∙ ap drawn_forest p.same in
+      let row_is : row ≡ proxies_of (layout_after p.draft) = p.proxies_are in
+      record {
+        draft = p.draft;
+        stands = sym (layout_before-unmarked p.draft) ∙ ap layout_before p.same ∙ m.stands;
+        divides = subst (Divides settings rules above (without_places members)) (sym bare) (made_divides settings rules above most piece parts split members is settings.k (omega arith) most light);
+        light = parts_with settings.k (layout_after p.draft) (subst (AreParts settings.k) (sym bare) m.light);
+        row_is = row_is;
+        gap = all_gap p.draft m.draft p.same m.held piece.body.roots (ap piece_body m.stands ∙ ap (λ (q : Piece). q.body.roots) is) some ∙ ap (λ (i : ℕ). Gap i End) (sym (count-layout_after p.draft) ∙ ap length (sym row_is));
+        put = p.put;
+      }
+
+  pub needs_room : (r : Result (List Proxy) StoreError) → IfErr r (λ e. (drawn : Draft (Unit {0})) → IsMarkedDraft None (holder parts) 0 piece.body.roots piece.proxies drawn → NotStored d (λ was. draft_needs drawn) (λ was. ⊥) 0 e r0 r1 x0 x1)
+      → IfErr r (λ e. NeedsRoom d settings rules above piece e r0 r1 x0 x1)
+  needs_room (Ok row) h = tt
+  needs_room (Err error.Full) h = λ members is light.
+      let m = made settings rules above most piece parts split members is settings.k (omega arith) most light in
+      record {
+        draft = m.draft;
+        stands = m.stands;
+        divides = made_divides settings rules above most piece parts split members is settings.k (omega arith) most light;
+        refused = h m.draft (made_marked settings rules above most piece parts split members is settings.k (omega arith) most light);
+      }
+  needs_room (Err error.Disk) h = tt
+  needs_room (Err error.Exists) h = tt
+  needs_room (Err error.NotAStore) h = tt
+  needs_room (Err (error.Damaged page)) h = tt
+  needs_room (Err error.Ended) h = tt
+  needs_room (Err error.Memory) h = tt
+
+-- how many intervals come
+abbrev coming : Draft (Unit {0}) → ℕ
+coming Ends = 0
+coming (Grows n b s) = coming b + coming s
+coming (Stands r m s) = coming s
+coming (Comes u m s) = 1 + coming m + coming s
+
+bare-joined : (a b : Layout) → cuts (without_places (joined_layout a b)) ≡ cuts (without_places a) + cuts (without_places b)
+bare-joined Bare b = omega arith
+bare-joined (Grown n d s) b = omega (arith, bare-joined s b)
+bare-joined (Kept r m s) b = omega (arith, bare-joined s b)
+
+cuts-coming : (c : Draft (Unit {0})) → cuts (drawn_forest c) ≡ coming c + cuts (without_places (layout_before c))
+cuts-coming Ends = refl
+cuts-coming (Grows n b s) = omega (arith, cuts-coming b, cuts-coming s)
+cuts-coming (Stands r m s) = omega (arith, cuts-coming s)
+cuts-coming (Comes u m s) = omega (arith, cuts-coming m, cuts-coming s, bare-joined (layout_before m) (layout_before s))
+
+coming_few : (k : ℕ) (c : Draft (Unit {0})) → AreParts k (drawn_forest c) → (coming c ≤ many (piece_body (layout_before c))) × (AreFree (drawn_forest c) → width (drawn_forest c) + coming c ≤ many (piece_body (layout_before c)))
+coming_few k Ends p = (omega arith, λ f. omega arith)
+coming_few k (Grows n b s) p =
+    let down = (coming_few k b p.0).0 in
+    let side = coming_few k s p.1 in
+    let along = side.0 in
+    (omega (arith, down, along), λ f. let all = side.1 f in omega (arith, down, all))
+coming_few k (Stands r m s) p = let along = (coming_few k s p.4).0 in let x = many-gap_more (piece_body (layout_before s)) in (omega (arith, along, x), λ f. absurd f)
+coming_few k (Comes u m s) p =
+    let some : 1 ≤ width (drawn_forest m) = p.0 in
+    let inside = (coming_few k m p.3).1 p.1 in
+    let along = (coming_few k s p.4).0 in
+    let x = many-joined (layout_before m) (layout_before s) in
+    (omega (arith, some, inside, along, x), λ f. absurd f)
+
+parts_are_few : (k : ℕ) (members : Layout) (parts : List Interval) (made : IsDrafted k members parts) → length parts ≤ many (piece_body members)
+parts_are_few k members parts made =
+    let olds = intervals [] 0 (without_places members) in
+    let all = length_permutation (intervals [] 0 (drawn_forest made.draft)) (parts ++ olds) made.drawn in
+    let a = length-append parts olds in
+    let b = length-intervals [] 0 (drawn_forest made.draft) in
+    let c = length-intervals [] 0 (without_places members) in
+    let e = cuts-coming made.draft in
+    let f : cuts (without_places (layout_before made.draft)) ≡ cuts (without_places members) = ap (λ (l : Layout). cuts (without_places l)) made.stands in
+    let g = (coming_few k made.draft made.light).0 in
+    let h : many (piece_body (layout_before made.draft)) ≡ many (piece_body members) = ap (λ (l : Layout). many (piece_body l)) made.stands in
+    omega (arith, all, a, b, c, e, f, g, h)
+
+-- a piece in memory, with the intervals of a split of it
+module _ (settings : Settings) (most : settings.k ≤ 256) (piece : Piece) (parts : List Interval) (split : IsSplitOf settings piece parts) (valid : IsPiece piece) where
+  abbrev pub some_draft : IsDrafted 256 (piece_has_members piece valid).members parts
+  some_draft = made settings split.rules split.above most piece parts split.split (piece_has_members piece valid).members (piece_has_members piece valid).is 256 most (omega arith) (piece_has_members piece valid).light
+
+  pub some_marked : IsMarkedDraft None (holder parts) 0 piece.body.roots piece.proxies some_draft.draft
+  some_marked = made_marked settings split.rules split.above most piece parts split.split (piece_has_members piece valid).members (piece_has_members piece valid).is 256 most (omega arith) (piece_has_members piece valid).light
+
+  pub few_parts : many piece.body.roots ≤ 524288 → length parts < 2 ^ 32
+  few_parts few =
+      let p = parts_are_few 256 (piece_has_members piece valid).members parts some_draft in
+      let e : many (piece_body (piece_has_members piece valid).members) ≡ many piece.body.roots = ap (λ (q : Piece). many q.body.roots) (piece_has_members piece valid).is in
+      omega (arith, p, e, few)
+
+-- the marks of the roots say which interval of the split holds each node
+pub roots_marked : (mark : Mark) (below : List Mark) (parts : List Interval) (roots items : Gapped) (olds left : List Proxy) (c : Draft (Unit {0})) → ((path : List ℕ) → marked mark path ≡ holder parts path) → ((position : ℕ) (path : List ℕ) → marked_in below position path ≡ marked mark (position ∷ path))
+    → items ≡ roots → left ≡ olds → IsMarkedDraft None (holder parts) 0 roots olds c → IsMarkedDraft None (holder_by_marks below) 0 items left c
+roots_marked mark below parts roots items olds left c holds are items_are left_is m =
+    subst (λ (g : Gapped). IsMarkedDraft None (holder_by_marks below) 0 g left c) (sym items_are)
+    (marked_same None (holder parts) (holder_by_marks below) 0 roots olds left c (λ p path. sym (holds (p ∷ path)) ∙ sym (are p path)) (sym left_is) m)
+
+-- nodes and gaps of a piece are few
+apart_few : (g : Gapped) → AreApart g → (BeginsNoGap g → item_count g ≤ 3 * gapped_weight g) × (item_count g ≤ 3 * gapped_weight g + 1)
+apart_few End a = (λ b. omega arith, omega arith)
+apart_few (Grow n b s) a =
+    let x = (apart_few b a.0).1 in
+    let y = (apart_few s a.1).1 in
+    let w : 1 ≤ weight n = omega arith in
+    (λ none. omega (arith, x, y, w), omega (arith, x, y, w))
+apart_few (Gap count s) a = let y = (apart_few s a.2).0 a.1 in (λ none. absurd none, omega (arith, y))
+
+pub items_few : (piece : Piece) → IsPiece piece → item_count piece.body.roots ≤ 1048576
+items_few piece p =
+    let x = (apart_few piece.body.roots p.body.apart).1 in
+    let y = p.body.light in
+    omega (arith, x, y)
+
+no_kept : (r : RecordPlace) (rest : List RecordPlace) → r ∷ rest ≡ [] → ⊥
+no_kept r rest e = cc
+
+-- where all roots are held by intervals that come, one comes
+pub one_comes : (made : Draft RecordPlace) (c : Draft (Unit {0})) → unmarked made ≡ c → AreHeldAll c → (roots : Gapped) → piece_body (layout_before c) ≡ roots → AreTrees roots → 1 ≤ gapped.width roots → came made ≡ [] → ⊥
+one_comes Ends c same held roots are trees some e = no_end roots (ap (λ (x : Draft (Unit {0})). piece_body (layout_before x)) same ∙ are) some
+one_comes (Grows n b s) c same held roots are trees some e = subst AreHeldAll (sym same) held
+one_comes (Stands r m s) c same held roots are trees some e = no_trees (piece_body (layout_before (unmarked s))) (subst AreTrees (sym (ap (λ (x : Draft (Unit {0})). piece_body (layout_before x)) same' ∙ are)) trees)
+  where
+    same' : unmarked (Stands r m s) ≡ c
+    same' = same
+
+    no_trees : (g : Gapped) → AreTrees (gap_more g) → ⊥
+    no_trees End t = t
+    no_trees (Grow n b s) t = t
+    no_trees (Gap count s) t = t
+one_comes (Comes r m s) c same held roots are trees some e = no_kept r (came m ++ came s) e
+
+module _ {D : Type 0} (d : Ghosts D) (settings : Settings) (most : settings.k ≤ 256) (piece : Piece) (parts : List Interval) (split : IsSplitOf settings piece parts) (valid : IsPiece piece) (r0 r1 : Records) (x0 x1 : D) where
+  pub parts_wait : (body : Gapped) (row : List Proxy) → PutsRow d r0 r1 x0 x1 (some_draft settings most piece parts split valid).draft body [] row → HasChanges r1
+  parts_wait body row p =
+      let m = some_draft settings most piece parts split valid in
+      ((p.put).waits).some (one_comes p.draft m.draft p.same m.held piece.body.roots (ap piece_body m.stands ∙ ap (λ (q : Piece). q.body.roots) (piece_has_members piece valid).is) valid.body.trees valid.body.some)

@@ -1,0 +1,23 @@
+use Rattle.std.proofs.Common.{List, sym, subst}
+use Rattle.std.specs.Option.{option_copied}
+use Rattle.nx_parts.specs.declared.interval.Interval.{Interval}
+use Rattle.nx_records.specs.Words.{Settings}
+use Rattle.nx_records.specs.Records.{settings_of}
+use Rattle.nx_sketch.specs.Split.{IsSplit}
+use Rattle.nx_split.specs.Piece.{placed_of}
+use Rattle.nx_divide.proofs.TopLemmas.{divides_ok, needs_room}
+use Rattle.nx_divide.proofs.dividing.divide.Goals as goal
+
+pub returns-clause-ok : goal.returns-clause-ok
+returns-clause-ok g c =
+    let split : IsSplit (settings_of c.args.records.now).k (placed_of c.args.matrix.now (option_copied c.args.above) c.args.piece) (settings_of c.args.records.now).target (settings_of c.args.records.now).tolerance c.as_slice.result.now =
+    subst (λ (l : List Interval). IsSplit (settings_of c.args.records.now).k (placed_of c.args.matrix.now (option_copied c.args.above) c.args.piece) (settings_of c.args.records.now).target (settings_of c.args.records.now).tolerance l) (sym c.as_slice.ensures)
+    (subst (λ (s : Settings). IsSplit s.k (placed_of c.args.matrix.now (option_copied c.args.above) c.args.piece) s.target s.tolerance c.in-Ok.parts) c.settings-settings.ensures c.in-Ok.ensures) in
+    divides_ok g.D.Disk (settings_of c.args.records.now) c.args.matrix.now (option_copied c.args.above) c.args.records.now.head_range.settings.k.1 c.args.piece c.as_slice.result.now split c.requires.piece.body.some c.args.records.now c.put_parts.new.records c.args.disk.now c.put_parts.new.disk c.put_parts.result c.put_parts.ensures.ok
+
+pub returns-clause-full : goal.returns-clause-full
+returns-clause-full g c =
+    let split : IsSplit (settings_of c.args.records.now).k (placed_of c.args.matrix.now (option_copied c.args.above) c.args.piece) (settings_of c.args.records.now).target (settings_of c.args.records.now).tolerance c.as_slice.result.now =
+    subst (λ (l : List Interval). IsSplit (settings_of c.args.records.now).k (placed_of c.args.matrix.now (option_copied c.args.above) c.args.piece) (settings_of c.args.records.now).target (settings_of c.args.records.now).tolerance l) (sym c.as_slice.ensures)
+    (subst (λ (s : Settings). IsSplit s.k (placed_of c.args.matrix.now (option_copied c.args.above) c.args.piece) s.target s.tolerance c.in-Ok.parts) c.settings-settings.ensures c.in-Ok.ensures) in
+    needs_room g.D.Disk (settings_of c.args.records.now) c.args.matrix.now (option_copied c.args.above) c.args.records.now.head_range.settings.k.1 c.args.piece c.as_slice.result.now split c.requires.piece.body.some c.args.records.now c.put_parts.new.records c.args.disk.now c.put_parts.new.disk c.put_parts.result c.put_parts.ensures.refused

@@ -1,0 +1,101 @@
+-- A part that was too heavy, divided: its intervals have records of their own.
+use Rattle.std.specs.Prelude.{◌≡◌, ℕ, ◌+◌, ◌<◌, false, List, [], ◌∷◌, ◌++◌, take, drop, length, Option, Contains}
+use Rattle.nx_host.specs.Disk.{Rose}
+use Rattle.nx_host.specs.declared.disk.Disk.{Ghosts}
+use Rattle.nx_tree.specs.declared.node.Node.{Node}
+use Rattle.nx_cuts.specs.Cut.{Bare, AreParts}
+use Rattle.nx_matrix.specs.declared.rule.Rule.{Rule}
+use Rattle.nx_records.specs.Words.{Held, Settings}
+use Rattle.nx_records.specs.declared.records.Records.{Records}
+use Rattle.nx_records.specs.declared.error.StoreError.{StoreError}
+use Rattle.nx_records.specs.declared.error.StoreError.TheVariants as error
+use Rattle.nx_records.specs.Records.{StandsFor, KeepsSaved, has_free}
+use Rattle.nx_records.specs.Refusals.{EndNow, HadEnded, RunsOn, NotStored}
+use Rattle.nx_parts.specs.declared.interval.Interval.{Interval}
+use Rattle.nx_sketch.specs.Split.{IsSplit}
+use Rattle.nx_split.specs.Piece.{placed_of}
+use Rattle.nx_piece.specs.declared.piece.Piece.{Piece}
+use Rattle.nx_piece.specs.declared.piece.Proxy.{Proxy}
+use Rattle.nx_piece.specs.Gapped.{Gap, End}
+use Rattle.nx_layouts.specs.Layout.{RecordPlace, Layout, piece_of, piece_body, proxies_of, places_of, without_places, AreHeld}
+use Rattle.nx_layouts.specs.Replace.{replaced_at}
+use Rattle.nx_hold.specs.Pieces.{HoldsNone, IsTidy, PieceMap}
+use Rattle.nx_hold.specs.Changes.{ComesTidy}
+use Rattle.nx_hold.specs.Documents.{MovesRecords}
+use Rattle.nx_drawn.specs.Splits.{Divides, SplitsRow}
+use Rattle.nx_drafts.specs.Draft.{Draft, drawn_forest, layout_before, layout_after, came, draft_needs}
+use Rattle.nx_divide.specs.Putting.{ArePut}
+
+-- These intervals are a split of the piece, below some node.
+pub record IsSplitOf (settings : Settings) (piece : Piece) (parts : List Interval) : Type 0 where
+  pub rules : List Rule
+  pub above : Option Node
+  pub split : IsSplit settings.k (placed_of rules above piece) settings.target settings.tolerance parts
+
+-- The interval with these members is divided: what stood below its part stands, for each interval of a split of the part a record came, no part weighs more than k, and
+-- these proxies stand in a row for all trees.
+pub record DividesMembers {D : Type 0} (d : Ghosts D) (settings : Settings) (rules : List Rule) (above : Option Node) (old new : Records) (before after : D) (members : Layout) (row : List Proxy) : Type 0 where
+  pub draft : Draft RecordPlace
+  pub stands : layout_before draft ≡ members
+  pub divides : Divides settings rules above (without_places members) (without_places (layout_after draft))
+  pub light : AreParts settings.k (layout_after draft)
+  pub row_is : row ≡ proxies_of (layout_after draft)
+  pub gap : piece_body (layout_after draft) ≡ Gap (length row) End
+  pub put : ArePut d old new before after draft
+
+-- Why it wasn't: the records of a split may take so many pages.
+pub record NotDivided {D : Type 0} (d : Ghosts D) (settings : Settings) (rules : List Rule) (above : Option Node) (e : StoreError) (old new : Records) (before after : D) (members : Layout) : Type 0 where
+  pub draft : Draft (Unit {0})
+  pub stands : layout_before draft ≡ members
+  pub divides : Divides settings rules above (without_places members) (drawn_forest draft)
+  pub refused : NotStored d (λ was. draft_needs draft) (λ was. ⊥) 0 e old new before after
+
+-- Where a call gave up for want of room, a split of each interval with this piece may take as many pages as weren't free.
+abbrev pub NeedsRoom : {D : Type 0} → Ghosts D → Settings → List Rule → (above : Option Node) → Piece → StoreError → Records → Records → D → D → Type 0
+NeedsRoom d settings rules above piece error.Full old new before after = (members : Layout) → piece_of members ≡ piece → AreParts settings.k members → NotDivided d settings rules above error.Full old new before after members
+NeedsRoom d settings rules above piece error.Disk old new before after = Unit {0}
+NeedsRoom d settings rules above piece error.Exists old new before after = Unit {0}
+NeedsRoom d settings rules above piece error.NotAStore old new before after = Unit {0}
+NeedsRoom d settings rules above piece (error.Damaged page) old new before after = Unit {0}
+NeedsRoom d settings rules above piece error.Ended old new before after = Unit {0}
+NeedsRoom d settings rules above piece error.Memory old new before after = Unit {0}
+
+-- no record of this layout stands at the place
+abbrev pub StandApart : RecordPlace → Layout → Type 0
+StandApart place layout = Contains (places_of layout) place → ⊥
+
+-- The interval of the proxy at an index of a row is replaced by others, with these proxies, and its record at this place went: the row is split, and where all else was held, what stands below the
+-- part too, in records of other places, all is held.
+pub record SplitsAt {D : Type 0} (d : Ghosts D) (settings : Settings) (rules : List Rule) (top : Option Node) (index : ℕ) (place : RecordPlace) (old new : Records) (before after : D) (whole members : Layout) (row : List Proxy) : Type 0 where
+  pub draft : Draft RecordPlace
+  pub stands : layout_before draft ≡ members
+  pub splits : SplitsRow settings rules top (without_places whole) (without_places (replaced_at index (layout_after draft) whole))
+  pub light : AreParts settings.k (replaced_at index (layout_after draft) whole)
+  pub proxies : proxies_of (replaced_at index (layout_after draft) whole) ≡ take index (proxies_of whole) ++ row ++ drop (index + 1) (proxies_of whole)
+  pub comes : ComesTidy d old new before after (λ was now. MovesRecords (place ∷ []) (came draft) (draft_needs draft) was now
+      × ((before : PieceMap was) (after : PieceMap now) → StandApart place (replaced_at index Bare whole) → StandApart place members → AreHeld before.piece_at (replaced_at index Bare whole) → AreHeld before.piece_at members
+      → AreHeld after.piece_at (replaced_at index (layout_after draft) whole)))
+
+-- Over pages whose lists are in order, fewer pages were free than the records of a split of these members may take.
+pub record FindsFewPages {D : Type 0} (d : Ghosts D) (settings : Settings) (rules : List Rule) (above : Option Node) (old : Records) (before : D) (members : Layout) : Type 0 where
+  pub draft : Draft (Unit {0})
+  pub stands : layout_before draft ≡ members
+  pub divides : Divides settings rules above (without_places members) (drawn_forest draft)
+  pub few : (saved now : Held) → StandsFor d old before saved now → IsTidy now → now.free < draft_needs draft
+
+-- No page is free now, and too few were for a split of each interval with this piece.
+pub record NoRoomToDivide {D : Type 0} (d : Ghosts D) (settings : Settings) (rules : List Rule) (above : Option Node) (piece : Piece) (old new : Records) (before after : D) : Type 0 where
+  pub runs : RunsOn old new
+  pub none_free : has_free new ≡ false
+  pub few : (members : Layout) → piece_of members ≡ piece → AreParts settings.k members → FindsFewPages d settings rules above old before members
+  pub keeps : KeepsSaved d old new before after
+
+-- Why the record at a place wasn't replaced by those of a split of this piece.
+abbrev pub NotSplitAt : {D : Type 0} → Ghosts D → Settings → List Rule → (above : Option Node) → RecordPlace → Piece → StoreError → Records → Records → D → D → Type 0
+NotSplitAt d settings rules above place piece error.Disk old new before after = Rose (d.faults before) (d.faults after) × EndNow old new
+NotSplitAt d settings rules above place piece error.Full old new before after = NoRoomToDivide d settings rules above piece old new before after
+NotSplitAt d settings rules above place piece (error.Damaged page) old new before after = EndNow old new × ((saved now : Held) → StandsFor d old before saved now → IsTidy now → HoldsNone now place)
+NotSplitAt d settings rules above place piece error.Ended old new before after = HadEnded old new before after
+NotSplitAt d settings rules above place piece error.Memory old new before after = RunsOn old new × KeepsSaved d old new before after
+NotSplitAt d settings rules above place piece error.Exists old new before after = ⊥
+NotSplitAt d settings rules above place piece error.NotAStore old new before after = ⊥
