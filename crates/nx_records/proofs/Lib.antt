@@ -1,4 +1,5 @@
 pub mod StandLemmas
+pub mod GroupLemmas
 pub mod StepLemmas
 pub mod LeaveLemmas
 pub mod RefusalLemmas

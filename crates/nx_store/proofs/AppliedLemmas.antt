@@ -24,6 +24,7 @@ use Rattle.nx_store.specs.declared.error.EngineError.TheVariants as error
 use Rattle.nx_store.proofs.AtLemmas.{shows_still}
 use Rattle.nx_store.proofs.ShowLemmas.{shows_weaker}
 use Rattle.nx_store.proofs.KeepLemmas.{abandoned_at, later_rose, no_end}
+use Rattle.nx_store.proofs.LogLemmas.{log_stays}
 use Rattle.nx_store.proofs.StepLemmas.{full_answers}
 
 module _ {D : Type 0} (d : Ghosts D) where
@@ -39,7 +40,13 @@ module _ {D : Type 0} (d : Ghosts D) where
     -- no page was free
     pub full_applied : (name : List ℕ) (tree : OrderedTree) (parts : List Interval) → IsNew s0 name → IsChosen s0 tree parts → HasNoRoom d s0 x0 tree → IsStill d x0 x1 → (state : State) → IsAt d s0 x0 state
         → IsApplied d (Ok (reply.Refused Full)) state (Load name (Read tree)) s2 x0 x1
-    full_applied name tree parts new chosen room still state at = (state, full_answers s0 x0 name tree parts new chosen state at (room state at), left_at state at, shows_weaker d (λ i of. inl of) (shows_still still at))
+    full_applied name tree parts new chosen room still state at = (
+      state,
+      full_answers s0 x0 name tree parts new chosen state at (room state at),
+      left_at state at,
+      shows_weaker d (λ i of. inl of) (shows_still still at),
+      log_stays d (Load name (Read tree)) state x0 x1 (λ is. cc),
+    )
 
   -- what the load is answered then
   module _ (s0 s1 s2 : Store) (x0 x1 : D) (follows : FollowsOn s1.records s2.records) (none : HasNoChanges s2.records)

@@ -1,14 +1,15 @@
 -- A command that came to its commit, or was refused before it.
 use Rattle.std.proofs.Common.{◌≡◌, ℕ, List, refl, sym, ◌∙◌, subst, inl, inr}
-use Rattle.std.specs.Prelude.{◌⊎◌, Some, IsSome, Result, Ok, Err, IfOk, IfErr}
+use Rattle.std.specs.Prelude.{◌⊎◌, ◌≢◌, ◌≤◌, Some, IsSome, Result, Ok, Err, IfOk, IfErr}
 use Rattle.nx_host.specs.Disk.{Image}
 use Rattle.nx_host.specs.declared.disk.Disk.{Ghosts}
 use Rattle.nx_host.specs.Still.{IsStill, WritesAlone}
-use Rattle.nx_replay.specs.Log.{replay}
+use Rattle.nx_replay.specs.Log.{Group, replay, HasGroup}
 use Rattle.nx_holdings.specs.Holdings.{Held, Holds}
-use Rattle.nx_records.specs.Records.{has_ended, StandsFor, HasNoChanges, FollowsOn}
+use Rattle.nx_records.specs.Records.{has_ended, log_length_of, IsInStepWith, StandsFor, HasNoChanges, FollowsOn}
 use Rattle.nx_catalog.specs.Catalog.{Contents, IsCatalog}
 use Rattle.nx_script.specs.declared.command.Command.{Command}
+use Rattle.nx_script.specs.declared.command.Command.TheVariants.{Checkpoint}
 use Rattle.nx_script.specs.declared.reply.Reply.{Reply}
 use Rattle.nx_script.specs.declared.reply.Reply.TheVariants as reply
 use Rattle.nx_script.specs.declared.reply.ReplyError.{ReplyError}
@@ -19,18 +20,18 @@ use Rattle.nx_records.specs.declared.error.StoreError.TheVariants as below
 use Rattle.nx_catalog.specs.declared.saving.RuleError.{RuleError}
 use Rattle.nx_catalog.specs.declared.saving.RuleError.TheVariants as rule
 use Rattle.nx_store.specs.Carried.{StoreStep}
-use Rattle.nx_store.specs.Store.{GoesOn, IsAt, IsOfEither, Shows, ShowsBegun, IsApplied, NotApplied}
+use Rattle.nx_store.specs.Store.{longest_log, GoesOn, IsAt, IsOfEither, Shows, ShowsBegun, IsApplied, NotApplied}
 use Rattle.nx_store.specs.Loading.{IsLeft, reply_of, HasText, IsToldOrNot, IsRefusal}
 use Rattle.nx_store.specs.Changing.{Prepares, StepsRefused, NotPrepared, RuleNotPrepared, IsRuleRefusal}
 use Rattle.nx_store.specs.declared.store.Store.{Store}
 use Rattle.nx_store.specs.declared.error.EngineError.{EngineError}
 use Rattle.nx_store.specs.declared.error.EngineError.TheVariants as error
 use Rattle.nx_store.proofs.AtLemmas.{shows_still}
-use Rattle.nx_store.proofs.LogLemmas.{some_value}
+use Rattle.nx_store.proofs.LogLemmas.{some_value, log_stays, log_grows}
 use Rattle.nx_store.proofs.ShowLemmas.{shows_then, shows_written, shows_weaker}
 use Rattle.nx_store.proofs.AppliedLemmas.{left_at, left_runs}
 
-module _ {D : Type 0} (d : Ghosts D) (command : Command) where
+module _ {D : Type 0} (d : Ghosts D) (command : Command) (other : command ≢ Checkpoint) where
   module _ (s0 s1 : Store) (x0 x1 x2 : D) (still : IsStill d x0 x1) (goes : WritesAlone d x1 x2 (λ i. (saved now : Held) → StandsFor d s1.records x1 saved now → Holds (replay i) saved ⊎ Holds (replay i) now))
       (state : State) (at : IsAt d s0 x0 state) (r : Reply) (k : Prepares d state command r s1 x1) (told : IsSome (d.contents x2)) where
     -- at each moment of the commit
@@ -44,9 +45,10 @@ module _ {D : Type 0} (d : Ghosts D) (command : Command) where
     commit_begun = inr (record { reply = r; next = k.next; step = k.step }, commit_shows)
 
     -- after it
-    pub commit_applied : (s2 : Store) (answer : Reply) → ((saved now : Held) (image : Image) → StandsFor d s1.records x1 saved now → d.contents x2 ≡ Some image → StandsFor d s2.records x2 now now)
+    pub commit_applied : (s2 : Store) (answer : Reply) (g : Group) → log_length_of s0.records ≤ longest_log → ((was now : Image) → IsInStepWith d s1.records x1 was → d.contents x2 ≡ Some now → HasGroup g was now)
+        → ((was now : Image) → IsInStepWith d s1.records x1 was → d.contents x2 ≡ Some now → IsInStepWith d s2.records x2 now) → ((saved now : Held) (image : Image) → StandsFor d s1.records x1 saved now → d.contents x2 ≡ Some image → StandsFor d s2.records x2 now now)
         → HasNoChanges s2.records → s2.catalog ≡ s1.catalog → answer ≡ r → IsApplied d (Ok answer) state command s2 x0 x2
-    commit_applied s2 answer stands none catalog is =
+    commit_applied s2 answer g short more step stands none catalog is =
         let image = some_value (d.contents x2) told in
         let p = k.prepared in (
           k.next,
@@ -59,6 +61,7 @@ module _ {D : Type 0} (d : Ghosts D) (command : Command) where
             catalog = subst (λ (c : Contents). IsCatalog (p.now).catalog c) (sym catalog) p.catalog;
           },
           commit_shows,
+          log_grows d command state k.next s0 s1.records s2.records x0 x1 x2 g other short at still ((p.stands).keeps).image ((p.stands).keeps).step more step told,
         )
 
   -- what the command is answered that wasn't prepared
@@ -73,7 +76,7 @@ module _ {D : Type 0} (d : Ghosts D) (command : Command) where
     refused_left : (e : ReplyError) (r : Result (Reply × List ℕ) EngineError) → IsToldOrNot (reply.Refused e) r → IsLeft d s0 s1 x0 x1 → StepsRefused d command e s0 x0 → (state : State) → IsAt d s0 x0 state → IsApplied d (reply_of r) state command s2 x0 x1
     refused_left e (Ok answer) is left steps state at =
         subst (λ (a : Reply × List ℕ). IsApplied d (Ok a.0) state command s2 x0 x1) (sym is)
-        (state, steps state at, left_at d s0 s1 s2 x0 x1 left follows none heads ended catalog state at, shows_weaker d (λ i of. inl of) (shows_still still at))
+        (state, steps state at, left_at d s0 s1 s2 x0 x1 left follows none heads ended catalog state at, shows_weaker d (λ i of. inl of) (shows_still still at), log_stays d command state x0 x1 other)
     refused_left e (Err x) is left steps state at = subst (λ (y : EngineError). IsApplied d (Err y) state command s2 x0 x1) (sym is) (memory_left left state at)
 
     pub refusal_applied : (e : StoreError) (r : Result (Reply × List ℕ) EngineError) → IsRefusal e r → NotPrepared d e s0 s1 x0 x1 → (state : State) → IsAt d s0 x0 state → IsApplied d (reply_of r) state command s2 x0 x1

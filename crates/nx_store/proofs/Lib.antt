@@ -11,6 +11,8 @@ pub mod ExportLemmas
 pub mod ListedLemmas
 pub mod PlanLemmas
 pub mod NameLemmas
+pub mod OrderedLemmas
+pub mod GoneLemmas
 pub mod RoomLemmas
 pub mod LoadLemmas
 pub mod KeepLemmas

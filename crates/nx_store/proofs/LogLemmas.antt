@@ -1,20 +1,27 @@
--- A store whose log was emptied.
-use Rattle.std.proofs.Common.{◌≡◌, Option, None, Some, refl, sym, subst}
+-- A store whose log was emptied, and what commands leave of the log.
+use Rattle.std.proofs.Common.{◌≡◌, ◌+◌, ◌<◌, ◌≤◌, [], Option, None, Some, inl, inr, true, refl, sym, ap, ◌∙◌, subst, arith}
+use Rattle.std.specs.Prelude.{◌≢◌, nat_lt, if◌then◌else◌}
+use Rattle.std.proofs.lemmas.Bool.{le-ltb, lt-ltb}
 use Rattle.std.proofs.lemmas.Bool.{false≢true}
 use Rattle.std.specs.Prelude.{IsSome}
 use Rattle.nx_host.specs.Disk.{Image}
 use Rattle.nx_host.specs.declared.disk.Disk.{Ghosts}
-use Rattle.nx_host.specs.Still.{WritesAlone}
-use Rattle.nx_host.proofs.DiskLemmas.{written_alone_weaker}
-use Rattle.nx_replay.specs.Log.{replay}
+use Rattle.nx_host.specs.Still.{IsStill, IsSettled, WritesAlone}
+use Rattle.nx_host.proofs.DiskLemmas.{settled_still, written_alone_weaker}
+use Rattle.nx_replay.specs.Log.{Group, groups, replay, HasGroup}
 use Rattle.nx_holdings.specs.Holdings.{Held, Holds}
 use Rattle.nx_records.specs.declared.records.Records.{Records}
-use Rattle.nx_records.specs.Records.{has_ended, HasSaved, StandsFor, HasNoChanges, FollowsOn}
+use Rattle.nx_records.specs.Records.{has_ended, log_length_of, group_count, log_end, HasSaved, IsInStepWith, StandsFor, HasNoChanges, FollowsOn}
+use Rattle.nx_records.proofs.GroupLemmas.{ends_there, one_more, none_counted, ends_at_none}
 use Rattle.nx_records.proofs.StandLemmas.{abandon_stands}
 use Rattle.nx_catalog.specs.Catalog.{Contents, IsCatalog}
+use Rattle.nx_script.specs.declared.command.Command.{Command}
+use Rattle.nx_script.specs.declared.command.Command.TheVariants.{Checkpoint}
 use Rattle.nx_state.specs.State.{State}
-use Rattle.nx_store.specs.Store.{IsAt, IsOf}
+use Rattle.nx_steps.specs.Step.{may_change}
+use Rattle.nx_store.specs.Store.{longest_log, IsAt, IsOf, IsShortened, LeavesLog}
 use Rattle.nx_store.specs.declared.store.Store.{Store}
+use Rattle.nx_store.proofs.FoundLemmas.{same_some}
 
 pub some_value : {T : Type 0} (o : Option T) → IsSome o → (x : T) × (o ≡ Some x)
 some_value None told = absurd (false≢true told)
@@ -41,3 +48,74 @@ module _ {D : Type 0} {d : Ghosts D} (s0 : Store) (r1 : Records) (x0 : D) (follo
         state_is = at.state_is;
         catalog = subst (λ (c : Contents). IsCatalog (at.held).catalog c) (sym catalog) at.catalog;
       }
+
+  -- without a group in its log
+  pub emptied_log : (x1 : D) → ((was now : Image) → IsInStepWith d r1 x0 was → d.contents x1 ≡ Some now → groups now.log ≡ [])
+      → (state : State) (now : Image) → IsAt d s0 x0 state → IsSettled d x1 now → group_count now ≡ 0
+  emptied_log x1 none_there state now at settled = let keeps = (dropped state at).keeps in none_counted now (none_there keeps.image now keeps.step settled.here)
+
+-- a command that may change a store is no checkpoint
+pub changes_other : (command : Command) → may_change command ≡ true → command ≢ Checkpoint
+changes_other command may is = false≢true (ap may_change (sym is) ∙ may)
+
+module _ {D : Type 0} (d : Ghosts D) where
+  -- there is one image
+  one_image : (x : D) (was now : Image) → IsSettled d x was → IsSettled d x now → now ≡ was
+  one_image x was now one other = same_some (sym other.here ∙ one.here)
+
+  -- the log of a store at a state is as long as its records say
+  log_at : (s : Store) (x : D) (state : State) (was : Image) → IsAt d s x state → IsSettled d x was → log_length_of s.records ≡ log_end was
+  log_at s x state was at settled =
+      let keeps = (at.stands).keeps in
+      ends_there s.records keeps.step ∙ ap log_end (sym (one_image x keeps.image was (keeps.step).settled settled))
+
+  -- a long log became empty
+  pub long_shortened : (s : Store) (x0 x1 : D) (state : State) (was now : Image) → longest_log < log_length_of s.records → IsAt d s x0 state → IsSettled d x0 was → IsSettled d x1 now
+      → group_count now ≡ 0 → IsShortened was now
+  long_shortened s x0 x1 state was now long at before after none = let ends = log_at s x0 state was at before in inl (omega (arith, long, ends), none)
+
+  -- a short one stays
+  pub short_shortened : (s : Store) (x : D) (state : State) (was now : Image) → log_length_of s.records ≤ longest_log → IsAt d s x state → IsSettled d x was → IsSettled d x now → IsShortened was now
+  short_shortened s x state was now short at before after = let ends = log_at s x state was at before in inr (omega (arith, short, ends), one_image x was now before after)
+
+  -- a command that leaves the state leaves the log
+  pub log_stays : (command : Command) (state : State) (before after : D) → command ≢ Checkpoint → LeavesLog d command state state before after
+  log_stays command state before after other = record { emptied = λ is. absurd (other is); grown = λ changed. absurd (changed refl) }
+
+  -- ... and so does a checkpoint, which empties it
+  pub log_emptied : (s : Store) (state : State) (before after : D) → ((now : Image) → IsSettled d after now → group_count now ≡ 0) → IsAt d s after state → LeavesLog d Checkpoint state state before after
+  log_emptied s state before after none at =
+      let keeps = (at.stands).keeps in
+      let settled = (keeps.step).settled in record {
+        emptied = λ is image may. subst (λ (i : Image). group_count i ≡ 0) (sym (settled.only image may)) (none keeps.image settled);
+        grown = λ changed. absurd (changed refl);
+      }
+
+  -- a commit over a short log adds a group
+  pub log_grows : (command : Command) (state next : State) (s0 : Store) (r1 r2 : Records) (x0 x1 x2 : D) (g : Group) → command ≢ Checkpoint → log_length_of s0.records ≤ longest_log → IsAt d s0 x0 state → IsStill d x0 x1
+      → (mid : Image) → IsInStepWith d r1 x1 mid → ((was now : Image) → IsInStepWith d r1 x1 was → d.contents x2 ≡ Some now → HasGroup g was now)
+      → ((was now : Image) → IsInStepWith d r1 x1 was → d.contents x2 ≡ Some now → IsInStepWith d r2 x2 now) → IsSome (d.contents x2) → LeavesLog d command state next x0 x2
+  log_grows command state next s0 r1 r2 x0 x1 x2 g other short at still mid step more after told = record {
+    emptied = λ is. absurd (other is);
+    grown = λ changed was image before may.
+        let now = some_value (d.contents x2) told in
+        let ends = log_at s0 x0 state was at before in
+        let same : mid ≡ was = one_image x1 was mid (settled_still still before) step.settled in
+        let counted : group_count now.0 ≡ group_count was + 1 = one_more g mid now.0 (more mid now.0 step now.1) ∙ ap (λ (i : Image). group_count i + 1) same in
+        subst (λ (i : Image). group_count i ≡ (if nat_lt longest_log (log_end was) then 1 else group_count was + 1)) (sym (((after mid now.0 step now.1).settled).only image may))
+        (counted ∙ ap (λ b. if b then 1 else group_count was + 1) (sym (le-ltb longest_log (log_end was) (omega (arith, short, ends)))));
+  }
+
+  -- ... behind one that was shortened
+  pub log_later : (command : Command) (state next : State) (x0 x1 x2 : D) (mid : Image) → IsSettled d x1 mid → ((was : Image) → IsSettled d x0 was → IsShortened was mid) → LeavesLog d command state next x1 x2 → LeavesLog d command state next x0 x2
+  log_later command state next x0 x1 x2 mid settled shortened leaves = record {
+    emptied = leaves.emptied;
+    grown = λ changed was image before may. counted was image (shortened was before) (leaves.grown changed mid image settled may);
+  }
+    where
+      counted : (was image : Image) → IsShortened was mid → group_count image ≡ (if nat_lt longest_log (log_end mid) then 1 else group_count mid + 1)
+          → group_count image ≡ (if nat_lt longest_log (log_end was) then 1 else group_count was + 1)
+      counted was image (inl long) is =
+          is ∙ ap (λ b. if b then 1 else group_count mid + 1) (le-ltb longest_log (log_end mid) (let none = ends_at_none mid long.1 in omega (arith, none)))
+          ∙ ap (λ n. n + 1) long.1 ∙ ap (λ b. if b then 1 else group_count was + 1) (sym (lt-ltb longest_log (log_end was) long.0))
+      counted was image (inr short) is = subst (λ (i : Image). group_count image ≡ (if nat_lt longest_log (log_end i) then 1 else group_count i + 1)) short.1 is

@@ -22,10 +22,10 @@ use Rattle.nx_cuts.proofs.AtMostLemmas.{feasible_light}
 use Rattle.nx_cuts.proofs.DrawnLaw.{feasible_drawn}
 use Rattle.nx_cuts.proofs.FeasibleLemmas.{length-intervals}
 use Rattle.nx_minima.proofs.BoundLemmas.{cuts-nodes}
-use Rattle.nx_replay.specs.Log.{replay}
+use Rattle.nx_replay.specs.Log.{Group, replay, HasGroup}
 use Rattle.nx_holdings.specs.declared.header.Settings.{Settings}
 use Rattle.nx_holdings.specs.Holdings.{Held, Holds}
-use Rattle.nx_records.specs.Records.{settings_of, StandsFor, HasNoChanges}
+use Rattle.nx_records.specs.Records.{settings_of, log_length_of, IsInStepWith, StandsFor, HasNoChanges}
 use Rattle.nx_catalog.specs.Catalog.{Contents, IsCatalog}
 use Rattle.nx_pyx.specs.declared.error.PyxError.{PyxError}
 use Rattle.nx_script.specs.declared.command.LoadBody.{LoadBody}
@@ -40,12 +40,12 @@ use Rattle.nx_steps.specs.Step.{Step}
 use Rattle.nx_steps.proofs.StoredLemmas.{stored_sound}
 use Rattle.nx_script.specs.Field.{name_order}
 use Rattle.nx_store.proofs.CaseLemmas.{BodyStep, load_case}
-use Rattle.nx_store.specs.Store.{IsAt, IsOfEither, Shows, ShowsBegun, IsApplied}
+use Rattle.nx_store.specs.Store.{longest_log, IsAt, IsOfEither, Shows, ShowsBegun, IsApplied}
 use Rattle.nx_store.specs.Loading.{IsNew, IsChosen, IsKept}
 use Rattle.nx_store.specs.declared.store.Store.{Store}
 use Rattle.nx_store.proofs.AtLemmas.{shows_still}
 use Rattle.nx_store.proofs.FoundLemmas.{at_found, at_none}
-use Rattle.nx_store.proofs.LogLemmas.{some_value}
+use Rattle.nx_store.proofs.LogLemmas.{some_value, log_grows}
 use Rattle.nx_store.proofs.ShowLemmas.{shows_then, shows_written}
 
 -- a feasible partitioning has no more intervals than the tree has nodes
@@ -154,9 +154,10 @@ module _ {D : Type 0} {d : Ghosts D} where
       )
 
       -- after it
-      pub commit_applied : (s2 : Store) (r : Reply) → ((saved now : Held) (image : Image) → StandsFor d s1.records x1 saved now → d.contents x2 ≡ Some image → StandsFor d s2.records x2 now now)
+      pub commit_applied : (s2 : Store) (r : Reply) (g : Group) → log_length_of s0.records ≤ longest_log → ((was now : Image) → IsInStepWith d s1.records x1 was → d.contents x2 ≡ Some now → HasGroup g was now)
+          → ((was now : Image) → IsInStepWith d s1.records x1 was → d.contents x2 ≡ Some now → IsInStepWith d s2.records x2 now) → ((saved now : Held) (image : Image) → StandsFor d s1.records x1 saved now → d.contents x2 ≡ Some image → StandsFor d s2.records x2 now now)
           → HasNoChanges s2.records → s2.catalog ≡ s1.catalog → r ≡ reply.Loaded (1 + nodes tree.below) (length parts) → IsApplied d (Ok r) state (Load name (Read tree)) s2 x0 x2
-      commit_applied s2 r stands none catalog is =
+      commit_applied s2 r g short more step stands none catalog is =
           let image = some_value (d.contents x2) told in (
             with_document state name k.document,
             subst (λ (answer : Reply). Step state (Load name (Read tree)) answer (with_document state name k.document)) (sym is) (kept_answers s1 x1 state at k),
@@ -168,4 +169,5 @@ module _ {D : Type 0} {d : Ghosts D} where
               catalog = subst (λ (c : Contents). IsCatalog (k.now).catalog c) (sym catalog) k.catalog;
             },
             commit_shows,
+            log_grows d (Load name (Read tree)) state (with_document state name k.document) s0 s1.records s2.records x0 x1 x2 g (λ is. cc) short at still ((k.stands).keeps).image ((k.stands).keeps).step more step told,
           )

@@ -12,7 +12,7 @@ use Rattle.nx_script.specs.declared.reply.Reply.{Reply}
 use Rattle.nx_state.specs.State.{State}
 use Rattle.nx_store.specs.Carried.{StoreStep}
 use Rattle.nx_script.specs.Reply.{reply_text}
-use Rattle.nx_store.specs.Store.{IsAt, IsOf, IsApplied, ShowsAnswer, IsAnswered}
+use Rattle.nx_store.specs.Store.{IsAt, IsOf, LeavesLog, IsApplied, ShowsAnswer, IsAnswered}
 use Rattle.nx_store.specs.declared.store.Store.{Store}
 use Rattle.nx_store.specs.declared.error.EngineError.{EngineError}
 use Rattle.nx_store.specs.declared.error.EngineError.TheVariants as error
@@ -58,12 +58,19 @@ module _ {D : Type 0} (d : Ghosts D) where
         at_image applied.2 h.1,
       ))
 
+      log_given : LeavesLog d command state applied.0 x0 x2
+      log_given = record {
+        emptied = λ is image may. (applied.4).emptied is image ((gives.images_stay image).0 may);
+        grown = λ changed was image before may. (applied.4).grown changed was image before ((gives.images_stay image).0 may);
+      }
+
       pub given_answered : Appends text (d.beside x1).output (d.beside x2).output → IsAnswered d (Ok tt) state command s x0 x2
       given_answered grew = (
         record { reply = reply; next = applied.0; step = applied.1 },
         at_beside gives told applied.2,
         subst (λ (t : List ℕ). Appends t (d.beside x0).output (d.beside x2).output) is (appends_kept text (d.beside x0).output (d.beside x1).output (d.beside x2).output kept grew),
         shows_turn,
+        log_given,
       )
 
       pub unwritten_answered : IsAnswered d (Err error.Write) state command s x0 x2

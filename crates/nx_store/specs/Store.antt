@@ -1,16 +1,16 @@
 -- What a store and its disk stand for, and what its calls leave and show.
-use Rattle.std.specs.Prelude.{◌≡◌, ◌⊎◌, ◌≤◌, ℕ, List, ◌++◌, true, false, Bool, Option, Some, IsSome, Result, Ok, Err}
+use Rattle.std.specs.Prelude.{◌≡◌, ◌≢◌, ◌⊎◌, ◌<◌, ◌≤◌, ◌+◌, nat_lt, if◌then◌else◌, ℕ, List, ◌++◌, true, false, Bool, Option, Some, IsSome, Result, Ok, Err}
 use Rattle.nx_host.specs.Disk.{Image, Keeps, Rose}
 use Rattle.nx_host.specs.declared.disk.Disk.{Ghosts}
 use Rattle.nx_host.specs.Host.{Appends, AppendsPrefix}
 use Rattle.nx_host.specs.Time.{Stood, Elapses}
 use Rattle.nx_host.specs.Still.{IsSettled, IsStill}
 use Rattle.nx_records.specs.Words.{replay, Held}
-use Rattle.nx_records.specs.Records.{StandsFor, LeavesRecords, HasNoChanges, HasHeader, has_ended}
+use Rattle.nx_records.specs.Records.{StandsFor, LeavesRecords, HasNoChanges, HasHeader, has_ended, group_count, log_end}
 use Rattle.nx_catalog.specs.Catalog.{IsCatalog}
 use Rattle.nx_nav.specs.Given.{GivesBut}
 use Rattle.nx_script.specs.declared.command.Command.{Command}
-use Rattle.nx_script.specs.declared.command.Command.TheVariants.{Export}
+use Rattle.nx_script.specs.declared.command.Command.TheVariants.{Export, Checkpoint}
 use Rattle.nx_script.specs.declared.reply.Reply.{Reply}
 use Rattle.nx_script.specs.Reply.{reply_text}
 use Rattle.nx_state.specs.State.{State}
@@ -38,6 +38,21 @@ pub record Turn (state : State) (command : Command) : Type 0 where
   pub next : State
   pub step : StoreStep state command reply next
 
+-- a command that changes a store begins with a checkpoint where the log has more bytes
+abbrev pub longest_log : ℕ
+longest_log = 67108864
+
+-- a log that is longer became empty, and another one stays
+abbrev pub IsShortened : Image → Image → Type 0
+IsShortened was now = ((longest_log < log_end was) × (group_count now ≡ 0)) ⊎ ((log_end was ≤ longest_log) × (now ≡ was))
+
+-- What a command leaves of the log in each image that a crash may leave: no group after a `checkpoint`; where the state is another, one more than there were, and
+-- that one alone where the log was long.
+pub record LeavesLog {D : Type 0} (d : Ghosts D) (command : Command) (state next : State) (before after : D) : Type 0 where
+  pub emptied : command ≡ Checkpoint → (image : Image) → d.may_leave after image → group_count image ≡ 0
+  pub grown : next ≢ state → (was image : Image) → IsSettled d before was → d.may_leave after image
+      → group_count image ≡ (if nat_lt longest_log (log_end was) then 1 else group_count was + 1)
+
 -- it is an image of this state
 abbrev pub IsOf : State → Image → Type 0
 IsOf state image = Recovers image (Some state)
@@ -57,7 +72,7 @@ ShowsBegun d state command before after = Shows d (IsOf state) before after ⊎ 
 -- How a command ended that came in this state, where the store is then, and what stood meanwhile.
 abbrev pub IsApplied : {D : Type 0} → Ghosts D → Result Reply EngineError → State → Command → Store → D → D → Type 0
 IsApplied d (Ok reply) state command store before after =
-    (next : State) × StoreStep state command reply next × IsAt d store after next × Shows d (IsOfEither state next) before after
+    (next : State) × StoreStep state command reply next × IsAt d store after next × Shows d (IsOfEither state next) before after × LeavesLog d command state next before after
 IsApplied d (Err error.Memory) state command store before after = IsAt d store after state × Shows d (IsOf state) before after
 IsApplied d (Err error.Disk) state command store before after = ShowsBegun d state command before after
 IsApplied d (Err _) state command store before after = ⊥
@@ -74,6 +89,7 @@ ShowsTurn {state = state} d turn before after = Elapses d.moment d.stood_since b
 abbrev pub IsAnswered : {D : Type 0} → Ghosts D → Result (Unit {0}) EngineError → State → Command → Store → D → D → Type 0
 IsAnswered d (Ok _) state command store before after =
     (turn : Turn state command) × IsAt d store after turn.next × Appends (reply_text turn.reply) (d.beside before).output (d.beside after).output × ShowsTurn d turn before after
+    × LeavesLog d command state turn.next before after
 IsAnswered d (Err error.Write) state command store before after = (turn : Turn state command) × IsAt d store after turn.next × ShowsTurn d turn before after
 IsAnswered d (Err error.Memory) state command store before after = IsAt d store after state × Shows d (IsOf state) before after
 IsAnswered d (Err error.Disk) state command store before after = ShowsBegun d state command before after

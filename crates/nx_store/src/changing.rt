@@ -1,20 +1,24 @@
 // Commands that change a store in other ways than `load`.
-ghost use Rattle.std.specs.Prelude.{◌≡◌, ◌≤◌, false, IsSome, IfOk, IfErr, OnOk};
+ghost use Rattle.std.specs.Prelude.{◌≡◌, ◌≤◌, false, Some, IsSome, IfOk, IfErr, OnOk};
+ghost use Rattle.std.specs.FinMap.{get};
 ghost use Rattle.nx_host.specs.Still.{IsStill, WritesAlone};
 ghost use Rattle.nx_records.specs.Records.{HasChanges, log_length_of};
 ghost use Rattle.nx_records.specs.Refusals.{RunsOn};
 ghost use Rattle.nx_script.specs.Rule.{HasLabels};
 ghost use Rattle.nx_script.specs.declared.command.Command.TheVariants as command;
 ghost use Rattle.nx_state.specs.State.{State};
-ghost use Rattle.nx_store.specs.Store.{is_ended, GoesOn, IsAt, IsApplied, NotApplied};
+ghost use Rattle.nx_store.specs.Store.{is_ended, longest_log, GoesOn, IsAt, IsApplied, NotApplied};
 ghost use Rattle.nx_store.specs.Loading.{reply_of, HasText};
-ghost use Rattle.nx_store.specs.Changing.{Prepares, RuleNotPrepared, IsRuleRefusal};
+ghost use Rattle.nx_store.specs.Changing.{Prepares, NotPrepared, RuleNotPrepared, IsRuleRefusal};
 
 use crate::loading::{refused, told};
 use crate::{EngineError, Store};
 use nx_catalog::RuleError;
+use nx_edit::remove_document;
+use nx_hold::DocEntry;
 use nx_host::Disk;
 use nx_matrix::Rule;
+use nx_records::StoreError;
 use nx_script::{Reply, ReplyError};
 use nx_tree::Bytes;
 use std::alloc::Global;
@@ -44,7 +48,7 @@ impl Store {
         rule: &Rule,
     ) -> Result<(Reply, Bytes), EngineError>
         requires runs { is_ended self.old ≡ false }
-        requires short { log_length_of self.old.records ≤ 67108864 }
+        requires short { log_length_of self.old.records ≤ longest_log }
         requires labels { HasLabels rule.now }
         ensures applies { (state : State) → IsAt D.Disk self.old disk.old state → IsSome (D.contents disk.new) → IsApplied D.Disk (reply_of result) state (command.SetRule rule.now) self.new disk.old disk.new }
         ensures ok { IfOk result (λ answer. GoesOn self.old self.new × HasText answer) }
@@ -75,6 +79,74 @@ impl Store {
         ensures refused { IfErr result (λ e. RuleNotPrepared D.Disk (command.SetRule rule.now) e self.old self.new disk.old disk.new) }
     {
         self.catalog.save_rule(&mut self.records, disk, rule)?;
+        Ok(())
+    }
+
+    // Takes a document away, by one commit. Beside the reply is its text.
+    pub(crate) fn discard<D: Disk>(
+        &mut self,
+        disk: &mut D,
+        name: &Bytes,
+    ) -> Result<(Reply, Bytes), EngineError>
+        requires runs { is_ended self.old ≡ false }
+        ensures applies { (state : State) → IsAt D.Disk self.old disk.old state → IsSome (D.contents disk.new) → IsApplied D.Disk (reply_of result) state (command.Discard name.now) self.new disk.old disk.new }
+        ensures ok { IfOk result (λ answer. GoesOn self.old self.new × HasText answer) }
+        ensures refused { IfErr result (λ e. NotApplied D.Disk e self.old self.new disk.old disk.new) }
+        ensures areas { WritesAlone D.Disk disk.old disk.new (λ _. Unit {0}) }
+    {
+        let Some(entry) = self.catalog.find(name.as_slice()) else {
+            return told(self.alloc, Reply::Refused(ReplyError::NoDocument));
+        };
+        self.shorten_log(disk)?;
+        self.discard_shortly(disk, name, entry)
+    }
+
+    // ... that of this entry, where the log is short.
+    fn discard_shortly<D: Disk>(
+        &mut self,
+        disk: &mut D,
+        name: &Bytes,
+        entry: DocEntry,
+    ) -> Result<(Reply, Bytes), EngineError>
+        requires runs { is_ended self.old ≡ false }
+        requires short { log_length_of self.old.records ≤ longest_log }
+        requires found { get (self.old.catalog).documents name.now ≡ Some entry }
+        ensures applies { (state : State) → IsAt D.Disk self.old disk.old state → IsSome (D.contents disk.new) → IsApplied D.Disk (reply_of result) state (command.Discard name.now) self.new disk.old disk.new }
+        ensures ok { IfOk result (λ answer. GoesOn self.old self.new × HasText answer) }
+        ensures refused { IfErr result (λ e. NotApplied D.Disk e self.old self.new disk.old disk.new) }
+        ensures areas { WritesAlone D.Disk disk.old disk.new (λ _. Unit {0}) }
+    {
+        let done = told(self.alloc, Reply::Done)?;
+        match self.prepare_discard(disk, name, entry) {
+            Ok(()) => {}
+            Err(error) => {
+                self.records.abandon();
+                return refused(self.alloc, error);
+            }
+        }
+        let Ok(()) = self.records.commit(disk) else {
+            return Err(EngineError::Disk);
+        };
+        Ok(done)
+    }
+
+    // Takes a document away but for the commit. Where this fails the catalog is as it was.
+    fn prepare_discard<D: Disk>(
+        &mut self,
+        disk: &mut D,
+        name: &Bytes,
+        entry: DocEntry,
+    ) -> Result<(), StoreError>
+        requires runs { is_ended self.old ≡ false }
+        requires found { get (self.old.catalog).documents name.now ≡ Some entry }
+        ensures still { IsStill D.Disk disk.old disk.new }
+        ensures runs { OnOk result (RunsOn self.old.records self.new.records × HasChanges self.new.records) }
+        ensures ok { OnOk result ((state : State) → IsAt D.Disk self.old disk.old state → Prepares D.Disk state (command.Discard name.now) Reply.Done self.new disk.new) }
+        ensures refused { IfErr result (λ e. NotPrepared D.Disk e self.old self.new disk.old disk.new) }
+    {
+        remove_document(self.alloc, &mut self.records, disk, entry)?;
+        self.catalog
+            .save_removed(&mut self.records, disk, name.as_slice())?;
         Ok(())
     }
 }

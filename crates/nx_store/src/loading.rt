@@ -1,8 +1,8 @@
 // Loading a document.
 ghost use Rattle.std.specs.Prelude.{◌≡◌, ◌⊎◌, ◌≤◌, false, length, All, IsTrue, IsSome, IfOk, IfErr, OnOk};
 ghost use Rattle.std.specs.FinMap.{entries, insert, remove};
-ghost use Rattle.nx_host.specs.Disk.{Rose};
-ghost use Rattle.nx_host.specs.Still.{IsStill, WritesAlone};
+ghost use Rattle.nx_host.specs.Disk.{Image, Rose};
+ghost use Rattle.nx_host.specs.Still.{IsStill, IsSettled, WritesAlone};
 ghost use Rattle.nx_tree.specs.Document.{IsDocument};
 ghost use Rattle.nx_records.specs.Records.{KeepsSaved, ComesTo, HasChanges, log_length_of, settings_of};
 ghost use Rattle.nx_records.specs.Changes.{SetsCatalog, catalog_needs};
@@ -14,7 +14,7 @@ ghost use Rattle.nx_script.specs.Field.{is_document_name};
 ghost use Rattle.nx_script.specs.Rule.{HasLabels};
 ghost use Rattle.nx_catalog.specs.Catalog.{IsCatalog, catalog_bytes};
 ghost use Rattle.nx_state.specs.State.{State};
-ghost use Rattle.nx_store.specs.Store.{is_ended, EndsNow, GoesOn, IsAt, IsOf, IsApplied, NotApplied};
+ghost use Rattle.nx_store.specs.Store.{is_ended, longest_log, EndsNow, GoesOn, IsAt, IsOf, IsShortened, IsApplied, NotApplied};
 ghost use Rattle.nx_store.specs.Loading.{IsNew, IsChosen, IsKept, NotKept, reply_of, HasText, IsToldOrNot, IsRefusal};
 
 use crate::{EngineError, Store};
@@ -83,8 +83,9 @@ impl Store {
     pub(crate) fn shorten_log<D: Disk>(&mut self, disk: &mut D) -> Result<(), EngineError>
         requires { is_ended self.old ≡ false }
         ensures goes { WritesAlone D.Disk disk.old disk.new (λ i. (state : State) → IsAt D.Disk self.old disk.old state → IsOf state i) }
-        ensures ok { OnOk result ((is_ended self.new ≡ false) × (log_length_of self.new.records ≤ 67108864)
+        ensures ok { OnOk result ((is_ended self.new ≡ false) × (log_length_of self.new.records ≤ longest_log)
             × ((state : State) → IsAt D.Disk self.old disk.old state → IsSome (D.contents disk.new) → IsAt D.Disk self.new disk.new state)) }
+        ensures log { OnOk result ((state : State) (was now : Image) → IsAt D.Disk self.old disk.old state → IsSettled D.Disk disk.old was → IsSettled D.Disk disk.new now → IsShortened was now) }
         ensures catalog { self.new.catalog ≡ self.old.catalog }
         ensures refused { IfErr result (λ e. (e ≡ EngineError.Disk) × Rose (D.faults disk.old) (D.faults disk.new) × EndsNow self.old self.new) }
     {
@@ -102,7 +103,7 @@ impl Store {
         tree: Tree,
     ) -> Result<(Reply, Bytes), EngineError>
         requires runs { is_ended self.old ≡ false }
-        requires short { log_length_of self.old.records ≤ 67108864 }
+        requires short { log_length_of self.old.records ≤ longest_log }
         requires named { IsTrue (is_document_name name.now) }
         requires new { IsNew self.old name.now }
         requires document { IsDocument tree }
@@ -132,7 +133,7 @@ impl Store {
         parts: &Partitioning,
     ) -> Result<(Reply, Bytes), EngineError>
         requires runs { is_ended self.old ≡ false }
-        requires short { log_length_of self.old.records ≤ 67108864 }
+        requires short { log_length_of self.old.records ≤ longest_log }
         requires named { IsTrue (is_document_name name.now) }
         requires new { IsNew self.old name.now }
         requires document { IsDocument tree }

@@ -90,8 +90,9 @@ impl Store {
 
     /// Carries a command out, and gives its reply. A command that is refused changes nothing. One that
     /// changes the store does so by one commit: at every moment each image is that of the state before it
-    /// or of the state after it. Where the log is longer than 67,108,864 bytes, a checkpoint comes first.
-    /// All memory is taken before the commit.
+    /// or of the state after it, and then the log of each has one group more. Where the log is longer than
+    /// 67,108,864 bytes, a checkpoint comes first, so that this group is alone. Once `checkpoint` was answered the
+    /// log of no image has a group. All memory is taken before the commit.
     ///
     /// The command is one that a script can give.
     ///
@@ -132,10 +133,10 @@ impl Store {
         match command {
             Command::Load { name, body } => self.load(disk, name, body),
             Command::SetRule { rule } => self.set_rule(disk, &rule),
-            Command::Discard { .. }
-            | Command::Insert { .. }
-            | Command::Delete { .. }
-            | Command::Retext { .. } => told(self.alloc, Reply::Refused(ReplyError::Syntax)),
+            Command::Discard { name } => self.discard(disk, &name),
+            Command::Insert { .. } | Command::Delete { .. } | Command::Retext { .. } => {
+                told(self.alloc, Reply::Refused(ReplyError::Syntax))
+            }
             Command::Names
             | Command::Export { .. }
             | Command::Get { .. }

@@ -6,6 +6,7 @@ use Rattle.nx_state.specs.State.{State}
 use Rattle.nx_store.specs.Carried.{StoreStep}
 use Rattle.nx_store.specs.Store.{IsApplied}
 use Rattle.nx_store.specs.Loading.{reply_of}
+use Rattle.nx_store.proofs.LogLemmas.{changes_other}
 use Rattle.nx_store.proofs.ShowLemmas.{told_applied}
 use Rattle.nx_store.proofs.store.Store.change.Goals as goal
 
@@ -23,14 +24,15 @@ none_yet state command other is step = subst (λ (k : Command). StoreStep state 
 
 pub returns-in-Discard-clause-applies : goal.returns-in-Discard-clause-applies
 returns-in-Discard-clause-applies g c state at told =
-    let step : StoreStep state c.args.command (Refused Syntax) state = elim c.in-Discard.is [
-      | inl p ↦ none_yet state c.args.command _ p.1 (refl, refl)
-      | inr p ↦ elim p [
-        | inl q ↦ none_yet state c.args.command _ q.3 (refl, refl)
-        | inr q ↦ elim q [
-          | inl r ↦ none_yet state c.args.command _ r.2 (refl, refl)
-          | inr r ↦ none_yet state c.args.command _ r.3 (refl, refl)
-        ]
+    subst (λ (k : Command). IsApplied g.D.Disk (reply_of c.discard.result) state k c.discard.new.self c.args.disk.now c.discard.new.disk) (sym c.in-Discard.is) (c.discard.ensures.applies state at told)
+
+pub returns-in-Insert-clause-applies : goal.returns-in-Insert-clause-applies
+returns-in-Insert-clause-applies g c state at told =
+    let step : StoreStep state c.args.command (Refused Syntax) state = elim c.in-Insert.is [
+      | inl q ↦ none_yet state c.args.command _ q.3 (refl, refl)
+      | inr q ↦ elim q [
+        | inl r ↦ none_yet state c.args.command _ r.2 (refl, refl)
+        | inr r ↦ none_yet state c.args.command _ r.3 (refl, refl)
       ]
     ] in
-    told_applied g.D.Disk c.args.self.now c.args.disk.now state c.args.command (Refused Syntax) c.told.result c.told.ensures at step
+    told_applied g.D.Disk c.args.self.now c.args.disk.now state c.args.command (Refused Syntax) c.told.result (changes_other c.args.command c.requires.may) c.told.ensures at step

@@ -1,4 +1,5 @@
 use Rattle.std.proofs.Common.{refl, inl}
+use Rattle.nx_store.proofs.LogLemmas.{log_emptied}
 use Rattle.nx_store.proofs.ShowLemmas.{shows_written, written_areas}
 use Rattle.nx_store.proofs.store.Store.checkpoint.Goals as goal
 
@@ -6,7 +7,14 @@ pub returns-in_default-clause-applies : goal.returns-in_default-clause-applies
 returns-in_default-clause-applies g c state at told = inl (shows_written g.D.Disk c.empty_log.ensures.goes told (λ i of. of state at))
 
 pub returns-clause-applies : goal.returns-clause-applies
-returns-clause-applies g c state at told = (state, inl (refl, refl), c.in-Ok.ensures.ok.2 state at told, shows_written g.D.Disk c.empty_log.ensures.goes told (λ i of. inl (of state at)))
+returns-clause-applies g c state at told =
+    let after = c.in-Ok.ensures.ok.2 state at told in (
+      state,
+      inl (refl, refl),
+      after,
+      shows_written g.D.Disk c.empty_log.ensures.goes told (λ i of. inl (of state at)),
+      log_emptied g.D.Disk c.empty_log.new.self state c.args.disk.now c.empty_log.new.disk (λ now. c.in-Ok.ensures.log state now at) after,
+    )
 
 pub returns-in_default-clause-areas : goal.returns-in_default-clause-areas
 returns-in_default-clause-areas g c = written_areas g.D.Disk c.empty_log.ensures.goes

@@ -15,13 +15,13 @@ use Rattle.nx_store.proofs.store.Store.load.Goals as goal
 pub returns-then-is_some-clause-loads : goal.returns-then-is_some-clause-loads
 returns-then-is_some-clause-loads g c state at told =
     let there = ap (λ (n : List ℕ). is_some (get c.args.self.now.catalog.documents n)) (sym c.as_slice.ensures) ∙ ap (λ o. is_some o) (sym c.find.ensures) ∙ sym c.is_some.ensures ∙ c.if-is_some.true in
-    told_applied g.D.Disk c.args.self.now c.args.disk.now state (Load c.args.name c.args.body) (Refused Exists) c.told.result c.told.ensures at (exists_answers c.args.self.now c.args.disk.now c.args.name c.args.body state there at)
+    told_applied g.D.Disk c.args.self.now c.args.disk.now state (Load c.args.name c.args.body) (Refused Exists) c.told.result (λ is. cc) c.told.ensures at (exists_answers c.args.self.now c.args.disk.now c.args.name c.args.body state there at)
 
 pub returns-in-Wrong-clause-loads : goal.returns-in-Wrong-clause-loads
 returns-in-Wrong-clause-loads g c state at told =
     let none = ap (λ (n : List ℕ). is_some (get c.args.self.now.catalog.documents n)) (sym c.as_slice.ensures) ∙ ap (λ o. is_some o) (sym c.find.ensures) ∙ sym c.is_some.ensures ∙ c.if-is_some.false in
     let new = is_nothing (get c.args.self.now.catalog.documents c.args.name) none in
-    told_applied g.D.Disk c.args.self.now c.args.disk.now state (Load c.args.name c.args.body) (Refused (Pyx c.in-Wrong.error)) c.told-in-Wrong.result c.told-in-Wrong.ensures at
+    told_applied g.D.Disk c.args.self.now c.args.disk.now state (Load c.args.name c.args.body) (Refused (Pyx c.in-Wrong.error)) c.told-in-Wrong.result (λ is. cc) c.told-in-Wrong.ensures at
     (subst (λ (b : LoadBody). Step state (Load c.args.name b) (Refused (Pyx c.in-Wrong.error)) state) (sym c.in-Wrong.is) (wrong_answers c.args.self.now c.args.disk.now c.args.name c.in-Wrong.error state new at))
 
 pub returns-clause-loads : goal.returns-clause-loads

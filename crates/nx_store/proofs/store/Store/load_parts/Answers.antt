@@ -1,5 +1,6 @@
 use Rattle.std.proofs.Common.{◌≡◌, ℕ, length, List, ap, ap₂, ◌∙◌, refl, arith}
-use Rattle.nx_records.specs.Records.{settings_of}
+use Rattle.nx_wal.specs.Wal.{next_group}
+use Rattle.nx_records.specs.Records.{settings_of, next_number}
 use Rattle.nx_script.specs.declared.reply.Reply.{Reply}
 use Rattle.nx_script.specs.declared.reply.Reply.TheVariants as reply
 use Rattle.nx_store.specs.declared.store.Store.{Store}
@@ -45,5 +46,5 @@ pub returns-clause-loads : goal.returns-clause-loads
 returns-clause-loads g c state at told =
     let k = c.in-Ok.ensures.ok state at in
     commit_applied c.args.self.now c.args.disk.now c.args.name.now c.args.tree c.args.parts.now c.requires.new c.requires.chosen c.keep.new.self c.keep.new.disk c.commit.new.disk c.in-Ok.ensures.still c.commit.ensures.goes state at k told
-    (record { alloc = c.keep.new.self.alloc; records = c.commit.new.self; catalog = c.keep.new.self.catalog }) c.in_ok-loaded.loaded.0 c.in-Ok-commit.ensures.ok c.in-Ok-commit.ensures.none_left.2 refl
+    (record { alloc = c.keep.new.self.alloc; records = c.commit.new.self; catalog = c.keep.new.self.catalog }) c.in_ok-loaded.loaded.0 (next_group (next_number c.keep.new.self.records) c.keep.new.self.records.wal) c.requires.short c.in-Ok-commit.ensures.group c.in-Ok-commit.ensures.step c.in-Ok-commit.ensures.ok c.in-Ok-commit.ensures.none_left.2 refl
     (ap (λ (a : Reply × List ℕ). a.0) c.in_ok-loaded.ensures ∙ ap₂ (λ (n m : ℕ). reply.Loaded n m) c.count.ensures c.len.ensures)

@@ -13,7 +13,7 @@ use Rattle.nx_store.proofs.store.Store.load_planned.Goals as goal
 
 pub returns-in-Err-TooHeavy-clause-loads : goal.returns-in-Err-TooHeavy-clause-loads
 returns-in-Err-TooHeavy-clause-loads g c state at told =
-    told_applied g.D.Disk c.args.self.now c.args.disk.now state (Load c.args.name.now (Read c.args.tree)) (Refused (reason.TooHeavy c.in-Err-TooHeavy.path c.in-Err-TooHeavy.weight)) c.told.result c.told.ensures at
+    told_applied g.D.Disk c.args.self.now c.args.disk.now state (Load c.args.name.now (Read c.args.tree)) (Refused (reason.TooHeavy c.in-Err-TooHeavy.path c.in-Err-TooHeavy.weight)) c.told.result (λ is. cc) c.told.ensures at
     (heavy_answers c.args.self.now c.args.disk.now c.args.name.now c.args.tree state c.in-Err-TooHeavy.path c.in-Err-TooHeavy.weight c.requires.new
     (subst (λ (k : ℕ). IsRefused k c.args.tree (TooHeavy c.in-Err-TooHeavy.path c.in-Err-TooHeavy.weight)) (c.from-k.ensures ∙ ap (λ (t : Settings). t.k) c.settings.ensures)
     (subst (λ (e : PlanError). IsRefused c.from-k.result c.args.tree e) c.in-Err-TooHeavy.field-0-is c.in-Err-TooHeavy.ensures.err)) at)

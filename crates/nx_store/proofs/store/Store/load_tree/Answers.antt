@@ -22,7 +22,8 @@ returns-in_err-shorten_log-clause-loads g c state at told =
 pub returns-clause-loads : goal.returns-clause-loads
 returns-clause-loads g c state at told =
     let before = c.load_planned.ensures.areas.told told in
-    later_applied g.D.Disk c.args.self.now c.args.disk.now c.shorten_log.new.disk c.load_planned.new.disk state (Load c.args.name.now (Read c.args.tree)) c.in_ok-shorten_log.ensures.goes at before c.load_planned.new.self
+    later_applied g.D.Disk c.args.self.now c.args.disk.now c.shorten_log.new.disk c.load_planned.new.disk state (Load c.args.name.now (Read c.args.tree)) c.in_ok-shorten_log.ensures.goes at before c.shorten_log.new.self
+    (c.in_ok-shorten_log.ensures.ok.2 state at before) c.in_ok-shorten_log.ensures.log c.load_planned.new.self
     (reply_of c.load_planned.result) (c.load_planned.ensures.loads state (c.in_ok-shorten_log.ensures.ok.2 state at before) told)
 
 pub returns-clause-refused : goal.returns-clause-refused

@@ -21,7 +21,8 @@ returns-in_err-shorten_log-clause-applies g c state at told =
 pub returns-clause-applies : goal.returns-clause-applies
 returns-clause-applies g c state at told =
     let before = c.set_rule_shortly.ensures.areas.told told in
-    later_applied g.D.Disk c.args.self.now c.args.disk.now c.shorten_log.new.disk c.set_rule_shortly.new.disk state (SetRule c.args.rule.now) c.in_ok-shorten_log.ensures.goes at before c.set_rule_shortly.new.self
+    later_applied g.D.Disk c.args.self.now c.args.disk.now c.shorten_log.new.disk c.set_rule_shortly.new.disk state (SetRule c.args.rule.now) c.in_ok-shorten_log.ensures.goes at before c.shorten_log.new.self
+    (c.in_ok-shorten_log.ensures.ok.2 state at before) c.in_ok-shorten_log.ensures.log c.set_rule_shortly.new.self
     (reply_of c.set_rule_shortly.result) (c.set_rule_shortly.ensures.applies state (c.in_ok-shorten_log.ensures.ok.2 state at before) told)
 
 pub returns-clause-refused : goal.returns-clause-refused

@@ -1,0 +1,210 @@
+-- A document of a store taken away, before the commit.
+use Rattle.std.proofs.Common.{◌≡◌, ℕ, ◌+◌, ◌<◌, ◌≤◌, cond, List, [], ◌∷◌, ◌++◌, length, map, Option, None, Some, false, Less, Equal, Greater, is_eq, refl, sym, ap, ◌∙◌, subst, arith}
+use Rattle.std.specs.Prelude.{All, option_map}
+use Rattle.std.specs.Option.{is_some, option_map_or}
+use Rattle.std.specs.FinMap.{entries, get, remove}
+use Rattle.std.proofs.Math.Nat.{mul-div-le}
+use Rattle.std.proofs.lemmas.Nat.{le-div}
+use Rattle.std.proofs.lemmas.List.Elements.{All-head, All-tail}
+use Rattle.nx_host.specs.declared.disk.Disk.{Ghosts}
+use Rattle.nx_host.specs.Still.{IsStill}
+use Rattle.nx_host.proofs.DiskLemmas.{untold}
+use Rattle.nx_holdings.specs.Holdings.{Held, chain_count}
+use Rattle.nx_records.specs.declared.records.Records.{Records}
+use Rattle.nx_records.specs.declared.error.StoreError.{StoreError}
+use Rattle.nx_records.specs.declared.error.StoreError.TheVariants as below
+use Rattle.nx_records.specs.Records.{has_ended, StandsFor, KeepsSaved, ComesTo}
+use Rattle.nx_records.specs.Changes.{SetsCatalog, catalog_needs}
+use Rattle.nx_records.specs.Refusals.{RunsOn, NotChanged}
+use Rattle.nx_cuts.specs.Cut.{CutTree}
+use Rattle.nx_script.specs.Field.{name_order}
+use Rattle.nx_script.specs.Rule.{HasLabels}
+use Rattle.nx_script.specs.declared.command.Command.TheVariants.{Discard}
+use Rattle.nx_script.specs.declared.reply.Reply.TheVariants as reply
+use Rattle.nx_script.specs.declared.reply.ReplyError.{ReplyError}
+use Rattle.nx_script.specs.declared.reply.ReplyError.TheVariants.{NoDocument}
+use Rattle.nx_hold.specs.declared.entry.DocEntry.{DocEntry}
+use Rattle.nx_hold.specs.Changes.{ComesTidy}
+use Rattle.nx_hold.specs.Documents.{MovesRecords}
+use Rattle.nx_hold.proofs.RefusalLemmas.{runs_then, saved_then}
+use Rattle.nx_catalog.specs.Catalog.{Contents, Entries, IsCatalog, catalog_bytes}
+use Rattle.nx_catalog.proofs.CatalogLemmas.{one_contents}
+use Rattle.nx_catalog.proofs.LengthLemmas.{length_less}
+use Rattle.nx_state.specs.State.{State}
+use Rattle.nx_state.specs.Stands.{StoredDocument, IsStoredIn, HoldsDocuments}
+use Rattle.nx_state.proofs.ChangeLemmas.{document_goes, catalog_comes}
+use Rattle.nx_steps.specs.Step.{Step}
+use Rattle.nx_edit.specs.Removing.{document_places, RemovesDocument, OfEntry, NotRemoved}
+use Rattle.nx_store.specs.Store.{IsAt}
+use Rattle.nx_store.specs.Changing.{Prepares, NotPrepared}
+use Rattle.nx_store.specs.declared.store.Store.{Store}
+use Rattle.nx_store.proofs.FoundLemmas.{found, get_found, map_some, same_some}
+use Rattle.nx_store.proofs.KeepLemmas.{later_rose, no_end}
+use Rattle.nx_store.proofs.StepsLemmas.{refused_step, done_step}
+use Rattle.nx_store.proofs.OrderedLemmas.{name_same, removed_between}
+
+-- The document that is found under a name, among the others.
+pub record IsAmong (name : List ℕ) (stored : List StoredDocument) (s : StoredDocument) : Type 0 where
+  pub before : List StoredDocument
+  pub after : List StoredDocument
+  pub are : stored ≡ before ++ s ∷ after
+  pub named : s.name ≡ name
+
+among : (name : List ℕ) (stored : List StoredDocument) (s : StoredDocument) → found name stored ≡ Some s → IsAmong name stored s
+among name [] s e = untold s e
+among name (t ∷ stored) s e =
+    let further : found name stored ≡ Some s → IsAmong name (t ∷ stored) s =
+    λ h. let rest = among name stored s h in record { before = t ∷ rest.before; after = rest.after; are = ap (λ l. t ∷ l) rest.are; named = rest.named } in
+    elim (name_order name t.name) as (λ o. name_order name t.name ≡ o → cond (is_eq o) (Some t) (found name stored) ≡ Some s → IsAmong name (t ∷ stored) s) [
+      | Less ↦ λ q h. further h
+      | Equal ↦ λ q h. subst (λ x. IsAmong name (t ∷ stored) x) (same_some h) (record { before = []; after = stored; are = refl; named = sym (name_same name t.name q) })
+      | Greater ↦ λ q h. further h
+    ] refl e
+
+one_of : (P : StoredDocument → Type 0) (before : List StoredDocument) (s : StoredDocument) (after : List StoredDocument) → All P (before ++ s ∷ after) → P s
+one_of P [] s after h = All-head P s after h
+one_of P (t ∷ before) s after h = one_of P before s after (All-tail P t (before ++ s ∷ after) h)
+
+-- a catalog that is no longer needs no page
+none_needed : (mid : Held) (bytes : List ℕ) → length bytes ≤ length mid.catalog → mid.free < catalog_needs bytes mid → ⊥
+none_needed mid bytes short few = let less = fewer (length bytes) (length mid.catalog) short in omega (arith, few, less)
+  where
+    fewer : (m n : ℕ) → m ≤ n → chain_count m ≤ chain_count n
+    fewer m n le = let f = mul-div-le (m + 8183) 8184 in le-div (chain_count m) (n + 8183) 8184 (omega arith) (omega (arith, f, le))
+
+-- no tree is refused
+abbrev no_fault : CutTree → Option ReplyError
+no_fault document = None
+
+-- what a `drop` is answered
+pub absent_gone : (state : State) (name : List ℕ) → get state.documents name ≡ None → Step state (Discard name) (reply.Refused NoDocument) state
+absent_gone state name none = refused_step state (Discard name) NoDocument (ap (λ o. option_map_or no_fault o (Some NoDocument)) none)
+
+found_gone : (state : State) (name : List ℕ) (document : CutTree) → get state.documents name ≡ Some document → Step state (Discard name) reply.Done (record state { documents = remove state.documents name })
+found_gone state name document there =
+    done_step state (Discard name) (record state { documents = remove state.documents name }) (ap (λ o. option_map_or no_fault o (Some NoDocument)) there) (refl, refl)
+
+-- The records are those of a state without a document, whose catalog is not set yet.
+record IsGone (saved mid : Held) (state : State) (contents : Contents) (name : List ℕ) : Type 0 where
+  pub stored : List StoredDocument
+  pub holds : HoldsDocuments mid stored
+  pub catalog : mid.catalog ≡ saved.catalog
+  pub names : entries (remove contents.documents name) ≡ map (λ (s : StoredDocument). (s.name, s.entry)) stored
+  pub documents : entries (remove state.documents name) ≡ map (λ (s : StoredDocument). (s.name, s.document)) stored
+  pub settings : mid.settings ≡ saved.settings
+
+module _ {D : Type 0} (d : Ghosts D) (s0 : Store) (x0 : D) (state : State) (at : IsAt d s0 x0 state) (name : List ℕ) (entry : DocEntry) (there : get (s0.catalog).documents name ≡ Some entry) where
+  contents_at : (at.state_is).contents ≡ s0.catalog
+  contents_at = one_contents (at.held).catalog (at.state_is).contents s0.catalog (at.state_is).catalog at.catalog
+
+  entries_at : entries (s0.catalog).documents ≡ map (λ (s : StoredDocument). (s.name, s.entry)) (at.state_is).stored
+  entries_at = ap (λ (c : Contents). entries c.documents) (sym contents_at) ∙ (at.state_is).names
+
+  the_one : (s : StoredDocument) × (found name (at.state_is).stored ≡ Some s) × (s.entry ≡ entry)
+  the_one = map_some (λ (s : StoredDocument). s.entry) (found name (at.state_is).stored) entry (sym (get_found (s0.catalog).documents (λ (s : StoredDocument). s.entry) name (at.state_is).stored entries_at) ∙ there)
+
+  place : IsAmong name (at.state_is).stored the_one.0
+  place = among name (at.state_is).stored the_one.0 the_one.1
+
+  shown_there : get state.documents name ≡ Some (the_one.0).document
+  shown_there = get_found state.documents (λ (s : StoredDocument). s.document) name (at.state_is).stored (at.state_is).documents ∙ ap (option_map (λ (s : StoredDocument). s.document)) the_one.1
+
+  holds_between : HoldsDocuments at.held (place.before ++ the_one.0 ∷ place.after)
+  holds_between = subst (HoldsDocuments at.held) place.are (at.state_is).holds
+
+  stored_one : IsStoredIn ((at.held).settings).k (holds_between.pieces).piece_at the_one.0
+  stored_one = one_of (IsStoredIn ((at.held).settings).k (holds_between.pieces).piece_at) place.before the_one.0 place.after holds_between.each
+
+  -- there is a document of the entry
+  none_lacking : OfEntry d s0.records x0 entry (λ now document. ⊥) → ⊥
+  none_lacking each =
+      subst (λ (e : DocEntry). OfEntry d s0.records x0 e (λ now document. ⊥)) (sym the_one.2) each (the_one.0).document
+      (record { saved = at.held; now = at.held; stands = at.stands; pieces = holds_between.pieces; laid = record { layout = (the_one.0).layout; laid = stored_one.laid } }) holds_between.tidy stored_one.counted
+
+  gone : (r1 : Records) (x1 : D) → ComesTidy d s0.records r1 x0 x1 (RemovesDocument entry) → (mid : Held) × StandsFor d r1 x1 at.held mid × IsGone at.held mid state s0.catalog name
+  gone r1 x1 comes =
+      let mid = comes at.held at.held at.stands ((at.state_is).holds).tidy in
+      let s = the_one.0 in
+      let moves : MovesRecords (document_places s.entry s.document s.layout) [] 0 at.held mid.0 =
+      subst (λ (e : DocEntry). RemovesDocument e at.held mid.0) (sym the_one.2) mid.3 holds_between.pieces s.document s.layout stored_one.laid stored_one.counted in (
+        mid.0,
+        mid.1,
+        record {
+          stored = place.before ++ place.after;
+          holds = document_goes 0 at.held mid.0 place.before place.after s holds_between moves mid.2;
+          settings = moves.settings;
+          catalog = moves.catalog;
+          names = subst (λ (n : List ℕ). entries (remove (s0.catalog).documents n) ≡ map (λ (s : StoredDocument). (s.name, s.entry)) (place.before ++ place.after)) place.named
+              (removed_between (λ (s : StoredDocument). s.name) (λ (s : StoredDocument). s.entry) (s0.catalog).documents place.before s place.after
+              (entries_at ∙ ap (map (λ (s : StoredDocument). (s.name, s.entry))) place.are));
+          documents = subst (λ (n : List ℕ). entries (remove state.documents n) ≡ map (λ (s : StoredDocument). (s.name, s.document)) (place.before ++ place.after)) place.named
+              (removed_between (λ (s : StoredDocument). s.name) (λ (s : StoredDocument). s.document) state.documents place.before s place.after
+              ((at.state_is).documents ∙ ap (map (λ (s : StoredDocument). (s.name, s.document))) place.are));
+        },
+      )
+
+  -- the document is no longer entered
+  pub gone_prepared : (r1 : Records) (s2 : Store) (x1 x2 : D) → ComesTidy d s0.records r1 x0 x1 (RemovesDocument entry) → (s2.catalog).documents ≡ remove (s0.catalog).documents name → (s2.catalog).rules ≡ (s0.catalog).rules
+      → (All HasLabels (s0.catalog).rules → IsCatalog (catalog_bytes s2.catalog) s2.catalog) → ComesTo d r1 s2.records x1 x2 (λ was now. SetsCatalog (catalog_bytes s2.catalog) was now)
+      → Prepares d state (Discard name) reply.Done s2 x2
+  gone_prepared r1 s2 x1 x2 comes documents rules form saves =
+      let mid = gone r1 x1 comes in
+      let m = mid.2 in
+      let now = saves at.held mid.0 mid.1 in
+      let formed = form (at.catalog).labels in
+      record {
+        next = record state { documents = remove state.documents name };
+        step = found_gone state name (the_one.0).document shown_there;
+        prepared = record {
+          saved = at.held;
+          now = now.0;
+          stands = now.1;
+          was = at.state_is;
+          will = record {
+            settings = (now.2).settings ∙ m.settings ∙ (at.state_is).settings;
+            stored = m.stored;
+            holds = catalog_comes (catalog_bytes s2.catalog) mid.0 now.0 m.stored m.holds now.2;
+            contents = s2.catalog;
+            catalog = subst (λ (bytes : List ℕ). IsCatalog bytes s2.catalog) (sym (now.2).catalog) formed;
+            names = ap (λ (es : Entries). entries es) documents ∙ m.names;
+            documents = m.documents;
+            rules = rules ∙ ap (λ (c : Contents). c.rules) (sym contents_at) ∙ (at.state_is).rules;
+          };
+          catalog = subst (λ (bytes : List ℕ). IsCatalog bytes s2.catalog) (sym (now.2).catalog) formed;
+        };
+      }
+
+  -- the shorter catalog needs no page
+  pub room_behind : (r1 : Records) (x1 : D) (comes : ComesTidy d s0.records r1 x0 x1 (RemovesDocument entry))
+      → ((saved now : Held) → StandsFor d r1 x1 saved now → now.free < catalog_needs (catalog_bytes (record { documents = remove (s0.catalog).documents name; rules = (s0.catalog).rules })) now) → ⊥
+  room_behind r1 x1 comes lacks =
+      let mid = gone r1 x1 comes in
+      let less = length_less (s0.catalog).documents (s0.catalog).rules name (ap is_some there) in
+      let was : length (mid.0).catalog ≡ length (catalog_bytes s0.catalog) = ap (λ (b : List ℕ). length b) ((mid.2).catalog ∙ (at.catalog).spelled) in
+      none_needed mid.0 (catalog_bytes (record { documents = remove (s0.catalog).documents name; rules = (s0.catalog).rules })) (omega (arith, less, was)) (lacks at.held mid.0 mid.1)
+
+-- Why a document wasn't taken away.
+module _ {D : Type 0} (d : Ghosts D) (s0 s1 : Store) (x0 x1 : D) (name : List ℕ) (entry : DocEntry) (runs : has_ended s0.records ≡ false) (there : get (s0.catalog).documents name ≡ Some entry) where
+  pub stays_there : s1.catalog ≡ s0.catalog → (e : StoreError) → NotRemoved d entry e s0.records s1.records x0 x1 → NotPrepared d e s0 s1 x0 x1
+  stays_there catalog below.Disk refused = (refused.0, ((refused.1).before, (refused.1).after))
+  stays_there catalog (below.Damaged page) refused = (((refused.0).before, (refused.0).after), λ state at. none_lacking d s0 x0 state at name entry there refused.1)
+  stays_there catalog below.Memory refused = record { runs = refused.0; saved = refused.1; catalog = catalog }
+  stays_there catalog below.Ended refused = absurd (no_end s0.records runs refused.0)
+  stays_there catalog below.Full refused = absurd refused
+  stays_there catalog below.Exists refused = absurd refused
+  stays_there catalog below.NotAStore refused = absurd refused
+
+  -- ... or the catalog without it not saved
+  pub stays_entered : (s2 : Store) (x2 : D) → IsStill d x0 x1 → RunsOn s0.records s1.records → KeepsSaved d s0.records s1.records x0 x1 → ComesTidy d s0.records s1.records x0 x1 (RemovesDocument entry) → s2.catalog ≡ s0.catalog → (e : StoreError)
+      → NotChanged d (λ was. was.free < catalog_needs (catalog_bytes (record { documents = remove (s0.catalog).documents name; rules = (s0.catalog).rules })) was) 0 e s1.records s2.records x1 x2 → NotPrepared d e s0 s2 x0 x2
+  stays_entered s2 x2 still goes keeps comes same below.Disk refused = (later_rose (d.faults x0) (d.faults x1) (d.faults x2) still.faults_later refused.0, (goes.before, (refused.1).after))
+  stays_entered s2 x2 still goes keeps comes same (below.Damaged page) refused = ((goes.before, (refused.ends).after), λ state at. room_behind d s0 x0 state at name entry there s1.records x1 comes refused.lacks)
+  stays_entered s2 x2 still goes keeps comes same below.Memory refused = record {
+    runs = runs_then {r0 = s0.records} {r1 = s1.records} {r2 = s2.records} goes refused.0;
+    saved = saved_then {d = d} {r0 = s0.records} {r1 = s1.records} {r2 = s2.records} {x0 = x0} {x1 = x1} {x2 = x2} keeps refused.1;
+    catalog = same;
+  }
+  stays_entered s2 x2 still goes keeps comes same below.Ended refused = absurd (no_end s1.records goes.after refused.0)
+  stays_entered s2 x2 still goes keeps comes same below.Full refused = absurd refused
+  stays_entered s2 x2 still goes keeps comes same below.Exists refused = absurd refused
+  stays_entered s2 x2 still goes keeps comes same below.NotAStore refused = absurd refused
