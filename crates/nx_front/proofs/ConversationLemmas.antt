@@ -1,5 +1,6 @@
 -- A conversation over a store: commands that came, turns that are had of them, and how it ends.
-use Rattle.std.proofs.Common.{◌≡◌, ℕ, ◌≤◌, true, List, [], ◌∷◌, ◌++◌, Option, None, Some, IsSome, Ok, Err, refl, sym, ap, ◌∙◌, subst, arith, append_assoc, append-nil}
+use Rattle.std.proofs.Common.{◌≡◌, inl, inr, ℕ, ◌≤◌, true, List, [], ◌∷◌, ◌++◌, Option, None, Some, IsSome, Ok, Err, refl, sym, ap, ◌∙◌, subst, arith, append_assoc, append-nil}
+use Rattle.std.proofs.lemmas.Bool.{false≢true}
 use Rattle.nx_host.specs.declared.disk.Disk.{Ghosts}
 use Rattle.nx_host.specs.Disk.{Image, Beside, Keeps, Rose}
 use Rattle.nx_host.specs.Host.{Takes, IsAtEnd, Appends}
@@ -11,6 +12,7 @@ use Rattle.nx_host.proofs.DiskLemmas.{keeps_self}
 use Rattle.nx_host.proofs.OutputLemmas.{appends_then, takes_nothing}
 use Rattle.nx_records.specs.Records.{HasHeader}
 use Rattle.nx_script.specs.declared.command.Command.{Command}
+use Rattle.nx_script.specs.declared.command.Command.TheVariants.{Checkpoint}
 use Rattle.nx_script.specs.declared.script.Script.{Script}
 use Rattle.nx_script.specs.declared.error.ScriptError.{ScriptError}
 use Rattle.nx_script.specs.declared.error.ScriptError.TheVariants as scripts
@@ -31,12 +33,14 @@ use Rattle.nx_filters.specs.declared.give.GiveError.{GiveError}
 use Rattle.nx_filters.specs.TakeError.{status_of_script, status_of_give_error}
 use Rattle.nx_filters.specs.Outcome.{TakesFew, CountsGrow, EndsWhole, Given}
 use Rattle.nx_filters.specs.Session.{AreFirst}
-use Rattle.nx_front.specs.Serving.{Turn, state_after, commands_of, texts_of, ShowsMoment, EndsServing, ServesFrom, IsCaused, EndsWithoutHeader, Serves}
-use Rattle.nx_front.specs.Conversation.{ShowsReached, HasRun, GoesOn, IsConversing, Answers, Begins, StopsShort, IsStopped, IsEnded, Converses, status_of_engine}
-use Rattle.nx_filters.proofs.OutcomeLemmas.{rose_since, told_at_first, kept_appends}
+use Rattle.nx_front.specs.Serving.{Turn, state_after, commands_of, texts_of, ShowsMoment, ShowsBetween, LeavesMoments, EndsBetween, AreOfTaken, EndsServing, EndsWithCheckpoint, HasEmptyLog, LeavesAll, TakesNoByte, ServesFrom, IsCaused, EndsWithoutHeader, Serves}
+use Rattle.nx_front.specs.Conversation.{ShowsReached, HasRun, HasBegun, GoesOn, IsConversing, Answers, Begins, StopsShort, IsStopped, IsEnded, Converses, status_of_engine}
+use Rattle.nx_filters.proofs.OutcomeLemmas.{rose_since, told_at_first, kept_appends, keeps_of}
 use Rattle.nx_filters.proofs.SessionLemmas.{first_given, few_given}
-use Rattle.nx_front.proofs.MomentLemmas.{every_moment, reached_none, commands_more}
-use Rattle.nx_front.proofs.ServeLemmas.{served_none, served_filled, given_block, run_block, all_given, stops_giving, block_stopped}
+use Rattle.nx_front.proofs.ClockLemmas.{HasClock, at_end}
+use Rattle.nx_front.proofs.MomentLemmas.{every_moment, every_between, reached_none, commands_more}
+use Rattle.nx_front.proofs.ServeLemmas.{served_none, served_filled, given_block, run_block, between_served, between_block, all_given, stops_giving, block_stopped}
+use Rattle.nx_front.proofs.UntakenLemmas.{of_taken, first_of_taken, none_of_taken, none_came, not_none, none_left, left_then, left_still, left_taken, left_given}
 use Rattle.nx_front.proofs.ServingLaws.{serving_together}
 
 -- What was taken:
@@ -57,6 +61,19 @@ given_kept {taken = taken} {first = first} {now = now} next given kept = record 
   takes = takes_kept taken first now next given.takes kept;
   end = λ ended. let (end, few) = given.end ended in (end_kept now next end kept, few);
 }
+
+-- a last command is the last one
+last_one : (before commands : List Command) (last command : Command) → commands ++ command ∷ [] ≡ before ++ last ∷ [] → command ≡ last
+last_one [] [] last command is = cc is
+last_one [] (c ∷ []) last command is = absurd (cc is)
+last_one [] (c ∷ c' ∷ commands) last command is = absurd (cc is)
+last_one (b ∷ []) [] last command is = absurd (cc is)
+last_one (b ∷ b' ∷ before) [] last command is = absurd (cc is)
+last_one (b ∷ before) (c ∷ commands) last command is = last_one before commands last command (let e : commands ++ command ∷ [] ≡ before ++ last ∷ [] = cc is in e)
+
+no_last : (before : List Command) (last : Command) → [] ≡ before ++ last ∷ [] → ⊥
+no_last [] last is = cc is
+no_last (b ∷ before) last is = cc is
 
 -- the first of the first commands
 first_of : (taken : List ℕ) (commands rest all : List Command) (now : Option (List ℕ)) → commands ++ rest ≡ all → AreFirst taken all now → AreFirst taken commands now
@@ -101,6 +118,15 @@ appends_after bytes a b c kept appends = appends_then [] bytes a b c (kept_appen
 
 whole_after : {taken : List ℕ} {a b : Option (List ℕ)} (c : Option (List ℕ)) → Keeps a b → EndsWhole taken b c → EndsWhole taken a c
 whole_after {taken = taken} {a = a} {b = b} c kept whole = record { takes = takes_after taken a b c kept whole.takes; end = whole.end; few = whole.few }
+
+of_taken_after : {taken : List ℕ} (commands : List Command) {a b : Option (List ℕ)} (c : Option (List ℕ)) → Keeps a b → AreOfTaken taken commands b c → AreOfTaken taken commands a c
+of_taken_after commands c kept (rest, inl whole) = (rest, inl whole)
+of_taken_after commands c kept (rest, inr (ends, are)) = (rest, inr (whole_after c kept ends, are))
+
+-- no byte was taken since
+nothing_after : (taken : List ℕ) (a b c : Option (List ℕ)) → Keeps a b → Takes taken b c → IsSome c × (c ≡ a) → IsSome c × (c ≡ b)
+nothing_after taken a b None kept takes (told, same) = absurd (false≢true told)
+nothing_after taken a b (Some left) kept takes (told, same) = (told, same ∙ subst (λ (o : Option (List ℕ)). Keeps a o) takes kept ∙ sym takes)
 
 few_nothing : (a b : Option (List ℕ)) → Keeps a b → TakesFew a b
 few_nothing a b kept = record { taken = []; few = (let e : 0 ≤ most_input = omega arith in e); takes = takes_after [] a b b kept (takes_nothing b) }
@@ -153,7 +179,13 @@ module _ {D : Type 0} {d : Ghosts D} where
   -- before the first
   pub conversing_none : {a : D} {script : Script} {store : Store} {block : List ℕ} → block ≡ [] → HasGivenIn script [] [] (d.beside a).input (d.beside a).input →
       IsConversing d store [] [] script store block a a
-  conversing_none none given = record { given = given; goes = none_goes; served = λ state at told. ([], refl, served_none at none) }
+  conversing_none none given = record {
+    given = given;
+    goes = none_goes;
+    served = λ state at told. ([], refl, served_none at none);
+    emptied = λ state at told ends. absurd (no_last ends.0 Checkpoint ends.1);
+    unbegun = λ is. (none, none_left);
+  }
 
   -- the commands of a script with one more
   with_command : {begun : Store} {taken : List ℕ} {commands : List Command} {old new : Script} {store : Store} {block : List ℕ} {first now : D} (command : Command) (next : D) → new.ended ≡ old.ended →
@@ -170,11 +202,16 @@ module _ {D : Type 0} {d : Ghosts D} where
     goes = goes_then talk.goes (takes_goes takes);
     served = λ state at told.
         let (turns, are, served) = talk.served state at (takes.told told) in
-        let (turn, is, more) = answers first state turns served told in (
+        let (turn, is, more, log) = answers first state turns served told in (
           turns ++ turn ∷ [],
           commands_more turns turn ∙ ap (λ (cs : List Command). cs ++ turn.command ∷ []) are ∙ ap (λ (c : Command). commands ++ c ∷ []) is,
           more,
         );
+    emptied = λ state at told ends.
+        let (turns, are, served) = talk.served state at (takes.told told) in
+        let (turn, is, more, log) = answers first state turns served told in
+        log (last_one ends.0 commands Checkpoint command ends.1);
+    unbegun = λ is. absurd (not_none commands command is);
   }
 
   -- the same commands, in other words
@@ -186,7 +223,7 @@ module _ {D : Type 0} {d : Ghosts D} where
   -- the script looked for one more, and there was none
   pub conversing_drained : {begun : Store} {taken : List ℕ} {commands : List Command} {old new : Script} {store : Store} {block : List ℕ} {first now : D} → new.ended ≡ old.ended →
       IsConversing d begun taken commands old store block first now → HasGiven new taken commands → IsConversing d begun taken commands new store block first now
-  conversing_drained same talk given = record { given = in_input same talk.given given; goes = talk.goes; served = talk.served }
+  conversing_drained same talk given = record { given = in_input same talk.given given; goes = talk.goes; served = talk.served; emptied = talk.emptied; unbegun = talk.unbegun }
 
   -- the block is given
   pub conversing_given : {begun : Store} {taken : List ℕ} {commands : List Command} {script : Script} {store : Store} {block left : List ℕ} {first now next : D} →
@@ -198,6 +235,8 @@ module _ {D : Type 0} {d : Ghosts D} where
     served = λ state at told.
         let (turns, are, served) = talk.served state at ((leaves_goes alone.areas).told told) in
         (turns, are, given_block served none gave alone told);
+    emptied = λ state at told ends i left. talk.emptied state at ((leaves_goes alone.areas).told told) ends i ((alone.areas.images_stay i).0 left);
+    unbegun = λ is. let (empty, stays) = talk.unbegun is in (none, left_then stays (left_given (Ok tt) empty gave alone));
   }
 
   -- more input was asked for
@@ -210,24 +249,47 @@ module _ {D : Type 0} {d : Ghosts D} where
     served = λ state at told.
         let (turns, are, served) = talk.served state at ((leaves_goes takes.areas).told told) in
         (turns, are, served_filled served takes told);
+    emptied = λ state at told ends i left. talk.emptied state at ((leaves_goes takes.areas).told told) ends i ((takes.areas.images_stay i).0 left);
+    unbegun = λ is. let (empty, stays) = talk.unbegun is in (empty, left_then stays (left_taken takes));
   }
 
   -- How it ends:
 
+  -- each image that may be left is a moment of the run
+  left_moments : {state : State} {turns : List Turn} {first now : D} → HasClock d → ((i : Image) → d.may_leave first i → Recovers i (Some state)) →
+      Elapses d.moment d.stood_since first now (ShowsMoment (d.beside first).output state turns) → LeavesMoments d now (ShowsMoment (d.beside first).output state turns)
+  left_moments {state = state} {turns = turns} {first = first} {now = now} clock begins time = λ i left.
+      elim (at_end clock time i left) [
+        | inl (same, before) ↦ (
+          [],
+          kept_appends (d.beside first).output (d.beside now).output (keeps_of (d.beside first).output (d.beside now).output same),
+          every_moment state turns [] i (reached_none state turns i (begins i before)),
+        )
+        | inr shown ↦ shown
+      ]
+
   -- a run of turns of the first commands that came
-  serves_from : {state : State} {turns : List Turn} {first now : D} {script : Script} {taken : List ℕ} {commands : List Command} (rest : List Command) (status : Status) → HasRun d state turns first now →
-      commands_of turns ++ rest ≡ commands → HasGivenIn script taken commands (d.beside first).input (d.beside now).input → EndsServing turns taken status (d.beside first) (d.beside now) →
-      (status ≡ Done → (i : Image) → d.may_leave now i → Recovers i (Some (state_after state turns))) → ServesFrom d state status first now
-  serves_from {state = state} {turns = turns} {first = first} {now = now} {script = script} {taken = taken} {commands = commands} rest status run are given ends last = record {
-    turns = turns;
-    run = run.run;
-    taken = taken;
-    takes = given.takes;
-    first = first_of taken (commands_of turns) rest commands (d.beside now).input are (first_given script taken commands (d.beside first).input (d.beside now).input given);
-    time = shows_moments d first now state turns run.time;
-    ends = ends;
-    last = last;
-  }
+  serves_from : {begun : Store} {state : State} {turns : List Turn} {first now : D} {script : Script} {taken : List ℕ} {commands : List Command} (rest : List Command) (status : Status) → HasClock d →
+      IsAt d begun first state → HasRun d state turns first now → commands_of turns ++ rest ≡ commands → HasGivenIn script taken commands (d.beside first).input (d.beside now).input →
+      EndsServing turns taken status (d.beside first) (d.beside now) →
+      (EndsBetween status → LeavesMoments d now (ShowsBetween (d.beside first).output state turns)) →
+      (status ≡ Done → ((i : Image) → d.may_leave now i → Recovers i (Some (state_after state turns))) × (EndsWithCheckpoint (commands_of turns) → HasEmptyLog d now)) → ServesFrom d state status first now
+  serves_from {state = state} {turns = turns} {first = first} {now = now} {script = script} {taken = taken} {commands = commands} rest status clock at run are given ends between last =
+      let time = shows_moments d first now state turns run.time in
+      record {
+        turns = turns;
+        run = run.run;
+        taken = taken;
+        takes = given.takes;
+        first = first_of taken (commands_of turns) rest commands (d.beside now).input are (first_given script taken commands (d.beside first).input (d.beside now).input given);
+        whole = first_of_taken taken (commands_of turns) rest commands are (of_taken script taken commands (d.beside first).input (d.beside now).input given);
+        time = time;
+        ends = ends;
+        left = left_moments clock (λ i left. at_image at left) time;
+        between = between;
+        last = λ is. (last is).0;
+        emptied = λ is. (last is).1;
+      }
 
   stopped_ends : {first now : D} (status : Status) (next : D) → GoesOn d first now → IsStopped d status now next → IsEnded d status first next
   stopped_ends {first = first} {now = now} DiskFault next goes rose = rose_since (d.faults first) (d.faults now) (d.faults next) goes.faults_later rose
@@ -243,26 +305,27 @@ module _ {D : Type 0} {d : Ghosts D} where
 
   -- a command isn't answered
   pub converses_stopped : {begun : Store} {taken : List ℕ} {commands : List Command} {old new : Script} {store : Store} {block : List ℕ} {first now next : D} (command : Command) (status : Status) →
-      new.ended ≡ old.ended → IsConversing d begun taken commands old store block first now → HasGiven new taken (commands ++ command ∷ []) → TakesNone d now next →
+      HasClock d → new.ended ≡ old.ended → IsConversing d begun taken commands old store block first now → HasGiven new taken (commands ++ command ∷ []) → TakesNone d now next →
       Begins d command status store block now next → IsStopped d status now next → Converses d begun status first next
-  converses_stopped {commands = commands} {first = first} {next = next} command status same talk given takes begins stopped =
+  converses_stopped {commands = commands} {first = first} {next = next} command status clock same talk given takes begins stopped =
       let came = with_command command next same talk given takes in
       record {
         from = λ state at told.
             let (turns, are, served) = talk.served state at (takes.told told) in
-            let (short, (turns', rest, of_it, run)) = begins first state turns served told in
-            let (ends, not_done) = stopped_serving status turns' _ (d.beside first) (d.beside next) short in
-            serves_from rest status run (of_it ∙ ap (λ (cs : List Command). cs ++ command ∷ []) are) came ends (λ is. absurd (not_done is));
+            let (short, begun_so) = begins first state turns served told in
+            let (ends, not_done) = stopped_serving status begun_so.turns _ (d.beside first) (d.beside next) short in
+            serves_from begun_so.rest status clock at begun_so.run (begun_so.parts ∙ ap (λ (cs : List Command). cs ++ command ∷ []) are) came ends begun_so.between (λ is. absurd (not_done is));
         cause = stopped_ends status next talk.goes stopped;
         bounded = few came;
         goes = goes_then talk.goes (takes_goes takes);
+        untaken = λ none. absurd (not_none commands command (none_came came none));
       }
 
   -- the block isn't given
-  pub converses_blocked : {begun : Store} {taken : List ℕ} {commands : List Command} {script : Script} {store : Store} {block : List ℕ} {first now next : D} (stop : GiveError) →
+  pub converses_blocked : {begun : Store} {taken : List ℕ} {commands : List Command} {script : Script} {store : Store} {block : List ℕ} {first now next : D} (stop : GiveError) → HasClock d →
       IsConversing d begun taken commands script store block first now → Given block (Err stop) (d.beside now) (d.beside next) → GivesAlone d block now next →
       Converses d begun (status_of_give_error stop) first next
-  converses_blocked {taken = taken} {commands = commands} {script = script} {block = block} {first = first} {now = now} {next = next} stop talk gave alone =
+  converses_blocked {taken = taken} {commands = commands} {script = script} {block = block} {first = first} {now = now} {next = next} stop clock talk gave alone =
       let status = status_of_give_error stop in
       let came : HasGivenIn script taken commands (d.beside first).input (d.beside next).input =
       subst (λ (i : Option (List ℕ)). HasGivenIn script taken commands (d.beside first).input i) (sym alone.input_stays) talk.given
@@ -271,69 +334,76 @@ module _ {D : Type 0} {d : Ghosts D} where
         from = λ state at told.
             let (turns, are, served) = talk.served state at ((leaves_goes alone.areas).told told) in
             let (ends, not_done) = stopped_serving status turns taken (d.beside first) (d.beside next) (stops_giving stop) in
-            serves_from [] status (run_block served alone) (append-nil (commands_of turns) ∙ are) came ends (λ is. absurd (not_done is));
+            serves_from [] status clock at (run_block served alone) (append-nil (commands_of turns) ∙ are) came ends (λ between. between_block clock served alone) (λ is. absurd (not_done is));
         cause = stopped_ends status next talk.goes (block_stopped d now next block stop gave);
         bounded = few came;
         goes = goes_then talk.goes (leaves_goes alone.areas);
+        untaken = λ none. let (empty, stays) = talk.unbegun (none_came came none) in left_then stays (left_given (Err stop) empty gave alone);
       }
 
   -- memory runs out
-  pub converses_starved : {begun : Store} {taken : List ℕ} {commands : List Command} {script : Script} {store : Store} {block : List ℕ} {first now : D} →
+  pub converses_starved : {begun : Store} {taken : List ℕ} {commands : List Command} {script : Script} {store : Store} {block : List ℕ} {first now : D} → HasClock d →
       IsConversing d begun taken commands script store block first now → Converses d begun NoMemory first now
-  converses_starved talk = record {
+  converses_starved clock talk = record {
     from = λ state at told.
         let (turns, are, served) = talk.served state at told in
-        serves_from [] NoMemory served.run (append-nil (commands_of turns) ∙ are) talk.given tt (λ is. absurd (cc is));
+        serves_from [] NoMemory clock at served.run (append-nil (commands_of turns) ∙ are) talk.given tt (λ between. between_served clock served) (λ is. absurd (cc is));
     cause = tt;
     bounded = few talk.given;
     goes = talk.goes;
+    untaken = λ none. (talk.unbegun (none_came talk.given none)).1;
   }
 
   -- all commands are answered
-  pub converses_done : {begun : Store} {taken : List ℕ} {commands : List Command} {script : Script} {store : Store} {block : List ℕ} {first now : D} →
+  pub converses_done : {begun : Store} {taken : List ℕ} {commands : List Command} {script : Script} {store : Store} {block : List ℕ} {first now : D} → HasClock d →
       IsConversing d begun taken commands script store block first now → block ≡ [] → script.ended ≡ true → AreCommands taken commands → Converses d begun Done first now
-  converses_done {taken = taken} {first = first} {now = now} talk none ended all =
+  converses_done {taken = taken} {first = first} {now = now} clock talk none ended all =
       let (end, short) = talk.given.end ended in
       let whole : EndsWhole taken (d.beside first).input (d.beside now).input = record { takes = talk.given.takes; end = end; few = short } in
       record {
         from = λ state at told.
             let (turns, are, served) = talk.served state at told in
-            serves_from [] Done served.run (append-nil (commands_of turns) ∙ are) talk.given
+            serves_from [] Done clock at served.run (append-nil (commands_of turns) ∙ are) talk.given
             (whole, subst (λ (cs : List Command). AreCommands taken cs) (sym are) all, all_given served none)
-            (λ is i left. at_image served.at left);
+            (λ between. between_served clock served)
+            (λ is. (λ i left. at_image served.at left, λ ends. talk.emptied state at told (subst EndsWithCheckpoint are ends)));
         cause = (taken, whole);
         bounded = few talk.given;
         goes = talk.goes;
+        untaken = λ none. (talk.unbegun (none_came talk.given none)).1;
       }
 
   -- the input gave no more
-  pub converses_unfilled : {begun : Store} {taken : List ℕ} {commands : List Command} {script : Script} {store : Store} {block : List ℕ} {first now next : D} (error : ScriptError) →
+  pub converses_unfilled : {begun : Store} {taken : List ℕ} {commands : List Command} {script : Script} {store : Store} {block : List ℕ} {first now next : D} (error : ScriptError) → HasClock d →
       IsConversing d begun taken commands script store block first next → block ≡ [] → (d.beside first).in_faults ≤ (d.beside now).in_faults →
       (error ≡ scripts.Read → Rose (d.beside now).in_faults (d.beside next).in_faults) → Stops error script [] commands (d.beside first).input (d.beside next).input →
       Converses d begun (status_of_script error) first next
-  converses_unfilled {first = first} {now = now} {next = next} scripts.Read talk none earlier rose (more, given, short, stops) = record {
+  converses_unfilled {first = first} {now = now} {next = next} scripts.Read clock talk none earlier rose (more, given, short, stops) = record {
     from = λ state at told.
         let (turns, are, served) = talk.served state at told in
-        serves_from [] ReadFault served.run (append-nil (commands_of turns) ∙ are) given
-        (short, subst (λ (cs : List Command). AreWhole more cs) (sym are) stops.whole, all_given served none) (λ is. absurd (cc is));
+        serves_from [] ReadFault clock at served.run (append-nil (commands_of turns) ∙ are) given
+        (short, subst (λ (cs : List Command). AreWhole more cs) (sym are) stops.whole, all_given served none) (λ between. between_served clock served) (λ is. absurd (cc is));
     cause = (rose_since (d.beside first).in_faults (d.beside now).in_faults (d.beside next).in_faults earlier (rose refl), more, short, stops.takes);
     bounded = few given;
     goes = talk.goes;
+    untaken = λ nothing. (talk.unbegun (none_came talk.given nothing)).1;
   }
-  converses_unfilled scripts.TooMuch talk none earlier rose (more, given, long, stops) = record {
+  converses_unfilled scripts.TooMuch clock talk none earlier rose (more, given, long, stops) = record {
     from = λ state at told.
         let (turns, are, served) = talk.served state at told in
-        serves_from [] TooMuch served.run (append-nil (commands_of turns) ∙ are) given
-        (long, subst (λ (cs : List Command). AreWhole more cs) (sym are) stops.whole, all_given served none) (λ is. absurd (cc is));
+        serves_from [] TooMuch clock at served.run (append-nil (commands_of turns) ∙ are) given
+        (long, subst (λ (cs : List Command). AreWhole more cs) (sym are) stops.whole, all_given served none) (λ between. between_served clock served) (λ is. absurd (cc is));
     cause = (more, long, stops.takes);
     bounded = few given;
     goes = talk.goes;
+    untaken = λ nothing. (talk.unbegun (none_came talk.given nothing)).1;
   }
-  converses_unfilled scripts.Memory talk none earlier rose stops = converses_starved talk
+  converses_unfilled scripts.Memory clock talk none earlier rose stops = converses_starved clock talk
 
   -- a run without turns, of which nothing was taken
-  serves_nothing : {state : State} {a b : D} (status : Status) → HasRun d state [] a b → Keeps (d.beside a).input (d.beside b).input → StopsShort status → ServesFrom d state status a b
-  serves_nothing {state = state} {a = a} {b = b} status run kept short =
+  serves_nothing : {state : State} {a b : D} (status : Status) → HasClock d → ((i : Image) → d.may_leave a i → Recovers i (Some state)) →
+      HasRun d state [] a b → LeavesAll d a b → Keeps (d.beside a).input (d.beside b).input → StopsShort status → ServesFrom d state status a b
+  serves_nothing {state = state} {a = a} {b = b} status clock begins run stays kept short =
       let (ends, not_done) = stopped_serving status [] [] (d.beside a) (d.beside b) short in
       record {
         turns = [];
@@ -341,18 +411,24 @@ module _ {D : Type 0} {d : Ghosts D} where
         taken = [];
         takes = takes_after [] (d.beside a).input (d.beside b).input (d.beside b).input kept (takes_nothing (d.beside b).input);
         first = first_none (d.beside b).input;
+        whole = none_of_taken (d.beside a).input (d.beside b).input;
         time = shows_moments d a b state [] run.time;
         ends = ends;
+        left = left_moments clock begins (shows_moments d a b state [] run.time);
+        between = λ between i left.
+            ([], kept_appends (d.beside a).output (d.beside b).output stays.output_stays, every_between state [] [] i (refl, begins i ((stays.images_stay i).0 left)));
         last = λ is. absurd (not_done is);
+        emptied = λ is. absurd (not_done is);
       }
 
   -- it doesn't begin
-  pub converses_unbegun : {a : D} {begun : Store} → Converses d begun NoMemory a a
-  converses_unbegun {a = a} = record {
-    from = λ state at told. serves_nothing NoMemory (record { run = tt; time = none_elapsed }) (keeps_self (d.beside a).input) tt;
+  pub converses_unbegun : {a : D} {begun : Store} → HasClock d → Converses d begun NoMemory a a
+  converses_unbegun {a = a} clock = record {
+    from = λ state at told. serves_nothing NoMemory clock (λ i left. at_image at left) (record { run = tt; time = none_elapsed }) none_left (keeps_self (d.beside a).input) tt;
     cause = tt;
     bounded = few_nothing (d.beside a).input (d.beside a).input (keeps_self (d.beside a).input);
     goes = none_goes;
+    untaken = λ none. none_left;
   }
 
   -- A run over the store that was opened:
@@ -384,6 +460,7 @@ module _ {D : Type 0} {d : Ghosts D} where
         taken = from.taken;
         takes = takes_after from.taken (d.beside a).input (d.beside b).input (d.beside c).input input from.takes;
         first = from.first;
+        whole = of_taken_after (commands_of from.turns) (d.beside c).input input from.whole;
         time = elapsed_then {P = ShowsMoment (d.beside a).output state from.turns}
             (elapsed_weaker still.time (λ s h. (
               [],
@@ -392,7 +469,10 @@ module _ {D : Type 0} {d : Ghosts D} where
             )))
             from.time (λ s h. (h.0, appends_after h.0 (d.beside a).output (d.beside b).output s.output output h.1, h.2));
         ends = ends_after status from.turns from.taken (d.beside a) (d.beside b) (d.beside c) input output from.ends;
+        left = λ i may. let (out, gave, moment) = from.left i may in (out, appends_after out (d.beside a).output (d.beside b).output (d.beside c).output output gave, moment);
+        between = λ ends i may. let (out, gave, moment) = from.between ends i may in (out, appends_after out (d.beside a).output (d.beside b).output (d.beside c).output output gave, moment);
         last = from.last;
+        emptied = from.emptied;
       }
 
   opened_cause : {a b c : D} {begun : Store} (status : Status) → IsStill d a b → ((was : Image) (state : State) → IsSettled d a was → Recovers was (Some state) → IsAt d begun b state) →
@@ -430,6 +510,9 @@ module _ {D : Type 0} {d : Ghosts D} where
         };
         counts = goes.counts;
         faults_later = goes.faults_later;
+        untaken = λ none.
+            left_then (left_still still)
+            (talk.untaken (nothing_after talk.bounded.taken (d.beside a).input (d.beside b).input (d.beside c).input still.beside_stays.input talk.bounded.takes none));
       }
 
 module _ {D : Type 0} (d : Ghosts D) (a b : D) where
@@ -462,18 +545,19 @@ module _ {D : Type 0} (d : Ghosts D) (a b : D) where
   unopened_header was engine.Write why settled none = absurd why
   unopened_header was engine.Ended why settled none = absurd why
 
-  pub serves_unopened : (e : EngineError) → IsStill d a b → NotOpened d e a b → Serves d (status_of_engine e) a b
-  serves_unopened e still why = record {
+  pub serves_unopened : (e : EngineError) → HasClock d → IsStill d a b → NotOpened d e a b → Serves d (status_of_engine e) a b
+  serves_unopened e clock still why = record {
     from = λ was state settled told recovers.
-        serves_nothing (status_of_engine e)
+        serves_nothing (status_of_engine e) clock (λ i left. subst (λ (j : Image). Recovers j (Some state)) (sym (settled.only i left)) recovers)
         (record {
           run = tt;
           time = elapsed_weaker still.time (λ s h. ([], kept_appends (d.beside a).output s.output h.0, (refl, still_image settled recovers s h.1)));
         })
-        still.beside_stays.input (unopened_short was state e why settled recovers);
+        (left_still still) still.beside_stays.input (unopened_short was state e why settled recovers);
     cause = unopened_cause e why;
     no_header = λ was settled none. (unopened_header was e why settled none, still);
     bounded = few_nothing (d.beside a).input (d.beside b).input still.beside_stays.input;
     counts = counts_still still;
     faults_later = still.faults_later;
+    untaken = λ none. left_still still;
   }

@@ -12,8 +12,8 @@ use Rattle.nx_state.specs.State.{State}
 use Rattle.nx_state.specs.Stands.{Recovers}
 use Rattle.nx_store.specs.Carried.{StoreStep}
 use Rattle.nx_store.specs.Store.{IsOf}
-use Rattle.nx_front.specs.Serving.{Turn, IsRun, state_after, commands_of, texts_of, BeginsWith, AreWholeReplies, IsMoment}
-use Rattle.nx_front.specs.Conversation.{IsReached}
+use Rattle.nx_front.specs.Serving.{Turn, IsRun, state_after, commands_of, texts_of, BeginsWith, AreWholeReplies, IsMoment, IsBetween}
+use Rattle.nx_front.specs.Conversation.{IsReached, IsReachedBetween}
 
 -- One turn more:
 
@@ -70,6 +70,32 @@ last state [] turn out image reached = reached
 last state (t ∷ ts) turn out image reached =
     inr (inr (texts_of ts ++ out, append_assoc (reply_text t.reply) (texts_of ts) out, last t.next ts turn out image reached))
 
+-- Moments between two commands:
+
+-- one before the last byte of the replies is one of a longer run
+pub longer_between : (state : State) (turns : List Turn) (turn : Turn) (out : List ℕ) (image : Image) → length out < length (texts_of turns) → IsReachedBetween state turns out image →
+    IsReachedBetween state (turns ++ turn ∷ []) out image
+longer_between state [] turn out image short reached = absurd (omega (arith, short))
+longer_between state (t ∷ ts) turn out image short (inl reached) = inl reached
+longer_between state (t ∷ ts) turn out image short (inr (more, is, reached)) =
+    let here : length out ≡ length (reply_text t.reply ++ more) = ap length is in
+    let mine : length (reply_text t.reply ++ more) ≡ length (reply_text t.reply) + length more = length-append (reply_text t.reply) more in
+    let all : length (reply_text t.reply ++ texts_of ts) ≡ length (reply_text t.reply) + length (texts_of ts) = length-append (reply_text t.reply) (texts_of ts) in
+    inr (more, is, longer_between t.next ts turn more image (omega (arith, short, here, mine, all)) reached)
+
+-- one of the last turn is one of the run
+pub last_between : (state : State) (turns : List Turn) (turn : Turn) (out : List ℕ) (image : Image) → IsReachedBetween (state_after state turns) (turn ∷ []) out image →
+    IsReachedBetween state (turns ++ turn ∷ []) (texts_of turns ++ out) image
+last_between state [] turn out image reached = reached
+last_between state (t ∷ ts) turn out image reached =
+    inr (texts_of ts ++ out, append_assoc (reply_text t.reply) (texts_of ts) out, last_between t.next ts turn out image reached)
+
+-- the reply of a turn that changes nothing is out in part or whole
+pub part_between : (state : State) (turn : Turn) (n : ℕ) (image : Image) → IsOf state image → IsOf turn.next image → (n < length (reply_text turn.reply)) ⊎ (length (reply_text turn.reply) ≤ n) →
+    IsReachedBetween state (turn ∷ []) (take n (reply_text turn.reply)) image
+part_between state turn n image before after (inl short) = inl (n, short, refl, before)
+part_between state turn n image before after (inr all) = inr ([], take_all n (reply_text turn.reply) all ∙ sym (append-nil (reply_text turn.reply)), (refl, after))
+
 -- Each moment has a number of whole replies:
 
 pub le_or : (a b : ℕ) → (a < b) ⊎ (b ≤ a)
@@ -123,15 +149,21 @@ stands_behind state turn turns count image (inr is) =
     let same : suc (count + 1) ≡ suc count + 1 = omega arith in
     inr (subst (λ (n : ℕ). Recovers image (Some (state_after state (take n (turn ∷ turns))))) same is)
 
--- a part of the first reply is out
+-- a part of the first reply is out, and not all of it
+part_given : (text behind : List ℕ) (n : ℕ) → text ++ behind ≡ take n text ++ (drop n text ++ behind)
+part_given text behind n = ap (λ (l : List ℕ). l ++ behind) (sym (take-append-drop n text)) ∙ append_assoc (take n text) (drop n text) behind
+
+part_whole : (turns : List Turn) (turn : Turn) (n : ℕ) → n < length (reply_text turn.reply) → AreWholeReplies (turn ∷ turns) (take n (reply_text turn.reply)) 0
+part_whole turns turn n short =
+    none_whole turns turn (take n (reply_text turn.reply)) (let long : length (take n (reply_text turn.reply)) ≡ n = length-take-le n (reply_text turn.reply) (omega (arith, short)) in omega (arith, short))
+
 part_out : (state : State) (turns : List Turn) (turn : Turn) (n : ℕ) (image : Image) → IsOf turn.next image → (n < length (reply_text turn.reply)) ⊎ (length (reply_text turn.reply) ≤ n) →
     IsMoment state (turn ∷ turns) (take n (reply_text turn.reply)) image
 part_out state turns turn n image is (inl short) = record {
   rest = drop n (reply_text turn.reply) ++ texts_of turns;
-  given = ap (λ (l : List ℕ). l ++ texts_of turns) (sym (take-append-drop n (reply_text turn.reply)))
-      ∙ append_assoc (take n (reply_text turn.reply)) (drop n (reply_text turn.reply)) (texts_of turns);
+  given = part_given (reply_text turn.reply) (texts_of turns) n;
   count = 0;
-  whole = none_whole turns turn (take n (reply_text turn.reply)) (let long : length (take n (reply_text turn.reply)) ≡ n = length-take-le n (reply_text turn.reply) (omega (arith, short)) in omega (arith, short));
+  whole = part_whole turns turn n short;
   stands = inr is;
 }
 part_out state turns turn n image is (inr all) =
@@ -161,4 +193,35 @@ every_moment state (t ∷ ts) out image (inr (inr (more, parts, reached))) =
       count = suc m.count;
       whole = one_whole ts t more m.count m.whole;
       stands = stands_behind state t ts m.count image m.stands;
+    })
+
+-- ... and one between two commands has the image of the state after as many
+pub every_between : (state : State) (turns : List Turn) (out : List ℕ) (image : Image) → IsReachedBetween state turns out image → IsBetween state turns out image
+every_between state [] out image (none, is) =
+    subst (λ (o : List ℕ). IsBetween state [] o image) (sym none)
+    (record { moment = record { rest = []; given = refl; count = 0; whole = nothing_whole []; stands = inl is }; stands = is })
+every_between state (t ∷ ts) out image (inl (n, short, part, is)) =
+    subst (λ (o : List ℕ). IsBetween state (t ∷ ts) o image) (sym part)
+    (record {
+      moment = record {
+        rest = drop n (reply_text t.reply) ++ texts_of ts;
+        given = part_given (reply_text t.reply) (texts_of ts) n;
+        count = 0;
+        whole = part_whole ts t n short;
+        stands = inl is;
+      };
+      stands = is;
+    })
+every_between state (t ∷ ts) out image (inr (more, parts, reached)) =
+    let b = every_between t.next ts more image reached in
+    subst (λ (o : List ℕ). IsBetween state (t ∷ ts) o image) (sym parts)
+    (record {
+      moment = record {
+        rest = (b.moment).rest;
+        given = ap (λ (l : List ℕ). reply_text t.reply ++ l) (b.moment).given ∙ sym (append_assoc (reply_text t.reply) more (b.moment).rest);
+        count = suc (b.moment).count;
+        whole = one_whole ts t more (b.moment).count (b.moment).whole;
+        stands = inl b.stands;
+      };
+      stands = b.stands;
     })

@@ -1,6 +1,6 @@
 -- A script over a store: turns that are had, and what was given of their replies.
 use Rattle.std.proofs.Common.{◌≡◌, false, ◌⊎◌, inl, inr, ℕ, ◌+◌, ◌-◌, ◌<◌, ◌≤◌, List, [], ◌∷◌, ◌++◌, take, length, Option, None, Some, IsSome, Result, Ok, Err, refl, sym, ap, ◌∙◌, subst, arith, append_assoc, append-nil, length-append}
-use Rattle.std.proofs.lemmas.List.{take_all, take-append-le}
+use Rattle.std.proofs.lemmas.List.{take_all, take-append-le, length-take-le}
 use Rattle.std.proofs.Math.Seq.{take-append-add}
 use Rattle.nx_host.specs.declared.disk.Disk.{Ghosts}
 use Rattle.nx_host.specs.Disk.{Image}
@@ -10,7 +10,7 @@ use Rattle.nx_host.specs.Phase.{LeavesAreas, TakesAlone, GivesAlone}
 use Rattle.nx_host.specs.Still.{WritesAlone}
 use Rattle.nx_host.proofs.OutputLemmas.{appends_nothing, appends_then, keeps_prefix}
 use Rattle.nx_script.specs.declared.command.Command.{Command}
-use Rattle.nx_script.specs.declared.command.Command.TheVariants.{Export}
+use Rattle.nx_script.specs.declared.command.Command.TheVariants.{Export, Checkpoint}
 use Rattle.nx_script.specs.declared.reply.Reply.{Reply}
 use Rattle.nx_script.specs.Reply.{reply_text}
 use Rattle.nx_state.specs.State.{State}
@@ -22,15 +22,17 @@ use Rattle.nx_store.specs.Store.{Turn as StoreTurn, IsAt, IsOf, IsOfEither, Show
 use Rattle.nx_store.proofs.AtLemmas.{at_beside, at_image}
 use Rattle.nx_store.proofs.CaseLemmas.{quiet_leaves}
 use Rattle.nx_steps.specs.Step.{may_change}
+use Rattle.nx_filters.specs.declared.status.Status.{Status}
 use Rattle.nx_filters.specs.declared.status.Status.TheVariants.{NoMemory}
 use Rattle.nx_filters.specs.declared.give.GiveError.{GiveError}
 use Rattle.nx_filters.specs.declared.give.GiveError.TheVariants as give_error
 use Rattle.nx_filters.specs.TakeError.{status_of_give_error}
 use Rattle.nx_filters.specs.Outcome.{Given}
-use Rattle.nx_front.specs.Serving.{Turn, state_after, commands_of, texts_of}
-use Rattle.nx_front.specs.Conversation.{IsReached, ShowsReached, HasRun, HasServed, HasBegun, Answers, Begins, StopsShort, IsStopped, status_of_engine}
+use Rattle.nx_front.specs.Serving.{Turn, state_after, commands_of, texts_of, ShowsBetween, LeavesMoments, EndsBetween, HasEmptyLog}
+use Rattle.nx_front.specs.Conversation.{IsReached, ShowsReached, IsReachedBetween, HasRun, HasServed, HasBegun, Answers, Begins, StopsShort, IsStopped, status_of_engine}
 use Rattle.nx_filters.proofs.OutcomeLemmas.{kept_appends, gives_appends, keeps_of}
-use Rattle.nx_front.proofs.MomentLemmas.{run_more, after_more, texts_more, commands_more, longer, last, le_or}
+use Rattle.nx_front.proofs.ClockLemmas.{HasClock, at_end}
+use Rattle.nx_front.proofs.MomentLemmas.{run_more, after_more, texts_more, commands_more, longer, last, longer_between, last_between, part_between, every_between, le_or}
 
 -- What is given:
 
@@ -53,6 +55,22 @@ waits_more state turns turn n image waits is (inr long) =
     subst (λ (l : List ℕ). IsReached state (turns ++ turn ∷ []) l image)
     (sym (take-append-add (texts_of turns) text m) ∙ ap (λ (k : ℕ). take k (texts_of turns ++ text)) all)
     (last state turns turn (take m text) image (inr (inl (m, refl, is))))
+
+-- ... and none is begun
+between_more : (state : State) (turns : List Turn) (turn : Turn) (n : ℕ) (image : Image) → IsReachedBetween state turns (take n (texts_of turns)) image → IsOf (state_after state turns) image →
+    IsOf turn.next image → (n < length (texts_of turns)) ⊎ (length (texts_of turns) ≤ n) → IsReachedBetween state (turns ++ turn ∷ []) (take n (texts_of turns ++ reply_text turn.reply)) image
+between_more state turns turn n image waits before is (inl short) =
+    let few : n ≤ length (texts_of turns) = omega (arith, short) in
+    let long : length (take n (texts_of turns)) ≡ n = length-take-le n (texts_of turns) few in
+    subst (λ (l : List ℕ). IsReachedBetween state (turns ++ turn ∷ []) l image) (sym (take-append-le n (texts_of turns) (reply_text turn.reply) few))
+    (longer_between state turns turn (take n (texts_of turns)) image (omega (arith, short, long)) waits)
+between_more state turns turn n image waits before is (inr long) =
+    let text = reply_text turn.reply in
+    let m = n - length (texts_of turns) in
+    let all : length (texts_of turns) + m ≡ n = omega (arith, long) in
+    subst (λ (l : List ℕ). IsReachedBetween state (turns ++ turn ∷ []) l image)
+    (sym (take-append-add (texts_of turns) text m) ∙ ap (λ (k : ℕ). take k (texts_of turns ++ text)) all)
+    (last_between state turns turn (take m text) image (part_between (state_after state turns) turn m image before is (le_or m (length text))))
 
 -- a moment of the last turn is one of the run, where all replies before it are out
 within : (state : State) (turns : List Turn) (turn : Turn) (first now : Option (List ℕ)) (s : Stood) → Appends (texts_of turns) first now →
@@ -102,6 +120,7 @@ module _ {D : Type 0} {d : Ghosts D} where
     parts = none;
     gave = appends_nothing (d.beside a).output;
     waits = λ n image long is. (take_all n [] (omega arith), is);
+    none_begun = λ n image long is. (take_all n [] (omega arith), is);
   }
 
   -- Behind what the block has comes the reply of a turn that changes nothing.
@@ -121,6 +140,10 @@ module _ {D : Type 0} {d : Ghosts D} where
             let here : IsOf (state_after state turns) image = subst (λ (t : State). IsOf t image) before is in
             subst (λ (l : List ℕ). IsReached state (turns ++ turn ∷ []) (take n l) image) (sym (texts_more turns turn))
             (waits_more state turns turn n image (λ few. served.waits n image long here) (subst (λ (t : State). IsOf t image) (sym same) here) (le_or n (length (texts_of turns))));
+        none_begun = λ n image long is.
+            let here : IsOf (state_after state turns) image = subst (λ (t : State). IsOf t image) before is in
+            subst (λ (l : List ℕ). IsReachedBetween state (turns ++ turn ∷ []) (take n l) image) (sym (texts_more turns turn))
+            (between_more state turns turn n image (served.none_begun n image long here) here (subst (λ (t : State). IsOf t image) (sym same) here) (le_or n (length (texts_of turns))));
       }
 
   -- the moments while a part is given of what the block has
@@ -140,6 +163,34 @@ module _ {D : Type 0} {d : Ghosts D} where
         ));
   }
 
+  -- ... and at their end no command is half done
+  pub between_given : {first now next : D} {state : State} {turns : List Turn} {store : Store} {block : List ℕ} → HasClock d → HasServed d state turns store block first now →
+      ShowsGiven d block (state_after state turns) now next → LeavesMoments d next (ShowsBetween (d.beside first).output state turns)
+  between_given {first = first} {now = now} {next = next} {state = state} {turns = turns} {block = block} clock served gives = λ i left.
+      by i (elim (at_end clock gives i left) [
+        | inl (same, before) ↦ (keeps_prefix block (d.beside now).output (d.beside next).output (keeps_of (d.beside now).output (d.beside next).output same), at_image served.at before)
+        | inr shown ↦ shown
+      ])
+    where
+      by : (i : Image) → AppendsPrefix block (d.beside now).output (d.beside next).output × IsOf (state_after state turns) i →
+          ShowsBetween (d.beside first).output state turns (record { output = (d.beside next).output; image = i })
+      by i (prefix, is) =
+          let (n, appended) = prefix_bytes block (d.beside now).output (d.beside next).output prefix in
+          let long : length served.done ≤ length served.done + n = omega arith in
+          let out : take (length served.done + n) (texts_of turns) ≡ served.done ++ take n block =
+          ap (λ (l : List ℕ). take (length served.done + n) l) (sym served.parts) ∙ take-append-add served.done block n
+          in (
+            served.done ++ take n block,
+            appends_then served.done (take n block) (d.beside first).output (d.beside now).output (d.beside next).output served.gave appended,
+            every_between state turns (served.done ++ take n block) i
+                (subst (λ (l : List ℕ). IsReachedBetween state turns l i) out (served.none_begun (length served.done + n) i long is)),
+          )
+
+  -- ... also where nothing was given since
+  pub between_served : {first now : D} {state : State} {turns : List Turn} {store : Store} {block : List ℕ} → HasClock d → HasServed d state turns store block first now →
+      LeavesMoments d now (ShowsBetween (d.beside first).output state turns)
+  between_served clock served = between_given clock served none_elapsed
+
   -- A part is given of what the block has, or nothing, and each image is one of the state.
   served_given : {first now next : D} {state : State} {turns : List Turn} {store store' : Store} {block left : List ℕ} (done : List ℕ) → HasServed d state turns store block first now →
       IsAt d store' next (state_after state turns) → done ++ left ≡ block → Appends done (d.beside now).output (d.beside next).output → ShowsGiven d block (state_after state turns) now next →
@@ -153,6 +204,9 @@ module _ {D : Type 0} {d : Ghosts D} where
     waits = λ n image long is.
         let all : length (served.done ++ done) ≡ length served.done + length done = length-append served.done done in
         served.waits n image (omega arith) is;
+    none_begun = λ n image long is.
+        let all : length (served.done ++ done) ≡ length served.done + length done = length-append served.done done in
+        served.none_begun n image (omega arith) is;
   }
 
   -- what the block had is given, while the disk is left
@@ -164,6 +218,10 @@ module _ {D : Type 0} {d : Ghosts D} where
   pub run_block : {first now next : D} {state : State} {turns : List Turn} {store : Store} {block : List ℕ} → HasServed d state turns store block first now → GivesAlone d block now next →
       HasRun d state turns first next
   run_block {block = block} served alone = run_given served (leaves_gives block alone.areas served.at)
+
+  pub between_block : {first now next : D} {state : State} {turns : List Turn} {store : Store} {block : List ℕ} → HasClock d → HasServed d state turns store block first now →
+      GivesAlone d block now next → LeavesMoments d next (ShowsBetween (d.beside first).output state turns)
+  between_block {block = block} clock served alone = between_given clock served (leaves_gives block alone.areas served.at)
 
   -- more input was asked for
   pub served_filled : {first now next : D} {state : State} {turns : List Turn} {store : Store} {block : List ℕ} → HasServed d state turns store block first now → TakesAlone d now next →
@@ -210,6 +268,11 @@ module _ {D : Type 0} {d : Ghosts D} where
             let whole : take n (texts_of (turns ++ turn ∷ [])) ≡ texts_of turns ++ text = ap (λ (l : List ℕ). take n l) (sym all) ∙ take_all n (texts_of turns ++ text) long in
             subst (λ (l : List ℕ). IsReached state (turns ++ turn ∷ []) l image) (sym whole)
             (last state turns turn text image (inr (inl (length text, sym (take_all (length text) text (omega arith)), here))));
+        none_begun = λ n image long is.
+            let here : IsOf turn.next image = subst (λ (t : State). IsOf t image) after is in
+            let whole : take n (texts_of (turns ++ turn ∷ [])) ≡ texts_of turns ++ text = ap (λ (l : List ℕ). take n l) (sym all) ∙ take_all n (texts_of turns ++ text) long in
+            subst (λ (l : List ℕ). IsReachedBetween state (turns ++ turn ∷ []) l image) (sym whole)
+            (last_between state turns turn text image (inr ([], sym (append-nil text), (refl, here))));
       }
 
   -- What a command is answered:
@@ -222,16 +285,32 @@ module _ {D : Type 0} {d : Ghosts D} where
       (gives_appends block (d.beside now).output (d.beside next).output gave)
       (leaves_gives block alone.areas served.at)
 
-  begun_none : {first next : D} {state : State} (turns : List Turn) (command : Command) → HasRun d state turns first next → HasBegun d state (commands_of turns ++ command ∷ []) first next
-  begun_none turns command run = (turns, command ∷ [], refl, run)
+  -- a command isn't begun, while a part is given of what the block has
+  begun_none : {status : Status} {first now next : D} {state : State} {turns : List Turn} {store : Store} {block : List ℕ} (command : Command) → HasClock d →
+      HasServed d state turns store block first now → ShowsGiven d block (state_after state turns) now next → HasBegun d status state (commands_of turns ++ command ∷ []) first next
+  begun_none {turns = turns} command clock served gives = record {
+    turns = turns;
+    rest = command ∷ [];
+    parts = refl;
+    run = run_given served gives;
+    between = λ ends. between_given clock served gives;
+  }
 
-  begun_one : {first next : D} {state : State} (turns : List Turn) (turn : Turn) → HasRun d state (turns ++ turn ∷ []) first next →
-      HasBegun d state (commands_of turns ++ turn.command ∷ []) first next
-  begun_one turns turn run = (turns ++ turn ∷ [], [], append-nil (commands_of (turns ++ turn ∷ [])) ∙ commands_more turns turn, run)
+  -- it is begun
+  begun_one : {status : Status} {first next : D} {state : State} (turns : List Turn) (turn : Turn) → HasRun d state (turns ++ turn ∷ []) first next →
+      (EndsBetween status → LeavesMoments d next (ShowsBetween (d.beside first).output state (turns ++ turn ∷ []))) → HasBegun d status state (commands_of turns ++ turn.command ∷ []) first next
+  begun_one turns turn run between = record {
+    turns = turns ++ turn ∷ [];
+    rest = [];
+    parts = append-nil (commands_of (turns ++ turn ∷ [])) ∙ commands_more turns turn;
+    run = run;
+    between = between;
+  }
 
   -- it isn't begun where the block isn't given
-  pub block_begins : {now next : D} {store : Store} {block : List ℕ} (command : Command) (stop : GiveError) → GivesAlone d block now next → Begins d command (status_of_give_error stop) store block now next
-  block_begins command stop alone first state turns served told = (stops_giving stop, begun_none turns command (run_block served alone))
+  pub block_begins : {now next : D} {store : Store} {block : List ℕ} (command : Command) (stop : GiveError) → HasClock d → GivesAlone d block now next →
+      Begins d command (status_of_give_error stop) store block now next
+  block_begins {block = block} command stop clock alone first state turns served told = (stops_giving stop, begun_none command clock served (leaves_gives block alone.areas served.at))
 
   -- A command that may change the store is answered, once the block is given.
   pub loud_answers : {now mid next : D} {store store' : Store} {block left : List ℕ} (command : Command) → left ≡ [] → Given block (Ok tt) (d.beside now) (d.beside mid) → GivesAlone d block now mid →
@@ -239,30 +318,32 @@ module _ {D : Type 0} {d : Ghosts D} where
       Answers d command store store' block left now next
   loud_answers command none gave alone takes answers first state turns served told =
       let there = given_block served none gave alone (takes.told told) in
-      let (turn, at, appends, time) = answers (state_after state turns) there.at told in
-      (turn_of command turn, refl, served_loudly (turn_of command turn) there none turn.step at appends time)
+      let (turn, at, appends, time, log) = answers (state_after state turns) there.at told in
+      (turn_of command turn, refl, served_loudly (turn_of command turn) there none turn.step at appends time, log.emptied)
 
   -- ... or begun
-  loud_stops : {first mid next : D} {store : Store} {state : State} {turns : List Turn} {block : List ℕ} (store' : Store) (command : Command) (e : EngineError) → HasServed d state turns store block first mid → block ≡ [] →
-      IsAnswered d (Err e) (state_after state turns) command store' mid next → StopsShort (status_of_engine e) × HasBegun d state (commands_of turns ++ command ∷ []) first next
-  loud_stops {turns = turns} store' command engine.Write served none (turn, at, time) = (tt, begun_one turns (turn_of command turn) (run_loudly (turn_of command turn) served none turn.step time))
-  loud_stops {mid = mid} {next = next} {state = state} {turns = turns} {block = block} store' command engine.Memory served none (at, shows) =
-      (tt, begun_none turns command (run_given served (shows_gives d mid next (state_after state turns) block shows)))
-  loud_stops {mid = mid} {next = next} {state = state} {turns = turns} {block = block} store' command engine.Disk served none (inl shows) =
-      (tt, begun_none turns command (run_given served (shows_gives d mid next (state_after state turns) block shows)))
-  loud_stops {turns = turns} store' command engine.Disk served none (inr (turn, shows)) =
-      (tt, begun_one turns (turn_of command turn) (run_loudly (turn_of command turn) served none turn.step (elapsed_weaker shows (λ s h. inl h))))
-  loud_stops store' command engine.Exists served none answered = absurd answered
-  loud_stops store' command engine.NotAStore served none answered = absurd answered
-  loud_stops store' command (engine.Damaged page) served none answered = absurd answered
-  loud_stops store' command engine.Ended served none answered = absurd answered
+  loud_stops : {first mid next : D} {store : Store} {state : State} {turns : List Turn} {block : List ℕ} (store' : Store) (command : Command) (e : EngineError) → HasClock d →
+      HasServed d state turns store block first mid → block ≡ [] → IsAnswered d (Err e) (state_after state turns) command store' mid next →
+      StopsShort (status_of_engine e) × HasBegun d (status_of_engine e) state (commands_of turns ++ command ∷ []) first next
+  loud_stops {turns = turns} store' command engine.Write clock served none (turn, at, time) =
+      (tt, begun_one turns (turn_of command turn) (run_loudly (turn_of command turn) served none turn.step time) (λ ends. absurd ends))
+  loud_stops {mid = mid} {next = next} {state = state} {turns = turns} {block = block} store' command engine.Memory clock served none (at, shows) =
+      (tt, begun_none command clock served (shows_gives d mid next (state_after state turns) block shows))
+  loud_stops {mid = mid} {next = next} {state = state} {turns = turns} {block = block} store' command engine.Disk clock served none (inl shows) =
+      (tt, begun_none command clock served (shows_gives d mid next (state_after state turns) block shows))
+  loud_stops {turns = turns} store' command engine.Disk clock served none (inr (turn, shows)) =
+      (tt, begun_one turns (turn_of command turn) (run_loudly (turn_of command turn) served none turn.step (elapsed_weaker shows (λ s h. inl h))) (λ ends. absurd ends))
+  loud_stops store' command engine.Exists clock served none answered = absurd answered
+  loud_stops store' command engine.NotAStore clock served none answered = absurd answered
+  loud_stops store' command (engine.Damaged page) clock served none answered = absurd answered
+  loud_stops store' command engine.Ended clock served none answered = absurd answered
 
-  pub loud_begins : {now mid next : D} {store : Store} {block left : List ℕ} (store' : Store) (command : Command) (e : EngineError) → left ≡ [] → Given block (Ok tt) (d.beside now) (d.beside mid) → GivesAlone d block now mid →
-      TakesNone d mid next → ((state : State) → IsAt d store mid state → IsSome (d.contents next) → IsAnswered d (Err e) state command store' mid next) →
-      Begins d command (status_of_engine e) store block now next
-  loud_begins store' command e none gave alone takes answers first state turns served told =
+  pub loud_begins : {now mid next : D} {store : Store} {block left : List ℕ} (store' : Store) (command : Command) (e : EngineError) → HasClock d → left ≡ [] →
+      Given block (Ok tt) (d.beside now) (d.beside mid) → GivesAlone d block now mid → TakesNone d mid next →
+      ((state : State) → IsAt d store mid state → IsSome (d.contents next) → IsAnswered d (Err e) state command store' mid next) → Begins d command (status_of_engine e) store block now next
+  loud_begins store' command e clock none gave alone takes answers first state turns served told =
       let there = given_block served none gave alone (takes.told told) in
-      loud_stops store' command e there none (answers (state_after state turns) there.at told)
+      loud_stops store' command e clock there none (answers (state_after state turns) there.at told)
 
   -- A command that changes nothing is carried out.
   quietly : {first now next : D} {state : State} {turns : List Turn} {store store' : Store} {block : List ℕ} {P : Image → Type 0} {after : State} → HasServed d state turns store block first now →
@@ -277,43 +358,44 @@ module _ {D : Type 0} {d : Ghosts D} where
       WritesAlone d now next P → ((state : State) → IsAt d store now state → IsSome (d.contents next) → IsApplied d (Ok reply) state command store' now next) →
       Answers d command store store' block left now next
   quiet_answers {now = now} {next = next} {store' = store'} {block = block} command reply calm is alone applies first state turns served told =
-      let (after, step, at, shows) = applies (state_after state turns) served.at told in
+      let (after, step, at, shows, log) = applies (state_after state turns) served.at told in
       let same = quiet_leaves command calm (state_after state turns) after reply step in
       let turn : Turn = record { command = command; reply = reply; next = after } in (
         turn,
         refl,
         subst (λ (l : List ℕ). HasServed d state (turns ++ turn ∷ []) store' l first next) (sym is) (served_quietly turn (quietly served same at alone shows) step same),
+        log.emptied,
       )
 
   -- ... but for the text of its reply
-  pub quiet_pushless : {now next : D} {store store' : Store} {block : List ℕ} (command : Command) (reply : Reply) → may_change command ≡ false →
+  pub quiet_pushless : {now next : D} {store store' : Store} {block : List ℕ} (command : Command) (reply : Reply) → HasClock d → may_change command ≡ false →
       ((state : State) → IsAt d store now state → IsSome (d.contents next) → IsApplied d (Ok reply) state command store' now next) → Begins d command NoMemory store block now next
-  quiet_pushless {now = now} {next = next} {block = block} command reply calm applies first state turns served told =
-      let (after, step, at, shows) = applies (state_after state turns) served.at told in
+  quiet_pushless {now = now} {next = next} {block = block} command reply clock calm applies first state turns served told =
+      let (after, step, at, shows, log) = applies (state_after state turns) served.at told in
       let before = state_after state turns in
       let same = quiet_leaves command calm before after reply step in
-      (tt, begun_none turns command (run_given served (shows_gives d now next before block (quiet_shows d now next before after same shows))))
+      (tt, begun_none command clock served (shows_gives d now next before block (quiet_shows d now next before after same shows)))
 
-  quiet_stops : {first now next : D} {store : Store} {state : State} {turns : List Turn} {block : List ℕ} (store' : Store) (command : Command) (e : EngineError) → may_change command ≡ false →
-      HasServed d state turns store block first now → IsApplied d (Err e) (state_after state turns) command store' now next →
-      StopsShort (status_of_engine e) × HasBegun d state (commands_of turns ++ command ∷ []) first next
-  quiet_stops {now = now} {next = next} {state = state} {turns = turns} {block = block} store' command engine.Memory calm served (at, shows) =
-      (tt, begun_none turns command (run_given served (shows_gives d now next (state_after state turns) block shows)))
-  quiet_stops {now = now} {next = next} {state = state} {turns = turns} {block = block} store' command engine.Disk calm served (inl shows) =
-      (tt, begun_none turns command (run_given served (shows_gives d now next (state_after state turns) block shows)))
-  quiet_stops {now = now} {next = next} {state = state} {turns = turns} {block = block} store' command engine.Disk calm served (inr (turn, shows)) =
+  quiet_stops : {first now next : D} {store : Store} {state : State} {turns : List Turn} {block : List ℕ} (store' : Store) (command : Command) (e : EngineError) → HasClock d →
+      may_change command ≡ false → HasServed d state turns store block first now → IsApplied d (Err e) (state_after state turns) command store' now next →
+      StopsShort (status_of_engine e) × HasBegun d (status_of_engine e) state (commands_of turns ++ command ∷ []) first next
+  quiet_stops {now = now} {next = next} {state = state} {turns = turns} {block = block} store' command engine.Memory clock calm served (at, shows) =
+      (tt, begun_none command clock served (shows_gives d now next (state_after state turns) block shows))
+  quiet_stops {now = now} {next = next} {state = state} {turns = turns} {block = block} store' command engine.Disk clock calm served (inl shows) =
+      (tt, begun_none command clock served (shows_gives d now next (state_after state turns) block shows))
+  quiet_stops {now = now} {next = next} {state = state} {turns = turns} {block = block} store' command engine.Disk clock calm served (inr (turn, shows)) =
       let before = state_after state turns in
       let same = quiet_leaves command calm before turn.next turn.reply turn.step in
-      (tt, begun_none turns command (run_given served (shows_gives d now next before block (quiet_shows d now next before turn.next same shows))))
-  quiet_stops store' command engine.Write calm served applied = absurd applied
-  quiet_stops store' command engine.Exists calm served applied = absurd applied
-  quiet_stops store' command engine.NotAStore calm served applied = absurd applied
-  quiet_stops store' command (engine.Damaged page) calm served applied = absurd applied
-  quiet_stops store' command engine.Ended calm served applied = absurd applied
+      (tt, begun_none command clock served (shows_gives d now next before block (quiet_shows d now next before turn.next same shows)))
+  quiet_stops store' command engine.Write clock calm served applied = absurd applied
+  quiet_stops store' command engine.Exists clock calm served applied = absurd applied
+  quiet_stops store' command engine.NotAStore clock calm served applied = absurd applied
+  quiet_stops store' command (engine.Damaged page) clock calm served applied = absurd applied
+  quiet_stops store' command engine.Ended clock calm served applied = absurd applied
 
-  pub quiet_begins : {now next : D} {store : Store} {block : List ℕ} (store' : Store) (command : Command) (e : EngineError) → may_change command ≡ false →
+  pub quiet_begins : {now next : D} {store : Store} {block : List ℕ} (store' : Store) (command : Command) (e : EngineError) → HasClock d → may_change command ≡ false →
       ((state : State) → IsAt d store now state → IsSome (d.contents next) → IsApplied d (Err e) state command store' now next) → Begins d command (status_of_engine e) store block now next
-  quiet_begins store' command e calm applies first state turns served told = quiet_stops store' command e calm served (applies (state_after state turns) served.at told)
+  quiet_begins store' command e clock calm applies first state turns served told = quiet_stops store' command e clock calm served (applies (state_after state turns) served.at told)
 
   -- A document's text is given behind what the block has, but for a last part.
   exported : {first now next : D} {state : State} {turns : List Turn} {store store' : Store} {name block left : List ℕ} {result : Result (Unit {0}) EngineError} → HasServed d state turns store block first now →
@@ -325,7 +407,7 @@ module _ {D : Type 0} {d : Ghosts D} where
 
   pub export_answers : {now next : D} {store store' : Store} {block left shown name : List ℕ} {u : Unit {0}} (command : Command) → command ≡ Export name → shown ≡ name →
       ((state : State) → IsAt d store now state → IsSome (d.contents next) → IsExported d (Ok u) state shown block left store' now next) → Answers d command store store' block left now next
-  export_answers {now = now} {next = next} {store' = store'} {block = block} command is same_name exports first state turns served told =
+  export_answers {now = now} {next = next} {store' = store'} {block = block} {shown = shown} {name = name} command is same_name exports first state turns served told =
       let done = exports (state_after state turns) served.at told in
       let (turn, of_it, there, same) = exported served done in
       let (at, but) = done.given in (
@@ -333,6 +415,7 @@ module _ {D : Type 0} {d : Ghosts D} where
         of_it ∙ ap (λ (n : List ℕ). Export n) same_name ∙ sym is,
         served_given but.done there (subst (λ (t : State). IsAt d store' next t) (sym same) at) but.parts but.gave
             (subst (λ (t : State). ShowsGiven d (block ++ reply_text done.reply) t now next) (sym same) done.time),
+        λ last. absurd (let none : Export name ≡ Checkpoint = sym is ∙ last in cc),
       )
 
   export_stops : {first now next : D} {store store' : Store} {state : State} {turns : List Turn} {name block left : List ℕ} (e : EngineError) → HasServed d state turns store block first now →
@@ -346,14 +429,15 @@ module _ {D : Type 0} {d : Ghosts D} where
   export_stops (engine.Damaged page) served done given = absurd given
   export_stops engine.Ended served done given = absurd given
 
-  pub export_begins : {now next : D} {store store' : Store} {block left shown name : List ℕ} (command : Command) (e : EngineError) → command ≡ Export name → shown ≡ name →
+  pub export_begins : {now next : D} {store store' : Store} {block left shown name : List ℕ} (command : Command) (e : EngineError) → HasClock d → command ≡ Export name → shown ≡ name →
       ((state : State) → IsAt d store now state → IsSome (d.contents next) → IsExported d (Err e) state shown block left store' now next) → Begins d command (status_of_engine e) store block now next
-  export_begins {now = now} {next = next} {block = block} command e is same_name exports first state turns served told =
+  export_begins {now = now} {next = next} {block = block} command e clock is same_name exports first state turns served told =
       let done = exports (state_after state turns) served.at told in
-      let (turn, of_it, there, same) = exported served done in (
+      let (turn, of_it, there, same) = exported served done in
+      let gives = subst (λ (t : State). ShowsGiven d (block ++ reply_text done.reply) t now next) (sym same) done.time in (
         export_stops e served done done.given,
-        subst (λ (c : Command). HasBegun d state (commands_of turns ++ c ∷ []) first next) (of_it ∙ ap (λ (n : List ℕ). Export n) same_name ∙ sym is)
-            (begun_one turns turn (run_given there (subst (λ (t : State). ShowsGiven d (block ++ reply_text done.reply) t now next) (sym same) done.time))),
+        subst (λ (c : Command). HasBegun d (status_of_engine e) state (commands_of turns ++ c ∷ []) first next) (of_it ∙ ap (λ (n : List ℕ). Export n) same_name ∙ sym is)
+            (begun_one turns turn (run_given there gives) (λ ends. between_given clock there gives)),
       )
 
   -- Whatever the store is at:

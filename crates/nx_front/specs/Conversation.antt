@@ -7,6 +7,7 @@ use Rattle.nx_host.specs.Host.{Takes, Appends}
 use Rattle.nx_host.specs.Input.{most_input}
 use Rattle.nx_host.specs.Time.{Stood, Elapses}
 use Rattle.nx_script.specs.declared.command.Command.{Command}
+use Rattle.nx_script.specs.declared.command.Command.TheVariants.{Checkpoint}
 use Rattle.nx_script.specs.declared.script.Script.{Script}
 use Rattle.nx_script.specs.Commands.{AreCommands, AreWhole}
 use Rattle.nx_script.specs.Reply.{reply_text}
@@ -19,7 +20,7 @@ use Rattle.nx_store.specs.Store.{IsAt, IsOf}
 use Rattle.nx_filters.specs.declared.status.Status.{Status}
 use Rattle.nx_filters.specs.declared.status.Status.TheVariants.{Done, Usage, Refused, DiskFault, ReadFault, WriteFault, NoMemory, NotAStore, Damaged, TooMuch}
 use Rattle.nx_filters.specs.Outcome.{TakesFew, CountsGrow, EndsWhole}
-use Rattle.nx_front.specs.Serving.{Turn, IsRun, state_after, commands_of, texts_of, ServesFrom}
+use Rattle.nx_front.specs.Serving.{Turn, IsRun, state_after, commands_of, texts_of, ShowsBetween, LeavesMoments, EndsBetween, EndsWithCheckpoint, HasEmptyLog, LeavesAll, TakesNoByte, ServesFrom}
 
 -- A moment of a run, turn by turn. Nothing of the first reply is out, and the image is of the state before it; or a part of it is, and the image is of the state
 -- after it; or it is out whole, and the moment is one of the turns behind.
@@ -30,7 +31,15 @@ IsReached state (turn ∷ turns) out image =
     ⊎ (((n : ℕ) × (out ≡ take n (reply_text turn.reply)) × IsOf turn.next image)
     ⊎ ((more : List ℕ) × (out ≡ reply_text turn.reply ++ more) × IsReached turn.next turns more image))
 
--- ... where the output has grown by them, as far as it is told
+-- A moment between two commands, turn by turn. At most a part of the first reply is out, and the image is of the state before it; or it is out whole, and the
+-- moment is one of the turns behind.
+abbrev pub IsReachedBetween : State → List Turn → List ℕ → Image → Type 0
+IsReachedBetween state [] out image = (out ≡ []) × IsOf state image
+IsReachedBetween state (turn ∷ turns) out image =
+    ((n : ℕ) × (n < length (reply_text turn.reply)) × (out ≡ take n (reply_text turn.reply)) × IsOf state image)
+    ⊎ ((more : List ℕ) × (out ≡ reply_text turn.reply ++ more) × IsReachedBetween turn.next turns more image)
+
+-- a moment of a run, where the output has grown by what is out, as far as it is told
 abbrev pub ShowsReached : Option (List ℕ) → State → List Turn → Stood → Type 0
 ShowsReached output state turns s = (out : List ℕ) × Appends out output s.output × IsReached state turns out s.image
 
@@ -47,6 +56,7 @@ pub record HasServed {D : Type 0} (d : Ghosts D) (state : State) (turns : List T
   pub parts : done ++ block ≡ texts_of turns
   pub gave : Appends done (d.beside first).output (d.beside now).output
   pub waits : (n : ℕ) (image : Image) → length done ≤ n → IsOf (state_after state turns) image → IsReached state turns (take n (texts_of turns)) image
+  pub none_begun : (n : ℕ) (image : Image) → length done ≤ n → IsOf (state_after state turns) image → IsReachedBetween state turns (take n (texts_of turns)) image
 
 -- No count fell, and what is told of the disk now was told before.
 pub record GoesOn {D : Type 0} (d : Ghosts D) (old new : D) : Type 0 where
@@ -54,11 +64,14 @@ pub record GoesOn {D : Type 0} (d : Ghosts D) (old new : D) : Type 0 where
   pub counts : CountsGrow (d.beside old) (d.beside new)
   pub faults_later : d.faults old ≤ d.faults new
 
--- The script gave these commands of the bytes that were taken, and from each state that the store was at each of them was answered.
+-- The script gave these commands of the bytes that were taken, and from each state that the store was at each of them was answered. Before the first of them the
+-- disk was left.
 pub record IsConversing {D : Type 0} (d : Ghosts D) (begun : Store) (taken : List ℕ) (commands : List Command) (script : Script) (store : Store) (block : List ℕ) (first now : D) : Type 0 where
   pub given : HasGivenIn script taken commands (d.beside first).input (d.beside now).input
   pub goes : GoesOn d first now
   pub served : (state : State) → IsAt d begun first state → IsSome (d.contents now) → (turns : List Turn) × (commands_of turns ≡ commands) × HasServed d state turns store block first now
+  pub emptied : (state : State) → IsAt d begun first state → IsSome (d.contents now) → EndsWithCheckpoint commands → HasEmptyLog d now
+  pub unbegun : commands ≡ [] → (block ≡ []) × LeavesAll d first now
 
 -- the status where the store stops a run
 abbrev pub status_of_engine : EngineError → Status
@@ -85,21 +98,25 @@ IsStopped d NoMemory old new = Unit {0}
 IsStopped d (Damaged page) old new = Unit {0}
 IsStopped d _ old new = ⊥
 
--- A run had turns of the first of these commands.
-abbrev pub HasBegun : {D : Type 0} → Ghosts D → State → List Command → D → D → Type 0
-HasBegun d state commands first now = (turns : List Turn) × (rest : List Command) × (commands_of turns ++ rest ≡ commands) × HasRun d state turns first now
+-- A run had turns of the first of these commands, and ended between two of them, but for a fault of the disk or of writing.
+pub record HasBegun {D : Type 0} (d : Ghosts D) (status : Status) (state : State) (commands : List Command) (first now : D) : Type 0 where
+  pub turns : List Turn
+  pub rest : List Command
+  pub parts : commands_of turns ++ rest ≡ commands
+  pub run : HasRun d state turns first now
+  pub between : EndsBetween status → LeavesMoments d now (ShowsBetween (d.beside first).output state turns)
 
 -- the next command is answered, whatever was answered before
 abbrev pub Answers : {D : Type 0} → Ghosts D → Command → Store → Store → List ℕ → List ℕ → D → D → Type 0
 Answers {D} d command store store' block block' now next =
     (first : D) (state : State) (turns : List Turn) → HasServed d state turns store block first now → IsSome (d.contents next) →
-    (turn : Turn) × (turn.command ≡ command) × HasServed d state (turns ++ turn ∷ []) store' block' first next
+    (turn : Turn) × (turn.command ≡ command) × HasServed d state (turns ++ turn ∷ []) store' block' first next × (command ≡ Checkpoint → HasEmptyLog d next)
 
 -- ... or it is begun at most
 abbrev pub Begins : {D : Type 0} → Ghosts D → Command → Status → Store → List ℕ → D → D → Type 0
 Begins {D} d command status store block now next =
     (first : D) (state : State) (turns : List Turn) → HasServed d state turns store block first now → IsSome (d.contents next) →
-    StopsShort status × HasBegun d state (commands_of turns ++ command ∷ []) first next
+    StopsShort status × HasBegun d status state (commands_of turns ++ command ∷ []) first next
 
 -- why a conversation ends so, whatever the store is at
 abbrev pub IsEnded : {D : Type 0} → Ghosts D → Status → D → D → Type 0
@@ -121,6 +138,7 @@ pub record Converses {D : Type 0} (d : Ghosts D) (begun : Store) (status : Statu
   pub cause : IsEnded d status first now
   pub bounded : TakesFew (d.beside first).input (d.beside now).input
   pub goes : GoesOn d first now
+  pub untaken : TakesNoByte (d.beside first) (d.beside now) → LeavesAll d first now
 
 -- commands more of a script are answered
 abbrev pub AnswersMore : {D : Type 0} → Ghosts D → Script → Script → Store → Store → List ℕ → List ℕ → D → D → Type 0

@@ -1,14 +1,15 @@
 -- A run of a script over a store: its commands are answered one after the other, from the state that the disk holds on.
-use Rattle.std.specs.Prelude.{◌≡◌, ◌⊎◌, ℕ, ◌+◌, ◌<◌, ◌≤◌, List, [], ◌∷◌, ◌++◌, length, take, map, Option, Some, IsSome}
+use Rattle.std.specs.Prelude.{◌≡◌, ◌⊎◌, ◌↔◌, ℕ, ◌+◌, ◌<◌, ◌≤◌, List, [], ◌∷◌, ◌++◌, length, take, map, Option, Some, IsSome}
 use Rattle.std.specs.List.{flat_map}
 use Rattle.nx_host.specs.declared.disk.Disk.{Ghosts}
-use Rattle.nx_host.specs.Disk.{Image, Beside, Rose}
+use Rattle.nx_host.specs.Disk.{Image, Beside, Keeps, Rose}
 use Rattle.nx_host.specs.Host.{Takes, Appends}
 use Rattle.nx_host.specs.Input.{most_input}
 use Rattle.nx_host.specs.Still.{IsSettled, IsStill}
 use Rattle.nx_host.specs.Time.{Stood, Elapses}
-use Rattle.nx_records.specs.Records.{HasHeader}
+use Rattle.nx_records.specs.Records.{HasHeader, group_count}
 use Rattle.nx_script.specs.declared.command.Command.{Command}
+use Rattle.nx_script.specs.declared.command.Command.TheVariants.{Checkpoint}
 use Rattle.nx_script.specs.declared.reply.Reply.{Reply}
 use Rattle.nx_script.specs.Commands.{AreCommands, AreWhole}
 use Rattle.nx_script.specs.Reply.{reply_text}
@@ -62,9 +63,33 @@ pub record IsMoment (state : State) (turns : List Turn) (out : List ℕ) (image 
   pub whole : AreWholeReplies turns out count
   pub stands : Recovers image (Some (state_after state (take count turns))) ⊎ Recovers image (Some (state_after state (take (count + 1) turns)))
 
--- ... where the output has grown by them, as far as it is told
+-- A moment between two commands: the image is that of the state after as many of them as replies are whole, so that none is half done.
+pub record IsBetween (state : State) (turns : List Turn) (out : List ℕ) (image : Image) : Type 0 where
+  pub moment : IsMoment state turns out image
+  pub stands : Recovers image (Some (state_after state (take moment.count turns)))
+
+-- a moment of a run, where the output has grown by what is out, as far as it is told
 abbrev pub ShowsMoment : Option (List ℕ) → State → List Turn → Stood → Type 0
 ShowsMoment output state turns s = (out : List ℕ) × Appends out output s.output × IsMoment state turns out s.image
+
+-- ... one between two commands
+abbrev pub ShowsBetween : Option (List ℕ) → State → List Turn → Stood → Type 0
+ShowsBetween output state turns s = (out : List ℕ) × Appends out output s.output × IsBetween state turns out s.image
+
+-- Each image that a crash may leave now, beside the output so far, is such a moment.
+abbrev pub LeavesMoments : {D : Type 0} → Ghosts D → D → (Stood → Type 0) → Type 0
+LeavesMoments d new Shown = (i : Image) → d.may_leave new i → Shown (record { output = (d.beside new).output; image = i })
+
+-- with one of these a run ends between two commands
+abbrev pub EndsBetween : Status → Type 0
+EndsBetween DiskFault = ⊥
+EndsBetween WriteFault = ⊥
+EndsBetween _ = Unit {0}
+
+-- The first of the commands that are whole in the bytes that were taken; or of all their commands, where they are the whole input.
+abbrev pub AreOfTaken : List ℕ → List Command → Option (List ℕ) → Option (List ℕ) → Type 0
+AreOfTaken taken commands old new =
+    (rest : List Command) × (AreWhole taken (commands ++ rest) ⊎ (EndsWhole taken old new × AreCommands taken (commands ++ rest)))
 
 -- how a run ends that had these turns and took these bytes: whether that is the whole input, which commands they are, and whether all replies are out
 abbrev pub EndsServing : List Turn → List ℕ → Status → Beside → Beside → Type 0
@@ -79,17 +104,30 @@ EndsServing turns taken (Damaged page) old new = ⊥
 EndsServing turns taken Usage old new = ⊥
 EndsServing turns taken Refused old new = ⊥
 
+-- the last of these commands is a `checkpoint`
+abbrev pub EndsWithCheckpoint : List Command → Type 0
+EndsWithCheckpoint commands = (before : List Command) × (commands ≡ before ++ Checkpoint ∷ [])
+
+-- Each image that a crash may leave has no group in its log.
+abbrev pub HasEmptyLog : {D : Type 0} → Ghosts D → D → Type 0
+HasEmptyLog d disk = (i : Image) → d.may_leave disk i → group_count i ≡ 0
+
 -- There is one run from this state on, over the first commands of the input, those that were answered and, where one was begun, that one. Each moment is one of
--- it. Where all went well, each image that a crash may leave is that of its last state.
+-- it, also the one at the end, which is between two commands, but for a fault of the disk or of writing. Where all went well, each image that a crash may leave is
+-- that of its last state.
 pub record ServesFrom {D : Type 0} (d : Ghosts D) (state : State) (status : Status) (old new : D) : Type 0 where
   pub turns : List Turn
   pub run : IsRun state turns
   pub taken : List ℕ
   pub takes : Takes taken (d.beside old).input (d.beside new).input
   pub first : AreFirst taken (commands_of turns) (d.beside new).input
+  pub whole : AreOfTaken taken (commands_of turns) (d.beside old).input (d.beside new).input
   pub time : Elapses d.moment d.stood_since old new (ShowsMoment (d.beside old).output state turns)
   pub ends : EndsServing turns taken status (d.beside old) (d.beside new)
+  pub left : LeavesMoments d new (ShowsMoment (d.beside old).output state turns)
+  pub between : EndsBetween status → LeavesMoments d new (ShowsBetween (d.beside old).output state turns)
   pub last : status ≡ Done → (i : Image) → d.may_leave new i → Recovers i (Some (state_after state turns))
+  pub emptied : status ≡ Done → EndsWithCheckpoint (commands_of turns) → HasEmptyLog d new
 
 -- why a run over a store ends so, whatever the disk holds
 abbrev pub IsCaused : {D : Type 0} → Ghosts D → Status → D → D → Type 0
@@ -112,11 +150,24 @@ EndsWithoutHeader DiskFault = Unit {0}
 EndsWithoutHeader NoMemory = Unit {0}
 EndsWithoutHeader _ = ⊥
 
--- How a script is carried out over a store: from each state that the disk may hold, while its bytes are told; and why it ends so in any case.
+-- Both areas and the output are as they were, and were so at every moment.
+pub record LeavesAll {D : Type 0} (d : Ghosts D) (old new : D) : Type 0 where
+  pub contents_stay : Keeps (d.contents old) (d.contents new)
+  pub images_stay : (i : Image) → d.may_leave new i ↔ d.may_leave old i
+  pub output_stays : Keeps (d.beside old).output (d.beside new).output
+  pub time : Elapses d.moment d.stood_since old new (λ s. Keeps (d.beside old).output s.output × d.may_leave old s.image)
+
+-- the input is told, and no byte of it was taken
+abbrev pub TakesNoByte : Beside → Beside → Type 0
+TakesNoByte old new = IsSome new.input × (new.input ≡ old.input)
+
+-- How a script is carried out over a store: from each state that the disk may hold, while its bytes are told; and why it ends so in any case. Whatever the disk
+-- holds, it is left as it was where no byte of the input was taken, so also where the store couldn't be opened.
 pub record Serves {D : Type 0} (d : Ghosts D) (status : Status) (old new : D) : Type 0 where
   pub from : (was : Image) (state : State) → IsSettled d old was → IsSome (d.contents new) → Recovers was (Some state) → ServesFrom d state status old new
   pub cause : IsCaused d status old new
   pub no_header : (was : Image) → IsSettled d old was → (HasHeader was → ⊥) → EndsWithoutHeader status × IsStill d old new
+  pub untaken : TakesNoByte (d.beside old) (d.beside new) → LeavesAll d old new
   pub bounded : TakesFew (d.beside old).input (d.beside new).input
   pub counts : CountsGrow (d.beside old) (d.beside new)
   pub faults_later : d.faults old ≤ d.faults new

@@ -1,16 +1,21 @@
 use Rattle.std.proofs.lemmas.Result.{err_from_is_err_and}
+use Rattle.nx_front.proofs.ClockLemmas.{HasClock}
 use Rattle.nx_front.proofs.ServeLemmas.{block_begins, loud_answers, loud_begins}
+use Rattle.nx_front.proofs.serve.answer_alone.Given.{Over}
 use Rattle.nx_front.proofs.serve.answer_alone.Goals as goal
+
+clock : (g : Over) → HasClock g.H.Disk
+clock g = record { stands_now = g.met.H.Disk.stands_now; only_now = g.met.H.Disk.only_now }
 
 pub returns-in_err-give_block-clause-err : goal.returns-in_err-give_block-clause-err
 returns-in_err-give_block-clause-err g c =
     let p = err_from_is_err_and c.from_residual.result c.from_residual.ensures.1 in
-    rw (p.1, p.2) (block_begins c.args.command c.in_err-give_block.field-0.0 c.give_block.ensures.alone)
+    rw (p.1, p.2) (block_begins c.args.command c.in_err-give_block.field-0.0 (clock g) c.give_block.ensures.alone)
 
 pub returns-in-Err-clause-err : goal.returns-in-Err-clause-err
 returns-in-Err-clause-err g c =
     rw c.status_of.ensures
-    (loud_begins c.answer.new.self c.args.command c.in-Err.error c.in_ok-give_block.ensures.empty c.in_ok-give_block.ensures.given c.give_block.ensures.alone c.answer.ensures.beside c.in-Err.ensures.answers)
+    (loud_begins c.answer.new.self c.args.command c.in-Err.error (clock g) c.in_ok-give_block.ensures.empty c.in_ok-give_block.ensures.given c.give_block.ensures.alone c.answer.ensures.beside c.in-Err.ensures.answers)
 
 pub returns-clause-ok : goal.returns-clause-ok
 returns-clause-ok g c =

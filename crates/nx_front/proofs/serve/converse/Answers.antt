@@ -8,14 +8,19 @@ use Rattle.nx_filters.specs.declared.status.Status.TheVariants.{NoMemory}
 use Rattle.nx_filters.specs.TakeError.{status_of_script, status_of_give_error}
 use Rattle.nx_filters.specs.Session.{session_status}
 use Rattle.nx_front.specs.Conversation.{Converses}
+use Rattle.nx_front.proofs.ClockLemmas.{HasClock}
 use Rattle.nx_front.proofs.ConversationLemmas.{conversing_none, conversing_given, conversing_filled, converses_blocked, converses_done, converses_unfilled, converses_unbegun}
+use Rattle.nx_front.proofs.serve.converse.Given.{Over}
 use Rattle.nx_front.proofs.serve.converse.Goals as goal
+
+clock : (g : Over) → HasClock g.H.Disk
+clock g = record { stands_now = g.met.H.Disk.stands_now; only_now = g.met.H.Disk.only_now }
 
 pub returns-in_err-script : goal.returns-in_err-script
 returns-in_err-script g c =
     let p = err_from_is_err_and c.from_residual.result c.from_residual.ensures.1 in
     let is : session_status c.from_residual.result ≡ NoMemory = ap session_status p.1 ∙ p.2 ∙ ap status_of_script c.in_err-script.ensures.err in
-    subst (λ (s : Status). Converses g.H.Disk c.args.store.now s c.args.host.now c.args.host.now) (sym is) converses_unbegun
+    subst (λ (s : Status). Converses g.H.Disk c.args.store.now s c.args.host.now c.args.host.now) (sym is) (converses_unbegun (clock g))
 
 pub loop-block-init : goal.loop-block-init
 loop-block-init g c = ([], [], conversing_none c.new-block.ensures (c.in_ok-script.ensures.ok (g.H.Disk.beside c.args.host.now).input))
@@ -36,7 +41,7 @@ returns-in_err-give_block g c =
     let (taken, commands, talk) = c.loop-block.invariant in
     let (more, whole, did) = c.in_ok-answer_ready.ensures.ok c.args.host.now c.args.store.now taken commands talk in
     subst (λ (s : Status). Converses g.H.Disk c.args.store.now s c.args.host.now c.give_block.new.host) (sym is)
-    (converses_blocked error did c.in_err-give_block.ensures.given c.give_block.ensures.alone)
+    (converses_blocked error (clock g) did c.in_err-give_block.ensures.given c.give_block.ensures.alone)
 
 pub returns-then-is_ended : goal.returns-then-is_ended
 returns-then-is_ended g c =
@@ -44,7 +49,7 @@ returns-then-is_ended g c =
     let (more, whole, did) = c.in_ok-answer_ready.ensures.ok c.args.host.now c.args.store.now taken commands talk in
     let empty = c.in_ok-give_block.ensures.empty in
     let ended : c.answer_ready.new.script.ended ≡ true = sym c.is_ended.ensures ∙ c.if-is_ended.true in
-    converses_done (conversing_given did empty c.in_ok-give_block.ensures.given c.give_block.ensures.alone) empty ended
+    converses_done (clock g) (conversing_given did empty c.in_ok-give_block.ensures.given c.give_block.ensures.alone) empty ended
     (MatchBool-at_true (AreCommands taken (commands ++ more)) (AreWhole taken (commands ++ more)) ended whole)
 
 pub loop-block-preserved : goal.loop-block-preserved
@@ -69,4 +74,4 @@ returns-in_err-fill g c =
     let last = conversing_filled after given c.fill.ensures.alone in
     let stopped = stops {new = c.fill.new.self} {error = error} [] taken c.in_err-fill.ensures.errors c.in_err-fill.ensures.too_much unended after.given (after.given.given, whole) given in
     subst (λ (s : Status). Converses g.H.Disk c.args.store.now s c.args.host.now c.fill.new.host) (sym is)
-    (converses_unfilled error last empty after.goes.counts.read (λ e. c.in_err-fill.ensures.cause (ap (λ v. Err v) e)) stopped)
+    (converses_unfilled error (clock g) last empty after.goes.counts.read (λ e. c.in_err-fill.ensures.cause (ap (λ v. Err v) e)) stopped)
