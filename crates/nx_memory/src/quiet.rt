@@ -58,6 +58,13 @@ impl QuietHost {
         &self.memory.output.bytes
     }
 
+    /// Whether a call came for which there was no room.
+    pub fn is_full(&self) -> bool
+        ensures { result ≡ self.now.full }
+    {
+        self.full
+    }
+
     /// What a crash may leave now, by this choice.
     ///
     /// Errors: `NoMemory`.
