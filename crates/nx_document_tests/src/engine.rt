@@ -6,7 +6,7 @@ use crate::fixtures::{node, read};
 use nx_engine::Plain;
 use nx_matrix::{Entry, Rule};
 use nx_pyx::{PyxError, PyxFault, ReadError};
-use nx_script::{Command, LineBody, LoadBody, TextBody, is_document_name, write_reply};
+use nx_script::{Command, LineBody, LoadBody, Reply, TextBody, is_document_name, write_reply};
 use nx_tree::{Bytes, NoMemory, Path, count};
 use std::alloc::Global;
 use std::process::Abort;
@@ -185,18 +185,52 @@ fn command(alloc: Global, step: Step) -> Result<Command, ReadError>
 {
     match step.0 {
         "load" => load(alloc, step.1, step.3),
-        "insert" | "retext" | "delete" | "get" => {
-            let name = Bytes::from_slice(alloc, step.1)?;
-            let path = Path::from_slice(alloc, step.2)?;
-            edit(alloc, step.0, name, path, step.3)
-        }
-        "drop" | "export" | "layout" => Ok(look(step.0, Bytes::from_slice(alloc, step.1)?)),
-        "names" => Ok(Command::Names),
-        "rule" => Ok(Command::SetRule { rule: rule(alloc)? }),
-        "rules" => Ok(Command::Rules),
-        "checkpoint" => Ok(Command::Checkpoint),
-        _ => Ok(Command::Bad),
+        "insert" | "retext" | "delete" | "get" => edit_of(alloc, step),
+        "drop" | "export" | "layout" => look_of(alloc, step),
+        "rule" => set_rule(alloc),
+        word => Ok(bare(word)),
     }
+}
+
+fn edit_of(alloc: Global, step: Step) -> Result<Command, ReadError>
+    ensures { IfOk result (λ command. CanCome command) }
+{
+    let name = Bytes::from_slice(alloc, step.1)?;
+    let path = Path::from_slice(alloc, step.2)?;
+    edit(alloc, step.0, name, path, step.3)
+}
+
+fn look_of(alloc: Global, step: Step) -> Result<Command, ReadError>
+    ensures { IfOk result (λ command. CanCome command) }
+{
+    Ok(look(step.0, Bytes::from_slice(alloc, step.1)?))
+}
+
+fn set_rule(alloc: Global) -> Result<Command, ReadError>
+    ensures { IfOk result (λ command. CanCome command) }
+{
+    Ok(Command::SetRule { rule: rule(alloc)? })
+}
+
+// A command of one word.
+fn bare(word: &str) -> Command
+    ensures { CanCome result }
+{
+    match word {
+        "names" => Command::Names,
+        "rules" => Command::Rules,
+        "checkpoint" => Command::Checkpoint,
+        _ => Command::Bad,
+    }
+}
+
+// The text of the reply to this command.
+fn replied(alloc: Global, plain: &mut Plain, step: Step) -> Result<Bytes, ReadError> {
+    reply_text(alloc, &plain.apply(command(alloc, step)?)?)
+}
+
+fn reply_text(alloc: Global, reply: &Reply) -> Result<Bytes, ReadError> {
+    Ok(write_reply(alloc, reply)?)
 }
 
 fn check(
@@ -206,42 +240,61 @@ fn check(
     steps: &[Step],
 ) -> Result<(), ReadError> {
     for step in steps {
-        let reply = plain.apply(command(alloc, *step)?)?;
-        assert_eq!(rt; write_reply(alloc, &reply)?.as_slice(), step.4);
+        check_step(rt, alloc, plain, *step)?;
     }
     Ok(())
 }
 
-#[test]
-fn refused(rt: HostRuntime) -> Result<(), Fail> {
-    let alloc = rt.alloc();
-    let mut plain = Plain::new(alloc);
-    check(&rt, alloc, &mut plain, &REFUSED)?;
-    let nodes = match plain.document(b"d") {
+fn check_step(
+    rt: &impl Abort,
+    alloc: Global,
+    plain: &mut Plain,
+    step: Step,
+) -> Result<(), ReadError> {
+    let text = replied(alloc, plain, step)?;
+    assert_eq!(rt; text.as_slice(), step.4);
+    Ok(())
+}
+
+// The number of nodes of the document under that name, and 0 where there is none.
+fn count_in(plain: &Plain, name: &[u8]) -> u32 {
+    match plain.document(name) {
         Some(tree) => count(tree),
         None => 0,
-    };
-    assert_eq!(rt; nodes, 2);
-    assert!(rt; plain.document(b"e").is_none());
+    }
+}
+
+#[test]
+fn refused(rt: HostRuntime) -> Result<(), Fail> {
+    let mut plain = Plain::new(rt.alloc());
+    check(&rt, rt.alloc(), &mut plain, &REFUSED)?;
+    assert_eq!(rt; count_in(&plain, b"d"), 2);
+    assert_eq!(rt; count_in(&plain, b"e"), 0);
     Ok(())
+}
+
+// The text of the reply to a content that a node may have, and that is too long beside a name.
+fn retexted(alloc: Global, plain: &mut Plain, position: u32) -> Result<Bytes, ReadError> {
+    let name = Bytes::from_slice(alloc, b"d")?;
+    let path = Path::from_slice(alloc, &[position])?;
+    reply_text(alloc, &plain.apply(long_retext(alloc, name, path)?)?)
+}
+
+fn long_retext(alloc: Global, name: Bytes, path: Path) -> Result<Command, NoMemory>
+    ensures { IfOk result (λ command. CanCome command) }
+{
+    let text = TextBody::Read(Bytes::from_vec(Vec::from_elem(alloc, b'x', 1_048_576)?));
+    Ok(Command::Retext { name, path, text })
 }
 
 // At the end a content that a node may have, and that is too long beside a name.
 #[test]
 fn edited(rt: HostRuntime) -> Result<(), Fail> {
-    let alloc = rt.alloc();
-    let mut plain = Plain::new(alloc);
-    check(&rt, alloc, &mut plain, &EDITED)?;
-    for (position, want) in [
-        (0, b"error pyx 1 long-line\n".as_slice()),
-        (1, b"error no-node\n"),
-    ] {
-        let reply = plain.apply(Command::Retext {
-            name: Bytes::from_slice(alloc, b"d")?,
-            path: Path::from_vec(Vec::from_slice(alloc, &[position])?),
-            text: TextBody::Read(Bytes::from_vec(Vec::from_elem(alloc, b'x', 1_048_576)?)),
-        })?;
-        assert_eq!(rt; write_reply(alloc, &reply)?.as_slice(), want);
-    }
+    let mut plain = Plain::new(rt.alloc());
+    check(&rt, rt.alloc(), &mut plain, &EDITED)?;
+    let long = retexted(rt.alloc(), &mut plain, 0)?;
+    assert_eq!(rt; long.as_slice(), b"error pyx 1 long-line\n".as_slice());
+    let nowhere = retexted(rt.alloc(), &mut plain, 1)?;
+    assert_eq!(rt; nowhere.as_slice(), b"error no-node\n".as_slice());
     Ok(())
 }

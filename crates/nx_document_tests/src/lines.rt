@@ -43,24 +43,25 @@ const LINES: [(&[u8], Result<(Kind, &[u8], &[u8]), PyxFault>); 25] = [
     ),
 ];
 
-#[test]
-fn line_nodes(rt: HostRuntime) -> Result<(), Fail> {
-    let alloc = rt.alloc();
-    for (line, expected) in LINES {
-        match (line_node(alloc, line), expected) {
-            (Ok(node), Ok((kind, name, content))) => {
-                assert_eq!(rt; node.kind, kind);
-                assert_eq!(rt; node.name.as_slice(), name);
-                assert_eq!(rt; node.content.as_slice(), content);
-            }
-            (Err(found), Err(fault)) => {
-                let error = PyxError { line: 1, fault };
-                assert_eq!(rt; found, ReadError::Pyx(error));
-            },
-            _ => panic!(rt),
-        }
+// Whether the node is the one that was said.
+fn is_node(node: &Node, said: (Kind, &[u8], &[u8])) -> bool {
+    node.kind == said.0 && node.name.as_slice() == said.1 && node.content.as_slice() == said.2
+}
+
+// Whether the line says what is expected of it.
+fn says(alloc: Global, line: &[u8], expected: Result<(Kind, &[u8], &[u8]), PyxFault>) -> bool {
+    match (line_node(alloc, line), expected) {
+        (Ok(node), Ok(said)) => is_node(&node, said),
+        (Err(found), Err(fault)) => found == ReadError::Pyx(PyxError { line: 1, fault }),
+        _ => false,
     }
-    Ok(())
+}
+
+#[test]
+fn line_nodes(rt: HostRuntime) {
+    for (line, expected) in LINES {
+        assert!(rt; says(rt.alloc(), line, expected), "{line:?}");
+    }
 }
 
 // What is in front of so many bytes, and whether they are too long.
@@ -74,16 +75,19 @@ const LENGTHS: [(&[u8], usize, bool); 7] = [
     (b"(", 1_048_577, true),
 ];
 
+// Whether a line is refused that has so many bytes behind that prefix.
+fn is_refused(alloc: Global, prefix: &[u8], count: usize) -> Result<bool, NoMemory> {
+    let mut line = Bytes::from_slice(alloc, prefix)?;
+    for _ in 0..count {
+        line.push(b'x')?;
+    }
+    Ok(line_node(alloc, line.as_slice()).is_err())
+}
+
 #[test]
 fn lengths(rt: HostRuntime) -> Result<(), Fail> {
-    let alloc = rt.alloc();
     for (prefix, count, is_long) in LENGTHS {
-        let mut line = Bytes::from_slice(alloc, prefix)?;
-        for _ in 0..count {
-            line.push(b'x')?;
-        }
-        let found = line_node(alloc, line.as_slice());
-        assert_eq!(rt; found.is_err(), is_long);
+        assert_eq!(rt; is_refused(rt.alloc(), prefix, count)?, is_long);
     }
     Ok(())
 }
@@ -223,11 +227,14 @@ fn over(alloc: Global, children: Trees) -> Result<Tree, NoMemory> {
     })
 }
 
+fn line_of(alloc: Global, kind: Kind, name: &[u8], content: &[u8]) -> Result<Bytes, NoMemory> {
+    node_line(alloc, &node(alloc, kind, name, content)?)
+}
+
 #[test]
 fn node_lines(rt: HostRuntime) -> Result<(), Fail> {
-    let alloc = rt.alloc();
     for (kind, name, content, expected) in NODES {
-        let line = node_line(alloc, &node(alloc, kind, name, content)?)?;
+        let line = line_of(rt.alloc(), kind, name, content)?;
         assert_eq!(rt; line.as_slice(), expected);
     }
     Ok(())
@@ -242,66 +249,96 @@ fn element_over(alloc: Global, kind: Kind, content: &[u8]) -> Result<Tree, NoMem
     over(alloc, children)
 }
 
+fn element_text(alloc: Global, kind: Kind, content: &[u8]) -> Result<Bytes, NoMemory> {
+    write(alloc, &element_over(alloc, kind, content)?)
+}
+
 #[test]
 fn written(rt: HostRuntime) -> Result<(), Fail> {
-    let alloc = rt.alloc();
     for (kind, content, line) in WRITTEN {
-        let text = write(alloc, &element_over(alloc, kind, content)?)?;
-        let expected: [&[u8]; 3] = [b"(a\n", line, b"\n)a\n"];
-        assert_eq!(rt; text.as_slice(), expected.concat(alloc)?.as_slice());
+        let text = element_text(rt.alloc(), kind, content)?;
+        let below = text.as_slice().strip_prefix(b"(a\n");
+        let found = below.and_then(|lines| lines.strip_suffix(b"\n)a\n"));
+        assert_eq!(rt; found, Some(line));
     }
     Ok(())
 }
 
+// Adds the next block, and says whether there is more.
+fn push_block(
+    writer: &mut Writer<'_>,
+    whole: &mut Bytes,
+    block: &mut Bytes,
+    enough: usize,
+) -> Result<bool, NoMemory> {
+    block.clear();
+    let more = writer.fill(block, enough)?;
+    whole.extend_from_slice(block.as_slice())?;
+    Ok(more)
+}
+
+// The text of the document, in blocks that have enough with so many bytes.
+fn in_blocks(alloc: Global, tree: &Tree, enough: usize) -> Result<Bytes, NoMemory> {
+    let mut writer = Writer::new(alloc, tree)?;
+    let mut block = Bytes::new(alloc);
+    let mut whole = Bytes::new(alloc);
+    for _ in 0..TEXT.len() {
+        if !push_block(&mut writer, &mut whole, &mut block, enough)? {
+            break;
+        }
+    }
+    Ok(whole)
+}
+
+fn at_once(alloc: Global, tree: &Tree) -> Result<Bytes, NoMemory> {
+    write(alloc, tree)
+}
+
 #[test]
 fn blocks(rt: HostRuntime) -> Result<(), Fail> {
-    let alloc = rt.alloc();
-    let tree = document(alloc)?;
-    assert_eq!(rt; write(alloc, &tree)?.as_slice(), TEXT);
+    let tree = document(rt.alloc())?;
+    assert_eq!(rt; at_once(rt.alloc(), &tree)?.as_slice(), TEXT);
     for enough in [1usize, 2, 3, 10, 20, 50, 1000] {
-        let mut writer = Writer::new(alloc, &tree)?;
-        let mut block = Bytes::new(alloc);
-        let mut whole = Bytes::new(alloc);
-        for _ in 0..TEXT.len() {
-            block.clear();
-            let more = writer.fill(&mut block, enough)?;
-            whole.extend_from_slice(block.as_slice())?;
-            if !more {
-                break;
-            }
-        }
+        let whole = in_blocks(rt.alloc(), &tree, enough)?;
         assert_eq!(rt; whole.as_slice(), TEXT, "{enough}");
     }
     Ok(())
 }
 
+// A line, its fault, and the text of both.
+const PRINTED: [(u64, PyxFault, &str); 10] = [
+    (2, PyxFault::BadCode, "2 bad-code"),
+    (3, PyxFault::BadName, "3 bad-name"),
+    (1, PyxFault::BadNesting, "1 bad-nesting"),
+    (4, PyxFault::BadAttribute, "4 bad-attribute"),
+    (5, PyxFault::Twice, "5 twice"),
+    (6, PyxFault::LongLine, "6 long-line"),
+    (7, PyxFault::TooDeep, "7 too-deep"),
+    (8, PyxFault::TooMany, "8 too-many"),
+    (
+        u64::MAX,
+        PyxFault::Unclosed,
+        "18446744073709551615 unclosed",
+    ),
+    (0, PyxFault::Empty, "0 empty"),
+];
+
+fn error_text(alloc: Global, error: ReadError) -> Result<String, NoMemory> {
+    Ok(format!(in alloc; "{error}")?)
+}
+
+fn word_text(alloc: Global, line: u64, fault: PyxFault) -> Result<String, NoMemory> {
+    Ok(format!(in alloc; "{line} {}", fault.word())?)
+}
+
 #[test]
 fn printed(rt: HostRuntime) -> Result<(), Fail> {
-    let alloc = rt.alloc();
-    for (line, fault, want) in [
-        (2, PyxFault::BadCode, "2 bad-code"),
-        (3, PyxFault::BadName, "3 bad-name"),
-        (1, PyxFault::BadNesting, "1 bad-nesting"),
-        (4, PyxFault::BadAttribute, "4 bad-attribute"),
-        (5, PyxFault::Twice, "5 twice"),
-        (6, PyxFault::LongLine, "6 long-line"),
-        (7, PyxFault::TooDeep, "7 too-deep"),
-        (8, PyxFault::TooMany, "8 too-many"),
-        (
-            u64::MAX,
-            PyxFault::Unclosed,
-            "18446744073709551615 unclosed",
-        ),
-        (0, PyxFault::Empty, "0 empty"),
-    ] {
+    for (line, fault, want) in PRINTED {
         let error = ReadError::Pyx(PyxError { line, fault });
-        assert_eq!(rt; format!(in alloc; "{error}")?.as_str(), want);
-        assert_eq!(rt;
-            format!(in alloc; "{line} {}", fault.word())?.as_str(),
-            want
-        );
+        assert_eq!(rt; error_text(rt.alloc(), error)?.as_str(), want);
+        assert_eq!(rt; word_text(rt.alloc(), line, fault)?.as_str(), want);
     }
-    let error = ReadError::Memory;
-    assert_eq!(rt; format!(in alloc; "{error}")?.as_str(), "out of memory");
+    let memory = error_text(rt.alloc(), ReadError::Memory)?;
+    assert_eq!(rt; memory.as_str(), "out of memory");
     Ok(())
 }

@@ -101,38 +101,47 @@ const RULES: [(&[u8], &[u8], Entry, &[u8]); 4] = [
 
 // The command of a line.
 fn command(alloc: Global, line: &[u8]) -> Result<Command, NoMemory> {
-    let mut bytes = Bytes::from_slice(alloc, line)?;
-    bytes.push(b'\n')?;
-    let (_, command) = Parser::new(alloc).take(bytes.as_slice())?;
-    Ok(command.unwrap_or(Command::Names))
+    let bytes = joined(alloc, &[line, b"\n"])?;
+    match first_command(alloc, bytes.as_slice())? {
+        Some(command) => Ok(command),
+        None => Ok(Command::Names),
+    }
+}
+
+// The command that these bytes begin with.
+fn first_command(alloc: Global, bytes: &[u8]) -> Result<Option<Command>, NoMemory> {
+    let (_, command) = Parser::new(alloc).take(bytes)?;
+    Ok(command)
+}
+
+fn entry_word(entry: Entry) -> &'static [u8] {
+    match entry {
+        Entry::Standalone => b"Standalone",
+        Entry::Cluster => b"Cluster",
+        Entry::Free => b"Free",
+    }
+}
+
+// A rule in words.
+fn rule_text(alloc: Global, rule: &Rule) -> Result<Bytes, NoMemory> {
+    let mut text = joined(alloc, &[b"set ", rule.parent.as_slice()])?;
+    text.extend_from_slice(b", ")?;
+    text.extend_from_slice(rule.child.as_slice())?;
+    text.extend_from_slice(b": ")?;
+    text.extend_from_slice(entry_word(rule.entry))?;
+    Ok(text)
 }
 
 // The command in words.
 fn said(alloc: Global, command: &Command) -> Result<Bytes, NoMemory> {
-    let parts: [&[u8]; 6] = match command {
-        Command::Layout { name } => [b"layout ", name.as_slice(), b"", b"", b"", b""],
-        Command::Rules => [b"rules", b"", b"", b"", b"", b""],
-        Command::Checkpoint => [b"checkpoint", b"", b"", b"", b"", b""],
-        Command::SetRule { rule } => [
-            b"set ",
-            rule.parent.as_slice(),
-            b", ",
-            rule.child.as_slice(),
-            b": ",
-            match rule.entry {
-                Entry::Standalone => b"Standalone",
-                Entry::Cluster => b"Cluster",
-                Entry::Free => b"Free",
-            },
-        ],
-        Command::Bad => [b"bad", b"", b"", b"", b"", b""],
-        _ => [b"another", b"", b"", b"", b"", b""],
-    };
-    let mut text = Bytes::new(alloc);
-    for part in parts {
-        text.extend_from_slice(part)?;
+    match command {
+        Command::Layout { name } => joined(alloc, &[b"layout ", name.as_slice()]),
+        Command::Rules => joined(alloc, &[b"rules"]),
+        Command::Checkpoint => joined(alloc, &[b"checkpoint"]),
+        Command::SetRule { rule } => rule_text(alloc, rule),
+        Command::Bad => joined(alloc, &[b"bad"]),
+        _ => joined(alloc, &[b"another"]),
     }
-    Ok(text)
 }
 
 fn check_line(
@@ -141,85 +150,140 @@ fn check_line(
     parts: &[&[u8]],
     expected: &[u8],
 ) -> Result<(), NoMemory> {
-    let mut line = Bytes::new(alloc);
-    for part in parts {
-        line.extend_from_slice(part)?;
-    }
-    let command = command(alloc, line.as_slice())?;
-    assert_eq!(rt; said(alloc, &command)?.as_slice(), expected, "{parts:?}");
+    let line = joined(alloc, parts)?;
+    let words = said_by(alloc, line.as_slice())?;
+    assert_eq!(rt; words.as_slice(), expected, "{parts:?}");
     Ok(())
 }
 
+// The command of a line, in words.
+fn said_by(alloc: Global, line: &[u8]) -> Result<Bytes, NoMemory> {
+    said(alloc, &command(alloc, line)?)
+}
+
+fn joined(alloc: Global, parts: &[&[u8]]) -> Result<Bytes, NoMemory> {
+    let mut text = Bytes::new(alloc);
+    for part in parts {
+        text.extend_from_slice(part)?;
+    }
+    Ok(text)
+}
+
+// The reply is written so, and added so to what a block has.
 fn check_text(
     rt: &impl Abort,
     alloc: Global,
     reply: &Reply,
     expected: &[u8],
 ) -> Result<(), NoMemory> {
-    assert_eq!(rt; write_reply(alloc, reply)?.as_slice(), expected);
-    let mut block = Bytes::from_slice(alloc, b"before")?;
-    push_reply(&mut block, reply)?;
+    assert_eq!(rt; written(alloc, reply)?.as_slice(), expected);
+    let block = pushed(alloc, reply)?;
     assert!(rt; block.as_slice().strip_prefix(b"before") == Some(expected));
     Ok(())
 }
 
+fn written(alloc: Global, reply: &Reply) -> Result<Bytes, NoMemory> {
+    write_reply(alloc, reply)
+}
+
+fn pushed(alloc: Global, reply: &Reply) -> Result<Bytes, NoMemory> {
+    let mut block = Bytes::from_slice(alloc, b"before")?;
+    push_reply(&mut block, reply)?;
+    Ok(block)
+}
+
 #[test]
 fn lines(rt: HostRuntime) -> Result<(), Fail> {
-    let alloc = rt.alloc();
     for (line, expected) in LINES {
-        check_line(&rt, alloc, &[line], expected)?;
+        check_line(&rt, rt.alloc(), &[line], expected)?;
     }
     for line in WRONG_FIELDS {
-        check_line(&rt, alloc, &[line], b"bad")?;
-    }
-    for parent in WRONG_PARENTS {
-        check_line(&rt, alloc, &[b"rule ", parent, b" b free"], b"bad")?;
-    }
-    for child in WRONG_CHILDREN {
-        check_line(&rt, alloc, &[b"rule a ", child, b" free"], b"bad")?;
+        check_line(&rt, rt.alloc(), &[line], b"bad")?;
     }
     Ok(())
 }
 
 #[test]
-fn lengths(rt: HostRuntime) -> Result<(), Fail> {
-    let alloc = rt.alloc();
-    for (prefix, count, back, is_long) in LENGTHS {
-        let label = Vec::from_elem(alloc, b'x', count)?;
-        let mut line = Bytes::from_slice(alloc, prefix)?;
-        line.extend_from_slice(label.as_slice())?;
-        line.extend_from_slice(back)?;
-        let is_bad = matches!(command(alloc, line.as_slice())?, Command::Bad);
-        assert_eq!(rt; is_bad, is_long, "{prefix:?}");
+fn labels(rt: HostRuntime) -> Result<(), Fail> {
+    for parent in WRONG_PARENTS {
+        check_line(&rt, rt.alloc(), &[b"rule ", parent, b" b free"], b"bad")?;
+    }
+    for child in WRONG_CHILDREN {
+        check_line(&rt, rt.alloc(), &[b"rule a ", child, b" free"], b"bad")?;
     }
     Ok(())
+}
+
+// Whether a line is no command that has so many bytes between these.
+fn is_bad(alloc: Global, prefix: &[u8], count: usize, back: &[u8]) -> Result<bool, NoMemory> {
+    let label = Bytes::from_vec(Vec::from_elem(alloc, b'x', count)?);
+    let line = joined(alloc, &[prefix, label.as_slice(), back])?;
+    Ok(matches!(command(alloc, line.as_slice())?, Command::Bad))
+}
+
+#[test]
+fn lengths(rt: HostRuntime) -> Result<(), Fail> {
+    for (prefix, count, back, is_long) in LENGTHS {
+        assert_eq!(rt;
+            is_bad(rt.alloc(), prefix, count, back)?,
+            is_long,
+            "{prefix:?}"
+        );
+    }
+    Ok(())
+}
+
+fn rule(alloc: Global, parent: &[u8], child: &[u8], entry: Entry) -> Result<Rule, NoMemory> {
+    Ok(Rule {
+        parent: Bytes::from_slice(alloc, parent)?,
+        child: Bytes::from_slice(alloc, child)?,
+        entry,
+    })
+}
+
+// The rules of the table.
+fn all_rules(alloc: Global) -> Result<Rules, NoMemory> {
+    let mut rules = Rules::new(alloc);
+    for (parent, child, entry, _) in RULES {
+        rules.push(rule(alloc, parent, child, entry)?)?;
+    }
+    Ok(rules)
+}
+
+fn is_rule(rule: &Rule, parent: &[u8], child: &[u8], entry: Entry) -> bool {
+    rule.parent.as_slice() == parent && rule.child.as_slice() == child && rule.entry == entry
+}
+
+// Whether the line sets that rule.
+fn sets(
+    alloc: Global,
+    line: &[u8],
+    parent: &[u8],
+    child: &[u8],
+    entry: Entry,
+) -> Result<bool, NoMemory> {
+    Ok(match command(alloc, line)? {
+        Command::SetRule { rule } => is_rule(&rule, parent, child, entry),
+        _ => false,
+    })
 }
 
 // The line of a rule in a reply is the line that sets it.
 #[test]
 fn rules(rt: HostRuntime) -> Result<(), Fail> {
-    let alloc = rt.alloc();
-    check_text(&rt, alloc, &Reply::Rules(Rules::new(alloc)), b".\n")?;
-    let mut rules = Rules::new(alloc);
-    let mut text = Bytes::new(alloc);
+    check_text(
+        &rt,
+        rt.alloc(),
+        &Reply::Rules(Rules::new(rt.alloc())),
+        b".\n",
+    )?;
     for (parent, child, entry, line) in RULES {
-        text.extend_from_slice(line)?;
-        rules.push(Rule {
-            parent: Bytes::from_slice(alloc, parent)?,
-            child: Bytes::from_slice(alloc, child)?,
-            entry,
-        })?;
-        match command(alloc, line)? {
-            Command::SetRule { rule } => {
-                assert_eq!(rt; rule.parent.as_slice(), parent);
-                assert_eq!(rt; rule.child.as_slice(), child);
-                assert_eq!(rt; rule.entry, entry);
-            }
-            _ => panic!(rt),
-        }
+        assert!(rt; sets(rt.alloc(), line, parent, child, entry)?, "{line:?}");
     }
-    text.extend_from_slice(b".\n")?;
-    check_text(&rt, alloc, &Reply::Rules(rules), text.as_slice())?;
+    let lines: [&[u8]; 5] = [RULES[0].3, RULES[1].3, RULES[2].3, RULES[3].3, b".\n"];
+    let text = joined(rt.alloc(), &lines)?;
+    let reply = Reply::Rules(all_rules(rt.alloc())?);
+    check_text(&rt, rt.alloc(), &reply, text.as_slice())?;
     Ok(())
 }
 
@@ -231,48 +295,43 @@ fn run(alloc: Global, parent: &[u32], first: u32, last: u32) -> Result<Interval,
     })
 }
 
-#[test]
-fn layouts(rt: HostRuntime) -> Result<(), Fail> {
-    let alloc = rt.alloc();
+// A layout of three intervals.
+fn layout(alloc: Global) -> Result<Reply, NoMemory> {
     let mut parts = Partitioning::new(alloc);
     parts.push(Interval::Root)?;
     parts.push(run(alloc, &[], 0, 1)?)?;
     parts.push(run(alloc, &[0, 12], 2, u32::MAX)?)?;
     let weights = Weights::from_slice(alloc, &[3, 256, 17])?;
-    check_text(
-        &rt,
-        alloc,
-        &Reply::Laid { parts, weights },
-        b"root 3\nrun / 0 1 256\nrun /0/12 2 4294967295 17\n.\n",
-    )?;
+    Ok(Reply::Laid { parts, weights })
+}
+
+#[test]
+fn layouts(rt: HostRuntime) -> Result<(), Fail> {
+    let reply = layout(rt.alloc())?;
+    let text = b"root 3\nrun / 0 1 256\nrun /0/12 2 4294967295 17\n.\n";
+    check_text(&rt, rt.alloc(), &reply, text)?;
+    Ok(())
+}
+
+fn heavy(alloc: Global, path: &[u32], weight: u32) -> Result<Reply, NoMemory> {
+    let path = Path::from_slice(alloc, path)?;
+    Ok(Reply::Refused(ReplyError::TooHeavy { path, weight }))
+}
+
+#[test]
+fn heavy_nodes(rt: HostRuntime) -> Result<(), Fail> {
+    let root = heavy(rt.alloc(), &[], 2)?;
+    check_text(&rt, rt.alloc(), &root, b"error too-heavy / 2\n")?;
+    let text = heavy(rt.alloc(), &[0, 12], 257)?;
+    check_text(&rt, rt.alloc(), &text, b"error too-heavy /0/12 257\n")?;
     Ok(())
 }
 
 #[test]
 fn refusals(rt: HostRuntime) -> Result<(), Fail> {
-    let alloc = rt.alloc();
-    let root = ReplyError::TooHeavy {
-        path: Path::new(alloc),
-        weight: 2,
-    };
-    let text = ReplyError::TooHeavy {
-        path: Path::from_slice(alloc, &[0, 12])?,
-        weight: 257,
-    };
-    check_text(&rt, alloc, &Reply::Refused(root), b"error too-heavy / 2\n")?;
-    check_text(
-        &rt,
-        alloc,
-        &Reply::Refused(text),
-        b"error too-heavy /0/12 257\n",
-    )?;
     let many = Reply::Refused(ReplyError::TooManyRules);
-    check_text(&rt, alloc, &many, b"error too-many-rules\n")?;
-    check_text(
-        &rt,
-        alloc,
-        &Reply::Refused(ReplyError::Full),
-        b"error full\n",
-    )?;
+    check_text(&rt, rt.alloc(), &many, b"error too-many-rules\n")?;
+    let full = Reply::Refused(ReplyError::Full);
+    check_text(&rt, rt.alloc(), &full, b"error full\n")?;
     Ok(())
 }

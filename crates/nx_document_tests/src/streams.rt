@@ -1,5 +1,6 @@
 // Streams and what comes of them, however they are cut.
 use nx_pyx::{PyxError, PyxFault, ReadError, Reader, write};
+use nx_tree::{Bytes, NoMemory};
 use std::alloc::Global;
 use std::process::Abort;
 use std::test::Fail;
@@ -256,7 +257,7 @@ const LONG_AND_SLOW: [Cutting; 5] = [
 ];
 
 // The stream in a first piece of that length, and pieces of that size behind it.
-fn pieces(alloc: Global, stream: &[u8], first: usize, size: usize) -> Result<Vec<&[u8]>, Fail> {
+fn pieces(alloc: Global, stream: &[u8], first: usize, size: usize) -> Result<Vec<&[u8]>, NoMemory> {
     let (prefix, back) = stream.split_at(first.min(stream.len()));
     let mut cut = Vec::new(alloc);
     cut.push(prefix)?;
@@ -264,6 +265,16 @@ fn pieces(alloc: Global, stream: &[u8], first: usize, size: usize) -> Result<Vec
         cut.push(piece)?;
     }
     Ok(cut)
+}
+
+fn feed(reader: &mut Reader, piece: &[u8]) -> Result<(), ReadError> {
+    reader.feed(piece)
+}
+
+// The text of what was read, or its fault.
+fn finish(alloc: Global, reader: Reader) -> Result<Bytes, ReadError> {
+    let tree = reader.finish()?;
+    Ok(write(alloc, &tree)?)
 }
 
 // A stream in these pieces has that outcome, the text of its document or its fault. A fault is told
@@ -281,20 +292,33 @@ fn check(
     for piece in pieces {
         let before = len;
         len = before.saturating_add(piece.len());
-        if let Err(error) = reader.feed(piece) {
-            check_stopped(rt, reader, error)?;
+        if let Err(error) = feed(&mut reader, piece) {
+            check_stopped(rt, alloc, reader, error)?;
             assert!(rt; before <= told && told < len, "{error:?}");
-            assert_eq!(rt; Some(error), want.err().map(|e| ReadError::Pyx(e)));
+            assert!(rt; is_fault(want, error), "{error:?}");
             return Ok(());
         }
     }
-    check_end(rt, alloc, reader, len == told, want)
+    check_end(rt, finish(alloc, reader), len == told, want)
+}
+
+// Whether that is the error of a stream with this outcome.
+fn is_fault(want: Result<&[u8], PyxError>, error: ReadError) -> bool {
+    match (want, error) {
+        (Err(fault), ReadError::Pyx(found)) => fault == found,
+        _ => false,
+    }
 }
 
 // What told a fault tells it from then on.
-fn check_stopped(rt: &impl Abort, mut reader: Reader, error: ReadError) -> Result<(), Fail> {
-    assert_eq!(rt; reader.feed(b"(a\n)a\n"), Err(error));
-    assert_eq!(rt; reader.finish().err(), Some(error));
+fn check_stopped(
+    rt: &impl Abort,
+    alloc: Global,
+    mut reader: Reader,
+    error: ReadError,
+) -> Result<(), Fail> {
+    assert_eq!(rt; feed(&mut reader, b"(a\n)a\n"), Err(error));
+    assert_eq!(rt; finish(alloc, reader).err(), Some(error));
     match error {
         ReadError::Memory => Err(error.into()),
         ReadError::Pyx(_) => Ok(()),
@@ -304,16 +328,12 @@ fn check_stopped(rt: &impl Abort, mut reader: Reader, error: ReadError) -> Resul
 // At the end of a stream comes its text, or its fault where the end tells that.
 fn check_end(
     rt: &impl Abort,
-    alloc: Global,
-    reader: Reader,
+    found: Result<Bytes, ReadError>,
     tells: bool,
     want: Result<&[u8], PyxError>,
 ) -> Result<(), Fail> {
-    match reader.finish() {
-        Ok(tree) => {
-            let text = write(alloc, &tree)?;
-            assert_eq!(rt; Ok(text.as_slice()), want);
-        }
+    match found {
+        Ok(text) => assert_eq!(rt; Ok(text.as_slice()), want),
         Err(ReadError::Pyx(error)) => {
             assert!(rt; tells, "{error:?}");
             assert_eq!(rt; Some(error), want.err());
@@ -321,6 +341,38 @@ fn check_end(
         Err(ReadError::Memory) => return Err(ReadError::Memory.into()),
     }
     Ok(())
+}
+
+// The stream has that outcome cut behind a first piece into pieces of that size.
+fn check_pieces(
+    rt: &impl Abort,
+    alloc: Global,
+    stream: &[u8],
+    told: usize,
+    want: Result<&[u8], PyxError>,
+    (first, size): (usize, usize),
+) -> Result<(), Fail> {
+    let cut = pieces(alloc, stream, first, size)?;
+    check(rt, alloc, cut.as_slice(), told, want)
+}
+
+// The stream has that outcome cut in two at that place.
+fn check_cut(
+    rt: &impl Abort,
+    alloc: Global,
+    stream: &[u8],
+    told: usize,
+    want: Result<&[u8], PyxError>,
+    cut: usize,
+) -> Result<(), Fail> {
+    let (prefix, back) = stream.split_at(cut.min(stream.len()));
+    check(rt, alloc, &[prefix, back], told, want)
+}
+
+// Whether a place is so near to either end or to the byte that tells the fault.
+fn is_near(cut: usize, told: usize, len: usize, distance: usize) -> bool {
+    let place = cut.abs_diff(told).min(len.saturating_sub(cut));
+    place.min(cut) <= distance
 }
 
 // The stream has that outcome cut in that way.
@@ -333,20 +385,16 @@ fn check_cutting(
     cutting: Cutting,
 ) -> Result<(), Fail> {
     match cutting {
-        Cutting::Pieces(size) => {
-            check(rt, alloc, &pieces(alloc, stream, size, size)?, told, want)?;
-        }
+        Cutting::Pieces(size) => check_pieces(rt, alloc, stream, told, want, (size, size))?,
         Cutting::Shifted(size) => {
             for first in 1..=size {
-                check(rt, alloc, &pieces(alloc, stream, first, size)?, told, want)?;
+                check_pieces(rt, alloc, stream, told, want, (first, size))?;
             }
         }
         Cutting::Near(distance) => {
             for cut in 0..=stream.len() {
-                let place = cut.abs_diff(told).min(stream.len() - cut);
-                if place.min(cut) <= distance {
-                    let (prefix, back) = stream.split_at(cut);
-                    check(rt, alloc, &[prefix, back], told, want)?;
+                if is_near(cut, told, stream.len(), distance) {
+                    check_cut(rt, alloc, stream, told, want, cut)?;
                 }
             }
         }
@@ -377,18 +425,27 @@ fn documents(rt: HostRuntime) -> Result<(), Fail> {
     Ok(())
 }
 
+fn check_fault(
+    rt: &impl Abort,
+    alloc: Global,
+    before: &[u8],
+    after: &[u8],
+    error: PyxError,
+) -> Result<(), Fail> {
+    let stream = [before, after].concat(alloc)?;
+    check_cuttings(rt, alloc, &stream, before.len(), Err(error), &SHORT)
+}
+
 #[test]
 fn faults(rt: HostRuntime) -> Result<(), Fail> {
     for (before, after, line, fault) in FAULTS {
-        let stream = [before, after].concat(rt.alloc())?;
-        let want = Err(PyxError { line, fault });
-        check_cuttings(&rt, rt.alloc(), &stream, before.len(), want, &SHORT)?;
+        check_fault(&rt, rt.alloc(), before, after, PyxError { line, fault })?;
     }
     Ok(())
 }
 
 // The bytes of a stream at a limit.
-fn bytes_of(alloc: Global, long: Long) -> Result<Vec<u8>, Fail> {
+fn bytes_of(alloc: Global, long: Long) -> Result<Vec<u8>, NoMemory> {
     let (prefix, unit, count, end, closed, _) = long;
     let mut bytes = Vec::from_slice(alloc, prefix)?;
     for _ in 0..count {
@@ -401,6 +458,27 @@ fn bytes_of(alloc: Global, long: Long) -> Result<Vec<u8>, Fail> {
     Ok(bytes)
 }
 
+// The stream is read up to the limit, cut in each of these ways.
+fn check_read(
+    rt: &impl Abort,
+    alloc: Global,
+    long: Long,
+    cuttings: &[Cutting],
+) -> Result<(), Fail> {
+    let (prefix, unit, count, end, closed, _) = long;
+    let read = end.strip_prefix(b"\r").unwrap_or(end);
+    let stream = bytes_of(alloc, long)?;
+    let text = bytes_of(alloc, (prefix, unit, count, read, closed, None))?;
+    check_cuttings(rt, alloc, &stream, stream.len(), Ok(&text), cuttings)
+}
+
+// The number of the byte that tells the fault: the last before the end lines.
+fn last_shown(alloc: Global, long: Long) -> Result<usize, NoMemory> {
+    let (prefix, unit, count, end, _, _) = long;
+    let shown = bytes_of(alloc, (prefix, unit, count, end, 0, None))?;
+    Ok(shown.len().saturating_sub(1))
+}
+
 // The stream is read up to the limit, and refused past it, cut in each of these ways.
 fn check_long(
     rt: &impl Abort,
@@ -408,17 +486,13 @@ fn check_long(
     long: Long,
     cuttings: &[Cutting],
 ) -> Result<(), Fail> {
-    let (prefix, unit, count, end, closed, fault) = long;
+    let Some((line, fault)) = long.5 else {
+        return check_read(rt, alloc, long, cuttings);
+    };
     let stream = bytes_of(alloc, long)?;
-    if let Some((line, fault)) = fault {
-        let shown = bytes_of(alloc, (prefix, unit, count, end, 0, None))?;
-        let told = shown.len().saturating_sub(1);
-        let want = Err(PyxError { line, fault });
-        return check_cuttings(rt, alloc, &stream, told, want, cuttings);
-    }
-    let read = end.strip_prefix(b"\r").unwrap_or(end);
-    let text = bytes_of(alloc, (prefix, unit, count, read, closed, None))?;
-    check_cuttings(rt, alloc, &stream, stream.len(), Ok(&text), cuttings)
+    let told = last_shown(alloc, long)?;
+    let want = Err(PyxError { line, fault });
+    check_cuttings(rt, alloc, &stream, told, want, cuttings)
 }
 
 #[test]
@@ -441,18 +515,28 @@ fn too_long_escaped_line(rt: HostRuntime) -> Result<(), Fail> {
     check_long(&rt, rt.alloc(), ESCAPED[1], &LONG_AND_SLOW)
 }
 
+// A line of so many x behind the prefix is too long with the last of the pieces behind it.
+fn check_moment(
+    rt: &impl Abort,
+    alloc: Global,
+    prefix: &'static [u8],
+    count: usize,
+    behind: &[&[u8]],
+) -> Result<(), Fail> {
+    let stream = bytes_of(alloc, (prefix, b"x", count, b"", 0, None))?;
+    let mut cut = Vec::new(alloc);
+    cut.push(stream.as_slice())?;
+    cut.extend_from_slice(behind)?;
+    let told = cut.concat(alloc)?.len().saturating_sub(1);
+    let line = if prefix.len() == 1 { 1 } else { 2 };
+    let fault = PyxFault::LongLine;
+    check(rt, alloc, &cut, told, Err(PyxError { line, fault }))
+}
+
 #[test]
 fn long_line_is_told_at_once(rt: HostRuntime) -> Result<(), Fail> {
-    let alloc = rt.alloc();
     for (prefix, count, behind) in MOMENTS {
-        let stream = bytes_of(alloc, (prefix, b"x", count, b"", 0, None))?;
-        let mut cut = Vec::new(alloc);
-        cut.push(stream.as_slice())?;
-        cut.extend_from_slice(behind)?;
-        let told = cut.concat(alloc)?.len().saturating_sub(1);
-        let line = if prefix.len() == 1 { 1 } else { 2 };
-        let fault = PyxFault::LongLine;
-        check(&rt, alloc, &cut, told, Err(PyxError { line, fault }))?;
+        check_moment(&rt, rt.alloc(), prefix, count, behind)?;
     }
     Ok(())
 }

@@ -1,12 +1,13 @@
 // Each edit, each of its refusals, and what the other calls answer.
-ghost use Rattle.std.specs.Prelude.{◌≡◌, length, IfSome};
+ghost use Rattle.std.specs.Prelude.{◌≡◌, length, IfOk, IfSome};
 ghost use Rattle.nx_tree.specs.Document.{IsDocument};
 ghost use Rattle.nx_tree.specs.Edit.{at};
 
 use crate::fixtures::{node, read};
-use nx_pyx::write;
+use nx_pyx::{ReadError, write};
 use nx_tree::{
-    Bytes, Kind, Tree, TreeError, copy, count, delete_at, depth, insert_at, node_at, retext_at,
+    Bytes, Kind, NoMemory, Tree, TreeError, copy, count, delete_at, depth, insert_at, node_at,
+    retext_at,
 };
 use std::alloc::Global;
 use std::process::Abort;
@@ -84,6 +85,17 @@ const NODES: [(&[u32], Result<Kind, TreeError>); 4] = [
     (&[1, 0, 0], Err(TreeError::NoNode)),
 ];
 
+// The document of the sample.
+fn sample(alloc: Global) -> Result<Tree, ReadError>
+    ensures { IfOk result (λ tree. IsDocument tree) }
+{
+    read(alloc, SAMPLE)
+}
+
+fn text_of(alloc: Global, tree: &Tree) -> Result<Bytes, NoMemory> {
+    write(alloc, tree)
+}
+
 // The edit of the sample was answered so, and left that document of so many nodes.
 fn check(
     rt: &impl Abort,
@@ -97,30 +109,47 @@ fn check(
 {
     assert_eq!(rt; answer.err(), want.err());
     let text = want.unwrap_or(SAMPLE);
-    assert_eq!(rt; write(alloc, tree)?.as_slice(), text);
+    assert_eq!(rt; text_of(alloc, tree)?.as_slice(), text);
     let nodes = if want.is_ok() { nodes } else { 6 };
     assert_eq!(rt; count(tree), nodes);
     Ok(())
 }
 
+fn check_insert(
+    rt: &impl Abort,
+    alloc: Global,
+    path: &[u32],
+    line: &[u8],
+    want: Result<&[u8], TreeError>,
+) -> Result<(), Fail> {
+    let mut tree = sample(alloc)?;
+    let answer = insert(alloc, &mut tree, path, line);
+    check(rt, alloc, answer, &tree, want, 7)
+}
+
 #[test]
 fn inserts(rt: HostRuntime) -> Result<(), Fail> {
-    let alloc = rt.alloc();
     for (path, line, want) in INSERTS {
-        let mut tree = read(alloc, SAMPLE)?;
-        let answer = insert_at(alloc, &mut tree, path, node(alloc, line)?);
-        check(&rt, alloc, answer, &tree, want, 7)?;
+        check_insert(&rt, rt.alloc(), path, line, want)?;
     }
     Ok(())
 }
 
+fn check_delete(
+    rt: &impl Abort,
+    alloc: Global,
+    path: &[u32],
+    want: Result<&[u8], TreeError>,
+) -> Result<(), Fail> {
+    let mut tree = sample(alloc)?;
+    let answer = delete(&mut tree, path);
+    check(rt, alloc, answer, &tree, want, 5)
+}
+
 #[test]
 fn deletes(rt: HostRuntime) -> Result<(), Fail> {
-    let alloc = rt.alloc();
     for (path, want) in DELETES {
-        let mut tree = read(alloc, SAMPLE)?;
-        let answer = delete_at(&mut tree, path);
-        check(&rt, alloc, answer, &tree, want, 5)?;
+        check_delete(&rt, rt.alloc(), path, want)?;
     }
     Ok(())
 }
@@ -136,61 +165,141 @@ fn name_len(tree: &Tree, path: &[u32]) -> usize
     }
 }
 
+// The same edits as the library's, of which a test needs to know only that a document stays one.
+fn insert(alloc: Global, tree: &mut Tree, path: &[u32], line: &[u8]) -> Result<(), TreeError>
+    requires { IsDocument tree.old }
+    ensures { IsDocument tree.new }
+{
+    insert_at(alloc, tree, path, node(alloc, line)?)
+}
+
+fn delete(tree: &mut Tree, path: &[u32]) -> Result<(), TreeError>
+    requires { IsDocument tree.old }
+    ensures { IsDocument tree.new }
+{
+    delete_at(tree, path)
+}
+
+fn retext(rt: &impl Abort, alloc: Global, tree: &mut Tree, path: &[u32]) -> Result<(), TreeError>
+    requires { IsDocument tree.old }
+    ensures { IsDocument tree.new }
+{
+    assert!(rt; name_len(tree, path) < 1_048_576);
+    retext_at(tree, path, Bytes::from_slice(alloc, b"z")?)
+}
+
+fn check_retext(
+    rt: &impl Abort,
+    alloc: Global,
+    path: &[u32],
+    want: Result<&[u8], TreeError>,
+) -> Result<(), Fail> {
+    let mut tree = sample(alloc)?;
+    let answer = retext(rt, alloc, &mut tree, path);
+    check(rt, alloc, answer, &tree, want, 6)
+}
+
 #[test]
 fn retexts(rt: HostRuntime) -> Result<(), Fail> {
-    let alloc = rt.alloc();
     for (path, want) in RETEXTS {
-        let mut tree = read(alloc, SAMPLE)?;
-        assert!(rt; name_len(&tree, path) < 1_048_576);
-        let answer = retext_at(&mut tree, path, Bytes::from_slice(alloc, b"z")?);
-        check(&rt, alloc, answer, &tree, want, 6)?;
+        check_retext(&rt, rt.alloc(), path, want)?;
     }
     Ok(())
 }
 
-#[test]
-fn nodes_and_copies(rt: HostRuntime) -> Result<(), Fail> {
-    let alloc = rt.alloc();
-    let mut tree = read(alloc, SAMPLE)?;
-    for (path, want) in NODES {
-        let found = node_at(&tree, path).map(|found| found.node.kind);
-        assert_eq!(rt; found, want);
+// The kind of the node at the path.
+fn kind_at(tree: &Tree, path: &[u32]) -> Result<Kind, TreeError>
+    requires { IsDocument tree.now }
+{
+    match node_at(tree, path) {
+        Ok(found) => Ok(found.node.kind),
+        Err(error) => Err(error),
     }
-    let copied = copy(alloc, &tree)?;
-    delete_at(&mut tree, &[1, 2])?;
-    assert_eq!(rt; (count(&tree), depth(&tree)), (5, 2));
-    assert_eq!(rt; (count(&copied), depth(&copied)), (6, 2));
-    assert_eq!(rt; write(alloc, &copied)?.as_slice(), SAMPLE);
+}
+
+fn counts(tree: &Tree) -> (u32, u32)
+    requires { IsDocument tree.now }
+{
+    (count(tree), depth(tree))
+}
+
+#[test]
+fn nodes(rt: HostRuntime) -> Result<(), Fail> {
+    let tree = sample(rt.alloc())?;
+    for (path, want) in NODES {
+        assert_eq!(rt; kind_at(&tree, path), want);
+    }
+    Ok(())
+}
+
+fn copied(alloc: Global, tree: &Tree) -> Result<Tree, TreeError>
+    requires { IsDocument tree.now }
+    ensures { IfOk result (λ copied. IsDocument copied) }
+{
+    copy(alloc, tree)
+}
+
+#[test]
+fn copies(rt: HostRuntime) -> Result<(), Fail> {
+    let mut tree = sample(rt.alloc())?;
+    let copied = copied(rt.alloc(), &tree)?;
+    delete(&mut tree, &[1, 2])?;
+    assert_eq!(rt; counts(&tree), (5, 2));
+    assert_eq!(rt; counts(&copied), (6, 2));
+    assert_eq!(rt; text_of(rt.alloc(), &copied)?.as_slice(), SAMPLE);
+    Ok(())
+}
+
+// The document of one element.
+fn element(alloc: Global) -> Result<Tree, ReadError>
+    ensures { IfOk result (λ tree. IsDocument tree) }
+{
+    read(alloc, b"(e\n)e\n")
+}
+
+// Puts one more element below the deepest, until there are 256.
+fn deepen(alloc: Global, tree: &mut Tree, path: &[u32; 257]) -> Result<(), TreeError>
+    requires { IsDocument tree.old }
+    ensures { IsDocument tree.new }
+{
+    for len in 2..257 {
+        insert(alloc, tree, &path[..len], b"(e")?;
+    }
     Ok(())
 }
 
 #[test]
 fn deepest(rt: HostRuntime) -> Result<(), Fail> {
-    let alloc = rt.alloc();
-    let mut tree = read(alloc, b"(e\n)e\n")?;
-    assert_eq!(rt; (count(&tree), depth(&tree)), (2, 1));
+    let mut tree = element(rt.alloc())?;
+    assert_eq!(rt; counts(&tree), (2, 1));
     let path = [0; 257];
-    for len in 2..257 {
-        insert_at(alloc, &mut tree, &path[..len], node(alloc, b"(e")?)?;
-    }
-    assert_eq!(rt; depth(&tree), 256);
-    let answer = insert_at(alloc, &mut tree, &path, node(alloc, b"(e")?);
+    deepen(rt.alloc(), &mut tree, &path)?;
+    assert_eq!(rt; counts(&tree), (257, 256));
+    let answer = insert(rt.alloc(), &mut tree, &path, b"(e");
     assert_eq!(rt; answer, Err(TreeError::TooDeep));
-    assert_eq!(rt; (count(&tree), depth(&tree)), (257, 256));
+    assert_eq!(rt; counts(&tree), (257, 256));
+    Ok(())
+}
+
+// Adds as many texts as there may be.
+fn fill(alloc: Global, tree: &mut Tree) -> Result<(), TreeError>
+    requires { IsDocument tree.old }
+    ensures { IsDocument tree.new }
+{
+    for position in 0..524_286 {
+        insert(alloc, tree, &[0, position], b"-hi")?;
+    }
     Ok(())
 }
 
 #[test]
 fn most(rt: HostRuntime) -> Result<(), Fail> {
-    let alloc = rt.alloc();
-    let mut tree = read(alloc, b"(e\n)e\n")?;
-    for position in 0..524_286 {
-        insert_at(alloc, &mut tree, &[0, position], node(alloc, b"-hi")?)?;
-    }
-    let answer = insert_at(alloc, &mut tree, &[0, 0], node(alloc, b"-hi")?);
+    let mut tree = element(rt.alloc())?;
+    fill(rt.alloc(), &mut tree)?;
+    let answer = insert(rt.alloc(), &mut tree, &[0, 0], b"-hi");
     assert_eq!(rt; answer, Err(TreeError::TooMany));
-    assert_eq!(rt; count(&tree), 524_288);
-    delete_at(&mut tree, &[0, 524_285])?;
-    insert_at(alloc, &mut tree, &[0, 0], node(alloc, b"Ax 1")?)?;
+    assert_eq!(rt; counts(&tree).0, 524_288);
+    delete(&mut tree, &[0, 524_285])?;
+    insert(rt.alloc(), &mut tree, &[0, 0], b"Ax 1")?;
     Ok(())
 }

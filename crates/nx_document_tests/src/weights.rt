@@ -5,7 +5,7 @@ ghost use Rattle.nx_weights.specs.Weight.{IsWithinLimits};
 
 use crate::fixtures::read;
 use nx_tree::{Bytes, Kind, NoMemory, Node, Tree, node_at};
-use nx_weights::{first_heavy, subtree_weights, weight};
+use nx_weights::{Weights, first_heavy, subtree_weights, weight};
 use std::alloc::Global;
 use std::process::Abort;
 use std::test::Fail;
@@ -22,17 +22,21 @@ const LENGTHS: [(usize, usize, u32); 8] = [
     (576, 1_048_000, 131_073),
 ];
 
+// What a node of a name and a content of so many bytes weighs.
+fn weight_of(rt: &impl Abort, alloc: Global, name: usize, content: usize) -> Result<u32, Fail> {
+    assert!(rt; name <= 576 && content <= 1_048_000);
+    let node = Node {
+        kind: Kind::Attribute,
+        name: Bytes::from_vec(vec![in alloc; b'n'; name]?),
+        content: Bytes::from_vec(vec![in alloc; b'c'; content]?),
+    };
+    Ok(weight(&node))
+}
+
 #[test]
 fn lengths(rt: HostRuntime) -> Result<(), Fail> {
-    let alloc = rt.alloc();
     for (name, content, want) in LENGTHS {
-        assert!(rt; name <= 576 && content <= 1_048_000);
-        let node = Node {
-            kind: Kind::Attribute,
-            name: Bytes::from_vec(vec![in alloc; b'n'; name]?),
-            content: Bytes::from_vec(vec![in alloc; b'c'; content]?),
-        };
-        assert_eq!(rt; weight(&node), want);
+        assert_eq!(rt; weight_of(&rt, rt.alloc(), name, content)?, want);
     }
     Ok(())
 }
@@ -48,6 +52,27 @@ Ax
 )e
 ";
 
+fn weights_of(alloc: Global, tree: &Tree) -> Result<Weights, NoMemory>
+    requires { IsWithinLimits tree.now }
+{
+    subtree_weights(alloc, tree)
+}
+
+// Whether that is the first node that weighs more than k.
+fn is_heavy(
+    alloc: Global,
+    tree: &Tree,
+    k: u32,
+    want: Option<(&[u32], u32)>,
+) -> Result<bool, NoMemory>
+    requires { IsWithinLimits tree.now }
+{
+    Ok(match first_heavy(alloc, tree, k)? {
+        Some(heavy) => want == Some((heavy.path.as_slice(), heavy.weight)),
+        None => want.is_none(),
+    })
+}
+
 // The weights of the subtrees, and the first node that weighs more than each number from `k` on.
 fn check(
     rt: &impl Abort,
@@ -59,32 +84,36 @@ fn check(
 ) -> Result<(), NoMemory>
     requires { IsWithinLimits tree.now }
 {
-    assert_eq!(rt; subtree_weights(alloc, tree)?.as_slice(), weights);
+    assert_eq!(rt; weights_of(alloc, tree)?.as_slice(), weights);
     for want in heavy {
-        match first_heavy(alloc, tree, k)? {
-            Some(heavy) => assert_eq!(rt; Some((heavy.path.as_slice(), heavy.weight)), *want),
-            None => assert_eq!(rt; None, *want),
-        }
+        assert!(rt; is_heavy(alloc, tree, k, *want)?, "{k}");
         k = k.saturating_add(1);
     }
     Ok(())
 }
 
+const HEAVY: [Option<(&[u32], u32)>; 5] = [
+    Some((&[], 1)),
+    Some((&[0], 3)),
+    Some((&[0], 3)),
+    Some((&[1, 2, 0], 4)),
+    None,
+];
+
+// The document, and its element as a tree of its own.
 #[test]
 fn trees(rt: HostRuntime) -> Result<(), Fail> {
     let alloc = rt.alloc();
     let tree = read(alloc, TEXT)?;
-    let heavy: [Option<(&[u32], u32)>; 5] = [
-        Some((&[], 1)),
-        Some((&[0], 3)),
-        Some((&[0], 3)),
-        Some((&[1, 2, 0], 4)),
-        None,
-    ];
-    check(&rt, alloc, &tree, &[21, 3, 17, 2, 3, 6, 4, 4], 0, &heavy)?;
-    // The element, as a tree of its own.
+    check(&rt, alloc, &tree, &[21, 3, 17, 2, 3, 6, 4, 4], 0, &HEAVY)?;
     let element = node_at(&tree, &[1])?;
-    let heavy: [Option<(&[u32], u32)>; 1] = [Some((&[1], 3))];
-    check(&rt, alloc, element, &[17, 2, 3, 6, 4, 4], 2, &heavy)?;
+    check(
+        &rt,
+        alloc,
+        element,
+        &[17, 2, 3, 6, 4, 4],
+        2,
+        &[Some((&[1], 3))],
+    )?;
     Ok(())
 }

@@ -57,52 +57,76 @@ fn docs(alloc: Global, count: u32) -> Result<DocLines, NoMemory> {
     Ok(docs)
 }
 
-fn check(rt: &impl Abort, alloc: Global, reply: &Reply, expected: &[u8]) -> Result<(), NoMemory> {
-    assert_eq!(rt; write_reply(alloc, reply)?.as_slice(), expected);
+fn written(alloc: Global, reply: &Reply) -> Result<Bytes, NoMemory> {
+    write_reply(alloc, reply)
+}
+
+fn pushed(alloc: Global, reply: &Reply) -> Result<Bytes, NoMemory> {
     let mut block = Bytes::from_slice(alloc, b"before")?;
     push_reply(&mut block, reply)?;
+    Ok(block)
+}
+
+// The reply is written so, and added so to what a block has.
+fn check(rt: &impl Abort, alloc: Global, reply: &Reply, expected: &[u8]) -> Result<(), NoMemory> {
+    assert_eq!(rt; written(alloc, reply)?.as_slice(), expected);
+    let block = pushed(alloc, reply)?;
     assert!(rt; block.as_slice().strip_prefix(b"before") == Some(expected));
     Ok(())
 }
 
 #[test]
 fn replies(rt: HostRuntime) -> Result<(), Fail> {
-    let alloc = rt.alloc();
-    check(&rt, alloc, &Reply::Done, b"ok\n")?;
-    let loaded = Reply::Loaded {
-        nodes: 8,
-        intervals: u32::MAX,
-    };
-    check(&rt, alloc, &loaded, b"ok 8 4294967295\n")?;
-    check(&rt, alloc, &Reply::Names(docs(alloc, 0)?), b".\n")?;
-    let names = Reply::Names(docs(alloc, 2)?);
-    check(&rt, alloc, &names, b"doc !d 0\ndoc !d 1\n.\n")?;
-    let text = Bytes::from_slice(alloc, b"(a\n)a\n")?;
-    check(&rt, alloc, &Reply::Exported(text), b"(a\n)a\n.\n")?;
+    check(&rt, rt.alloc(), &Reply::Done, b"ok\n")?;
+    let (nodes, intervals) = (8, u32::MAX);
+    let loaded = Reply::Loaded { nodes, intervals };
+    check(&rt, rt.alloc(), &loaded, b"ok 8 4294967295\n")?;
+    let text = Bytes::from_slice(rt.alloc(), b"(a\n)a\n")?;
+    check(&rt, rt.alloc(), &Reply::Exported(text), b"(a\n)a\n.\n")?;
     Ok(())
+}
+
+fn names(alloc: Global, count: u32) -> Result<Reply, NoMemory> {
+    Ok(Reply::Names(docs(alloc, count)?))
+}
+
+#[test]
+fn documents(rt: HostRuntime) -> Result<(), Fail> {
+    check(&rt, rt.alloc(), &names(rt.alloc(), 0)?, b".\n")?;
+    let two = names(rt.alloc(), 2)?;
+    check(&rt, rt.alloc(), &two, b"doc !d 0\ndoc !d 1\n.\n")?;
+    Ok(())
+}
+
+// A node that is shown, with a number of children.
+fn shown(
+    alloc: Global,
+    kind: Kind,
+    name: &[u8],
+    content: &[u8],
+    children: u32,
+) -> Result<Reply, NoMemory> {
+    let node = Node {
+        kind,
+        name: Bytes::from_slice(alloc, name)?,
+        content: Bytes::from_slice(alloc, content)?,
+    };
+    Ok(Reply::Shown { node, children })
 }
 
 #[test]
 fn nodes(rt: HostRuntime) -> Result<(), Fail> {
-    let alloc = rt.alloc();
     for (kind, name, content, children, expected) in SHOWN {
-        let name = Bytes::from_slice(alloc, name)?;
-        let content = Bytes::from_slice(alloc, content)?;
-        let node = Node {
-            kind,
-            name,
-            content,
-        };
-        check(&rt, alloc, &Reply::Shown { node, children }, expected)?;
+        let reply = shown(rt.alloc(), kind, name, content, children)?;
+        check(&rt, rt.alloc(), &reply, expected)?;
     }
     Ok(())
 }
 
 #[test]
 fn refusals(rt: HostRuntime) -> Result<(), Fail> {
-    let alloc = rt.alloc();
     for (error, expected) in REFUSALS {
-        check(&rt, alloc, &Reply::Refused(error), expected)?;
+        check(&rt, rt.alloc(), &Reply::Refused(error), expected)?;
     }
     Ok(())
 }

@@ -1,99 +1,131 @@
 // Runs of `tidy`, words that are no command, and the hosts themselves.
+use crate::driven::{
+    check_failing, check_run, emit, endless_status, host_of, length, read, read_in, status_of,
+    sync, words_of, write_at,
+};
 use crate::endless::EndlessHost;
 use crate::host::{Counts, DisklessHost};
-use nx_front::{Status, Word, Words, run};
-use nx_host::{Area, Disk, Failed, Host};
+use nx_front::{Status, Words};
+use nx_host::{Area, Failed};
 use nx_tree::NoMemory;
 use std::alloc::Global;
+use std::process::Abort;
 use std::test::Fail;
 
-pub(crate) fn words_of(alloc: Global, texts: &[&str]) -> Result<Words, NoMemory> {
-    let mut words = Words::new(alloc);
-    for text in texts {
-        words.push(Word::new(alloc, text)?)?;
-    }
-    Ok(words)
-}
+// An input, and its answer.
+const TIDIED: [(&str, Status, &str); 8] = [
+    ("(a\n-hi\n)a\n", Status::Done, "(a\n-hi\n)a\n"),
+    ("(a\nAx 1\n-hi\n)a\n", Status::Done, "(a\nAx 1\n-hi\n)a\n"),
+    ("(a\r\n-hi\r\n)a", Status::Done, "(a\n-hi\n)a\n"),
+    ("", Status::Refused, "refused pyx 0 empty\n"),
+    ("\n", Status::Refused, "refused pyx 1 bad-code\n"),
+    (
+        "?p\n(a\nAx 1\n-\\qy\n)a\n",
+        Status::Done,
+        "?p\n(a\nAx 1\n-\\\\qy\n)a\n",
+    ),
+    ("(a\n)b\n", Status::Refused, "refused pyx 2 bad-nesting\n"),
+    ("(a\n-hi\n", Status::Refused, "refused pyx 2 unclosed\n"),
+];
 
 // However the input is cut into pieces.
 #[test]
 fn an_input_has_its_answer(rt: HostRuntime) -> Result<(), Fail> {
-    let alloc = rt.alloc();
-    let words = words_of(alloc, &["_", "tidy"])?;
-    for (input, status, output) in [
-        ("(a\n-hi\n)a\n", Status::Done, "(a\n-hi\n)a\n"),
-        ("(a\nAx 1\n-hi\n)a\n", Status::Done, "(a\nAx 1\n-hi\n)a\n"),
-        ("(a\r\n-hi\r\n)a", Status::Done, "(a\n-hi\n)a\n"),
-        ("", Status::Refused, "refused pyx 0 empty\n"),
-        ("\n", Status::Refused, "refused pyx 1 bad-code\n"),
-        (
-            "?p\n(a\nAx 1\n-\\qy\n)a\n",
-            Status::Done,
-            "?p\n(a\nAx 1\n-\\\\qy\n)a\n",
-        ),
-        ("(a\n)b\n", Status::Refused, "refused pyx 2 bad-nesting\n"),
-        ("(a\n-hi\n", Status::Refused, "refused pyx 2 unclosed\n"),
-    ] {
+    let words = words_of(rt.alloc(), &["_", "tidy"])?;
+    for (input, status, output) in TIDIED {
         for piece in 1..13usize {
-            assert!(rt; piece > 0);
-            let mut host = DisklessHost::new(alloc, input.as_bytes().to_vec(alloc)?, piece);
-            assert_eq!(rt; run(alloc, &words, &mut host), status, "{input:?}");
-            assert_eq!(rt; host.output(), output.as_bytes());
-            assert_eq!(rt; host.counts(), Counts::default());
+            let given = (input.as_bytes(), piece);
+            check_run(&rt, rt.alloc(), &words, given, status, output.as_bytes())?;
         }
     }
+    Ok(())
+}
+
+const MISUSED: [&[&str]; 24] = [
+    &["run"],
+    &["s", "run", "s"],
+    &["_", "run", "_"],
+    &[],
+    &["_"],
+    &["tidy"],
+    &["s", "nothing"],
+    &["", "tidy"],
+    &["-x", "tidy"],
+    &["_", ""],
+    &["_", "tidy", "_"],
+    &["_", "plan"],
+    &["_", "plan", "0"],
+    &["s", "plan", "016"],
+    &["s", "plan", "257"],
+    &["_", "verify"],
+    &["_", "verify", "0"],
+    &["_", "verify", "257"],
+    &["_", "verify", "04"],
+    &["_", "verify", ""],
+    &["_", "verify", "+4"],
+    &["_", "verify", "4294967297"],
+    &["", "verify", "4"],
+    &["_", "verify", "4", "4"],
+];
+
+// These are the words.
+fn check_words(rt: &impl Abort, words: &Words, texts: &[&str]) {
+    assert_eq!(rt; words.len(), texts.len());
+    assert_eq!(rt; words.is_empty(), texts.is_empty());
+    for (word, text) in words.as_slice().iter().zip(texts) {
+        assert_eq!(rt; word.as_str(), *text);
+    }
+}
+
+// They are misuse, and the run makes no call, so that one behind it is the first.
+fn check_misuse(rt: &impl Abort, alloc: Global, words: &Words) -> Result<(), NoMemory> {
+    let mut host = host_of(alloc, b"(a\n)a\n", 8)?;
+    host.fail_call(1);
+    assert_eq!(rt; status_of(alloc, words, &mut host), Status::Usage);
+    assert!(rt; host.output().is_empty());
+    assert_eq!(rt; read_in(&mut host, &mut [0u8; 8]), Err(Failed));
     Ok(())
 }
 
 #[test]
 fn other_words_are_misuse(rt: HostRuntime) -> Result<(), Fail> {
-    let alloc = rt.alloc();
-    let others: [&[&str]; 24] = [
-        &["run"],
-        &["s", "run", "s"],
-        &["_", "run", "_"],
-        &[],
-        &["_"],
-        &["tidy"],
-        &["s", "nothing"],
-        &["", "tidy"],
-        &["-x", "tidy"],
-        &["_", ""],
-        &["_", "tidy", "_"],
-        &["_", "plan"],
-        &["_", "plan", "0"],
-        &["s", "plan", "016"],
-        &["s", "plan", "257"],
-        &["_", "verify"],
-        &["_", "verify", "0"],
-        &["_", "verify", "257"],
-        &["_", "verify", "04"],
-        &["_", "verify", ""],
-        &["_", "verify", "+4"],
-        &["_", "verify", "4294967297"],
-        &["", "verify", "4"],
-        &["_", "verify", "4", "4"],
-    ];
-    for texts in others {
-        let words = words_of(alloc, texts)?;
-        assert_eq!(rt; words.len(), texts.len());
-        assert_eq!(rt; words.is_empty(), texts.is_empty());
-        for (word, text) in words.as_slice().iter().zip(texts) {
-            assert_eq!(rt; word.as_str(), *text);
-        }
-        let mut host = DisklessHost::new(alloc, b"(a\n)a\n".to_vec(alloc)?, 8);
-        host.fail_call(1);
-        assert_eq!(rt; run(alloc, &words, &mut host), Status::Usage, "{texts:?}");
-        assert!(rt; host.output().is_empty());
-        // The run made no call, so this one is the first.
-        assert_eq!(rt; host.read_in(&mut [0u8; 8]), Err(Failed));
+    for texts in MISUSED {
+        let words = words_of(rt.alloc(), texts)?;
+        check_words(&rt, &words, texts);
+        check_misuse(&rt, rt.alloc(), &words)?;
     }
     Ok(())
 }
 
+const SHORT: &[u8] = b"(a\n-hi\n)a\n";
+
+const FAULTY: &[u8] = b"(a\nA/ 1\n)a\n";
+
+const REFUSAL: &[u8] = b"refused pyx 2 bad-name\n";
+
+// An input, the call that fails, how the run ends, the whole answer, and how much of it is given.
+const FAILING: [(&[u8], u64, Status, &[u8], usize); 5] = [
+    // Three reads, of which the last finds the end, and the output.
+    (SHORT, 1, Status::ReadFault, SHORT, 0),
+    (SHORT, 3, Status::ReadFault, SHORT, 0),
+    (SHORT, 4, Status::WriteFault, SHORT, 0),
+    // A read shows the fault, and none is made behind it.
+    (FAULTY, 2, Status::WriteFault, REFUSAL, 0),
+    (FAULTY, 3, Status::Refused, REFUSAL, 23),
+];
+
+// The same of a long document, which is its own answer. Five reads, and four blocks of whole lines: each but
+// the last has 65,536 bytes and what ends its last line.
+const FAILING_LONG: [(u64, Status, usize); 4] = [
+    (3, Status::ReadFault, 0),
+    (6, Status::WriteFault, 0),
+    (8, Status::WriteFault, 131_203),
+    (10, Status::Done, 250_006),
+];
+
 // A document of 250,006 bytes, as it is written.
-fn long_document(alloc: Global) -> Result<Vec<u8>, Fail> {
-    let mut text = b"(a\n".to_vec(alloc)?;
+fn long_document(alloc: Global) -> Result<Vec<u8>, NoMemory> {
+    let mut text = Vec::from_slice(alloc, b"(a\n")?;
     for _ in 0..2500 {
         // A line of 100 bytes.
         text.push(b'-')?;
@@ -104,83 +136,93 @@ fn long_document(alloc: Global) -> Result<Vec<u8>, Fail> {
     Ok(text)
 }
 
+// A run at which a call fails ends so, with that first part of its answer, and counts that call.
+fn check_counted(
+    rt: &impl Abort,
+    alloc: Global,
+    words: &Words,
+    given: (&[u8], usize, u64),
+    status: Status,
+    output: &[u8],
+) -> Result<(), NoMemory> {
+    let counts = check_failing(rt, alloc, words, given, status, output)?;
+    assert_eq!(rt; counts.in_faults, u64::from(status == Status::ReadFault));
+    assert_eq!(rt; counts.out_faults, u64::from(status == Status::WriteFault));
+    Ok(())
+}
+
+// The first so many bytes.
+fn first(bytes: &[u8], count: usize) -> &[u8] {
+    bytes.get(..count).unwrap_or(bytes)
+}
+
+// The first piece of `FAULTY` ends with its faulty line.
 #[test]
 fn a_failing_call_ends_the_run(rt: HostRuntime) -> Result<(), Fail> {
-    let alloc = rt.alloc();
-    let words = words_of(alloc, &["_", "tidy"])?;
-    let short = b"(a\n-hi\n)a\n".as_slice();
-    let faulty = b"(a\nA/ 1\n)a\n".as_slice();
-    let refusal = b"refused pyx 2 bad-name\n".as_slice();
-    let long_text = long_document(alloc)?;
-    let long = long_text.as_slice();
-    // The whole answer to the input, and how much of it is given where that call fails.
-    for (input, call, status, answer, given) in [
-        // Three reads, of which the last finds the end, and the output.
-        (short, 1, Status::ReadFault, short, 0),
-        (short, 3, Status::ReadFault, short, 0),
-        (short, 4, Status::WriteFault, short, 0),
-        // A read shows the fault, and none is made behind it.
-        (faulty, 2, Status::WriteFault, refusal, 0),
-        (faulty, 3, Status::Refused, refusal, 23),
-        // Five reads, and four blocks of whole lines: each but the last has 65,536 bytes and what
-        // ends its last line.
-        (long, 3, Status::ReadFault, long, 0),
-        (long, 6, Status::WriteFault, long, 0),
-        (long, 8, Status::WriteFault, long, 131_203),
-        (long, 10, Status::Done, long, 250_006),
-    ] {
-        // The first piece of `faulty` ends with its faulty line.
-        let piece = if input.len() < 12 { 8 } else { 65_536 };
-        let mut host = DisklessHost::new(alloc, input.to_vec(alloc)?, piece);
-        host.fail_call(call);
-        assert_eq!(rt; run(alloc, &words, &mut host), status, "{call}");
-        assert_eq!(rt; Some(host.output()), answer.get(..given));
-        let counts = host.counts();
-        assert_eq!(rt; counts.in_faults, u64::from(status == Status::ReadFault));
-        assert_eq!(rt; counts.out_faults, u64::from(status == Status::WriteFault));
+    let words = words_of(rt.alloc(), &["_", "tidy"])?;
+    for (input, call, status, answer, count) in FAILING {
+        let output = first(answer, count);
+        check_counted(&rt, rt.alloc(), &words, (input, 8, call), status, output)?;
+    }
+    Ok(())
+}
+
+#[test]
+fn a_failing_call_ends_a_long_run(rt: HostRuntime) -> Result<(), Fail> {
+    let words = words_of(rt.alloc(), &["_", "tidy"])?;
+    let text = long_document(rt.alloc())?;
+    assert_eq!(rt; text.len(), 250_006);
+    for (call, status, count) in FAILING_LONG {
+        let output = first(text.as_slice(), count);
+        let given = (text.as_slice(), 65_536, call);
+        check_counted(&rt, rt.alloc(), &words, given, status, output)?;
     }
     Ok(())
 }
 
 #[test]
 fn a_line_without_end_is_refused(rt: HostRuntime) -> Result<(), Fail> {
-    let alloc = rt.alloc();
-    let words = words_of(alloc, &["_", "tidy"])?;
+    let words = words_of(rt.alloc(), &["_", "tidy"])?;
     let mut host = EndlessHost::default();
-    assert_eq!(rt; run(alloc, &words, &mut host), Status::Refused);
+    let status = endless_status(rt.alloc(), &words, &mut host);
+    assert_eq!(rt; status, Status::Refused);
     // Seventeen blocks, and `refused pyx 1 long-line` with its LF.
-    assert_eq!(rt; host.taken, 1_114_112);
-    assert_eq!(rt; host.given, 24);
+    assert_eq!(rt; (host.taken, host.given), (1_114_112, 24));
     Ok(())
 }
 
 #[test]
 fn a_script_without_end_is_too_much(rt: HostRuntime) -> Result<(), Fail> {
-    let alloc = rt.alloc();
-    let words = words_of(alloc, &["_", "run"])?;
+    let words = words_of(rt.alloc(), &["_", "run"])?;
     let mut host = EndlessHost::default();
-    assert_eq!(rt; run(alloc, &words, &mut host), Status::TooMuch);
-    assert_eq!(rt; host.taken, 4_294_967_296);
-    assert_eq!(rt; host.given, 0);
+    let status = endless_status(rt.alloc(), &words, &mut host);
+    assert_eq!(rt; status, Status::TooMuch);
+    assert_eq!(rt; (host.taken, host.given), (4_294_967_296, 0));
     Ok(())
 }
 
 #[test]
-fn a_host_answers_each_call(rt: HostRuntime) -> Result<(), Fail> {
-    let alloc = rt.alloc();
-    let mut host = DisklessHost::new(alloc, b"abcde".to_vec(alloc)?, 3);
+fn a_host_gives_its_input_and_keeps_the_output(rt: HostRuntime) -> Result<(), Fail> {
+    let mut host = host_of(rt.alloc(), b"abcde", 3)?;
     let mut room = [0u8; 4];
-    assert_eq!(rt; host.read_in(&mut room), Ok(3));
-    host.emit(b"one ")?;
-    assert_eq!(rt; host.read_in(&mut room), Ok(2));
+    assert_eq!(rt; read_in(&mut host, &mut room), Ok(3));
+    assert_eq!(rt; emit(&mut host, b"one "), Ok(()));
+    assert_eq!(rt; read_in(&mut host, &mut room), Ok(2));
     assert_eq!(rt; room, *b"dec\0");
-    assert_eq!(rt; host.read_in(&mut room), Ok(0));
-    host.emit(b"two")?;
+    assert_eq!(rt; read_in(&mut host, &mut room), Ok(0));
+    assert_eq!(rt; emit(&mut host, b"two"), Ok(()));
     assert_eq!(rt; host.output(), b"one two".as_slice());
-    assert_eq!(rt; host.length(Area::Pages), Ok(0));
-    assert_eq!(rt; host.read(Area::Log, 7, &mut room), Ok(0));
-    assert_eq!(rt; host.sync(Area::Log), Ok(()));
-    assert_eq!(rt; host.write_at(Area::Pages, 0, b"page"), Err(Failed));
+    assert_eq!(rt; host.counts(), Counts::default());
+    Ok(())
+}
+
+#[test]
+fn a_host_has_no_room(rt: HostRuntime) -> Result<(), Fail> {
+    let mut host = host_of(rt.alloc(), b"", 3)?;
+    assert_eq!(rt; length(&mut host, Area::Pages), Ok(0));
+    assert_eq!(rt; read(&mut host, Area::Log, &mut [0u8; 4]), Ok(0));
+    assert_eq!(rt; sync(&mut host, Area::Log), Ok(()));
+    assert_eq!(rt; write_at(&mut host, Area::Pages, b"page"), Err(Failed));
     let expected = Counts {
         faults: 1,
         reads: 1,
@@ -190,25 +232,34 @@ fn a_host_answers_each_call(rt: HostRuntime) -> Result<(), Fail> {
     Ok(())
 }
 
+// Calls of each kind, of which the one with this number fails.
+fn check_calls(rt: &impl Abort, host: &mut DisklessHost, number: u64) {
+    let mut room = [0u8; 2];
+    assert_eq!(rt; read_in(host, &mut room).is_err(), number == 1);
+    assert_eq!(rt; emit(host, b"line").is_err(), number == 2);
+    assert_eq!(rt; length(host, Area::Log).is_err(), number == 3);
+    assert_eq!(rt; read(host, Area::Log, &mut room).is_err(), number == 4);
+    assert_eq!(rt; sync(host, Area::Pages).is_err(), number == 5);
+    assert!(rt; write_at(host, Area::Pages, b"page").is_err());
+}
+
+// What was counted and given by them.
+fn check_left(rt: &impl Abort, host: &DisklessHost, number: u64) {
+    assert_eq!(rt; host.output().is_empty(), number == 2);
+    let counts = host.counts();
+    assert_eq!(rt; counts.in_faults, u64::from(number == 1));
+    assert_eq!(rt; counts.out_faults, u64::from(number == 2));
+    assert_eq!(rt; counts.faults, 1 + u64::from(number > 2 && number < 6));
+}
+
 // Each of the six calls fails in its turn, and does nothing then.
 #[test]
 fn a_host_fails_at_a_call(rt: HostRuntime) -> Result<(), Fail> {
-    let alloc = rt.alloc();
     for number in 1..7u64 {
-        let mut host = DisklessHost::new(alloc, b"ab".to_vec(alloc)?, 2);
+        let mut host = host_of(rt.alloc(), b"ab", 2)?;
         host.fail_call(number);
-        let mut room = [0u8; 2];
-        assert_eq!(rt; host.read_in(&mut room).is_err(), number == 1);
-        assert_eq!(rt; host.emit(b"line").is_err(), number == 2);
-        assert_eq!(rt; host.length(Area::Log).is_err(), number == 3);
-        assert_eq!(rt; host.read(Area::Log, 0, &mut room).is_err(), number == 4);
-        assert_eq!(rt; host.sync(Area::Pages).is_err(), number == 5);
-        assert_eq!(rt; host.write_at(Area::Pages, 0, b"page").is_err(), true);
-        assert_eq!(rt; host.output().is_empty(), number == 2);
-        let counts = host.counts();
-        assert_eq!(rt; counts.in_faults, u64::from(number == 1));
-        assert_eq!(rt; counts.out_faults, u64::from(number == 2));
-        assert_eq!(rt; counts.faults, 1 + u64::from(number > 2 && number < 6));
+        check_calls(&rt, &mut host, number);
+        check_left(&rt, &host, number);
     }
     Ok(())
 }

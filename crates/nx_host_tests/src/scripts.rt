@@ -1,9 +1,11 @@
 // Scripts, and the commands that they give.
+use crate::driven::{host_of, next};
 use crate::host::DisklessHost;
 use nx_pyx::{PyxError, push_node_line, push_number, write};
-use nx_script::{Command, LineBody, LoadBody, Script, TextBody};
-use nx_tree::{Bytes, NoMemory, Path};
+use nx_script::{Command, LineBody, LoadBody, Script, ScriptError, TextBody};
+use nx_tree::{Bytes, NoMemory, Path, Tree};
 use std::alloc::Global;
+use std::process::Abort;
 use std::test::Fail;
 
 // A line, and its command in words: its name, the document's, the positions of the path, and the
@@ -201,135 +203,214 @@ fn push_fault(text: &mut Bytes, error: PyxError) -> Result<(), NoMemory> {
     text.extend_from_slice(error.fault.word().as_bytes())
 }
 
-// Adds the command in words: its own, the document's name, the positions of the path, and the document,
-// the node, the content or the fault.
-fn push(alloc: Global, text: &mut Bytes, command: &Command) -> Result<(), NoMemory> {
-    let root = Path::new(alloc);
-    match command {
-        Command::Load { name, body } => {
-            push_place(text, b"load ", name, &root)?;
-            match body {
-                LoadBody::Read(tree) => {
-                    text.push(b'\n')?;
-                    return text.extend_from_slice(write(alloc, tree)?.as_slice());
-                }
-                LoadBody::Wrong(error) => push_fault(text, *error)?,
-            }
+fn push_load(
+    alloc: Global,
+    text: &mut Bytes,
+    name: &Bytes,
+    body: &LoadBody,
+) -> Result<(), NoMemory> {
+    push_name(alloc, text, b"load ", name)?;
+    match body {
+        LoadBody::Read(tree) => push_document(alloc, text, tree),
+        LoadBody::Wrong(error) => {
+            push_fault(text, *error)?;
+            text.push(b'\n')
         }
-        Command::Discard { name } => push_place(text, b"drop ", name, &root)?,
-        Command::Names => text.extend_from_slice(b"names")?,
-        Command::Export { name } => push_place(text, b"export ", name, &root)?,
+    }
+}
+
+fn push_document(alloc: Global, text: &mut Bytes, tree: &Tree) -> Result<(), NoMemory> {
+    text.push(b'\n')?;
+    text.extend_from_slice(write(alloc, tree)?.as_slice())
+}
+
+fn push_name(alloc: Global, text: &mut Bytes, word: &[u8], name: &Bytes) -> Result<(), NoMemory> {
+    push_place(text, word, name, &Path::new(alloc))
+}
+
+fn push_line(text: &mut Bytes, line: &LineBody) -> Result<(), NoMemory> {
+    match line {
+        LineBody::Read(node) => {
+            text.extend_from_slice(b": ")?;
+            push_node_line(text, node)
+        }
+        LineBody::Wrong(error) => push_fault(text, *error),
+    }
+}
+
+fn push_content(text: &mut Bytes, body: &TextBody) -> Result<(), NoMemory> {
+    match body {
+        TextBody::Read(content) => {
+            text.extend_from_slice(b": ")?;
+            text.extend_from_slice(content.as_slice())
+        }
+        TextBody::Wrong(error) => push_fault(text, *error),
+    }
+}
+
+// A command of one document.
+fn push_one(alloc: Global, text: &mut Bytes, command: &Command) -> Result<(), NoMemory> {
+    match command {
+        Command::Discard { name } => push_name(alloc, text, b"drop ", name),
+        Command::Export { name } => push_name(alloc, text, b"export ", name),
+        Command::Layout { name } => push_name(alloc, text, b"layout ", name),
+        _ => push_other(alloc, text, command),
+    }
+}
+
+// A command of a node.
+fn push_edit(alloc: Global, text: &mut Bytes, command: &Command) -> Result<(), NoMemory> {
+    match command {
         Command::Insert { name, path, line } => {
             push_place(text, b"insert ", name, path)?;
-            match line {
-                LineBody::Read(node) => {
-                    text.extend_from_slice(b": ")?;
-                    push_node_line(text, node)?;
-                }
-                LineBody::Wrong(error) => push_fault(text, *error)?,
-            }
+            push_line(text, line)
         }
-        Command::Delete { name, path } => push_place(text, b"delete ", name, path)?,
         Command::Retext {
             name,
             path,
             text: body,
         } => {
             push_place(text, b"retext ", name, path)?;
-            match body {
-                TextBody::Read(content) => {
-                    text.extend_from_slice(b": ")?;
-                    text.extend_from_slice(content.as_slice())?;
-                }
-                TextBody::Wrong(error) => push_fault(text, *error)?,
-            }
+            push_content(text, body)
         }
-        Command::Get { name, path } => push_place(text, b"get ", name, path)?,
-        Command::Layout { name } => push_place(text, b"layout ", name, &root)?,
-        Command::SetRule { rule } => {
-            push_place(text, b"rule ", &rule.parent, &root)?;
-            push_place(text, b" ", &rule.child, &root)?;
-        }
-        Command::Rules => text.extend_from_slice(b"rules")?,
-        Command::Checkpoint => text.extend_from_slice(b"checkpoint")?,
-        Command::Bad => text.extend_from_slice(b"bad")?,
+        Command::Delete { name, path } => push_place(text, b"delete ", name, path),
+        Command::Get { name, path } => push_place(text, b"get ", name, path),
+        _ => push_one(alloc, text, command),
     }
+}
+
+// A command of no document.
+fn push_other(alloc: Global, text: &mut Bytes, command: &Command) -> Result<(), NoMemory> {
+    match command {
+        Command::Names => text.extend_from_slice(b"names"),
+        Command::SetRule { rule } => {
+            push_name(alloc, text, b"rule ", &rule.parent)?;
+            push_name(alloc, text, b" ", &rule.child)
+        }
+        Command::Rules => text.extend_from_slice(b"rules"),
+        Command::Checkpoint => text.extend_from_slice(b"checkpoint"),
+        _ => text.extend_from_slice(b"bad"),
+    }
+}
+
+// Adds the command in words: its own, the document's name, the positions of the path, and the document,
+// the node, the content or the fault.
+fn push(alloc: Global, text: &mut Bytes, command: &Command) -> Result<(), NoMemory> {
+    if let Command::Load { name, body } = command {
+        return push_load(alloc, text, name, body);
+    }
+    push_edit(alloc, text, command)?;
     text.push(b'\n')
 }
 
-// The commands of a script of these bytes, the ones behind the others, that comes in pieces of so many.
-fn commands(alloc: Global, prefix: &[u8], back: &[u8], piece: usize) -> Result<Bytes, Fail> {
-    let mut input = Vec::from_slice(alloc, prefix)?;
-    input.extend_from_slice(back)?;
-    let mut host = DisklessHost::new(alloc, input, piece.max(1));
+// Adds the next command, and says whether there was one.
+fn push_next(
+    alloc: Global,
+    text: &mut Bytes,
+    script: &mut Script,
+    host: &mut DisklessHost,
+) -> Result<bool, ScriptError> {
+    match next(script, host)? {
+        Some(command) => {
+            push(alloc, text, &command)?;
+            Ok(true)
+        }
+        None => Ok(false),
+    }
+}
+
+// The commands of a script of these bytes that comes in pieces of so many.
+fn commands_of(alloc: Global, input: &[u8], piece: usize) -> Result<Bytes, ScriptError> {
+    let mut host = host_of(alloc, input, piece)?;
     let mut script = Script::new(alloc)?;
     let mut text = Bytes::new(alloc);
     for _ in 0..100 {
-        match script.next(&mut host)? {
-            Some(command) => push(alloc, &mut text, &command)?,
-            None => break,
+        if !push_next(alloc, &mut text, &mut script, &mut host)? {
+            break;
         }
     }
     Ok(text)
 }
 
+// The same of two texts, one behind the other.
+fn commands(alloc: Global, prefix: &[u8], back: &[u8], piece: usize) -> Result<Bytes, ScriptError> {
+    let input = [prefix, back].concat(alloc)?;
+    commands_of(alloc, input.as_slice(), piece)
+}
+
 #[test]
 fn lines(rt: HostRuntime) -> Result<(), Fail> {
-    let alloc = rt.alloc();
     for (line, expected) in LINES {
-        let text = commands(alloc, line, b"\n", 1000)?;
-        assert_eq!(rt;
-            text.as_slice().strip_suffix(b"\n"),
-            Some(expected),
-            "{line:?}"
-        );
-    }
-    let bad = b"bad\n".as_slice();
-    for line in WRONG_FIELDS {
-        assert_eq!(rt;
-            commands(alloc, line, b"\n", 1000)?.as_slice(),
-            bad,
-            "{line:?}"
-        );
-    }
-    for path in WRONG_PATHS {
-        let text = commands(alloc, b"get d ", path, 1000)?;
-        assert_eq!(rt; text.as_slice(), bad, "{path:?}");
-    }
-    for name in WRONG_NAMES {
-        let text = commands(alloc, b"drop ", name, 1000)?;
-        assert_eq!(rt; text.as_slice(), bad, "{name:?}");
+        let text = commands(rt.alloc(), line, b"\n", 1000)?;
+        let found = text.as_slice().strip_suffix(b"\n");
+        assert_eq!(rt; found, Some(expected), "{line:?}");
     }
     Ok(())
 }
 
+// The two texts are a line that is no command.
+fn check_bad(rt: &impl Abort, alloc: Global, prefix: &[u8], back: &[u8]) -> Result<(), Fail> {
+    let text = commands(alloc, prefix, back, 1000)?;
+    assert_eq!(rt; text.as_slice(), b"bad\n".as_slice(), "{prefix:?} {back:?}");
+    Ok(())
+}
+
+#[test]
+fn wrong_lines(rt: HostRuntime) -> Result<(), Fail> {
+    for line in WRONG_FIELDS {
+        check_bad(&rt, rt.alloc(), line, b"\n")?;
+    }
+    for path in WRONG_PATHS {
+        check_bad(&rt, rt.alloc(), b"get d ", path)?;
+    }
+    for name in WRONG_NAMES {
+        check_bad(&rt, rt.alloc(), b"drop ", name)?;
+    }
+    Ok(())
+}
+
+// The length of the command in words of so many digits behind the prefix.
+fn length_of(alloc: Global, prefix: &[u8], count: usize) -> Result<usize, ScriptError> {
+    let line = Bytes::from_vec(Vec::from_elem(alloc, b'9', count)?);
+    let text = commands(alloc, prefix, line.as_slice(), 65_536)?;
+    Ok(text.len())
+}
+
 #[test]
 fn lengths(rt: HostRuntime) -> Result<(), Fail> {
-    let alloc = rt.alloc();
     for (prefix, count, expected) in LENGTHS {
-        let line = Vec::from_elem(alloc, b'9', count)?;
-        let text = commands(alloc, prefix, line.as_slice(), 65_536)?;
-        assert_eq!(rt; text.len(), expected.saturating_add(1));
+        let found = length_of(rt.alloc(), prefix, count)?;
+        assert_eq!(rt; found, expected.saturating_add(1));
     }
     Ok(())
 }
 
 #[test]
 fn scripts(rt: HostRuntime) -> Result<(), Fail> {
-    let alloc = rt.alloc();
     for (script, expected) in SCRIPTS {
         for piece in [1, 2, 1000usize] {
-            let text = commands(alloc, script, b"", piece)?;
+            let text = commands_of(rt.alloc(), script, piece)?;
             assert_eq!(rt; text.as_slice(), expected, "{script:?}");
         }
     }
+    Ok(())
+}
+
+// The lines of the long script.
+fn long_script(alloc: Global) -> Result<Bytes, NoMemory> {
     let mut script = Bytes::new(alloc);
     for line in SCRIPT {
         script.extend_from_slice(line)?;
         script.push(b'\n')?;
     }
+    Ok(script)
+}
+
+#[test]
+fn long_scripts(rt: HostRuntime) -> Result<(), Fail> {
+    let script = long_script(rt.alloc())?;
     for piece in [1, 2, 3, 7, 1000usize] {
-        let text = commands(alloc, script.as_slice(), b"", piece)?;
+        let text = commands_of(rt.alloc(), script.as_slice(), piece)?;
         assert_eq!(rt; text.as_slice(), COMMANDS);
     }
     Ok(())

@@ -1,8 +1,10 @@
 // Runs of scripts.
-use crate::host::{Counts, DisklessHost};
-use crate::runs::words_of;
-use nx_front::{Status, run};
-use nx_script::{Command, Script};
+use crate::driven::{check_failing, check_run, host_of, next, words_of};
+use crate::host::DisklessHost;
+use nx_front::Status;
+use nx_script::{Command, Script, ScriptError};
+use std::alloc::Global;
+use std::process::Abort;
 use std::test::Fail;
 
 // Whole scripts and all that they are answered: documents with their faults, the end of the input
@@ -40,15 +42,18 @@ const SCRIPTS: [(&str, &str); 9] = [
 // However the input is cut into pieces.
 #[test]
 fn a_script_has_its_replies(rt: HostRuntime) -> Result<(), Fail> {
-    let alloc = rt.alloc();
-    let words = words_of(alloc, &["_", "run"])?;
+    let words = words_of(rt.alloc(), &["_", "run"])?;
     for (input, output) in SCRIPTS {
         for piece in 1..20usize {
-            assert!(rt; piece > 0);
-            let mut host = DisklessHost::new(alloc, input.as_bytes().to_vec(alloc)?, piece);
-            assert_eq!(rt; run(alloc, &words, &mut host), Status::Done, "{input:?}");
-            assert_eq!(rt; host.output(), output.as_bytes(), "{input:?}");
-            assert_eq!(rt; host.counts(), Counts::default());
+            let given = (input.as_bytes(), piece);
+            check_run(
+                &rt,
+                rt.alloc(),
+                &words,
+                given,
+                Status::Done,
+                output.as_bytes(),
+            )?;
         }
     }
     Ok(())
@@ -65,68 +70,80 @@ fn said(command: &Command) -> (&str, &[u8]) {
     }
 }
 
-// One after the other, however the input is cut, and then their end each time.
-#[test]
-fn a_script_gives_its_commands(rt: HostRuntime) -> Result<(), Fail> {
-    let alloc = rt.alloc();
-    let input = b"load d\n(a\n)a\n.\nnames\n\ndrop e\nload f\n(a";
-    for piece in 1..20usize {
-        assert!(rt; piece > 0);
-        let mut host = DisklessHost::new(alloc, input.to_vec(alloc)?, piece);
-        let mut script = Script::new(alloc)?;
-        for want in [
-            ("load", b"d".as_slice()),
-            ("names", b""),
-            ("bad", b""),
-            ("drop", b"e"),
-            ("bad", b""),
-        ] {
-            let next = script.next(&mut host)?;
-            assert_eq!(rt; next.as_ref().map(|command| said(command)), Some(want));
-        }
-        for _ in 0..2 {
-            assert!(rt; script.next(&mut host)?.is_none());
-            assert_eq!(rt; script.taken(), 38);
-        }
+const SCRIPT: &[u8] = b"load d\n(a\n)a\n.\nnames\n\ndrop e\nload f\n(a";
+
+const COMMANDS: [(&str, &[u8]); 5] = [
+    ("load", b"d"),
+    ("names", b""),
+    ("bad", b""),
+    ("drop", b"e"),
+    ("bad", b""),
+];
+
+// Whether that is the next command.
+fn is_next(
+    script: &mut Script,
+    host: &mut DisklessHost,
+    want: (&str, &[u8]),
+) -> Result<bool, ScriptError> {
+    Ok(match next(script, host)? {
+        Some(command) => said(&command) == want,
+        None => false,
+    })
+}
+
+// Whether the script has ended, with all of it taken.
+fn is_at_end(script: &mut Script, host: &mut DisklessHost) -> Result<bool, ScriptError> {
+    let is_none = next(script, host)?.is_none();
+    Ok(is_none && script.taken() == 38)
+}
+
+fn check_commands(rt: &impl Abort, alloc: Global, piece: usize) -> Result<(), Fail> {
+    let mut host = host_of(alloc, SCRIPT, piece)?;
+    let mut script = Script::new(alloc)?;
+    for want in COMMANDS {
+        assert!(rt; is_next(&mut script, &mut host, want)?, "{want:?}");
+    }
+    for _ in 0..2 {
+        assert!(rt; is_at_end(&mut script, &mut host)?);
     }
     Ok(())
 }
 
+// One after the other, however the input is cut, and then their end each time.
+#[test]
+fn a_script_gives_its_commands(rt: HostRuntime) -> Result<(), Fail> {
+    for piece in 1..20usize {
+        check_commands(&rt, rt.alloc(), piece)?;
+    }
+    Ok(())
+}
+
+// The pieces' length, the read that fails, and what was given by then.
+const READS: [(usize, u64, &[u8]); 5] = [
+    (6, 1, b""),
+    (6, 3, b".\n"),
+    (6, 5, b".\nerror syntax\n"),
+    (9, 3, b".\n"),
+    (21, 3, b".\nerror syntax\nerror no-document\n"),
+];
+
 // A program at the other end has its reply before it is asked for more.
 #[test]
 fn a_reply_comes_before_more_is_read(rt: HostRuntime) -> Result<(), Fail> {
-    let alloc = rt.alloc();
-    let words = words_of(alloc, &["_", "run"])?;
+    let words = words_of(rt.alloc(), &["_", "run"])?;
     let input = b"names\nget x\nget y /\nna";
-    // The pieces' length, the read that fails, and what was given by then.
-    let cases: [(usize, u64, &[u8]); 5] = [
-        (6, 1, b""),
-        (6, 3, b".\n"),
-        (6, 5, b".\nerror syntax\n"),
-        (9, 3, b".\n"),
-        (21, 3, b".\nerror syntax\nerror no-document\n"),
-    ];
-    for (piece, call, output) in cases {
-        assert!(rt; piece > 0);
-        let mut host = DisklessHost::new(alloc, input.to_vec(alloc)?, piece);
-        host.fail_call(call);
-        assert_eq!(rt;
-            run(alloc, &words, &mut host),
-            Status::ReadFault,
-            "{piece} {call}"
-        );
-        assert_eq!(rt; host.output(), output);
+    for (piece, call, output) in READS {
+        let given = (input.as_slice(), piece, call);
+        check_failing(&rt, rt.alloc(), &words, given, Status::ReadFault, output)?;
     }
     Ok(())
 }
 
 #[test]
 fn a_reply_that_cannot_be_given_ends_the_run(rt: HostRuntime) -> Result<(), Fail> {
-    let alloc = rt.alloc();
-    let words = words_of(alloc, &["_", "run"])?;
-    let mut host = DisklessHost::new(alloc, b"names\nnames\n".to_vec(alloc)?, 6);
-    host.fail_call(4);
-    assert_eq!(rt; run(alloc, &words, &mut host), Status::WriteFault);
-    assert_eq!(rt; host.output(), b".\n".as_slice());
+    let words = words_of(rt.alloc(), &["_", "run"])?;
+    let given = (b"names\nnames\n".as_slice(), 6, 4);
+    check_failing(&rt, rt.alloc(), &words, given, Status::WriteFault, b".\n")?;
     Ok(())
 }

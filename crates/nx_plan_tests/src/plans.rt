@@ -1,8 +1,13 @@
 // Texts of plans, and plans that are certified or refused.
+ghost use Rattle.nx_tree.specs.Document.{IsDocument};
+
 use nx_bounds::{BoundsError, Field, certified, read_plan, write_plan};
 use nx_document_tests::read;
-use nx_parts::PartsError;
+use nx_parts::{PartsError, Plan};
+use nx_tree::{Bytes, Tree};
 use nx_weights::Weights;
+use std::alloc::Global;
+use std::process::Abort;
 use std::test::Fail;
 
 // A text that is no plan, and its first bad line.
@@ -69,118 +74,184 @@ const GOOD: [(&[u8], &[u8]); 6] = [
     ),
 ];
 
+// Why a text is no plan; `None` where it is one.
+fn refusal(alloc: Global, text: &[u8]) -> Option<BoundsError> {
+    read_plan(alloc, text).err()
+}
+
 #[test]
-fn bad_lines(rt: HostRuntime) -> Result<(), Fail> {
+fn bad_lines(rt: HostRuntime) {
     for (text, line) in BAD {
-        match read_plan(rt.alloc(), text) {
-            Ok(_) => assert!(rt; false, "line {line}"),
-            Err(BoundsError::Memory) => return Err(BoundsError::Memory.into()),
-            Err(error) => assert_eq!(rt; error, BoundsError::BadPlanLine { line }),
-        }
+        let want = BoundsError::BadPlanLine { line };
+        assert_eq!(rt; refusal(rt.alloc(), text), Some(want));
     }
-    Ok(())
+}
+
+fn rewritten(alloc: Global, text: &[u8]) -> Result<Bytes, BoundsError> {
+    let plan = read_plan(alloc, text)?;
+    Ok(write_plan(alloc, &plan)?)
 }
 
 #[test]
 fn plans(rt: HostRuntime) -> Result<(), Fail> {
-    let alloc = rt.alloc();
     for (text, expected) in GOOD {
-        let plan = read_plan(alloc, text)?;
-        let written = write_plan(alloc, &plan)?;
-        assert_eq!(rt; written.as_slice(), expected);
+        assert_eq!(rt; rewritten(rt.alloc(), text)?.as_slice(), expected);
     }
     Ok(())
 }
 
 const SOUND: &[u8] = b"root 3\nbound 0 1 3 1\nbound 1 1 2 2\n";
 
-fn unsupported(node: u32, field: Field, claimed: u32, found: u32) -> Result<(), BoundsError> {
-    Err(BoundsError::Unsupported {
-        node,
-        field,
-        claimed,
-        found,
-    })
+// A plan with weights to take in place of those that it says, and the verdict on it.
+const WEIGHED: [(Option<&[u64]>, Result<(), BoundsError>); 4] = [
+    (None, Ok(())),
+    (Some(&[3, 9]), Ok(())),
+    (
+        Some(&[]),
+        Err(BoundsError::WrongWeight {
+            index: 0,
+            claimed: 0,
+            found: 3,
+        }),
+    ),
+    (
+        Some(&[2, 3]),
+        Err(BoundsError::WrongWeight {
+            index: 0,
+            claimed: 2,
+            found: 3,
+        }),
+    ),
+];
+
+const HEAVY: PartsError = PartsError::Heavy {
+    index: 0,
+    weight: 3,
+};
+
+// A greatest weight of a part, a plan, and what refuses it.
+const REFUSED: [(u32, &[u8], BoundsError); 4] = [
+    (2, SOUND, BoundsError::Parts(HEAVY)),
+    (
+        3,
+        b"bound 0 1 3 1\nbound 1 1 2 2\n",
+        BoundsError::Parts(PartsError::NoRoot),
+    ),
+    (
+        3,
+        b"root 3\nbound 0 1 3 1\n",
+        BoundsError::Length {
+            bounds: 1,
+            nodes: 2,
+        },
+    ),
+    (
+        3,
+        b"root 1\nrun / 0 0 2\nbound 0 1 3 1\nbound 1 1 2 2\n",
+        BoundsError::Count {
+            intervals: 2,
+            bound: 1,
+        },
+    ),
+];
+
+// A plan, and the number in it that isn't supported.
+const UNSUPPORTED: [(&[u8], u32, Field, u32, u32); 4] = [
+    (
+        b"root 3\nbound 0 1 3 1\nbound 1 2 2 2\n",
+        1,
+        Field::Least,
+        2,
+        1,
+    ),
+    (
+        b"root 3\nbound 0 2 3 1\nbound 1 1 2 2\n",
+        0,
+        Field::Least,
+        2,
+        1,
+    ),
+    (
+        b"root 3\nbound 0 1 4 1\nbound 1 1 2 2\n",
+        0,
+        Field::Lean,
+        4,
+        3,
+    ),
+    (
+        b"root 3\nbound 0 1 3 2\nbound 1 1 2 2\n",
+        0,
+        Field::Nearly,
+        2,
+        1,
+    ),
+];
+
+fn claimed(alloc: Global, text: &[u8], weights: Option<&[u64]>) -> Result<Plan, BoundsError> {
+    let mut plan = read_plan(alloc, text)?;
+    if let Some(weights) = weights {
+        plan.weights = Weights::from_slice(alloc, weights)?;
+    }
+    Ok(plan)
 }
 
-fn wrong_weight(claimed: u64) -> Result<(), BoundsError> {
-    Err(BoundsError::WrongWeight {
-        index: 0,
-        claimed,
-        found: 3,
-    })
+// What the certificate says of a short plan.
+fn certify(
+    rt: &impl Abort,
+    alloc: Global,
+    tree: &Tree,
+    k: u32,
+    plan: &Plan,
+) -> Result<(), BoundsError>
+    requires { IsDocument tree.now }
+{
+    assert!(rt; 0 < k && k < 4);
+    assert!(rt; plan.parts.len() < 4 && plan.weights.len() < 4 && plan.bounds.len() < 4);
+    certified(alloc, tree, k, plan)
 }
 
-// A greatest weight of a part, a plan, weights to take in place of those that it says, and the verdict
-// on it for the document of one element, which weighs 2 slots below the root's one.
+// The verdict on a plan of the document of one element, which weighs 2 slots below the root's one.
+fn verdict(
+    rt: &impl Abort,
+    alloc: Global,
+    k: u32,
+    text: &[u8],
+    weights: Option<&[u64]>,
+) -> Result<Result<(), BoundsError>, Fail> {
+    let tree = read(alloc, b"(e\n)e\n")?;
+    let plan = claimed(alloc, text, weights)?;
+    Ok(certify(rt, alloc, &tree, k, &plan))
+}
+
+#[test]
+fn verdicts_on_weights(rt: HostRuntime) -> Result<(), Fail> {
+    for (weights, want) in WEIGHED {
+        let found = verdict(&rt, rt.alloc(), 3, SOUND, weights)?;
+        assert_eq!(rt; found, want);
+    }
+    Ok(())
+}
+
 #[test]
 fn verdicts(rt: HostRuntime) -> Result<(), Fail> {
-    let alloc = rt.alloc();
-    let tree = read(alloc, b"(e\n)e\n")?;
-    let heavy = PartsError::Heavy {
-        index: 0,
-        weight: 3,
-    };
-    let length = BoundsError::Length {
-        bounds: 1,
-        nodes: 2,
-    };
-    let count = BoundsError::Count {
-        intervals: 2,
-        bound: 1,
-    };
-    let cases: [(u32, &[u8], Option<&[u64]>, Result<(), BoundsError>); 12] = [
-        (3, SOUND, None, Ok(())),
-        (3, SOUND, Some(&[3, 9]), Ok(())),
-        (2, SOUND, None, Err(BoundsError::Parts(heavy))),
-        (
-            3,
-            b"bound 0 1 3 1\nbound 1 1 2 2\n",
-            None,
-            Err(BoundsError::Parts(PartsError::NoRoot)),
-        ),
-        (3, SOUND, Some(&[]), wrong_weight(0)),
-        (3, SOUND, Some(&[2, 3]), wrong_weight(2)),
-        (3, b"root 3\nbound 0 1 3 1\n", None, Err(length)),
-        (
-            3,
-            b"root 3\nbound 0 1 3 1\nbound 1 2 2 2\n",
-            None,
-            unsupported(1, Field::Least, 2, 1),
-        ),
-        (
-            3,
-            b"root 3\nbound 0 2 3 1\nbound 1 1 2 2\n",
-            None,
-            unsupported(0, Field::Least, 2, 1),
-        ),
-        (
-            3,
-            b"root 3\nbound 0 1 4 1\nbound 1 1 2 2\n",
-            None,
-            unsupported(0, Field::Lean, 4, 3),
-        ),
-        (
-            3,
-            b"root 3\nbound 0 1 3 2\nbound 1 1 2 2\n",
-            None,
-            unsupported(0, Field::Nearly, 2, 1),
-        ),
-        (
-            3,
-            b"root 1\nrun / 0 0 2\nbound 0 1 3 1\nbound 1 1 2 2\n",
-            None,
-            Err(count),
-        ),
-    ];
-    for (k, text, weights, want) in cases {
-        let mut plan = read_plan(alloc, text)?;
-        if let Some(weights) = weights {
-            plan.weights = Weights::from_vec(Vec::from_slice(alloc, weights)?);
-        }
-        assert!(rt; 0 < k && k < 4);
-        assert!(rt; plan.parts.len() < 4 && plan.weights.len() < 4 && plan.bounds.len() < 4);
-        assert_eq!(rt; certified(alloc, &tree, k, &plan), want);
+    for (k, text, refusal) in REFUSED {
+        let found = verdict(&rt, rt.alloc(), k, text, None)?;
+        assert_eq!(rt; found, Err(refusal));
+    }
+    Ok(())
+}
+
+#[test]
+fn verdicts_on_bounds(rt: HostRuntime) -> Result<(), Fail> {
+    for (text, node, field, claimed, found) in UNSUPPORTED {
+        let refusal = BoundsError::Unsupported {
+            node,
+            field,
+            claimed,
+            found,
+        };
+        let verdict = verdict(&rt, rt.alloc(), 3, text, None)?;
+        assert_eq!(rt; verdict, Err(refusal));
     }
     Ok(())
 }

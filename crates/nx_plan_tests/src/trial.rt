@@ -15,7 +15,7 @@ use documents::{Shape, any_intervals, document, partitioning, partitioning_codes
 use minima::{Measured, measure, minima};
 use nx_bounds::{BoundsError, Field, supported};
 use nx_document_tests::read;
-use nx_parts::{Bound, Bounds, Partitioning, check_feasible};
+use nx_parts::{Bound, Bounds, Partitioning, PartsError, check_feasible};
 use nx_tree::{NoMemory, Tree};
 use plain::{check_plainly, placed_nodes, slots};
 use random::Random;
@@ -80,17 +80,12 @@ fn shapes(alloc: Global) -> Result<Vec<Shape>, NoMemory> {
 
 #[test]
 fn tries_all_partitionings(rt: HostRuntime) -> Result<(), Fail> {
-    let alloc = rt.alloc();
     let mut random = Random::new(1);
     let mut tried = Tried::new();
-    for shape in shapes(alloc)?.as_slice() {
+    for shape in shapes(rt.alloc())?.as_slice() {
         for number in 0..6 {
-            let weights = number + 6 * random.below(27);
-            if let Some(tree) = document(alloc, *shape, weights)? {
-                add_one(&mut tried.documents);
-                try_partitionings(&rt, alloc, &tree, &mut tried)?;
-                try_intervals(&rt, alloc, &tree, &mut random, &mut tried)?;
-            }
+            let weights = random.below(27).saturating_mul(6).saturating_add(number);
+            try_lists(&rt, rt.alloc(), *shape, weights, &mut random, &mut tried)?;
         }
     }
     assert_eq!(rt;
@@ -104,6 +99,23 @@ fn tries_all_partitionings(rt: HostRuntime) -> Result<(), Fail> {
             obeyed: 0,
         }
     );
+    Ok(())
+}
+
+// Lists of intervals of the document of that shape, if there is one.
+fn try_lists(
+    rt: &impl Abort,
+    alloc: Global,
+    shape: Shape,
+    weights: u32,
+    random: &mut Random,
+    tried: &mut Tried,
+) -> Result<(), Fail> {
+    if let Some(tree) = document(alloc, shape, weights)? {
+        add_one(&mut tried.documents);
+        try_partitionings(rt, alloc, &tree, tried)?;
+        try_intervals(rt, alloc, &tree, random, tried)?;
+    }
     Ok(())
 }
 
@@ -151,9 +163,8 @@ fn try_list(
 ) -> Result<(), Fail>
     requires { IsDocument tree.now }
 {
-    assert!(rt; parts.len() < 100);
     for k in 1..8 {
-        let found = check_feasible(alloc, tree, k, parts);
+        let found = feasible(rt, alloc, tree, k, parts);
         assert_eq!(rt; found, check_plainly(alloc, tree, k, parts));
         add_one(&mut tried.lists);
         if found.is_ok() {
@@ -163,17 +174,27 @@ fn try_list(
     Ok(())
 }
 
+// What the check of a short list says.
+fn feasible(
+    rt: &impl Abort,
+    alloc: Global,
+    tree: &Tree,
+    k: u32,
+    parts: &Partitioning,
+) -> Result<(), PartsError>
+    requires { IsDocument tree.now }
+{
+    assert!(rt; parts.len() < 100);
+    check_feasible(alloc, tree, k, parts)
+}
+
 #[test]
 fn tries_bounds(rt: HostRuntime) -> Result<(), Fail> {
-    let alloc = rt.alloc();
     let mut random = Random::new(2);
     let mut tried = Tried::new();
-    for shape in shapes(alloc)?.as_slice() {
+    for shape in shapes(rt.alloc())?.as_slice() {
         let weights = random.below(162);
-        if let Some(tree) = document(alloc, *shape, weights)? {
-            add_one(&mut tried.documents);
-            try_bounds(&rt, alloc, &tree, &mut random, &mut tried)?;
-        }
+        try_shape(&rt, rt.alloc(), *shape, weights, &mut random, &mut tried)?;
     }
     assert_eq!(rt;
         tried,
@@ -189,6 +210,22 @@ fn tries_bounds(rt: HostRuntime) -> Result<(), Fail> {
     Ok(())
 }
 
+// Bounds of the document of that shape, if there is one.
+fn try_shape(
+    rt: &impl Abort,
+    alloc: Global,
+    shape: Shape,
+    weights: u32,
+    random: &mut Random,
+    tried: &mut Tried,
+) -> Result<(), Fail> {
+    if let Some(tree) = document(alloc, shape, weights)? {
+        add_one(&mut tried.documents);
+        try_bounds(rt, alloc, &tree, random, tried)?;
+    }
+    Ok(())
+}
+
 // The subtrees in document order, the tree itself the first.
 fn subtrees(alloc: Global, tree: &Tree) -> Result<Vec<&Tree>, NoMemory> {
     let mut list = Vec::new(alloc);
@@ -196,6 +233,30 @@ fn subtrees(alloc: Global, tree: &Tree) -> Result<Vec<&Tree>, NoMemory> {
         list.push(placed.tree)?;
     }
     Ok(list)
+}
+
+// All partitionings of each subtree.
+fn measure_all(alloc: Global, subtrees: &[&Tree]) -> Result<Vec<Vec<Measured>>, NoMemory> {
+    let mut lists = Vec::new(alloc);
+    for subtree in subtrees {
+        lists.push(measure_tree(alloc, subtree)?)?;
+    }
+    Ok(lists)
+}
+
+fn measure_tree(alloc: Global, tree: &Tree) -> Result<Vec<Measured>, NoMemory> {
+    let nodes = placed_nodes(alloc, tree)?;
+    measure(alloc, nodes.as_slice())
+}
+
+// What the heaviest of the subtrees' roots weighs.
+fn heaviest_root(subtrees: &[&Tree]) -> u32 {
+    let mut heaviest = 1;
+    for subtree in subtrees {
+        let own = slots(&subtree.node);
+        heaviest = u32::try_from(own).unwrap_or(1).max(heaviest);
+    }
+    heaviest
 }
 
 fn try_bounds(
@@ -208,30 +269,85 @@ fn try_bounds(
     requires { IsDocument tree.now }
 {
     let subtrees = subtrees(alloc, tree)?;
-    let mut lists = Vec::new(alloc);
-    let mut heaviest = 1;
-    for subtree in subtrees.as_slice() {
-        lists.push(measure(alloc, placed_nodes(alloc, subtree)?.as_slice())?)?;
-        let own = slots(&subtree.node);
-        heaviest = u32::try_from(own).unwrap_or(1).max(heaviest);
-    }
+    let lists = measure_all(alloc, subtrees.as_slice())?;
+    let heaviest = heaviest_root(subtrees.as_slice());
     for k in 1..heaviest.saturating_add(3) {
         if heaviest <= k {
-            let bounds = all_minima(alloc, k, lists.as_slice())?;
-            try_minima(rt, alloc, k, tree, bounds.as_slice(), tried)?;
+            try_all_minima(rt, alloc, k, tree, lists.as_slice(), tried)?;
         }
         for _ in 0..3 {
             let bounds = any_supported(alloc, k, subtrees.as_slice(), random)?;
-            let supported = try_claims(rt, alloc, k, tree, bounds.as_slice(), tried)?;
-            assert_eq!(rt; supported, Ok(()));
-            try_law(rt, k, bounds.as_slice(), lists.as_slice(), tried)?;
+            try_supported(
+                rt,
+                alloc,
+                k,
+                tree,
+                bounds.as_slice(),
+                lists.as_slice(),
+                tried,
+            )?;
             let bounds = any_near(alloc, bounds.as_slice(), random)?;
-            if try_claims(rt, alloc, k, tree, bounds.as_slice(), tried)?.is_ok() {
-                try_law(rt, k, bounds.as_slice(), lists.as_slice(), tried)?;
-            }
+            try_near(
+                rt,
+                alloc,
+                k,
+                tree,
+                bounds.as_slice(),
+                lists.as_slice(),
+                tried,
+            )?;
         }
     }
     Ok(())
+}
+
+// Bounds that are supported, and so true.
+fn try_supported(
+    rt: &impl Abort,
+    alloc: Global,
+    k: u32,
+    tree: &Tree,
+    bounds: &[Bound],
+    lists: &[Vec<Measured>],
+    tried: &mut Tried,
+) -> Result<(), Fail>
+    requires { IsDocument tree.now }
+{
+    let supported = try_claims(rt, alloc, k, tree, bounds, tried)?;
+    assert_eq!(rt; supported, Ok(()));
+    try_law(rt, k, bounds, lists, tried)
+}
+
+// Bounds that are true where they are supported.
+fn try_near(
+    rt: &impl Abort,
+    alloc: Global,
+    k: u32,
+    tree: &Tree,
+    bounds: &[Bound],
+    lists: &[Vec<Measured>],
+    tried: &mut Tried,
+) -> Result<(), Fail>
+    requires { IsDocument tree.now }
+{
+    if try_claims(rt, alloc, k, tree, bounds, tried)?.is_ok() {
+        try_law(rt, k, bounds, lists, tried)?;
+    }
+    Ok(())
+}
+
+fn try_all_minima(
+    rt: &impl Abort,
+    alloc: Global,
+    k: u32,
+    tree: &Tree,
+    lists: &[Vec<Measured>],
+    tried: &mut Tried,
+) -> Result<(), Fail>
+    requires { IsDocument tree.now }
+{
+    let bounds = all_minima(alloc, k, lists)?;
+    try_minima(rt, alloc, k, tree, bounds.as_slice(), tried)
 }
 
 // The true minima of all subtrees, none of whose nodes weighs more than k.
@@ -260,19 +376,31 @@ fn try_minima(
     for bound in bounds {
         for field in [Field::Least, Field::Lean, Field::Nearly] {
             let found = claim(field, *bound);
-            let refusal = BoundsError::Unsupported {
-                node,
-                field,
-                claimed: found.saturating_add(1),
-                found,
-            };
             let claims = raised(alloc, bounds, node, field)?;
             let supported = try_claims(rt, alloc, k, tree, claims.as_slice(), tried)?;
-            assert_eq!(rt; supported, Err(refusal));
+            assert_eq!(rt; supported, Err(raised_refusal(node, field, found)));
         }
         add_one(&mut node);
     }
     Ok(())
+}
+
+// The refusal of a number that is greater by one than what was found.
+fn raised_refusal(node: u32, field: Field, found: u32) -> BoundsError {
+    BoundsError::Unsupported {
+        node,
+        field,
+        claimed: found.saturating_add(1),
+        found,
+    }
+}
+
+fn raise(bound: &mut Bound, field: Field) {
+    match field {
+        Field::Least => add_one(&mut bound.least),
+        Field::Lean => add_one(&mut bound.lean),
+        Field::Nearly => add_one(&mut bound.nearly),
+    }
 }
 
 // The bounds, with one number of a node greater by one.
@@ -282,19 +410,9 @@ fn raised(
     node: u32,
     field: Field,
 ) -> Result<Vec<Bound>, NoMemory> {
-    let mut list = Vec::new(alloc);
-    let mut place = 0;
-    for bound in bounds {
-        let mut bound = *bound;
-        if place == node {
-            match field {
-                Field::Least => add_one(&mut bound.least),
-                Field::Lean => add_one(&mut bound.lean),
-                Field::Nearly => add_one(&mut bound.nearly),
-            }
-        }
-        list.push(bound)?;
-        add_one(&mut place);
+    let mut list = Vec::from_slice(alloc, bounds)?;
+    if let Some(bound) = list.get_mut(node as usize) {
+        raise(bound, field);
     }
     Ok(list)
 }
@@ -343,14 +461,7 @@ fn try_claims(
     requires { IsDocument tree.now }
 {
     let subtrees = subtrees(alloc, tree)?;
-    let mut list = Bounds::new(alloc);
-    for bound in bounds {
-        list.push(*bound)?;
-    }
-    assert!(rt; 0 < k);
-    assert!(rt; k <= 256);
-    assert!(rt; list.len() < 100);
-    let found = supported(alloc, tree, k, &list);
+    let found = check_claims(rt, alloc, k, tree, bounds)?;
     assert_eq!(rt;
         found,
         check_bounds(alloc, k, subtrees.as_slice(), bounds),
@@ -363,79 +474,159 @@ fn try_claims(
     Ok(found)
 }
 
+fn bounds_of(alloc: Global, bounds: &[Bound]) -> Result<Bounds, NoMemory> {
+    Bounds::from_slice(alloc, bounds)
+}
+
+fn check_claims(
+    rt: &impl Abort,
+    alloc: Global,
+    k: u32,
+    tree: &Tree,
+    bounds: &[Bound],
+) -> Result<Result<(), BoundsError>, NoMemory>
+    requires { IsDocument tree.now }
+{
+    let list = bounds_of(alloc, bounds)?;
+    Ok(check_list(rt, alloc, k, tree, &list))
+}
+
+// What the check of a short list of bounds says.
+fn check_list(
+    rt: &impl Abort,
+    alloc: Global,
+    k: u32,
+    tree: &Tree,
+    list: &Bounds,
+) -> Result<(), BoundsError>
+    requires { IsDocument tree.now }
+{
+    assert!(rt; 0 < k && k <= 256);
+    assert!(rt; list.len() < 100);
+    supported(alloc, tree, k, list)
+}
+
 // An element of that weight over so many empty texts.
 fn drawn_document(alloc: Global, own: u32, children: u32) -> Result<Vec<u8>, NoMemory> {
+    let name = drawn_name(alloc, own)?;
+    let mut text = Vec::new(alloc);
+    push_line(&mut text, b'(', name.as_slice())?;
+    for _ in 0..children {
+        push_line(&mut text, b'-', b"")?;
+    }
+    push_line(&mut text, b')', name.as_slice())?;
+    Ok(text)
+}
+
+// The name of an element of that weight.
+fn drawn_name(alloc: Global, own: u32) -> Result<Vec<u8>, NoMemory> {
     let mut name = Vec::new(alloc);
     for _ in 1..own {
         name.extend_from_slice(b"eightbyt")?;
     }
-    let mut text = Vec::new(alloc);
-    text.push(b'(')?;
-    text.extend_from_slice(name.as_slice())?;
+    Ok(name)
+}
+
+fn push_line(text: &mut Vec<u8>, code: u8, name: &[u8]) -> Result<(), NoMemory> {
+    text.push(code)?;
+    text.extend_from_slice(name)?;
     text.push(b'\n')?;
-    for _ in 0..children {
-        text.extend_from_slice(b"-\n")?;
+    Ok(())
+}
+
+fn drawn_bound(random: &mut Random, k: u32) -> Bound {
+    Bound {
+        least: random.below(9),
+        lean: random.below(k.saturating_add(2)),
+        nearly: random.below(k.saturating_add(2)),
     }
-    text.push(b')')?;
-    text.extend_from_slice(name.as_slice())?;
-    text.push(b'\n')?;
-    Ok(text)
+}
+
+fn drawn_child(random: &mut Random, k: u32) -> Child {
+    Child {
+        least: random.below(3),
+        lean: random.below(k).saturating_add(1),
+        nearly: random.below(k).saturating_add(1),
+    }
+}
+
+fn drawn_children(
+    alloc: Global,
+    random: &mut Random,
+    k: u32,
+    number: u32,
+) -> Result<Vec<Child>, NoMemory> {
+    let mut children = Vec::new(alloc);
+    for _ in 0..number {
+        children.push(drawn_child(random, k))?;
+    }
+    Ok(children)
+}
+
+// What is claimed of the element and its children. Nothing is claimed of the root.
+fn drawn_bounds(alloc: Global, bound: Bound, children: &[Child]) -> Result<Vec<Bound>, NoMemory> {
+    let mut bounds = Vec::new(alloc);
+    bounds.push(Bound {
+        least: 0,
+        lean: 0,
+        nearly: 0,
+    })?;
+    bounds.push(bound)?;
+    for child in children {
+        bounds.push(Bound {
+            least: child.least,
+            lean: child.lean,
+            nearly: child.nearly,
+        })?;
+    }
+    Ok(bounds)
+}
+
+// The number of the element's bound that no choice supports, and what one does; `None` where the element has
+// none.
+fn refused_number(
+    rt: &impl Abort,
+    alloc: Global,
+    k: u32,
+    text: &[u8],
+    bounds: &[Bound],
+) -> Result<Option<(Field, u32)>, Fail> {
+    let tree = read(alloc, text)?;
+    match check_claims(rt, alloc, k, &tree, bounds)? {
+        Err(
+            BoundsError::Unsupported {
+                node: 1,
+                field,
+                found,
+                ..
+            },
+        ) => Ok(Some((field, found))),
+        Err(BoundsError::Unsupported { .. }) | Ok(()) => Ok(None),
+        Err(error) => Err(error.into()),
+    }
+}
+
+fn try_drawn(rt: &impl Abort, alloc: Global, random: &mut Random) -> Result<(), Fail> {
+    let k = random.below(6).saturating_add(1);
+    let own = random.below(k).saturating_add(2);
+    let number = random.below(6);
+    let text = drawn_document(alloc, own, number)?;
+    let bound = drawn_bound(random, k);
+    let children = drawn_children(alloc, random, k, number)?;
+    let bounds = drawn_bounds(alloc, bound, children.as_slice())?;
+    let found = refused_number(rt, alloc, k, text.as_slice(), bounds.as_slice())?;
+    let want = first_exceeded(k, u64::from(own), children.as_slice(), bound);
+    assert_eq!(rt; found, want, "{k} {own} {children:?} {bound:?}");
+    Ok(())
 }
 
 // An element whose children have drawn bounds: its own bound is refused for the number that no choice
-// supports. Nothing is claimed of the root.
+// supports.
 #[test]
 fn tries_drawn_bounds(rt: HostRuntime) -> Result<(), Fail> {
-    let alloc = rt.alloc();
     let mut random = Random::new(3);
     for _ in 0..2000 {
-        let k = 1 + random.below(6);
-        assert!(rt; k <= 256);
-        let own = random.below(k).saturating_add(2);
-        let number = random.below(6);
-        let text = drawn_document(alloc, own, number)?;
-        let tree = read(alloc, text.as_slice())?;
-        let bound = Bound {
-            least: random.below(9),
-            lean: random.below(k.saturating_add(2)),
-            nearly: random.below(k.saturating_add(2)),
-        };
-        let mut bounds = Bounds::new(alloc);
-        bounds.push(Bound {
-            least: 0,
-            lean: 0,
-            nearly: 0,
-        })?;
-        bounds.push(bound)?;
-        let mut children = Vec::new(alloc);
-        for _ in 0..number {
-            let child = Child {
-                least: random.below(3),
-                lean: random.below(k).saturating_add(1),
-                nearly: random.below(k).saturating_add(1),
-            };
-            children.push(child)?;
-            bounds.push(Bound {
-                least: child.least,
-                lean: child.lean,
-                nearly: child.nearly,
-            })?;
-        }
-        assert!(rt; bounds.len() < 100);
-        let found = match supported(alloc, &tree, k, &bounds) {
-            Err(
-                BoundsError::Unsupported {
-                    node: 1,
-                    field,
-                    found,
-                    ..
-                },
-            ) => Some((field, found)),
-            Err(BoundsError::Unsupported { .. }) | Ok(()) => None,
-            Err(error) => return Err(error.into()),
-        };
-        let want = first_exceeded(k, u64::from(own), children.as_slice(), bound);
-        assert_eq!(rt; found, want, "{k} {own} {children:?} {bound:?}");
+        try_drawn(&rt, rt.alloc(), &mut random)?;
     }
     Ok(())
 }

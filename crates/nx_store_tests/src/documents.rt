@@ -69,6 +69,38 @@ fn push_content(text: &mut Vec<u8>, random: &mut Random, longest: u32) -> Result
     Ok(())
 }
 
+// Adds an element's beginning, an element's end, an instruction or a text, and says how deep it is then.
+fn push_line(
+    text: &mut Vec<u8>,
+    random: &mut Random,
+    depth: u32,
+    longest: u32,
+) -> Result<u32, AllocError> {
+    match random.below(10) {
+        0..=2 if depth < 200 => {
+            text.extend_from_slice(b"(b\nAx \n")?;
+            return Ok(depth.saturating_add(1));
+        }
+        3 | 4 if depth > 0 => {
+            text.extend_from_slice(b")b\n")?;
+            return Ok(depth.saturating_sub(1));
+        }
+        5 => push_leaf(text, random, b"?p ", longest.saturating_sub(1))?,
+        _ => push_leaf(text, random, b"-", longest)?,
+    }
+    Ok(depth)
+}
+
+fn push_leaf(
+    text: &mut Vec<u8>,
+    random: &mut Random,
+    code: &[u8],
+    longest: u32,
+) -> Result<(), AllocError> {
+    text.extend_from_slice(code)?;
+    push_content(text, random, longest)
+}
+
 /// A document with so many lines in its root's element, some of which end elements again, and with contents of
 /// at most so many letters.
 pub fn random_document(
@@ -80,24 +112,7 @@ pub fn random_document(
     let mut text = Vec::from_slice(alloc, b"?p\n(a\n")?;
     let mut depth = 0u32;
     for _ in 0..lines {
-        match random.below(10) {
-            0..=2 if depth < 200 => {
-                text.extend_from_slice(b"(b\nAx \n")?;
-                depth = depth.saturating_add(1);
-            }
-            3 | 4 if depth > 0 => {
-                text.extend_from_slice(b")b\n")?;
-                depth = depth.saturating_sub(1);
-            }
-            5 => {
-                text.extend_from_slice(b"?p ")?;
-                push_content(&mut text, random, longest.saturating_sub(1))?;
-            }
-            _ => {
-                text.push(b'-')?;
-                push_content(&mut text, random, longest)?;
-            }
-        }
+        depth = push_line(&mut text, random, depth, longest)?;
     }
     for _ in 0..depth {
         text.extend_from_slice(b")b\n")?;

@@ -9,6 +9,8 @@ mod documents;
 #[cfg(test)]
 mod init;
 #[cfg(test)]
+mod memory_session;
+#[cfg(test)]
 mod rows;
 #[cfg(test)]
 mod runs;

@@ -2,12 +2,51 @@
 ghost use Rattle.nx_holdings.specs.Header.{AreSettings};
 
 use crate::documents::{BOOK, SMALL, load, wide};
-use crate::stores::{HEAVY, LIGHT, answers, command_of, empty_host, new_store, stored};
+use crate::stores::{HEAVY, LIGHT, answers, command_of, create, empty_host, new_store, stored};
+use nx_memory::MemoryHost;
 use nx_records::Settings;
-use nx_store::Store;
-use std::alloc::Global;
+use nx_script::ScriptError;
+use nx_store::{EngineError, Store};
+use nx_tree::Bytes;
+use std::alloc::{AllocError, Global};
 use std::process::Abort;
 use std::test::Fail;
+
+fn answer(
+    alloc: Global,
+    store: &mut Store,
+    host: &mut MemoryHost,
+    lines: &[u8],
+) -> Result<Result<(), EngineError>, ScriptError> {
+    let command = command_of(alloc, lines)?;
+    Ok(store.answer(host, command))
+}
+
+// What a new store answers, command by command.
+fn one_by_one(alloc: Global, settings: Settings, commands: &[&[u8]]) -> Result<Bytes, Fail>
+    requires { AreSettings settings }
+{
+    let mut host = empty_host(alloc)?;
+    let mut store = create(alloc, &mut host, settings)?;
+    for command in commands {
+        answer(alloc, &mut store, &mut host, command)??;
+    }
+    Ok(Bytes::from_slice(alloc, host.output())?)
+}
+
+// What a run over a new store answers.
+fn in_a_script(
+    rt: &impl Abort,
+    alloc: Global,
+    settings: Settings,
+    commands: &[&[u8]],
+) -> Result<Bytes, Fail>
+    requires { AreSettings settings }
+{
+    let image = new_store(alloc, settings)?;
+    let script = commands.concat(alloc)?;
+    Ok(answers(rt, alloc, &image, script.as_slice())?)
+}
 
 // A new store answers these commands so, one by one and in a script.
 fn check(
@@ -19,167 +58,210 @@ fn check(
 ) -> Result<(), Fail>
     requires { AreSettings settings }
 {
-    let mut host = empty_host(alloc)?;
-    let mut store = Store::create(alloc, &mut host, settings)?;
-    for command in commands {
-        store.answer(&mut host, command_of(alloc, command)?)?;
-    }
-    assert_eq!(rt; host.output(), output);
-    let script = commands.concat(alloc)?;
-    let image = new_store(alloc, settings)?;
-    let answered = answers(rt, alloc, &image, script.as_slice())?;
-    assert_eq!(rt; answered.as_slice(), output);
+    let found = one_by_one(alloc, settings, commands)?;
+    assert_eq!(rt; found.as_slice(), output);
+    let found = in_a_script(rt, alloc, settings, commands)?;
+    assert_eq!(rt; found.as_slice(), output);
     Ok(())
+}
+
+// The same of a light store.
+fn check_light(
+    rt: &impl Abort,
+    alloc: Global,
+    commands: &[&[u8]],
+    output: &[u8],
+) -> Result<(), Fail> {
+    check(rt, alloc, LIGHT, commands, output)
+}
+
+// And of one with heavy parts.
+fn check_heavy(
+    rt: &impl Abort,
+    alloc: Global,
+    commands: &[&[u8]],
+    output: &[u8],
+) -> Result<(), Fail> {
+    check(rt, alloc, HEAVY, commands, output)
+}
+
+// The lines that load an element over so many texts of so many letters.
+fn load_wide(
+    alloc: Global,
+    name: &[u8],
+    texts: usize,
+    letters: usize,
+) -> Result<Vec<u8>, AllocError> {
+    load(alloc, name, wide(alloc, texts, letters)?.as_slice())
 }
 
 // A text of 2,040 letters takes a part for itself, and one of more letters is too heavy.
 #[test]
 fn heavy_texts(rt: HostRuntime) -> Result<(), Fail> {
-    let alloc = rt.alloc();
-    let fitting = load(alloc, b"t", wide(alloc, 1, 2_040)?.as_slice())?;
-    let heavy = load(alloc, b"u", wide(alloc, 1, 2_041)?.as_slice())?;
-    check(
-        &rt,
-        alloc,
-        HEAVY,
-        &[fitting.as_slice(), heavy.as_slice()],
-        b"ok 3 2\nerror too-heavy /0/0 257\n",
-    )
+    let fitting = load_wide(rt.alloc(), b"t", 1, 2_040)?;
+    let heavy = load_wide(rt.alloc(), b"u", 1, 2_041)?;
+    let commands: [&[u8]; 2] = [fitting.as_slice(), heavy.as_slice()];
+    let output = b"ok 3 2\nerror too-heavy /0/0 257\n";
+    check_heavy(&rt, rt.alloc(), &commands, output)
 }
 
 // The root's record has its 1,500 proxies in two chain pages.
 #[test]
 fn many_parts(rt: HostRuntime) -> Result<(), Fail> {
-    let alloc = rt.alloc();
-    let document = wide(alloc, 1_500, 2_040)?;
-    let lines = load(alloc, b"w", document.as_slice())?;
-    let output = [b"ok 1502 1501\n", document.as_slice(), b".\n"].concat(alloc)?;
-    check(
-        &rt,
-        alloc,
-        HEAVY,
-        &[lines.as_slice(), b"export w\n"],
-        output.as_slice(),
-    )
+    let document = wide(rt.alloc(), 1_500, 2_040)?;
+    let lines = load(rt.alloc(), b"w", document.as_slice())?;
+    let output = [b"ok 1502 1501\n", document.as_slice(), b".\n"].concat(rt.alloc())?;
+    let commands: [&[u8]; 2] = [lines.as_slice(), b"export w\n"];
+    check_heavy(&rt, rt.alloc(), &commands, output.as_slice())
 }
 
 // The 251 records take more than the 63 pages beside the header have.
 #[test]
 fn no_room(rt: HostRuntime) -> Result<(), Fail> {
-    let alloc = rt.alloc();
     let settings = Settings { limit: 64, ..HEAVY };
-    let large = load(alloc, b"d", wide(alloc, 251, 2_040)?.as_slice())?;
-    let small = load(alloc, b"e", SMALL)?;
+    let large = load_wide(rt.alloc(), b"d", 251, 2_040)?;
+    let small = load(rt.alloc(), b"e", SMALL)?;
+    let commands: [&[u8]; 3] = [large.as_slice(), b"names\n", small.as_slice()];
     check(
         &rt,
-        alloc,
+        rt.alloc(),
         settings,
-        &[large.as_slice(), b"names\n", small.as_slice()],
+        &commands,
         b"error full\n.\nok 4 1\n",
     )
 }
 
 #[test]
-fn small_documents(rt: HostRuntime) -> Result<(), Fail> {
-    let alloc = rt.alloc();
-    let book = load(alloc, b"book", BOOK)?;
-    let output = [b"ok 8 1\n", BOOK, b".\n"].concat(alloc)?;
-    check(
-        &rt,
-        alloc,
-        HEAVY,
-        &[book.as_slice(), b"export book\n"],
-        output.as_slice(),
-    )?;
-    let small = load(alloc, b"e", SMALL)?;
-    check(
-        &rt,
-        alloc,
-        LIGHT,
-        &[
-            b"export e\n",
-            small.as_slice(),
-            small.as_slice(),
-            b"load f\n(a\n)b\n.\n",
-            b"get e /0\n",
-            b"get e /9\n",
-            b"get f /\n",
-            b"layout e\n",
-            b"layout f\n",
-            b"names\n",
-            b"\n",
-            b"checkpoint\n",
-        ],
-        b"error no-document\nok 4 1\nerror exists\nerror pyx 2 bad-nesting\nnode 2 (a\nerror no-node\nerror no-document\nroot 7\n.\nerror no-document\ndoc e 4\n.\nerror syntax\nok\n",
-    )
+fn a_book(rt: HostRuntime) -> Result<(), Fail> {
+    let book = load(rt.alloc(), b"book", BOOK)?;
+    let output = [b"ok 8 1\n", BOOK, b".\n"].concat(rt.alloc())?;
+    let commands: [&[u8]; 2] = [book.as_slice(), b"export book\n"];
+    check_heavy(&rt, rt.alloc(), &commands, output.as_slice())
 }
+
+const LOOKS: [&[u8]; 12] = [
+    b"export e\n",
+    b"load e\n(a\nAx 1\n-hi\n)a\n.\n",
+    b"load e\n(a\nAx 1\n-hi\n)a\n.\n",
+    b"load f\n(a\n)b\n.\n",
+    b"get e /0\n",
+    b"get e /9\n",
+    b"get f /\n",
+    b"layout e\n",
+    b"layout f\n",
+    b"names\n",
+    b"\n",
+    b"checkpoint\n",
+];
+
+const LOOKED: &[u8] =
+    b"error no-document\nok 4 1\nerror exists\nerror pyx 2 bad-nesting\nnode 2 (a\nerror no-node\nerror no-document\nroot 7\n.\nerror no-document\ndoc e 4\n.\nerror syntax\nok\n";
+
+#[test]
+fn small_documents(rt: HostRuntime) -> Result<(), Fail> {
+    check_light(&rt, rt.alloc(), &LOOKS, LOOKED)
+}
+
+const RULES: [&[u8]; 12] = [
+    b"rules\n",
+    b"rule a b cluster\n",
+    b"rule #doc a standalone\n",
+    b"rules\n",
+    b"rule a b standalone\n",
+    b"rule a @b free\n",
+    b"rules\n",
+    b"rule a b free\n",
+    b"rule #doc a free\n",
+    b"rules\n",
+    b"rule #text a free\n",
+    b"rule a b\n",
+];
+
+const RULED: &[u8] =
+    b".\nok\nok\nrule #doc a standalone\nrule a b cluster\n.\nok\nok\nrule #doc a standalone\nrule a b standalone\n.\nok\nok\n.\nerror syntax\nerror syntax\n";
 
 #[test]
 fn rules_are_made(rt: HostRuntime) -> Result<(), Fail> {
-    let alloc = rt.alloc();
-    check(
-        &rt,
-        alloc,
-        LIGHT,
-        &[
-            b"rules\n",
-            b"rule a b cluster\n",
-            b"rule #doc a standalone\n",
-            b"rules\n",
-            b"rule a b standalone\n",
-            b"rule a @b free\n",
-            b"rules\n",
-            b"rule a b free\n",
-            b"rule #doc a free\n",
-            b"rules\n",
-            b"rule #text a free\n",
-            b"rule a b\n",
-        ],
-        b".\nok\nok\nrule #doc a standalone\nrule a b cluster\n.\nok\nok\nrule #doc a standalone\nrule a b standalone\n.\nok\nok\n.\nerror syntax\nerror syntax\n",
-    )
+    check_light(&rt, rt.alloc(), &RULES, RULED)
 }
 
 // Rules are those of the last commit when the store is opened again.
 #[test]
 fn rules_stay(rt: HostRuntime) -> Result<(), Fail> {
-    let alloc = rt.alloc();
-    let image = new_store(alloc, LIGHT)?;
-    let image = stored(
-        &rt,
-        alloc,
-        &image,
-        b"rule a b cluster\nrule b a cluster\nrule b a free\n",
-    )?;
-    let found = answers(&rt, alloc, &image, b"rules\n")?;
+    let script = b"rule a b cluster\nrule b a cluster\nrule b a free\n";
+    let empty = new_store(rt.alloc(), LIGHT)?;
+    let image = stored(&rt, rt.alloc(), &empty, script)?;
+    let found = answers(&rt, rt.alloc(), &image, b"rules\n")?;
     assert_eq!(rt; found.as_slice(), b"rule a b cluster\n.\n".as_slice());
     Ok(())
 }
+
+const EDITS: [&[u8]; 5] = [
+    b"load e\n(a\nAx 1\n-hi\n)a\n.\n",
+    b"insert e /0/1 -x\n",
+    b"delete e /0/1\n",
+    b"retext e /0/1 x\n",
+    b"export e\n",
+];
+
+const NOT_EDITED: &[u8] =
+    b"ok 4 1\nerror syntax\nerror syntax\nerror syntax\n(a\nAx 1\n-hi\n)a\n.\n";
 
 // What isn't carried out yet is answered as a line that is no command, whatever it
 // says, and leaves the store.
 #[test]
 fn not_carried_out_yet(rt: HostRuntime) -> Result<(), Fail> {
-    let alloc = rt.alloc();
-    let small = load(alloc, b"e", SMALL)?;
-    let output = [
-        b"ok 4 1\nerror syntax\nerror syntax\nerror syntax\nerror syntax\nerror syntax\n",
-        SMALL,
-        b".\n",
-    ]
-    .concat(alloc)?;
+    check_light(&rt, rt.alloc(), &EDITS, NOT_EDITED)
+}
+
+const DROPS: [&[u8]; 8] = [
+    b"drop e\n",
+    b"load e\n(a\nAx 1\n-hi\n)a\n.\n",
+    b"load f\n(a\n)a\n.\n",
+    b"drop e\n",
+    b"drop e\n",
+    b"export e\n",
+    b"load e\n(b\n)b\n.\n",
+    b"names\n",
+];
+
+const DROPPED: &[u8] =
+    b"error no-document\nok 4 1\nok 2 1\nok\nerror no-document\nerror no-document\nok 2 1\ndoc e 2\ndoc f 2\n.\n";
+
+// A document that went is there no more, and its name is new again.
+#[test]
+fn documents_go(rt: HostRuntime) -> Result<(), Fail> {
+    check_light(&rt, rt.alloc(), &DROPS, DROPPED)
+}
+
+// It isn't there either when the store is opened again.
+#[test]
+fn documents_stay_away(rt: HostRuntime) -> Result<(), Fail> {
+    let script = b"load e\n(a\n)a\n.\ndrop e\n";
+    let empty = new_store(rt.alloc(), LIGHT)?;
+    let image = stored(&rt, rt.alloc(), &empty, script)?;
+    let found = answers(&rt, rt.alloc(), &image, b"names\nexport e\n")?;
+    assert_eq!(rt; found.as_slice(), b".\nerror no-document\n".as_slice());
+    Ok(())
+}
+
+// The 101 records take more than half of the 63 pages beside the header, which come back each time.
+#[test]
+fn pages_come_back(rt: HostRuntime) -> Result<(), Fail> {
+    let settings = Settings { limit: 64, ..HEAVY };
+    let large = load_wide(rt.alloc(), b"d", 100, 2_040)?;
+    let commands: [&[u8]; 5] = [
+        large.as_slice(),
+        b"drop d\n",
+        large.as_slice(),
+        b"drop d\n",
+        large.as_slice(),
+    ];
     check(
         &rt,
-        alloc,
-        LIGHT,
-        &[
-            small.as_slice(),
-            b"insert e /0/1 -x\n",
-            b"delete e /0/1\n",
-            b"retext e /0/1 x\n",
-            b"drop e\n",
-            b"drop f\n",
-            b"export e\n",
-        ],
-        output.as_slice(),
+        rt.alloc(),
+        settings,
+        &commands,
+        b"ok 102 101\nok\nok 102 101\nok\nok 102 101\n",
     )
 }

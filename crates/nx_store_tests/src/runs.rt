@@ -1,58 +1,80 @@
 // How runs over stores begin and end.
+ghost use Rattle.std.specs.Prelude.{◌<◌};
+
 use crate::documents::{SMALL, load, wide};
 use crate::stores::{
-    HEAVY, LIGHT, answers, empty_host, host_of, host_with, new_store, run_script, words_of,
+    HEAVY, LIGHT, answers, empty_host, host_of, host_with, left, new_store, run_script, status_of,
+    words_of,
 };
-use nx_front::{Status, run};
-use nx_memory::{Choice, Image};
-use nx_tree::Bytes;
+use nx_front::Status;
+use nx_memory::{Choice, Image, MemoryHost};
+use nx_tree::{Bytes, NoMemory};
+use std::alloc::{AllocError, Global};
+use std::process::Abort;
 use std::test::Fail;
 
-#[test]
-fn areas_without_a_store(rt: HostRuntime) -> Result<(), Fail> {
-    let alloc = rt.alloc();
-    let mut zeros = Vec::new(alloc);
-    zeros.resize(8_192, 0)?;
-    let areas: [&[u8]; 3] = [b"", b"NATIXST1", zeros.as_slice()];
-    for pages in areas {
-        let image = Image {
-            pages: Bytes::from_slice(alloc, pages)?,
-            log: Bytes::new(alloc),
-        };
-        let mut host = host_with(alloc, &image, b"names\n", 8)?;
-        assert_eq!(rt; run_script(alloc, &mut host)?, Status::NotAStore);
-        assert!(rt; host.output().is_empty());
-        assert_eq!(rt; host.counts().faults, 0);
-    }
+// An image without a log.
+fn image_of(alloc: Global, pages: &[u8]) -> Result<Image, NoMemory> {
+    Ok(Image {
+        pages: Bytes::from_slice(alloc, pages)?,
+        log: Bytes::new(alloc),
+    })
+}
+
+// A run finds no store in these pages.
+fn check_without(rt: &impl Abort, alloc: Global, pages: &[u8]) -> Result<(), NoMemory> {
+    let image = image_of(alloc, pages)?;
+    let mut host = host_with(alloc, &image, b"names\n", 8)?;
+    assert_eq!(rt; run_script(alloc, &mut host)?, Status::NotAStore);
+    assert!(rt; host.output().is_empty());
+    assert_eq!(rt; host.counts().faults, 0);
     Ok(())
 }
 
 #[test]
-fn a_store_that_was_made_takes_documents(rt: HostRuntime) -> Result<(), Fail> {
-    let alloc = rt.alloc();
-    let init = words_of(alloc, &["s", "init", "16"])?;
-    let mut host = empty_host(alloc)?;
-    assert_eq!(rt; run(alloc, &init, &mut host), Status::Done);
-    let image = host.image(Choice::Lost)?;
+fn areas_without_a_store(rt: HostRuntime) -> Result<(), Fail> {
+    check_without(&rt, rt.alloc(), b"")?;
+    check_without(&rt, rt.alloc(), b"NATIXST1")?;
+    check_without(&rt, rt.alloc(), &[0; 8_192])?;
+    Ok(())
+}
+
+// Makes a store.
+fn init(alloc: Global, host: &mut MemoryHost) -> Result<Status, NoMemory> {
+    let words = words_of(alloc, &["s", "init", "16"])?;
+    Ok(status_of(alloc, &words, host))
+}
+
+// A store that was made, and took a document.
+fn with_document(rt: &impl Abort, alloc: Global) -> Result<MemoryHost, NoMemory> {
+    let mut new = empty_host(alloc)?;
+    assert_eq!(rt; init(alloc, &mut new)?, Status::Done);
+    let image = left(&new, Choice::Lost)?;
     let script = load(alloc, b"e", SMALL)?;
     let mut host = host_with(alloc, &image, script.as_slice(), 5)?;
     assert_eq!(rt; run_script(alloc, &mut host)?, Status::Done);
+    Ok(host)
+}
+
+#[test]
+fn a_store_that_was_made_takes_documents(rt: HostRuntime) -> Result<(), Fail> {
+    let host = with_document(&rt, rt.alloc())?;
     assert_eq!(rt; host.output(), b"ok 4 1\n".as_slice());
-    let mut again = host_of(alloc, host.image(Choice::Lost)?)?;
-    assert_eq!(rt; run(alloc, &init, &mut again), Status::Refused);
+    let mut again = host_of(rt.alloc(), left(&host, Choice::Lost)?)?;
+    assert_eq!(rt; init(rt.alloc(), &mut again)?, Status::Refused);
     assert_eq!(rt; again.output(), b"refused exists\n".as_slice());
-    let found = answers(&rt, alloc, &again.image(Choice::Ones)?, b"names\n")?;
+    let image = left(&again, Choice::Ones)?;
+    let found = answers(&rt, rt.alloc(), &image, b"names\n")?;
     assert_eq!(rt; found.as_slice(), b"doc e 4\n.\n".as_slice());
     Ok(())
 }
 
 #[test]
 fn a_disk_that_fails_at_once(rt: HostRuntime) -> Result<(), Fail> {
-    let alloc = rt.alloc();
-    let image = new_store(alloc, LIGHT)?;
-    let mut host = host_with(alloc, &image, b"names\n", 8)?;
+    let image = new_store(rt.alloc(), LIGHT)?;
+    let mut host = host_with(rt.alloc(), &image, b"names\n", 8)?;
     host.fail_calls(&[1])?;
-    assert_eq!(rt; run_script(alloc, &mut host)?, Status::DiskFault);
+    assert_eq!(rt; run_script(rt.alloc(), &mut host)?, Status::DiskFault);
     assert!(rt; host.output().is_empty());
     let counts = host.counts();
     assert_eq!(rt;
@@ -62,24 +84,54 @@ fn a_disk_that_fails_at_once(rt: HostRuntime) -> Result<(), Fail> {
     Ok(())
 }
 
+// How a run ends that is stopped after so many calls, and its host then.
+fn stopped(
+    alloc: Global,
+    image: &Image,
+    script: &[u8],
+    piece: u32,
+    stop: u64,
+) -> Result<(Status, MemoryHost), NoMemory>
+    requires { 0 < piece }
+{
+    let mut host = host_with(alloc, image, script, piece)?;
+    host.stop_after(stop);
+    let status = run_script(alloc, &mut host)?;
+    Ok((status, host))
+}
+
+// What is out at each read that fails.
+const OUT: [&[u8]; 5] = [
+    b"",
+    b".\n",
+    b".\n",
+    b".\nerror no-document\n",
+    b".\nerror no-document\n",
+];
+
+// Whether a read is the call that fails; what is out then is that of so many reads.
+fn is_at_read(
+    rt: &impl Abort,
+    alloc: Global,
+    image: &Image,
+    stop: u64,
+    read: usize,
+) -> Result<bool, NoMemory> {
+    let (status, host) = stopped(alloc, image, b"names\nget x /\nexport", 6, stop)?;
+    if status != Status::ReadFault {
+        return Ok(false);
+    }
+    assert_eq!(rt; OUT.get(read).copied(), Some(host.output()));
+    Ok(true)
+}
+
 // The replies to what was read are out before more is read.
 #[test]
 fn a_reply_comes_before_more_is_read(rt: HostRuntime) -> Result<(), Fail> {
-    let alloc = rt.alloc();
-    let image = new_store(alloc, LIGHT)?;
+    let image = new_store(rt.alloc(), LIGHT)?;
     let mut read = 0usize;
     for stop in 0..64 {
-        let mut host = host_with(alloc, &image, b"names\nget x /\nexport", 6)?;
-        host.stop_after(stop);
-        if run_script(alloc, &mut host)? == Status::ReadFault {
-            let texts: [&[u8]; 5] = [
-                b"",
-                b".\n",
-                b".\n",
-                b".\nerror no-document\n",
-                b".\nerror no-document\n",
-            ];
-            assert_eq!(rt; texts.get(read).copied(), Some(host.output()));
+        if is_at_read(&rt, rt.alloc(), &image, stop, read)? {
             read = read.saturating_add(1);
         }
     }
@@ -87,11 +139,8 @@ fn a_reply_comes_before_more_is_read(rt: HostRuntime) -> Result<(), Fail> {
     Ok(())
 }
 
-// Replies to looks are gathered. What is out at each stop is the first part of all.
-#[test]
-fn gathered_replies(rt: HostRuntime) -> Result<(), Fail> {
-    let alloc = rt.alloc();
-    let image = new_store(alloc, HEAVY)?;
+// The lines of a load and of fifteen looks, and their replies.
+fn many_looks(alloc: Global) -> Result<(Vec<u8>, Vec<u8>), AllocError> {
     let document = wide(alloc, 10, 1_000)?;
     let mut script = load(alloc, b"a", document.as_slice())?;
     let mut replies = Vec::from_slice(alloc, b"ok 12 5\n")?;
@@ -101,21 +150,46 @@ fn gathered_replies(rt: HostRuntime) -> Result<(), Fail> {
         replies.extend_from_slice(document.as_slice())?;
         replies.extend_from_slice(b".\n")?;
     }
+    Ok((script, replies))
+}
+
+// How much is out at a stop, the first part of all replies, and whether all was done.
+fn out_at(
+    rt: &impl Abort,
+    alloc: Global,
+    image: &Image,
+    script: &[u8],
+    replies: &[u8],
+    stop: u64,
+) -> Result<(usize, bool), NoMemory> {
+    let (status, host) = stopped(alloc, image, script, 65_536, stop)?;
+    assert!(rt; replies.starts_with(host.output()), "{stop}");
+    Ok((host.output().len(), status == Status::Done))
+}
+
+// Replies to looks are gathered. What is out at each stop is the first part of all.
+#[test]
+fn gathered_replies(rt: HostRuntime) -> Result<(), Fail> {
+    let image = new_store(rt.alloc(), HEAVY)?;
+    let (script, replies) = many_looks(rt.alloc())?;
     let mut parts = 0u32;
     let mut out = 0usize;
     for stop in 0..400 {
-        let mut host = host_with(alloc, &image, script.as_slice(), 65_536)?;
-        host.stop_after(stop);
-        let status = run_script(alloc, &mut host)?;
-        assert!(rt; replies.as_slice().starts_with(host.output()), "{stop}");
-        parts = parts.saturating_add(u32::from(out < host.output().len()));
-        out = host.output().len();
-        if status == Status::Done {
+        let (now, done) = out_at(
+            &rt,
+            rt.alloc(),
+            &image,
+            script.as_slice(),
+            replies.as_slice(),
+            stop,
+        )?;
+        parts = parts.saturating_add(u32::from(out < now));
+        out = now;
+        if done {
             break;
         }
     }
-    assert_eq!(rt; out, replies.len());
     // The reply to the load, then two blocks of at least 65,536 bytes, and the rest.
-    assert_eq!(rt; parts, 4);
+    assert_eq!(rt; (out, parts), (replies.len(), 4));
     Ok(())
 }

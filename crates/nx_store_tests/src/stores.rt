@@ -1,4 +1,5 @@
-// Hosts with stores, what runs over them answer, and what is seen of a store.
+// Hosts with stores, what runs over them answer, and what is seen of a store. Most promise nothing, since a test
+// that knows much is proved slowly.
 ghost use Rattle.std.specs.Prelude.{◌<◌, IfOk};
 ghost use Rattle.nx_holdings.specs.Header.{AreSettings};
 ghost use Rattle.nx_script.specs.Commands.{CanCome};
@@ -6,7 +7,7 @@ ghost use Rattle.nx_script.specs.Commands.{CanCome};
 use nx_front::{Status, Word, Words, run};
 use nx_memory::{Choice, Image, MemoryHost};
 use nx_records::{Records, Settings, StoreError};
-use nx_script::{Command, Script, ScriptError};
+use nx_script::{Command, Reply, Script, ScriptError};
 use nx_store::{EngineError, Store};
 use nx_tree::{Bytes, NoMemory};
 use std::alloc::Global;
@@ -66,18 +67,31 @@ pub fn host_with(
 ) -> Result<MemoryHost, NoMemory>
     requires { 0 < piece }
 {
-    let copy = Image {
+    let copy = copy_of(alloc, image)?;
+    MemoryHost::new(alloc, copy, Bytes::from_slice(alloc, input)?, piece, ROOM)
+}
+
+fn copy_of(alloc: Global, image: &Image) -> Result<Image, NoMemory> {
+    Ok(Image {
         pages: Bytes::from_slice(alloc, image.pages.as_slice())?,
         log: Bytes::from_slice(alloc, image.log.as_slice())?,
-    };
-    MemoryHost::new(alloc, copy, Bytes::from_slice(alloc, input)?, piece, ROOM)
+    })
+}
+
+/// What a crash leaves of the host's areas.
+pub fn left(host: &MemoryHost, choice: Choice) -> Result<Image, NoMemory> {
+    host.image(choice)
+}
+
+fn opened_settings(alloc: Global, host: &mut MemoryHost) -> Result<Settings, StoreError> {
+    Ok(Records::open(alloc, host)?.settings())
 }
 
 /// The settings of the store that an image has, if it has one.
 pub fn settings_of(alloc: Global, image: Image) -> Result<Option<Settings>, Fail> {
     let mut host = host_of(alloc, image)?;
-    match Records::open(alloc, &mut host) {
-        Ok(records) => Ok(Some(records.settings())),
+    match opened_settings(alloc, &mut host) {
+        Ok(settings) => Ok(Some(settings)),
         Err(StoreError::NotAStore) => Ok(None),
         Err(error) => Err(Fail::new(error)),
     }
@@ -99,19 +113,63 @@ pub fn command_of(alloc: Global, lines: &[u8]) -> Result<Command, ScriptError>
     }
 }
 
+/// Makes a store.
+pub fn create(
+    alloc: Global,
+    host: &mut MemoryHost,
+    settings: Settings,
+) -> Result<Store, EngineError>
+    requires { AreSettings settings }
+{
+    Store::create(alloc, host, settings)
+}
+
+/// Opens the store that the host has.
+pub fn open(alloc: Global, host: &mut MemoryHost) -> Result<Store, EngineError> {
+    Store::open(alloc, host)
+}
+
+/// What the store says to the command of these lines.
+pub fn apply(
+    alloc: Global,
+    store: &mut Store,
+    host: &mut MemoryHost,
+    lines: &[u8],
+) -> Result<Result<Reply, EngineError>, ScriptError> {
+    let command = command_of(alloc, lines)?;
+    Ok(store.apply(host, command))
+}
+
 /// The image of a new store.
 pub fn new_store(alloc: Global, settings: Settings) -> Result<Image, EngineError>
     requires { AreSettings settings }
 {
     let mut host = empty_host(alloc)?;
-    Store::create(alloc, &mut host, settings)?;
-    Ok(host.image(Choice::Lost)?)
+    create(alloc, &mut host, settings)?;
+    Ok(left(&host, Choice::Lost)?)
+}
+
+/// How a run over the host ends.
+pub fn status_of(alloc: Global, words: &Words, host: &mut MemoryHost) -> Status {
+    run(alloc, words, host)
 }
 
 /// Runs a script over a host that has a store.
 pub fn run_script(alloc: Global, host: &mut MemoryHost) -> Result<Status, NoMemory> {
     let words = words_of(alloc, &["s", "run"])?;
-    Ok(run(alloc, &words, host))
+    Ok(status_of(alloc, &words, host))
+}
+
+// The host after a whole script.
+fn ran(
+    rt: &impl Abort,
+    alloc: Global,
+    image: &Image,
+    script: &[u8],
+) -> Result<MemoryHost, NoMemory> {
+    let mut host = host_with(alloc, image, script, 65_536)?;
+    assert_eq!(rt; run_script(alloc, &mut host)?, Status::Done);
+    Ok(host)
 }
 
 /// What a store answers to a script.
@@ -120,16 +178,18 @@ pub fn answers(
     alloc: Global,
     image: &Image,
     script: &[u8],
-) -> Result<Bytes, Fail> {
-    let mut host = host_with(alloc, image, script, 65_536)?;
-    assert_eq!(rt; run_script(alloc, &mut host)?, Status::Done);
+) -> Result<Bytes, NoMemory> {
+    let host = ran(rt, alloc, image, script)?;
     assert_eq!(rt; host.counts().faults, 0);
-    Ok(Bytes::from_slice(alloc, host.output())?)
+    Bytes::from_slice(alloc, host.output())
 }
 
 /// What a store is after a script.
-pub fn stored(rt: &impl Abort, alloc: Global, image: &Image, script: &[u8]) -> Result<Image, Fail> {
-    let mut host = host_with(alloc, image, script, 65_536)?;
-    assert_eq!(rt; run_script(alloc, &mut host)?, Status::Done);
-    Ok(host.image(Choice::Lost)?)
+pub fn stored(
+    rt: &impl Abort,
+    alloc: Global,
+    image: &Image,
+    script: &[u8],
+) -> Result<Image, NoMemory> {
+    left(&ran(rt, alloc, image, script)?, Choice::Lost)
 }

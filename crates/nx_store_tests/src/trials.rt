@@ -5,7 +5,7 @@ use crate::documents::{Random, random_document};
 use crate::stores::{CHOICES, HEAVY, LIGHT};
 use crate::twins::{Tried, Twins};
 use nx_records::Settings;
-use std::alloc::Global;
+use std::alloc::{AllocError, Global};
 use std::process::Abort;
 use std::test::Fail;
 
@@ -16,6 +16,59 @@ struct Size {
     longest: u32,
 }
 
+// The line of a command of one document.
+fn line_of(alloc: Global, word: &[u8], name: u8) -> Result<Vec<u8>, AllocError> {
+    [word, b" ", [name].as_slice(), b"\n"].concat(alloc)
+}
+
+// The line that asks for some node.
+fn get_line(alloc: Global, name: u8, random: &mut Random) -> Result<Vec<u8>, AllocError> {
+    let mut line = [b"get ", [name].as_slice(), b" /1"].concat(alloc)?;
+    for _ in 0..random.below(4) {
+        let digit = b'0'.saturating_add((random.below(10) % 10) as u8);
+        line.extend_from_slice(&[b'/', digit])?;
+    }
+    line.push(b'\n')?;
+    Ok(line)
+}
+
+fn look(rt: &impl Abort, alloc: Global, twins: &mut Twins, name: u8) -> Result<(), Fail> {
+    let line = line_of(alloc, b"export", name)?;
+    twins.look(rt, line.as_slice())
+}
+
+fn get(
+    rt: &impl Abort,
+    alloc: Global,
+    twins: &mut Twins,
+    name: u8,
+    random: &mut Random,
+) -> Result<(), Fail> {
+    let line = get_line(alloc, name, random)?;
+    twins.look(rt, line.as_slice())
+}
+
+fn load(
+    rt: &impl Abort,
+    alloc: Global,
+    twins: &mut Twins,
+    name: u8,
+    random: &mut Random,
+    size: Size,
+) -> Result<(), Fail> {
+    let lines = random.below(size.lines);
+    let longest = size.longest.saturating_add(u32::from(random.below(8) == 0));
+    let text = random_document(alloc, random, lines, longest)?;
+    twins.load(rt, &[name], text.as_slice())
+}
+
+fn reopen(twins: &mut Twins, random: &mut Random) -> Result<(), Fail> {
+    match CHOICES.get(random.below(3) as usize) {
+        Some(choice) => twins.reopen(*choice),
+        None => Ok(()),
+    }
+}
+
 // One command, or a stop.
 fn step(
     rt: &impl Abort,
@@ -24,37 +77,25 @@ fn step(
     random: &mut Random,
     size: Size,
 ) -> Result<(), Fail> {
-    let name = [random.letter(26)];
+    let name = random.letter(26);
     match random.below(12) {
-        0..=4 => {
-            let lines = random.below(size.lines);
-            let longest = size.longest.saturating_add(u32::from(random.below(8) == 0));
-            let text = random_document(alloc, random, lines, longest)?;
-            twins.load(rt, &name, text.as_slice())
-        }
-        5 => twins.look(
-            rt,
-            [b"export ", name.as_slice(), b"\n"]
-                .concat(alloc)?
-                .as_slice(),
-        ),
-        6 => twins.layout(rt, &name),
+        0..=4 => load(rt, alloc, twins, name, random, size),
+        5 => look(rt, alloc, twins, name),
+        6 => twins.layout(rt, &[name]),
         7 => twins.look(rt, b"names\n"),
         8 => twins.checkpoint(rt),
-        9 => match CHOICES.get(random.below(3) as usize) {
-            Some(choice) => twins.reopen(*choice),
-            None => Ok(()),
-        },
-        _ => {
-            let mut lines = [b"get ", name.as_slice(), b" /1"].concat(alloc)?;
-            for _ in 0..random.below(4) {
-                let digit = b'0'.saturating_add((random.below(10) % 10) as u8);
-                lines.extend_from_slice(&[b'/', digit])?;
-            }
-            lines.push(b'\n')?;
-            twins.look(rt, lines.as_slice())
-        }
+        9 => reopen(twins, random),
+        _ => get(rt, alloc, twins, name, random),
     }
+}
+
+// A look at all documents.
+fn look_at_all(rt: &impl Abort, alloc: Global, twins: &mut Twins) -> Result<(), Fail> {
+    for name in b'a'..=b'z' {
+        look(rt, alloc, twins, name)?;
+        twins.layout(rt, &[name])?;
+    }
+    Ok(())
 }
 
 // So many steps, and then a look at all documents.
@@ -73,15 +114,7 @@ fn trial(
         step(rt, alloc, &mut twins, &mut random, size)?;
     }
     twins.reopen(CHOICES[1])?;
-    for name in b'a'..=b'z' {
-        twins.look(
-            rt,
-            [b"export ", [name].as_slice(), b"\n"]
-                .concat(alloc)?
-                .as_slice(),
-        )?;
-        twins.layout(rt, &[name])?;
-    }
+    look_at_all(rt, alloc, &mut twins)?;
     Ok(twins.tried)
 }
 

@@ -1,17 +1,19 @@
 // A store beside plain trees in memory, which are the second engine: both are given the same commands.
+ghost use Rattle.std.specs.Prelude.{◌≤◌};
 ghost use Rattle.nx_holdings.specs.Header.{AreSettings};
+ghost use Rattle.nx_tree.specs.Document.{IsDocument};
 
 use crate::documents::load;
-use crate::stores::{command_of, empty_host, host_with};
+use crate::stores::{apply, command_of, create, empty_host, host_with, left, open};
 use nx_engine::Plain;
 use nx_memory::{Choice, MemoryHost};
 use nx_partition::plan;
-use nx_parts::{Partitioning, check_feasible, part_weights};
+use nx_parts::{Partitioning, PartsError, check_feasible, part_weights};
 use nx_records::Settings;
-use nx_script::{Command, Reply, ReplyError, write_reply};
+use nx_script::{Command, Reply, ReplyError, ScriptError, write_reply};
 use nx_store::Store;
-use nx_tree::{Bytes, Path, count};
-use nx_weights::{Weights, first_heavy};
+use nx_tree::{Bytes, NoMemory, Path, Tree, count};
+use nx_weights::{HeavyNode, Weights, first_heavy};
 use std::alloc::Global;
 use std::process::Abort;
 use std::test::Fail;
@@ -43,7 +45,7 @@ impl Twins {
         requires { AreSettings settings }
     {
         let mut host = empty_host(alloc)?;
-        let store = Store::create(alloc, &mut host, settings)?;
+        let store = create(alloc, &mut host, settings)?;
         Ok(Twins {
             alloc,
             host,
@@ -56,20 +58,18 @@ impl Twins {
     }
 
     fn apply(&mut self, lines: &[u8]) -> Result<Reply, Fail> {
-        let command = command_of(self.alloc, lines)?;
-        Ok(self.store.apply(&mut self.host, command)?)
+        Ok(apply(self.alloc, &mut self.store, &mut self.host, lines)??)
     }
 
     fn apply_plain(&mut self, lines: &[u8]) -> Result<Reply, Fail> {
-        Ok(self.plain.apply(command_of(self.alloc, lines)?)?)
+        Ok(apply_plain(self.alloc, &mut self.plain, lines)?)
     }
 
     // Both replies say the same.
     fn check_same(&self, rt: &impl Abort, found: &Reply, want: &Reply) -> Result<(), Fail> {
-        assert_eq!(rt;
-            write_reply(self.alloc, found)?.as_slice(),
-            write_reply(self.alloc, want)?.as_slice()
-        );
+        let found = reply_text(self.alloc, found)?;
+        let want = reply_text(self.alloc, want)?;
+        assert_eq!(rt; found.as_slice(), want.as_slice());
         Ok(())
     }
 
@@ -84,44 +84,52 @@ impl Twins {
     pub fn load(&mut self, rt: &impl Abort, name: &[u8], text: &[u8]) -> Result<(), Fail> {
         let lines = load(self.alloc, name, text)?;
         let want = self.apply_plain(lines.as_slice())?;
-        match self.apply(lines.as_slice())? {
+        let found = self.apply(lines.as_slice())?;
+        self.check_load(rt, name, &found, &want)
+    }
+
+    // The store's reply to a load goes with that of the plain trees.
+    fn check_load(
+        &mut self,
+        rt: &impl Abort,
+        name: &[u8],
+        found: &Reply,
+        want: &Reply,
+    ) -> Result<(), Fail> {
+        match found {
             Reply::Loaded { nodes, intervals } => {
-                assert!(rt; matches!(want, Reply::Loaded { nodes: n, .. } if n == nodes));
-                self.nodes = self.nodes.saturating_add(nodes);
-                self.tried.loaded = self.tried.loaded.saturating_add(1);
-                self.check_loaded(rt, name, intervals)
+                assert!(rt; is_loaded(want, *nodes));
+                self.add_loaded(*nodes);
+                self.check_loaded(rt, name, *intervals);
+                Ok(())
             }
             Reply::Refused(ReplyError::TooHeavy { path, weight }) => {
-                self.check_heavy(rt, name, &path, weight)?;
+                self.check_heavy(rt, name, path, *weight)?;
                 self.forget(name)
             }
             Reply::Refused(ReplyError::Full) => {
-                self.check_full(rt, name)?;
+                self.check_full(rt, name);
                 self.forget(name)
             }
-            found => self.check_same(rt, &found, &want),
+            found => self.check_same(rt, found, want),
         }
+    }
+
+    fn add_loaded(&mut self, nodes: u32) {
+        self.nodes = self.nodes.saturating_add(nodes);
+        self.tried.loaded = self.tried.loaded.saturating_add(1);
     }
 
     // Takes the document from the plain trees, since the store hasn't kept it.
     fn forget(&mut self, name: &[u8]) -> Result<(), Fail> {
-        let name = Bytes::from_slice(self.alloc, name)?;
-        self.plain.apply(Command::Discard { name })?;
+        discard(self.alloc, &mut self.plain, name)?;
         Ok(())
     }
 
     // The document is stored in as few intervals as there can be.
-    fn check_loaded(&self, rt: &impl Abort, name: &[u8], intervals: u32) -> Result<(), Fail> {
-        let k = self.settings.k;
-        assert!(rt; 1 <= k && k <= 256);
-        let Some(tree) = self.plain.document(name) else {
-            panic!(rt; "there is no document");
-        };
-        let Ok(best) = plan(self.alloc, tree, k) else {
-            panic!(rt; "there is no plan");
-        };
-        assert_eq!(rt; best.parts.len(), intervals as usize);
-        Ok(())
+    fn check_loaded(&self, rt: &impl Abort, name: &[u8], intervals: u32) {
+        let fewest = fewest_of(rt, self.alloc, &self.plain, name, self.settings.k);
+        assert_eq!(rt; fewest, Some(intervals as usize));
     }
 
     // The node is the first that is too heavy.
@@ -133,10 +141,7 @@ impl Twins {
         weight: u32,
     ) -> Result<(), Fail> {
         self.tried.heavy = self.tried.heavy.saturating_add(1);
-        let Some(tree) = self.plain.document(name) else {
-            panic!(rt; "there is no document");
-        };
-        let Some(heavy) = first_heavy(self.alloc, tree, self.settings.k)? else {
+        let Some(heavy) = heavy_in(rt, self.alloc, &self.plain, name, self.settings.k)? else {
             panic!(rt; "no node is too heavy");
         };
         assert_eq!(rt; heavy.path.as_slice(), path.as_slice());
@@ -145,15 +150,12 @@ impl Twins {
     }
 
     // There may be no room: three times the nodes before and after, and 8, reach the limit of pages.
-    fn check_full(&mut self, rt: &impl Abort, name: &[u8]) -> Result<(), Fail> {
+    fn check_full(&mut self, rt: &impl Abort, name: &[u8]) {
         self.tried.full = self.tried.full.saturating_add(1);
-        let Some(tree) = self.plain.document(name) else {
-            panic!(rt; "there is no document");
-        };
-        let nodes = self.nodes.saturating_mul(2).saturating_add(count(tree));
+        let new = count_of(rt, &self.plain, name);
+        let nodes = self.nodes.saturating_mul(2).saturating_add(new);
         let bound = nodes.saturating_mul(3).saturating_add(8);
         assert!(rt; self.settings.limit <= bound);
-        Ok(())
     }
 
     /// Asks for the intervals of a document.
@@ -161,12 +163,14 @@ impl Twins {
         let lines = [b"layout ", name, b"\n"].concat(self.alloc)?;
         match self.apply(lines.as_slice())? {
             Reply::Laid { parts, weights } => self.check_laid(rt, name, &parts, &weights),
-            found => {
-                assert!(rt; self.plain.document(name).is_none());
-                let want = Reply::Refused(ReplyError::NoDocument);
-                self.check_same(rt, &found, &want)
-            }
+            found => self.check_none(rt, name, &found),
         }
+    }
+
+    // There is no document, and the reply says so.
+    fn check_none(&self, rt: &impl Abort, name: &[u8], found: &Reply) -> Result<(), Fail> {
+        assert!(rt; self.plain.document(name).is_none());
+        self.check_same(rt, found, &Reply::Refused(ReplyError::NoDocument))
     }
 
     // The intervals are a partitioning of the document in parts of at most K slots, with these weights, and as
@@ -179,14 +183,10 @@ impl Twins {
         weights: &Weights,
     ) -> Result<(), Fail> {
         self.tried.laid = self.tried.laid.saturating_add(1);
-        assert!(rt; parts.len() < 1 << 20);
-        let Some(tree) = self.plain.document(name) else {
-            panic!(rt; "there is no document");
-        };
-        check_feasible(self.alloc, tree, self.settings.k, parts)?;
-        let want = part_weights(self.alloc, tree, parts)?;
+        let want = weights_in(rt, self.alloc, &self.plain, name, self.settings.k, parts)?;
         assert_eq!(rt; weights.as_slice(), want.as_slice());
-        self.check_loaded(rt, name, (parts.len() % (1 << 20)) as u32)
+        self.check_loaded(rt, name, (parts.len() % (1 << 20)) as u32);
+        Ok(())
     }
 
     /// Empties the log.
@@ -197,9 +197,89 @@ impl Twins {
 
     /// Stops, and opens what is left.
     pub fn reopen(&mut self, choice: Choice) -> Result<(), Fail> {
-        let image = self.host.image(choice)?;
+        let image = left(&self.host, choice)?;
         self.host = host_with(self.alloc, &image, b"", 1)?;
-        self.store = Store::open(self.alloc, &mut self.host)?;
+        self.store = open(self.alloc, &mut self.host)?;
         Ok(())
     }
+}
+
+fn reply_text(alloc: Global, reply: &Reply) -> Result<Bytes, NoMemory> {
+    write_reply(alloc, reply)
+}
+
+// What plain trees say to the command of these lines.
+fn apply_plain(alloc: Global, plain: &mut Plain, lines: &[u8]) -> Result<Reply, ScriptError> {
+    let command = command_of(alloc, lines)?;
+    Ok(plain.apply(command)?)
+}
+
+fn discard(alloc: Global, plain: &mut Plain, name: &[u8]) -> Result<(), NoMemory> {
+    let name = Bytes::from_slice(alloc, name)?;
+    plain.apply(Command::Discard { name })?;
+    Ok(())
+}
+
+// Whether a document of so many nodes was loaded.
+fn is_loaded(reply: &Reply, count: u32) -> bool {
+    match reply {
+        Reply::Loaded { nodes, .. } => *nodes == count,
+        _ => false,
+    }
+}
+
+// The least number of intervals of the document of that name.
+fn fewest_of(rt: &impl Abort, alloc: Global, plain: &Plain, name: &[u8], k: u32) -> Option<usize> {
+    assert!(rt; 1 <= k && k <= 256);
+    fewest_in(alloc, plain.document(name)?, k)
+}
+
+fn fewest_in(alloc: Global, tree: &Tree, k: u32) -> Option<usize>
+    requires document { IsDocument tree.now }
+    requires some { 1 ≤ k }
+    requires most { k ≤ 256 }
+{
+    match plan(alloc, tree, k) {
+        Ok(best) => Some(best.parts.len()),
+        Err(_) => None,
+    }
+}
+
+// The first node that is too heavy of the document of that name.
+fn heavy_in(
+    rt: &impl Abort,
+    alloc: Global,
+    plain: &Plain,
+    name: &[u8],
+    k: u32,
+) -> Result<Option<HeavyNode>, NoMemory> {
+    let Some(tree) = plain.document(name) else {
+        panic!(rt; "there is no document");
+    };
+    first_heavy(alloc, tree, k)
+}
+
+// The number of nodes of the document of that name.
+fn count_of(rt: &impl Abort, plain: &Plain, name: &[u8]) -> u32 {
+    let Some(tree) = plain.document(name) else {
+        panic!(rt; "there is no document");
+    };
+    count(tree)
+}
+
+// The weights of these parts of the document of that name, which are feasible.
+fn weights_in(
+    rt: &impl Abort,
+    alloc: Global,
+    plain: &Plain,
+    name: &[u8],
+    k: u32,
+    parts: &Partitioning,
+) -> Result<Weights, PartsError> {
+    assert!(rt; parts.len() < 1 << 20);
+    let Some(tree) = plain.document(name) else {
+        panic!(rt; "there is no document");
+    };
+    check_feasible(alloc, tree, k, parts)?;
+    part_weights(alloc, tree, parts)
 }

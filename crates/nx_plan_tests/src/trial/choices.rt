@@ -62,6 +62,24 @@ impl Choice {
         self.open = Some(weight);
         true
     }
+
+    // What it gives of which the number of the bound speaks, where the number speaks of it and it is admitted.
+    fn given(&self, k: u32, field: Field, own: u64, children: u64, bound: Bound) -> Option<u32> {
+        let root = own.saturating_add(self.left);
+        let cells = self.intervals.saturating_add(1);
+        let numbers = cells.saturating_add(self.numbers);
+        let count = numbers.saturating_sub(children).max(1);
+        let claimed = u64::from(bound.least);
+        let (speaks, given) = match field {
+            Field::Least => (true, count),
+            Field::Lean => (count <= claimed, root),
+            Field::Nearly => (count <= claimed.saturating_add(1), root),
+        };
+        if root <= u64::from(k) && self.is_light && speaks {
+            return Some(u32::try_from(given).unwrap_or(u32::MAX));
+        }
+        None
+    }
 }
 
 // The choice that a number codes by a digit for each child; `None` where it codes none.
@@ -92,21 +110,10 @@ pub(super) fn least_given(
     }
     let mut least: Option<u32> = None;
     for code in 0..codes {
-        if let Some(choice) = coded(k, children, code) {
-            let root = own.saturating_add(choice.left);
-            let cells = choice.intervals.saturating_add(1);
-            let numbers = cells.saturating_add(choice.numbers);
-            let count = numbers.saturating_sub(children.len() as u64).max(1);
-            let claimed = u64::from(bound.least);
-            let (speaks, given) = match field {
-                Field::Least => (true, count),
-                Field::Lean => (count <= claimed, root),
-                Field::Nearly => (count <= claimed.saturating_add(1), root),
-            };
-            if root <= u64::from(k) && choice.is_light && speaks {
-                let given = u32::try_from(given).unwrap_or(u32::MAX);
-                least = Some(least.unwrap_or(given).min(given));
-            }
+        if let Some(choice) = coded(k, children, code)
+            && let Some(given) = choice.given(k, field, own, children.len() as u64, bound)
+        {
+            least = Some(least.unwrap_or(given).min(given));
         }
     }
     least

@@ -19,15 +19,23 @@ fn claimed_children(
     let mut place: usize = 0;
     for child in tree.children.as_slice() {
         let bound = below.get(place).copied().ok_or(NoMemory)?;
-        let own = u32::try_from(slots(&child.node)).unwrap_or(u32::MAX);
-        children.push(Child {
-            least: bound.least,
-            lean: bound.lean.max(own).min(k),
-            nearly: bound.nearly.max(own).min(k),
-        })?;
-        place = place.saturating_add(placed_nodes(alloc, child)?.len());
+        children.push(claimed_child(k, child, bound))?;
+        place = place.saturating_add(node_count(alloc, child)?);
     }
     Ok(children)
+}
+
+fn claimed_child(k: u32, child: &Tree, bound: Bound) -> Child {
+    let own = u32::try_from(slots(&child.node)).unwrap_or(u32::MAX);
+    Child {
+        least: bound.least,
+        lean: bound.lean.max(own).min(k),
+        nearly: bound.nearly.max(own).min(k),
+    }
+}
+
+fn node_count(alloc: Global, tree: &Tree) -> Result<usize, NoMemory> {
+    Ok(placed_nodes(alloc, tree)?.len())
 }
 
 /// Why the bounds of these subtrees, in document order, aren't supported: the first number of the first
@@ -42,9 +50,7 @@ pub(super) fn check_bounds(
     let mut left = bounds;
     for tree in subtrees {
         let (bound, below) = left.split_first().ok_or(BoundsError::Memory)?;
-        let children = claimed_children(alloc, k, tree, below)?;
-        let own = slots(&tree.node);
-        if let Some((field, found)) = first_exceeded(k, own, children.as_slice(), *bound) {
+        if let Some((field, found)) = exceeded(alloc, k, tree, *bound, below)? {
             return Err(BoundsError::Unsupported {
                 node,
                 field,
@@ -58,6 +64,18 @@ pub(super) fn check_bounds(
     Ok(())
 }
 
+// The first number of the tree's bound that is more than the least that a choice gives, and that least.
+fn exceeded(
+    alloc: Global,
+    k: u32,
+    tree: &Tree,
+    bound: Bound,
+    below: &[Bound],
+) -> Result<Option<(Field, u32)>, NoMemory> {
+    let children = claimed_children(alloc, k, tree, below)?;
+    Ok(first_exceeded(k, slots(&tree.node), children.as_slice(), bound))
+}
+
 /// Bounds for these subtrees, in document order, of which each is as great as those of its children
 /// support, or now and then less.
 pub(super) fn any_supported(
@@ -69,23 +87,28 @@ pub(super) fn any_supported(
     let mut bounds: Vec<Bound> = Vec::new(alloc);
     for tree in subtrees.iter().rev() {
         let children = claimed_children(alloc, k, tree, bounds.as_slice())?;
-        let own = slots(&tree.node);
-        let mut bound = Bound {
-            least: 0,
-            lean: 0,
-            nearly: 0,
-        };
-        for field in [Field::Least, Field::Lean, Field::Nearly] {
-            // Where there is no choice, any number is supported.
-            let most = least_given(k, field, own, children.as_slice(), bound).unwrap_or(k);
-            let number = most.min(random.near(most));
-            match field {
-                Field::Least => bound.least = number,
-                Field::Lean => bound.lean = number,
-                Field::Nearly => bound.nearly = number,
-            }
-        }
+        let bound = any_bound(k, slots(&tree.node), children.as_slice(), random);
         bounds.insert(0, bound)?;
     }
     Ok(bounds)
+}
+
+// A bound that these children support.
+fn any_bound(k: u32, own: u64, children: &[Child], random: &mut Random) -> Bound {
+    let mut bound = Bound {
+        least: 0,
+        lean: 0,
+        nearly: 0,
+    };
+    for field in [Field::Least, Field::Lean, Field::Nearly] {
+        // Where there is no choice, any number is supported.
+        let most = least_given(k, field, own, children, bound).unwrap_or(k);
+        let number = most.min(random.near(most));
+        match field {
+            Field::Least => bound.least = number,
+            Field::Lean => bound.lean = number,
+            Field::Nearly => bound.nearly = number,
+        }
+    }
+    bound
 }

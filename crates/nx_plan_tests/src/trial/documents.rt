@@ -39,40 +39,61 @@ pub(super) fn document(alloc: Global, shape: Shape, weights: u32) -> Result<Opti
 fn push_document(
     alloc: Global,
     shape: Shape,
-    mut weights: u32,
+    weights: u32,
     text: &mut Vec<u8>,
 ) -> Result<bool, NoMemory> {
-    for _ in 0..shape.before {
-        text.extend_from_slice(b"?p x\n")?;
+    push_lines(text, shape.before, b"?p x\n")?;
+    if !push_element(alloc, shape, weights, text)? {
+        return Ok(false);
     }
+    push_lines(text, shape.after, b"?p 12345678\n")?;
+    Ok(true)
+}
+
+fn push_lines(text: &mut Vec<u8>, count: u32, line: &[u8]) -> Result<(), NoMemory> {
+    for _ in 0..count {
+        text.extend_from_slice(line)?;
+    }
+    Ok(())
+}
+
+// The element, if its word is one of so many nodes.
+fn push_element(
+    alloc: Global,
+    shape: Shape,
+    weights: u32,
+    text: &mut Vec<u8>,
+) -> Result<bool, NoMemory> {
     // What is left of the word, and the names of the open elements.
     let mut word = shape.word;
     let mut open = Vec::new(alloc);
     push_open(text, &mut open, weights % 2 == 0)?;
-    weights /= 2;
+    let mut weights = weights / 2;
     for _ in 0..2 * shape.below.min(8) {
-        if word % 2 == 0 {
-            if open.len() < 2 || !push_close(text, &mut open)? {
-                return Ok(false);
-            }
-        } else if word % 4 == 1 && weights % 3 < 2 {
-            // A leaf: the next bit closes it.
-            push_text(text, weights % 3 == 0)?;
+        if word % 2 == 1 {
+            push_node(text, &mut open, word % 4 == 1, weights % 3)?;
             weights /= 3;
-            open.push(&b""[..])?;
-        } else {
-            push_open(text, &mut open, weights % 3 == 2)?;
-            weights /= 3;
+        } else if open.len() < 2 || !push_close(text, &mut open)? {
+            return Ok(false);
         }
         word /= 2;
     }
-    if word != 0 || open.len() != 1 || !push_close(text, &mut open)? {
-        return Ok(false);
+    Ok(word == 0 && open.len() == 1 && push_close(text, &mut open)?)
+}
+
+// An element, or a text that the next bit closes, of one of three weights.
+fn push_node(
+    text: &mut Vec<u8>,
+    open: &mut Vec<&'static [u8]>,
+    is_leaf: bool,
+    weight: u32,
+) -> Result<(), NoMemory> {
+    if is_leaf && weight < 2 {
+        push_text(text, weight == 0)?;
+        open.push(&b""[..])?;
+        return Ok(());
     }
-    for _ in 0..shape.after {
-        text.extend_from_slice(b"?p 12345678\n")?;
-    }
-    Ok(true)
+    push_open(text, open, weight == 2)
 }
 
 fn push_open(
@@ -152,23 +173,39 @@ pub(super) fn partitioning(
     let mut left = code;
     for placed in nodes {
         if let Some((position, parent)) = placed.path.as_slice().split_last() {
-            let digit = left % 3;
-            left /= 3;
-            if digit == 1 {
-                parts.push(Interval::Run {
-                    parent: Path::from_vec(Vec::from_slice(alloc, parent)?),
-                    first: *position,
-                    last: *position,
-                })?;
-            } else if digit == 2 && !is_continued(&mut parts, parent, *position) {
+            if !is_placed(alloc, &mut parts, parent, *position, left % 3)? {
                 return Ok(None);
             }
+            left /= 3;
         }
     }
     if code % 2 == 1 {
         parts.push(Interval::Root)?;
     }
     Ok(Some(Partitioning::from_vec(parts)))
+}
+
+// Places that child by its digit; false where there is nothing to continue.
+fn is_placed(
+    alloc: Global,
+    parts: &mut Vec<Interval>,
+    parent: &[u32],
+    position: u32,
+    digit: u32,
+) -> Result<bool, NoMemory> {
+    if digit == 1 {
+        parts.push(single(alloc, parent, position)?)?;
+    }
+    Ok(digit < 2 || is_continued(parts, parent, position))
+}
+
+// The interval of one child.
+fn single(alloc: Global, parent: &[u32], position: u32) -> Result<Interval, NoMemory> {
+    Ok(Interval::Run {
+        parent: Path::from_slice(alloc, parent)?,
+        first: position,
+        last: position,
+    })
 }
 
 // Continues the run that ends before that child; whether there is one.

@@ -1,7 +1,7 @@
 // What the feasible partitionings of a subtree have at least, by looking at them all.
 use super::documents::{partitioning, partitioning_codes};
 use super::plain::{Placed, part_weight, root_weight};
-use nx_parts::Bound;
+use nx_parts::{Bound, Interval};
 use nx_tree::NoMemory;
 use std::alloc::Global;
 
@@ -35,19 +35,22 @@ pub(super) fn measure(alloc: Global, nodes: &[Placed<'_>]) -> Result<Vec<Measure
     let mut list = Vec::new(alloc);
     for code in 0..partitioning_codes(nodes) {
         if let Some(parts) = partitioning(alloc, nodes, code)? {
-            let parts = parts.as_slice();
-            let mut heaviest = 0;
-            for index in 0..parts.len() {
-                heaviest = part_weight(nodes, parts, index).max(heaviest);
-            }
-            list.push(Measured {
-                intervals: u32::try_from(parts.len()).unwrap_or(u32::MAX),
-                heaviest,
-                root: root_weight(nodes, parts),
-            })?;
+            list.push(measurement(nodes, parts.as_slice()))?;
         }
     }
     Ok(list)
+}
+
+fn measurement(nodes: &[Placed<'_>], parts: &[Interval]) -> Measured {
+    let mut heaviest = 0;
+    for index in 0..parts.len() {
+        heaviest = part_weight(nodes, parts, index).max(heaviest);
+    }
+    Measured {
+        intervals: u32::try_from(parts.len()).unwrap_or(u32::MAX),
+        heaviest,
+        root: root_weight(nodes, parts),
+    }
 }
 
 // The greatest bound that is true of all feasible ones; `None` where there is none.

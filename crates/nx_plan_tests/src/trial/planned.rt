@@ -2,15 +2,14 @@
 ghost use Rattle.std.specs.Prelude.{◌≤◌};
 ghost use Rattle.nx_tree.specs.Document.{IsDocument};
 
-use super::documents::document;
-use super::minima::{measure, minima};
-use super::plain::placed_nodes;
+use super::documents::{Shape, document};
+use super::minima::minima;
 use super::random::Random;
-use super::{shapes, subtrees};
+use super::{measure_tree, shapes, subtrees};
 use nx_bounds::certified;
 use nx_partition::{PlanError, plan};
-use nx_parts::Plan;
-use nx_tree::Tree;
+use nx_parts::{Bound, Plan};
+use nx_tree::{NoMemory, Tree};
 use std::alloc::Global;
 use std::process::Abort;
 use std::test::Fail;
@@ -24,16 +23,11 @@ struct Planned {
 
 #[test]
 fn plans_are_best(rt: HostRuntime) -> Result<(), Fail> {
-    let alloc = rt.alloc();
     let mut random = Random::new(3);
     let mut planned = Planned { plans: 0, heavy: 0 };
-    for shape in shapes(alloc)?.as_slice() {
+    for shape in shapes(rt.alloc())?.as_slice() {
         let weights = random.below(162);
-        if let Some(tree) = document(alloc, *shape, weights)? {
-            for k in 1..8 {
-                try_plan(&rt, alloc, &tree, k, &mut planned)?;
-            }
-        }
+        try_shape(&rt, rt.alloc(), *shape, weights, &mut planned)?;
     }
     assert_eq!(rt;
         planned,
@@ -42,6 +36,22 @@ fn plans_are_best(rt: HostRuntime) -> Result<(), Fail> {
             heavy: 125,
         }
     );
+    Ok(())
+}
+
+// Plans of the document of that shape, if there is one.
+fn try_shape(
+    rt: &impl Abort,
+    alloc: Global,
+    shape: Shape,
+    weights: u32,
+    planned: &mut Planned,
+) -> Result<(), Fail> {
+    if let Some(tree) = document(alloc, shape, weights)? {
+        for k in 1..8 {
+            try_plan(rt, alloc, &tree, k, planned)?;
+        }
+    }
     Ok(())
 }
 
@@ -56,20 +66,36 @@ fn try_plan(
     requires some { 1 ≤ k }
     requires most { k ≤ 256 }
 {
-    match plan(alloc, tree, k) {
-        Ok(plan) => {
+    match made(alloc, tree, k)? {
+        Some(plan) => {
             planned.plans = planned.plans.saturating_add(1);
             check_plan(rt, alloc, tree, k, &plan)
         }
-        Err(PlanError::TooHeavy { .. }) => {
+        None => {
             planned.heavy = planned.heavy.saturating_add(1);
-            let nodes = placed_nodes(alloc, tree)?;
-            let list = measure(alloc, nodes.as_slice())?;
-            assert_eq!(rt; minima(list.as_slice(), k), None);
+            assert_eq!(rt; least(alloc, tree, k)?, None);
             Ok(())
         }
-        Err(PlanError::Memory) => Err(Fail::from("no memory")),
     }
+}
+
+// The plan of the document, unless a node is too heavy.
+fn made(alloc: Global, tree: &Tree, k: u32) -> Result<Option<Plan>, NoMemory>
+    requires document { IsDocument tree.now }
+    requires some { 1 ≤ k }
+    requires most { k ≤ 256 }
+{
+    match plan(alloc, tree, k) {
+        Ok(plan) => Ok(Some(plan)),
+        Err(PlanError::TooHeavy { .. }) => Ok(None),
+        Err(PlanError::Memory) => Err(NoMemory),
+    }
+}
+
+// The least numbers of all partitionings of the tree.
+fn least(alloc: Global, tree: &Tree, k: u32) -> Result<Option<Bound>, NoMemory> {
+    let list = measure_tree(alloc, tree)?;
+    Ok(minima(list.as_slice(), k))
 }
 
 // The bounds are the least numbers of all partitionings of the subtrees, the root's are those of the
@@ -79,18 +105,30 @@ fn check_plan(rt: &impl Abort, alloc: Global, tree: &Tree, k: u32, plan: &Plan) 
     requires some { 1 ≤ k }
     requires most { k ≤ 256 }
 {
-    let bounds = plan.bounds.as_slice();
+    check_bounds(rt, alloc, tree, k, plan.bounds.as_slice())?;
+    check_root(rt, plan)?;
+    assert!(rt; plan.bounds.len() < 100 && plan.parts.len() < 100 && plan.weights.len() < 100);
+    assert_eq!(rt; certified(alloc, tree, k, plan), Ok(()));
+    Ok(())
+}
+
+fn check_bounds(
+    rt: &impl Abort,
+    alloc: Global,
+    tree: &Tree,
+    k: u32,
+    bounds: &[Bound],
+) -> Result<(), NoMemory> {
     let trees = subtrees(alloc, tree)?;
     assert_eq!(rt; bounds.len(), trees.len());
     for (subtree, bound) in trees.as_slice().iter().zip(bounds) {
-        let nodes = placed_nodes(alloc, subtree)?;
-        let list = measure(alloc, nodes.as_slice())?;
-        assert_eq!(rt; minima(list.as_slice(), k), Some(*bound));
+        assert_eq!(rt; least(alloc, subtree, k)?, Some(*bound));
     }
-    assert!(rt; bounds.len() < 100);
-    assert!(rt; plan.parts.len() < 100);
-    assert!(rt; plan.weights.len() < 100);
-    let Some(root) = bounds.first().copied() else {
+    Ok(())
+}
+
+fn check_root(rt: &impl Abort, plan: &Plan) -> Result<(), Fail> {
+    let Some(root) = plan.bounds.as_slice().first().copied() else {
         return Err(Fail::from("no bounds"));
     };
     assert_eq!(rt; plan.parts.len(), root.least as usize);
@@ -98,6 +136,5 @@ fn check_plan(rt: &impl Abort, alloc: Global, tree: &Tree, k: u32, plan: &Plan) 
         plan.weights.as_slice().first().copied(),
         Some(u64::from(root.lean))
     );
-    assert_eq!(rt; certified(alloc, tree, k, plan), Ok(()));
     Ok(())
 }
