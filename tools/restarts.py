@@ -62,15 +62,15 @@ class Session:
         return [*self.states[replies : replies + 2], *unread]
 
 
-def states_of(begun, commands, last):
-    """The states after so many commands, by the last of them."""
-    states = [begun]
+def states_of(begun, commands, last, gone={}):
+    """The states after so many commands, by the last of them, and by what documents were that are gone in it."""
+    states, known = [begun], gone | last
     for words, document in commands:
         word, name, *_ = [*words.split(), b""]
-        new = {name: last[name]} if document else {}
-        if document and last[name][1] != b"".join(line + b"\n" for line in document):
+        new = {name: known[name]} if document or word == b"delete" else {}
+        if document and known[name][1] != b"".join(line + b"\n" for line in document):
             raise Wrong(f"the document {name} isn't what was loaded")
-        states.append((states[-1] or {}) | new)
+        states.append({other: held for other, held in (states[-1] or {}).items() if (word, other) != (b"drop", name)} | new)
     if states[-1] != last:
         raise Wrong(f"a session holds {sorted(last)} in the end, and not {sorted(states[-1])}")
     return states
@@ -103,12 +103,27 @@ class Trial:
     def document(self, nodes):
         return sessions.drawn_document(self.draw, nodes, 3)
 
+    def alone(self, document):
+        """What a store holds of a document that it holds alone."""
+        for path in (self.store, self.store + ".log"):
+            if os.path.exists(path):
+                os.unlink(path)
+        session(self.store, [INIT])
+        session(self.store, [load(b"alone", document)])
+        held = self.reader.state(self.files())[b"alone"]
+        for path in (self.store, self.store + ".log"):
+            os.unlink(path)
+        return held
+
     def first(self):
-        """A store's making, loads and checkpoints."""
+        """A store's making, loads, a drop and checkpoints."""
+        lost = self.document(25)
+        gone = {b"lost": self.alone(lost)}
         commands = [ask(b"checkpoint") if nodes is None else load(b"first%d" % at, self.document(nodes)) for at, nodes in enumerate((9, 60, None, 30, None, 12, 5))]
+        commands[3:3] = [load(b"lost", lost), ask(b"drop", b"lost")]
         making, filling = session(self.store, [INIT]), session(self.store, commands)
         last = self.reader.state(self.files())
-        return Session(making + filling[crashes.opening(filling) :], [INIT, *commands], states_of(None, [INIT, *commands], last))
+        return Session(making + filling[crashes.opening(filling) :], [INIT, *commands], states_of(None, [INIT, *commands], last, gone))
 
     def files(self):
         found = []
@@ -121,8 +136,12 @@ class Trial:
         """What sessions over this state do."""
         if stands is None:
             return [[INIT]]
-        names = ask(b"names")
-        return [[ask(b"checkpoint"), names], [names, load(b"second", self.document(40)), ask(b"checkpoint"), load(b"third", self.document(7))]]
+        names, there = ask(b"names"), sorted(stands)
+        goes = [ask(b"drop", name) for name in there[:1]]
+        for name in there[1:2]:
+            path = self.draw.choice(sessions.may_go(stands[name][1].splitlines()))
+            goes.append(ask(b"delete", name, sessions.path_text(path)))
+        return [[ask(b"checkpoint"), names], [names, load(b"second", self.document(40)), *goes, ask(b"checkpoint"), load(b"third", self.document(7))]]
 
     def wrong_images(self, disk, of):
         """Over all moments of a session, those images of a crash that aren't as they should be."""

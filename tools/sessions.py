@@ -80,6 +80,39 @@ def drawn_document(draw, nodes, k):
     return Document([*around[0], *top.lines(), *around[1]], nodes)
 
 
+def places(lines):
+    """By path, from which line to which each node of a document stands."""
+    found, path, begun = {}, [-1], []
+    for at, line in enumerate(lines):
+        if line[:1] == b")":
+            path.pop()
+            found[tuple(path)] = (begun.pop(), at + 1)
+            continue
+        path[-1] += 1
+        if line[:1] == b"(":
+            begun.append(at)
+            path.append(-1)
+        else:
+            found[tuple(path)] = (at, at + 1)
+    return found
+
+
+def may_go(lines):
+    """The paths of the nodes that may go: all but the root and the element below it."""
+    return [path for path, (begin, _) in places(lines).items() if len(path) > 1 or lines[begin][:1] == b"?"]
+
+
+def without(document, path):
+    """The document without the node at the path; its intervals aren't known."""
+    begin, end = places(document.lines)[path]
+    gone = sum(line[:1] != b")" for line in document.lines[begin:end])
+    return Document(document.lines[:begin] + document.lines[end:], document.nodes - gone)
+
+
+def path_text(path):
+    return b"/" + b"/".join(b"%d" % position for position in path)
+
+
 # Commands and replies. A command is its words behind each other; `load` has a document besides.
 
 
