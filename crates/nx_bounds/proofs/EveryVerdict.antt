@@ -11,7 +11,7 @@ use Rattle.nx_parts.specs.declared.interval.Interval.TheVariants.{Root, Run}
 use Rattle.nx_parts.specs.declared.plan.Plan.{Plan}
 use Rattle.nx_parts.specs.declared.error.PartsError.{PartsError}
 use Rattle.nx_parts.specs.declared.error.PartsError.TheVariants as parts_error
-use Rattle.nx_parts.specs.Partitioning.{is_in_tree, ShareMember, IsPartitioning, IsFeasible, part_weight}
+use Rattle.nx_parts.specs.Partitioning.{is_in_tree, ShareMember, IsPartitioning, IsFeasible, owned_weight}
 use Rattle.nx_parts.specs.Refusal.{IsFirst, IsOutOfTree, Overlaps, IsHeavy, IsNotFeasible}
 use Rattle.nx_choices.specs.declared.child.Field.{Field}
 use Rattle.nx_choices.specs.declared.child.Field.TheVariants.{Least, Lean, Nearly}
@@ -82,10 +82,10 @@ feasible k tree parts u =
     let root : Contains parts Root = rooted parts (λ n. u parts_error.NoRoot (λ e. cc) (outside, overlap, n)) in
     let partitioning : IsPartitioning tree parts = record { inside = inside tree parts outside; disjoint = apart parts overlap; rooted = root } in
     let heavy : (i : ℕ) → ¬ IsHeavy k tree parts i =
-    none_at_all (IsHeavy k tree parts) (λ i f. u (parts_error.Heavy i (part_weight tree parts i)) (λ e. cc) (partitioning, f, refl)) in
+    none_at_all (IsHeavy k tree parts) (λ i f. u (parts_error.Heavy i (owned_weight tree parts i)) (λ e. cc) (partitioning, f, refl)) in
     record {
       partitioning = partitioning;
-      light = λ i within. le_unless (part_weight tree parts i) k (λ more. heavy i (within, more));
+      light = λ i within. le_unless (owned_weight tree parts i) k (λ more. heavy i (within, more));
     }
 
 -- The least that a choice gives of which the number speaks isn't less than the number, where it could be told.
@@ -147,8 +147,8 @@ every k tree plan u =
     let feasible : IsFeasible k tree plan.parts = feasible k tree plan.parts (parts_unrefused k tree plan u) in
     let wrong : (i : ℕ) → ¬ IsWrong tree plan i =
     none_at_all (IsWrong tree plan) (λ i f.
-    let e : WrongWeight i (get_or plan.weights i 0) (part_weight tree plan.parts i) ≡ Memory =
-    u (WrongWeight i (get_or plan.weights i 0) (part_weight tree plan.parts i)) (feasible, f, refl, refl) in
+    let e : WrongWeight i (get_or plan.weights i 0) (owned_weight tree plan.parts i) ≡ Memory =
+    u (WrongWeight i (get_or plan.weights i 0) (owned_weight tree plan.parts i)) (feasible, f, refl, refl) in
     cc) in
     let one : length plan.bounds ≡ 1 + nodes tree.below =
     eq_unless (length plan.bounds) (1 + nodes tree.below) (λ other.
@@ -160,7 +160,7 @@ every k tree plan u =
     cc) in
     record {
       feasible = feasible;
-      weights = λ i within. eq_unless (get_or plan.weights i 0) (part_weight tree plan.parts i) (λ other. wrong i (within, other));
+      weights = λ i within. eq_unless (get_or plan.weights i 0) (owned_weight tree plan.parts i) (λ other. wrong i (within, other));
       supported = supported;
       enough = le_unless (length plan.parts) (root_least plan.bounds) (λ more.
           let e : Count (length plan.parts) (root_least plan.bounds) ≡ Memory = u (Count (length plan.parts) (root_least plan.bounds)) (feasible, wrong, supported, more, refl, refl) in

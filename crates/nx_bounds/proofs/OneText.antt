@@ -18,7 +18,7 @@ use Rattle.nx_parts.specs.declared.interval.Interval.TheVariants.{Root, Run}
 use Rattle.nx_bounds.specs.declared.text.PlanLine.{PlanLine}
 use Rattle.nx_bounds.specs.declared.text.PlanLine.TheVariants.{Part, Claim}
 use Rattle.nx_bounds.specs.declared.text.read.Three.{Three}
-use Rattle.nx_bounds.specs.PlanText.{fields, three_numbers, root_line, run_line, bound_line, line_by, plan_line, fields_of, line_text}
+use Rattle.nx_bounds.specs.PlanText.{fields, three_numbers, root_line, run_line, bound_line, line_by, plan_line, line_fields, line_text}
 use Rattle.nx_bounds.proofs.PlanFields.{digits-position}
 
 no_slash_digit : (b : ℕ) → is_digit b ≡ true → is_slash b ≡ false
@@ -47,7 +47,7 @@ decimal_back digits h =
 -- these are the fields of what they say
 abbrev AreFields : List (List ℕ) → Option PlanLine → Type 0
 AreFields parts None = Unit {0}
-AreFields parts (Some line) = fields_of line ≡ parts
+AreFields parts (Some line) = line_fields line ≡ parts
 
 abbrev AreThree : List (List ℕ) → Option Three → Type 0
 AreThree parts None = Unit {0}
@@ -126,5 +126,5 @@ line_back (word ∷ others) =
 
 pub one_text : (line : List ℕ) (said : PlanLine) → plan_line line ≡ Some said → line_text said ≡ line
 one_text line said is =
-    let back : fields_of said ≡ fields line = subst (AreFields (fields line)) is (line_back (fields line)) in
+    let back : line_fields said ≡ fields line = subst (AreFields (fields line)) is (line_back (fields line)) in
     ap (join_with_byte 32) back ∙ join_with_byte-slice_split 32 line

@@ -10,7 +10,7 @@ use Rattle.std.proofs.lemmas.Option.{cond_some, MatchOption-at_some, MatchOption
 use Rattle.std.proofs.lemmas.List.Splits.{slice_split_first, slice_split-cons_no}
 use Rattle.nx_pyx.specs.Event.{is_space}
 use Rattle.nx_tree.specs.Document.{is_empty}
-use Rattle.nx_pyx.specs.Field.{field, behind, begins_with, is_digit, is_number, is_position, value_of, greatest_position, is_path, positions_of}
+use Rattle.nx_pyx.specs.Field.{field, behind_space, begins_with, is_digit, is_number, is_position, value_of, greatest_position, is_path, positions_of}
 use Rattle.nx_pyx.proofs.FieldLemmas.{any_first}
 use Rattle.nx_parts.specs.declared.interval.Interval.TheVariants.{Root, Run}
 use Rattle.nx_bounds.specs.declared.text.PlanLine.{PlanLine}
@@ -34,11 +34,11 @@ one_field (b ∷ bytes) h =
     slice_split-cons_no is_space b bytes p.0 ∙ ap (onto_first b) (one_field bytes p.1)
 
 -- nothing stands behind the only field
-pub fields-None : (bytes : List ℕ) → behind bytes ≡ None → fields bytes ≡ bytes ∷ []
+pub fields-None : (bytes : List ℕ) → behind_space bytes ≡ None → fields bytes ≡ bytes ∷ []
 fields-None bytes h = one_field bytes (cond_none (list_any is_space bytes) (after_first is_space bytes) h)
 
 -- the first field, and those behind it
-pub fields-Some : (bytes rest : List ℕ) → behind bytes ≡ Some rest → fields bytes ≡ field bytes ∷ fields rest
+pub fields-Some : (bytes rest : List ℕ) → behind_space bytes ≡ Some rest → fields bytes ≡ field bytes ∷ fields rest
 fields-Some bytes rest h =
     let p = cond_some (list_any is_space bytes) (after_first is_space bytes) rest h in
     slice_split_first is_space bytes 0 (ltb-true _ _ (sym (any_first is_space bytes) ∙ p.0)) ∙ ap (λ r. field bytes ∷ fields r) p.1
@@ -46,12 +46,12 @@ fields-Some bytes rest h =
 -- there is always a first field
 some_field : (bytes : List ℕ) → (first : List ℕ) × (others : List (List ℕ)) × (fields bytes ≡ first ∷ others)
 some_field bytes =
-    let P : Option (List ℕ) → Type 0 = λ o. behind bytes ≡ o → (first : List ℕ) × (others : List (List ℕ)) × (fields bytes ≡ first ∷ others) in
+    let P : Option (List ℕ) → Type 0 = λ o. behind_space bytes ≡ o → (first : List ℕ) × (others : List (List ℕ)) × (fields bytes ≡ first ∷ others) in
     let cases : (o : Option (List ℕ)) → P o = λ o. elim o as P [
       | None ↦ λ is. (bytes, [], fields-None bytes is)
       | Some rest ↦ λ is. (field bytes, fields rest, fields-Some bytes rest is)
     ] in
-    cases (behind bytes) refl
+    cases (behind_space bytes) refl
 
 no_space_digit : (b : ℕ) → is_digit b ≡ true → is_space b ≡ false
 no_space_digit b h = grind (arith, nat_tests)
@@ -85,28 +85,28 @@ pub data NoNumber (bytes : List ℕ) : Type 0 where
 
 no_number : (bytes : List ℕ) → NoNumber bytes
 no_number bytes =
-    let P : Option (List ℕ) → Type 0 = λ o. behind bytes ≡ o → NoNumber bytes in
+    let P : Option (List ℕ) → Type 0 = λ o. behind_space bytes ≡ o → NoNumber bytes in
     let cases : (o : Option (List ℕ)) → P o = λ o. elim o as P [
       | None ↦ λ is. One (fields-None bytes is)
       | Some rest ↦ λ is.
           let (first, others, e) = some_field rest in
           More (field bytes) first others (fields-Some bytes rest is ∙ ap (λ fs. field bytes ∷ fs) e)
     ] in
-    cases (behind bytes) refl
+    cases (behind_space bytes) refl
 
 -- the fields of bytes that don't begin with a number and a space: one alone, or a first that is no number
 data NoNumberBefore (bytes : List ℕ) : Type 0 where
   Alone : fields bytes ≡ bytes ∷ [] → NoNumberBefore bytes
   Other : (others : List (List ℕ)) → fields bytes ≡ field bytes ∷ others → is_position (field bytes) ≡ false → NoNumberBefore bytes
 
-no_number_before : (bytes : List ℕ) → (is_some (behind bytes) && is_position (field bytes)) ≡ false → NoNumberBefore bytes
+no_number_before : (bytes : List ℕ) → (is_some (behind_space bytes) && is_position (field bytes)) ≡ false → NoNumberBefore bytes
 no_number_before bytes h =
-    let P : Option (List ℕ) → Type 0 = λ o. behind bytes ≡ o → NoNumberBefore bytes in
+    let P : Option (List ℕ) → Type 0 = λ o. behind_space bytes ≡ o → NoNumberBefore bytes in
     let cases : (o : Option (List ℕ)) → P o = λ o. elim o as P [
       | None ↦ λ is. Alone (fields-None bytes is)
       | Some rest ↦ λ is. Other (fields rest) (fields-Some bytes rest is) (sym (ap (λ o. is_some o && is_position (field bytes)) is) ∙ h)
     ] in
-    cases (behind bytes) refl
+    cases (behind_space bytes) refl
 
 abbrev three : List ℕ → List ℕ → List ℕ → Three
 three first second third = record { first = value_of first; second = value_of second; third = value_of third }
@@ -123,14 +123,14 @@ three_second first second (third ∷ []) h = ap (λ t. cond (t && is_position th
 three_second first second (third ∷ more ∷ others) h = refl
 
 -- bytes that aren't three numbers
-pub three-not_first : (bytes : List ℕ) → (is_some (behind bytes) && is_position (field bytes)) ≡ false → three_numbers (fields bytes) ≡ None
+pub three-not_first : (bytes : List ℕ) → (is_some (behind_space bytes) && is_position (field bytes)) ≡ false → three_numbers (fields bytes) ≡ None
 three-not_first bytes h =
     elim (no_number_before bytes h) [
       | Alone e ↦ ap three_numbers e
       | Other others e no_first ↦ ap three_numbers e ∙ three_first (field bytes) others no_first
     ]
 
-pub three-not_second : (bytes rest : List ℕ) → behind bytes ≡ Some rest → (is_some (behind rest) && is_position (field rest)) ≡ false → three_numbers (fields bytes) ≡ None
+pub three-not_second : (bytes rest : List ℕ) → behind_space bytes ≡ Some rest → (is_some (behind_space rest) && is_position (field rest)) ≡ false → three_numbers (fields bytes) ≡ None
 three-not_second bytes rest more h =
     ap three_numbers (fields-Some bytes rest more)
     ∙ elim (no_number_before rest h) [
@@ -138,7 +138,7 @@ three-not_second bytes rest more h =
       | Other others e no_second ↦ ap (λ fs. three_numbers (field bytes ∷ fs)) e ∙ three_second (field bytes) (field rest) others no_second
     ]
 
-pub three-not_third : (bytes rest last : List ℕ) → behind bytes ≡ Some rest → behind rest ≡ Some last → is_position last ≡ false → three_numbers (fields bytes) ≡ None
+pub three-not_third : (bytes rest last : List ℕ) → behind_space bytes ≡ Some rest → behind_space rest ≡ Some last → is_position last ≡ false → three_numbers (fields bytes) ≡ None
 three-not_third bytes rest last more most h =
     ap three_numbers (fields-Some bytes rest more)
     ∙ ap (λ fs. three_numbers (field bytes ∷ fs)) (fields-Some rest last most)
@@ -149,7 +149,7 @@ three-not_third bytes rest last more most h =
     ]
 
 -- bytes that are
-pub three-all : (bytes rest last : List ℕ) → behind bytes ≡ Some rest → behind rest ≡ Some last → is_position (field bytes) ≡ true → is_position (field rest) ≡ true → is_position last ≡ true →
+pub three-all : (bytes rest last : List ℕ) → behind_space bytes ≡ Some rest → behind_space rest ≡ Some last → is_position (field bytes) ≡ true → is_position (field rest) ≡ true → is_position last ≡ true →
     three_numbers (fields bytes) ≡ Some (three (field bytes) (field rest) last)
 three-all bytes rest last more most first second third =
     ap three_numbers (fields-Some bytes rest more)
@@ -161,19 +161,19 @@ abbrev claim : List ℕ → Three → PlanLine
 claim node n = Claim (value_of node) (record { least = n.first; lean = n.second; nearly = n.third })
 
 -- the fields of a bound
-pub bound-not_node : (bytes : List ℕ) → (is_some (behind bytes) && is_position (field bytes)) ≡ false → bound_line (fields bytes) ≡ None
+pub bound-not_node : (bytes : List ℕ) → (is_some (behind_space bytes) && is_position (field bytes)) ≡ false → bound_line (fields bytes) ≡ None
 bound-not_node bytes h =
     elim (no_number_before bytes h) [
       | Alone e ↦ ap bound_line e ∙ cond_same (is_position bytes) None None refl
       | Other others e no_node ↦ ap bound_line e ∙ ap (λ t. cond t (option_map (claim (field bytes)) (three_numbers others)) None) no_node
     ]
 
-pub bound-not_three : (bytes rest : List ℕ) → behind bytes ≡ Some rest → three_numbers (fields rest) ≡ None → bound_line (fields bytes) ≡ None
+pub bound-not_three : (bytes rest : List ℕ) → behind_space bytes ≡ Some rest → three_numbers (fields rest) ≡ None → bound_line (fields bytes) ≡ None
 bound-not_three bytes rest more h =
     ap bound_line (fields-Some bytes rest more)
     ∙ cond_same (is_position (field bytes)) (option_map (claim (field bytes)) (three_numbers (fields rest))) None (ap (option_map (claim (field bytes))) h)
 
-pub bound-all : (bytes rest : List ℕ) (n : Three) → behind bytes ≡ Some rest → is_position (field bytes) ≡ true → three_numbers (fields rest) ≡ Some n →
+pub bound-all : (bytes rest : List ℕ) (n : Three) → behind_space bytes ≡ Some rest → is_position (field bytes) ≡ true → three_numbers (fields rest) ≡ Some n →
     bound_line (fields bytes) ≡ Some (claim (field bytes) n)
 bound-all bytes rest n more node h =
     ap bound_line (fields-Some bytes rest more)
@@ -184,20 +184,20 @@ abbrev part : List ℕ → Three → PlanLine
 part path n = Part (Run (positions_of path) n.first n.second) n.third
 
 -- the fields of an interval
-pub run-alone : (bytes : List ℕ) → behind bytes ≡ None → run_line (fields bytes) ≡ None
+pub run-alone : (bytes : List ℕ) → behind_space bytes ≡ None → run_line (fields bytes) ≡ None
 run-alone bytes h = ap run_line (fields-None bytes h) ∙ cond_same (is_path bytes) None None refl
 
-pub run-not_three : (bytes rest : List ℕ) → behind bytes ≡ Some rest → three_numbers (fields rest) ≡ None → run_line (fields bytes) ≡ None
+pub run-not_three : (bytes rest : List ℕ) → behind_space bytes ≡ Some rest → three_numbers (fields rest) ≡ None → run_line (fields bytes) ≡ None
 run-not_three bytes rest more h =
     ap run_line (fields-Some bytes rest more)
     ∙ cond_same (is_path (field bytes)) (option_map (part (field bytes)) (three_numbers (fields rest))) None (ap (option_map (part (field bytes))) h)
 
-pub run-not_path : (bytes rest : List ℕ) → behind bytes ≡ Some rest → is_path (field bytes) ≡ false → run_line (fields bytes) ≡ None
+pub run-not_path : (bytes rest : List ℕ) → behind_space bytes ≡ Some rest → is_path (field bytes) ≡ false → run_line (fields bytes) ≡ None
 run-not_path bytes rest more h =
     ap run_line (fields-Some bytes rest more)
     ∙ ap (λ t. cond t (option_map (part (field bytes)) (three_numbers (fields rest))) None) h
 
-pub run-all : (bytes rest : List ℕ) (n : Three) → behind bytes ≡ Some rest → is_path (field bytes) ≡ true → three_numbers (fields rest) ≡ Some n →
+pub run-all : (bytes rest : List ℕ) (n : Three) → behind_space bytes ≡ Some rest → is_path (field bytes) ≡ true → three_numbers (fields rest) ≡ Some n →
     run_line (fields bytes) ≡ Some (part (field bytes) n)
 run-all bytes rest n more path h =
     ap run_line (fields-Some bytes rest more)
@@ -215,12 +215,12 @@ pub root-is : (bytes : List ℕ) → is_position bytes ≡ true → root_line (f
 root-is bytes h = ap root_line (last_number bytes h) ∙ ap (λ t. cond t (Some (Part Root (value_of bytes))) None) h
 
 -- a word alone is no line
-pub word_alone : (line : List ℕ) → behind line ≡ None → plan_line line ≡ None
+pub word_alone : (line : List ℕ) → behind_space line ≡ None → plan_line line ≡ None
 word_alone line h =
     ap line_by (fields-None line h) ∙ (let e : line_by (line ∷ []) ≡ None = grind arith in e)
 
 -- a word and the fields behind it
-pub word_before : (line others : List ℕ) → behind line ≡ Some others → plan_line line ≡ line_by (field line ∷ fields others)
+pub word_before : (line others : List ℕ) → behind_space line ≡ Some others → plan_line line ≡ line_by (field line ∷ fields others)
 word_before line others h = ap line_by (fields-Some line others h)
 
 -- what stands for a line whose word isn't the first, or none of the first two
@@ -231,18 +231,18 @@ abbrev after_root : List ℕ → List ℕ → Option PlanLine
 after_root word others = cond (bytes_eq word (codes "run")) (run_line (fields others)) (after_run word others)
 
 -- what each word makes of the fields behind it
-pub root_word : (line others : List ℕ) → behind line ≡ Some others → bytes_eq (field line) (codes "root") ≡ true → plan_line line ≡ root_line (fields others)
+pub root_word : (line others : List ℕ) → behind_space line ≡ Some others → bytes_eq (field line) (codes "root") ≡ true → plan_line line ≡ root_line (fields others)
 root_word line others more root =
     word_before line others more ∙ ap (λ t. cond t (root_line (fields others)) (after_root (field line) others)) root
 
-pub run_word : (line others : List ℕ) → behind line ≡ Some others → bytes_eq (field line) (codes "root") ≡ false → bytes_eq (field line) (codes "run") ≡ true →
+pub run_word : (line others : List ℕ) → behind_space line ≡ Some others → bytes_eq (field line) (codes "root") ≡ false → bytes_eq (field line) (codes "run") ≡ true →
     plan_line line ≡ run_line (fields others)
 run_word line others more root run =
     word_before line others more
     ∙ ap (λ t. cond t (root_line (fields others)) (after_root (field line) others)) root
     ∙ ap (λ t. cond t (run_line (fields others)) (after_run (field line) others)) run
 
-pub bound_word : (line others : List ℕ) → behind line ≡ Some others → bytes_eq (field line) (codes "root") ≡ false → bytes_eq (field line) (codes "run") ≡ false →
+pub bound_word : (line others : List ℕ) → behind_space line ≡ Some others → bytes_eq (field line) (codes "root") ≡ false → bytes_eq (field line) (codes "run") ≡ false →
     bytes_eq (field line) (codes "bound") ≡ true → plan_line line ≡ bound_line (fields others)
 bound_word line others more root run bound =
     word_before line others more
@@ -250,7 +250,7 @@ bound_word line others more root run bound =
     ∙ ap (λ t. cond t (run_line (fields others)) (after_run (field line) others)) run
     ∙ ap (λ t. cond t (bound_line (fields others)) None) bound
 
-pub other_word : (line others : List ℕ) → behind line ≡ Some others → bytes_eq (field line) (codes "root") ≡ false → bytes_eq (field line) (codes "run") ≡ false →
+pub other_word : (line others : List ℕ) → behind_space line ≡ Some others → bytes_eq (field line) (codes "root") ≡ false → bytes_eq (field line) (codes "run") ≡ false →
     bytes_eq (field line) (codes "bound") ≡ false → plan_line line ≡ None
 other_word line others more root run bound =
     word_before line others more
@@ -263,12 +263,12 @@ pub tested : (word text first known : List ℕ) (b : Bool) → b ≡ bytes_eq wo
 tested word text first known b test is reads = ap (bytes_eq first) (sym reads) ∙ ap (λ w. bytes_eq w text) (sym is) ∙ sym test
 
 pub behind_some : (bytes : List ℕ) (found : Option (Bor (List ℕ))) (rest : Bor (List ℕ)) → found ≡ Some rest →
-    MatchOption found (behind bytes ≡ None) (λ r. behind bytes ≡ Some r.now) → behind bytes ≡ Some rest.now
-behind_some bytes found rest is h = MatchOption-at_some (behind bytes ≡ None) (λ (r : Bor (List ℕ)). behind bytes ≡ Some r.now) rest is h
+    MatchOption found (behind_space bytes ≡ None) (λ r. behind_space bytes ≡ Some r.now) → behind_space bytes ≡ Some rest.now
+behind_some bytes found rest is h = MatchOption-at_some (behind_space bytes ≡ None) (λ (r : Bor (List ℕ)). behind_space bytes ≡ Some r.now) rest is h
 
 pub behind_none : (bytes : List ℕ) (found : Option (Bor (List ℕ))) → found ≡ None →
-    MatchOption found (behind bytes ≡ None) (λ r. behind bytes ≡ Some r.now) → behind bytes ≡ None
-behind_none bytes found is h = MatchOption-at_none (behind bytes ≡ None) (λ (r : Bor (List ℕ)). behind bytes ≡ Some r.now) is h
+    MatchOption found (behind_space bytes ≡ None) (λ r. behind_space bytes ≡ Some r.now) → behind_space bytes ≡ None
+behind_none bytes found is h = MatchOption-at_none (behind_space bytes ≡ None) (λ (r : Bor (List ℕ)). behind_space bytes ≡ Some r.now) is h
 
 pub path_some : (text : List ℕ) (found : Option (List ℕ)) (path : List ℕ) → found ≡ Some path →
     MatchOption found (is_path text ≡ false) (λ p. (is_path text ≡ true) × (p ≡ positions_of text)) → (is_path text ≡ true) × (path ≡ positions_of text)

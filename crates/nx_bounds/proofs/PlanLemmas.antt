@@ -7,7 +7,7 @@ use Rattle.nx_parts.specs.declared.interval.Interval.{Interval}
 use Rattle.nx_parts.specs.declared.plan.Plan.{Plan}
 use Rattle.nx_parts.specs.declared.error.PartsError.{PartsError}
 use Rattle.nx_parts.specs.declared.error.PartsError.TheVariants as parts_error
-use Rattle.nx_parts.specs.Partitioning.{IsFeasible, part_weight, part_weights}
+use Rattle.nx_parts.specs.Partitioning.{IsFeasible, owned_weight, part_weights}
 use Rattle.nx_parts.specs.Refusal.{IsNotFeasible}
 use Rattle.nx_bounds.specs.declared.error.BoundsError.{BoundsError}
 use Rattle.nx_bounds.specs.declared.error.BoundsError.TheVariants.{Parts, WrongWeight, Length, Unsupported, Count, BadPlanLine, Memory}
@@ -17,23 +17,23 @@ use Rattle.nx_bounds.specs.Walk.{WeightsFail, CountFails}
 use Rattle.nx_bounds.proofs.Law.{certified-optimal}
 
 length-part_weights : (tree : OrderedTree) (parts : List Interval) → length (part_weights tree parts) ≡ length parts
-length-part_weights tree parts = length-map-range_with_len (part_weight tree parts) 0 (length parts)
+length-part_weights tree parts = length-map-range_with_len (owned_weight tree parts) 0 (length parts)
 
-part_weight-at : (tree : OrderedTree) (parts : List Interval) (index : ℕ) → index < length parts → slice_index (part_weights tree parts) index ≡ part_weight tree parts index
-part_weight-at tree parts index h = get_or-map-range_with_len (part_weight tree parts) 0 (length parts) index index 0 h (omega arith)
+owned_weight-at : (tree : OrderedTree) (parts : List Interval) (index : ℕ) → index < length parts → slice_index (part_weights tree parts) index ≡ owned_weight tree parts index
+owned_weight-at tree parts index h = get_or-map-range_with_len (owned_weight tree parts) 0 (length parts) index index 0 h (omega arith)
 
 pub length_found : (tree : OrderedTree) (parts : List Interval) (found : List ℕ) → found ≡ part_weights tree parts → length found ≡ length parts
 length_found tree parts found e = ap length e ∙ length-part_weights tree parts
 
-found_at : (tree : OrderedTree) (parts : List Interval) (found : List ℕ) (index : ℕ) → found ≡ part_weights tree parts → index < length parts → slice_index found index ≡ part_weight tree parts index
-found_at tree parts found index e h = ap (λ (ws : List ℕ). slice_index ws index) e ∙ part_weight-at tree parts index h
+found_at : (tree : OrderedTree) (parts : List Interval) (found : List ℕ) (index : ℕ) → found ≡ part_weights tree parts → index < length parts → slice_index found index ≡ owned_weight tree parts index
+found_at tree parts found index e h = ap (λ (ws : List ℕ). slice_index ws index) e ∙ owned_weight-at tree parts index h
 
 -- each weight is the one that was found
 abbrev pub AreAsFound : List ℕ → List ℕ → Type 0
 AreAsFound found claimed = (index : ℕ) → index < length found → slice_index claimed index ≡ slice_index found index
 
 weights_right : (tree : OrderedTree) (plan : Plan) (found : List ℕ) → found ≡ part_weights tree plan.parts → AreAsFound found plan.weights
-    → (index : ℕ) → index < length plan.parts → slice_index plan.weights index ≡ part_weight tree plan.parts index
+    → (index : ℕ) → index < length plan.parts → slice_index plan.weights index ≡ owned_weight tree plan.parts index
 weights_right tree plan found e h index within =
     let size : length found ≡ length plan.parts = length_found tree plan.parts found e in
     h index (omega arith) ∙ found_at tree plan.parts found index e within
@@ -54,7 +54,7 @@ weights_refused k tree plan found f e (WrongWeight index claimed_weight found_we
     let size : length found ≡ length plan.parts = length_found tree plan.parts found e in
     let inside : index < length found = h.inside in
     let here : index < length plan.parts = omega arith in
-    let at : slice_index found index ≡ part_weight tree plan.parts index = found_at tree plan.parts found index e here in (
+    let at : slice_index found index ≡ owned_weight tree plan.parts index = found_at tree plan.parts found index e here in (
       f,
       record {
         holds = (here, λ same. h.other (same ∙ sym at));

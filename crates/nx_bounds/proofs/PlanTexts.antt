@@ -20,7 +20,7 @@ use Rattle.nx_parts.specs.declared.plan.Plan.{Plan}
 use Rattle.nx_bounds.specs.declared.text.PlanLine.{PlanLine}
 use Rattle.nx_bounds.specs.declared.text.PlanLine.TheVariants.{Part, Claim}
 use Rattle.nx_bounds.specs.declared.text.read.Three.{Three}
-use Rattle.nx_bounds.specs.PlanText.{fields, three_numbers, line_by, plan_line, lines_of, ReadsAs, fields_of, line_text, plan_text, Fits, HasText}
+use Rattle.nx_bounds.specs.PlanText.{fields, three_numbers, line_by, plan_line, lines_of, ReadsAs, line_fields, line_text, plan_text, Fits, HasText}
 use Rattle.nx_bounds.proofs.PlanFields.{digits-position}
 use Rattle.nx_bounds.proofs.PlanLines.{lines-before}
 
@@ -120,7 +120,7 @@ three_of a b c ha hb hc =
 three_ink : (a b c : ℕ) → a ≤ greatest_position → b ≤ greatest_position → c ≤ greatest_position → list_all are_ink (decimal a ∷ decimal b ∷ decimal c ∷ []) ≡ true
 three_ink a b c ha hb hc = and_from _ _ (decimal_ink a ha) (and_from _ _ (decimal_ink b hb) (and_from _ _ (decimal_ink c hc) refl))
 
-fields_ink : (said : PlanLine) → Fits said → list_all are_ink (fields_of said) ≡ true
+fields_ink : (said : PlanLine) → Fits said → list_all are_ink (line_fields said) ≡ true
 fields_ink (Part Root weight) (_, hw) = and_from _ _ (decimal_ink weight hw) refl
 fields_ink (Part (Run parent first last) weight) ((hp, hf, hl), hw) = and_from _ _ (path_ink parent hp) (three_ink first last weight hf hl hw)
 fields_ink (Claim node bound) (hn, ht, hl, hy) = and_from _ _ (decimal_ink node hn) (three_ink bound.least bound.lean bound.nearly ht hl hy)
@@ -176,7 +176,7 @@ ended said = line_text said ++ 10 ∷ []
 lines_back : (said : List PlanLine) → All Fits said → lines (flat_map ended said) ≡ map line_text said
 lines_back [] h = refl
 lines_back (line ∷ said) h =
-    let plain = joined_plain (fields_of line) (fields_ink line (All-head Fits line said h)) in
+    let plain = joined_plain (line_fields line) (fields_ink line (All-head Fits line said h)) in
     lines-before (line_text line) (flat_map ended said) (plain_no_lf (line_text line) plain)
     ∙ ap (λ (l : List ℕ). l ∷ lines (flat_map ended said)) (plain_no_cr (line_text line) plain)
     ∙ ap (λ (ls : List (List ℕ)). line_text line ∷ ls) (lines_back said (All-tail Fits line said h))

@@ -11,7 +11,7 @@ use Rattle.nx_parts.specs.declared.bounds.Bound.{Bound}
 use Rattle.nx_parts.specs.declared.plan.Plan.{Plan}
 use Rattle.nx_parts.specs.declared.error.PartsError.{PartsError}
 use Rattle.nx_parts.specs.declared.error.PartsError.TheVariants as parts_error
-use Rattle.nx_parts.specs.Partitioning.{is_in_tree, ShareMember, IsPartitioning, IsFeasible, part_weight}
+use Rattle.nx_parts.specs.Partitioning.{is_in_tree, ShareMember, IsPartitioning, IsFeasible, owned_weight}
 use Rattle.nx_parts.specs.Refusal.{IsFirst, IsOutOfTree, Overlaps, IsHeavy, IsNotFeasible}
 use Rattle.nx_choices.specs.declared.child.Field.{Field}
 use Rattle.nx_choices.specs.declared.child.Field.TheVariants.{Least, Lean, Nearly}
@@ -48,7 +48,7 @@ no_overlap tree parts index p o =
     apart (o.6.0, o.6.2, o.6.1)
 
 no_heavy : (k : ℕ) (tree : OrderedTree) (parts : List Interval) (index : ℕ) → IsFeasible k tree parts → IsHeavy k tree parts index → ⊥
-no_heavy k tree parts index f h = let l : part_weight tree parts index ≤ k = f.light index h.0 in let more : k < part_weight tree parts index = h.1 in omega arith
+no_heavy k tree parts index f h = let l : owned_weight tree parts index ≤ k = f.light index h.0 in let more : k < owned_weight tree parts index = h.1 in omega arith
 
 feasible_spared : (k : ℕ) (tree : OrderedTree) (parts : List Interval) (error : PartsError) → IsFeasible k tree parts → error ≢ parts_error.Memory → IsNotFeasible k tree parts error → ⊥
 feasible_spared k tree parts (parts_error.OutOfTree index) f n h = no_outside tree parts index f.partitioning h.holds
@@ -80,7 +80,7 @@ parts_one k tree parts (parts_error.Heavy i slots) (parts_error.Overlap j) n m g
 parts_one k tree parts (parts_error.Heavy i slots) parts_error.NoRoot n m g h = absurd (h.2 g.0.rooted)
 parts_one k tree parts (parts_error.Heavy i slots) (parts_error.Heavy j others) n m g h =
     let e : i ≡ j = first_one (IsHeavy k tree parts) i j g.1 h.1 in
-    let s : slots ≡ others = g.2 ∙ ap (part_weight tree parts) e ∙ sym h.2 in
+    let s : slots ≡ others = g.2 ∙ ap (owned_weight tree parts) e ∙ sym h.2 in
     ap (λ (index : ℕ). parts_error.Heavy index slots) e ∙ ap (parts_error.Heavy j) s
 parts_one k tree parts (parts_error.Heavy i slots) parts_error.Memory n m g h = absurd (m refl)
 
@@ -162,7 +162,7 @@ supported_spared k tree bounds p f m a s x = exceeded_not k f x.node a x.exceede
 pub length_spared : (k : ℕ) (tree : OrderedTree) (bounds : List Bound) (a b : ℕ) → length bounds ≡ 1 + nodes tree.below → IsNotSupported k tree bounds (Length a b) → ⊥
 length_spared k tree bounds a b e h = h.0 e
 
-wrong_spared : (tree : OrderedTree) (plan : Plan) (index : ℕ) → ((i : ℕ) → i < length plan.parts → get_or plan.weights i 0 ≡ part_weight tree plan.parts i) → IsWrong tree plan index → ⊥
+wrong_spared : (tree : OrderedTree) (plan : Plan) (index : ℕ) → ((i : ℕ) → i < length plan.parts → get_or plan.weights i 0 ≡ owned_weight tree plan.parts i) → IsWrong tree plan index → ⊥
 wrong_spared tree plan index h w = w.1 (h index w.0)
 
 -- A sound plan has no refusal but want of memory.
@@ -176,11 +176,11 @@ spared k tree plan (BadPlanLine line) c h = absurd h
 spared k tree plan Memory c h = refl
 
 wrong_one : (tree : OrderedTree) (plan : Plan) (i j m n a b : ℕ) → IsFirst (IsWrong tree plan) i → IsFirst (IsWrong tree plan) j → m ≡ get_or plan.weights i 0 → n ≡ get_or plan.weights j 0
-    → a ≡ part_weight tree plan.parts i → b ≡ part_weight tree plan.parts j → WrongWeight i m a ≡ WrongWeight j n b
+    → a ≡ owned_weight tree plan.parts i → b ≡ owned_weight tree plan.parts j → WrongWeight i m a ≡ WrongWeight j n b
 wrong_one tree plan i j m n a b f g is also found too =
     let e : i ≡ j = first_one (IsWrong tree plan) i j f g in
     let c : m ≡ n = is ∙ ap (λ (x : ℕ). get_or plan.weights x 0) e ∙ sym also in
-    let d : a ≡ b = found ∙ ap (part_weight tree plan.parts) e ∙ sym too in
+    let d : a ≡ b = found ∙ ap (owned_weight tree plan.parts) e ∙ sym too in
     ap (λ (x : ℕ). WrongWeight x m a) e ∙ ap (λ (x : ℕ). WrongWeight j x a) c ∙ ap (λ (x : ℕ). WrongWeight j n x) d
 
 length_one : (a b c d x y : ℕ) → a ≡ x → b ≡ y → c ≡ x → d ≡ y → Length a b ≡ Length c d

@@ -116,13 +116,13 @@ interval_fields Root = codes "root" ∷ []
 interval_fields (Run parent first last) = codes "run" ∷ path_text parent ∷ decimal first ∷ decimal last ∷ []
 
 -- the fields that say a line
-abbrev pub fields_of : PlanLine → List (List ℕ)
-fields_of (Part interval weight) = interval_fields interval ++ decimal weight ∷ []
-fields_of (Claim node bound) = codes "bound" ∷ decimal node ∷ decimal bound.least ∷ decimal bound.lean ∷ decimal bound.nearly ∷ []
+abbrev pub line_fields : PlanLine → List (List ℕ)
+line_fields (Part interval weight) = interval_fields interval ++ decimal weight ∷ []
+line_fields (Claim node bound) = codes "bound" ∷ decimal node ∷ decimal bound.least ∷ decimal bound.lean ∷ decimal bound.nearly ∷ []
 
 -- the text of a line: its fields, with a space between each two
 abbrev pub line_text : PlanLine → List ℕ
-line_text line = join_with_byte 32 (fields_of line)
+line_text line = join_with_byte 32 (line_fields line)
 
 -- the text of a plan: that of each line, which an LF ends
 abbrev pub plan_text : Plan → List ℕ

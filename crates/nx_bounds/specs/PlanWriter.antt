@@ -13,9 +13,9 @@ lines_text lines = flat_map (λ line. line_text line ++ 10 ∷ []) lines
 abbrev pub lines_left : Inside → List PlanLine
 lines_left writer = map part_line (zip writer.parts.now writer.weights.now) ++ bound_lines writer.node (drop writer.node writer.bounds.now)
 
-abbrev pub text_left : Inside → List ℕ
-text_left writer = lines_text (lines_left writer)
+abbrev pub plan_text_left : Inside → List ℕ
+plan_text_left writer = lines_text (lines_left writer)
 
 -- bytes stand behind those that there were
-abbrev pub HasGrown : List ℕ → List ℕ → Type 0
-HasGrown old new = (bytes : List ℕ) × (new ≡ old ++ bytes)
+abbrev pub HasMoreBytes : List ℕ → List ℕ → Type 0
+HasMoreBytes old new = (bytes : List ℕ) × (new ≡ old ++ bytes)

@@ -5,7 +5,7 @@ use Rattle.nx_parts.specs.declared.bounds.Bound.{Bound}
 use Rattle.nx_parts.specs.declared.plan.Plan.{Plan}
 use Rattle.nx_parts.specs.declared.error.PartsError.{PartsError}
 use Rattle.nx_parts.specs.declared.error.PartsError.TheVariants as parts_error
-use Rattle.nx_parts.specs.Partitioning.{IsFeasible, IsOptimal, part_weight}
+use Rattle.nx_parts.specs.Partitioning.{IsFeasible, IsOptimal, owned_weight}
 use Rattle.nx_parts.specs.Refusal.{IsFirst, IsNotFeasible}
 use Rattle.nx_choices.specs.declared.child.Field.{Field}
 use Rattle.nx_bounds.specs.declared.error.BoundsError.{BoundsError}
@@ -38,7 +38,7 @@ IsNotSupported k tree bounds _ = ⊥
 
 -- the weight that is claimed of the part at this place isn't what it weighs, where a missing weight counts as 0
 abbrev pub IsWrong : OrderedTree → Plan → ℕ → Type 0
-IsWrong tree plan index = (index < length plan.parts) × (slice_index plan.weights index ≢ part_weight tree plan.parts index)
+IsWrong tree plan index = (index < length plan.parts) × (slice_index plan.weights index ≢ owned_weight tree plan.parts index)
 
 -- what the bound of the root says of the number of intervals
 abbrev pub root_least : List Bound → ℕ
@@ -46,15 +46,15 @@ root_least [] = 0
 root_least (bound ∷ bounds) = bound.least
 
 -- The plan is sound: its intervals are a feasible partitioning with these weights, the bounds are supported, and there are no more intervals than the root's bound says.
-pub record IsSound (k : ℕ) (tree : OrderedTree) (plan : Plan) : Type 0 where
+pub record IsSoundPlan (k : ℕ) (tree : OrderedTree) (plan : Plan) : Type 0 where
   pub feasible : IsFeasible k tree plan.parts
-  pub weights : (index : ℕ) → index < length plan.parts → slice_index plan.weights index ≡ part_weight tree plan.parts index
+  pub weights : (index : ℕ) → index < length plan.parts → slice_index plan.weights index ≡ owned_weight tree plan.parts index
   pub supported : AreSupported k tree plan.bounds
   pub enough : length plan.parts ≤ root_least plan.bounds
 
 -- The plan is certified: it is sound, and so no feasible partitioning has fewer intervals.
 pub record IsCertified (k : ℕ) (tree : OrderedTree) (plan : Plan) : Type 0 where
-  pub sound : IsSound k tree plan
+  pub sound : IsSoundPlan k tree plan
   pub optimal : IsOptimal k tree plan.parts
 
 -- why the plan isn't certified
@@ -62,7 +62,7 @@ abbrev pub IsNotCertified : ℕ → OrderedTree → Plan → BoundsError → Typ
 IsNotCertified k tree plan (Parts error) = (error ≢ parts_error.Memory) × IsNotFeasible k tree plan.parts error
 IsNotCertified k tree plan (WrongWeight index claimed_weight found) =
     IsFeasible k tree plan.parts × IsFirst (IsWrong tree plan) index
-    × (claimed_weight ≡ slice_index plan.weights index) × (found ≡ part_weight tree plan.parts index)
+    × (claimed_weight ≡ slice_index plan.weights index) × (found ≡ owned_weight tree plan.parts index)
 IsNotCertified k tree plan (Length number_of_bounds number_of_nodes) =
     IsFeasible k tree plan.parts × ((index : ℕ) → ¬ IsWrong tree plan index) × IsNotSupported k tree plan.bounds (Length number_of_bounds number_of_nodes)
 IsNotCertified k tree plan (Unsupported node field claimed_number found) =

@@ -5,7 +5,7 @@ use Rattle.nx_tree.specs.Forest.{OrderedTree, Forest, Empty, Plant, forest_of}
 use Rattle.nx_cuts.specs.Cut.{CutForest, Bare, Grown, Kept, joined, forest, width, AreFree, AreParts}
 use Rattle.nx_cuts.proofs.FeasibleLemmas.{le_or}
 use Rattle.nx_hold.proofs.PieceLemmas.{some_same, no_value}
-use Rattle.nx_build.specs.Marked.{BeginsOther, Agrees, IsMarked, AreMembers}
+use Rattle.nx_build.specs.Marked.{BeginsOther, AgreesWithHolder, IsMarked, AreMembers}
 
 planted_none : (node : Node) (below beside : Forest) → Plant node below beside ≡ Empty → ⊥
 planted_none node below beside e = cc
@@ -16,7 +16,7 @@ other_same index g h position (Grown node below beside) same a = λ held. a (sam
 other_same index g h position (Kept mark members beside) same a = λ held. a (same position [] ∙ held)
 
 -- what holds the nodes below may be told otherwise
-pub agrees_same : (own : Option ℕ) (g h : List ℕ → Option ℕ) (position : ℕ) (c : CutForest) → ((p : ℕ) (path : List ℕ) → g (p ∷ path) ≡ h (p ∷ path)) → Agrees own g position c → Agrees own h position c
+pub agrees_same : (own : Option ℕ) (g h : List ℕ → Option ℕ) (position : ℕ) (c : CutForest) → ((p : ℕ) (path : List ℕ) → g (p ∷ path) ≡ h (p ∷ path)) → AgreesWithHolder own g position c → AgreesWithHolder own h position c
 agrees_same own g h position Bare same a = tt
 agrees_same own g h position (Grown node below beside) same a = (
   sym (same position []) ∙ a.0,
@@ -34,7 +34,7 @@ pub marked_same : (own : Option ℕ) (g h : List ℕ → Option ℕ) (position :
 marked_same own g h position trees others c same are m = record { trees_are = m.trees_are ∙ are; light = m.light; agrees = agrees_same own g h position c same m.agrees }
 
 -- a member is held by its interval
-pub member_held : (index : ℕ) (h : List ℕ → Option ℕ) (position : ℕ) (m : CutForest) (j : ℕ) → AreFree m → Agrees (Some index) h position m → position ≤ j → j < position + width m → h (j ∷ []) ≡ Some index
+pub member_held : (index : ℕ) (h : List ℕ → Option ℕ) (position : ℕ) (m : CutForest) (j : ℕ) → AreFree m → AgreesWithHolder (Some index) h position m → position ≤ j → j < position + width m → h (j ∷ []) ≡ Some index
 member_held index h position Bare j free a low high = absurd (omega (arith, low, high))
 member_held index h position (Grown node below beside) j free a low high =
     elim (le_or position j) [
@@ -63,7 +63,7 @@ free_begins (Grown node below beside) free = tt
 free_begins (Kept mark members beside) free = free
 
 -- where nothing holds the first tree, it is in no interval
-pub none_begins : (h : List ℕ → Option ℕ) (position : ℕ) (c : CutForest) → AreParts 256 c → Agrees None h position c → h (position ∷ []) ≡ None → BeginsFree c
+pub none_begins : (h : List ℕ → Option ℕ) (position : ℕ) (c : CutForest) → AreParts 256 c → AgreesWithHolder None h position c → h (position ∷ []) ≡ None → BeginsFree c
 none_begins h position Bare parts a none = tt
 none_begins h position (Grown node below beside) parts a none = tt
 none_begins h position (Kept mark members beside) parts a none =

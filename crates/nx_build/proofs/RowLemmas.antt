@@ -184,7 +184,7 @@ last_tree (Grow node below beside) t = ap (Grow node below) (last_tree beside t)
 last_tree (Gap count beside) t = ap (Gap count) (last_tree beside t)
 
 -- a piece has as many roots as its interval has members
-pub width-body : (members : Layout) → AreFree members → gapped.width (piece_body members) ≡ width members
+pub width-body : (members : Layout) → AreFree members → gapped.gapped_width (piece_body members) ≡ width members
 width-body Bare free = refl
 width-body (Grown node below beside) free = omega (arith, width-body beside free)
 width-body (Kept place members beside) free = absurd free

@@ -190,17 +190,17 @@ module _ {D : Type 0} {d : Ghosts D} (marks : List Mark) {index position : ℕ} 
         members_refused {d = d} {r0 = r0} {r1 = r1} {x0 = x0} {x1 = x1} members all_members.layout r2 x2 e all_members.same all_members.laid
         (subst (λ (p : Piece). NotStored d (λ was. piece_needs p) (λ was. ⊥) 0 e r1 r2 x1 x2) gathered_is refused)
 
-    pub piece_laid : (proxy : Proxy) (r2 : Records) (x2 : D) → AreFree members → proxy.roots ≡ gapped.width roots → RunsOn r1 r2 → KeepsSaved d r1 r2 x1 x2 → IsStill d x1 x2
+    pub piece_laid : (proxy : Proxy) (r2 : Records) (x2 : D) → AreFree members → proxy.roots ≡ gapped.gapped_width roots → RunsOn r1 r2 → KeepsSaved d r1 r2 x1 x2 → IsStill d x1 x2
         → ComesTo d r1 r2 x1 x2 (λ was now. was.free ≤ now.free + piece_needs (gathered roots has)) → ComesTidy d r1 r2 x1 x2 (λ was now. AddsPiece (place_named proxy) (gathered roots has) was now) → LaysMembers d r0 r2 x0 x2 members proxy
     piece_laid proxy r2 x2 free width runs keeps still takes adds =
-        lays_members {d = d} {r0 = r0} {r1 = r1} {r2 = r2} {x0 = x0} {x1 = x1} {x2 = x2} members all_members.layout proxy all_members.same all_members.laid (width ∙ ap gapped.width all_members.body_is) free runs keeps still
+        lays_members {d = d} {r0 = r0} {r1 = r1} {r2 = r2} {x0 = x0} {x1 = x1} {x2 = x2} members all_members.layout proxy all_members.same all_members.laid (width ∙ ap gapped.gapped_width all_members.body_is) free runs keeps still
         (subst (λ (p : Piece). ComesTo d r1 r2 x1 x2 (λ was now. was.free ≤ now.free + piece_needs p)) gathered_is takes)
         (subst (λ (p : Piece). ComesTidy d r1 r2 x1 x2 (λ was now. AddsPiece (place_named proxy) p was now)) gathered_is adds)
 
 -- the call that puts the record of an interval, once its members were gathered
 module _ {D : Type 0} (d : Ghosts D) (marks : List Mark) (all left : List OrderedTree) (first position : ℕ) (roots : Gapped) (has : List Proxy) (r0 r1 r2 : Records) (x0 x1 x2 : D)
     (walks : (members : CutForest) (m : AreMembers (holder_by_marks marks) first (forest_of all) members) → WalksOn d (Some m.index) (holder_by_marks marks) position left members r0 r1 x0 x1 roots [] has) (none : left ≡ []) where
-  pub put_laid : (r : Result Proxy StoreError) → IfOk r (λ proxy. proxy.roots ≡ gapped.width roots) → IfOk r (λ proxy. ComesTidy d r1 r2 x1 x2 (λ was now. AddsPiece (place_named proxy) (gathered roots has) was now))
+  pub put_laid : (r : Result Proxy StoreError) → IfOk r (λ proxy. proxy.roots ≡ gapped.gapped_width roots) → IfOk r (λ proxy. ComesTidy d r1 r2 x1 x2 (λ was now. AddsPiece (place_named proxy) (gathered roots has) was now))
       → IfOk r (λ proxy. ComesTo d r1 r2 x1 x2 (λ was now. was.free ≤ now.free + piece_needs (gathered roots has))) → IfOk r (λ proxy. RunsOn r1 r2 × KeepsSaved d r1 r2 x1 x2 × HasChanges r2) → IsStill d x1 x2
       → IfOk r (λ proxy. (members : CutForest) → AreMembers (holder_by_marks marks) first (forest_of all) members → LaysMembers d r0 r2 x0 x2 members proxy)
   put_laid (Ok proxy) width adds takes keeps still = λ members m. piece_laid {d = d} marks (walks members m) none proxy r2 x2 m.free width keeps.0 keeps.1 still takes adds

@@ -21,7 +21,7 @@ use Rattle.nx_layouts.proofs.LayoutLemmas.{proxies_counted}
 use Rattle.nx_layouts.proofs.ValidLemmas.{piece_valid}
 use Rattle.nx_hold.specs.Changes.{place_named, piece_needs, AddsPiece, ComesTidy}
 use Rattle.nx_build.specs.Marked.{IsMarked, AreMembers}
-use Rattle.nx_build.specs.Laying.{proxy_count, page_needs, IsLaid, LaysTrees, LaysMembers}
+use Rattle.nx_build.specs.Laying.{proxy_count, page_needs, HasPutLayout, LaysTrees, LaysMembers}
 use Rattle.nx_build.specs.Rows.{with_proxy}
 use Rattle.nx_build.proofs.RowLemmas.{joined_cut, joined_cut-assoc, joined_cut-nothing, without-joined, proxies-joined, needs-joined_cut, count-joined_cut, width-without, count-without, needs-without, weight-without, free_with, parts_with, length-proxies, cuts_few, count_cuts, piece_few, body-proxy, body-tree, width-body}
 use Rattle.nx_build.proofs.CallLemmas.{laid_none, laid_both, laid_grown, laid_kept, laid_refused}
@@ -35,7 +35,7 @@ pub record WalksOn {D : Type 0} (d : Ghosts D) (own : Option ℕ) (holder : List
   pub left : IsMarked own holder position (forest_of trees) rest
   pub body_is : body ≡ piece_body done
   pub proxies_are : has ≡ had ++ proxies_of done
-  pub laid : IsLaid d old new before after done
+  pub laid : HasPutLayout d old new before after done
 
 -- the first of some trees, and those behind it
 pub first_left : (own : Option ℕ) (holder : List ℕ → Option ℕ) (position : ℕ) (trees others : List OrderedTree) (rest : CutForest) (t : OrderedTree) → IsMarked own holder position (forest_of trees) rest
@@ -165,7 +165,7 @@ members_valid holder position trees members layout m same few =
 
 module _ {D : Type 0} {d : Ghosts D} where
   -- the record of some members was put
-  pub lays_members : {r0 r1 r2 : Records} {x0 x1 x2 : D} (members : CutForest) (layout : Layout) (proxy : Proxy) → without_places layout ≡ members → IsLaid d r0 r1 x0 x1 layout → proxy.roots ≡ gapped.width (piece_body layout) → AreFree members
+  pub lays_members : {r0 r1 r2 : Records} {x0 x1 x2 : D} (members : CutForest) (layout : Layout) (proxy : Proxy) → without_places layout ≡ members → HasPutLayout d r0 r1 x0 x1 layout → proxy.roots ≡ gapped.gapped_width (piece_body layout) → AreFree members
       → RunsOn r1 r2 → KeepsSaved d r1 r2 x1 x2 → IsStill d x1 x2
       → ComesTo d r1 r2 x1 x2 (λ was now. was.free ≤ now.free + piece_needs (piece_of layout)) → ComesTidy d r1 r2 x1 x2 (λ was now. AddsPiece (place_named proxy) (piece_of layout) was now) → LaysMembers d r0 r2 x0 x2 members proxy
   lays_members {r0} {r1} {r2} {x0} {x1} {x2} members layout proxy same laid roots free runs keeps still takes adds = record {
@@ -176,7 +176,7 @@ module _ {D : Type 0} {d : Ghosts D} where
   }
 
   -- it was not put
-  pub members_refused : {r0 r1 : Records} {x0 x1 : D} (members : CutForest) (layout : Layout) (r2 : Records) (x2 : D) (e : StoreError) → without_places layout ≡ members → IsLaid d r0 r1 x0 x1 layout
+  pub members_refused : {r0 r1 : Records} {x0 x1 : D} (members : CutForest) (layout : Layout) (r2 : Records) (x2 : D) (e : StoreError) → without_places layout ≡ members → HasPutLayout d r0 r1 x0 x1 layout
       → NotStored d (λ was. piece_needs (piece_of layout)) (λ was. ⊥) 0 e r1 r2 x1 x2 → NotStored d (λ was. 1 + proxy_count members + page_needs members) (λ was. ⊥) 0 e r0 r2 x0 x2
   members_refused {r0} {r1} {x0} {x1} members layout r2 x2 e same laid refused =
       let count : proxy_count layout ≡ proxy_count members = sym (count-without layout) ∙ ap proxy_count same in

@@ -33,7 +33,7 @@ pub record PutsLayout (layout : Layout) (was now : Held) : Type 0 where
   pub once : ArePlacedOnce (places_of layout)
 
 -- The records of these intervals were put. Whatever lists records name, at most so many fewer pages are free.
-pub record IsLaid {D : Type 0} (d : Ghosts D) (old new : Records) (before after : D) (layout : Layout) : Type 0 where
+pub record HasPutLayout {D : Type 0} (d : Ghosts D) (old new : Records) (before after : D) (layout : Layout) : Type 0 where
   pub runs : RunsOn old new
   pub keeps : KeepsSaved d old new before after
   pub still : IsStill d before after
@@ -46,11 +46,11 @@ pub record LaysTrees {D : Type 0} (d : Ghosts D) (old new : Records) (before aft
   pub same : without_places layout ≡ drawn
   pub body_is : body ≡ piece_body layout
   pub proxies_are : has ≡ had ++ proxies_of layout
-  pub laid : IsLaid d old new before after layout
+  pub laid : HasPutLayout d old new before after layout
 
 -- The members of an interval were laid out so, in the record of this proxy.
 pub record LaysMembers {D : Type 0} (d : Ghosts D) (old new : Records) (before after : D) (members : CutForest) (proxy : Proxy) : Type 0 where
   pub layout : Layout
   pub same : without_places layout ≡ members
   pub roots : proxy.roots ≡ width members
-  pub laid : IsLaid d old new before after (Kept (place_named proxy) layout Bare)
+  pub laid : HasPutLayout d old new before after (Kept (place_named proxy) layout Bare)

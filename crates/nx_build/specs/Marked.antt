@@ -11,17 +11,17 @@ BeginsOther index holder position (Kept mark members beside) = holder (position 
 
 -- What holds these trees from a position on, and those below them, where `holder` tells it by paths: the members of each interval are held by one, which doesn't
 -- hold the tree behind them, and the trees of no interval are held as `own` says.
-abbrev pub Agrees : Option ℕ → (List ℕ → Option ℕ) → ℕ → CutForest → Type 0
-Agrees own holder position Bare = Unit {0}
-Agrees own holder position (Grown node below beside) = (holder (position ∷ []) ≡ own) × Agrees None (λ path. holder (position ∷ path)) 0 below × Agrees own holder (position + 1) beside
-Agrees own holder position (Kept mark members beside) =
-    (index : ℕ) × BeginsOther index holder (position + width members) beside × Agrees (Some index) holder position members × Agrees own holder (position + width members) beside
+abbrev pub AgreesWithHolder : Option ℕ → (List ℕ → Option ℕ) → ℕ → CutForest → Type 0
+AgreesWithHolder own holder position Bare = Unit {0}
+AgreesWithHolder own holder position (Grown node below beside) = (holder (position ∷ []) ≡ own) × AgreesWithHolder None (λ path. holder (position ∷ path)) 0 below × AgreesWithHolder own holder (position + 1) beside
+AgreesWithHolder own holder position (Kept mark members beside) =
+    (index : ℕ) × BeginsOther index holder (position + width members) beside × AgreesWithHolder (Some index) holder position members × AgreesWithHolder own holder (position + width members) beside
 
 -- The trees with their intervals drawn in as the holders are, and no part weighs more than 256.
 pub record IsMarked (own : Option ℕ) (holder : List ℕ → Option ℕ) (position : ℕ) (trees : Forest) (drawn : CutForest) : Type 0 where
   pub trees_are : forest drawn ≡ trees
   pub light : AreParts 256 drawn
-  pub agrees : Agrees own holder position drawn
+  pub agrees : AgreesWithHolder own holder position drawn
 
 -- The members of one interval, with the intervals below them.
 pub record AreMembers (holder : List ℕ → Option ℕ) (position : ℕ) (trees : Forest) (members : CutForest) : Type 0 where

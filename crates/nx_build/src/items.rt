@@ -16,11 +16,7 @@ use std::vec::IntoIter;
 /// proxies before.
 ///
 /// Errors: out of memory.
-pub fn add_proxy(
-    items: &mut Vec<Item>,
-    proxies: &mut Proxies,
-    proxy: Proxy,
-) -> Result<(), NoMemory>
+pub fn add_proxy(items: &mut Vec<Item>, proxies: &mut Proxies, proxy: Proxy) -> Result<(), NoMemory>
     requires { proxies_in (gapped_of items.old.items) < 524288 }
     ensures items { OnOk result (gapped_of items.new.items ≡ with_proxy (gapped_of items.old.items)) }
     ensures proxies { OnOk result (proxies.new ≡ proxies.old ++ proxy ∷ []) }

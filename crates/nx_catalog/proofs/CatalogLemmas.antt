@@ -11,16 +11,17 @@ use Rattle.std.specs.FinMap.{empty, same_entries_map, len-entries, len-empty, en
 use Rattle.std.proofs.lemmas.Bool.{ltb-false, le-ltb}
 use Rattle.std.proofs.lemmas.List.{append-nil, length-map, nil_from_length}
 use Rattle.std.proofs.lemmas.List.Elements.{recursion_from_All, All-from_recursion}
-use Rattle.nx_script.specs.Field.{name_order}
+use Rattle.nx_script.specs.Field.{name_order, vector_order, by_bytes}
 use Rattle.nx_script.specs.Rule.{HasLabels}
 use Rattle.nx_matrix.specs.declared.rule.Rule.{Rule}
 use Rattle.nx_matrix.specs.declared.rule.Entry.TheVariants.{Free}
 use Rattle.nx_matrix.specs.Rules.{AreRules, pair_cmp, pair_of, most_rules}
 use Rattle.nx_hold.specs.declared.entry.DocEntry.{DocEntry}
-use Rattle.nx_catalog.specs.NameMap.{vector_order, by_bytes, map_in}
-use Rattle.nx_catalog.specs.Inside.{AreDocuments}
-use Rattle.nx_catalog.specs.Catalog.{Contents, Document, Entries, four, document_bytes, rule_bytes, listed_bytes, IsKept, IsCatalog}
-use Rattle.nx_catalog.specs.Reading.{number_at, document_at, documents_at, all_documents_at, rule_at, rules_at, all_rules_at}
+use Rattle.nx_catalog.specs.NameMap.{map_in}
+use Rattle.nx_catalog.specs.Inside.{AreDocumentEntries}
+use Rattle.nx_catalog.specs.Catalog.{Contents, Document, Entries, document_bytes, rule_bytes, listed_bytes, CanBeKept, IsCatalog}
+use Rattle.nx_piece.specs.Encoding.{four_bytes}
+use Rattle.nx_catalog.specs.Reading.{leading_number, document_at, documents_at, all_documents_at, rule_at, rules_at, all_rules_at}
 use Rattle.nx_catalog.proofs.NameMap.{entries-map_in}
 use Rattle.nx_catalog.proofs.InsideLemmas.{Kept, spelled}
 use Rattle.nx_catalog.proofs.NameLemmas.{name_first, pair_first, labelled}
@@ -35,54 +36,54 @@ name d = d.0
 
 -- documents read behind their number
 pub record TakesDocuments (bytes : List ℕ) (documents : List Document) (rest : List ℕ) : Type 0 where
-  pub takes : Takes bytes (four (length documents) ++ flat_map document_bytes documents) rest
+  pub takes : Takes bytes (four_bytes (length documents) ++ flat_map document_bytes documents) rest
   pub few : length documents < 4294967296
-  pub kept : AllByRecursion IsKept documents
+  pub kept : AllByRecursion CanBeKept documents
 
 pub documents_take : (bytes : List ℕ) (x : List Document × List ℕ) → IsBytes bytes → all_documents_at bytes ≡ Some x → TakesDocuments bytes x.0 x.1
 unfolding all_documents_at
 documents_take bytes x fits e =
-    let a = bind_some (number_at w32 bytes) (λ count. documents_at count.0 [] count.1) x e in
+    let a = bind_some (leading_number w32 bytes) (λ count. documents_at count.0 [] count.1) x e in
     let number = number_takes w32 4294967296 wide_four bytes a.0 fits a.1 in
-    let took = items_take document_at name_order name document_bytes IsKept document_takes a.0.0 [] a.0.1 x (number.0).rest_fits a.2 in
+    let took = items_take document_at name_order name document_bytes CanBeKept document_takes a.0.0 [] a.0.1 x (number.0).rest_fits a.2 in
     let size = took.counted in
     let few = number.1 in
     record {
-      takes = subst (λ (n : ℕ). Takes bytes (four n ++ flat_map document_bytes x.0) x.1) (sym size) (takes_then (to_be_bytes w32 a.0.0) (flat_map document_bytes x.0) number.0 took.takes);
+      takes = subst (λ (n : ℕ). Takes bytes (four_bytes n ++ flat_map document_bytes x.0) x.1) (sym size) (takes_then (to_be_bytes w32 a.0.0) (flat_map document_bytes x.0) number.0 took.takes);
       few = omega (arith, size, few);
       kept = took.each;
     }
 
-pub documents_again : (documents : List Document) (rest : List ℕ) → length documents < 4294967296 → AllByRecursion IsKept documents → Rises name_order name [] documents
-    → all_documents_at (four (length documents) ++ flat_map document_bytes documents ++ rest) ≡ Some (documents, rest)
+pub documents_again : (documents : List Document) (rest : List ℕ) → length documents < 4294967296 → AllByRecursion CanBeKept documents → Rises name_order name [] documents
+    → all_documents_at (four_bytes (length documents) ++ flat_map document_bytes documents ++ rest) ≡ Some (documents, rest)
 unfolding all_documents_at
 documents_again documents rest few kept rises =
     rw (number_again w32 4294967296 wide_four (length documents) (flat_map document_bytes documents ++ rest) few)
-    (items_again document_at name_order name document_bytes IsKept document_again documents [] rest kept rises)
+    (items_again document_at name_order name document_bytes CanBeKept document_again documents [] rest kept rises)
 
 -- rules read behind their number
 pub record TakesRules (bytes : List ℕ) (rules : List Rule) (rest : List ℕ) : Type 0 where
-  pub takes : Takes bytes (four (length rules) ++ flat_map rule_bytes rules) rest
+  pub takes : Takes bytes (four_bytes (length rules) ++ flat_map rule_bytes rules) rest
   pub are : AreRules rules
   pub each : AllByRecursion IsRule rules
 
 pub rules_take : (bytes : List ℕ) (x : List Rule × List ℕ) → IsBytes bytes → all_rules_at bytes ≡ Some x → TakesRules bytes x.0 x.1
 unfolding all_rules_at
 rules_take bytes x fits e =
-    let a = bind_some (number_at w32 bytes) (λ count. cond (ltb most_rules count.0) None (rules_at count.0 ([], []) count.1)) x e in
+    let a = bind_some (leading_number w32 bytes) (λ count. cond (ltb most_rules count.0) None (rules_at count.0 ([], []) count.1)) x e in
     let g = unless_some (ltb most_rules a.0.0) (rules_at a.0.0 ([], []) a.0.1) x a.2 in
     let few = ltb-false most_rules a.0.0 g.0 in
     let number = number_takes w32 4294967296 wide_four bytes a.0 fits a.1 in
     let took = items_take rule_at pair_cmp pair_of rule_bytes IsRule rule_takes a.0.0 ([], []) a.0.1 x (number.0).rest_fits g.1 in
     let size = took.counted in
     record {
-      takes = subst (λ (n : ℕ). Takes bytes (four n ++ flat_map rule_bytes x.0) x.1) (sym size) (takes_then (to_be_bytes w32 a.0.0) (flat_map rule_bytes x.0) number.0 took.takes);
+      takes = subst (λ (n : ℕ). Takes bytes (four_bytes n ++ flat_map rule_bytes x.0) x.1) (sym size) (takes_then (to_be_bytes w32 a.0.0) (flat_map rule_bytes x.0) number.0 took.takes);
       are = rising_rules ([], []) x.0 (omega (arith, size, few)) took.each took.rises;
       each = took.each;
     }
 
 pub rules_again : (rules : List Rule) (rest : List ℕ) → length rules ≤ most_rules → AllByRecursion IsRule rules → Rises pair_cmp pair_of ([], []) rules
-    → all_rules_at (four (length rules) ++ flat_map rule_bytes rules ++ rest) ≡ Some (rules, rest)
+    → all_rules_at (four_bytes (length rules) ++ flat_map rule_bytes rules ++ rest) ≡ Some (rules, rest)
 unfolding all_rules_at
 rules_again rules rest few each rises =
     rw (number_again w32 4294967296 wide_four (length rules) (flat_map rule_bytes rules ++ rest) (omega (arith, few)), le-ltb most_rules (length rules) few)
@@ -90,7 +91,7 @@ rules_again rules rest few each rises =
 
 -- ---- what a catalog's bytes are read as
 
-names_first : (documents : List Document) → AllByRecursion IsKept documents → AllByRecursion (λ (d : Document). name_order [] d.0 ≡ Less) documents
+names_first : (documents : List Document) → AllByRecursion CanBeKept documents → AllByRecursion (λ (d : Document). name_order [] d.0 ≡ Less) documents
 names_first [] h = tt
 names_first (d ∷ documents) h = (name_first d.0 (h.0).named, names_first documents h.1)
 
@@ -104,11 +105,11 @@ each_rule (r ∷ rules) h k = (record { labels = h.0; bound = k.0 }, each_rule r
 
 -- what stands behind the documents
 abbrev pub behind : Contents → List ℕ
-behind contents = four (length contents.rules) ++ flat_map rule_bytes contents.rules
+behind contents = four_bytes (length contents.rules) ++ flat_map rule_bytes contents.rules
 
 pub catalog_documents : {bytes : List ℕ} {contents : Contents} → IsCatalog bytes contents → all_documents_at bytes ≡ Some (entries contents.documents, behind contents)
 catalog_documents {bytes} {contents} is =
-    let kept = recursion_from_All IsKept (entries contents.documents) is.kept in
+    let kept = recursion_from_All CanBeKept (entries contents.documents) is.kept in
     let rises = sorted_rises name_order [] (entries contents.documents) (below_each name_order [] (entries contents.documents) (names_first (entries contents.documents) kept)) (entries_sorted contents.documents) in
     ap all_documents_at (is.spelled ∙ spelled contents)
     ∙ documents_again (entries contents.documents) (behind contents) is.few kept rises
@@ -144,12 +145,12 @@ more_behind {bytes} {rest} {last} {contents} documents rules found read more is 
     more (ap (λ (l : List ℕ). length l) (sym none))
 
 -- the documents that were read are kept
-pub read_documents_are : (bytes : List ℕ) {rest : List ℕ} (m : BTreeMap (Vec ℕ) DocEntry) → IsBytes bytes → IsOrdered vector_order m → all_documents_at bytes ≡ Some (by_bytes m.entries, rest) → AreDocuments m
+pub read_documents_are : (bytes : List ℕ) {rest : List ℕ} (m : BTreeMap (Vec ℕ) DocEntry) → IsBytes bytes → IsOrdered vector_order m → all_documents_at bytes ≡ Some (by_bytes m.entries, rest) → AreDocumentEntries m
 read_documents_are bytes {rest} m fits ordered read =
     let took = documents_take bytes (by_bytes m.entries, rest) fits read in
     let few = took.few in
     let size = length-map {B = Document} m.entries (λ (e : Kept). (e.0.items, e.1)) in
-    record { ordered = ordered; few = omega (arith, few, size); kept = All-from_recursion IsKept (by_bytes m.entries) took.kept }
+    record { ordered = ordered; few = omega (arith, few, size); kept = All-from_recursion CanBeKept (by_bytes m.entries) took.kept }
 
 labels_of : (rules : List Rule) → AllByRecursion IsRule rules → AllByRecursion HasLabels rules
 labels_of [] h = tt
@@ -165,11 +166,11 @@ read_catalog_is {bytes} {rest} {last} m rules fits ordered read more none =
     let shown : entries (map_in m) ≡ by_bytes m.entries = entries-map_in m ordered in
     let end : last ≡ [] = nil_from_length last none in
     let whole : bytes ≡ listed_bytes (by_bytes m.entries) rules =
-    (took.takes).parts ∙ ap (λ (r : List ℕ). (four (length (by_bytes m.entries)) ++ flat_map document_bytes (by_bytes m.entries)) ++ r)
-    ((took_rules.takes).parts ∙ ap (λ (r : List ℕ). (four (length rules) ++ flat_map rule_bytes rules) ++ r) end ∙ append-nil (four (length rules) ++ flat_map rule_bytes rules)) in
+    (took.takes).parts ∙ ap (λ (r : List ℕ). (four_bytes (length (by_bytes m.entries)) ++ flat_map document_bytes (by_bytes m.entries)) ++ r)
+    ((took_rules.takes).parts ∙ ap (λ (r : List ℕ). (four_bytes (length rules) ++ flat_map rule_bytes rules) ++ r) end ∙ append-nil (four_bytes (length rules) ++ flat_map rule_bytes rules)) in
     record {
       few = subst (λ (ds : List Document). length ds < 4294967296) (sym shown) took.few;
-      kept = subst (λ (ds : List Document). All IsKept ds) (sym shown) (All-from_recursion IsKept (by_bytes m.entries) took.kept);
+      kept = subst (λ (ds : List Document). All CanBeKept ds) (sym shown) (All-from_recursion CanBeKept (by_bytes m.entries) took.kept);
       rules = took_rules.are;
       labels = All-from_recursion HasLabels rules (labels_of rules took_rules.each);
       spelled = whole ∙ ap (λ (ds : List Document). listed_bytes ds rules) (sym shown) ∙ sym (spelled contents);
@@ -192,7 +193,7 @@ first_is =
     let none : entries first.documents ≡ [] = nil_from_length (entries first.documents) (sym (len-entries first.documents) ∙ len-empty name_order DocEntry) in
     record {
       few = subst (λ (ds : List Document). length ds < 4294967296) (sym none) (omega arith);
-      kept = subst (λ (ds : List Document). All IsKept ds) (sym none) (All-from_recursion IsKept [] tt);
+      kept = subst (λ (ds : List Document). All CanBeKept ds) (sym none) (All-from_recursion CanBeKept [] tt);
       rules = rising_rules ([], []) [] (omega arith) tt tt;
       labels = All-from_recursion HasLabels [] tt;
       spelled = ap (λ (ds : List Document). listed_bytes ds []) (sym none) ∙ sym (spelled first);

@@ -6,10 +6,9 @@ use Rattle.std.specs.Ordering.{match_ordering, ordering_reverse}
 use Rattle.std.specs.declared.cmp.Ordering.TheVariants.{Less, Greater}
 use Rattle.std.specs.Cmp.Lexicographic.{nat_list_cmp_total}
 use Rattle.std.specs.BTreeMap.{insert_entry}
-use Rattle.nx_script.specs.Field.{name_order, is_document_name}
+use Rattle.nx_script.specs.Field.{name_order, is_document_name, vector_order, by_bytes}
 use Rattle.nx_hold.specs.declared.entry.DocEntry.{DocEntry}
-use Rattle.nx_catalog.specs.NameMap.{vector_order, by_bytes}
-use Rattle.nx_catalog.specs.Catalog.{Document, counted, place_bytes, document_bytes, IsKept}
+use Rattle.nx_catalog.specs.Catalog.{Document, counted, place_bytes, document_bytes, CanBeKept}
 use Rattle.nx_catalog.specs.Reading.{◌>>=◌, counted_at, place_at, document_at, documents_at}
 use Rattle.nx_catalog.proofs.FieldLemmas.{IsBytes, Takes, takes_then, bind_some, if_some, some_is, counted_takes, counted_again, place_takes, place_again}
 use Rattle.nx_catalog.proofs.NameLemmas.{name_short}
@@ -17,7 +16,7 @@ use Rattle.nx_catalog.proofs.InsideLemmas.{Kept}
 use Rattle.nx_catalog.proofs.RisingLemmas.{EndAt, end_more}
 use Rattle.nx_catalog.proofs.ListedLemmas.{with_front, goes_on}
 
-pub document_takes : (bytes : List ℕ) (x : Document × List ℕ) → IsBytes bytes → document_at bytes ≡ Some x → Takes bytes (document_bytes x.0) x.1 × IsKept x.0
+pub document_takes : (bytes : List ℕ) (x : Document × List ℕ) → IsBytes bytes → document_at bytes ≡ Some x → Takes bytes (document_bytes x.0) x.1 × CanBeKept x.0
 unfolding document_at
 document_takes bytes x fits e =
     let a = bind_some (counted_at bytes) (λ name. place_at name.1 >>= λ place. cond (is_document_name name.0) (Some ((name.0, place.0), place.1)) None) x e in
@@ -25,10 +24,10 @@ document_takes bytes x fits e =
     let g = if_some (is_document_name a.0.0) (Some ((a.0.0, b.0.0), b.0.1)) x b.2 in
     let name = counted_takes bytes a.0 fits a.1 in
     let place = place_takes a.0.1 b.0 name.rest_fits b.1 in
-    subst (λ (y : Document × List ℕ). Takes bytes (document_bytes y.0) y.1 × IsKept y.0) (some_is _ x g.1)
+    subst (λ (y : Document × List ℕ). Takes bytes (document_bytes y.0) y.1 × CanBeKept y.0) (some_is _ x g.1)
     (takes_then (counted a.0.0) (place_bytes b.0.0) name place.0, record { named = g.0; page = (place.1).0; slot = (place.1).1; nodes = (place.1).2 })
 
-pub document_again : (d : Document) (rest : List ℕ) → IsKept d → document_at (document_bytes d ++ rest) ≡ Some (d, rest)
+pub document_again : (d : Document) (rest : List ℕ) → CanBeKept d → document_at (document_bytes d ++ rest) ≡ Some (d, rest)
 unfolding document_at
 document_again d rest kept =
     let short = name_short d.0 kept.named in

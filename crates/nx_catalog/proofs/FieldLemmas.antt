@@ -9,7 +9,7 @@ use Rattle.nx_hold.specs.declared.entry.DocEntry.{DocEntry}
 use Rattle.nx_matrix.specs.declared.rule.Entry.{Entry}
 use Rattle.nx_matrix.specs.declared.rule.Entry.TheVariants.{Standalone, Cluster, Free}
 use Rattle.nx_catalog.specs.Catalog.{counted, place_bytes, entry_byte}
-use Rattle.nx_catalog.specs.Reading.{◌>>=◌, number_at, counted_at, place_at, entry_at}
+use Rattle.nx_catalog.specs.Reading.{◌>>=◌, leading_number, counted_at, place_at, entry_at}
 
 abbrev pub IsBytes : List ℕ → Type 0
 IsBytes bytes = (i : ℕ) → get_or bytes i 0 < 256
@@ -74,7 +74,7 @@ wide_four = record {
   below = λ bytes fits. omega (arith, fits 0, fits 1, fits 2, fits 3);
 }
 
-pub number_takes : (w : Width) (limit : ℕ) (wide : IsWide w limit) (bytes : List ℕ) (x : ℕ × List ℕ) → IsBytes bytes → number_at w bytes ≡ Some x → Takes bytes (to_be_bytes w x.0) x.1 × (x.0 < limit)
+pub number_takes : (w : Width) (limit : ℕ) (wide : IsWide w limit) (bytes : List ℕ) (x : ℕ × List ℕ) → IsBytes bytes → leading_number w bytes ≡ Some x → Takes bytes (to_be_bytes w x.0) x.1 × (x.0 < limit)
 number_takes w limit wide bytes x fits e =
     let g = unless_some (ltb (length bytes) (byte_len w)) (Some (from_be_bytes w (take (byte_len w) bytes), drop (byte_len w) bytes)) x e in
     let is : (from_be_bytes w (take (byte_len w) bytes), drop (byte_len w) bytes) ≡ x = some_is _ x g.1 in
@@ -84,7 +84,7 @@ number_takes w limit wide bytes x fits e =
     subst (λ (y : ℕ × List ℕ). Takes bytes (to_be_bytes w y.0) y.1 × (y.0 < limit)) is
     (record { parts = sym (take-append-drop (byte_len w) bytes) ∙ ap (λ (t : List ℕ). t ++ drop (byte_len w) bytes) (sym number); rest_fits = IsBytes-drop (byte_len w) bytes fits }, wide.below (take (byte_len w) bytes) front)
 
-pub number_again : (w : Width) (limit : ℕ) (wide : IsWide w limit) (n : ℕ) (rest : List ℕ) → n < limit → number_at w (to_be_bytes w n ++ rest) ≡ Some (n, rest)
+pub number_again : (w : Width) (limit : ℕ) (wide : IsWide w limit) (n : ℕ) (rest : List ℕ) → n < limit → leading_number w (to_be_bytes w n ++ rest) ≡ Some (n, rest)
 number_again w limit wide n rest lt =
     let len = wide.len n in
     let long : ltb (length (to_be_bytes w n ++ rest)) (byte_len w) ≡ false = le-ltb _ _ (omega (arith, length-append (to_be_bytes w n) rest)) in
@@ -93,7 +93,7 @@ number_again w limit wide n rest lt =
 pub counted_takes : (bytes : List ℕ) (x : List ℕ × List ℕ) → IsBytes bytes → counted_at bytes ≡ Some x → Takes bytes (counted x.0) x.1
 unfolding counted_at
 counted_takes bytes x fits e =
-    let b = bind_some (number_at w16 bytes) (λ n. cond (ltb (length n.1) n.0) None (Some (take n.0 n.1, drop n.0 n.1))) x e in
+    let b = bind_some (leading_number w16 bytes) (λ n. cond (ltb (length n.1) n.0) None (Some (take n.0 n.1, drop n.0 n.1))) x e in
     let n = b.0 in
     let t = number_takes w16 65536 wide_two bytes n fits b.1 in
     let g = unless_some (ltb (length n.1) n.0) (Some (take n.0 n.1, drop n.0 n.1)) x b.2 in
@@ -117,9 +117,9 @@ Fit entry = (entry.root.page < 4294967296) × (entry.root.slot < 65536) × (entr
 pub place_takes : (bytes : List ℕ) (x : DocEntry × List ℕ) → IsBytes bytes → place_at bytes ≡ Some x → Takes bytes (place_bytes x.0) x.1 × Fit x.0
 unfolding place_at
 place_takes bytes x fits e =
-    let a = bind_some (number_at w32 bytes) (λ page. number_at w16 page.1 >>= λ slot. number_at w32 slot.1 >>= λ nodes. Some (record { root = record { page = page.0; slot = slot.0 }; nodes = nodes.0 }, nodes.1)) x e in
-    let b = bind_some (number_at w16 a.0.1) (λ slot. number_at w32 slot.1 >>= λ nodes. Some (record { root = record { page = a.0.0; slot = slot.0 }; nodes = nodes.0 }, nodes.1)) x a.2 in
-    let c = bind_some (number_at w32 b.0.1) (λ nodes. Some (record { root = record { page = a.0.0; slot = b.0.0 }; nodes = nodes.0 }, nodes.1)) x b.2 in
+    let a = bind_some (leading_number w32 bytes) (λ page. leading_number w16 page.1 >>= λ slot. leading_number w32 slot.1 >>= λ nodes. Some (record { root = record { page = page.0; slot = slot.0 }; nodes = nodes.0 }, nodes.1)) x e in
+    let b = bind_some (leading_number w16 a.0.1) (λ slot. leading_number w32 slot.1 >>= λ nodes. Some (record { root = record { page = a.0.0; slot = slot.0 }; nodes = nodes.0 }, nodes.1)) x a.2 in
+    let c = bind_some (leading_number w32 b.0.1) (λ nodes. Some (record { root = record { page = a.0.0; slot = b.0.0 }; nodes = nodes.0 }, nodes.1)) x b.2 in
     let t0 = number_takes w32 4294967296 wide_four bytes a.0 fits a.1 in
     let t1 = number_takes w16 65536 wide_two a.0.1 b.0 (t0.0).rest_fits b.1 in
     let t2 = number_takes w32 4294967296 wide_four b.0.1 c.0 (t1.0).rest_fits c.1 in

@@ -4,7 +4,7 @@ use Rattle.std.specs.Prelude.{◌⊎◌, All, is_some, if◌then◌else◌, slic
 use Rattle.std.specs.Global.{Vec}
 use Rattle.std.specs.List.{AllByRecursion}
 use Rattle.std.specs.List.Sorted.{IsStrictlySortedBy}
-use Rattle.nx_script.specs.Field.{name_order}
+use Rattle.nx_script.specs.Field.{name_order, vector_order, by_bytes}
 use Rattle.std.specs.declared.cmp.Ordering.TheVariants.{Less, Equal, Greater}
 use Rattle.std.specs.Ordering.{match_ordering}
 use Rattle.std.specs.Map.{remove_entry, set_value, keys_of}
@@ -16,11 +16,11 @@ use Rattle.std.proofs.lemmas.Map.Views.{All-map-remove_entry}
 use Rattle.std.proofs.lemmas.Option.{slice_get-map, slice_get_cases, none-some}
 use Rattle.nx_matrix.specs.declared.rule.Rule.{Rule}
 use Rattle.nx_hold.specs.declared.entry.DocEntry.{DocEntry}
-use Rattle.nx_catalog.specs.NameMap.{vector_order, by_bytes, map_in}
+use Rattle.nx_catalog.specs.NameMap.{map_in}
 use Rattle.nx_matrix.specs.Rules.{AreRules}
 use Rattle.nx_script.specs.Rule.{HasLabels}
-use Rattle.nx_catalog.specs.Catalog.{Contents, Document, IsKept, IsCatalog, catalog_bytes, listed_bytes}
-use Rattle.nx_catalog.specs.Inside.{AreDocuments}
+use Rattle.nx_catalog.specs.Catalog.{Contents, Document, CanBeKept, IsCatalog, catalog_bytes, listed_bytes}
+use Rattle.nx_catalog.specs.Inside.{AreDocumentEntries}
 use Rattle.nx_catalog.proofs.NameMap.{entries-map_in, get-map_in, value_of}
 
 abbrev pub Kept : Type 0
@@ -29,7 +29,7 @@ Kept = Vec ℕ × DocEntry
 -- the map stands for these documents
 pub record Shows (contents : Contents) (documents : BTreeMap (Vec ℕ) DocEntry) (rules : List Rule) : Type 0 where
   pub view : ◌≡◌ {A = Contents} (record { documents = map_in documents; rules = rules }) contents
-  pub are : AreDocuments documents
+  pub are : AreDocumentEntries documents
 
 module _ {contents : Contents} {documents : BTreeMap (Vec ℕ) DocEntry} {rules : List Rule} (s : Shows contents documents rules) where
   pub shown_map : map_in documents ≡ contents.documents
@@ -63,22 +63,22 @@ module _ {contents : Contents} {documents : BTreeMap (Vec ℕ) DocEntry} {rules 
         | inr past ↦ let most = past.0 in omega (arith, most, size)
       ]
 
-kept_put : (key : Vec ℕ) (entry : DocEntry) (es : List Kept) → IsKept (key.items, entry) → AllByRecursion IsKept (by_bytes es) → AllByRecursion IsKept (by_bytes (insert_entry vector_order es key entry))
+kept_put : (key : Vec ℕ) (entry : DocEntry) (es : List Kept) → CanBeKept (key.items, entry) → AllByRecursion CanBeKept (by_bytes es) → AllByRecursion CanBeKept (by_bytes (insert_entry vector_order es key entry))
 kept_put key entry [] k h = (k, tt)
 kept_put key entry (e ∷ es) k h =
-    elim (vector_order key e.0) as (λ o. AllByRecursion IsKept (by_bytes (match_ordering o ((key, entry) ∷ e ∷ es) ((e.0, entry) ∷ es) (e ∷ insert_entry vector_order es key entry)))) [
+    elim (vector_order key e.0) as (λ o. AllByRecursion CanBeKept (by_bytes (match_ordering o ((key, entry) ∷ e ∷ es) ((e.0, entry) ∷ es) (e ∷ insert_entry vector_order es key entry)))) [
       | Less ↦ (k, h)
       | Equal ↦ (record { named = (h.0).named; page = k.page; slot = k.slot; nodes = k.nodes }, h.1)
       | Greater ↦ (h.0, kept_put key entry es k h.1)
     ]
 
 -- one more, or one in the place of another
-pub put_documents : {m : BTreeMap (Vec ℕ) DocEntry} (n : BTreeMap (Vec ℕ) DocEntry) (key : Vec ℕ) (entry : DocEntry) → AreDocuments m → IsKept (key.items, entry)
-    → n.entries ≡ insert_entry vector_order m.entries key entry → IsOrdered vector_order n → btree_map_len n < 4294967296 → AreDocuments n
+pub put_documents : {m : BTreeMap (Vec ℕ) DocEntry} (n : BTreeMap (Vec ℕ) DocEntry) (key : Vec ℕ) (entry : DocEntry) → AreDocumentEntries m → CanBeKept (key.items, entry)
+    → n.entries ≡ insert_entry vector_order m.entries key entry → IsOrdered vector_order n → btree_map_len n < 4294967296 → AreDocumentEntries n
 put_documents {m} n key entry are kept is ordered few = record {
   ordered = ordered;
   few = few;
-  kept = subst (λ es. All IsKept (by_bytes es)) (sym is) (All-from_recursion IsKept _ (kept_put key entry m.entries kept (recursion_from_All IsKept _ are.kept)));
+  kept = subst (λ es. All CanBeKept (by_bytes es)) (sym is) (All-from_recursion CanBeKept _ (kept_put key entry m.entries kept (recursion_from_All CanBeKept _ are.kept)));
 }
 
 abbrev name_or : Vec ℕ → List Document → List ℕ
@@ -106,25 +106,25 @@ by_names (e ∷ es) [] is h = absurd (cc)
 by_names (e ∷ es) (f ∷ fs) is h =
     (below_names e.0 f.0 es fs (ap (λ (l : List Document). name_or e.0 l) is) (ap (λ (l : List Document). rest_of l) is) h.0, by_names es fs (ap (λ (l : List Document). rest_of l) is) h.1)
 
-kept_set : (test : Vec ℕ → Bool) (entry : DocEntry) (es : List Kept) → entry.root.page < 4294967296 → entry.root.slot < 65536 → entry.nodes < 4294967296 → AllByRecursion IsKept (by_bytes es) → AllByRecursion IsKept (by_bytes (set_value test es entry))
+kept_set : (test : Vec ℕ → Bool) (entry : DocEntry) (es : List Kept) → entry.root.page < 4294967296 → entry.root.slot < 65536 → entry.nodes < 4294967296 → AllByRecursion CanBeKept (by_bytes es) → AllByRecursion CanBeKept (by_bytes (set_value test es entry))
 kept_set test entry [] page slot nodes h = tt
 kept_set test entry (e ∷ es) page slot nodes h =
-    elim (test e.0) as (λ b. AllByRecursion IsKept (by_bytes (cond b ((e.0, entry) ∷ es) (e ∷ set_value test es entry)))) [
+    elim (test e.0) as (λ b. AllByRecursion CanBeKept (by_bytes (cond b ((e.0, entry) ∷ es) (e ∷ set_value test es entry)))) [
       | true ↦ (record { named = (h.0).named; page = page; slot = slot; nodes = nodes }, h.1)
       | false ↦ (h.0, kept_set test entry es page slot nodes h.1)
     ]
 
 -- another entry at a key
-pub set_documents : {m : BTreeMap (Vec ℕ) DocEntry} (n : BTreeMap (Vec ℕ) DocEntry) (test : Vec ℕ → Bool) (entry : DocEntry) → AreDocuments m → (entry.root.page < 4294967296) × (entry.root.slot < 65536) × (entry.nodes < 4294967296)
-    → n.entries ≡ set_value test m.entries entry → IsOrdered vector_order n → btree_map_len n ≡ btree_map_len m → AreDocuments n
+pub set_documents : {m : BTreeMap (Vec ℕ) DocEntry} (n : BTreeMap (Vec ℕ) DocEntry) (test : Vec ℕ → Bool) (entry : DocEntry) → AreDocumentEntries m → (entry.root.page < 4294967296) × (entry.root.slot < 65536) × (entry.nodes < 4294967296)
+    → n.entries ≡ set_value test m.entries entry → IsOrdered vector_order n → btree_map_len n ≡ btree_map_len m → AreDocumentEntries n
 set_documents {m} n test entry are fit is ordered same = record {
   ordered = ordered;
   few = let few = are.few in omega (arith, few, same);
-  kept = subst (λ es. All IsKept (by_bytes es)) (sym is) (All-from_recursion IsKept _ (kept_set test entry m.entries fit.0 fit.1 fit.2 (recursion_from_All IsKept _ are.kept)));
+  kept = subst (λ es. All CanBeKept (by_bytes es)) (sym is) (All-from_recursion CanBeKept _ (kept_set test entry m.entries fit.0 fit.1 fit.2 (recursion_from_All CanBeKept _ are.kept)));
 }
 
 -- the same entries
-pub same_documents : {m : BTreeMap (Vec ℕ) DocEntry} (n : BTreeMap (Vec ℕ) DocEntry) → AreDocuments m → by_bytes n.entries ≡ by_bytes m.entries → AreDocuments n
+pub same_documents : {m : BTreeMap (Vec ℕ) DocEntry} (n : BTreeMap (Vec ℕ) DocEntry) → AreDocumentEntries m → by_bytes n.entries ≡ by_bytes m.entries → AreDocumentEntries n
 same_documents {m} n are same = record {
   ordered = by_names m.entries n.entries (sym same) are.ordered;
   few =
@@ -133,15 +133,15 @@ same_documents {m} n are same = record {
       let other = length-map {B = Document} n.entries (λ (e : Kept). (e.0.items, e.1)) in
       let l : length (by_bytes n.entries) ≡ length (by_bytes m.entries) = ap (λ (es : List Document). length es) same in
       omega (arith, few, one, other, l);
-  kept = subst (λ (es : List Document). All IsKept es) (sym same) are.kept;
+  kept = subst (λ (es : List Document). All CanBeKept es) (sym same) are.kept;
 }
 
-pub less_documents : {m : BTreeMap (Vec ℕ) DocEntry} (n : BTreeMap (Vec ℕ) DocEntry) (test : Vec ℕ → Bool) → AreDocuments m → n.entries ≡ remove_entry test m.entries → IsOrdered vector_order n
-    → btree_map_len n ≤ btree_map_len m → AreDocuments n
+pub less_documents : {m : BTreeMap (Vec ℕ) DocEntry} (n : BTreeMap (Vec ℕ) DocEntry) (test : Vec ℕ → Bool) → AreDocumentEntries m → n.entries ≡ remove_entry test m.entries → IsOrdered vector_order n
+    → btree_map_len n ≤ btree_map_len m → AreDocumentEntries n
 less_documents {m} n test are is ordered fewer = record {
   ordered = ordered;
   few = let few = are.few in omega (arith, few, fewer);
-  kept = subst (λ es. All IsKept (by_bytes es)) (sym is) (All-map-remove_entry test (λ (e : Kept). (e.0.items, e.1)) IsKept m.entries are.kept);
+  kept = subst (λ es. All CanBeKept (by_bytes es)) (sym is) (All-map-remove_entry test (λ (e : Kept). (e.0.items, e.1)) CanBeKept m.entries are.kept);
 }
 
 -- where the name is there, or fewer than so many are, there is room for one
@@ -163,13 +163,13 @@ room_left {contents} {documents} s name key n old room same is more = elim room 
     by_found true e = omega arith
     by_found false e = omega arith
 
-each : (es : List Kept) → AllByRecursion IsKept (by_bytes es) → AllByRecursion (λ (e : Kept). IsKept (e.0.items, e.1)) es
+each : (es : List Kept) → AllByRecursion CanBeKept (by_bytes es) → AllByRecursion (λ (e : Kept). CanBeKept (e.0.items, e.1)) es
 each [] h = tt
 each (e ∷ es) h = (h.0, each es h.1)
 
 -- each entry of the map
-pub each_kept : (es : List Kept) → All IsKept (by_bytes es) → All (λ (e : Kept). IsKept (e.0.items, e.1)) es
-each_kept es h = All-from_recursion _ es (each es (recursion_from_All IsKept _ h))
+pub each_kept : (es : List Kept) → All CanBeKept (by_bytes es) → All (λ (e : Kept). CanBeKept (e.0.items, e.1)) es
+each_kept es h = All-from_recursion _ es (each es (recursion_from_All CanBeKept _ h))
 
 -- the bytes of a catalog are those of its documents and rules
 pub spelled : (contents : Contents) → catalog_bytes contents ≡ listed_bytes (entries contents.documents) contents.rules
@@ -181,7 +181,7 @@ pub catalog_form : {contents : Contents} {documents : BTreeMap (Vec ℕ) DocEntr
     → All HasLabels contents.rules → IsCatalog (catalog_bytes contents) contents
 catalog_form {contents} {documents} s rules labels = record {
   few = let few = (s.are).few in let size = shown_length s in omega (arith, few, size);
-  kept = subst (λ (es : List Document). All IsKept es) (shown_entries s) (s.are).kept;
+  kept = subst (λ (es : List Document). All CanBeKept es) (shown_entries s) (s.are).kept;
   rules = subst AreRules (shown_rules s) rules;
   labels = labels;
   spelled = refl;

@@ -16,8 +16,8 @@ use Rattle.nx_hold.specs.declared.entry.DocEntry.{DocEntry}
 use Rattle.nx_matrix.specs.declared.rule.Rule.{Rule}
 use Rattle.nx_matrix.specs.Rules.{IsLabel, pair_of}
 use Rattle.nx_matrix.proofs.OrderLemmas.{Pair}
-use Rattle.nx_catalog.specs.Catalog.{Entries, Contents, Document, document_bytes, rule_bytes, listed_bytes, catalog_bytes, IsKept, IsCatalog}
-use Rattle.nx_catalog.specs.Laws.{length_of}
+use Rattle.nx_catalog.specs.Catalog.{Entries, Contents, Document, document_bytes, rule_bytes, listed_bytes, catalog_bytes, CanBeKept, IsCatalog}
+use Rattle.nx_catalog.specs.Laws.{catalog_size}
 use Rattle.nx_catalog.proofs.InsideLemmas.{spelled}
 use Rattle.nx_catalog.proofs.NameLemmas.{name_short}
 use Rattle.nx_catalog.proofs.NameMap.{one_map, same_name}
@@ -69,7 +69,7 @@ same_length one other names pairs =
 
 -- ---- at most so many
 
-documents_most : (documents : List Document) → AllByRecursion IsKept documents → length (flat_map document_bytes documents) ≤ 267 * length documents
+documents_most : (documents : List Document) → AllByRecursion CanBeKept documents → length (flat_map document_bytes documents) ≤ 267 * length documents
 documents_most [] kept = omega arith
 documents_most (d ∷ documents) kept =
     let one = document_length d in
@@ -90,7 +90,7 @@ pub most_bytes : (bytes : List ℕ) (contents : Contents) → IsCatalog bytes co
 most_bytes bytes contents is =
     let size : length bytes ≡ length (catalog_bytes contents) = ap (λ (b : List ℕ). length b) is.spelled in
     let parts = catalog_length contents in
-    let documents = documents_most (entries contents.documents) (recursion_from_All IsKept (entries contents.documents) is.kept) in
+    let documents = documents_most (entries contents.documents) (recursion_from_All CanBeKept (entries contents.documents) is.kept) in
     let rules = rules_most contents.rules (recursion_from_All (λ r. IsLabel r.parent × IsLabel r.child) contents.rules (is.rules).labelled) in
     omega (arith, size, parts, documents, rules)
 
@@ -130,7 +130,7 @@ insert_size : (documents : Entries) (name : List ℕ) (entry : DocEntry) → len
 insert_size documents name entry =
     sym (len-entries (insert documents name entry)) ∙ len-insert nat_list_cmp_total documents name entry ∙ ap (λ (n : ℕ). cond (contains_key documents name) n (n + 1)) (len-entries documents)
 
-pub length_there : (documents : Entries) (rules : List Rule) (name : List ℕ) (entry : DocEntry) → contains_key documents name ≡ true → length_of (insert documents name entry) rules ≡ length_of documents rules
+pub length_there : (documents : Entries) (rules : List Rule) (name : List ℕ) (entry : DocEntry) → contains_key documents name ≡ true → catalog_size (insert documents name entry) rules ≡ catalog_size documents rules
 length_there documents rules name entry there =
     let size : length (entries (insert documents name entry)) ≡ length (entries documents) = insert_size documents name entry ∙ cond-true _ _ _ there in
     let old = by_names (record { documents = documents; rules = rules }) in
@@ -140,7 +140,7 @@ length_there documents rules name entry there =
       | inr more ↦ let n = more.0 in absurd (omega (arith, size, n))
     ]
 
-pub length_new : (documents : Entries) (rules : List Rule) (name : List ℕ) (entry : DocEntry) → contains_key documents name ≡ false → length_of (insert documents name entry) rules ≡ length_of documents rules + (12 + length name)
+pub length_new : (documents : Entries) (rules : List Rule) (name : List ℕ) (entry : DocEntry) → contains_key documents name ≡ false → catalog_size (insert documents name entry) rules ≡ catalog_size documents rules + (12 + length name)
 length_new documents rules name entry absent =
     let size : length (entries (insert documents name entry)) ≡ length (entries documents) + 1 = insert_size documents name entry ∙ cond-false _ _ _ absent in
     let old = by_names (record { documents = documents; rules = rules }) in
@@ -170,13 +170,13 @@ remove_absent documents name absent = one_map _ _ (λ q. get-remove nat_list_cmp
     none_in None e = refl
     none_in (Some entry) e = absurd (cc)
 
-pub length_less : (documents : Entries) (rules : List Rule) (name : List ℕ) → contains_key documents name ≡ true → length_of (remove documents name) rules + (12 + length name) ≡ length_of documents rules
+pub length_less : (documents : Entries) (rules : List Rule) (name : List ℕ) → contains_key documents name ≡ true → catalog_size (remove documents name) rules + (12 + length name) ≡ catalog_size documents rules
 length_less documents rules name there = by_entry (get documents name) refl there
   where
     gone : contains_key (remove documents name) name ≡ false
     gone = ap is_some (get-remove nat_list_cmp_total documents name name ∙ cond-true _ None (get documents name) (itself name))
 
-    by_entry : (o : Option DocEntry) → get documents name ≡ o → is_some o ≡ true → length_of (remove documents name) rules + (12 + length name) ≡ length_of documents rules
+    by_entry : (o : Option DocEntry) → get documents name ≡ o → is_some o ≡ true → catalog_size (remove documents name) rules + (12 + length name) ≡ catalog_size documents rules
     by_entry None e some = absurd (cc)
     by_entry (Some entry) e some =
-        sym (length_new (remove documents name) rules name entry gone) ∙ ap (λ (ds : Entries). length_of ds rules) (put_back documents name entry e)
+        sym (length_new (remove documents name) rules name entry gone) ∙ ap (λ (ds : Entries). catalog_size ds rules) (put_back documents name entry e)

@@ -13,7 +13,7 @@ use Rattle.std.proofs.Math.Seq.{take-suc, drop-cons}
 use Rattle.std.proofs.lemmas.Slice.Eq.{bytes_eq-Decides}
 use Rattle.std.proofs.lemmas.List.{take-append-drop, take_all}
 use Rattle.std.proofs.lemmas.List.Elements.{recursion_from_All, All-from_recursion}
-use Rattle.nx_script.specs.Field.{name_order}
+use Rattle.nx_script.specs.Field.{name_order, by_bytes}
 use Rattle.nx_script.specs.Rule.{HasLabels, is_parent_label, is_child_label}
 use Rattle.nx_matrix.specs.declared.rule.Entry.{Entry}
 use Rattle.nx_matrix.specs.declared.rule.Entry.TheVariants.{Free}
@@ -22,7 +22,6 @@ use Rattle.nx_matrix.specs.Rules.{pair_cmp, pair_of, is_for, entry_of, AreRules,
 use Rattle.nx_matrix.proofs.OrderLemmas.{Pair, not_less}
 use Rattle.nx_matrix.proofs.EntryLemmas.{is_for_pair}
 use Rattle.nx_hold.specs.declared.entry.DocEntry.{DocEntry}
-use Rattle.nx_catalog.specs.NameMap.{by_bytes}
 use Rattle.nx_host.specs.declared.disk.Disk.{Ghosts}
 use Rattle.nx_holdings.specs.Holdings.{Held}
 use Rattle.nx_records.specs.declared.records.Records.{Records}

@@ -1,7 +1,6 @@
 -- What a catalog says, and its bytes.
 use Rattle.std.specs.Prelude.{◌≡◌, ℕ, ◌<◌, List, [], ◌∷◌, ◌++◌, length, flat_map, All, IsTrue}
 use Rattle.std.specs.FinMap.{FinMap, entries}
-use Rattle.std.specs.Int.{w16, w32, to_be_bytes}
 use Rattle.nx_script.specs.Field.{name_order, is_document_name}
 use Rattle.nx_script.specs.Rule.{HasLabels}
 use Rattle.nx_matrix.specs.declared.rule.Entry.{Entry}
@@ -9,6 +8,7 @@ use Rattle.nx_matrix.specs.declared.rule.Entry.TheVariants.{Standalone, Cluster,
 use Rattle.nx_matrix.specs.declared.rule.Rule.{Rule}
 use Rattle.nx_matrix.specs.Rules.{AreRules}
 use Rattle.nx_hold.specs.declared.entry.DocEntry.{DocEntry}
+use Rattle.nx_piece.specs.Encoding.{four_bytes, two_bytes}
 
 -- where each document stands and how large it is, by its name
 abbrev pub Entries : Type 0
@@ -23,21 +23,13 @@ pub record Contents : Type 0 where
   pub documents : Entries
   pub rules : List Rule
 
--- a number in two bytes, the highest first
-abbrev pub two : ℕ → List ℕ
-two n = to_be_bytes w16 n
-
--- a number in four bytes, the highest first
-abbrev pub four : ℕ → List ℕ
-four n = to_be_bytes w32 n
-
 -- bytes behind their number
 abbrev pub counted : List ℕ → List ℕ
-counted bytes = two (length bytes) ++ bytes
+counted bytes = two_bytes (length bytes) ++ bytes
 
 -- the place of a root, and how many nodes there are
 abbrev pub place_bytes : DocEntry → List ℕ
-place_bytes entry = four entry.root.page ++ two entry.root.slot ++ four entry.nodes
+place_bytes entry = four_bytes entry.root.page ++ two_bytes entry.root.slot ++ four_bytes entry.nodes
 
 abbrev pub document_bytes : Document → List ℕ
 document_bytes document = counted document.0 ++ place_bytes document.1
@@ -53,14 +45,14 @@ rule_bytes rule = counted rule.parent ++ counted rule.child ++ entry_byte rule.e
 
 -- documents in the order of their names, and rules, each behind their number
 abbrev pub listed_bytes : List Document → List Rule → List ℕ
-listed_bytes documents rules = four (length documents) ++ flat_map document_bytes documents ++ (four (length rules) ++ flat_map rule_bytes rules)
+listed_bytes documents rules = four_bytes (length documents) ++ flat_map document_bytes documents ++ (four_bytes (length rules) ++ flat_map rule_bytes rules)
 
 -- the bytes of a catalog. The word is closed, since an open one fills goals with bytes of numbers
 unfoldable pub catalog_bytes : Contents → List ℕ
 catalog_bytes contents = listed_bytes (entries contents.documents) contents.rules
 
 -- a document may have the name, and the numbers fit their fields
-pub record IsKept (document : Document) : Type 0 where
+pub record CanBeKept (document : Document) : Type 0 where
   pub named : IsTrue (is_document_name document.0)
   pub page : document.1.root.page < 4294967296
   pub slot : document.1.root.slot < 65536
@@ -69,7 +61,7 @@ pub record IsKept (document : Document) : Type 0 where
 -- the bytes are a catalog's, which says this
 pub record IsCatalog (bytes : List ℕ) (contents : Contents) : Type 0 where
   pub few : length (entries contents.documents) < 4294967296
-  pub kept : All IsKept (entries contents.documents)
+  pub kept : All CanBeKept (entries contents.documents)
   pub rules : AreRules contents.rules
   pub labels : All HasLabels contents.rules
   pub spelled : bytes ≡ catalog_bytes contents

@@ -9,25 +9,25 @@ use Rattle.nx_matrix.specs.declared.rule.Rule.{Rule}
 use Rattle.nx_hold.specs.declared.entry.DocEntry.{DocEntry}
 use Rattle.nx_catalog.specs.Catalog.{Entries, Contents}
 
-abbrev pub number_of : Entry → ℕ
-number_of Standalone = 0
-number_of Cluster = 1
-number_of Free = 2
+abbrev pub entry_number : Entry → ℕ
+entry_number Standalone = 0
+entry_number Cluster = 1
+entry_number Free = 2
 
-abbrev pub entry_of : ℕ → Entry
-entry_of zero = Standalone
-entry_of (suc zero) = Cluster
-entry_of (suc (suc n)) = Free
+abbrev pub entry_by_number : ℕ → Entry
+entry_by_number zero = Standalone
+entry_by_number (suc zero) = Cluster
+entry_by_number (suc (suc n)) = Free
 
-pub entry_again : (e : Entry) → entry_of (number_of e) ≡ e
+pub entry_again : (e : Entry) → entry_by_number (entry_number e) ≡ e
 entry_again Standalone = refl
 entry_again Cluster = refl
 entry_again Free = refl
 
 abbrev pub rule_code : Coded Rule
 rule_code = code_by (List ℕ × (List ℕ × ℕ)) (coded× (coded_list coded_ℕ) (coded× (coded_list coded_ℕ) coded_ℕ))
-    (λ r. (r.parent, (r.child, number_of r.entry)))
-    (λ p. record { parent = p.0; child = p.1.0; entry = entry_of p.1.1 })
+    (λ r. (r.parent, (r.child, entry_number r.entry)))
+    (λ p. record { parent = p.0; child = p.1.0; entry = entry_by_number p.1.1 })
     (λ r. ap (λ (e : Entry). record { parent = r.parent; child = r.child; entry = e }) (entry_again r.entry))
 
 abbrev pub document_code : Coded DocEntry

@@ -17,8 +17,8 @@ abbrev pub FirstCatalog : Type 0
 FirstCatalog = IsCatalog (replicate 8 0) (record { documents = empty; rules = [] })
 
 -- a catalog takes at most so many bytes for a document and for a rule
-abbrev pub IsShort : Type 0
-IsShort = (bytes : List ℕ) (contents : Contents) → IsCatalog bytes contents →
+abbrev pub CatalogIsShort : Type 0
+CatalogIsShort = (bytes : List ℕ) (contents : Contents) → IsCatalog bytes contents →
     length bytes ≤ 8 + 267 * length (entries contents.documents) + 2053 * length contents.rules
 
 -- how many bytes a catalog has depends on its names and labels alone
@@ -27,19 +27,19 @@ LengthByNames = (one other : Contents) → keys one.documents ≡ keys other.doc
     length (catalog_bytes one) ≡ length (catalog_bytes other)
 
 -- how many bytes a catalog of these documents and rules has
-abbrev pub length_of : Entries → List Rule → ℕ
-length_of documents rules = length (catalog_bytes (record { documents = documents; rules = rules }))
+abbrev pub catalog_size : Entries → List Rule → ℕ
+catalog_size documents rules = length (catalog_bytes (record { documents = documents; rules = rules }))
 
 -- another entry under a name takes as many bytes as before, and one under a new name 12 and those of the name
 abbrev pub SetLengthens : Type 0
 SetLengthens = (documents : Entries) (rules : List Rule) (name : List ℕ) (entry : DocEntry) →
-    (contains_key documents name ≡ true → length_of (insert documents name entry) rules ≡ length_of documents rules)
-    × (contains_key documents name ≡ false → length_of (insert documents name entry) rules ≡ length_of documents rules + (12 + length name))
+    (contains_key documents name ≡ true → catalog_size (insert documents name entry) rules ≡ catalog_size documents rules)
+    × (contains_key documents name ≡ false → catalog_size (insert documents name entry) rules ≡ catalog_size documents rules + (12 + length name))
 
 -- a document that goes takes these bytes with it
 abbrev pub RemoveShortens : Type 0
 RemoveShortens = (documents : Entries) (rules : List Rule) (name : List ℕ) →
-    (contains_key documents name ≡ true → length_of (remove documents name) rules + (12 + length name) ≡ length_of documents rules)
+    (contains_key documents name ≡ true → catalog_size (remove documents name) rules + (12 + length name) ≡ catalog_size documents rules)
     × (contains_key documents name ≡ false → remove documents name ≡ documents)
 
 -- where the entry of one pair is made, there is at most one rule more

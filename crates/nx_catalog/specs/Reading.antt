@@ -17,25 +17,25 @@ abbrev pub ◌>>=◌ : {A B : Type 0} → Option A → (A → Option B) → Opti
 read >>= next = option_and_then next read
 
 -- what a function returned, seen so, is what reading gives
-abbrev pub Gives : {X Y : Type 0} → (X → Y) → Option X → Option Y → Type 0
-Gives view None read = read ≡ None
-Gives view (Some x) read = read ≡ Some (view x)
+abbrev pub IsReadAs : {X Y : Type 0} → (X → Y) → Option X → Option Y → Type 0
+IsReadAs view None read = read ≡ None
+IsReadAs view (Some x) read = read ≡ Some (view x)
 
 -- a number, the highest byte first
-abbrev pub number_at : Width → List ℕ → Option (ℕ × List ℕ)
-number_at w bytes = if nat_lt (length bytes) (byte_len w) then None else Some (from_be_bytes w (take (byte_len w) bytes), drop (byte_len w) bytes)
+abbrev pub leading_number : Width → List ℕ → Option (ℕ × List ℕ)
+leading_number w bytes = if nat_lt (length bytes) (byte_len w) then None else Some (from_be_bytes w (take (byte_len w) bytes), drop (byte_len w) bytes)
 
 -- bytes behind their number
 unfoldable pub counted_at : List ℕ → Option (List ℕ × List ℕ)
 counted_at bytes = do
-  size ← number_at w16 bytes
+  size ← leading_number w16 bytes
   if nat_lt (length size.1) size.0 then None else Some (take size.0 size.1, drop size.0 size.1)
 
 unfoldable pub place_at : List ℕ → Option (DocEntry × List ℕ)
 place_at bytes = do
-  page ← number_at w32 bytes
-  slot ← number_at w16 page.1
-  nodes ← number_at w32 slot.1
+  page ← leading_number w32 bytes
+  slot ← leading_number w16 page.1
+  nodes ← leading_number w32 slot.1
   Some (record { root = record { page = page.0; slot = slot.0 }; nodes = nodes.0 }, nodes.1)
 
 unfoldable pub document_at : List ℕ → Option (Document × List ℕ)
@@ -77,11 +77,11 @@ rules_at = rising_at rule_at pair_cmp pair_of
 -- the documents behind their number
 unfoldable pub all_documents_at : List ℕ → Option (List Document × List ℕ)
 all_documents_at bytes = do
-  count ← number_at w32 bytes
+  count ← leading_number w32 bytes
   documents_at count.0 [] count.1
 
 -- the rules behind their number, which is at most so high
 unfoldable pub all_rules_at : List ℕ → Option (List Rule × List ℕ)
 all_rules_at bytes = do
-  count ← number_at w32 bytes
+  count ← leading_number w32 bytes
   if nat_lt most_rules count.0 then None else rules_at count.0 ([], []) count.1

@@ -8,7 +8,7 @@ use Rattle.nx_records.specs.declared.records.Records.{Records}
 use Rattle.nx_records.specs.declared.error.StoreError.TheVariants as store
 use Rattle.nx_matrix.specs.declared.rule.Rule.{Rule}
 use Rattle.nx_matrix.specs.declared.error.MatrixError.TheVariants as matrix
-use Rattle.nx_matrix.specs.Rules.{AreRules, SetsEntry, IsRefused}
+use Rattle.nx_matrix.specs.Rules.{AreRules, SetsEntry, IsRuleRefused}
 use Rattle.nx_catalog.specs.Catalog.{Contents, catalog_bytes}
 use Rattle.nx_catalog.specs.declared.saving.RuleError.{RuleError}
 use Rattle.nx_catalog.specs.declared.saving.RuleError.TheVariants.{TooManyRules, Store}
@@ -26,6 +26,6 @@ pub record FindsNoPage {D : Type 0} (d : Ghosts D) (contents : Contents) (rule :
 
 -- Why a rule wasn't made: no more fit, or the catalog with it wasn't saved.
 abbrev pub NotRuled : {D : Type 0} → Ghosts D → Contents → Rule → RuleError → Records → Records → D → D → Type 0
-NotRuled d contents rule TooManyRules old new before after = IsRefused contents.rules rule.parent rule.child rule.entry matrix.TooManyRules × RunsOn old new × KeepsSaved d old new before after
+NotRuled d contents rule TooManyRules old new before after = IsRuleRefused contents.rules rule.parent rule.child rule.entry matrix.TooManyRules × RunsOn old new × KeepsSaved d old new before after
 NotRuled d contents rule (Store store.Full) old new before after = FindsNoPage d contents rule old new before after
 NotRuled d contents rule (Store error) old new before after = NotChanged d (λ was. ⊥) 0 error old new before after

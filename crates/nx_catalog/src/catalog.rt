@@ -2,8 +2,7 @@
 ghost use Rattle.std.specs.Prelude.{◌≡◌, ◌⊎◌, ◌<◌, ◌≤◌, [], true, length, IsTrue, Some, MatchOption, OnOk, OnErr, slice_get};
 ghost use Rattle.std.specs.Borrow.{sem};
 ghost use Rattle.std.specs.FinMap.{empty, entries, get, insert, remove, contains_key};
-ghost use Rattle.nx_script.specs.Field.{is_document_name};
-ghost use Rattle.nx_catalog.specs.NameMap.{by_bytes};
+ghost use Rattle.nx_script.specs.Field.{is_document_name, by_bytes};
 
 use nx_hold::DocEntry;
 use nx_lists::NoMemory;
@@ -26,7 +25,7 @@ impl Model for Catalog {
     ghost use Rattle.nx_catalog.specs.Catalog.{Contents};
     ghost use Rattle.nx_catalog.specs.Codes.{contents_code};
     ghost use Rattle.nx_catalog.specs.NameMap.{map_in};
-    ghost use Rattle.nx_catalog.specs.Inside.{AreDocuments};
+    ghost use Rattle.nx_catalog.specs.Inside.{AreDocumentEntries};
 
     ghost Value = { Contents };
 
@@ -34,7 +33,7 @@ impl Model for Catalog {
 
     ghost view = { λ a. record { documents = map_in a.documents; rules = a.matrix } };
 
-    ghost invariant = { λ a. AreDocuments a.documents };
+    ghost invariant = { λ a. AreDocumentEntries a.documents };
 }
 
 /// A document's name, and where it stands.

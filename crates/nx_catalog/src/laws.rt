@@ -1,5 +1,5 @@
 //! What holds of catalogs and their bytes.
-ghost use Rattle.nx_catalog.specs.Laws.{OneCatalog, FirstCatalog, IsShort, LengthByNames, SetLengthens, RemoveShortens, RuleAdds};
+ghost use Rattle.nx_catalog.specs.Laws.{OneCatalog, FirstCatalog, CatalogIsShort, LengthByNames, SetLengthens, RemoveShortens, RuleAdds};
 
 /// No two catalogs have the same bytes.
 pub fn one_catalog()
@@ -13,7 +13,7 @@ pub fn first_catalog()
 
 /// A catalog has at most 8 bytes, 267 for each document, and 2,053 for each rule.
 pub fn catalog_is_short()
-    ensures { IsShort }
+    ensures { CatalogIsShort }
 {}
 
 /// How many bytes a catalog has depends on its names and labels alone.

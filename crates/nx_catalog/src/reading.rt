@@ -6,8 +6,8 @@ ghost use Rattle.std.specs.Ordering.{is_lt};
 ghost use Rattle.std.specs.BTreeMap.{IsOrdered};
 ghost use Rattle.nx_matrix.specs.Rules.{pair_cmp, most_rules};
 ghost use Rattle.nx_catalog.specs.Catalog.{Contents, IsCatalog};
-ghost use Rattle.nx_catalog.specs.NameMap.{vector_order, by_bytes};
-ghost use Rattle.nx_catalog.specs.Reading.{Gives, number_at, counted_at, place_at, document_at, documents_at, all_documents_at, entry_at, rule_at, rules_at, all_rules_at};
+ghost use Rattle.nx_script.specs.Field.{vector_order, by_bytes};
+ghost use Rattle.nx_catalog.specs.Reading.{IsReadAs, leading_number, counted_at, place_at, document_at, documents_at, all_documents_at, entry_at, rule_at, rules_at, all_rules_at};
 
 use crate::{Catalog, Named};
 use nx_hold::DocEntry;
@@ -47,7 +47,7 @@ fn read_documents(
     alloc: Global,
     bytes: &[u8],
 ) -> Result<Option<(BTreeMap<Vec<u8>, DocEntry>, &[u8])>, NoMemory>
-    ensures read { IfOk result (λ found. Gives (λ read. (by_bytes read.0.entries, read.1.now)) found (all_documents_at bytes.now)) }
+    ensures read { IfOk result (λ found. IsReadAs (λ read. (by_bytes read.0.entries, read.1.now)) found (all_documents_at bytes.now)) }
     ensures ordered { IfOk result (λ found. IfSome found (λ read. IsOrdered vector_order read.0)) }
 {
     let Some((count, rest)) = read_four(bytes) else {
@@ -62,7 +62,7 @@ fn documents_of(
     count: u32,
     bytes: &[u8],
 ) -> Result<Option<(BTreeMap<Vec<u8>, DocEntry>, &[u8])>, NoMemory>
-    ensures read { IfOk result (λ found. Gives (λ read. (by_bytes read.0.entries, read.1.now)) found (documents_at count [] bytes.now)) }
+    ensures read { IfOk result (λ found. IsReadAs (λ read. (by_bytes read.0.entries, read.1.now)) found (documents_at count [] bytes.now)) }
     ensures ordered { IfOk result (λ found. IfSome found (λ read. IsOrdered vector_order read.0)) }
 {
     let mut documents = BTreeMap::new(alloc);
@@ -86,7 +86,7 @@ fn documents_of(
 // The rules behind their number.
 #[tactic(auto, unfolding(crate::specs::Reading::all_rules_at))]
 fn read_rules(alloc: Global, bytes: &[u8]) -> Result<Option<(Matrix, &[u8])>, NoMemory>
-    ensures { IfOk result (λ found. Gives (λ read. (read.0, read.1.now)) found (all_rules_at bytes.now)) }
+    ensures { IfOk result (λ found. IsReadAs (λ read. (read.0, read.1.now)) found (all_rules_at bytes.now)) }
 {
     let Some((count, rest)) = read_four(bytes) else {
         return Ok(None);
@@ -100,7 +100,7 @@ fn read_rules(alloc: Global, bytes: &[u8]) -> Result<Option<(Matrix, &[u8])>, No
 // So many rules, in the order of their labels.
 fn rules_of(alloc: Global, count: u32, bytes: &[u8]) -> Result<Option<(Matrix, &[u8])>, NoMemory>
     requires { count ≤ most_rules }
-    ensures { IfOk result (λ found. Gives (λ read. (read.0, read.1.now)) found (rules_at count ([], []) bytes.now)) }
+    ensures { IfOk result (λ found. IsReadAs (λ read. (read.0, read.1.now)) found (rules_at count ([], []) bytes.now)) }
 {
     let mut matrix = Matrix::new(alloc);
     let mut last = Labels {
@@ -126,7 +126,7 @@ fn rules_of(alloc: Global, count: u32, bytes: &[u8]) -> Result<Option<(Matrix, &
 
 #[tactic(auto, unfolding(crate::specs::Reading::document_at))]
 fn read_document(bytes: &[u8]) -> Option<(Named<'_>, &[u8])>
-    ensures { Gives (λ read. ((read.0.name.now, read.0.entry), read.1.now)) result (document_at bytes.now) }
+    ensures { IsReadAs (λ read. ((read.0.name.now, read.0.entry), read.1.now)) result (document_at bytes.now) }
 {
     let (name, rest) = read_counted(bytes)?;
     let (entry, rest) = read_place(rest)?;
@@ -138,7 +138,7 @@ fn read_document(bytes: &[u8]) -> Option<(Named<'_>, &[u8])>
 
 #[tactic(auto, unfolding(crate::specs::Reading::place_at))]
 fn read_place(bytes: &[u8]) -> Option<(DocEntry, &[u8])>
-    ensures { Gives (λ read. (read.0, read.1.now)) result (place_at bytes.now) }
+    ensures { IsReadAs (λ read. (read.0, read.1.now)) result (place_at bytes.now) }
 {
     let (page, rest) = read_four(bytes)?;
     let (slot, rest) = read_two(rest)?;
@@ -169,7 +169,7 @@ impl Labels<'_> {
 
 #[tactic(auto, unfolding(crate::specs::Reading::rule_at))]
 fn read_rule(bytes: &[u8]) -> Option<(Labels<'_>, Entry, &[u8])>
-    ensures { Gives (λ read. (record { parent = read.0.parent.now; child = read.0.child.now; entry = read.1 }, read.2.now)) result (rule_at bytes.now) }
+    ensures { IsReadAs (λ read. (record { parent = read.0.parent.now; child = read.0.child.now; entry = read.1 }, read.2.now)) result (rule_at bytes.now) }
 {
     let (parent, rest) = read_counted(bytes)?;
     let (child, rest) = read_counted(rest)?;
@@ -182,7 +182,7 @@ fn read_rule(bytes: &[u8]) -> Option<(Labels<'_>, Entry, &[u8])>
 
 #[tactic(auto, unfolding(crate::specs::Reading::entry_at))]
 fn read_entry(bytes: &[u8]) -> Option<(Entry, &[u8])>
-    ensures { Gives (λ read. (read.0, read.1.now)) result (entry_at bytes.now) }
+    ensures { IsReadAs (λ read. (read.0, read.1.now)) result (entry_at bytes.now) }
 {
     match bytes {
         [1, rest @ ..] => Some((Entry::Standalone, rest)),
@@ -194,7 +194,7 @@ fn read_entry(bytes: &[u8]) -> Option<(Entry, &[u8])>
 // Bytes behind their number.
 #[tactic(auto, unfolding(crate::specs::Reading::counted_at))]
 fn read_counted(bytes: &[u8]) -> Option<(&[u8], &[u8])>
-    ensures { Gives (λ read. (read.0.now, read.1.now)) result (counted_at bytes.now) }
+    ensures { IsReadAs (λ read. (read.0.now, read.1.now)) result (counted_at bytes.now) }
 {
     let (size, rest) = read_two(bytes)?;
     let size = usize::from(size);
@@ -205,7 +205,7 @@ fn read_counted(bytes: &[u8]) -> Option<(&[u8], &[u8])>
 }
 
 fn read_two(bytes: &[u8]) -> Option<(u16, &[u8])>
-    ensures { Gives (λ read. (read.0, read.1.now)) result (number_at w16 bytes.now) }
+    ensures { IsReadAs (λ read. (read.0, read.1.now)) result (leading_number w16 bytes.now) }
 {
     if bytes.len() < 2 {
         return None;
@@ -215,7 +215,7 @@ fn read_two(bytes: &[u8]) -> Option<(u16, &[u8])>
 }
 
 fn read_four(bytes: &[u8]) -> Option<(u32, &[u8])>
-    ensures { Gives (λ read. (read.0, read.1.now)) result (number_at w32 bytes.now) }
+    ensures { IsReadAs (λ read. (read.0, read.1.now)) result (leading_number w32 bytes.now) }
 {
     if bytes.len() < 4 {
         return None;

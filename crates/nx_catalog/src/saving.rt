@@ -9,7 +9,7 @@ ghost use Rattle.nx_script.specs.Field.{is_document_name};
 ghost use Rattle.nx_script.specs.Rule.{HasLabels};
 ghost use Rattle.nx_hold.specs.declared.entry.DocEntry.{DocEntry};
 ghost use Rattle.nx_catalog.specs.NameMap.{map_in};
-ghost use Rattle.nx_catalog.specs.Inside.{AreDocuments};
+ghost use Rattle.nx_catalog.specs.Inside.{AreDocumentEntries};
 ghost use Rattle.nx_catalog.specs.Catalog.{Entries, IsCatalog, catalog_bytes};
 ghost use Rattle.nx_catalog.specs.Saving.{MakesRule, NotRuled};
 
@@ -122,7 +122,7 @@ impl Catalog {
         disk: &mut D,
         documents: BTreeMap<Vec<u8>, DocEntry>,
     ) -> Result<(), StoreError>
-        requires { AreDocuments documents }
+        requires { AreDocumentEntries documents }
         ensures still { IsStill D.Disk disk.old disk.new }
         ensures documents { OnOk result (self.new.documents ≡ map_in documents) }
         ensures rules { self.new.rules ≡ self.old.rules }
@@ -209,8 +209,8 @@ impl Catalog {
 
 // Puts another entry under a name that is there. It takes no memory.
 fn put_at(documents: &mut BTreeMap<Vec<u8>, DocEntry>, name: &[u8], entry: DocEntry)
-    requires { AreDocuments documents.old }
-    ensures are { AreDocuments documents.new }
+    requires { AreDocumentEntries documents.old }
+    ensures are { AreDocumentEntries documents.new }
     ensures put { contains_key (map_in documents.old) name.now ≡ true → map_in documents.new ≡ insert (map_in documents.old) name.now entry }
 {
     numbers_fit(entry.root.page, entry.root.slot, entry.nodes);
@@ -224,8 +224,8 @@ fn others(
     documents: &BTreeMap<Vec<u8>, DocEntry>,
     name: &[u8],
 ) -> Result<BTreeMap<Vec<u8>, DocEntry>, NoMemory>
-    requires { AreDocuments documents.now }
-    ensures are { IfOk result (λ left. AreDocuments left) }
+    requires { AreDocumentEntries documents.now }
+    ensures are { IfOk result (λ left. AreDocumentEntries left) }
     ensures left { IfOk result (λ left. map_in left ≡ remove (map_in documents.now) name.now) }
 {
     let mut left = documents.clone()?;

@@ -2,9 +2,10 @@
 ghost use Rattle.std.specs.Prelude.{◌≡◌, ◌<◌, ◌≤◌, ◌++◌, length, flat_map, All, IfOk, OnOk};
 ghost use Rattle.nx_matrix.specs.Rules.{AreRules, longest_label};
 ghost use Rattle.nx_script.specs.Rule.{HasLabels};
-ghost use Rattle.nx_catalog.specs.NameMap.{by_bytes};
-ghost use Rattle.nx_catalog.specs.Inside.{AreDocuments};
-ghost use Rattle.nx_catalog.specs.Catalog.{IsCatalog, catalog_bytes, counted, four, two, entry_byte, document_bytes, rule_bytes};
+ghost use Rattle.nx_script.specs.Field.{by_bytes};
+ghost use Rattle.nx_catalog.specs.Inside.{AreDocumentEntries};
+ghost use Rattle.nx_catalog.specs.Catalog.{IsCatalog, catalog_bytes, counted, entry_byte, document_bytes, rule_bytes};
+ghost use Rattle.nx_piece.specs.Encoding.{four_bytes, two_bytes};
 
 use crate::Catalog;
 use nx_hold::DocEntry;
@@ -32,8 +33,8 @@ impl Catalog {
 
 // The documents behind their number.
 fn push_documents(documents: &BTreeMap<Vec<u8>, DocEntry>, out: &mut Bytes) -> Result<(), NoMemory>
-    requires { AreDocuments documents.now }
-    ensures { OnOk result (out.new ≡ out.old ++ (four (length documents.now.entries) ++ flat_map document_bytes (by_bytes documents.now.entries))) }
+    requires { AreDocumentEntries documents.now }
+    ensures { OnOk result (out.new ≡ out.old ++ (four_bytes (length documents.now.entries) ++ flat_map document_bytes (by_bytes documents.now.entries))) }
 {
     push_four(documents.len() as u32, out)?;
     for (name, entry) in documents {
@@ -45,7 +46,7 @@ fn push_documents(documents: &BTreeMap<Vec<u8>, DocEntry>, out: &mut Bytes) -> R
 // The rules behind their number.
 fn push_rules(rules: &[Rule], out: &mut Bytes) -> Result<(), NoMemory>
     requires { AreRules rules.now }
-    ensures { OnOk result (out.new ≡ out.old ++ (four (length rules.now) ++ flat_map rule_bytes rules.now)) }
+    ensures { OnOk result (out.new ≡ out.old ++ (four_bytes (length rules.now) ++ flat_map rule_bytes rules.now)) }
 {
     push_four(rules.len() as u32, out)?;
     for rule in rules {
@@ -95,13 +96,13 @@ fn push_counted(bytes: &[u8], out: &mut Bytes) -> Result<(), NoMemory>
 }
 
 fn push_two(n: u16, out: &mut Bytes) -> Result<(), NoMemory>
-    ensures { OnOk result (out.new ≡ out.old ++ two n) }
+    ensures { OnOk result (out.new ≡ out.old ++ two_bytes n) }
 {
     out.extend_from_slice(&n.to_be_bytes())
 }
 
 fn push_four(n: u32, out: &mut Bytes) -> Result<(), NoMemory>
-    ensures { OnOk result (out.new ≡ out.old ++ four n) }
+    ensures { OnOk result (out.new ≡ out.old ++ four_bytes n) }
 {
     out.extend_from_slice(&n.to_be_bytes())
 }

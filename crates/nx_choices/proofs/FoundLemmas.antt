@@ -4,9 +4,9 @@ use Rattle.std.proofs.lemmas.List.{take_more}
 use Rattle.std.proofs.lemmas.Bool.{cases_lt}
 use Rattle.nx_choices.specs.declared.child.Field.TheVariants.{Least, Lean, Nearly}
 use Rattle.nx_choices.specs.declared.child.Child.{Child}
-use Rattle.nx_choices.specs.Choice.{Member, First, Second, Cell, Uncut, Interval, child_of, covered, intervals, numbers, numbers_of, left, count, IsAdmitted, leasts}
+use Rattle.nx_choices.specs.Choice.{Member, First, Second, Cell, Uncut, Interval, child_of, covered, choice_intervals, numbers, numbers_of, left, count, IsAdmitted, leasts}
 use Rattle.nx_choices.specs.Claim.{IsFieldSupported, IsSupported, IsExceeded}
-use Rattle.nx_choices.specs.Profile.{seconds, cost, count_of, IsAchievable, IsProfile, IsBudget, IsLeastLeft, IsCheapest, IsFirstLight, AreCounts, IsLeastWeight, IsExcess}
+use Rattle.nx_choices.specs.Profile.{seconds, cost, count_by_cost, IsAchievable, IsProfile, IsBudget, IsLeastLeft, IsCheapest, IsFirstLight, AreCounts, IsLeastWeight, IsExcess}
 use Rattle.nx_choices.proofs.ProfileLemmas.{listed_end}
 use Rattle.nx_choices.proofs.ChoiceLemmas.{wider}
 
@@ -25,7 +25,7 @@ members_number [] = refl
 members_number (First child ∷ members) = let ih = members_number members in omega arith
 members_number (Second child ∷ members) = let ih = members_number members in omega arith
 
-cells_number : (cells : List Cell) → intervals cells + numbers cells ≡ cost cells + leasts (covered cells)
+cells_number : (cells : List Cell) → choice_intervals cells + numbers cells ≡ cost cells + leasts (covered cells)
 cells_number [] = refl
 cells_number (Uncut child ∷ cells) = let ih = cells_number cells in omega arith
 cells_number (Interval member members ∷ cells) =
@@ -33,7 +33,7 @@ cells_number (Interval member members ∷ cells) =
     let a = leasts-append (map child_of (member ∷ members)) (covered cells) in omega arith
 
 -- the count of a choice, by what it costs
-pub count_is : (cells : List Cell) (children : List Child) → covered cells ≡ children → count cells ≡ count_of (leasts children) (length children) (cost cells)
+pub count_is : (cells : List Cell) (children : List Child) → covered cells ≡ children → count cells ≡ count_by_cost (leasts children) (length children) (cost cells)
 count_is cells children e =
     let n = cells_number cells in let l = ap leasts e in let len = ap length e in omega arith
 
@@ -72,7 +72,7 @@ pub left_some : (k room : ℕ) (children : List Child) (base : ℕ) (lefts : Lis
 left_some k room children base lefts most enough little p =
     (little, (p.tells most (get_or lefts (most - base) 0) little).1 (record { enough = enough; little = omega arith }), λ w small h. ((p.tells most w small).0 h).little)
 
-pub counted : (cells : List Cell) (children : List Child) (number sum : ℕ) → AreCounts children number sum → covered cells ≡ children → count cells ≡ count_of sum number (cost cells)
+pub counted : (cells : List Cell) (children : List Child) (number sum : ℕ) → AreCounts children number sum → covered cells ≡ children → count cells ≡ count_by_cost sum number (cost cells)
 counted cells children number sum a e = let n = a.many in let s = a.sums in let c = count_is cells children e in omega arith
 
 -- no choice has so small a count
@@ -111,13 +111,13 @@ excess_none own room children number sum most claimed budget some_left enough a 
 
 -- the first number of a bound
 
-pub least_supported : (own room : ℕ) (children : List Child) (bound : Child) (number sum cheapest : ℕ) → AreCounts children number sum → IsCheapest (own + room) room children cheapest → bound.least ≤ count_of sum number cheapest → IsFieldSupported (own + room) Least (record { own = own; children = children; bound = bound })
+pub least_supported : (own room : ℕ) (children : List Child) (bound : Child) (number sum cheapest : ℕ) → AreCounts children number sum → IsCheapest (own + room) room children cheapest → bound.least ≤ count_by_cost sum number cheapest → IsFieldSupported (own + room) Least (record { own = own; children = children; bound = bound })
 least_supported own room children bound number sum cheapest a h enough = λ cells admitted speaks.
     let c = counted cells children number sum a admitted.covers in let root = admitted.root in
     let within = admitted_within (own + room) own room children cells refl admitted in
     let le = h.least (cost cells) (wider (own + room) children (cost cells) (left cells) (cost cells) room (omega arith) (omega arith) within) in omega arith
 
-pub least_exceeded : (own room : ℕ) (children : List Child) (bound : Child) (number sum cheapest : ℕ) → AreCounts children number sum → IsCheapest (own + room) room children cheapest → count_of sum number cheapest < bound.least → IsExceeded (own + room) Least (record { own = own; children = children; bound = bound }) (count_of sum number cheapest)
+pub least_exceeded : (own room : ℕ) (children : List Child) (bound : Child) (number sum cheapest : ℕ) → AreCounts children number sum → IsCheapest (own + room) room children cheapest → count_by_cost sum number cheapest < bound.least → IsExceeded (own + room) Least (record { own = own; children = children; bound = bound }) (count_by_cost sum number cheapest)
 least_exceeded own room children bound number sum cheapest a h less =
     let e = h.enough in let c = counted e.cells children number sum a e.covers in let cheap = e.cheap in let little = e.little in
     let le = h.least (cost e.cells) (record { cells = e.cells; covers = e.covers; light = e.light; cheap = omega arith; little = e.little }) in

@@ -4,12 +4,12 @@ use Rattle.nx_choices.specs.declared.child.Child.{Child}
 use Rattle.nx_choices.specs.Choice.{count, left, IsAdmitted}
 use Rattle.nx_lists.specs.Least.{IsLeast}
 use Rattle.nx_choices.specs.Least.{IsLeastWithin}
-use Rattle.nx_choices.specs.Profile.{cost, count_of, AreCounts, IsBudget, IsCheapest, IsLeastLeft}
+use Rattle.nx_choices.specs.Profile.{cost, count_by_cost, AreCounts, IsBudget, IsCheapest, IsLeastLeft}
 use Rattle.nx_choices.proofs.ChoiceLemmas.{wider}
 use Rattle.nx_choices.proofs.FoundLemmas.{counted, admitted_within, least_weight}
 
 -- the least count
-pub fewest : (own room : ℕ) (children : List Child) (number sum cheapest least : ℕ) → AreCounts children number sum → IsCheapest (own + room) room children cheapest → least ≡ count_of sum number cheapest
+pub fewest : (own room : ℕ) (children : List Child) (number sum cheapest least : ℕ) → AreCounts children number sum → IsCheapest (own + room) room children cheapest → least ≡ count_by_cost sum number cheapest
     → IsLeast (IsAdmitted (own + room) own children) count least
 fewest own room children number sum cheapest least a h is =
     let e = h.enough in
@@ -43,10 +43,10 @@ lightest own room children number sum most budget some_left found a b l is =
     }
 
 -- there is a budget, and what is left by it
-pub budget_some : (own room : ℕ) (children : List Child) (number sum most cheapest : ℕ) → IsBudget sum number most None → count_of sum number cheapest ≤ most → ⊥
+pub budget_some : (own room : ℕ) (children : List Child) (number sum most cheapest : ℕ) → IsBudget sum number most None → count_by_cost sum number cheapest ≤ most → ⊥
 budget_some own room children number sum most cheapest b enough = let h = b cheapest in omega arith
 
-pub left_there : (own room : ℕ) (children : List Child) (number sum most cheapest budget : ℕ) → IsBudget sum number most (Some budget) → IsCheapest (own + room) room children cheapest → count_of sum number cheapest ≤ most
+pub left_there : (own room : ℕ) (children : List Child) (number sum most cheapest budget : ℕ) → IsBudget sum number most (Some budget) → IsCheapest (own + room) room children cheapest → count_by_cost sum number cheapest ≤ most
     → IsLeastLeft (own + room) room children budget None → ⊥
 left_there own room children number sum most cheapest budget b h enough l =
     l room (omega arith) (wider (own + room) children cheapest room budget room ((b cheapest).0 enough) (omega arith) h.enough)

@@ -6,7 +6,7 @@ use Rattle.std.proofs.lemmas.Bool.{cases_lt}
 use Rattle.nx_choices.specs.declared.child.Child.{Child}
 use Rattle.nx_choices.specs.Choice.{Member, First, Second, child_of, slots, interval_weight}
 use Rattle.nx_choices.specs.Profile.{second, seconds, IsInterval}
-use Rattle.nx_choices.specs.Lightest.{IsLightest, AreLightest, IsLengthened, IsAdded, IsSkipped}
+use Rattle.nx_choices.specs.Lightest.{IsLightest, AreLightest, IsLengthened, HasAddedChild, IsSkipped}
 
 record IsEnded (members : List Member) (children : List Child) (child : Child) : Type 0 where
   init : List Member
@@ -228,7 +228,7 @@ lengthened k children child extras fewest old new light a (inr longer) =
       all = λ index within. let e = get_or_append_left old ((last + child.nearly) ∷ []) 0 index within in let s = a.small index in omega arith;
     })
 
-updated_each : (k : ℕ) (children : List Child) (child : Child) (extras fewest number : ℕ) (old new : List ℕ) → Longer k children child extras fewest number old → IsAdded child fewest number old new → (most : ℕ) → most < length new → IsLightest k (children ++ child ∷ []) most (get_or new most 0)
+updated_each : (k : ℕ) (children : List Child) (child : Child) (extras fewest number : ℕ) (old new : List ℕ) → Longer k children child extras fewest number old → HasAddedChild child fewest number old new → (most : ℕ) → most < length new → IsLightest k (children ++ child ∷ []) most (get_or new most 0)
 updated_each k children child extras fewest number old new a u most within = elim (cases_lt most fewest) [
   | inl less ↦
       let f = a.fewest_within in
@@ -248,7 +248,7 @@ updated_each k children child extras fewest number old new a u most within = eli
   ]
 ]
 
-updated_small : (k : ℕ) (children : List Child) (child : Child) (extras fewest number : ℕ) (old new : List ℕ) → child.lean ≤ 256 → Longer k children child extras fewest number old → IsAdded child fewest number old new → (index : ℕ) → get_or new index 0 ≤ 256 * length children + 256
+updated_small : (k : ℕ) (children : List Child) (child : Child) (extras fewest number : ℕ) (old new : List ℕ) → child.lean ≤ 256 → Longer k children child extras fewest number old → HasAddedChild child fewest number old new → (index : ℕ) → get_or new index 0 ≤ 256 * length children + 256
 updated_small k children child extras fewest number old new light a u index = elim (cases_lt index fewest) [
   | inl less ↦ let e = u.kept index less in let s = a.small index in omega arith
   | inr from ↦ elim (cases_lt index number) [
@@ -263,7 +263,7 @@ updated_small k children child extras fewest number old new light a u index = el
 ]
 
 -- one child more
-pub lightest_added : (k : ℕ) (children : List Child) (child : Child) (extras fewest : ℕ) (old longer new : List ℕ) (next : ℕ) → child.lean ≤ 256 → child.nearly ≤ 256 → AreLightest k children extras old fewest → IsLengthened extras child old longer → IsAdded child fewest (length old) longer new → IsSkipped k new fewest next → AreLightest k (children ++ child ∷ []) extras new next
+pub lightest_added : (k : ℕ) (children : List Child) (child : Child) (extras fewest : ℕ) (old longer new : List ℕ) (next : ℕ) → child.lean ≤ 256 → child.nearly ≤ 256 → AreLightest k children extras old fewest → IsLengthened extras child old longer → HasAddedChild child fewest (length old) longer new → IsSkipped k new fewest next → AreLightest k (children ++ child ∷ []) extras new next
 lightest_added k children child extras fewest old longer new next lean nearly a l u s =
     let w = lengthened k children child extras fewest old longer nearly a l in
     let len = u.len in let more = length-append children (child ∷ []) in

@@ -13,7 +13,7 @@ use Rattle.nx_choices.specs.declared.profiles.Row.{Row}
 use Rattle.nx_choices.specs.Profile.{second, seconds, cost, last, left_at, lefts_of, IsCheapest, IsInterval, IsListed, IsRowOf, IsAchievable}
 use Rattle.nx_choices.specs.Lightest.{AreLightest}
 use Rattle.nx_choices.specs.Stand.{is_second, joins, stands, AddsChoice, HasChoice}
-use Rattle.nx_choices.specs.Walk.{opened, stand_at, AddsInterval, AreFormed, IsCutAt, IsFollowed, IsForm, IsFormOf, IsPartly, IsTried, IsUncut}
+use Rattle.nx_choices.specs.Walk.{opened_stands, stand_at, AddsInterval, AreFormed, IsCutAt, IsFollowed, IsForm, IsFormOfFirst, IsPartly, IsTried, IsUncut}
 use Rattle.nx_choices.proofs.ChoiceLemmas.{begins, wider, light_interval}
 use Rattle.nx_choices.proofs.FoundLemmas.{count_is}
 use Rattle.nx_choices.proofs.LightestLemmas.{fewest_some, fewest_least}
@@ -73,7 +73,7 @@ goes_uncut k children most room first walk next old new child before at same lit
     (sym (take_more children walk.at child before) ∙ ap (λ n. take n children) (sym at)) (tt, tt) (omega arith) (omega arith)
     (subst (λ n. IsAchievable k (drop n children) next.cost next.left) (sym at) (subst (λ n. IsAchievable k (drop (walk.at + 1) children) n next.left) (sym same) rest)) added
 
-opened_is : (members : List Member) (number : ℕ) → length members ≡ number → 1 ≤ number → (member : Member) × (others : List Member) × (members ≡ member ∷ others) × (opened number members ≡ stands (Interval member others ∷ []))
+opened_is : (members : List Member) (number : ℕ) → length members ≡ number → 1 ≤ number → (member : Member) × (others : List Member) × (members ≡ member ∷ others) × (opened_stands number members ≡ stands (Interval member others ∷ []))
 opened_is [] number len some = absurd (omega arith)
 opened_is (member ∷ members) number len some =
     (member, members, refl, ap (λ n. Opens n (is_second member) ∷ joins members) (sym len ∙ omega arith) ∙ sym (append-nil (Opens (1 + length members) (is_second member) ∷ joins members)))
@@ -164,7 +164,7 @@ joins_push : (members : List Member) (member : Member) → joins (members ++ mem
 joins_push [] member = refl
 joins_push (first ∷ members) member = ap (λ list. Joins (is_second first) ∷ list) (joins_push members member)
 
-opened_push : (number : ℕ) (members : List Member) (member : Member) → opened number (members ++ member ∷ []) ≡ opened number members ++ stand_at number (length members) (is_second member) ∷ []
+opened_push : (number : ℕ) (members : List Member) (member : Member) → opened_stands number (members ++ member ∷ []) ≡ opened_stands number members ++ stand_at number (length members) (is_second member) ∷ []
 opened_push number [] member = refl
 opened_push number (first ∷ members) member = ap (λ list. Opens number (is_second first) ∷ list) (joins_push members member)
 
@@ -189,8 +189,8 @@ formed_push k children extra at limit extra_left old new next child member limit
       few = omega arith;
       rest = rest;
       added = added ∙ ap (λ list. list ++ stand_at (length children) at (is_second member) ∷ []) f.added
-          ∙ append_assoc old (opened (length children) f.members) (stand_at (length children) at (is_second member) ∷ [])
-          ∙ ap (λ n. old ++ (opened (length children) f.members ++ stand_at (length children) n (is_second member) ∷ [])) (sym many)
+          ∙ append_assoc old (opened_stands (length children) f.members) (stand_at (length children) at (is_second member) ∷ [])
+          ∙ ap (λ n. old ++ (opened_stands (length children) f.members ++ stand_at (length children) n (is_second member) ∷ [])) (sym many)
           ∙ ap (λ list. old ++ list) (sym (opened_push (length children) f.members member));
     }
 
@@ -215,7 +215,7 @@ form_second limit children at extra child before f =
     let h = subst (λ (cs : List Child). IsForm limit cs extra false) (drop-cons children at child before) f in
     (h.0, h.1, subst (λ n. IsInterval (limit - (get_or children at child).nearly) (drop n children) (extra - 1)) e h.2)
 
-head_form : (limit : ℕ) (child : Child) (children : List Child) (extra : ℕ) (members : List Member) → map child_of members ≡ child ∷ children → seconds members ≤ extra → interval_weight members ≤ limit → IsFormOf limit child children extra true ⊎ IsFormOf limit child children extra false
+head_form : (limit : ℕ) (child : Child) (children : List Child) (extra : ℕ) (members : List Member) → map child_of members ≡ child ∷ children → seconds members ≤ extra → interval_weight members ≤ limit → IsFormOfFirst limit child children extra true ⊎ IsFormOfFirst limit child children extra false
 head_form limit child children extra [] e few light = absurd (cc)
 head_form limit child children extra (First other ∷ members) e few light =
     let same : other ≡ child = cc in let leans = ap (λ (c : Child). c.lean) same in

@@ -42,9 +42,9 @@ intervals_of (Uncut child) = 0
 intervals_of (Interval member members) = 1
 
 -- the intervals of a choice
-abbrev pub intervals : List Cell → ℕ
-intervals [] = 0
-intervals (cell ∷ cells) = intervals_of cell + intervals cells
+abbrev pub choice_intervals : List Cell → ℕ
+choice_intervals [] = 0
+choice_intervals (cell ∷ cells) = intervals_of cell + choice_intervals cells
 
 -- the numbers of all members
 abbrev pub numbers_of : List Member → ℕ
@@ -87,7 +87,7 @@ AreLight k (cell ∷ cells) = IsLight k cell × AreLight k cells
 
 -- the count of a choice: one interval, those of the choice, and those within each child but for its root's; one at least
 abbrev pub count : List Cell → ℕ
-count cells = max 1 ((1 + intervals cells + numbers cells) - length (covered cells))
+count cells = max 1 ((1 + choice_intervals cells + numbers cells) - length (covered cells))
 
 -- a choice over these children of a node that weighs `own`, none of whose parts weighs more than k
 pub record IsAdmitted (k own : ℕ) (children : List Child) (cells : List Cell) : Type 0 where

@@ -26,7 +26,7 @@ IsLengthened extras child old new =
     ⊎ ((child.nearly < child.lean) × (length old < extras) × (new ≡ old ++ (slice_index old (length old - 1) + child.nearly) ∷ []))
 
 -- The child was added to the first `number` weights, but for those before `fewest`.
-pub record IsAdded (child : Child) (fewest number : ℕ) (old new : List ℕ) : Type 0 where
+pub record HasAddedChild (child : Child) (fewest number : ℕ) (old new : List ℕ) : Type 0 where
   pub len : length new ≡ length old
   pub kept : (most : ℕ) → most < fewest → slice_index new most ≡ slice_index old most
   pub first : fewest ≡ 0 → slice_index new 0 ≡ slice_index old 0 + child.lean

@@ -123,13 +123,13 @@ IsDraftOf k room [] until base lefts = ⊥
 IsDraftOf k room (child ∷ children) until base lefts = IsDraft k room child children until base lefts
 
 -- the count of a choice with this cost over so many children with these numbers
-abbrev pub count_of : ℕ → ℕ → ℕ → ℕ
-count_of sum number most = max 1 ((1 + most + sum) - number)
+abbrev pub count_by_cost : ℕ → ℕ → ℕ → ℕ
+count_by_cost sum number most = max 1 ((1 + most + sum) - number)
 
 -- what choices with a count of at most `most` may cost, if there may be any
 abbrev pub IsBudget : ℕ → ℕ → ℕ → Option ℕ → Type 0
-IsBudget sum number most None = (cost : ℕ) → most < count_of sum number cost
-IsBudget sum number most (Some budget) = (cost : ℕ) → count_of sum number cost ≤ most ↔ cost ≤ budget
+IsBudget sum number most None = (cost : ℕ) → most < count_by_cost sum number cost
+IsBudget sum number most (Some budget) = (cost : ℕ) → count_by_cost sum number cost ≤ most ↔ cost ≤ budget
 
 -- the least that is left by choices of at most this cost, where it is at most `room`
 abbrev pub IsLeastLeft : ℕ → ℕ → List Child → ℕ → Option ℕ → Type 0

@@ -38,13 +38,13 @@ IsTried k members others most w extras (Some extra) =
     IsInterval k members extra × (1 + extra ≤ most) × IsAchievable k others (most - (1 + extra)) w
 
 -- whether the first of these members may be in its first form; otherwise it may be in its second
-abbrev pub IsFormOf : ℕ → Child → List Child → ℕ → Bool → Type 0
-IsFormOf limit child children extra true = (child.lean ≤ limit) × IsInterval (limit - child.lean) children extra
-IsFormOf limit child children extra false = (child.nearly ≤ limit) × (1 ≤ extra) × IsInterval (limit - child.nearly) children (extra - 1)
+abbrev pub IsFormOfFirst : ℕ → Child → List Child → ℕ → Bool → Type 0
+IsFormOfFirst limit child children extra true = (child.lean ≤ limit) × IsInterval (limit - child.lean) children extra
+IsFormOfFirst limit child children extra false = (child.nearly ≤ limit) × (1 ≤ extra) × IsInterval (limit - child.nearly) children (extra - 1)
 
 abbrev pub IsForm : ℕ → List Child → ℕ → Bool → Type 0
 IsForm limit [] extra first = ⊥
-IsForm limit (child ∷ children) extra first = IsFormOf limit child children extra first
+IsForm limit (child ∷ children) extra first = IsFormOfFirst limit child children extra first
 
 -- how a member of an interval with `number` members stands behind so many others
 abbrev pub stand_at : ℕ → ℕ → Bool → Stand
@@ -52,9 +52,9 @@ stand_at number zero second = Opens number second
 stand_at number (suc at) second = Joins second
 
 -- how the first members of an interval with `number` members stand
-abbrev pub opened : ℕ → List Member → List Stand
-opened number [] = []
-opened number (member ∷ members) = Opens number (is_second member) ∷ joins members
+abbrev pub opened_stands : ℕ → List Member → List Stand
+opened_stands number [] = []
+opened_stands number (member ∷ members) = Opens number (is_second member) ∷ joins members
 
 -- The first `at` members of an interval have their forms, and are told; the others may be an interval with what is left.
 pub record AreFormed (k : ℕ) (children : List Child) (extra at limit left_extra : ℕ) (old new : List Stand) : Type 0 where
@@ -63,7 +63,7 @@ pub record AreFormed (k : ℕ) (children : List Child) (extra at limit left_extr
   pub light : interval_weight members + limit ≤ k
   pub few : seconds members + left_extra ≤ extra
   pub rest : IsInterval limit (drop at children) left_extra
-  pub added : new ≡ old ++ opened (length children) members
+  pub added : new ≡ old ++ opened_stands (length children) members
 
 -- an interval of these children is told
 pub record AddsInterval (k : ℕ) (children : List Child) (extra : ℕ) (old new : List Stand) : Type 0 where
@@ -71,7 +71,7 @@ pub record AddsInterval (k : ℕ) (children : List Child) (extra : ℕ) (old new
   pub covers : map child_of members ≡ children
   pub light : interval_weight members ≤ k
   pub few : seconds members ≤ extra
-  pub added : new ≡ old ++ opened (length children) members
+  pub added : new ≡ old ++ opened_stands (length children) members
 
 -- the children are cut as a choice does, which is told
 pub record IsFollowed (k : ℕ) (children : List Child) (most room : ℕ) (old new : List Stand) : Type 0 where

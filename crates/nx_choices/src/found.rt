@@ -3,7 +3,7 @@ ghost use Rattle.std.specs.Prelude.{◌≡◌, ℕ, ◌+◌, ◌<◌, ◌≤◌,
 ghost use Rattle.nx_choices.specs.Choice.{leasts};
 ghost use Rattle.nx_choices.specs.Claim.{FindsExceeded};
 ghost use Rattle.nx_choices.specs.Least.{IsLeastChoice, IsLeastWithin};
-ghost use Rattle.nx_choices.specs.Profile.{count_of, AreCounts, IsBudget, IsCheapest, IsExcess, IsLeastLeft, IsProfile};
+ghost use Rattle.nx_choices.specs.Profile.{count_by_cost, AreCounts, IsBudget, IsCheapest, IsExcess, IsLeastLeft, IsProfile};
 
 use crate::profile::{Profile, first_at_most, get_or_zero};
 use crate::{Child, Field};
@@ -49,7 +49,7 @@ impl Counts {
     // The count of a choice with this cost.
     fn count(self, cost: u32) -> u64
         requires { self.sum ≤ 2 ^ 63 }
-        ensures { result ≡ count_of self.sum self.number cost }
+        ensures { result ≡ count_by_cost self.sum self.number cost }
     {
         (1 + u64::from(cost) + self.sum)
             .saturating_sub(self.number)
@@ -148,7 +148,7 @@ impl Profile {
         requires sum { parent.counts.sum ≤ 2 ^ 63 }
         requires number { parent.counts.number < 2 ^ 31 }
         requires most { most ≤ 2 ^ 32 }
-        ensures { (children : List Child) (cheapest : ℕ) → IsProfile (parent.own + parent.room) parent.room children self.now.base self.now.lefts.items → AreCounts children parent.counts.number parent.counts.sum → IsCheapest (parent.own + parent.room) parent.room children cheapest → count_of parent.counts.sum parent.counts.number cheapest ≤ most → IsLeastWithin (parent.own + parent.room) parent.own children most result }
+        ensures { (children : List Child) (cheapest : ℕ) → IsProfile (parent.own + parent.room) parent.room children self.now.base self.now.lefts.items → AreCounts children parent.counts.number parent.counts.sum → IsCheapest (parent.own + parent.room) parent.room children cheapest → count_by_cost parent.counts.sum parent.counts.number cheapest ≤ most → IsLeastWithin (parent.own + parent.room) parent.own children most result }
     {
         let Some(budget) = parent.counts.budget(most) else {
             return parent.own;

@@ -1,7 +1,7 @@
 // The lightest intervals of the first children, by how many of them are in their second form.
 ghost use Rattle.std.specs.Prelude.{◌≡◌, ℕ, ◌+◌, ◌*◌, ◌^◌, ◌<◌, ◌≤◌, List, [], ◌∷◌, ◌++◌, length, slice_index, OnOk};
 ghost use Rattle.nx_choices.specs.Choice.{AreWeighed};
-ghost use Rattle.nx_choices.specs.Lightest.{AreLightest, IsAdded, IsFewest, IsLengthened, IsSkipped};
+ghost use Rattle.nx_choices.specs.Lightest.{AreLightest, HasAddedChild, IsFewest, IsLengthened, IsSkipped};
 
 use crate::Child;
 use nx_lists::NoMemory;
@@ -93,7 +93,7 @@ impl Lightest {
         requires some { 1 ≤ number }
         requires small { (index : ℕ) → index < number → slice_index self.old.weights.items index ≤ 2 ^ 31 }
         ensures fewest { self.new.fewest ≡ self.old.fewest }
-        ensures weights { IsAdded child.now self.old.fewest number self.old.weights.items self.new.weights.items }
+        ensures weights { HasAddedChild child.now self.old.fewest number self.old.weights.items self.new.weights.items }
     {
         let lean = child.lean;
         let nearly = child.nearly;

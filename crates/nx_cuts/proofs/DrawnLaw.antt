@@ -14,7 +14,7 @@ use Rattle.nx_parts.specs.declared.interval.Interval.TheVariants.{Root, Run}
 use Rattle.nx_parts.specs.Partitioning as parts
 use Rattle.nx_parts.specs.Partitioning.{has_member, ShareMember, is_in_tree, holder, IsFeasible, IsPartitioning}
 use Rattle.nx_parts.proofs.Owned.{is_place, owned}
-use Rattle.nx_parts.proofs.OwnerLemmas.{part_weight-walk}
+use Rattle.nx_parts.proofs.OwnerLemmas.{owned_weight-walk}
 use Rattle.nx_cuts.specs.Cut.{CutForest, Bare, Grown, Kept, CutTree, forest, intervals, cuts, part_weight, AreParts, tree_of, parts_of}
 use Rattle.nx_cuts.specs.Law.{IsCut}
 use Rattle.nx_cuts.proofs.FeasibleLemmas.{reaches_child, weight_at, weight-above, owned-drawn, agrees-drawn, Agrees, from, le_or, or_nothing, top_nothing, length-intervals}
@@ -91,12 +91,12 @@ light_parts k big base (Kept u m s) h w =
 
 -- what the interval with a number owns
 pub part_is : (k : ℕ) (t : CutTree) (index : ℕ) → AreParts k t.below
-    → parts.part_weight (tree_of t) (parts_of t) index ≡ (if is_place index (Some 0) then weight t.node else 0) + ((if is_place index (Some 0) then part_weight t.below else 0) + weight_at index 1 t.below)
+    → parts.owned_weight (tree_of t) (parts_of t) index ≡ (if is_place index (Some 0) then weight t.node else 0) + ((if is_place index (Some 0) then part_weight t.below else 0) + weight_at index 1 t.below)
 part_is k t index h =
     let ps = parts_of t in
     let agrees : Agrees (holder ps) None 1 [] 0 t.below = λ p rest low high. position_from-zero (λ x. has_member x (p ∷ rest)) ps ∙ sym (ap (option_or (from (p ∷ rest) 1 (intervals [] 0 t.below))) (top_nothing rest) ∙ or_nothing (from (p ∷ rest) 1 (intervals [] 0 t.below))) in
     let root : holder ps [] ≡ Some 0 = position_from-zero (λ x. has_member x []) ps in
-    part_weight-walk (tree_of t) ps index ∙ ap (λ (o : Option ℕ). (if is_place index o then weight t.node else 0) + owned ps index o [] 0 (forest t.below)) root
+    owned_weight-walk (tree_of t) ps index ∙ ap (λ (o : Option ℕ). (if is_place index o then weight t.node else 0) + owned ps index o [] 0 (forest t.below)) root
     ∙ ap (λ n. (if is_place index (Some 0) then weight t.node else 0) + n) (owned-drawn ps index None (Some 0) 1 [] 0 t.below (agrees-drawn k (holder ps) None 1 [] 0 t.below h agrees))
 
 below_part : (b c : Bool) (x y z w k : ℕ) → w ≡ (if b then x else 0) + ((if c then y else 0) + z) → w ≤ k → z ≤ k
@@ -107,14 +107,14 @@ cut_it k tree ps f t big same perm heavy form =
     let qs = parts_of t in
     let dq : AreDistinct qs = distinct (tree_of t) qs (drawn_feasible big t heavy form).partitioning in
     let dp = distinct tree ps f.partitioning in
-    let each : (index : ℕ) → index < length qs → parts.part_weight (tree_of t) qs index ≤ k = λ index low.
+    let each : (index : ℕ) → index < length qs → parts.owned_weight (tree_of t) qs index ≤ k = λ index low.
     let w = same_weight tree qs ps dq dp perm index low in let l = f.light w.0 w.1 in
-    subst (λ u. parts.part_weight u qs index ≤ k) (sym same) (let e = w.2 in omega arith) in
+    subst (λ u. parts.owned_weight u qs index ≤ k) (sym same) (let e = w.2 in omega arith) in
     let n : length (intervals [] 0 t.below) ≡ cuts t.below = length-intervals [] 0 t.below in
     let all : (index : ℕ) → weight_at index 1 t.below ≤ k = λ index.
     elim (le_or index (1 + cuts t.below)) [
       | inl l ↦ let e = each index (omega arith) in let p = part_is big t index form in
-          below_part (is_place index (Some 0)) (is_place index (Some 0)) (weight t.node) (part_weight t.below) (weight_at index 1 t.below) (parts.part_weight (tree_of t) qs index) k p e
+          below_part (is_place index (Some 0)) (is_place index (Some 0)) (weight t.node) (part_weight t.below) (weight_at index 1 t.below) (parts.owned_weight (tree_of t) qs index) k p e
       | inr l ↦ let z = weight-above index 1 t.below l in omega (arith, z)
     ] in
     let node : weight t.node ≡ weight tree.node = ap (λ (u : OrderedTree). weight u.node) same in

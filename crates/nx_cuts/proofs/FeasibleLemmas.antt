@@ -13,7 +13,7 @@ use Rattle.nx_parts.specs.declared.interval.Interval.TheVariants.{Run}
 use Rattle.nx_parts.specs.Partitioning as parts
 use Rattle.nx_parts.specs.Partitioning.{has_member, is_child_path, holder, IsFeasible, IsPartitioning}
 use Rattle.nx_parts.proofs.Owned.{is_place, owned}
-use Rattle.nx_parts.proofs.OwnerLemmas.{part_weight-walk}
+use Rattle.nx_parts.proofs.OwnerLemmas.{owned_weight-walk}
 use Rattle.nx_cuts.specs.Cut.{CutForest, Bare, Grown, Kept, CutTree, joined, forest, width, intervals, cuts, part_weight, AreFree, AreParts, tree_of, parts_of}
 use Rattle.nx_cuts.proofs.PairLemmas.{both, weaker}
 
@@ -319,12 +319,12 @@ light k (suc index) t w h all below x y =
     omega (arith, x, y, z, a, b)
 
 -- no part of a tree with its intervals drawn in outweighs k
-pub drawn_light : (k : ℕ) (t : CutTree) → weight t.node + part_weight t.below ≤ k → AreParts k t.below → (index : ℕ) → parts.part_weight (tree_of t) (parts_of t) index ≤ k
+pub drawn_light : (k : ℕ) (t : CutTree) → weight t.node + part_weight t.below ≤ k → AreParts k t.below → (index : ℕ) → parts.owned_weight (tree_of t) (parts_of t) index ≤ k
 drawn_light k t w h index =
     let ps = parts_of t in
     let agrees : Agrees (holder ps) None 1 [] 0 t.below = λ p rest low high. position_from-zero (λ x. has_member x (p ∷ rest)) ps ∙ sym (ap (option_or (from (p ∷ rest) 1 (intervals [] 0 t.below))) (top_nothing rest) ∙ or_nothing (from (p ∷ rest) 1 (intervals [] 0 t.below))) in
     let root : holder ps [] ≡ Some 0 = position_from-zero (λ x. has_member x []) ps in
-    let x : parts.part_weight (tree_of t) ps index ≡ (if is_place index (Some 0) then weight t.node else 0) + owned ps index (Some 0) [] 0 (forest t.below) =
-    part_weight-walk (tree_of t) ps index ∙ ap (λ (o : Option ℕ). (if is_place index o then weight t.node else 0) + owned ps index o [] 0 (forest t.below)) root in
+    let x : parts.owned_weight (tree_of t) ps index ≡ (if is_place index (Some 0) then weight t.node else 0) + owned ps index (Some 0) [] 0 (forest t.below) =
+    owned_weight-walk (tree_of t) ps index ∙ ap (λ (o : Option ℕ). (if is_place index o then weight t.node else 0) + owned ps index o [] 0 (forest t.below)) root in
     let y = owned-drawn ps index None (Some 0) 1 [] 0 t.below (agrees-drawn k (holder ps) None 1 [] 0 t.below h agrees) in
     light k index t w h _ _ x y

@@ -24,8 +24,8 @@ root_weight-drawn k t h =
     let root : holder ps [] ≡ Some 0 = position_from-zero (λ x. has_member x []) ps in
     let none = weight-below 0 1 t.below (omega arith) in
     let first = part_is k t 0 h in
-    let sum : parts.part_weight (tree_of t) ps 0 ≡ weight t.node + part_weight t.below = omega (arith, first, none) in
-    ap (λ (o : Option ℕ). option_map_or (parts.part_weight (tree_of t) ps) o 0) root ∙ sum
+    let sum : parts.owned_weight (tree_of t) ps 0 ≡ weight t.node + part_weight t.below = omega (arith, first, none) in
+    ap (λ (o : Option ℕ). option_map_or (parts.owned_weight (tree_of t) ps) o 0) root ∙ sum
 
 -- A feasible partitioning drawn in: as many intervals, and the same weight of the root's part.
 pub record IsSame (k : ℕ) (tree : OrderedTree) (parts : List Interval) : Type 0 where

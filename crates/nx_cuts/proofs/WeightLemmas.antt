@@ -12,7 +12,7 @@ use Rattle.nx_tree.specs.Forest.{OrderedTree}
 use Rattle.nx_weights.specs.Weight.{weight, listed}
 use Rattle.nx_parts.specs.declared.interval.Interval.{Interval}
 use Rattle.nx_parts.specs.declared.interval.Interval.TheVariants.{Root}
-use Rattle.nx_parts.specs.Partitioning.{has_member, ShareMember, holder, prefixes, owner, owns, part_weight, root_weight}
+use Rattle.nx_parts.specs.Partitioning.{has_member, ShareMember, holder, prefixes, owner, owns, owned_weight, root_weight}
 use Rattle.nx_parts.proofs.HolderLemmas.{position-None}
 use Rattle.nx_cuts.proofs.FeasibleLemmas.{le_or, no_truth}
 
@@ -101,13 +101,13 @@ sums f g (x ∷ xs) e =
 
 -- the part of an interval weighs the same in both lists
 pub same_weight : (tree : OrderedTree) (qs ps : List Interval) → AreDistinct qs → AreDistinct ps → IsPermutation qs ps → (a : ℕ) → a < length qs
-    → (b : ℕ) × (b < length ps) × (part_weight tree qs a ≡ part_weight tree ps b)
+    → (b : ℕ) × (b < length ps) × (owned_weight tree qs a ≡ owned_weight tree ps b)
 same_weight tree qs ps dq dp p a h =
     let o = other_place qs ps p a h in
     (o.0, o.1, sums (λ x. owns qs a x.0) (λ x. owns ps o.0 x.0) (listed tree) (λ x. owned_alike qs ps dq dp a o.0 (h, o.1, o.2) (owner qs x.0) (owner ps x.0) (owners qs ps dp p (prefixes x.0) None None tt)))
 
 same_if : (tree : OrderedTree) (qs ps : List Interval) → AreDistinct qs → AreDistinct ps → IsPermutation qs ps → (o r : Option ℕ) → Matches qs ps o r
-    → option_map_or (part_weight tree qs) o 0 ≡ option_map_or (part_weight tree ps) r 0
+    → option_map_or (owned_weight tree qs) o 0 ≡ option_map_or (owned_weight tree ps) r 0
 same_if tree qs ps dq dp p None None m = refl
 same_if tree qs ps dq dp p None (Some b) m = absurd m
 same_if tree qs ps dq dp p (Some a) None m = absurd m

@@ -17,7 +17,7 @@ use Rattle.nx_cuts.proofs.WeightLemmas.{AreDistinct}
 use Rattle.nx_layouts.specs.Layout.{Layout, without_places}
 use Rattle.nx_layouts.specs.Replace.{joined_layout}
 use Rattle.nx_sketch.specs.Sketch.{Placed}
-use Rattle.nx_sketch.specs.Plan.{IsInside, IsPlan}
+use Rattle.nx_sketch.specs.Plan.{IsInside, IsPlanOfPart}
 use Rattle.nx_split.specs.Piece.{asked_of_root}
 use Rattle.nx_build.specs.Marked as cut
 use Rattle.nx_build.proofs.HolderLemmas.{drawn_agrees, first_held}
@@ -82,7 +82,7 @@ other_draft index g h position (Stands r m s) f o = λ held. o (f (position ∷ 
 other_draft index g h position (Comes u m s) f o = λ held. o (f (position ∷ []) held)
 
 module _ (rules : List Rule) (parts olds : List Interval) (clear : Members (IsClear (holder olds) []) parts) (k : ℕ) where
-  draft_agrees : (own : Option ℕ) (base : ℕ) (path : List ℕ) (position : ℕ) (c : Draft (Unit {0})) → AreParts k (drawn_forest c) → cut.Agrees own (λ q. holder (parts ++ olds) (path ++ q)) position (drawn_forest c)
+  draft_agrees : (own : Option ℕ) (base : ℕ) (path : List ℕ) (position : ℕ) (c : Draft (Unit {0})) → AreParts k (drawn_forest c) → cut.AgreesWithHolder own (λ q. holder (parts ++ olds) (path ++ q)) position (drawn_forest c)
       → IsDrawn (holder olds) None base path position (without_places (layout_before c)) → IsHeldAs own (λ q. holder parts (path ++ q)) position c
   draft_agrees own base path position Ends p a d = tt
   draft_agrees own base path position (Grows n b s) p a d = (
@@ -146,7 +146,7 @@ helper : Node
 helper = record { kind = Text; name = []; content = [] }
 
 -- the marks of a plan, and its draft
-pub plan_agrees : (rules : List Rule) (above : Option Node) (limit : ℕ) (members : Layout) (parts : List Interval) → AreParts limit members → IsPlan (part_nodes rules above (without_places members)) parts → (made : IsDrafted limit members parts)
+pub plan_agrees : (rules : List Rule) (above : Option Node) (limit : ℕ) (members : Layout) (parts : List Interval) → AreParts limit members → IsPlanOfPart (part_nodes rules above (without_places members)) parts → (made : IsDrafted limit members parts)
     → IsHeldAs None (holder parts) 0 made.draft
 plan_agrees rules above limit members parts light plan made =
     let old = without_places members in

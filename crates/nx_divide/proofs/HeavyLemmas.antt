@@ -9,7 +9,7 @@ use Rattle.nx_cuts.specs.Cut.{Bare, Grown, Kept, joined, forest, width, part_wei
 use Rattle.nx_layouts.specs.Layout.{Layout, gap_more, piece_body, proxies_of}
 use Rattle.nx_layouts.proofs.LayoutLemmas.{proxies_counted}
 use Rattle.nx_layouts.proofs.ValidLemmas.{body_apart}
-use Rattle.nx_split.specs.Piece.{AreAtMost}
+use Rattle.nx_split.specs.Piece.{AreGappedAtMost}
 use Rattle.nx_drawn.specs.Growth.{PartIsAtMost}
 use Rattle.nx_drawn.proofs.GrowthLemmas.{width_light}
 use Rattle.nx_drawn.proofs.DividedLemmas.{heavier_parts}
@@ -23,7 +23,7 @@ free_trees Bare f = tt
 free_trees (Grown n b s) f = free_trees s f
 free_trees (Kept r m s) f = absurd f
 
-free_roots : (a : Layout) → AreFree a → gapped.width (piece_body a) ≡ width a
+free_roots : (a : Layout) → AreFree a → gapped.gapped_width (piece_body a) ≡ width a
 free_roots Bare f = refl
 free_roots (Grown n b s) f = omega (arith, free_roots s f)
 free_roots (Kept r m s) f = absurd f
@@ -71,12 +71,12 @@ many_few End = omega arith
 many_few (Grow n b s) = omega (arith, many_few b, many_few s)
 many_few (Gap count s) = omega (arith, many_few s)
 
-at_most-gap_more : (k : ℕ) (g : Gapped) → AreAtMost k g → AreAtMost k (gap_more g)
+at_most-gap_more : (k : ℕ) (g : Gapped) → AreGappedAtMost k g → AreGappedAtMost k (gap_more g)
 at_most-gap_more k End q = tt
 at_most-gap_more k (Grow n b s) q = q
 at_most-gap_more k (Gap count s) q = q
 
-nodes_at_most : (k : ℕ) (a : Layout) → PartIsAtMost k a → AreAtMost k (piece_body a)
+nodes_at_most : (k : ℕ) (a : Layout) → PartIsAtMost k a → AreGappedAtMost k (piece_body a)
 nodes_at_most k Bare q = tt
 nodes_at_most k (Grown n b s) q = (q.0, nodes_at_most k b q.1, nodes_at_most k s q.2)
 nodes_at_most k (Kept r m s) q = at_most-gap_more k (piece_body s) (nodes_at_most k s q)

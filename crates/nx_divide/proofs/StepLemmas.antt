@@ -202,10 +202,10 @@ module _ {D : Type 0} {d : Ghosts D} (marks : List Mark) {index position : ℕ} 
         put_refused {d = d} {r0 = r0} {r1 = r1} {x0 = x0} {x1 = x1} all_members.draft r2 x2 (piece_needs (piece_of (layout_after all_members.draft))) (draft_needs (Comes tt members Ends)) all_members.put (omega (arith, all, e1)) e
         (subst (λ (p : Piece). NotStored d (λ was. piece_needs p) (λ was. ⊥) 0 e r1 r2 x1 x2) gathered_is refused)
 
-    pub piece_put : (proxy : Proxy) (r2 : Records) (x2 : D) → AreFree (drawn_forest members) → proxy.roots ≡ gapped.width roots → RunsOn r1 r2 → KeepsSaved d r1 r2 x1 x2 → HasChanges r2 → IsStill d x1 x2
+    pub piece_put : (proxy : Proxy) (r2 : Records) (x2 : D) → AreFree (drawn_forest members) → proxy.roots ≡ gapped.gapped_width roots → RunsOn r1 r2 → KeepsSaved d r1 r2 x1 x2 → HasChanges r2 → IsStill d x1 x2
         → ComesTo d r1 r2 x1 x2 (λ was now. was.free ≤ now.free + piece_needs (gathered roots has)) → ComesTidy d r1 r2 x1 x2 (λ was now. AddsPiece (place_named proxy) (gathered roots has) was now) → PutsMembers d r0 r2 x0 x2 members proxy
     piece_put proxy r2 x2 free width runs keeps changes still takes adds =
-        puts_members {d = d} {r0 = r0} {r1 = r1} {r2 = r2} {x0 = x0} {x1 = x1} {x2 = x2} members all_members.draft proxy all_members.same all_members.put (width ∙ ap gapped.width all_members.body_is) free runs keeps changes still
+        puts_members {d = d} {r0 = r0} {r1 = r1} {r2 = r2} {x0 = x0} {x1 = x1} {x2 = x2} members all_members.draft proxy all_members.same all_members.put (width ∙ ap gapped.gapped_width all_members.body_is) free runs keeps changes still
         (subst (λ (p : Piece). ComesTo d r1 r2 x1 x2 (λ was now. was.free ≤ now.free + piece_needs p)) gathered_is takes)
         (subst (λ (p : Piece). ComesTidy d r1 r2 x1 x2 (λ was now. AddsPiece (place_named proxy) p was now)) gathered_is adds)
 
@@ -233,7 +233,7 @@ module _ {D : Type 0} {d : Ghosts D} (marks : List Mark) {index position : ℕ} 
 -- the call that puts the record of an interval, once its members were gathered
 module _ {D : Type 0} (d : Ghosts D) (marks : List Mark) (all left : Gapped) (whole olds : List Proxy) (first position : ℕ) (roots : Gapped) (has : List Proxy) (r0 r1 r2 : Records) (x0 x1 x2 : D)
     (walks : (members : Plan) (m : AreMarkedMembers (holder_by_marks marks) first all whole members) → WalksOn d (Some m.index) (holder_by_marks marks) position left olds members r0 r1 x0 x1 roots [] has) (none : left ≡ End) where
-  pub put_done : (r : Result Proxy StoreError) → IfOk r (λ proxy. proxy.roots ≡ gapped.width roots) → IfOk r (λ proxy. ComesTidy d r1 r2 x1 x2 (λ was now. AddsPiece (place_named proxy) (gathered roots has) was now))
+  pub put_done : (r : Result Proxy StoreError) → IfOk r (λ proxy. proxy.roots ≡ gapped.gapped_width roots) → IfOk r (λ proxy. ComesTidy d r1 r2 x1 x2 (λ was now. AddsPiece (place_named proxy) (gathered roots has) was now))
       → IfOk r (λ proxy. ComesTo d r1 r2 x1 x2 (λ was now. was.free ≤ now.free + piece_needs (gathered roots has))) → IfOk r (λ proxy. RunsOn r1 r2 × KeepsSaved d r1 r2 x1 x2 × (HasChanges r2)) → IsStill d x1 x2
       → IfOk r (λ proxy. (members : Plan) → AreMarkedMembers (holder_by_marks marks) first all whole members → PutsMembers d r0 r2 x0 x2 members proxy)
   put_done (Ok proxy) width adds takes keeps still = λ members m. piece_put {d = d} marks (walks members m) none proxy r2 x2 m.free width keeps.0 keeps.1 keeps.2 still takes adds

@@ -61,18 +61,18 @@ held-unmarked (Grows n b s) h = absurd h
 held-unmarked (Stands r m s) h = held-unmarked s h
 held-unmarked (Comes u m s) h = held-unmarked s h
 
-no_end : (roots : Gapped) → End ≡ roots → 1 ≤ gapped.width roots → ⊥
+no_end : (roots : Gapped) → End ≡ roots → 1 ≤ gapped.gapped_width roots → ⊥
 no_end End e some = omega (arith, some)
 no_end (Grow n b s) e some = cc
 no_end (Gap count s) e some = cc
 
-all_gap : (made : Draft RecordPlace) (c : Draft (Unit {0})) → unmarked made ≡ c → AreHeldAll c → (roots : Gapped) → piece_body (layout_before c) ≡ roots → 1 ≤ gapped.width roots → piece_body (layout_after made) ≡ Gap (draft_count made) End
+all_gap : (made : Draft RecordPlace) (c : Draft (Unit {0})) → unmarked made ≡ c → AreHeldAll c → (roots : Gapped) → piece_body (layout_before c) ≡ roots → 1 ≤ gapped.gapped_width roots → piece_body (layout_after made) ≡ Gap (draft_count made) End
 all_gap made c same held roots are some =
     let all : AreHeldAll made = held-unmarked made (subst AreHeldAll (sym same) held) in
     let n : 1 ≤ draft_count made = one_left made c same held roots are some in
     body-layout_after made ∙ (one_gap made all).1 n
   where
-    one_left : (made : Draft RecordPlace) (c : Draft (Unit {0})) → unmarked made ≡ c → AreHeldAll c → (roots : Gapped) → piece_body (layout_before c) ≡ roots → 1 ≤ gapped.width roots → 1 ≤ draft_count made
+    one_left : (made : Draft RecordPlace) (c : Draft (Unit {0})) → unmarked made ≡ c → AreHeldAll c → (roots : Gapped) → piece_body (layout_before c) ≡ roots → 1 ≤ gapped.gapped_width roots → 1 ≤ draft_count made
     one_left Ends c same held roots are some = absurd (no_end roots (ap (λ (x : Draft (Unit {0})). piece_body (layout_before x)) same ∙ are) some)
     one_left (Grows n b s) c same held roots are some = absurd (subst AreHeldAll (sym same) held)
     one_left (Stands r m s) c same held roots are some = omega arith
@@ -106,7 +106,7 @@ module _ (settings : Settings) (rules : List Rule) (above : Option Node) (most :
   }
 
 module _ {D : Type 0} (d : Ghosts D) (settings : Settings) (rules : List Rule) (above : Option Node) (most : settings.k ≤ 256) (piece : Piece) (parts : List Interval) (split : IsSplit settings.k (placed_of rules above piece) settings.target settings.tolerance parts)
-    (some : 1 ≤ gapped.width piece.body.roots) (r0 r1 : Records) (x0 x1 : D) where
+    (some : 1 ≤ gapped.gapped_width piece.body.roots) (r0 r1 : Records) (x0 x1 : D) where
   pub divides_ok : (r : Result (List Proxy) StoreError) → IfOk r (λ row. (drawn : Draft (Unit {0})) → IsMarkedDraft None (holder parts) 0 piece.body.roots piece.proxies drawn → (body : Gapped) × PutsRow d r0 r1 x0 x1 drawn body [] row)
       → IfOk r (λ row. (members : Layout) → piece_of members ≡ piece → AreParts settings.k members → DividesMembers d settings rules above r0 r1 x0 x1 members row)
   divides_ok (Err e) h = tt
@@ -230,7 +230,7 @@ no_kept : (r : RecordPlace) (rest : List RecordPlace) → r ∷ rest ≡ [] → 
 no_kept r rest e = cc
 
 -- where all roots are held by intervals that come, one comes
-pub one_comes : (made : Draft RecordPlace) (c : Draft (Unit {0})) → unmarked made ≡ c → AreHeldAll c → (roots : Gapped) → piece_body (layout_before c) ≡ roots → AreTrees roots → 1 ≤ gapped.width roots → came made ≡ [] → ⊥
+pub one_comes : (made : Draft RecordPlace) (c : Draft (Unit {0})) → unmarked made ≡ c → AreHeldAll c → (roots : Gapped) → piece_body (layout_before c) ≡ roots → AreTrees roots → 1 ≤ gapped.gapped_width roots → came made ≡ [] → ⊥
 one_comes Ends c same held roots are trees some e = no_end roots (ap (λ (x : Draft (Unit {0})). piece_body (layout_before x)) same ∙ are) some
 one_comes (Grows n b s) c same held roots are trees some e = subst AreHeldAll (sym same) held
 one_comes (Stands r m s) c same held roots are trees some e = no_trees (piece_body (layout_before (unmarked s))) (subst AreTrees (sym (ap (λ (x : Draft (Unit {0})). piece_body (layout_before x)) same' ∙ are)) trees)

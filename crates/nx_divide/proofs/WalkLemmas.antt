@@ -184,7 +184,7 @@ members_valid holder position items olds members draft m same few =
     (omega (arith, count, nodes, f, few)) in
     record { body = valid.0; ranged = valid.1 }
 
-free_width : (c : Draft RecordPlace) → AreFree (drawn_forest c) → gapped.width (draft_body c) ≡ width (drawn_forest c)
+free_width : (c : Draft RecordPlace) → AreFree (drawn_forest c) → gapped.gapped_width (draft_body c) ≡ width (drawn_forest c)
 free_width Ends free = refl
 free_width (Grows n d s) free = omega (arith, free_width s free)
 free_width (Stands r i s) free = absurd free
@@ -192,7 +192,7 @@ free_width (Comes u i s) free = absurd free
 
 module _ {D : Type 0} {d : Ghosts D} where
   -- the record of some members was put
-  pub puts_members : {r0 r1 r2 : Records} {x0 x1 x2 : D} (members : Plan) (draft : Draft RecordPlace) (proxy : Proxy) → unmarked draft ≡ members → ArePut d r0 r1 x0 x1 draft → proxy.roots ≡ gapped.width (draft_body draft) → AreFree (drawn_forest members)
+  pub puts_members : {r0 r1 r2 : Records} {x0 x1 x2 : D} (members : Plan) (draft : Draft RecordPlace) (proxy : Proxy) → unmarked draft ≡ members → ArePut d r0 r1 x0 x1 draft → proxy.roots ≡ gapped.gapped_width (draft_body draft) → AreFree (drawn_forest members)
       → RunsOn r1 r2 → KeepsSaved d r1 r2 x1 x2 → HasChanges r2 → IsStill d x1 x2
       → ComesTo d r1 r2 x1 x2 (λ was now. was.free ≤ now.free + piece_needs (piece_of (layout_after draft))) → ComesTidy d r1 r2 x1 x2 (λ was now. AddsPiece (place_named proxy) (piece_of (layout_after draft)) was now) → PutsMembers d r0 r2 x0 x2 members proxy
   puts_members {r0} {r1} {r2} {x0} {x1} {x2} members draft proxy same put roots free runs keeps changes still takes adds = record {

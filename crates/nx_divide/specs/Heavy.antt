@@ -5,7 +5,7 @@ use Rattle.nx_piece.specs.declared.piece.Piece.{Piece}
 use Rattle.nx_piece.specs.Valid.{IsPiece}
 use Rattle.nx_cuts.specs.Cut.{forest}
 use Rattle.nx_layouts.specs.Layout.{Layout, piece_of}
-use Rattle.nx_split.specs.Piece.{AreAtMost}
+use Rattle.nx_split.specs.Piece.{AreGappedAtMost}
 use Rattle.nx_drawn.specs.Growth.{MayBeHeavy}
 use Rattle.nx_divide.specs.Marked.{many}
 
@@ -13,7 +13,7 @@ use Rattle.nx_divide.specs.Marked.{many}
 pub record MayBeDivided (k : ℕ) (piece : Piece) : Type 0 where
   pub is : IsPiece piece
   pub few : many piece.body.roots ≤ 524288
-  pub nodes : AreAtMost k piece.body.roots
+  pub nodes : AreGappedAtMost k piece.body.roots
 
 -- The members of an interval whose part became too heavy by a node that comes or gets another content, in a document of at most 524,288 nodes, have a piece that may be divided.
 abbrev pub HeavyIsPiece : Type 0

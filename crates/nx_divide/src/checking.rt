@@ -4,7 +4,7 @@ ghost use Rattle.nx_weights.specs.Weight.{weight as node_weight};
 ghost use Rattle.nx_piece.specs.Gapped.{grown_of};
 ghost use Rattle.nx_piece.specs.Valid.{IsPiece};
 ghost use Rattle.nx_piece.specs.Weight.{HasShortNodes, HaveShortNodes};
-ghost use Rattle.nx_split.specs.Piece.{AreAtMost};
+ghost use Rattle.nx_split.specs.Piece.{AreGappedAtMost};
 ghost use Rattle.nx_divide.specs.Marked.{many};
 ghost use Rattle.nx_divide.specs.Heavy.{MayBeDivided};
 
@@ -24,7 +24,7 @@ pub fn may_be_divided(piece: &Piece, k: u32) -> bool
 // Whether no node of these trees weighs more than k.
 fn are_light(k: u32, trees: &[PieceTree]) -> bool
     requires { HaveShortNodes (grown_of trees.now) }
-    ensures { IsTrue result ↔ AreAtMost k (grown_of trees.now) }
+    ensures { IsTrue result ↔ AreGappedAtMost k (grown_of trees.now) }
 {
     for tree in trees {
         if !is_light(k, tree) {
@@ -37,7 +37,7 @@ fn are_light(k: u32, trees: &[PieceTree]) -> bool
 // Whether no node of the tree weighs more than k.
 fn is_light(k: u32, tree: &PieceTree) -> bool
     requires { HasShortNodes tree.now }
-    ensures { IsTrue result ↔ ((node_weight tree.now.node ≤ k) × AreAtMost k tree.now.below) }
+    ensures { IsTrue result ↔ ((node_weight tree.now.node ≤ k) × AreGappedAtMost k tree.now.below) }
 {
     if nx_weights::weight(&tree.node) > k {
         return false;

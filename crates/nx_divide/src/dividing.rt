@@ -13,7 +13,7 @@ ghost use Rattle.nx_piece.specs.Items.{gapped_of};
 ghost use Rattle.nx_piece.specs.Valid.{IsPiece};
 ghost use Rattle.nx_layouts.specs.Layout.{Layout, piece_of, proxies_of};
 ghost use Rattle.nx_layouts.specs.Replace.{kept_at, replaced_at};
-ghost use Rattle.nx_split.specs.Piece.{AreAtMost};
+ghost use Rattle.nx_split.specs.Piece.{AreGappedAtMost};
 ghost use Rattle.nx_drafts.specs.Draft.{Draft, draft_needs};
 ghost use Rattle.nx_drafts.specs.Rows.{above_at};
 ghost use Rattle.nx_divide.specs.Marked.{IsMarkedDraft, many};
@@ -55,7 +55,7 @@ pub fn divide<D: Disk>(
     requires piece { IsPiece piece }
     requires few { many piece.body.roots ≤ 524288 }
     requires heavy { (settings_of records.old).k < gapped_weight piece.body.roots }
-    requires nodes { AreAtMost (settings_of records.old).k piece.body.roots }
+    requires nodes { AreGappedAtMost (settings_of records.old).k piece.body.roots }
     ensures still { IsStill D.Disk disk.old disk.new }
     ensures ok { IfOk result (λ row. (members : Layout) → piece_of members ≡ piece → AreParts (settings_of records.old).k members →
         DividesMembers D.Disk (settings_of records.old) matrix.now (option_copied above.entry) records.old records.new disk.old disk.new members row) }
@@ -159,7 +159,7 @@ pub fn divide_at<D: Disk>(
     requires piece { IsPiece piece }
     requires few { many piece.body.roots ≤ 524288 }
     requires heavy { (settings_of records.old).k < gapped_weight piece.body.roots }
-    requires nodes { AreAtMost (settings_of records.old).k piece.body.roots }
+    requires nodes { AreGappedAtMost (settings_of records.old).k piece.body.roots }
     ensures still { IsStill D.Disk disk.old disk.new }
     ensures splits { IfOk result (λ row. (top : Option AnyNode) (index : ℕ) (whole members : Layout) → kept_at index whole ≡ Some members → piece_of members ≡ piece → above_at index top whole ≡ option_copied above.entry →
         AreParts (settings_of records.old).k (replaced_at index Bare whole) → AreParts (settings_of records.old).k members → index < length (proxies_of whole) →

@@ -12,7 +12,7 @@ use Rattle.nx_lists.proofs.ListLemmas.{contains_here, contains_there}
 use Rattle.nx_matrix.specs.declared.rule.Entry.{Entry}
 use Rattle.nx_matrix.specs.declared.rule.Entry.TheVariants.{Standalone, Cluster, Free}
 use Rattle.nx_sketch.specs.Sketch.{Sketch, Empty, Plant, Placed, placed, placed_in}
-use Rattle.nx_sketch.specs.Plan.{is_prefix, is_cluster, is_cluster_at, clusters_down, is_joined, component_weight, AreLight}
+use Rattle.nx_sketch.specs.Plan.{is_prefix, is_cluster, is_cluster_at, clusters_down, is_joined, component_weight, AreComponentsLight}
 use Rattle.nx_division.specs.Settled.{core, AreTopsLight}
 use Rattle.nx_division.proofs.PlanLemmas.{AreAmong}
 use Rattle.nx_division.proofs.CoreLemmas.{if_true, if_false}
@@ -90,7 +90,7 @@ not_cluster Standalone h = λ e. cc
 not_cluster Cluster h = absurd (cc)
 not_cluster Free h = λ e. cc
 
-own_top : (k : ℕ) (all front back : List Placed) (path : List ℕ) (p w : ℕ) (e : Entry) (b s : Sketch) → AreLight k all → all ≡ front ++ record { path = path ++ p ∷ []; weight = w; entry = e } ∷ (placed_in (path ++ p ∷ []) b ++ (placed_in path s ++ back)) → AreAmong (placed_in path (Plant p w e b s)) all
+own_top : (k : ℕ) (all front back : List Placed) (path : List ℕ) (p w : ℕ) (e : Entry) (b s : Sketch) → AreComponentsLight k all → all ≡ front ++ record { path = path ++ p ∷ []; weight = w; entry = e } ∷ (placed_in (path ++ p ∷ []) b ++ (placed_in path s ++ back)) → AreAmong (placed_in path (Plant p w e b s)) all
     → is_cluster e ≡ false → w + core true b ≤ k
 own_top k all front back path p w e b s light is among goes =
     let here = path ++ p ∷ [] in
@@ -107,7 +107,7 @@ own_top k all front back path p w e b s light is among goes =
     omega (arith, within, below, sum, mine)
 
 -- nothing that has to stay together is too heavy
-tops_in : (k : ℕ) (all front back : List Placed) (path : List ℕ) (s : Sketch) → AreLight k all → all ≡ front ++ (placed_in path s ++ back) → AreAmong (placed_in path s) all → AreTopsLight k true s
+tops_in : (k : ℕ) (all front back : List Placed) (path : List ℕ) (s : Sketch) → AreComponentsLight k all → all ≡ front ++ (placed_in path s ++ back) → AreAmong (placed_in path s) all → AreTopsLight k true s
 tops_in k all front back path Empty light is among = tt
 tops_in k all front back path (Plant p w e b s) light is among =
     let here = path ++ p ∷ [] in
@@ -122,5 +122,5 @@ tops_in k all front back path (Plant p w e b s) light is among =
       tops_in k all (front ++ node ∷ bs) back path s light rest (λ x c. among x (contains_there node (bs ++ ss) x (Contains-append_right bs ss x c))),
     )
 
-pub light_tops : (k : ℕ) (s : Sketch) → AreLight k (placed s) → AreTopsLight k true s
+pub light_tops : (k : ℕ) (s : Sketch) → AreComponentsLight k (placed s) → AreTopsLight k true s
 light_tops k s light = tops_in k (placed s) [] [] [] s light (sym (append-nil (placed s))) (λ x c. c)

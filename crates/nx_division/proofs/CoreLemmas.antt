@@ -2,17 +2,17 @@
 use Rattle.std.proofs.Common.{◌≡◌, ℕ, ◌+◌, ◌^◌, ◌<◌, ◌≤◌, Bool, true, false, ◌&&◌, if◌then◌else◌, List, [], refl, sym, ap, ◌∙◌, arith}
 use Rattle.nx_matrix.specs.declared.rule.Entry.{Entry}
 use Rattle.nx_sketch.specs.declared.spot.Spot.{Spot}
-use Rattle.nx_sketch.specs.Sketch.{Sketch, Empty, Plant, spots_of, total}
+use Rattle.nx_sketch.specs.Sketch.{Sketch, Empty, Plant, spots_of, sketch_weight}
 use Rattle.nx_sketch.specs.Sketch.{IsFlat}
 use Rattle.nx_division.specs.Parts.{IsParted}
 use Rattle.nx_sketch.specs.Plan.{is_cluster}
-use Rattle.nx_division.specs.Settled.{core, AreTopsLight, IsOwnLight, IsReady}
+use Rattle.nx_division.specs.Settled.{core, AreTopsLight, IsOwnLight, CanBeDrawn}
 
-pub core-total : (keep : Bool) (s : Sketch) → core keep s ≤ total s
-core-total keep Empty = omega arith
-core-total keep (Plant p w e b s) = by (keep && is_cluster e) (core-total keep b) (core-total keep s)
+pub core-sketch_weight : (keep : Bool) (s : Sketch) → core keep s ≤ sketch_weight s
+core-sketch_weight keep Empty = omega arith
+core-sketch_weight keep (Plant p w e b s) = by (keep && is_cluster e) (core-sketch_weight keep b) (core-sketch_weight keep s)
   where
-    by : (t : Bool) → core keep b ≤ total b → core keep s ≤ total s → (if t then w + core keep b else 0) + core keep s ≤ w + total b + total s
+    by : (t : Bool) → core keep b ≤ sketch_weight b → core keep s ≤ sketch_weight s → (if t then w + core keep b else 0) + core keep s ≤ w + sketch_weight b + sketch_weight s
     by true x y = omega arith
     by false x y = omega arith
 
@@ -53,25 +53,25 @@ core_goes keep spot below beside y in_beside goes (Plant p w e b s) h =
     let z = in_beside s h.beside_is in
     omega arith
 
-pub core_small : (keep : Bool) (spot : Spot) (below beside : List Spot) (x y : ℕ) → IsCore keep below x → IsCore keep beside y → (s : Sketch) → IsParted spot below beside s → total s < 2 ^ 24 → spot.weight + x + y < 2 ^ 24
+pub core_small : (keep : Bool) (spot : Spot) (below beside : List Spot) (x y : ℕ) → IsCore keep below x → IsCore keep beside y → (s : Sketch) → IsParted spot below beside s → sketch_weight s < 2 ^ 24 → spot.weight + x + y < 2 ^ 24
 core_small keep spot below beside x y in_below in_beside Empty h small = absurd h
 core_small keep spot below beside x y in_below in_beside (Plant p w e b s) h small =
-    omega (arith, in_below b h.below_is, in_beside s h.beside_is, core-total keep b, core-total keep s, h.weight)
+    omega (arith, in_below b h.below_is, in_beside s h.beside_is, core-sketch_weight keep b, core-sketch_weight keep s, h.weight)
 
-pub own_small : (keep : Bool) (spot : Spot) (below beside : List Spot) (x : ℕ) → IsCore keep below x → (s : Sketch) → IsParted spot below beside s → total s < 2 ^ 24 → spot.weight + x < 2 ^ 24
+pub own_small : (keep : Bool) (spot : Spot) (below beside : List Spot) (x : ℕ) → IsCore keep below x → (s : Sketch) → IsParted spot below beside s → sketch_weight s < 2 ^ 24 → spot.weight + x < 2 ^ 24
 own_small keep spot below beside x in_below Empty h small = absurd h
-own_small keep spot below beside x in_below (Plant p w e b s) h small = omega (arith, in_below b h.below_is, core-total keep b, h.weight)
+own_small keep spot below beside x in_below (Plant p w e b s) h small = omega (arith, in_below b h.below_is, core-sketch_weight keep b, h.weight)
 
 -- of the parts of a sketch that is ready
-pub flat_ready : (k : ℕ) (keep : Bool) (spots : List Spot) → IsReady k keep spots → IsFlat spots
+pub flat_ready : (k : ℕ) (keep : Bool) (spots : List Spot) → CanBeDrawn k keep spots → IsFlat spots
 flat_ready k keep spots h = record { sketch = h.sketch; is = h.is; small = h.small }
 
 module _ (k : ℕ) (keep : Bool) (spots : List Spot) (spot : Spot) (below beside : List Spot) where
-  pub below_ready : (s : Sketch) → IsParted spot below beside s → total s < 2 ^ 24 → AreTopsLight k keep s → IsReady k keep below
+  pub below_ready : (s : Sketch) → IsParted spot below beside s → sketch_weight s < 2 ^ 24 → AreTopsLight k keep s → CanBeDrawn k keep below
   below_ready Empty h small tops = absurd h
   below_ready (Plant p w e b s) h small tops = record { sketch = b; is = h.below_is; tops = tops.1; small = omega arith }
 
-  pub beside_ready : (s : Sketch) → IsParted spot below beside s → total s < 2 ^ 24 → AreTopsLight k keep s → IsReady k keep beside
+  pub beside_ready : (s : Sketch) → IsParted spot below beside s → sketch_weight s < 2 ^ 24 → AreTopsLight k keep s → CanBeDrawn k keep beside
   beside_ready Empty h small tops = absurd h
   beside_ready (Plant p w e b s) h small tops = record { sketch = s; is = h.beside_is; tops = tops.2; small = omega arith }
 
@@ -133,6 +133,6 @@ module _ (k : ℕ) (keep : Bool) (spot : Spot) (below beside : List Spot) where
   no_tops_beside never Empty h tops = absurd h
   no_tops_beside never (Plant p w e b s) h tops = never s h.beside_is tops.2
 
-pub own_weight : (spot : Spot) (below beside : List Spot) (s : Sketch) → IsParted spot below beside s → total s < 2 ^ 24 → spot.weight < 2 ^ 24
+pub own_weight : (spot : Spot) (below beside : List Spot) (s : Sketch) → IsParted spot below beside s → sketch_weight s < 2 ^ 24 → spot.weight < 2 ^ 24
 own_weight spot below beside Empty h small = absurd h
 own_weight spot below beside (Plant p w e b s) h small = omega (arith, h.weight)

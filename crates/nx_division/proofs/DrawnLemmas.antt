@@ -4,11 +4,11 @@ use Rattle.std.proofs.lemmas.List.{take-append-drop, length-take-le, length-drop
 use Rattle.nx_matrix.specs.declared.rule.Entry.{Entry}
 use Rattle.nx_parts.specs.declared.interval.Interval.{Interval}
 use Rattle.nx_sketch.specs.declared.spot.Spot.{Spot}
-use Rattle.nx_sketch.specs.Sketch.{Sketch, Empty, Plant, nodes, spots_of, total, IsFlat}
+use Rattle.nx_sketch.specs.Sketch.{Sketch, Empty, Plant, spot_count, spots_of, sketch_weight, IsFlat}
 use Rattle.nx_division.specs.declared.cut.Cut.{Cut}
 use Rattle.nx_division.specs.declared.cut.Cut.TheVariants.{Stays, Begins, GoesOn}
 use Rattle.nx_division.specs.Parts.{IsParted}
-use Rattle.nx_division.specs.Drawn.{Grown, drawn, left, goes, end_of, intervals, AreWeights, run_of}
+use Rattle.nx_division.specs.Drawn.{Grown, drawn, staying_weight, goes, end_position, drawn_intervals, AreWeights, run_of}
 use Rattle.nx_division.proofs.SpotLemmas.{drawn-parts, length-spots, take-front}
 use Rattle.nx_division.proofs.CoreLemmas.{no_spots}
 
@@ -48,19 +48,19 @@ cut_apart (c ∷ cuts) d below le = record {
 pub drawn_of : (cuts : List Cut) (cut : Cut) (xs ys : List Cut) (below : List Spot) (p w : ℕ) (e : Entry) (b s : Sketch) → AreCut cuts cut xs ys below → below ≡ spots_of b → drawn (Plant p w e b s) cuts ≡ Grown p w e cut (drawn b xs) (drawn s ys)
 drawn_of cuts cut xs ys below p w e b s h is = ap (drawn (Plant p w e b s)) h.cuts_are ∙ drawn-parts p w e b s cut xs ys (h.many ∙ ap length is ∙ length-spots b)
 
-pub left-total : (s : Sketch) (cuts : List Cut) → left (drawn s cuts) ≤ total s
-left-total Empty cuts = omega arith
-left-total (Plant p w e b s) [] = omega (arith, left-total b [], left-total s [])
-left-total (Plant p w e b s) (Stays ∷ cuts) = omega (arith, left-total b (take (nodes b) cuts), left-total s (drop (nodes b) cuts))
-left-total (Plant p w e b s) (Begins ∷ cuts) = omega (arith, left-total s (drop (nodes b) cuts))
-left-total (Plant p w e b s) (GoesOn ∷ cuts) = omega (arith, left-total s (drop (nodes b) cuts))
+pub staying_weight-sketch_weight : (s : Sketch) (cuts : List Cut) → staying_weight (drawn s cuts) ≤ sketch_weight s
+staying_weight-sketch_weight Empty cuts = omega arith
+staying_weight-sketch_weight (Plant p w e b s) [] = omega (arith, staying_weight-sketch_weight b [], staying_weight-sketch_weight s [])
+staying_weight-sketch_weight (Plant p w e b s) (Stays ∷ cuts) = omega (arith, staying_weight-sketch_weight b (take (spot_count b) cuts), staying_weight-sketch_weight s (drop (spot_count b) cuts))
+staying_weight-sketch_weight (Plant p w e b s) (Begins ∷ cuts) = omega (arith, staying_weight-sketch_weight s (drop (spot_count b) cuts))
+staying_weight-sketch_weight (Plant p w e b s) (GoesOn ∷ cuts) = omega (arith, staying_weight-sketch_weight s (drop (spot_count b) cuts))
 
-pub goes-total : (s : Sketch) (cuts : List Cut) → goes (drawn s cuts) ≤ total s
-goes-total Empty cuts = omega arith
-goes-total (Plant p w e b s) [] = omega arith
-goes-total (Plant p w e b s) (Stays ∷ cuts) = omega arith
-goes-total (Plant p w e b s) (Begins ∷ cuts) = omega arith
-goes-total (Plant p w e b s) (GoesOn ∷ cuts) = omega (arith, left-total b (take (nodes b) cuts), goes-total s (drop (nodes b) cuts))
+pub goes-sketch_weight : (s : Sketch) (cuts : List Cut) → goes (drawn s cuts) ≤ sketch_weight s
+goes-sketch_weight Empty cuts = omega arith
+goes-sketch_weight (Plant p w e b s) [] = omega arith
+goes-sketch_weight (Plant p w e b s) (Stays ∷ cuts) = omega arith
+goes-sketch_weight (Plant p w e b s) (Begins ∷ cuts) = omega arith
+goes-sketch_weight (Plant p w e b s) (GoesOn ∷ cuts) = omega (arith, staying_weight-sketch_weight b (take (spot_count b) cuts), goes-sketch_weight s (drop (spot_count b) cuts))
 
 -- what a call found of a list
 abbrev pub Weighs : List Spot → List Cut → ℕ → ℕ → ℕ → Type 0
@@ -99,13 +99,13 @@ module _ (spot : Spot) (below beside : List Spot) (cuts : List Cut) (cut : Cut) 
       (record { stays = j.stays; goes_on = (λ k. p.weight k + i.stays k + j.goes_on k); most = (λ k. max (i.most k) (j.most k)) })
 
   -- no sum of these is too great
-  pub weigh_small : (s : Sketch) → IsParted spot below beside s → total s < 2 ^ 24 → (spot.weight + l + m < 2 ^ 24) × (spot.weight + l + n < 2 ^ 24)
+  pub weigh_small : (s : Sketch) → IsParted spot below beside s → sketch_weight s < 2 ^ 24 → (spot.weight + l + m < 2 ^ 24) × (spot.weight + l + n < 2 ^ 24)
   weigh_small Empty p small = absurd p
   weigh_small (Plant q w e b s) p small =
       let i = inner b p.below_is in
       let j = others s p.beside_is in (
-        omega (arith, i.stays, j.stays, p.weight, left-total b xs, left-total s ys),
-        omega (arith, i.stays, j.goes_on, p.weight, left-total b xs, goes-total s ys),
+        omega (arith, i.stays, j.stays, p.weight, staying_weight-sketch_weight b xs, staying_weight-sketch_weight s ys),
+        omega (arith, i.stays, j.goes_on, p.weight, staying_weight-sketch_weight b xs, goes-sketch_weight s ys),
       )
 
 -- a list with its cuts, of which the first node is taken apart
@@ -127,49 +127,49 @@ sums_fit {l} {g} {h} {m} {n} {o} {spots} {cuts} {spot} {below} {beside} is inner
 
 -- where an interval ends that is gone on with
 abbrev pub EndsAt : List Spot → List Cut → ℕ → ℕ → Type 0
-EndsAt spots cuts last r = (s : Sketch) → spots ≡ spots_of s → r ≡ end_of last (drawn s cuts)
+EndsAt spots cuts last r = (s : Sketch) → spots ≡ spots_of s → r ≡ end_position last (drawn s cuts)
 
 pub end_none : (spots : List Spot) (cuts : List Cut) (last : ℕ) → spots ≡ [] → EndsAt spots cuts last last
 end_none spots cuts last none Empty is = refl
 end_none spots cuts last none (Plant p w e b s) is = absurd (no_spots spots p w e b s none is)
 
 module _ (spot : Spot) (below beside : List Spot) (cuts : List Cut) (cut : Cut) (xs ys : List Cut) (apart : AreCut cuts cut xs ys below) where
-  pub end_goes : (last r : ℕ) → cut ≡ GoesOn → EndsAt beside ys spot.position r → (s : Sketch) → IsParted spot below beside s → r ≡ end_of last (drawn s cuts)
+  pub end_goes : (last r : ℕ) → cut ≡ GoesOn → EndsAt beside ys spot.position r → (s : Sketch) → IsParted spot below beside s → r ≡ end_position last (drawn s cuts)
   end_goes last r is ends Empty p = absurd p
   end_goes last r is ends (Plant q w e b s) p =
       let d = drawn_of cuts cut xs ys below q w e b s apart p.below_is in
-      ends s p.beside_is ∙ ap (λ n. end_of n (drawn s ys)) p.position ∙ ap (end_of last) (sym (d ∙ ap (λ c. Grown q w e c (drawn b xs) (drawn s ys)) is))
+      ends s p.beside_is ∙ ap (λ n. end_position n (drawn s ys)) p.position ∙ ap (end_position last) (sym (d ∙ ap (λ c. Grown q w e c (drawn b xs) (drawn s ys)) is))
 
-  pub end_stops : (last : ℕ) → (cut ≡ GoesOn → ⊥) → (s : Sketch) → IsParted spot below beside s → last ≡ end_of last (drawn s cuts)
+  pub end_stops : (last : ℕ) → (cut ≡ GoesOn → ⊥) → (s : Sketch) → IsParted spot below beside s → last ≡ end_position last (drawn s cuts)
   end_stops last n Empty p = absurd p
   end_stops last n (Plant q w e b s) p = by cut n (drawn_of cuts cut xs ys below q w e b s apart p.below_is)
     where
-      by : (c : Cut) → (c ≡ GoesOn → ⊥) → drawn (Plant q w e b s) cuts ≡ Grown q w e c (drawn b xs) (drawn s ys) → last ≡ end_of last (drawn (Plant q w e b s) cuts)
-      by Stays n d = ap (end_of last) (sym d)
-      by Begins n d = ap (end_of last) (sym d)
+      by : (c : Cut) → (c ≡ GoesOn → ⊥) → drawn (Plant q w e b s) cuts ≡ Grown q w e c (drawn b xs) (drawn s ys) → last ≡ end_position last (drawn (Plant q w e b s) cuts)
+      by Stays n d = ap (end_position last) (sym d)
+      by Begins n d = ap (end_position last) (sym d)
       by GoesOn n d = absurd (n refl)
 
   -- the intervals of a list, from those of its parts
   pub write_parts : (path : List ℕ) (old : List Interval) (f1 f2 f3 : List Interval)
-      → ((s : Sketch) → beside ≡ spots_of s → f1 ≡ old ++ run_of path spot.position cut (drawn s ys)) → ((b : Sketch) → below ≡ spots_of b → f2 ≡ f1 ++ intervals (path ++ spot.position ∷ []) (drawn b xs)) → ((s : Sketch) → beside ≡ spots_of s → f3 ≡ f2 ++ intervals path (drawn s ys))
-      → (s : Sketch) → IsParted spot below beside s → f3 ≡ old ++ intervals path (drawn s cuts)
+      → ((s : Sketch) → beside ≡ spots_of s → f1 ≡ old ++ run_of path spot.position cut (drawn s ys)) → ((b : Sketch) → below ≡ spots_of b → f2 ≡ f1 ++ drawn_intervals (path ++ spot.position ∷ []) (drawn b xs)) → ((s : Sketch) → beside ≡ spots_of s → f3 ≡ f2 ++ drawn_intervals path (drawn s ys))
+      → (s : Sketch) → IsParted spot below beside s → f3 ≡ old ++ drawn_intervals path (drawn s cuts)
   write_parts path old f1 f2 f3 h1 h2 h3 Empty p = absurd p
   write_parts path old f1 f2 f3 h1 h2 h3 (Plant q w e b s) p =
       let d = drawn_of cuts cut xs ys below q w e b s apart p.below_is in
-      let bs = intervals (path ++ q ∷ []) (drawn b xs) in
-      let ss = intervals path (drawn s ys) in
+      let bs = drawn_intervals (path ++ q ∷ []) (drawn b xs) in
+      let ss = drawn_intervals path (drawn s ys) in
       let run = run_of path q cut (drawn s ys) in
       let one : f1 ≡ old ++ run = h1 s p.beside_is ∙ ap (λ n. old ++ run_of path n cut (drawn s ys)) p.position in
-      let two : f2 ≡ (old ++ run) ++ bs = h2 b p.below_is ∙ (λ i. one i ++ intervals (path ++ p.position i ∷ []) (drawn b xs)) in
+      let two : f2 ≡ (old ++ run) ++ bs = h2 b p.below_is ∙ (λ i. one i ++ drawn_intervals (path ++ p.position i ∷ []) (drawn b xs)) in
       let three : f3 ≡ ((old ++ run) ++ bs) ++ ss = h3 s p.beside_is ∙ ap (λ l. l ++ ss) two in
-      three ∙ append_assoc (old ++ run) bs ss ∙ append_assoc old run (bs ++ ss) ∙ ap (λ l. old ++ l) (by cut) ∙ ap (λ x. old ++ intervals path x) (sym d)
+      three ∙ append_assoc (old ++ run) bs ss ∙ append_assoc old run (bs ++ ss) ∙ ap (λ l. old ++ l) (by cut) ∙ ap (λ x. old ++ drawn_intervals path x) (sym d)
     where
-      by : (c : Cut) → run_of path q c (drawn s ys) ++ (intervals (path ++ q ∷ []) (drawn b xs) ++ intervals path (drawn s ys)) ≡ intervals path (Grown q w e c (drawn b xs) (drawn s ys))
+      by : (c : Cut) → run_of path q c (drawn s ys) ++ (drawn_intervals (path ++ q ∷ []) (drawn b xs) ++ drawn_intervals path (drawn s ys)) ≡ drawn_intervals path (Grown q w e c (drawn b xs) (drawn s ys))
       by Stays = refl
       by Begins = refl
       by GoesOn = refl
 
-pub write_none : (spots : List Spot) (cuts : List Cut) (path : List ℕ) (old : List Interval) → spots ≡ [] → (s : Sketch) → spots ≡ spots_of s → old ≡ old ++ intervals path (drawn s cuts)
+pub write_none : (spots : List Spot) (cuts : List Cut) (path : List ℕ) (old : List Interval) → spots ≡ [] → (s : Sketch) → spots ≡ spots_of s → old ≡ old ++ drawn_intervals path (drawn s cuts)
 write_none spots cuts path old none Empty is = sym (append-nil old)
 write_none spots cuts path old none (Plant p w e b s) is = absurd (no_spots spots p w e b s none is)
 

@@ -14,7 +14,7 @@ use Rattle.nx_cuts.proofs.PairLemmas.{PairsBy, both, weaker, pairs-append}
 use Rattle.nx_cuts.proofs.FeasibleLemmas.{child_reaches, no_truth}
 use Rattle.nx_division.specs.declared.cut.Cut.{Cut}
 use Rattle.nx_division.specs.declared.cut.Cut.TheVariants.{Stays, Begins, GoesOn}
-use Rattle.nx_division.specs.Drawn.{Drawn, Bare, Grown, end_of, intervals, Rises, IsSound, opened}
+use Rattle.nx_division.specs.Drawn.{Drawn, Bare, Grown, end_position, drawn_intervals, Rises, IsSoundDrawing, opened}
 
 -- the first position of the interval that a node is a member of: `first` is that of the one that is open
 abbrev pub first_by : Cut → ℕ → ℕ → Option ℕ
@@ -60,7 +60,7 @@ pub run_past : (first p w : ℕ) (e : Entry) (cut : Cut) (b s : Drawn) (i : ℕ)
 run_past first p w e cut b s i way n = cond_false (eqb i p) _ _ (other_eqb i p n)
 
 -- a run doesn't end before it begins
-pub end_ge : (last : ℕ) (s : Drawn) → IsSound (Some last) s → last ≤ end_of last s
+pub end_ge : (last : ℕ) (s : Drawn) → IsSoundDrawing (Some last) s → last ≤ end_position last s
 end_ge last Bare h = omega arith
 end_ge last (Grown p w e Stays b s) h = omega arith
 end_ge last (Grown p w e Begins b s) h = omega arith
@@ -72,7 +72,7 @@ end_ge last (Grown p w e GoesOn b s) h =
     some_same e = cc
 
 -- those that go on are members of the open interval
-pub run_row : (first last i : ℕ) (s : Drawn) → IsSound (Some last) s → last < i → i ≤ end_of last s → run_at first (i ∷ []) s ≡ Some first
+pub run_row : (first last i : ℕ) (s : Drawn) → IsSoundDrawing (Some last) s → last < i → i ≤ end_position last s → run_at first (i ∷ []) s ≡ Some first
 run_row first last i Bare h a b = absurd (omega arith)
 run_row first last i (Grown p w e Stays x s) h a b = absurd (omega arith)
 run_row first last i (Grown p w e Begins x s) h a b = absurd (omega arith)
@@ -122,7 +122,7 @@ module _ (first low : ℕ) (path : List ℕ) (p w : ℕ) (e : Entry) (cut : Cut)
     begins = run_past first p w e cut b s g.step g.way (λ same. omega arith) ∙ g.begins;
   }) a
 
-opened_sound : (e : Entry) (p : ℕ) (s : Drawn) → IsSound (opened e p) s → (last : ℕ) → end_of p s ≡ last → ((p ≡ last) ⊎ IsSound (Some p) s)
+opened_sound : (e : Entry) (p : ℕ) (s : Drawn) → IsSoundDrawing (opened e p) s → (last : ℕ) → end_position p s ≡ last → ((p ≡ last) ⊎ IsSoundDrawing (Some p) s)
 opened_sound Standalone p Bare h last same = inl same
 opened_sound Standalone p (Grown q w e Stays b s) h last same = inl same
 opened_sound Standalone p (Grown q w e Begins b s) h last same = inl same
@@ -133,12 +133,12 @@ opened_sound Standalone p (Grown q w e GoesOn b s) h last same = absurd (no_some
 opened_sound Cluster p s h last same = inr h
 opened_sound Free p s h last same = inr h
 
-pub first_found : (first low : ℕ) (path : List ℕ) (p w : ℕ) (e : Entry) (b s : Drawn) → low ≤ p → IsSound (opened e p) s → (q : List ℕ) → IsTrue (has_member (Run path p (end_of p s)) q) → IsFound first low path (Grown p w e Begins b s) (Run path p (end_of p s)) q
+pub first_found : (first low : ℕ) (path : List ℕ) (p w : ℕ) (e : Entry) (b s : Drawn) → low ≤ p → IsSoundDrawing (opened e p) s → (q : List ℕ) → IsTrue (has_member (Run path p (end_position p s)) q) → IsFound first low path (Grown p w e Begins b s) (Run path p (end_position p s)) q
 first_found first low path p w e b s le h q t =
-    let r = child_reaches path p (end_of p s) q t in
+    let r = child_reaches path p (end_position p s) q t in
     let here : run_at first (r.0 ∷ []) (Grown p w e Begins b s) ≡ Some p =
     elim (cases_lt p r.0) [
-      | inl lt ↦ run_past first p w e Begins b s r.0 [] (λ same. omega arith) ∙ (elim (opened_sound e p s h (end_of p s) refl) [
+      | inl lt ↦ run_past first p w e Begins b s r.0 [] (λ same. omega arith) ∙ (elim (opened_sound e p s h (end_position p s) refl) [
         | inl same ↦ absurd (let far = r.3 in omega arith)
         | inr sound ↦ run_row p p r.0 s sound lt r.3
       ])
@@ -151,22 +151,22 @@ first_found first low path p w e b s le h q t =
     record { step = r.0; way = []; leads = r.1; within = omega arith; begins = here }
 
 -- each member of an interval that is drawn in is found
-pub found : (first low : ℕ) (before : Option ℕ) (path : List ℕ) (d : Drawn) → Rises low d → IsSound before d → AreFound first low path d (intervals path d)
+pub found : (first low : ℕ) (before : Option ℕ) (path : List ℕ) (d : Drawn) → Rises low d → IsSoundDrawing before d → AreFound first low path d (drawn_intervals path d)
 found first low before path Bare r h = tt
 found first low before path (Grown p w e Stays b s) r h =
-    both _ (intervals (path ++ p ∷ []) b) (intervals path s)
-    (found_below first low path p w e Stays b s r.0 (intervals (path ++ p ∷ []) b) (found 0 0 None (path ++ p ∷ []) b r.1 h.1))
-    (found_beside first low path p w e Stays b s r.0 (intervals path s) (found first (p + 1) None path s r.2 h.2))
+    both _ (drawn_intervals (path ++ p ∷ []) b) (drawn_intervals path s)
+    (found_below first low path p w e Stays b s r.0 (drawn_intervals (path ++ p ∷ []) b) (found 0 0 None (path ++ p ∷ []) b r.1 h.1))
+    (found_beside first low path p w e Stays b s r.0 (drawn_intervals path s) (found first (p + 1) None path s r.2 h.2))
 found first low before path (Grown p w e Begins b s) r h = (
   first_found first low path p w e b s r.0 h.1,
-  both _ (intervals (path ++ p ∷ []) b) (intervals path s)
-      (found_below first low path p w e Begins b s r.0 (intervals (path ++ p ∷ []) b) (found 0 0 None (path ++ p ∷ []) b r.1 h.0))
-      (found_beside first low path p w e Begins b s r.0 (intervals path s) (found p (p + 1) (opened e p) path s r.2 h.1)),
+  both _ (drawn_intervals (path ++ p ∷ []) b) (drawn_intervals path s)
+      (found_below first low path p w e Begins b s r.0 (drawn_intervals (path ++ p ∷ []) b) (found 0 0 None (path ++ p ∷ []) b r.1 h.0))
+      (found_beside first low path p w e Begins b s r.0 (drawn_intervals path s) (found p (p + 1) (opened e p) path s r.2 h.1)),
 )
 found first low before path (Grown p w e GoesOn b s) r h =
-    both _ (intervals (path ++ p ∷ []) b) (intervals path s)
-    (found_below first low path p w e GoesOn b s r.0 (intervals (path ++ p ∷ []) b) (found 0 0 None (path ++ p ∷ []) b r.1 h.4))
-    (found_beside first low path p w e GoesOn b s r.0 (intervals path s) (found first (p + 1) (Some p) path s r.2 h.5))
+    both _ (drawn_intervals (path ++ p ∷ []) b) (drawn_intervals path s)
+    (found_below first low path p w e GoesOn b s r.0 (drawn_intervals (path ++ p ∷ []) b) (found 0 0 None (path ++ p ∷ []) b r.1 h.4))
+    (found_beside first low path p w e GoesOn b s r.0 (drawn_intervals path s) (found first (p + 1) (Some p) path s r.2 h.5))
 
 -- of two paths through one node the one with the lesser step comes first
 pub before_step : (path : List ℕ) (a b : ℕ) (r s : List ℕ) → a < b → ComesBefore (path ++ a ∷ r) (path ++ b ∷ s)
@@ -193,18 +193,18 @@ Comes a b = ComesBefore (first_member a) (first_member b)
 abbrev pub FirstsFrom : ℕ → List ℕ → List Interval → Type 0
 FirstsFrom low path xs = AllByRecursion (λ x. (step : ℕ) × (way : List ℕ) × (first_member x ≡ path ++ step ∷ way) × (low ≤ step)) xs
 
-with_first : (low : ℕ) (path : List ℕ) (p w : ℕ) (e : Entry) (cut : Cut) (b s : Drawn) → low ≤ p → FirstsFrom low path (intervals (path ++ p ∷ []) b ++ intervals path s) → FirstsFrom low path (intervals path (Grown p w e cut b s))
+with_first : (low : ℕ) (path : List ℕ) (p w : ℕ) (e : Entry) (cut : Cut) (b s : Drawn) → low ≤ p → FirstsFrom low path (drawn_intervals (path ++ p ∷ []) b ++ drawn_intervals path s) → FirstsFrom low path (drawn_intervals path (Grown p w e cut b s))
 with_first low path p w e Stays b s le f = f
 with_first low path p w e Begins b s le f = ((p, [], refl, le), f)
 with_first low path p w e GoesOn b s le f = f
 
-pub firsts : (low : ℕ) (path : List ℕ) (d : Drawn) → Rises low d → FirstsFrom low path (intervals path d)
+pub firsts : (low : ℕ) (path : List ℕ) (d : Drawn) → Rises low d → FirstsFrom low path (drawn_intervals path d)
 firsts low path Bare r = tt
 firsts low path (Grown p w e cut b s) r =
     with_first low path p w e cut b s r.0
-    (both _ (intervals (path ++ p ∷ []) b) (intervals path s)
-    (weaker _ (intervals (path ++ p ∷ []) b) (λ x f. (p, f.0 ∷ f.1, f.2 ∙ append_assoc path (p ∷ []) (f.0 ∷ f.1), r.0)) (firsts 0 (path ++ p ∷ []) b r.1))
-    (weaker _ (intervals path s) (λ x f. (f.0, f.1, f.2, (let far = f.3 in let near = r.0 in omega arith))) (firsts (p + 1) path s r.2)))
+    (both _ (drawn_intervals (path ++ p ∷ []) b) (drawn_intervals path s)
+    (weaker _ (drawn_intervals (path ++ p ∷ []) b) (λ x f. (p, f.0 ∷ f.1, f.2 ∙ append_assoc path (p ∷ []) (f.0 ∷ f.1), r.0)) (firsts 0 (path ++ p ∷ []) b r.1))
+    (weaker _ (drawn_intervals path s) (λ x f. (f.0, f.1, f.2, (let far = f.3 in let near = r.0 in omega arith))) (firsts (p + 1) path s r.2)))
 
 begun_first : (path : List ℕ) (p : ℕ) (last : ℕ) (xs ys : List Interval) → FirstsFrom 0 (path ++ p ∷ []) xs → FirstsFrom (p + 1) path ys → AllByRecursion (Comes (Run path p last)) (xs ++ ys)
 begun_first path p last xs ys f g =
@@ -212,19 +212,19 @@ begun_first path p last xs ys f g =
     (weaker _ xs (λ y f. before_same refl (f.2 ∙ append_assoc path (p ∷ []) (f.0 ∷ f.1)) (before_below path p f.0 f.1)) f)
     (weaker _ ys (λ y g. let far = g.3 in before_same refl g.2 (before_step path p g.0 [] g.1 (omega arith))) g)
 
-with_sorted : (path : List ℕ) (p w : ℕ) (e : Entry) (cut : Cut) (b s : Drawn) → FirstsFrom 0 (path ++ p ∷ []) (intervals (path ++ p ∷ []) b) → FirstsFrom (p + 1) path (intervals path s)
-    → PairsBy Comes (intervals (path ++ p ∷ []) b ++ intervals path s) → PairsBy Comes (intervals path (Grown p w e cut b s))
+with_sorted : (path : List ℕ) (p w : ℕ) (e : Entry) (cut : Cut) (b s : Drawn) → FirstsFrom 0 (path ++ p ∷ []) (drawn_intervals (path ++ p ∷ []) b) → FirstsFrom (p + 1) path (drawn_intervals path s)
+    → PairsBy Comes (drawn_intervals (path ++ p ∷ []) b ++ drawn_intervals path s) → PairsBy Comes (drawn_intervals path (Grown p w e cut b s))
 with_sorted path p w e Stays b s f g h = h
-with_sorted path p w e Begins b s f g h = (begun_first path p (end_of p s) (intervals (path ++ p ∷ []) b) (intervals path s) f g, h)
+with_sorted path p w e Begins b s f g h = (begun_first path p (end_position p s) (drawn_intervals (path ++ p ∷ []) b) (drawn_intervals path s) f g, h)
 with_sorted path p w e GoesOn b s f g h = h
 
-pub sorted : (low : ℕ) (path : List ℕ) (d : Drawn) → Rises low d → PairsBy Comes (intervals path d)
+pub sorted : (low : ℕ) (path : List ℕ) (d : Drawn) → Rises low d → PairsBy Comes (drawn_intervals path d)
 sorted low path Bare r = tt
 sorted low path (Grown p w e cut b s) r =
     let f = firsts 0 (path ++ p ∷ []) b r.1 in
     let g = firsts (p + 1) path s r.2 in
     with_sorted path p w e cut b s f g
-    (pairs-append Comes (intervals (path ++ p ∷ []) b) (intervals path s) f g
+    (pairs-append Comes (drawn_intervals (path ++ p ∷ []) b) (drawn_intervals path s) f g
     (λ x y f g. let far = g.3 in before_same (f.2 ∙ append_assoc path (p ∷ []) (f.0 ∷ f.1)) g.2 (before_step path p g.0 (f.0 ∷ f.1) g.1 (omega arith)))
     (sorted 0 (path ++ p ∷ []) b r.1) (sorted (p + 1) path s r.2))
 

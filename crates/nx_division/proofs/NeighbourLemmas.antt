@@ -14,8 +14,8 @@ use Rattle.nx_cuts.proofs.FeasibleLemmas.{reaches_child}
 use Rattle.nx_division.specs.declared.cut.Cut.{Cut}
 use Rattle.nx_division.specs.declared.cut.Cut.TheVariants.{Stays, Begins, GoesOn}
 use Rattle.nx_sketch.specs.Sketch.{Placed, placed, placed_in}
-use Rattle.nx_sketch.specs.Plan.{HasEntry, IsInside, IsOrdinary, AreNeighboursFull, part_weight}
-use Rattle.nx_division.specs.Drawn.{Drawn, Bare, Grown, bare, left, goes, intervals, count, Rises, IsSound, opened, IsFull, stands, moved}
+use Rattle.nx_sketch.specs.Plan.{HasEntry, IsInside, IsOrdinary, AreNeighboursFull, placed_part_weight}
+use Rattle.nx_division.specs.Drawn.{Drawn, Bare, Grown, bare, staying_weight, goes, drawn_intervals, interval_count, Rises, IsSoundDrawing, opened, AreNeighboursHeavy, stands_beside, moved}
 use Rattle.nx_division.proofs.LookLemmas.{run_at, run_past, open_by}
 use Rattle.nx_division.proofs.NumberLemmas.{IsNumbered, AreUnheld, all_unheld, held, none_some, some_same, unheld_below, unheld_beside}
 use Rattle.nx_division.proofs.WeightLemmas.{IsWhole, whole_found, whole_apart, whole_numbered, whole_weight, weight_at, weight-below, weight-above, same_if, other_if}
@@ -38,7 +38,7 @@ AreApartFrom k h ordinary weigh nodes = AllByRecursion (IsApartFrom k h ordinary
 
 -- what the intervals weigh whose numbers are those of a stretch
 abbrev pub Weighs : (ℕ → ℕ) → ℕ → Drawn → Type 0
-Weighs weigh base d = (index : ℕ) → base ≤ index → index < base + count d → weigh index ≡ weight_at index base d
+Weighs weigh base d = (index : ℕ) → base ≤ index → index < base + interval_count d → weigh index ≡ weight_at index base d
 
 -- a gap isn't held
 abbrev pub NoneBetween : (List ℕ → Option ℕ) → List ℕ → ℕ → ℕ → Type 0
@@ -56,7 +56,7 @@ standalone_or Standalone = inl refl
 standalone_or Cluster = inr (λ e. cc)
 standalone_or Free = inr (λ e. cc)
 
-stands_is : (e : Entry) (p w : ℕ) → e ≢ Standalone → stands e p w ≡ Some (p, w)
+stands_is : (e : Entry) (p w : ℕ) → e ≢ Standalone → stands_beside e p w ≡ Some (p, w)
 stands_is Standalone p w n = absurd (n refl)
 stands_is Cluster p w n = refl
 stands_is Free p w n = refl
@@ -69,8 +69,8 @@ opened_is Free p last h = (sym (some_same h), λ e. cc)
 module _ (k : ℕ) (whole : List Placed) (h : List ℕ → Option ℕ) (ordinary : ℕ → Type 0) (weigh : ℕ → ℕ) (plain : (q : List ℕ) (i : ℕ) → h q ≡ Some i → ordinary i → ¬ HasEntry whole q Standalone) where
   begins_apart : (low run base : ℕ) (before : Option ℕ) (kept : Option (ℕ × ℕ)) (path : List ℕ) (p w : ℕ) (e : Entry) (b s : Drawn)
       → low ≤ p → IsBeside h ordinary weigh path low run before kept → NoneBetween h path low p → HasEntry whole (path ++ p ∷ []) e
-      → h (path ++ p ∷ []) ≡ Some base → weigh base ≡ w + left b + goes s
-      → ((last first : ℕ) → kept ≡ Some (last, first) → p ≡ last + 1 → e ≢ Standalone → k < first + (w + left b + goes s))
+      → h (path ++ p ∷ []) ≡ Some base → weigh base ≡ w + staying_weight b + goes s
+      → ((last first : ℕ) → kept ≡ Some (last, first) → p ≡ last + 1 → e ≢ Standalone → k < first + (w + staying_weight b + goes s))
       → IsApartFrom k h ordinary weigh (record { path = path ++ p ∷ []; weight = w; entry = e })
   begins_apart low run base before kept path p w e b s le near between has here weighs full parent q i j at jh ih other oi oj =
       let l = last_same path parent p (q + 1) at in
@@ -105,7 +105,7 @@ module _ (k : ℕ) (whole : List Placed) (h : List ℕ → Option ℕ) (ordinary
     opened = λ last is. absurd (none_some is);
   }
 
-  beside_begins : (path : List ℕ) (p base r : ℕ) (e : Entry) → HasEntry whole (path ++ p ∷ []) e → h (path ++ p ∷ []) ≡ Some base → weigh base ≡ r → IsBeside h ordinary weigh path (p + 1) base (opened e p) (stands e p r)
+  beside_begins : (path : List ℕ) (p base r : ℕ) (e : Entry) → HasEntry whole (path ++ p ∷ []) e → h (path ++ p ∷ []) ≡ Some base → weigh base ≡ r → IsBeside h ordinary weigh path (p + 1) base (opened e p) (stands_beside e p r)
   beside_begins path p base r e has here weighs = record {
     held = λ q i next is ord.
         let same : q ≡ p = omega arith in
@@ -142,21 +142,21 @@ gap_unheld : (parts : List Interval) (low : ℕ) (path : List ℕ) (p w : ℕ) (
 gap_unheld parts low path p w e cut b s r u q ge lt =
     u 0 q [] ge (run_past 0 p w e cut b s q [] (λ same. omega arith) ∙ run_low (open_by cut 0 p) (p + 1) q [] s r.2 (omega arith))
 
-weighs_parts : (weigh : ℕ → ℕ) (base : ℕ) (b s : Drawn) → ((index : ℕ) → base ≤ index → index < base + count b + count s → weigh index ≡ weight_at index base b + weight_at index (base + count b) s) → Weighs weigh base b × Weighs weigh (base + count b) s
+weighs_parts : (weigh : ℕ → ℕ) (base : ℕ) (b s : Drawn) → ((index : ℕ) → base ≤ index → index < base + interval_count b + interval_count s → weigh index ≡ weight_at index base b + weight_at index (base + interval_count b) s) → Weighs weigh base b × Weighs weigh (base + interval_count b) s
 weighs_parts weigh base b s h = (
-  (λ index ge lt. omega (arith, h index ge (omega arith), weight-below index (base + count b) s lt)),
+  (λ index ge lt. omega (arith, h index ge (omega arith), weight-below index (base + interval_count b) s lt)),
   (λ index ge lt. omega (arith, h index (omega arith) lt, weight-above index base b ge)),
 )
 
-weighs_begun : (weigh : ℕ → ℕ) (base p w : ℕ) (e : Entry) (b s : Drawn) → Weighs weigh base (Grown p w e Begins b s) → (weigh base ≡ w + left b + goes s) × Weighs weigh (base + 1) b × Weighs weigh (base + 1 + count b) s
+weighs_begun : (weigh : ℕ → ℕ) (base p w : ℕ) (e : Entry) (b s : Drawn) → Weighs weigh base (Grown p w e Begins b s) → (weigh base ≡ w + staying_weight b + goes s) × Weighs weigh (base + 1) b × Weighs weigh (base + 1 + interval_count b) s
 weighs_begun weigh base p w e b s h = (
-  omega (arith, h base (omega arith) (omega arith), same_if base (w + left b + goes s), weight-below base (base + 1) b (omega arith), weight-below base (base + 1 + count b) s (omega arith)),
-  (λ index ge lt. omega (arith, h index (omega arith) (omega arith), other_if base index (w + left b + goes s) (λ same. omega arith), weight-below index (base + 1 + count b) s lt)),
-  (λ index ge lt. omega (arith, h index (omega arith) (omega arith), other_if base index (w + left b + goes s) (λ same. omega arith), weight-above index (base + 1) b ge)),
+  omega (arith, h base (omega arith) (omega arith), same_if base (w + staying_weight b + goes s), weight-below base (base + 1) b (omega arith), weight-below base (base + 1 + interval_count b) s (omega arith)),
+  (λ index ge lt. omega (arith, h index (omega arith) (omega arith), other_if base index (w + staying_weight b + goes s) (λ same. omega arith), weight-below index (base + 1 + interval_count b) s lt)),
+  (λ index ge lt. omega (arith, h index (omega arith) (omega arith), other_if base index (w + staying_weight b + goes s) (λ same. omega arith), weight-above index (base + 1) b ge)),
 )
 
 module _ (k : ℕ) (whole : List Placed) (parts : List Interval) (ordinary : ℕ → Type 0) (weigh : ℕ → ℕ) (plain : (q : List ℕ) (i : ℕ) → holder parts q ≡ Some i → ordinary i → ¬ HasEntry whole q Standalone) where
-  pub apart_nodes : (low run base : ℕ) (before : Option ℕ) (kept : Option (ℕ × ℕ)) (path : List ℕ) (d : Drawn) → Rises low d → IsSound before d → AreUnheld low parts path d → IsNumbered (holder parts) run base path d → IsFull k kept d
+  pub apart_nodes : (low run base : ℕ) (before : Option ℕ) (kept : Option (ℕ × ℕ)) (path : List ℕ) (d : Drawn) → Rises low d → IsSoundDrawing before d → AreUnheld low parts path d → IsNumbered (holder parts) run base path d → AreNeighboursHeavy k kept d
       → Weighs weigh base d → AreAmong (placed_in path (bare d)) whole → IsBeside (holder parts) ordinary weigh path low run before kept → AreApartFrom k (holder parts) ordinary weigh (placed_in path (bare d))
   apart_nodes low run base before kept path Bare r h u n f g among near = tt
   apart_nodes low run base before kept path (Grown p w e Stays b s) r h u n f g among near =
@@ -165,7 +165,7 @@ module _ (k : ℕ) (whole : List Placed) (parts : List Interval) (ordinary : ℕ
         stays_apart k whole (holder parts) ordinary weigh plain path p w e n.0,
         both _ (placed_in here (bare b)) (placed_in path (bare s))
             (apart_nodes 0 0 base None None here b r.1 h.1 (unheld_below parts path p w e Stays b s low r.0 u) n.1 f.0 ws.0 (among_below whole path p w e Stays b s among) (nothing_before (holder parts) ordinary weigh here))
-            (apart_nodes (p + 1) 0 (base + count b) None None path s r.2 h.2 (unheld_beside parts path p w e Stays b s low r.0 u) n.2 f.1 ws.1 (among_beside whole path p w e Stays b s among) (beside_stays k whole (holder parts) ordinary weigh plain path p n.0)),
+            (apart_nodes (p + 1) 0 (base + interval_count b) None None path s r.2 h.2 (unheld_beside parts path p w e Stays b s low r.0 u) n.2 f.1 ws.1 (among_beside whole path p w e Stays b s among) (beside_stays k whole (holder parts) ordinary weigh plain path p n.0)),
       )
   apart_nodes low run base before kept path (Grown p w e Begins b s) r h u n f g among near =
       let here = path ++ p ∷ [] in
@@ -175,8 +175,8 @@ module _ (k : ℕ) (whole : List Placed) (parts : List Interval) (ordinary : ℕ
         begins_apart k whole (holder parts) ordinary weigh plain low run base before kept path p w e b s r.0 near (gap_unheld parts low path p w e Begins b s r u) has n.0 ws.0 f.0,
         both _ (placed_in here (bare b)) (placed_in path (bare s))
             (apart_nodes 0 0 (base + 1) None None here b r.1 h.0 (unheld_below parts path p w e Begins b s low r.0 u) n.1 f.1 ws.1 (among_below whole path p w e Begins b s among) (nothing_before (holder parts) ordinary weigh here))
-            (apart_nodes (p + 1) base (base + 1 + count b) (opened e p) (stands e p (w + left b + goes s)) path s r.2 h.1 (unheld_beside parts path p w e Begins b s low r.0 u) n.2 f.2 ws.2 (among_beside whole path p w e Begins b s among)
-            (beside_begins k whole (holder parts) ordinary weigh plain path p base (w + left b + goes s) e has n.0 ws.0)),
+            (apart_nodes (p + 1) base (base + 1 + interval_count b) (opened e p) (stands_beside e p (w + staying_weight b + goes s)) path s r.2 h.1 (unheld_beside parts path p w e Begins b s low r.0 u) n.2 f.2 ws.2 (among_beside whole path p w e Begins b s among)
+            (beside_begins k whole (holder parts) ordinary weigh plain path p base (w + staying_weight b + goes s) e has n.0 ws.0)),
       )
   apart_nodes low run base before kept path (Grown p w e GoesOn b s) r h u n f g among near =
       let here = path ++ p ∷ [] in
@@ -184,7 +184,7 @@ module _ (k : ℕ) (whole : List Placed) (parts : List Interval) (ordinary : ℕ
         goes_apart k whole (holder parts) ordinary weigh plain run h.0 path p w e h.2 (near.opened h.0 h.1).0 n.0,
         both _ (placed_in here (bare b)) (placed_in path (bare s))
             (apart_nodes 0 0 base None None here b r.1 h.4 (unheld_below parts path p w e GoesOn b s low r.0 u) n.1 f.0 ws.0 (among_below whole path p w e GoesOn b s among) (nothing_before (holder parts) ordinary weigh here))
-            (apart_nodes (p + 1) run (base + count b) (Some p) (moved kept p) path s r.2 h.5 (unheld_beside parts path p w e GoesOn b s low r.0 u) n.2 f.1 ws.1 (among_beside whole path p w e GoesOn b s among)
+            (apart_nodes (p + 1) run (base + interval_count b) (Some p) (moved kept p) path s r.2 h.5 (unheld_beside parts path p w e GoesOn b s low r.0 u) n.2 f.1 ws.1 (among_beside whole path p w e GoesOn b s among)
             (beside_goes k whole (holder parts) ordinary weigh plain path p run h.0 before kept low near h.1 n.0)),
       )
 
@@ -205,13 +205,13 @@ get_is (y ∷ xs) zero x d at = cc
 get_is (y ∷ xs) (suc i) x d at = get_is xs i x d at
 
 -- neighbours that are drawn so are full
-pub drawn_full : (k : ℕ) (d : Drawn) → IsWhole d → IsFull k None d → AreNeighboursFull k (placed (bare d)) (intervals [] d)
+pub drawn_full : (k : ℕ) (d : Drawn) → IsWhole d → AreNeighboursHeavy k None d → AreNeighboursFull k (placed (bare d)) (drawn_intervals [] d)
 drawn_full k d h f i j parent first last end at_i at_j plain_i plain_j =
-    let parts = intervals [] d in
+    let parts = drawn_intervals [] d in
     let nodes = placed (bare d) in
     let pairs = whole_apart d h in
     let ordinary = λ (n : ℕ). (x : Interval) → slice_get parts n ≡ Some x → IsOrdinary nodes x in
-    let weigh = λ (n : ℕ). part_weight nodes parts n in
+    let weigh = λ (n : ℕ). placed_part_weight nodes parts n in
     let plain : (q : List ℕ) (n : ℕ) → holder parts q ≡ Some n → ordinary n → ¬ HasEntry nodes q Standalone = λ q n is ord has.
     let m = holder_member parts q n is Root in
     ord (get_or parts n Root) (get_some parts n Root m.2) q m.1 has in

@@ -11,7 +11,7 @@ use Rattle.nx_cuts.proofs.PairLemmas.{PairsBy}
 use Rattle.nx_cuts.proofs.FeasibleLemmas.{reaches_child, no_truth}
 use Rattle.nx_division.specs.declared.cut.Cut.{Cut}
 use Rattle.nx_division.specs.declared.cut.Cut.TheVariants.{Stays, Begins, GoesOn}
-use Rattle.nx_division.specs.Drawn.{Drawn, Bare, Grown, end_of, intervals, count, Rises, IsSound, opened}
+use Rattle.nx_division.specs.Drawn.{Drawn, Bare, Grown, end_position, drawn_intervals, interval_count, Rises, IsSoundDrawing, opened}
 use Rattle.nx_division.proofs.LookLemmas.{AreFound, first_by, here_or, open_by, run_at, run_here, run_past, end_ge}
 
 skip_if : (b : Bool) (i : ℕ) (o r : Option ℕ) → (b ≡ true → ⊥) → o ≡ r → (if b then Some i else o) ≡ r
@@ -59,15 +59,15 @@ none_some e = cc
 -- The places of the holders, counted from a number on; `run` is the place of the interval that may be gone on with.
 abbrev pub IsNumbered : (List ℕ → Option ℕ) → ℕ → ℕ → List ℕ → Drawn → Type 0
 IsNumbered h run base path Bare = Unit {0}
-IsNumbered h run base path (Grown p w e Stays b s) = (h (path ++ p ∷ []) ≡ None) × IsNumbered h 0 base (path ++ p ∷ []) b × IsNumbered h 0 (base + count b) path s
-IsNumbered h run base path (Grown p w e Begins b s) = (h (path ++ p ∷ []) ≡ Some base) × IsNumbered h 0 (base + 1) (path ++ p ∷ []) b × IsNumbered h base (base + 1 + count b) path s
-IsNumbered h run base path (Grown p w e GoesOn b s) = (h (path ++ p ∷ []) ≡ Some run) × IsNumbered h 0 base (path ++ p ∷ []) b × IsNumbered h run (base + count b) path s
+IsNumbered h run base path (Grown p w e Stays b s) = (h (path ++ p ∷ []) ≡ None) × IsNumbered h 0 base (path ++ p ∷ []) b × IsNumbered h 0 (base + interval_count b) path s
+IsNumbered h run base path (Grown p w e Begins b s) = (h (path ++ p ∷ []) ≡ Some base) × IsNumbered h 0 (base + 1) (path ++ p ∷ []) b × IsNumbered h base (base + 1 + interval_count b) path s
+IsNumbered h run base path (Grown p w e GoesOn b s) = (h (path ++ p ∷ []) ≡ Some run) × IsNumbered h 0 base (path ++ p ∷ []) b × IsNumbered h run (base + interval_count b) path s
 
-pub length-intervals : (path : List ℕ) (d : Drawn) → length (intervals path d) ≡ count d
-length-intervals path Bare = refl
-length-intervals path (Grown p w e Stays b s) = omega (arith, length-append (intervals (path ++ p ∷ []) b) (intervals path s), length-intervals (path ++ p ∷ []) b, length-intervals path s)
-length-intervals path (Grown p w e Begins b s) = omega (arith, length-append (intervals (path ++ p ∷ []) b) (intervals path s), length-intervals (path ++ p ∷ []) b, length-intervals path s)
-length-intervals path (Grown p w e GoesOn b s) = omega (arith, length-append (intervals (path ++ p ∷ []) b) (intervals path s), length-intervals (path ++ p ∷ []) b, length-intervals path s)
+pub length-drawn_intervals : (path : List ℕ) (d : Drawn) → length (drawn_intervals path d) ≡ interval_count d
+length-drawn_intervals path Bare = refl
+length-drawn_intervals path (Grown p w e Stays b s) = omega (arith, length-append (drawn_intervals (path ++ p ∷ []) b) (drawn_intervals path s), length-drawn_intervals (path ++ p ∷ []) b, length-drawn_intervals path s)
+length-drawn_intervals path (Grown p w e Begins b s) = omega (arith, length-append (drawn_intervals (path ++ p ∷ []) b) (drawn_intervals path s), length-drawn_intervals (path ++ p ∷ []) b, length-drawn_intervals path s)
+length-drawn_intervals path (Grown p w e GoesOn b s) = omega (arith, length-append (drawn_intervals (path ++ p ∷ []) b) (drawn_intervals path s), length-drawn_intervals (path ++ p ∷ []) b, length-drawn_intervals path s)
 
 -- the interval that may be gone on with, as it stands in the list
 pub record IsOpen (parts : List Interval) (path : List ℕ) (run last : ℕ) (d : Drawn) : Type 0 where
@@ -76,7 +76,7 @@ pub record IsOpen (parts : List Interval) (path : List ℕ) (run last : ℕ) (d 
   pub back : List Interval
   pub some : first ≤ last
   pub place : length front ≡ run
-  pub is : parts ≡ front ++ Run path first (end_of last d) ∷ back
+  pub is : parts ≡ front ++ Run path first (end_position last d) ∷ back
 
 -- a node that is drawn as no member isn't held
 abbrev pub AreUnheld : ℕ → List Interval → List ℕ → Drawn → Type 0
@@ -119,7 +119,7 @@ module _ (parts : List Interval) (path : List ℕ) (p w : ℕ) (e : Entry) (cut 
 member_of_run : (path : List ℕ) (first p end : ℕ) → first ≤ p → p ≤ end → IsTrue (has_member (Run path first end) (path ++ p ∷ []))
 member_of_run path first p end a b = reaches_child path first end p a b
 
-pub open_end : (e : Entry) (p : ℕ) (s : Drawn) → IsSound (opened e p) s → p ≤ end_of p s
+pub open_end : (e : Entry) (p : ℕ) (s : Drawn) → IsSoundDrawing (opened e p) s → p ≤ end_position p s
 open_end Standalone p Bare h = omega arith
 open_end Standalone p (Grown q w e Stays b s) h = omega arith
 open_end Standalone p (Grown q w e Begins b s) h = omega arith
@@ -133,45 +133,45 @@ opened_some Cluster p last h = sym (some_same h)
 opened_some Free p last h = sym (some_same h)
 
 -- the nodes of a drawn sketch are held by the intervals that are drawn
-pub numbered : (parts : List Interval) → PairsBy (λ a b. ¬ ShareMember a b) parts → (low : ℕ) (before : Option ℕ) (run : ℕ) (path : List ℕ) (d : Drawn) → Rises low d → IsSound before d → AreUnheld low parts path d
-    → ((last : ℕ) → before ≡ Some last → IsOpen parts path run last d) → (base : ℕ) (front back : List Interval) → length front ≡ base → parts ≡ front ++ (intervals path d ++ back) → IsNumbered (holder parts) run base path d
+pub numbered : (parts : List Interval) → PairsBy (λ a b. ¬ ShareMember a b) parts → (low : ℕ) (before : Option ℕ) (run : ℕ) (path : List ℕ) (d : Drawn) → Rises low d → IsSoundDrawing before d → AreUnheld low parts path d
+    → ((last : ℕ) → before ≡ Some last → IsOpen parts path run last d) → (base : ℕ) (front back : List Interval) → length front ≡ base → parts ≡ front ++ (drawn_intervals path d ++ back) → IsNumbered (holder parts) run base path d
 numbered parts pairs low before run path Bare r h u o base front back n is = tt
 numbered parts pairs low before run path (Grown p w e Stays b s) r h u o base front back n is =
-    let bs = intervals (path ++ p ∷ []) b in
-    let ss = intervals path s in
+    let bs = drawn_intervals (path ++ p ∷ []) b in
+    let ss = drawn_intervals path s in
     let split : parts ≡ front ++ (bs ++ (ss ++ back)) = is ∙ ap (λ l. front ++ l) (append_assoc bs ss back) in
     let later : parts ≡ (front ++ bs) ++ (ss ++ back) = split ∙ sym (append_assoc front bs (ss ++ back)) in (
       unheld_here parts path p w e Stays b s low r.0 u refl,
       numbered parts pairs 0 None 0 (path ++ p ∷ []) b r.1 h.1 (unheld_below parts path p w e Stays b s low r.0 u) (λ last same. absurd (none_some same)) base front (ss ++ back) n split,
-      numbered parts pairs (p + 1) None 0 path s r.2 h.2 (unheld_beside parts path p w e Stays b s low r.0 u) (λ last same. absurd (none_some same)) (base + count b) (front ++ bs) back (omega (arith, length-append front bs, length-intervals (path ++ p ∷ []) b)) later,
+      numbered parts pairs (p + 1) None 0 path s r.2 h.2 (unheld_beside parts path p w e Stays b s low r.0 u) (λ last same. absurd (none_some same)) (base + interval_count b) (front ++ bs) back (omega (arith, length-append front bs, length-drawn_intervals (path ++ p ∷ []) b)) later,
     )
 numbered parts pairs low before run path (Grown p w e Begins b s) r h u o base front back n is =
-    let bs = intervals (path ++ p ∷ []) b in
-    let ss = intervals path s in
-    let x = Run path p (end_of p s) in
+    let bs = drawn_intervals (path ++ p ∷ []) b in
+    let ss = drawn_intervals path s in
+    let x = Run path p (end_position p s) in
     let whole : parts ≡ front ++ x ∷ (bs ++ (ss ++ back)) = is ∙ ap (λ l. front ++ x ∷ l) (append_assoc bs ss back) in
     let split : parts ≡ (front ++ x ∷ []) ++ (bs ++ (ss ++ back)) = whole ∙ sym (append_assoc front (x ∷ []) (bs ++ (ss ++ back))) in
     let later : parts ≡ ((front ++ x ∷ []) ++ bs) ++ (ss ++ back) = split ∙ sym (append_assoc (front ++ x ∷ []) bs (ss ++ back)) in
     let one : length (front ++ x ∷ []) ≡ base + 1 = omega (arith, length-append front (x ∷ [])) in (
-      held (path ++ p ∷ []) parts front x (bs ++ (ss ++ back)) whole pairs (member_of_run path p p (end_of p s) (omega arith) (open_end e p s h.1)) ∙ ap Some n,
+      held (path ++ p ∷ []) parts front x (bs ++ (ss ++ back)) whole pairs (member_of_run path p p (end_position p s) (omega arith) (open_end e p s h.1)) ∙ ap Some n,
       numbered parts pairs 0 None 0 (path ++ p ∷ []) b r.1 h.0 (unheld_below parts path p w e Begins b s low r.0 u) (λ last same. absurd (none_some same)) (base + 1) (front ++ x ∷ []) (ss ++ back) one split,
       numbered parts pairs (p + 1) (opened e p) base path s r.2 h.1 (unheld_beside parts path p w e Begins b s low r.0 u)
-          (λ last same. let q = opened_some e p last same in record { first = p; front = front; back = bs ++ (ss ++ back); some = omega arith; place = n; is = subst (λ l. parts ≡ front ++ Run path p (end_of l s) ∷ (bs ++ (ss ++ back))) (sym q) whole })
-          (base + 1 + count b) ((front ++ x ∷ []) ++ bs) back (omega (arith, length-append (front ++ x ∷ []) bs, length-intervals (path ++ p ∷ []) b)) later,
+          (λ last same. let q = opened_some e p last same in record { first = p; front = front; back = bs ++ (ss ++ back); some = omega arith; place = n; is = subst (λ l. parts ≡ front ++ Run path p (end_position l s) ∷ (bs ++ (ss ++ back))) (sym q) whole })
+          (base + 1 + interval_count b) ((front ++ x ∷ []) ++ bs) back (omega (arith, length-append (front ++ x ∷ []) bs, length-drawn_intervals (path ++ p ∷ []) b)) later,
     )
 numbered parts pairs low before run path (Grown p w e GoesOn b s) r h u o base front back n is =
-    let bs = intervals (path ++ p ∷ []) b in
-    let ss = intervals path s in
+    let bs = drawn_intervals (path ++ p ∷ []) b in
+    let ss = drawn_intervals path s in
     let split : parts ≡ front ++ (bs ++ (ss ++ back)) = is ∙ ap (λ l. front ++ l) (append_assoc bs ss back) in
     let later : parts ≡ (front ++ bs) ++ (ss ++ back) = split ∙ sym (append_assoc front bs (ss ++ back)) in
     let op = o h.0 h.1 in
     let next = h.2 in
     let some = op.some in (
-      held (path ++ p ∷ []) parts op.front (Run path op.first (end_of p s)) op.back op.is pairs (member_of_run path op.first p (end_of p s) (omega arith) (end_ge p s h.5)) ∙ ap Some op.place,
+      held (path ++ p ∷ []) parts op.front (Run path op.first (end_position p s)) op.back op.is pairs (member_of_run path op.first p (end_position p s) (omega arith) (end_ge p s h.5)) ∙ ap Some op.place,
       numbered parts pairs 0 None 0 (path ++ p ∷ []) b r.1 h.4 (unheld_below parts path p w e GoesOn b s low r.0 u) (λ last same. absurd (none_some same)) base front (ss ++ back) n split,
       numbered parts pairs (p + 1) (Some p) run path s r.2 h.5 (unheld_beside parts path p w e GoesOn b s low r.0 u)
-          (λ last same. let q = some_same same in record { first = op.first; front = op.front; back = op.back; some = omega arith; place = op.place; is = subst (λ l. parts ≡ op.front ++ Run path op.first (end_of l s) ∷ op.back) q op.is })
-          (base + count b) (front ++ bs) back (omega (arith, length-append front bs, length-intervals (path ++ p ∷ []) b)) later,
+          (λ last same. let q = some_same same in record { first = op.first; front = op.front; back = op.back; some = omega arith; place = op.place; is = subst (λ l. parts ≡ op.front ++ Run path op.first (end_position l s) ∷ op.back) q op.is })
+          (base + interval_count b) (front ++ bs) back (omega (arith, length-append front bs, length-drawn_intervals (path ++ p ∷ []) b)) later,
     )
 
 -- what isn't found below the helper isn't held

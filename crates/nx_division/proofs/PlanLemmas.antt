@@ -19,10 +19,10 @@ use Rattle.nx_cuts.proofs.FeasibleLemmas.{deeper}
 use Rattle.nx_division.specs.declared.cut.Cut.{Cut}
 use Rattle.nx_division.specs.declared.cut.Cut.TheVariants.{Stays, Begins, GoesOn}
 use Rattle.nx_sketch.specs.Sketch.{Placed, placed, placed_in}
-use Rattle.nx_sketch.specs.Plan.{IsPlaced, IsInside, IsPlan, IsFeasiblePlan, KeepsClusters}
-use Rattle.nx_division.specs.Drawn.{Drawn, Bare, Grown, bare, end_of, intervals, count, heaviest, Rises, IsSound, opened, AreMembers, AreKept}
+use Rattle.nx_sketch.specs.Plan.{IsPlaced, IsInside, IsPlanOfPart, IsFeasiblePlan, KeepsClusters}
+use Rattle.nx_division.specs.Drawn.{Drawn, Bare, Grown, bare, end_position, drawn_intervals, interval_count, heaviest, Rises, IsSoundDrawing, opened, NoneStays, AreKept}
 use Rattle.nx_division.proofs.LookLemmas.{Comes, sorted}
-use Rattle.nx_division.proofs.NumberLemmas.{IsNumbered, none_some, some_same, open_end, length-intervals}
+use Rattle.nx_division.proofs.NumberLemmas.{IsNumbered, none_some, some_same, open_end, length-drawn_intervals}
 use Rattle.nx_division.proofs.WeightLemmas.{IsWhole, whole_apart, whole_numbered, whole_weight, weight-most, weight-heaviest}
 
 pub all_of : {X : Type 0} (P : X → Type 0) (xs : List X) → AllByRecursion P xs → (x : X) → Contains xs x → P x
@@ -38,7 +38,7 @@ placed_from low path (Grown p w e cut b s) r = (
       (weaker _ (placed_in path (bare s)) (λ node f. (f.0, f.1, f.2, (let far = f.3 in let near = r.0 in omega arith))) (placed_from (p + 1) path s r.2)),
 )
 
-row_placed : (path : List ℕ) (last i : ℕ) (s : Drawn) → IsSound (Some last) s → last < i → i ≤ end_of last s → IsPlaced (placed_in path (bare s)) (path ++ i ∷ [])
+row_placed : (path : List ℕ) (last i : ℕ) (s : Drawn) → IsSoundDrawing (Some last) s → last < i → i ≤ end_position last s → IsPlaced (placed_in path (bare s)) (path ++ i ∷ [])
 row_placed path last i Bare h a b = absurd (omega arith)
 row_placed path last i (Grown p w e Stays x s) h a b = absurd (omega arith)
 row_placed path last i (Grown p w e Begins x s) h a b = absurd (omega arith)
@@ -54,13 +54,13 @@ row_placed path last i (Grown p w e GoesOn x s) h a b = elim (cases_lt p i) [
       (node, contains_here node (placed_in (path ++ p ∷ []) (bare x) ++ placed_in path (bare s)) node refl, ap (λ j. path ++ j ∷ []) same)
 ]
 
-pub alone_end : (p : ℕ) (s : Drawn) → IsSound None s → end_of p s ≡ p
+pub alone_end : (p : ℕ) (s : Drawn) → IsSoundDrawing None s → end_position p s ≡ p
 alone_end p Bare h = refl
 alone_end p (Grown q w e Stays b s) h = refl
 alone_end p (Grown q w e Begins b s) h = refl
 alone_end p (Grown q w e GoesOn b s) h = absurd (none_some h.1)
 
-opened_placed : (path : List ℕ) (e : Entry) (p i : ℕ) (s : Drawn) → IsSound (opened e p) s → p < i → i ≤ end_of p s → IsPlaced (placed_in path (bare s)) (path ++ i ∷ [])
+opened_placed : (path : List ℕ) (e : Entry) (p i : ℕ) (s : Drawn) → IsSoundDrawing (opened e p) s → p < i → i ≤ end_position p s → IsPlaced (placed_in path (bare s)) (path ++ i ∷ [])
 opened_placed path Standalone p i s h a b = absurd (let x = alone_end p s h in omega arith)
 opened_placed path Cluster p i s h a b = row_placed path p i s h a b
 opened_placed path Free p i s h a b = row_placed path p i s h a b
@@ -69,7 +69,7 @@ opened_placed path Free p i s h a b = row_placed path p i s h a b
 abbrev pub AreAmong : {X : Type 0} → List X → List X → Type 0
 AreAmong {X} xs whole = (x : X) → Contains xs x → Contains whole x
 
-begun_inside : (whole : List Placed) (path : List ℕ) (p w : ℕ) (e : Entry) (b s : Drawn) → IsSound (opened e p) s → AreAmong (placed_in path (bare (Grown p w e Begins b s))) whole → IsInside whole (Run path p (end_of p s))
+begun_inside : (whole : List Placed) (path : List ℕ) (p w : ℕ) (e : Entry) (b s : Drawn) → IsSoundDrawing (opened e p) s → AreAmong (placed_in path (bare (Grown p w e Begins b s))) whole → IsInside whole (Run path p (end_position p s))
 begun_inside whole path p w e b s h among = (
   open_end e p s h,
   (λ i low high. elim (cases_lt p i) [
@@ -90,18 +90,18 @@ pub among_beside : (whole : List Placed) (path : List ℕ) (p w : ℕ) (e : Entr
 among_beside whole path p w e cut b s among x c = among x (contains_there _ (placed_in (path ++ p ∷ []) (bare b) ++ placed_in path (bare s)) x (Contains-append_right (placed_in (path ++ p ∷ []) (bare b)) (placed_in path (bare s)) x c))
 
 -- the intervals are rows of nodes
-pub all_inside : (whole : List Placed) (before : Option ℕ) (path : List ℕ) (d : Drawn) → IsSound before d → AreAmong (placed_in path (bare d)) whole → AllByRecursion (IsInside whole) (intervals path d)
+pub all_inside : (whole : List Placed) (before : Option ℕ) (path : List ℕ) (d : Drawn) → IsSoundDrawing before d → AreAmong (placed_in path (bare d)) whole → AllByRecursion (IsInside whole) (drawn_intervals path d)
 all_inside whole before path Bare h among = tt
 all_inside whole before path (Grown p w e Stays b s) h among =
-    both (IsInside whole) (intervals (path ++ p ∷ []) b) (intervals path s)
+    both (IsInside whole) (drawn_intervals (path ++ p ∷ []) b) (drawn_intervals path s)
     (all_inside whole None (path ++ p ∷ []) b h.1 (among_below whole path p w e Stays b s among)) (all_inside whole None path s h.2 (among_beside whole path p w e Stays b s among))
 all_inside whole before path (Grown p w e Begins b s) h among = (
   begun_inside whole path p w e b s h.1 among,
-  both (IsInside whole) (intervals (path ++ p ∷ []) b) (intervals path s)
+  both (IsInside whole) (drawn_intervals (path ++ p ∷ []) b) (drawn_intervals path s)
       (all_inside whole None (path ++ p ∷ []) b h.0 (among_below whole path p w e Begins b s among)) (all_inside whole (opened e p) path s h.1 (among_beside whole path p w e Begins b s among)),
 )
 all_inside whole before path (Grown p w e GoesOn b s) h among =
-    both (IsInside whole) (intervals (path ++ p ∷ []) b) (intervals path s)
+    both (IsInside whole) (drawn_intervals (path ++ p ∷ []) b) (drawn_intervals path s)
     (all_inside whole None (path ++ p ∷ []) b h.4 (among_below whole path p w e GoesOn b s among)) (all_inside whole (Some p) path s h.5 (among_beside whole path p w e GoesOn b s among))
 
 -- the place of the holder of a node below the one at the path, where there is one
@@ -114,16 +114,16 @@ held_here h path p w place e is i same = (place, ap h (sym same) ∙ is)
 not_row : (h : List ℕ → Option ℕ) (path : List ℕ) (p : ℕ) (b : Drawn) → Rises 0 b → AllByRecursion (IsRowHeld h path) (placed_in (path ++ p ∷ []) (bare b))
 not_row h path p b r = weaker _ (placed_in (path ++ p ∷ []) (bare b)) (λ node f i same. absurd (deeper path i p f.0 f.1 (sym same ∙ f.2 ∙ append_assoc path (p ∷ []) (f.0 ∷ f.1)))) (placed_from 0 (path ++ p ∷ []) b r)
 
-row_held : (h : List ℕ → Option ℕ) (run base low : ℕ) (path : List ℕ) (d : Drawn) → Rises low d → IsNumbered h run base path d → AreMembers d → AllByRecursion (IsRowHeld h path) (placed_in path (bare d))
+row_held : (h : List ℕ → Option ℕ) (run base low : ℕ) (path : List ℕ) (d : Drawn) → Rises low d → IsNumbered h run base path d → NoneStays d → AllByRecursion (IsRowHeld h path) (placed_in path (bare d))
 row_held h run base low path Bare r n m = tt
 row_held h run base low path (Grown p w e Stays b s) r n m = absurd m
 row_held h run base low path (Grown p w e Begins b s) r n m = (
   held_here h path p w base e n.0,
-  both _ (placed_in (path ++ p ∷ []) (bare b)) (placed_in path (bare s)) (not_row h path p b r.1) (row_held h base (base + 1 + count b) (p + 1) path s r.2 n.2 m),
+  both _ (placed_in (path ++ p ∷ []) (bare b)) (placed_in path (bare s)) (not_row h path p b r.1) (row_held h base (base + 1 + interval_count b) (p + 1) path s r.2 n.2 m),
 )
 row_held h run base low path (Grown p w e GoesOn b s) r n m = (
   held_here h path p w run e n.0,
-  both _ (placed_in (path ++ p ∷ []) (bare b)) (placed_in path (bare s)) (not_row h path p b r.1) (row_held h run (base + count b) (p + 1) path s r.2 n.2 m),
+  both _ (placed_in (path ++ p ∷ []) (bare b)) (placed_in path (bare s)) (not_row h path p b r.1) (row_held h run (base + interval_count b) (p + 1) path s r.2 n.2 m),
 )
 
 -- the holder of a node is an interval that has it as a member
@@ -146,37 +146,37 @@ last_same (x ∷ u) (y ∷ v) i j e =
 abbrev pub StandsAlone : List Interval → Placed → Type 0
 StandsAlone parts node = node.entry ≡ Standalone → (parent : List ℕ) (i : ℕ) → node.path ≡ parent ++ i ∷ [] → Contains parts (Run parent i i)
 
-stands_alone : (parts : List Interval) (before : Option ℕ) (path : List ℕ) (d : Drawn) → IsSound before d → AreAmong (intervals path d) parts → AllByRecursion (StandsAlone parts) (placed_in path (bare d))
+stands_alone : (parts : List Interval) (before : Option ℕ) (path : List ℕ) (d : Drawn) → IsSoundDrawing before d → AreAmong (drawn_intervals path d) parts → AllByRecursion (StandsAlone parts) (placed_in path (bare d))
 stands_alone parts before path Bare h among = tt
 stands_alone parts before path (Grown p w e Stays b s) h among = (
   (λ is parent i same. absurd (h.0 is)),
   both _ (placed_in (path ++ p ∷ []) (bare b)) (placed_in path (bare s))
-      (stands_alone parts None (path ++ p ∷ []) b h.1 (λ x c. among x (Contains-append_left (intervals (path ++ p ∷ []) b) (intervals path s) x c)))
-      (stands_alone parts None path s h.2 (λ x c. among x (Contains-append_right (intervals (path ++ p ∷ []) b) (intervals path s) x c))),
+      (stands_alone parts None (path ++ p ∷ []) b h.1 (λ x c. among x (Contains-append_left (drawn_intervals (path ++ p ∷ []) b) (drawn_intervals path s) x c)))
+      (stands_alone parts None path s h.2 (λ x c. among x (Contains-append_right (drawn_intervals (path ++ p ∷ []) b) (drawn_intervals path s) x c))),
 )
 stands_alone parts before path (Grown p w e Begins b s) h among =
-    let rest = intervals (path ++ p ∷ []) b ++ intervals path s in
-    let x = Run path p (end_of p s) in (
+    let rest = drawn_intervals (path ++ p ∷ []) b ++ drawn_intervals path s in
+    let x = Run path p (end_position p s) in (
       (λ is parent i same.
           let l = last_same path parent p i same in
-          let end : end_of p s ≡ p = alone_end p s (subst (λ f. IsSound (opened f p) s) is h.1) in
-          let run : Run path p (end_of p s) ≡ Run parent i i = ap (λ j. Run path p j) end ∙ (λ k. Run (l.0 k) (l.1 k) (l.1 k)) in
+          let end : end_position p s ≡ p = alone_end p s (subst (λ f. IsSoundDrawing (opened f p) s) is h.1) in
+          let run : Run path p (end_position p s) ≡ Run parent i i = ap (λ j. Run path p j) end ∙ (λ k. Run (l.0 k) (l.1 k) (l.1 k)) in
           subst (Contains parts) run (among x (contains_here x rest x refl))),
       both _ (placed_in (path ++ p ∷ []) (bare b)) (placed_in path (bare s))
-          (stands_alone parts None (path ++ p ∷ []) b h.0 (λ y c. among y (contains_there x rest y (Contains-append_left (intervals (path ++ p ∷ []) b) (intervals path s) y c))))
-          (stands_alone parts (opened e p) path s h.1 (λ y c. among y (contains_there x rest y (Contains-append_right (intervals (path ++ p ∷ []) b) (intervals path s) y c)))),
+          (stands_alone parts None (path ++ p ∷ []) b h.0 (λ y c. among y (contains_there x rest y (Contains-append_left (drawn_intervals (path ++ p ∷ []) b) (drawn_intervals path s) y c))))
+          (stands_alone parts (opened e p) path s h.1 (λ y c. among y (contains_there x rest y (Contains-append_right (drawn_intervals (path ++ p ∷ []) b) (drawn_intervals path s) y c)))),
     )
 stands_alone parts before path (Grown p w e GoesOn b s) h among = (
   (λ is parent i same. absurd (h.3 is)),
   both _ (placed_in (path ++ p ∷ []) (bare b)) (placed_in path (bare s))
-      (stands_alone parts None (path ++ p ∷ []) b h.4 (λ x c. among x (Contains-append_left (intervals (path ++ p ∷ []) b) (intervals path s) x c)))
-      (stands_alone parts (Some p) path s h.5 (λ x c. among x (Contains-append_right (intervals (path ++ p ∷ []) b) (intervals path s) x c))),
+      (stands_alone parts None (path ++ p ∷ []) b h.4 (λ x c. among x (Contains-append_left (drawn_intervals (path ++ p ∷ []) b) (drawn_intervals path s) x c)))
+      (stands_alone parts (Some p) path s h.5 (λ x c. among x (Contains-append_right (drawn_intervals (path ++ p ∷ []) b) (drawn_intervals path s) x c))),
 )
 
 -- a sketch with its intervals drawn in, in which no root stays with the helper, is a plan
-pub drawn_plan : (d : Drawn) → IsWhole d → AreMembers d → IsPlan (placed (bare d)) (intervals [] d)
+pub drawn_plan : (d : Drawn) → IsWhole d → NoneStays d → IsPlanOfPart (placed (bare d)) (drawn_intervals [] d)
 drawn_plan d h m =
-    let parts = intervals [] d in
+    let parts = drawn_intervals [] d in
     let nodes = placed (bare d) in
     record {
       inside = All-from_recursion (IsInside nodes) parts (all_inside nodes None [] d h.sound (λ x c. c));
@@ -187,16 +187,16 @@ drawn_plan d h m =
       alone = λ parent i has. all_of (StandsAlone parts) nodes (stands_alone parts None [] d h.sound (λ x c. c)) has.0 has.1 has.3 parent i has.2;
     }
 
-pub drawn_order : (d : Drawn) → IsWhole d → AreInOrder (intervals [] d)
-drawn_order d h = all_pairs Comes (intervals [] d) (sorted 0 [] d h.rises)
+pub drawn_order : (d : Drawn) → IsWhole d → AreInOrder (drawn_intervals [] d)
+drawn_order d h = all_pairs Comes (drawn_intervals [] d) (sorted 0 [] d h.rises)
 
-pub drawn_feasible : (k : ℕ) (d : Drawn) → IsWhole d → AreMembers d → heaviest d ≤ k → IsFeasiblePlan k (placed (bare d)) (intervals [] d)
+pub drawn_feasible : (k : ℕ) (d : Drawn) → IsWhole d → NoneStays d → heaviest d ≤ k → IsFeasiblePlan k (placed (bare d)) (drawn_intervals [] d)
 drawn_feasible k d h m light = record { plan = drawn_plan d h m; light = λ index lt. omega (arith, whole_weight d h index, weight-most index 0 d) }
 
-pub drawn_heavy : (k : ℕ) (d : Drawn) → IsWhole d → k < heaviest d → ¬ IsFeasiblePlan k (placed (bare d)) (intervals [] d)
+pub drawn_heavy : (k : ℕ) (d : Drawn) → IsWhole d → k < heaviest d → ¬ IsFeasiblePlan k (placed (bare d)) (drawn_intervals [] d)
 drawn_heavy k d h heavy f =
     let g = weight-heaviest k 0 d heavy in
-    let n = length-intervals [] d in
+    let n = length-drawn_intervals [] d in
     let lt = g.1 in
     let more = g.2 in
     omega (arith, whole_weight d h g.0, f.light g.0 (omega arith))
@@ -209,26 +209,26 @@ kept_nodes : (h : List ℕ → Option ℕ) (run base : ℕ) (path : List ℕ) (d
 kept_nodes h run base path Bare n k = tt
 kept_nodes h run base path (Grown p w e Stays b s) n k = (
   (λ is. n.0),
-  both _ (placed_in (path ++ p ∷ []) (bare b)) (placed_in path (bare s)) (kept_nodes h 0 base (path ++ p ∷ []) b n.1 k.1) (kept_nodes h 0 (base + count b) path s n.2 k.2),
+  both _ (placed_in (path ++ p ∷ []) (bare b)) (placed_in path (bare s)) (kept_nodes h 0 base (path ++ p ∷ []) b n.1 k.1) (kept_nodes h 0 (base + interval_count b) path s n.2 k.2),
 )
 kept_nodes h run base path (Grown p w e Begins b s) n k = (
   (λ is. absurd (let no = k.0 is in no_begin no)),
-  both _ (placed_in (path ++ p ∷ []) (bare b)) (placed_in path (bare s)) (kept_nodes h 0 (base + 1) (path ++ p ∷ []) b n.1 k.1) (kept_nodes h base (base + 1 + count b) path s n.2 k.2),
+  both _ (placed_in (path ++ p ∷ []) (bare b)) (placed_in path (bare s)) (kept_nodes h 0 (base + 1) (path ++ p ∷ []) b n.1 k.1) (kept_nodes h base (base + 1 + interval_count b) path s n.2 k.2),
 )
   where
     no_begin : Begins ≡ Stays → ⊥
     no_begin e = cc
 kept_nodes h run base path (Grown p w e GoesOn b s) n k = (
   (λ is. absurd (let no = k.0 is in no_go no)),
-  both _ (placed_in (path ++ p ∷ []) (bare b)) (placed_in path (bare s)) (kept_nodes h 0 base (path ++ p ∷ []) b n.1 k.1) (kept_nodes h run (base + count b) path s n.2 k.2),
+  both _ (placed_in (path ++ p ∷ []) (bare b)) (placed_in path (bare s)) (kept_nodes h 0 base (path ++ p ∷ []) b n.1 k.1) (kept_nodes h run (base + interval_count b) path s n.2 k.2),
 )
   where
     no_go : GoesOn ≡ Stays → ⊥
     no_go e = cc
 
-pub drawn_keeps : (d : Drawn) → IsWhole d → AreKept d → KeepsClusters (placed (bare d)) (intervals [] d)
+pub drawn_keeps : (d : Drawn) → IsWhole d → AreKept d → KeepsClusters (placed (bare d)) (drawn_intervals [] d)
 drawn_keeps d h k parent i has =
-    let parts = intervals [] d in
+    let parts = drawn_intervals [] d in
     let none = all_of (IsKeptNode (holder parts)) (placed (bare d)) (kept_nodes (holder parts) 0 0 [] d (whole_numbered d h) k) has.0 has.1 has.3 in
     let here : holder parts (parent ++ i ∷ []) ≡ None = ap (holder parts) (sym has.2) ∙ none in
     owner-longer parts parent i ∙ ap (λ (o : Option ℕ). option_or o (owner parts parent)) here

@@ -11,7 +11,7 @@ use Rattle.nx_parts.specs.declared.interval.Interval.TheVariants.{Root, Run}
 use Rattle.nx_parts.specs.Partitioning.{has_member, holder}
 use Rattle.nx_cuts.proofs.PairLemmas.{PairsBy, both, weaker, pairs-append}
 use Rattle.nx_cuts.proofs.FeasibleLemmas.{child_reaches, deeper, same_step}
-use Rattle.nx_sketch.specs.Sketch.{Sketch, Empty, Plant, Placed, placed, placed_in, total, AreRising, AreUnclustered, IsSketch}
+use Rattle.nx_sketch.specs.Sketch.{Sketch, Empty, Plant, Placed, placed, placed_in, sketch_weight, AreRising, AreUnclustered, IsSketch}
 use Rattle.nx_sketch.specs.Plan.{HasEntry}
 use Rattle.nx_sketch.specs.Separator.{is_marked, IsLoose, IsSingle, IsSeparatorRun, IsSeparatorPlan}
 use Rattle.nx_sketch.proofs.MarkLemmas.{all_weighed, placed_from}
@@ -19,9 +19,9 @@ use Rattle.nx_division.specs.declared.cut.Cut.{Cut}
 use Rattle.nx_division.specs.declared.cut.Cut.TheVariants.{Stays, Begins, GoesOn}
 use Rattle.nx_division.specs.declared.separate.Side.{Side}
 use Rattle.nx_division.specs.declared.separate.Kind.TheVariants.{Loose, Inner}
-use Rattle.nx_division.specs.Drawn.{Drawn, Grown, count, intervals}
+use Rattle.nx_division.specs.Drawn.{Drawn, Grown, interval_count, drawn_intervals}
 use Rattle.nx_division.specs.Divided.{separator_plan}
-use Rattle.nx_division.specs.Separated.{mark_by, kind_of, cut_of, side_of, separated}
+use Rattle.nx_division.specs.Separated.{mark_by, spot_kind, cut_of, side_of, separated}
 use Rattle.nx_division.proofs.NumberLemmas.{IsNumbered}
 use Rattle.nx_division.proofs.WeightLemmas.{IsWhole, whole_numbered}
 use Rattle.nx_division.proofs.PlanLemmas.{all_of, last_same, holder_member, drawn_order}
@@ -51,12 +51,12 @@ below_numbered h run base path p w e bd sd Begins x = (base + 1, x.1)
 below_numbered h run base path p w e bd sd GoesOn x = (base, x.1)
 
 beside_numbered : (h : List ℕ → Option ℕ) (run base : ℕ) (path : List ℕ) (p w : ℕ) (e : Entry) (bd sd : Drawn) (cut : Cut) → IsNumbered h run base path (Grown p w e cut bd sd) → (r : ℕ) × (n : ℕ) × IsNumbered h r n path sd
-beside_numbered h run base path p w e bd sd Stays x = (0, base + count bd, x.2)
-beside_numbered h run base path p w e bd sd Begins x = (base, base + 1 + count bd, x.2)
-beside_numbered h run base path p w e bd sd GoesOn x = (run, base + count bd, x.2)
+beside_numbered h run base path p w e bd sd Stays x = (0, base + interval_count bd, x.2)
+beside_numbered h run base path p w e bd sd Begins x = (base, base + 1 + interval_count bd, x.2)
+beside_numbered h run base path p w e bd sd GoesOn x = (run, base + interval_count bd, x.2)
 
 -- such a node isn't left with its parent
-asked_kind : (e : Entry) (root wide m : Bool) → kind_of e root wide m ≡ Inner → (e ≡ Standalone) ⊎ (((root ≡ true) × (wide ≡ true) × (e ≢ Cluster)) ⊎ ((e ≡ Free) × (m ≡ false) × (wide ≡ true))) → ⊥
+asked_kind : (e : Entry) (root wide m : Bool) → spot_kind e root wide m ≡ Inner → (e ≡ Standalone) ⊎ (((root ≡ true) × (wide ≡ true) × (e ≢ Cluster)) ⊎ ((e ≡ Free) × (m ≡ false) × (wide ≡ true))) → ⊥
 asked_kind e root wide m k (inl alone) = kind_inner e root wide m k alone
 asked_kind e root wide m k (inr (inr loose)) = let z = sym (is_loose_kind e root wide m loose.0 loose.2 loose.1) ∙ k in loose_inner z
   where
@@ -73,12 +73,12 @@ module _ (all : List Placed) (t tol : ℕ) (h : List ℕ → Option ℕ) where
   here_held : (run base : ℕ) (path : List ℕ) (a low : ℕ) (root wide : Bool) (side : Option Side) (p w : ℕ) (e : Entry) (b s : Sketch) → IsRow all t tol path a low root wide side (Plant p w e b s) → IsOpen all t tol path root wide (Plant p w e b s)
       → IsNumbered h run base path (separated t tol a root wide side (Plant p w e b s)) → HeldIfAsked all t tol h (record { path = path ++ p ∷ []; weight = w; entry = e })
   here_held run base path a low root wide side p w e b s r o n parent i is asked =
-      let m = mark_by t tol a (w + total b) in
-      let k = kind_of e root wide m in
+      let m = mark_by t tol a (w + sketch_weight b) in
+      let k = spot_kind e root wide m in
       let same : path ≡ parent = (last_same path parent p i is).0 in
       let here = here_marked all t tol path a low root wide side p w e b s r in
-      held_by h run base path p w e _ _ (cut_of k side p (nat_le (a + (w + total b)) t))
-      (λ st. asked_kind e root wide m (stays_cut k side p (nat_le (a + (w + total b)) t) st)
+      held_by h run base path p w e _ _ (cut_of k side p (nat_le (a + (w + sketch_weight b)) t))
+      (λ st. asked_kind e root wide m (stays_cut k side p (nat_le (a + (w + sketch_weight b)) t) st)
       (elim asked [
         | inl alone ↦ inl alone
         | inr other ↦ elim other [
@@ -92,9 +92,9 @@ module _ (all : List Placed) (t tol : ℕ) (h : List ℕ → Option ℕ) where
       → IsNumbered h run base path (separated t tol a root wide side s) → AllByRecursion (HeldIfAsked all t tol h) (placed_in path s)
   held_asked run base path a low root wide side Empty r o n = tt
   held_asked run base path a low root wide side (Plant p w e b s) r o n =
-      let m = mark_by t tol a (w + total b) in
-      let k = kind_of e root wide m in
-      let cut = cut_of k side p (nat_le (a + (w + total b)) t) in
+      let m = mark_by t tol a (w + sketch_weight b) in
+      let k = spot_kind e root wide m in
+      let cut = cut_of k side p (nat_le (a + (w + sketch_weight b)) t) in
       let nb = below_numbered h run base path p w e _ _ cut n in
       let ns = beside_numbered h run base path p w e _ _ cut n in (
         here_held run base path a low root wide side p w e b s r o n,
@@ -102,7 +102,7 @@ module _ (all : List Placed) (t tol : ℕ) (h : List ℕ → Option ℕ) where
             (held_asked 0 nb.0 (path ++ p ∷ []) (a + w) 0 false m None b (row_below all t tol path a low root wide side p w e b s r)
             (record { helper = λ none. absurd (not_nil path p none); marked = λ is. sym (here_marked all t tol path a low root wide side p w e b s r) ∙ is })
             nb.1)
-            (held_asked ns.0 ns.1 path (a + (w + total b)) (p + 1) root wide (side_of k p (nat_le (a + (w + total b)) t)) s (row_beside all t tol path a low root wide side p w e b s r)
+            (held_asked ns.0 ns.1 path (a + (w + sketch_weight b)) (p + 1) root wide (side_of k p (nat_le (a + (w + sketch_weight b)) t)) s (row_beside all t tol path a low root wide side p w e b s r)
             (record { helper = λ none. let f = o.helper none in (f.0, f.1, f.2.1); marked = o.marked })
             ns.2),
       )
@@ -202,11 +202,11 @@ separator_whole s t tol h = record {
 }
 
 -- each interval of the plan is drawn
-all_drawn : (s : Sketch) (t tol : ℕ) → IsSketch s → (x : Interval) → IsSeparatorRun (placed s) t tol x → Contains (intervals [] (separator_plan s t tol)) x
+all_drawn : (s : Sketch) (t tol : ℕ) → IsSketch s → (x : Interval) → IsSeparatorRun (placed s) t tol x → Contains (drawn_intervals [] (separator_plan s t tol)) x
 all_drawn s t tol h Root run = absurd run
 all_drawn s t tol h (Run parent f l) run =
     let d = separator_plan s t tol in
-    let parts = intervals [] d in
+    let parts = drawn_intervals [] d in
     let all = placed s in
     let row = top_row s t tol h in
     let claims = held_asked all t tol (holder parts) 0 0 [] 0 0 true true None s row (record { helper = λ none. (refl, refl, h.unclustered); marked = λ is. refl }) (whole_numbered d (separator_whole s t tol h)) in
@@ -231,7 +231,7 @@ all_drawn s t tol h (Run parent f l) run =
           ],
         )
 
-    found : (x : Interval) → Contains (intervals [] (separator_plan s t tol)) x → IsSeparatorRun (placed s) t tol x → IsTrue (has_member x (parent ++ f ∷ [])) → Contains (intervals [] (separator_plan s t tol)) (Run parent f l)
+    found : (x : Interval) → Contains (drawn_intervals [] (separator_plan s t tol)) x → IsSeparatorRun (placed s) t tol x → IsTrue (has_member x (parent ++ f ∷ [])) → Contains (drawn_intervals [] (separator_plan s t tol)) (Run parent f l)
     found Root c is m = absurd is
     found (Run other g n) c is m =
         let reach = child_reaches other g n (parent ++ f ∷ []) m in
@@ -239,14 +239,14 @@ all_drawn s t tol h (Run parent f l) run =
         let ge : g ≤ f = let x = reach.2 in let y = same.1 in omega arith in
         let le : f ≤ n = let x = reach.3 in let y = same.1 in omega arith in
         let it = same_run s t tol h.rising parent f l g n run (subst (λ q. IsSeparatorRun (placed s) t tol (Run q g n)) same.0 is) ge le in
-        subst (Contains (intervals [] (separator_plan s t tol))) (λ i. Run (same.0 i) (it.0 i) (it.1 i)) c
+        subst (Contains (drawn_intervals [] (separator_plan s t tol))) (λ i. Run (same.0 i) (it.0 i) (it.1 i)) c
 
 -- the plan that is drawn is the separator's
-pub planned : (s : Sketch) (t tol : ℕ) → IsSketch s → IsSeparatorPlan (placed s) t tol (intervals [] (separator_plan s t tol))
+pub planned : (s : Sketch) (t tol : ℕ) → IsSketch s → IsSeparatorPlan (placed s) t tol (drawn_intervals [] (separator_plan s t tol))
 planned s t tol h = record {
   order = drawn_order (separator_plan s t tol) (separator_whole s t tol h);
   runs = λ x. (
-    all_of (IsSeparatorRun (placed s) t tol) (intervals [] (separator_plan s t tol)) (runs_are (placed s) t tol [] 0 0 true true None s (top_row s t tol h)) x,
+    all_of (IsSeparatorRun (placed s) t tol) (drawn_intervals [] (separator_plan s t tol)) (runs_are (placed s) t tol [] 0 0 true true None s (top_row s t tol h)) x,
     all_drawn s t tol h x,
   );
 }

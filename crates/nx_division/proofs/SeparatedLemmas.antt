@@ -7,7 +7,7 @@ use Rattle.std.proofs.lemmas.List.Elements.{Contains-append_cases}
 use Rattle.nx_matrix.specs.declared.rule.Entry.{Entry}
 use Rattle.nx_matrix.specs.declared.rule.Entry.TheVariants.{Standalone, Cluster, Free}
 use Rattle.nx_cuts.proofs.FeasibleLemmas.{deeper, same_step}
-use Rattle.nx_sketch.specs.Sketch.{Sketch, Empty, Plant, Placed, placed_in, total, AreRising, AreUnclustered}
+use Rattle.nx_sketch.specs.Sketch.{Sketch, Empty, Plant, Placed, placed_in, sketch_weight, AreRising, AreUnclustered}
 use Rattle.nx_sketch.specs.Plan.{IsPlaced, HasEntry}
 use Rattle.nx_sketch.proofs.MarkLemmas.{placed_from}
 use Rattle.nx_division.specs.declared.cut.Cut.{Cut}
@@ -15,8 +15,8 @@ use Rattle.nx_division.specs.declared.cut.Cut.TheVariants.{Stays, Begins, GoesOn
 use Rattle.nx_division.specs.declared.separate.Side.{Side}
 use Rattle.nx_division.specs.declared.separate.Kind.{Kind}
 use Rattle.nx_division.specs.declared.separate.Kind.TheVariants.{Single, Loose, Inner}
-use Rattle.nx_division.specs.Drawn.{Drawn, Bare, Grown, bare, Rises, IsSound, AreMembers, opened}
-use Rattle.nx_division.specs.Separated.{mark_by, kind_of, same_side, row_cut, cut_of, side_of, separated}
+use Rattle.nx_division.specs.Drawn.{Drawn, Bare, Grown, bare, Rises, IsSoundDrawing, NoneStays, opened}
+use Rattle.nx_division.specs.Separated.{mark_by, spot_kind, same_side, row_cut, cut_of, side_of, separated}
 use Rattle.nx_division.proofs.NumberLemmas.{none_some, some_same}
 use Rattle.nx_division.proofs.PlanLemmas.{all_of}
 
@@ -27,16 +27,16 @@ last_side (Some side) = Some side.last
 pub bare-separated : (t tol a : ℕ) (root wide : Bool) (side : Option Side) (s : Sketch) → bare (separated t tol a root wide side s) ≡ s
 bare-separated t tol a root wide side Empty = refl
 bare-separated t tol a root wide side (Plant p w e b s) =
-    let m = mark_by t tol a (w + total b) in
+    let m = mark_by t tol a (w + sketch_weight b) in
     λ i. Plant p w e (bare-separated t tol (a + w) false m None b i)
-    (bare-separated t tol (a + (w + total b)) root wide (side_of (kind_of e root wide m) p (nat_le (a + (w + total b)) t)) s i)
+    (bare-separated t tol (a + (w + sketch_weight b)) root wide (side_of (spot_kind e root wide m) p (nat_le (a + (w + sketch_weight b)) t)) s i)
 
 pub rises_bare : (low : ℕ) (d : Drawn) → AreRising low (bare d) → Rises low d
 rises_bare low Bare h = tt
 rises_bare low (Grown p w e cut b s) h = (h.0, rises_bare 0 b h.1, rises_bare (p + 1) s h.2)
 
 -- what a kind says of a node
-pub kind_single : (e : Entry) (root wide m : Bool) → kind_of e root wide m ≡ Single → (e ≡ Standalone) ⊎ ((root ≡ true) × (m ≡ true))
+pub kind_single : (e : Entry) (root wide m : Bool) → spot_kind e root wide m ≡ Single → (e ≡ Standalone) ⊎ ((root ≡ true) × (m ≡ true))
 kind_single Standalone root wide m h = inl refl
 kind_single Cluster true wide true h = inr (refl, refl)
 kind_single Cluster true wide false h = absurd (cc)
@@ -46,7 +46,7 @@ kind_single Free false wide true h = absurd (cc)
 kind_single Free root true false h = absurd (cc)
 kind_single Free root false false h = absurd (cc)
 
-pub kind_loose : (e : Entry) (root wide m : Bool) → kind_of e root wide m ≡ Loose → (e ≡ Free) × (wide ≡ true) × (m ≡ false)
+pub kind_loose : (e : Entry) (root wide m : Bool) → spot_kind e root wide m ≡ Loose → (e ≡ Free) × (wide ≡ true) × (m ≡ false)
 kind_loose Standalone root wide m h = absurd (cc)
 kind_loose Cluster true wide true h = absurd (cc)
 kind_loose Cluster true wide false h = absurd (cc)
@@ -56,12 +56,12 @@ kind_loose Free false wide true h = absurd (cc)
 kind_loose Free root true false h = (refl, refl, refl)
 kind_loose Free root false false h = absurd (cc)
 
-pub kind_inner : (e : Entry) (root wide m : Bool) → kind_of e root wide m ≡ Inner → e ≢ Standalone
+pub kind_inner : (e : Entry) (root wide m : Bool) → spot_kind e root wide m ≡ Inner → e ≢ Standalone
 kind_inner Standalone root wide m h = absurd (cc)
 kind_inner Cluster root wide m h = λ e. cc
 kind_inner Free root wide m h = λ e. cc
 
-pub is_loose_kind : (e : Entry) (root wide m : Bool) → e ≡ Free → wide ≡ true → m ≡ false → kind_of e root wide m ≡ Loose
+pub is_loose_kind : (e : Entry) (root wide m : Bool) → e ≡ Free → wide ≡ true → m ≡ false → spot_kind e root wide m ≡ Loose
 is_loose_kind Standalone root wide m e w n = absurd (cc)
 is_loose_kind Cluster root wide m e w n = absurd (cc)
 is_loose_kind Free root true false e w n = refl
@@ -134,14 +134,14 @@ stays_cut Single side p l h = absurd (cc)
 stays_cut Loose side p l h = absurd (row_not_stays side p l h)
 stays_cut Inner side p l h = refl
 
-pub sound_any : (before : Option ℕ) (d : Drawn) → IsSound None d → IsSound before d
+pub sound_any : (before : Option ℕ) (d : Drawn) → IsSoundDrawing None d → IsSoundDrawing before d
 sound_any before Bare h = h
 sound_any before (Grown p w e Stays b s) h = h
 sound_any before (Grown p w e Begins b s) h = h
 sound_any before (Grown p w e GoesOn b s) h = absurd (none_some h.1)
 
-sound_by : (k : Kind) (side : Option Side) (p w : ℕ) (e : Entry) (l : Bool) (b s : Drawn) → (k ≡ Loose → e ≡ Free) → (k ≡ Inner → e ≢ Standalone) → IsSound None b → IsSound (last_side (side_of k p l)) s → (cut : Cut) → cut_of k side p l ≡ cut → IsSound (last_side side) (Grown p w e cut b s)
-sound_by k side p w e l b s lf inn hb hs Stays is = let k_is = stays_cut k side p l is in (inn k_is, hb, subst (λ z. IsSound (last_side (side_of z p l)) s) k_is hs)
+sound_by : (k : Kind) (side : Option Side) (p w : ℕ) (e : Entry) (l : Bool) (b s : Drawn) → (k ≡ Loose → e ≡ Free) → (k ≡ Inner → e ≢ Standalone) → IsSoundDrawing None b → IsSoundDrawing (last_side (side_of k p l)) s → (cut : Cut) → cut_of k side p l ≡ cut → IsSoundDrawing (last_side side) (Grown p w e cut b s)
+sound_by k side p w e l b s lf inn hb hs Stays is = let k_is = stays_cut k side p l is in (inn k_is, hb, subst (λ z. IsSoundDrawing (last_side (side_of z p l)) s) k_is hs)
 sound_by k side p w e l b s lf inn hb hs GoesOn is =
     let g = goes_cut k side p l is in
     let free = lf g.0 in (
@@ -150,42 +150,42 @@ sound_by k side p w e l b s lf inn hb hs GoesOn is =
       sym g.1.next,
       (λ al. let z = sym free ∙ al in free_alone z),
       hb,
-      subst (λ z. IsSound (last_side (side_of z p l)) s) g.0 hs,
+      subst (λ z. IsSoundDrawing (last_side (side_of z p l)) s) g.0 hs,
     )
   where
     free_alone : Free ≡ Standalone → ⊥
     free_alone h = cc
 sound_by Single side p w e l b s lf inn hb hs Begins is = (hb, sound_any (opened e p) s hs)
-sound_by Loose side p w e l b s lf inn hb hs Begins is = (hb, subst (λ z. IsSound (opened z p) s) (sym (lf refl)) hs)
+sound_by Loose side p w e l b s lf inn hb hs Begins is = (hb, subst (λ z. IsSoundDrawing (opened z p) s) (sym (lf refl)) hs)
 sound_by Inner side p w e l b s lf inn hb hs Begins is = absurd (cc)
 
-pub sound-separated : (t tol a : ℕ) (root wide : Bool) (side : Option Side) (s : Sketch) → IsSound (last_side side) (separated t tol a root wide side s)
+pub sound-separated : (t tol a : ℕ) (root wide : Bool) (side : Option Side) (s : Sketch) → IsSoundDrawing (last_side side) (separated t tol a root wide side s)
 sound-separated t tol a root wide side Empty = tt
 sound-separated t tol a root wide side (Plant p w e b s) =
-    let m = mark_by t tol a (w + total b) in
-    let l = nat_le (a + (w + total b)) t in
-    let k = kind_of e root wide m in
+    let m = mark_by t tol a (w + sketch_weight b) in
+    let l = nat_le (a + (w + sketch_weight b)) t in
+    let k = spot_kind e root wide m in
     sound_by k side p w e l _ _ (λ h. (kind_loose e root wide m h).0) (kind_inner e root wide m)
-    (sound-separated t tol (a + w) false m None b) (sound-separated t tol (a + (w + total b)) root wide (side_of k p l) s) (cut_of k side p l) refl
+    (sound-separated t tol (a + w) false m None b) (sound-separated t tol (a + (w + sketch_weight b)) root wide (side_of k p l) s) (cut_of k side p l) refl
 
-member_by : (p w : ℕ) (e : Entry) (b s : Drawn) (cut : Cut) → cut ≢ Stays → AreMembers s → AreMembers (Grown p w e cut b s)
+member_by : (p w : ℕ) (e : Entry) (b s : Drawn) (cut : Cut) → cut ≢ Stays → NoneStays s → NoneStays (Grown p w e cut b s)
 member_by p w e b s Stays n h = absurd (n refl)
 member_by p w e b s Begins n h = h
 member_by p w e b s GoesOn n h = h
 
-root_kind : (e : Entry) (m : Bool) → e ≢ Cluster → kind_of e true true m ≡ Inner → ⊥
+root_kind : (e : Entry) (m : Bool) → e ≢ Cluster → spot_kind e true true m ≡ Inner → ⊥
 root_kind Standalone m n h = cc
 root_kind Cluster m n h = n refl
 root_kind Free true n h = cc
 root_kind Free false n h = cc
 
-pub members-separated : (t tol a : ℕ) (side : Option Side) (s : Sketch) → AreUnclustered s → AreMembers (separated t tol a true true side s)
+pub members-separated : (t tol a : ℕ) (side : Option Side) (s : Sketch) → AreUnclustered s → NoneStays (separated t tol a true true side s)
 members-separated t tol a side Empty u = tt
 members-separated t tol a side (Plant p w e b s) u =
-    let m = mark_by t tol a (w + total b) in
-    let l = nat_le (a + (w + total b)) t in
-    let k = kind_of e true true m in
-    member_by p w e _ _ (cut_of k side p l) (λ h. root_kind e m u.0 (stays_cut k side p l h)) (members-separated t tol (a + (w + total b)) (side_of k p l) s u.1)
+    let m = mark_by t tol a (w + sketch_weight b) in
+    let l = nat_le (a + (w + sketch_weight b)) t in
+    let k = spot_kind e true true m in
+    member_by p w e _ _ (cut_of k side p l) (λ h. root_kind e m u.0 (stays_cut k side p l h)) (members-separated t tol (a + (w + sketch_weight b)) (side_of k p l) s u.1)
 
 -- what stands at this step or later below the path stands in this row or below it
 abbrev pub OnlyHere : List Placed → List ℕ → ℕ → Sketch → Type 0

@@ -5,12 +5,12 @@ use borrow.Rule.Slice.PartMut.{put_mid}
 use Rattle.nx_matrix.specs.declared.rule.Entry.{Entry}
 use Rattle.nx_division.specs.declared.cut.Cut.{Cut}
 use Rattle.nx_sketch.specs.declared.spot.Spot.{Spot}
-use Rattle.nx_sketch.specs.Sketch.{Sketch, Empty, Plant, nodes, spots_of, total}
+use Rattle.nx_sketch.specs.Sketch.{Sketch, Empty, Plant, spot_count, spots_of, sketch_weight}
 use Rattle.nx_sketch.specs.Sketch.{IsFlat}
 use Rattle.nx_division.specs.Parts.{IsPlanted, IsParted}
 use Rattle.nx_division.specs.Drawn.{Grown, drawn, bare}
 
-pub length-spots : (s : Sketch) → length (spots_of s) ≡ nodes s
+pub length-spots : (s : Sketch) → length (spots_of s) ≡ spot_count s
 length-spots Empty = refl
 length-spots (Plant p w e b s) = omega (arith, length-append (spots_of b) (spots_of s), length-spots b, length-spots s)
 
@@ -29,9 +29,9 @@ drop-front (x ∷ xs) ys (suc n) e = drop-front xs ys n (omega arith)
 pub planted : (spots : List Spot) (spot : Spot) (rest below beside : List Spot) (n : ℕ) (p w : ℕ) (e : Entry) (b s : Sketch) → spots ≡ spot ∷ rest → n ≡ spot.below → below ≡ take n rest → beside ≡ drop n rest → spots ≡ spots_of (Plant p w e b s) → IsPlanted spot below beside p w e b s
 planted spots spot rest below beside n p w e b s is count front back flat =
     let both : spot ∷ rest ≡ spots_of (Plant p w e b s) = sym is ∙ flat in
-    let first : spot ≡ record { position = p; weight = w; within = w + total b; entry = e; below = nodes b } = cc in
+    let first : spot ≡ record { position = p; weight = w; within = w + sketch_weight b; entry = e; below = spot_count b } = cc in
     let others : rest ≡ spots_of b ++ spots_of s = cc in
-    let n_is : n ≡ nodes b = count ∙ ap (λ (x : Spot). x.below) first in
+    let n_is : n ≡ spot_count b = count ∙ ap (λ (x : Spot). x.below) first in
     let len : length (spots_of b) ≡ n = length-spots b ∙ sym n_is in
     record {
       position = ap (λ (x : Spot). x.position) first;
@@ -53,27 +53,27 @@ pub enough : (spots : List Spot) (spot : Spot) (rest : List Spot) → spots ≡ 
 enough spots spot rest is Empty flat = let e : spot ∷ rest ≡ [] = sym is ∙ flat in cc
 enough spots spot rest is (Plant p w e b s) flat =
     let both : spot ∷ rest ≡ spots_of (Plant p w e b s) = sym is ∙ flat in
-    let first : spot ≡ record { position = p; weight = w; within = w + total b; entry = e; below = nodes b } = cc in
+    let first : spot ≡ record { position = p; weight = w; within = w + sketch_weight b; entry = e; below = spot_count b } = cc in
     let others : rest ≡ spots_of b ++ spots_of s = cc in
-    let n : spot.below ≡ nodes b = ap (λ (x : Spot). x.below) first in
+    let n : spot.below ≡ spot_count b = ap (λ (x : Spot). x.below) first in
     omega (arith, ap length others, length-append (spots_of b) (spots_of s), length-spots b, n)
 
-pub below_flat : (spot : Spot) (below beside : List Spot) (s : Sketch) → IsParted spot below beside s → total s < 2 ^ 24 → IsFlat below
+pub below_flat : (spot : Spot) (below beside : List Spot) (s : Sketch) → IsParted spot below beside s → sketch_weight s < 2 ^ 24 → IsFlat below
 below_flat spot below beside Empty h small = absurd h
 below_flat spot below beside (Plant p w e b s) h small = record { sketch = b; is = h.below_is; small = omega arith }
 
-pub beside_flat : (spot : Spot) (below beside : List Spot) (s : Sketch) → IsParted spot below beside s → total s < 2 ^ 24 → IsFlat beside
+pub beside_flat : (spot : Spot) (below beside : List Spot) (s : Sketch) → IsParted spot below beside s → sketch_weight s < 2 ^ 24 → IsFlat beside
 beside_flat spot below beside Empty h small = absurd h
 beside_flat spot below beside (Plant p w e b s) h small = record { sketch = s; is = h.beside_is; small = omega arith }
 
 -- the cuts of a node, of those below it and of those beside it
-pub drawn-parts : (p w : ℕ) (e : Entry) (b s : Sketch) (cut : Cut) (xs ys : List Cut) → length xs ≡ nodes b → drawn (Plant p w e b s) (cut ∷ xs ++ ys) ≡ Grown p w e cut (drawn b xs) (drawn s ys)
-drawn-parts p w e b s cut xs ys n = λ i. Grown p w e cut (drawn b (take-front xs ys (nodes b) n i)) (drawn s (drop-front xs ys (nodes b) n i))
+pub drawn-parts : (p w : ℕ) (e : Entry) (b s : Sketch) (cut : Cut) (xs ys : List Cut) → length xs ≡ spot_count b → drawn (Plant p w e b s) (cut ∷ xs ++ ys) ≡ Grown p w e cut (drawn b xs) (drawn s ys)
+drawn-parts p w e b s cut xs ys n = λ i. Grown p w e cut (drawn b (take-front xs ys (spot_count b) n i)) (drawn s (drop-front xs ys (spot_count b) n i))
 
 pub bare-drawn : (s : Sketch) (cuts : List Cut) → bare (drawn s cuts) ≡ s
 bare-drawn Empty cuts = refl
 bare-drawn (Plant p w e b s) [] = λ i. Plant p w e (bare-drawn b [] i) (bare-drawn s [] i)
-bare-drawn (Plant p w e b s) (cut ∷ cuts) = λ i. Plant p w e (bare-drawn b (take (nodes b) cuts) i) (bare-drawn s (drop (nodes b) cuts) i)
+bare-drawn (Plant p w e b s) (cut ∷ cuts) = λ i. Plant p w e (bare-drawn b (take (spot_count b) cuts) i) (bare-drawn s (drop (spot_count b) cuts) i)
 
 -- of a list with a first item, some that are overwritten and a rest
 pub mid_len : {A : Type 0} (cuts : List A) (n m : ℕ) → length cuts ≡ 1 + n + m → length (take (1 + n - 1) (drop 1 cuts)) ≡ n

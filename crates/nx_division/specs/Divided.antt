@@ -1,8 +1,8 @@
 -- A sketch with the intervals of its split drawn in.
 use Rattle.std.specs.Prelude.{◌≡◌, ℕ, ◌^◌, ◌<◌, ◌≤◌, true, None, List, ◌⊎◌}
 use Rattle.nx_sketch.specs.declared.spot.Spot.{Spot}
-use Rattle.nx_sketch.specs.Sketch.{Sketch, AreAtMost, spots_of, total}
-use Rattle.nx_division.specs.Drawn.{Drawn, heaviest, AreKept, AreMembers, IsFull, IsSound}
+use Rattle.nx_sketch.specs.Sketch.{Sketch, AreSpotsAtMost, spots_of, sketch_weight}
+use Rattle.nx_division.specs.Drawn.{Drawn, heaviest, AreKept, NoneStays, AreNeighboursHeavy, IsSoundDrawing}
 use Rattle.nx_division.specs.Settled.{AreTopsLight}
 use Rattle.nx_division.specs.Separated.{separated}
 
@@ -10,8 +10,8 @@ use Rattle.nx_division.specs.Separated.{separated}
 pub record IsSplittable (k : ℕ) (spots : List Spot) : Type 0 where
   pub sketch : Sketch
   pub is : spots ≡ spots_of sketch
-  pub small : total sketch < 2 ^ 24
-  pub light : AreAtMost k sketch
+  pub small : sketch_weight sketch < 2 ^ 24
+  pub light : AreSpotsAtMost k sketch
 
 -- the separator's plan, drawn
 abbrev pub separator_plan : Sketch → ℕ → ℕ → Drawn
@@ -20,10 +20,10 @@ separator_plan sketch t tolerance = separated t tolerance 0 true true None sketc
 -- another plan, where the separator's is too heavy
 pub record IsOther (k t tolerance : ℕ) (sketch : Sketch) (d : Drawn) : Type 0 where
   pub heavy : k < heaviest (separator_plan sketch t tolerance)
-  pub sound : IsSound None d
-  pub members : AreMembers d
+  pub sound : IsSoundDrawing None d
+  pub members : NoneStays d
   pub light : heaviest d ≤ k
-  pub full : IsFull k None d
+  pub full : AreNeighboursHeavy k None d
   pub kept : AreTopsLight k true sketch → AreKept d
 
 -- the split

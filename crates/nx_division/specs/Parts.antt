@@ -2,15 +2,15 @@
 use Rattle.std.specs.Prelude.{◌≡◌, ℕ, ◌+◌, List}
 use Rattle.nx_matrix.specs.declared.rule.Entry.{Entry}
 use Rattle.nx_sketch.specs.declared.spot.Spot.{Spot}
-use Rattle.nx_sketch.specs.Sketch.{Sketch, Empty, Plant, nodes, spots_of, total}
+use Rattle.nx_sketch.specs.Sketch.{Sketch, Empty, Plant, spot_count, spots_of, sketch_weight}
 
 -- what the first node and the two parts behind it say of the sketch
 pub record IsPlanted (spot : Spot) (below beside : List Spot) (p w : ℕ) (e : Entry) (b s : Sketch) : Type 0 where
   pub position : spot.position ≡ p
   pub weight : spot.weight ≡ w
-  pub within : spot.within ≡ w + total b
+  pub within : spot.within ≡ w + sketch_weight b
   pub entry : spot.entry ≡ e
-  pub nodes_below : spot.below ≡ nodes b
+  pub nodes_below : spot.below ≡ spot_count b
   pub below_is : below ≡ spots_of b
   pub beside_is : beside ≡ spots_of s
 

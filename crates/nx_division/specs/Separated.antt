@@ -2,7 +2,7 @@
 use Rattle.std.specs.Prelude.{ℕ, ◌+◌, Bool, true, false, ◌&&◌, not, ◌==◌, nat_le, nat_lt, if◌then◌else◌, Option, None, Some}
 use Rattle.nx_matrix.specs.declared.rule.Entry.{Entry}
 use Rattle.nx_matrix.specs.declared.rule.Entry.TheVariants.{Standalone, Cluster, Free}
-use Rattle.nx_sketch.specs.Sketch.{Sketch, Empty, Plant, total}
+use Rattle.nx_sketch.specs.Sketch.{Sketch, Empty, Plant, sketch_weight}
 use Rattle.nx_division.specs.declared.cut.Cut.{Cut}
 use Rattle.nx_division.specs.declared.cut.Cut.TheVariants.{Stays, Begins, GoesOn}
 use Rattle.nx_division.specs.declared.separate.Side.{Side}
@@ -15,10 +15,10 @@ abbrev pub mark_by : ℕ → ℕ → ℕ → ℕ → Bool
 mark_by t tolerance before within = nat_le before t && nat_lt t (before + within) && nat_lt tolerance within
 
 -- what becomes of a node: an interval alone, one of a row, or neither; below the helper (`root`), and below it or a node of the separator (`wide`)
-abbrev pub kind_of : Entry → Bool → Bool → Bool → Kind
-kind_of Standalone root wide marked = Single
-kind_of Cluster root wide marked = if root && marked then Single else Inner
-kind_of Free root wide marked = if marked then (if root then Single else Inner) else (if wide then Loose else Inner)
+abbrev pub spot_kind : Entry → Bool → Bool → Bool → Kind
+spot_kind Standalone root wide marked = Single
+spot_kind Cluster root wide marked = if root && marked then Single else Inner
+spot_kind Free root wide marked = if marked then (if root then Single else Inner) else (if wide then Loose else Inner)
 
 abbrev pub same_side : Bool → Bool → Bool
 same_side true left = left
@@ -44,7 +44,7 @@ abbrev pub separated : ℕ → ℕ → ℕ → Bool → Bool → Option Side →
 separated t tolerance a root wide side Empty = Bare
 separated t tolerance a root wide side (Plant position weight entry below beside) =
     Grown position weight entry
-    (cut_of (kind_of entry root wide (mark_by t tolerance a (weight + total below))) side position (nat_le (a + (weight + total below)) t))
-    (separated t tolerance (a + weight) false (mark_by t tolerance a (weight + total below)) None below)
-    (separated t tolerance (a + (weight + total below)) root wide
-    (side_of (kind_of entry root wide (mark_by t tolerance a (weight + total below))) position (nat_le (a + (weight + total below)) t)) beside)
+    (cut_of (spot_kind entry root wide (mark_by t tolerance a (weight + sketch_weight below))) side position (nat_le (a + (weight + sketch_weight below)) t))
+    (separated t tolerance (a + weight) false (mark_by t tolerance a (weight + sketch_weight below)) None below)
+    (separated t tolerance (a + (weight + sketch_weight below)) root wide
+    (side_of (spot_kind entry root wide (mark_by t tolerance a (weight + sketch_weight below))) position (nat_le (a + (weight + sketch_weight below)) t)) beside)

@@ -7,9 +7,9 @@ use Rattle.nx_division.specs.declared.cut.Cut.{Cut}
 use Rattle.nx_division.specs.declared.cut.Cut.TheVariants.{Stays, Begins, GoesOn}
 use Rattle.nx_sketch.specs.declared.spot.Spot.{Spot}
 use Rattle.nx_division.specs.declared.settle.Row.{Row}
-use Rattle.nx_sketch.specs.Sketch.{Sketch, Empty, Plant, spots_of, total}
+use Rattle.nx_sketch.specs.Sketch.{Sketch, Empty, Plant, spots_of, sketch_weight}
 use Rattle.nx_sketch.specs.Plan.{is_cluster}
-use Rattle.nx_division.specs.Drawn.{Drawn, left, goes, heaviest, IsSound, AreKept, IsFull}
+use Rattle.nx_division.specs.Drawn.{Drawn, staying_weight, goes, heaviest, IsSoundDrawing, AreKept, AreNeighboursHeavy}
 
 -- what the cluster children weigh that have to stay with the node above, with those that have to stay with them; where `keep` says so
 abbrev pub core : Bool → Sketch → ℕ
@@ -62,17 +62,17 @@ StaysLight k None d = Unit {0}
 StaysLight k (Some row) d = row.weight + goes d ≤ k
 
 -- the sketch as it is drawn in the end: what holds of it beside an open row, where there was so much room in the part above and so much is left
-pub record IsSettled (k : ℕ) (keep : Bool) (row : Option Row) (room : ℕ) (sketch : Sketch) (d : Drawn) (rest : ℕ) : Type 0 where
-  pub sound : IsSound (last_of row) d
+pub record IsFinalDrawing (k : ℕ) (keep : Bool) (row : Option Row) (room : ℕ) (sketch : Sketch) (d : Drawn) (rest : ℕ) : Type 0 where
+  pub sound : IsSoundDrawing (last_of row) d
   pub kept : IsTrue keep → AreKept d
   pub light : heaviest d ≤ k
   pub stays_light : StaysLight k row d
-  pub full : IsFull k (whole_row row d) d
-  pub stayed : left d + rest ≡ core keep sketch + room
+  pub full : AreNeighboursHeavy k (whole_row row d) d
+  pub stayed : staying_weight d + rest ≡ core keep sketch + room
 
 -- what has to hold of a sketch that is drawn
-pub record IsReady (k : ℕ) (keep : Bool) (spots : List Spot) : Type 0 where
+pub record CanBeDrawn (k : ℕ) (keep : Bool) (spots : List Spot) : Type 0 where
   pub sketch : Sketch
   pub is : spots ≡ spots_of sketch
   pub tops : AreTopsLight k keep sketch
-  pub small : total sketch < 2 ^ 24
+  pub small : sketch_weight sketch < 2 ^ 24

@@ -1,6 +1,6 @@
 // The split of a part that is too heavy.
 ghost use Rattle.std.specs.Prelude.{◌≡◌, ◌<◌, ◌^◌, length, IfOk, OnOk};
-ghost use Rattle.nx_sketch.specs.Sketch.{Sketch, AreAtMost, IsSketch, placed, spots_of};
+ghost use Rattle.nx_sketch.specs.Sketch.{Sketch, AreSpotsAtMost, IsSketch, placed, spots_of};
 ghost use Rattle.nx_sketch.specs.Split.{IsSplit};
 ghost use Rattle.nx_division.specs.Drawn.{drawn};
 ghost use Rattle.nx_division.specs.Divided.{IsDivided, IsSplittable};
@@ -34,7 +34,7 @@ pub fn split(
 ) -> Result<Partitioning, NoMemory>
     requires k { k < 2 ^ 24 }
     requires sketch { IsSplittable k spots.now }
-    ensures { IfOk result (λ parts. (s : Sketch) → spots.now ≡ spots_of s → IsSketch s → AreAtMost k s → IsSplit k (placed s) target tolerance parts) }
+    ensures { IfOk result (λ parts. (s : Sketch) → spots.now ≡ spots_of s → IsSketch s → AreSpotsAtMost k s → IsSplit k (placed s) target tolerance parts) }
 {
     let t = point(spots, target);
     let mut cuts = vec![in alloc; Cut::Stays; spots.len()]?;
@@ -57,7 +57,7 @@ fn draw(
     requires k { k < 2 ^ 24 }
     requires sketch { IsSplittable k spots.now }
     requires len { length cuts.old ≡ length spots.now }
-    ensures { OnOk result ((s : Sketch) → spots.now ≡ spots_of s → IsSketch s → AreAtMost k s → IsDivided k t tolerance s (drawn s cuts.new)) }
+    ensures { OnOk result ((s : Sketch) → spots.now ≡ spots_of s → IsSketch s → AreSpotsAtMost k s → IsDivided k t tolerance s (drawn s cuts.new)) }
 {
     separate(t, tolerance, 0, true, true, None, spots, cuts);
     let heaviest = weigh(spots, cuts).heaviest;

@@ -3,7 +3,7 @@ ghost use Rattle.std.specs.Prelude.{◌≡◌, ◌+◌, ◌<◌, ◌^◌, length
 ghost use Rattle.std.specs.List.{sum_by};
 ghost use Rattle.nx_sketch.specs.Sketch.{Sketch, IsFlat, spots_of};
 ghost use Rattle.nx_division.specs.Drawn.{drawn};
-ghost use Rattle.nx_division.specs.Separated.{cut_of, kind_of, mark_by, row_cut, separated, side_of};
+ghost use Rattle.nx_division.specs.Separated.{cut_of, spot_kind, mark_by, row_cut, separated, side_of};
 
 use crate::cut::Cut;
 use crate::parts::parts;
@@ -31,7 +31,7 @@ pub(crate) enum Kind {
 impl Kind {
     // That of a node below the helper (`root`), below it or a node of the separator (`wide`).
     fn new(entry: Entry, root: bool, wide: bool, marked: bool) -> Kind
-        ensures { result ≡ kind_of entry root wide marked }
+        ensures { result ≡ spot_kind entry root wide marked }
     {
         match entry {
             Entry::Standalone => Kind::Single,

@@ -4,7 +4,7 @@ ghost use Rattle.nx_sketch.specs.Sketch.{Sketch, spots_of};
 ghost use Rattle.nx_sketch.specs.Sketch.{IsFlat};
 ghost use Rattle.nx_sketch.specs.Plan.{is_cluster};
 ghost use Rattle.nx_division.specs.Drawn.{drawn};
-ghost use Rattle.nx_division.specs.Settled.{core, AreTopsLight, IsOwnLight, IsReady, IsRowLight, IsSettled, IsStood};
+ghost use Rattle.nx_division.specs.Settled.{core, AreTopsLight, IsOwnLight, CanBeDrawn, IsRowLight, IsFinalDrawing, IsStood};
 
 use crate::cut::Cut;
 use crate::parts::parts;
@@ -128,9 +128,9 @@ pub(crate) fn settle(
 ) -> u32
     requires k { k < 2 ^ 31 }
     requires row { IsRowLight k row }
-    requires ready { IsReady k keep spots.now }
+    requires ready { CanBeDrawn k keep spots.now }
     requires len { length cuts.old ≡ length spots.now }
-    ensures { (s : Sketch) → spots.now ≡ spots_of s → AreTopsLight k keep s → IsSettled k keep row room s (drawn s cuts.new) result }
+    ensures { (s : Sketch) → spots.now ≡ spots_of s → AreTopsLight k keep s → IsFinalDrawing k keep row room s (drawn s cuts.new) result }
 {
     let Some((spot, below, beside)) = parts(spots) else {
         return room;

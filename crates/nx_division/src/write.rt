@@ -1,7 +1,7 @@
 // The intervals of a drawn plan.
 ghost use Rattle.std.specs.Prelude.{◌≡◌, ◌++◌, length, OnOk};
 ghost use Rattle.nx_sketch.specs.Sketch.{Sketch, IsFlat, spots_of};
-ghost use Rattle.nx_division.specs.Drawn.{drawn, end_of, intervals, run_of};
+ghost use Rattle.nx_division.specs.Drawn.{drawn, end_position, drawn_intervals, run_of};
 
 use crate::cut::Cut;
 use crate::parts::parts;
@@ -15,7 +15,7 @@ use std::alloc::Global;
 fn end(spots: &[Spot], cuts: &[Cut], last: u32) -> u32
     requires flat { IsFlat spots.now }
     requires len { length cuts.now ≡ length spots.now }
-    ensures { (s : Sketch) → spots.now ≡ spots_of s → result ≡ end_of last (drawn s cuts.now) }
+    ensures { (s : Sketch) → spots.now ≡ spots_of s → result ≡ end_position last (drawn s cuts.now) }
 {
     let Some((spot, below, beside)) = parts(spots) else {
         return last;
@@ -62,7 +62,7 @@ pub(crate) fn write(
     requires flat { IsFlat spots.now }
     requires len { length cuts.now ≡ length spots.now }
     ensures path { OnOk result (path.new.items ≡ path.old.items) }
-    ensures found { OnOk result ((s : Sketch) → spots.now ≡ spots_of s → found.new ≡ found.old ++ intervals path.old.items (drawn s cuts.now)) }
+    ensures found { OnOk result ((s : Sketch) → spots.now ≡ spots_of s → found.new ≡ found.old ++ drawn_intervals path.old.items (drawn s cuts.now)) }
 {
     let Some((spot, below, beside)) = parts(spots) else {
         return Ok(());

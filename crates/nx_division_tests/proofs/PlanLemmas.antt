@@ -13,7 +13,7 @@ use Rattle.nx_parts.specs.declared.interval.Interval.{Interval}
 use Rattle.nx_parts.specs.declared.interval.Interval.TheVariants.{Root, Run}
 use Rattle.nx_parts.specs.Partitioning.{ShareMember, has_member, owner}
 use Rattle.nx_sketch.specs.Sketch.{Placed}
-use Rattle.nx_sketch.specs.Plan.{AreLight, AreNeighboursFull, HasEntry, IsAlone, IsFeasiblePlan, IsHeld, IsInside, IsOrdinary, IsPlaced, IsPlan, KeepsClusters, component_weight, is_cluster, part_weight}
+use Rattle.nx_sketch.specs.Plan.{AreComponentsLight, AreNeighboursFull, HasEntry, IsAlone, IsFeasiblePlan, IsHeld, IsInside, IsOrdinary, IsPlaced, IsPlanOfPart, KeepsClusters, component_weight, is_cluster, placed_part_weight}
 use Rattle.nx_division_tests.specs.Tests.{alone_member, alone_test, apart_test, beside_test, feasible_test, full_test, inside_test, is_standalone, kept_test, light_test, neighbours_test, ordinary_test, pairs_test, placed_test, plan_test, rooted_test, same_place, share_test}
 use Rattle.nx_division_tests.proofs.TestLemmas.{Decides-implies, Decides-implies_unless, Decides-leb, Decides-unless, all_decides, any_decides, each_decides, pairs_decides, places_decide, range_decides}
 use Rattle.nx_division_tests.proofs.PathLemmas.{AreBeside, beside_decides, end_of, front_of, lone_decides, not_empty, same_place-Decides, share_decides}
@@ -77,7 +77,7 @@ alone_decides nodes parts =
     (λ n. Decides-implies_unless (is_standalone n.entry) (is_empty n.path) (list_any (alone_member n.path) parts) (standalone_decides n.entry) (λ h. h, λ h. h)
     (any_decides (alone_member n.path) (λ interval. IsTrue (alone_member n.path interval)) (λ interval. (λ h. h, λ h. h)) parts)) nodes)
 
-pub plan_decides : (nodes : List Placed) (parts : List Interval) → Decides (plan_test nodes parts) (IsPlan nodes parts)
+pub plan_decides : (nodes : List Placed) (parts : List Interval) → Decides (plan_test nodes parts) (IsPlanOfPart nodes parts)
 plan_decides nodes parts =
     let a = list_all (inside_test nodes) parts in let b = pairs_test apart_test parts in
     let c = list_all (rooted_test parts) nodes in let d = list_all (alone_test parts) nodes in
@@ -86,12 +86,12 @@ plan_decides nodes parts =
 
 pub feasible_decides : (k : ℕ) (nodes : List Placed) (parts : List Interval) → Decides (feasible_test k nodes parts) (IsFeasiblePlan k nodes parts)
 feasible_decides k nodes parts =
-    let light = λ (index : ℕ). leb (part_weight nodes parts index) k in
+    let light = λ (index : ℕ). leb (placed_part_weight nodes parts index) k in
     Decides-like (feasible_test k nodes parts)
     (λ h. record { plan = h.0; light = λ index within. h.1 index (omega arith) (omega arith) })
     (λ p. (p.plan, λ index low high. p.light index (omega arith)))
     (Decides-and (plan_test nodes parts) (list_all light (range_with_len 0 (length parts))) (plan_decides nodes parts)
-    (range_decides light (λ index. part_weight nodes parts index ≤ k) (λ index. Decides-leb (part_weight nodes parts index) k) 0 (length parts)))
+    (range_decides light (λ index. placed_part_weight nodes parts index ≤ k) (λ index. Decides-leb (placed_part_weight nodes parts index) k) 0 (length parts)))
 
 -- a cluster child has its parent's owner
 pub kept_decides : (nodes : List Placed) (parts : List Interval) → Decides (list_all (kept_test parts) nodes) (KeepsClusters nodes parts)
@@ -109,7 +109,7 @@ kept_decides nodes parts =
     (λ n. Decides-implies_unless (is_cluster n.entry) (is_empty n.path) (same_place (owner parts n.path) (above n.path)) (cluster_decides n.entry) (λ h. h, λ h. h)
     (same_place-Decides (owner parts n.path) (above n.path))) nodes)
 
-pub light_decides : (k : ℕ) (nodes : List Placed) → Decides (list_all (light_test k nodes) nodes) (AreLight k nodes)
+pub light_decides : (k : ℕ) (nodes : List Placed) → Decides (list_all (light_test k nodes) nodes) (AreComponentsLight k nodes)
 light_decides k nodes =
     each_decides (light_test k nodes) (λ (n : Placed). ¬ (n.entry ≡ Cluster) → component_weight nodes n.path ≤ k)
     (λ n. Decides-unless (is_cluster n.entry) (leb (component_weight nodes n.path) k) (cluster_decides n.entry) (Decides-leb (component_weight nodes n.path) k)) nodes
@@ -125,11 +125,11 @@ ordinary_decides nodes interval =
 -- two intervals, by their places, that have to be full where they are neighbours
 abbrev pub IsPairFull : ℕ → List Placed → List Interval → ℕ × Interval → ℕ × Interval → Type 0
 IsPairFull k nodes parts one other =
-    (AreBeside one.1 other.1 × IsOrdinary nodes one.1) × IsOrdinary nodes other.1 → k < part_weight nodes parts one.0 + part_weight nodes parts other.0
+    (AreBeside one.1 other.1 × IsOrdinary nodes one.1) × IsOrdinary nodes other.1 → k < placed_part_weight nodes parts one.0 + placed_part_weight nodes parts other.0
 
 pair_decides : (k : ℕ) (nodes : List Placed) (parts : List Interval) (one other : ℕ × Interval) → Decides (full_test k nodes parts one other) (IsPairFull k nodes parts one other)
 pair_decides k nodes parts one other =
-    let sum = part_weight nodes parts one.0 + part_weight nodes parts other.0 in
+    let sum = placed_part_weight nodes parts one.0 + placed_part_weight nodes parts other.0 in
     let beside = beside_test one.1 other.1 in let first = ordinary_test nodes one.1 in let second = ordinary_test nodes other.1 in
     Decides-implies (beside && first && second) (ltb k sum)
     (Decides-and (beside && first) second (Decides-and beside first (beside_decides one.1 other.1) (ordinary_decides nodes one.1)) (ordinary_decides nodes other.1))

@@ -19,7 +19,8 @@ use Rattle.nx_sketch.specs.Sketch.{Placed}
 use Rattle.nx_sketch.specs.Plan.{IsPlaced}
 use Rattle.nx_sketch.specs.Separator.{IsLoose, IsSeparatorPlan, IsSeparatorRun, IsSingle, is_before, is_left, is_marked}
 use Rattle.nx_division_tests.specs.Runs.{AddsRun, BeginsRow, IsNoStart, IsOnlyRun, IsRowEnd, IsStart}
-use Rattle.nx_division_tests.specs.Tests.{is_free, is_loose, is_single, is_standalone, loose_test, same_bool, single_test}
+use Rattle.nx_division_tests.specs.Tests.{is_loose, is_single, is_standalone, loose_test, same_bool, single_test}
+use Rattle.nx_matrix.specs.Rules.{is_free}
 use Rattle.nx_division_tests.proofs.TestLemmas.{any_decides, pairs_head, pairs_tail}
 use Rattle.nx_division_tests.proofs.PathLemmas.{before_decides, same_ends}
 use Rattle.nx_division_tests.proofs.PlanLemmas.{standalone_decides}

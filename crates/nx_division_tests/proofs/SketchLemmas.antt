@@ -2,7 +2,7 @@
 use Rattle.std.proofs.Common.{◌≡◌, ℕ, ◌+◌, ◌≤◌, List, [], ◌∷◌, ◌++◌, length, take, drop, refl, sym, ap, ◌∙◌, arith, append-nil, append_assoc, lit<, true, Option, None, Some}
 use Rattle.std.proofs.lemmas.List.{length-take-le, take-append-drop}
 use Rattle.nx_sketch.specs.declared.spot.Spot.{Spot}
-use Rattle.nx_sketch.specs.Sketch.{IsFlat, Sketch, Empty, Plant, Placed, nodes, placed_in, spots_of, total}
+use Rattle.nx_sketch.specs.Sketch.{IsFlat, Sketch, Empty, Plant, Placed, spot_count, placed_in, spots_of, sketch_weight}
 use Rattle.std.specs.Option.{IfSome, is_some}
 use Rattle.std.proofs.lemmas.Bool.{false≢true}
 use Rattle.nx_division.specs.Divided.{IsSplittable}
@@ -19,8 +19,8 @@ pub grown : {k low : ℕ} {spots : List Spot} (spot : Spot) (rest : List Spot) (
 grown {k} {low} {spots} spot rest inner others from few fits h =
     let b = h.0 in
     let s = h.1 in
-    let count : spot.below ≡ nodes b.sketch = sym (length-take-le spot.below rest few) ∙ ap length b.is ∙ length-spots b.sketch in
-    let within : spot.within ≡ spot.weight + total b.sketch = sym fits.1.weighs ∙ ap (λ n. spot.weight + n) b.weighs in
+    let count : spot.below ≡ spot_count b.sketch = sym (length-take-le spot.below rest few) ∙ ap length b.is ∙ length-spots b.sketch in
+    let within : spot.within ≡ spot.weight + sketch_weight b.sketch = sym fits.1.weighs ∙ ap (λ n. spot.weight + n) b.weighs in
     let both : rest ≡ spots_of b.sketch ++ spots_of s.sketch = sym (take-append-drop spot.below rest) ∙ (λ i. b.is i ++ s.is i) in
     record {
       sketch = Plant spot.position spot.weight spot.entry b.sketch s.sketch;

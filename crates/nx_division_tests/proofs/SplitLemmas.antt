@@ -9,7 +9,7 @@ use Rattle.nx_parts.specs.declared.interval.Interval.{Interval}
 use Rattle.nx_parts.specs.declared.interval.Interval.TheVariants.{Root, Run}
 use Rattle.nx_parts.specs.Order.{AreInOrder}
 use Rattle.nx_sketch.specs.Sketch.{Placed}
-use Rattle.nx_sketch.specs.Plan.{AreLight, AreNeighboursFull, IsFeasiblePlan, KeepsClusters}
+use Rattle.nx_sketch.specs.Plan.{AreComponentsLight, AreNeighboursFull, IsFeasiblePlan, KeepsClusters}
 use Rattle.nx_sketch.specs.Separator.{IsSeparatorPlan, point}
 use Rattle.nx_sketch.specs.Split.{IsSplit}
 use Rattle.nx_division_tests.specs.Tests.{same_interval}
@@ -47,13 +47,13 @@ separator_decides {nodes} {k} {target} {tolerance} parts plan answer o p f d = (
 
 -- where it isn't
 pub other_decides : {nodes : List Placed} {k target tolerance : ℕ} (parts plan : List Interval) (answer : Bool) → AreInOrder parts → HasPlan nodes target tolerance plan → ¬ IsFeasiblePlan k nodes plan
-    → Decides answer (IsFeasiblePlan k nodes parts × (AreNeighboursFull k nodes parts × (AreLight k nodes → KeepsClusters nodes parts))) → Decides answer (IsSplit k nodes target tolerance parts)
+    → Decides answer (IsFeasiblePlan k nodes parts × (AreNeighboursFull k nodes parts × (AreComponentsLight k nodes → KeepsClusters nodes parts))) → Decides answer (IsSplit k nodes target tolerance parts)
 other_decides {nodes} {k} {target} {tolerance} parts plan answer o p n d = (
   (λ h. let r = d.0 h in record {
     order = o;
     divides = inr (record { separator = plan; planned = p.is; heavy = n; feasible = r.0; full = r.1.0; clusters = r.1.1 });
   }),
-  (λ s. d.1 (elim s.divides as (λ _. IsFeasiblePlan k nodes parts × (AreNeighboursFull k nodes parts × (AreLight k nodes → KeepsClusters nodes parts))) [
+  (λ s. d.1 (elim s.divides as (λ _. IsFeasiblePlan k nodes parts × (AreNeighboursFull k nodes parts × (AreComponentsLight k nodes → KeepsClusters nodes parts))) [
     | inl own ↦ absurd (n (subst (IsFeasiblePlan k nodes) (one_plan nodes (point nodes target) tolerance parts plan own.separator p.is) own.feasible))
     | inr other ↦ (other.feasible, (other.full, other.clusters))
   ])),

@@ -13,11 +13,11 @@ IsFirstOfRow nodes t tolerance left parent first =
     × ((position : ℕ) → position + 1 ≡ first → ¬ IsLoose nodes t tolerance left (parent ++ position ∷ []))
 
 -- the helper's children, or those of a node of the separator
-abbrev pub IsOpened : List Placed → ℕ → ℕ → List ℕ → Type 0
-IsOpened nodes t tolerance parent = (parent ≡ []) ⊎ (is_marked nodes t tolerance parent ≡ true)
+abbrev pub IsHelperOrMarked : List Placed → ℕ → ℕ → List ℕ → Type 0
+IsHelperOrMarked nodes t tolerance parent = (parent ≡ []) ⊎ (is_marked nodes t tolerance parent ≡ true)
 
 abbrev pub BeginsRow : List Placed → ℕ → ℕ → Bool → List ℕ → ℕ → Type 0
-BeginsRow nodes t tolerance left parent first = IsOpened nodes t tolerance parent × IsFirstOfRow nodes t tolerance left parent first
+BeginsRow nodes t tolerance left parent first = IsHelperOrMarked nodes t tolerance parent × IsFirstOfRow nodes t tolerance left parent first
 
 -- a row goes on from a position to this one
 pub record IsRowEnd (nodes : List Placed) (t tolerance : ℕ) (left : Bool) (parent : List ℕ) (from last : ℕ) : Type 0 where

@@ -10,18 +10,14 @@ use Rattle.nx_parts.specs.declared.interval.Interval.TheVariants.{Root, Run}
 use Rattle.nx_parts.specs.Order.{first_member}
 use Rattle.nx_parts.specs.Partitioning.{has_member, owner}
 use Rattle.nx_sketch.specs.Sketch.{Placed}
-use Rattle.nx_sketch.specs.Plan.{component_weight, is_cluster, part_weight}
+use Rattle.nx_sketch.specs.Plan.{component_weight, is_cluster, placed_part_weight}
 use Rattle.nx_sketch.specs.Separator.{is_before, is_left, is_marked}
+use Rattle.nx_matrix.specs.Rules.{is_free}
 
 abbrev pub is_standalone : Entry → Bool
 is_standalone Standalone = true
 is_standalone Cluster = false
 is_standalone Free = false
-
-abbrev pub is_free : Entry → Bool
-is_free Standalone = false
-is_free Cluster = false
-is_free Free = true
 
 abbrev pub same_bool : Bool → Bool → Bool
 same_bool true b = b
@@ -81,7 +77,7 @@ abbrev pub plan_test : List Placed → List Interval → Bool
 plan_test nodes parts = list_all (inside_test nodes) parts && pairs_test apart_test parts && list_all (rooted_test parts) nodes && list_all (alone_test parts) nodes
 
 abbrev pub feasible_test : ℕ → List Placed → List Interval → Bool
-feasible_test k nodes parts = plan_test nodes parts && list_all (λ index. nat_le (part_weight nodes parts index) k) (range_with_len 0 (length parts))
+feasible_test k nodes parts = plan_test nodes parts && list_all (λ index. nat_le (placed_part_weight nodes parts index) k) (range_with_len 0 (length parts))
 
 -- a cluster child has its parent's owner
 abbrev pub kept_test : List Interval → Placed → Bool
@@ -105,7 +101,7 @@ beside_test (Run parent first last) (Run other begin end) = bytes_eq parent othe
 abbrev pub full_test : ℕ → List Placed → List Interval → ℕ × Interval → ℕ × Interval → Bool
 full_test k nodes parts one other =
     not (beside_test one.1 other.1 && ordinary_test nodes one.1 && ordinary_test nodes other.1)
-    || nat_lt k (part_weight nodes parts one.0 + part_weight nodes parts other.0)
+    || nat_lt k (placed_part_weight nodes parts one.0 + placed_part_weight nodes parts other.0)
 
 abbrev pub neighbours_test : ℕ → List Placed → List Interval → Bool
 neighbours_test k nodes parts = list_all (λ one. list_all (full_test k nodes parts one) (enumerate_from 0 parts)) (enumerate_from 0 parts)

@@ -23,7 +23,7 @@ use Rattle.nx_cuts.proofs.DeepLemmas.{drawn_adds}
 use Rattle.nx_cuts.proofs.FeasibleLemmas.{IsDrawn, Members, no_truth}
 use Rattle.nx_layouts.specs.Layout.{Layout, without_places}
 use Rattle.nx_sketch.specs.Sketch.{Placed}
-use Rattle.nx_sketch.specs.Plan.{IsInside, IsPlan}
+use Rattle.nx_sketch.specs.Plan.{IsInside, IsPlanOfPart}
 use Rattle.nx_split.specs.Piece.{asked_of_root}
 use Rattle.nx_drawn.specs.Splits.{part_nodes, Divides}
 use Rattle.nx_drafts.specs.Draft.{Draft, Ends, Grows, Stands, Comes, drawn_forest, layout_before, AreHeldAll}
@@ -163,7 +163,7 @@ split_is_drafted settings rules above k members parts most light split =
     let olds = intervals [] 0 old in
     let nodes = part_nodes rules above old in
     let feasible = feasible_plan settings nodes parts split in
-    let plan : IsPlan nodes parts = feasible.plan in
+    let plan : IsPlanOfPart nodes parts = feasible.plan in
     let form : AreParts k old = parts_bare k members light in
     let big = k + total (forest old) in
     let inside = recursion_from_All (IsInside nodes) parts plan.inside in

@@ -9,7 +9,7 @@ use Rattle.nx_holdings.specs.declared.header.Settings.{Settings}
 use Rattle.nx_layouts.specs.Layout.{RecordPlace, Layout, without_places, proxies_of}
 use Rattle.nx_layouts.specs.Replace.{joined_layout, replaced_at, kept_at}
 use Rattle.nx_cuts.specs.Rows.{joined_row}
-use Rattle.nx_drawn.specs.Splits.{Divides, SplitsInterval, SplitsRow, whole}
+use Rattle.nx_drawn.specs.Splits.{Divides, SplitsInterval, SplitsRow, whole_document}
 use Rattle.nx_drafts.specs.Rows.{above_at, OneIsSplit, SplitStaysAbove, RootIsSplit}
 use Rattle.nx_drawn.proofs.BareLemmas.{weight_bare, parts_bare}
 
@@ -117,5 +117,5 @@ split_stays_above settings rules above index place old members now e a light spl
 
 pub root_is_split : RootIsSplit
 root_is_split settings rules root place old new before after one other splits =
-    subst (λ (b : CutForest). SplitsRow settings rules None (Kept tt (Grown old.node b Bare) Bare) (whole new)) one
+    subst (λ (b : CutForest). SplitsRow settings rules None (Kept tt (Grown old.node b Bare) Bare) (whole_document new)) one
     (subst (λ (b : CutForest). SplitsRow settings rules None (Kept tt (Grown old.node (without_places before) Bare) Bare) (Kept tt (Grown new.node b Bare) Bare)) other splits)

@@ -4,7 +4,7 @@ use Rattle.nx_tree.specs.Forest.{Forest, Plant}
 use Rattle.nx_piece.specs.declared.piece.Piece.{Piece}
 use Rattle.nx_cuts.specs.Cut.{Bare, Grown, Kept, CutTree, joined, forest, width, part_weight, AreFree, AreParts}
 use Rattle.nx_layouts.specs.Layout.{RecordPlace, Layout, without_places, IsLaidOutAs}
-use Rattle.nx_drawn.specs.Splits.{whole}
+use Rattle.nx_drawn.specs.Splits.{whole_document}
 
 pub width_bare : (a : Layout) → width (without_places a) ≡ width a
 width_bare Bare = refl
@@ -51,7 +51,7 @@ parts_with k (Kept place members beside) parts =
     )
 
 -- a document that records hold has parts that aren't too heavy
-pub laid_parts : (k : ℕ) (pieces : RecordPlace → Option Piece) (root : RecordPlace) (document : CutTree) (layout : Layout) → IsLaidOutAs k pieces root document layout → AreParts k (whole document)
+pub laid_parts : (k : ℕ) (pieces : RecordPlace → Option Piece) (root : RecordPlace) (document : CutTree) (layout : Layout) → IsLaidOutAs k pieces root document layout → AreParts k (whole_document document)
 laid_parts k pieces root document layout h =
     let l = h.light in
     let below = subst (AreParts k) h.same (parts_bare k layout l.3.0) in

@@ -5,7 +5,7 @@ use Rattle.nx_cuts.specs.Cut.{CutForest, Bare, Grown, Kept, CutTree, width, part
 use Rattle.nx_cuts.specs.Rows.{changed_row}
 use Rattle.nx_cuts.proofs.DeepLemmas.{width-changed}
 use Rattle.nx_drawn.specs.Edits.{kept, removed_row, deleted}
-use Rattle.nx_drawn.specs.Splits.{whole}
+use Rattle.nx_drawn.specs.Splits.{whole_document}
 
 -- what of free trees is left is free
 pub free_removed : (p : ℕ) (m : CutForest) → AreFree m → AreFree (removed_row p m)
@@ -88,7 +88,7 @@ deleted_lighter k (p ∷ q ∷ path) t h = record {
   less = light_changed k (deleted (q ∷ path)) (λ u g. deleted_lighter k (q ∷ path) u g) p t.below h;
 }
 
-pub deleted_feasible : (k : ℕ) (path : List ℕ) (t : CutTree) → AreParts k (whole t) → AreParts k (whole (deleted path t))
+pub deleted_feasible : (k : ℕ) (path : List ℕ) (t : CutTree) → AreParts k (whole_document t) → AreParts k (whole_document (deleted path t))
 deleted_feasible k path t h =
     let l = deleted_lighter k path t h.3.0 in
     let e : weight (deleted path t).node ≡ weight t.node = ap weight l.same in

@@ -354,7 +354,7 @@ module _ (settings : Settings) (rules : List Rule) (above : Option Node) (m now 
       let a = walk_parts rules d.parts below split_clear i lt limit (asked_of_root rules above) 0 false [] 0 m h (drawn_agrees limit m h) in
       let b = own_sketch-same false [] sketch (λ q. asked-told d.parts i (feasible.plan).disjoint lt q) in
       let top : owner d.parts [] ≡ None = owner-root d.parts ∙ no_holder d.parts [] (none_holds (IsClear (holder below) []) d.parts split_clear [] (no_helper (holder below))) in
-      let c : plan.part_weight (part_nodes rules above m) d.parts i ≡ own_sketch (asked_of d.parts i) false [] sketch =
+      let c : plan.placed_part_weight (part_nodes rules above m) d.parts i ≡ own_sketch (asked_of d.parts i) false [] sketch =
       sketch_sum d.parts i [] sketch ∙ ap (λ (o : Option ℕ). own_sketch (asked_of d.parts i) (is_place i o) [] sketch) top in
       let e = feasible.light i lt in
       omega (arith, a, b, c, e, most)

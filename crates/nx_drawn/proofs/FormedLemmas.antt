@@ -17,7 +17,7 @@ use Rattle.nx_cuts.proofs.FeasibleLemmas.{trees, trees-forest}
 use Rattle.nx_holdings.specs.declared.header.Settings.{Settings}
 use Rattle.nx_split.specs.Piece.{asked}
 use Rattle.nx_drawn.specs.Edits.{placed_beside, placed_among, planted_row, inserted, retexted}
-use Rattle.nx_drawn.specs.Splits.{Divides, SplitsRow, Splits, whole}
+use Rattle.nx_drawn.specs.Splits.{Divides, SplitsRow, Splits, whole_document}
 use Rattle.nx_drawn.proofs.SplitLemmas.{same_row}
 use Rattle.nx_drawn.proofs.DividedLemmas.{heavier_parts, divided_parts}
 
@@ -182,5 +182,5 @@ module _ (settings : Settings) (rules : List Rule) where
       let r = interval_light above h.0 h.1 (nat_lt settings.k (part_weight h.0)) refl (omega arith) (free_split above m h.0 f.1 h.3) a h.4 in
       subst (AreParts settings.k) (sym h.6) (parts-joined_row settings.k h.1 h.2 r (row_light above s h.2 f.3 h.5))
 
-  pub splits_light : (old new : CutTree) → AreFormed old.below → Splits settings rules old new → AreParts settings.k (whole new)
-  splits_light old new f h = row_light None (whole old) (whole new) (omega arith, tt, (f, tt), tt) h
+  pub splits_light : (old new : CutTree) → AreFormed old.below → Splits settings rules old new → AreParts settings.k (whole_document new)
+  splits_light old new f h = row_light None (whole_document old) (whole_document new) (omega arith, tt, (f, tt), tt) h

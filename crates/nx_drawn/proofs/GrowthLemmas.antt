@@ -17,7 +17,7 @@ use Rattle.nx_cuts.proofs.FeasibleLemmas.{trees, trees-forest}
 use Rattle.nx_cuts.proofs.FreeLemmas.{child_prefix, child_back}
 use Rattle.nx_split.specs.Piece.{asked}
 use Rattle.nx_drawn.specs.Edits.{placed_beside, placed_among, planted_row, inserted, retexted}
-use Rattle.nx_drawn.specs.Splits.{whole}
+use Rattle.nx_drawn.specs.Splits.{whole_document}
 use Rattle.nx_drawn.specs.Growth.{PartIsAtMost, MayBeHeavy, IsHeavyOnce, GrowsRow, PlantGrowsLittle, InsertGrowsLittle, RetextGrowsLittle}
 use Rattle.nx_drawn.proofs.FormedLemmas.{width_first, width_behind, free_first, free_behind, free_changed}
 
@@ -195,7 +195,7 @@ module _ (k more wide : ℕ) (big : k + 1 ≤ wide) (content : List ℕ) (fits :
         | inr g ↦ inr (g.0, omega (arith, g.1))
       ]
 
-whole_heavy : (k more wide : ℕ) (t u : CutTree) → k + 1 ≤ wide → weight t.node + part_weight t.below ≤ k → GrowsTree k more wide t u → IsHeavyOnce k (k + more) wide (whole u)
+whole_heavy : (k more wide : ℕ) (t u : CutTree) → k + 1 ≤ wide → weight t.node + part_weight t.below ≤ k → GrowsTree k more wide t u → IsHeavyOnce k (k + more) wide (whole_document u)
 whole_heavy k more wide t u big light grows =
     elim grows [
       | inl g ↦ inl (

@@ -7,7 +7,7 @@ use Rattle.nx_tree.specs.Forest.{Forest, Empty, Plant, OrderedTree}
 use Rattle.nx_cuts.specs.Cut.{CutForest, Bare, Grown, Kept, CutTree, joined, forest, part_weight, AreParts, tree_of}
 use Rattle.nx_matrix.specs.declared.rule.Rule.{Rule}
 use Rattle.nx_holdings.specs.declared.header.Settings.{Settings}
-use Rattle.nx_drawn.specs.Splits.{Divides, SplitsRow, Splits, whole}
+use Rattle.nx_drawn.specs.Splits.{Divides, SplitsRow, Splits, whole_document}
 use Rattle.nx_cuts.specs.Rows.{joined_row}
 use Rattle.nx_cuts.proofs.RowLemmas.{joined_nothing, forest-joined_row}
 use Rattle.nx_drawn.specs.Laws.{LightStays}
@@ -32,7 +32,7 @@ module _ (settings : Settings) (rules : List Rule) where
   only (Plant node below beside) other = record { node = node; below = below }
 
   pub same_tree : (old new : CutTree) → Splits settings rules old new → tree_of new ≡ tree_of old
-  same_tree old new h = ap (λ f. only f (tree_of old)) (same_row None (whole old) (whole new) h)
+  same_tree old new h = ap (λ f. only f (tree_of old)) (same_row None (whole_document old) (whole_document new) h)
 
   light_interval : (m now : CutForest) (above : Option Node) (t : Bool) → nat_lt settings.k (part_weight m) ≡ t → part_weight m ≤ settings.k → MatchBool t (Divides settings rules above m now) (now ≡ Kept tt m Bare) → now ≡ Kept tt m Bare
   light_interval m now above true e le h = absurd (let l : settings.k < part_weight m = grind (arith, nat_tests) in omega arith)
@@ -66,4 +66,4 @@ module _ (settings : Settings) (rules : List Rule) where
 
 pub light_stays : LightStays
 light_stays settings rules old new a =
-    (λ splits. ap (λ c. inner settings rules c old) (light_row settings rules None (whole old) (whole new) a splits), λ same. subst (Splits settings rules old) (sym same) (row_stays settings rules None (whole old) a))
+    (λ splits. ap (λ c. inner settings rules c old) (light_row settings rules None (whole_document old) (whole_document new) a splits), λ same. subst (Splits settings rules old) (sym same) (row_stays settings rules None (whole_document old) a))

@@ -9,7 +9,7 @@ use Rattle.nx_matrix.specs.declared.rule.Entry.{Entry}
 use Rattle.nx_matrix.specs.declared.rule.Rule.{Rule}
 use Rattle.nx_layouts.specs.Layout.{RecordPlace, Layout}
 use Rattle.nx_drawn.specs.Edits.{planted_row, inserted, retexted}
-use Rattle.nx_drawn.specs.Splits.{whole}
+use Rattle.nx_drawn.specs.Splits.{whole_document}
 
 -- none of the nodes weighs more than k that are in the part of the node above
 abbrev pub PartIsAtMost : {P : Type 0} → ℕ → Cut Node P → Type 0
@@ -46,10 +46,10 @@ PlantGrowsLittle =
 
 -- So it is in the whole document.
 abbrev pub InsertGrowsLittle : Type 0
-InsertGrowsLittle = (k : ℕ) (rules : List Rule) (node : Node) (path : List ℕ) (document : CutTree) → weight node ≤ k → AreParts k (whole document) → IsHeavyOnce k (k + weight node) (k + 1) (whole (inserted rules node path document))
+InsertGrowsLittle = (k : ℕ) (rules : List Rule) (node : Node) (path : List ℕ) (document : CutTree) → weight node ≤ k → AreParts k (whole_document document) → IsHeavyOnce k (k + weight node) (k + 1) (whole_document (inserted rules node path document))
 
 -- So it is where a node gets another content and doesn't outweigh k then.
 abbrev pub RetextGrowsLittle : Type 0
 RetextGrowsLittle =
-    (k more : ℕ) (content path : List ℕ) (document : CutTree) → more ≤ k → ((there : OrderedTree) → at (tree_of document) path ≡ Some there → weight (record there.node { content = content }) ≤ more) → AreParts k (whole document)
-    → IsHeavyOnce k (k + more) (k + 1) (whole (retexted content path document))
+    (k more : ℕ) (content path : List ℕ) (document : CutTree) → more ≤ k → ((there : OrderedTree) → at (tree_of document) path ≡ Some there → weight (record there.node { content = content }) ≤ more) → AreParts k (whole_document document)
+    → IsHeavyOnce k (k + more) (k + 1) (whole_document (retexted content path document))

@@ -10,7 +10,7 @@ use Rattle.nx_holdings.specs.declared.header.Settings.{Settings}
 use Rattle.nx_layouts.specs.Layout.{RecordPlace, Layout, piece_of, without_places}
 use Rattle.nx_split.specs.Piece.{placed_of}
 use Rattle.nx_drawn.specs.Edits.{planted_row, removed_row, inserted, deleted, retexted}
-use Rattle.nx_drawn.specs.Splits.{part_nodes, Divides, whole, Splits}
+use Rattle.nx_drawn.specs.Splits.{part_nodes, Divides, whole_document, Splits}
 
 -- An edit of what is drawn is the edit of the tree.
 pub record EditsAreOfTrees (k : ℕ) (document : CutTree) : Type 0 where
@@ -19,16 +19,16 @@ pub record EditsAreOfTrees (k : ℕ) (document : CutTree) : Type 0 where
   pub retext : (content path : List ℕ) → tree_of (retexted content path document) ≡ retext content path (tree_of document)
 
 abbrev pub DrawnEditsAreEdits : Type 0
-DrawnEditsAreEdits = (k : ℕ) (document : CutTree) → AreParts k (whole document) → EditsAreOfTrees k document
+DrawnEditsAreEdits = (k : ℕ) (document : CutTree) → AreParts k (whole_document document) → EditsAreOfTrees k document
 
 -- Behind an edit with its splits each interval has members of its own, and no part is too heavy.
 pub record EditsStayLight (settings : Settings) (document : CutTree) : Type 0 where
-  pub insert : (rules : List Rule) (node : Node) (path : List ℕ) (new : CutTree) → Splits settings rules (inserted rules node path document) new → AreParts settings.k (whole new)
-  pub delete : (path : List ℕ) → AreParts settings.k (whole (deleted path document))
-  pub retext : (rules : List Rule) (content path : List ℕ) (new : CutTree) → Splits settings rules (retexted content path document) new → AreParts settings.k (whole new)
+  pub insert : (rules : List Rule) (node : Node) (path : List ℕ) (new : CutTree) → Splits settings rules (inserted rules node path document) new → AreParts settings.k (whole_document new)
+  pub delete : (path : List ℕ) → AreParts settings.k (whole_document (deleted path document))
+  pub retext : (rules : List Rule) (content path : List ℕ) (new : CutTree) → Splits settings rules (retexted content path document) new → AreParts settings.k (whole_document new)
 
 abbrev pub DrawnEditsStayLight : Type 0
-DrawnEditsStayLight = (settings : Settings) (document : CutTree) → AreParts settings.k (whole document) → EditsStayLight settings document
+DrawnEditsStayLight = (settings : Settings) (document : CutTree) → AreParts settings.k (whole_document document) → EditsStayLight settings document
 
 -- A split leaves the tree as it is.
 abbrev pub SplitsLeaveTrees : Type 0
@@ -36,7 +36,7 @@ SplitsLeaveTrees = (settings : Settings) (rules : List Rule) (old new : CutTree)
 
 -- A document none of whose parts weighs more than k is split nowhere.
 abbrev pub LightStays : Type 0
-LightStays = (settings : Settings) (rules : List Rule) (old new : CutTree) → AreParts settings.k (whole old) → Splits settings rules old new ↔ (new ≡ old)
+LightStays = (settings : Settings) (rules : List Rule) (old new : CutTree) → AreParts settings.k (whole_document old) → Splits settings rules old new ↔ (new ≡ old)
 
 -- A part that is divided by a split has no part that weighs more than the limit, k or more, where none below it does.
 abbrev pub DividedIsLight : Type 0

@@ -47,9 +47,9 @@ SplitsRow settings rules above (Kept mark members beside) new =
     (m r s : CutForest) × SplitsRow settings rules above members m × SplitsInterval settings rules above m r × SplitsRow settings rules above beside s × (new ≡ joined_row r s)
 
 -- a whole document, whose root is the one member of its own interval
-abbrev pub whole : CutTree → CutForest
-whole document = Kept tt (Grown document.node document.below Bare) Bare
+abbrev pub whole_document : CutTree → CutForest
+whole_document document = Kept tt (Grown document.node document.below Bare) Bare
 
 -- the document with each part that weighs more than k replaced by a split of it
 abbrev pub Splits : Settings → List Rule → (old new : CutTree) → Type 0
-Splits settings rules old new = SplitsRow settings rules None (whole old) (whole new)
+Splits settings rules old new = SplitsRow settings rules None (whole_document old) (whole_document new)

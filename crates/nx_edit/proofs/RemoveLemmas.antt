@@ -30,7 +30,7 @@ use Rattle.nx_hold.proofs.MapLemmas.{piece_map, held_at, told_some}
 use Rattle.nx_hold.proofs.MoveLemmas.{moves_none, moves_beside, moves_add_up, remove_moves, pieces_stay_around}
 use Rattle.nx_hold.proofs.RecordsLemmas.{record_there}
 use Rattle.nx_hold.proofs.RefusalLemmas.{runs_then, saved_then}
-use Rattle.nx_state.specs.State.{size_of}
+use Rattle.nx_state.specs.State.{document_size}
 use Rattle.nx_state.specs.Stands.{StoredDocument, IsStoredIn}
 use Rattle.nx_state.proofs.NodeLemmas.{all_few}
 use Rattle.nx_state.proofs.StayLemmas.{one_map}
@@ -265,16 +265,16 @@ all_gone places count was now r =
     }
 
 -- a document has no more records than nodes
-few_places : (k : ℕ) (pieces : RecordPlace → Option Piece) (entry : DocEntry) (document : CutTree) (layout : Layout) → IsLaidOutAs k pieces (place_of entry.root) document layout → entry.nodes ≡ size_of document → length (document_places entry document layout) ≤ entry.nodes
+few_places : (k : ℕ) (pieces : RecordPlace → Option Piece) (entry : DocEntry) (document : CutTree) (layout : Layout) → IsLaidOutAs k pieces (place_of entry.root) document layout → entry.nodes ≡ document_size document → length (document_places entry document layout) ≤ entry.nodes
 few_places k pieces entry document layout laid counted =
     let s : StoredDocument = record { name = []; entry = entry; document = document; layout = layout } in
     let few = all_few k pieces (s ∷ []) (All-cons (IsStoredIn k pieces) s [] (record { laid = laid; counted = counted }) (All-nil (IsStoredIn k pieces))) in
     let same = ap (λ (ps : List RecordPlace). length ps) (append-nil (document_places entry document layout)) in
-    let sums = sum_by-cons (λ (n : ℕ). n) (size_of document) [] in
+    let sums = sum_by-cons (λ (n : ℕ). n) (document_size document) [] in
     omega (arith, few, same, sums, counted)
 
 -- so none is left once as many went as there are nodes
-pub enough : (k : ℕ) (pieces : RecordPlace → Option Piece) (entry : DocEntry) (document : CutTree) (layout : Layout) (stack : List Proxy) (was now : Held) → IsLaidOutAs k pieces (place_of entry.root) document layout → entry.nodes ≡ size_of document
+pub enough : (k : ℕ) (pieces : RecordPlace → Option Piece) (entry : DocEntry) (document : CutTree) (layout : Layout) (stack : List Proxy) (was now : Held) → IsLaidOutAs k pieces (place_of entry.root) document layout → entry.nodes ≡ document_size document
     → IsRemoving (document_places entry document layout) stack entry.nodes was now → length stack ≡ 0
 enough k pieces entry document layout stack was now laid counted r =
     let few = few_places k pieces entry document layout laid counted in
@@ -294,7 +294,7 @@ enough k pieces entry document layout stack was now laid counted r =
 -- of each document of the entry so many records went
 abbrev pub RemovesSome : DocEntry → List Proxy → ℕ → Held → Held → Type 0
 RemovesSome entry stack count was now =
-    (pieces : PieceMap was) (document : CutTree) (layout : Layout) → IsLaidOutAs (was.settings).k pieces.piece_at (place_of entry.root) document layout → entry.nodes ≡ size_of document → IsRemoving (document_places entry document layout) stack count was now
+    (pieces : PieceMap was) (document : CutTree) (layout : Layout) → IsLaidOutAs (was.settings).k pieces.piece_at (place_of entry.root) document layout → entry.nodes ≡ document_size document → IsRemoving (document_places entry document layout) stack count was now
 
 -- How far the loop has come.
 pub record IsGoing {D : Type 0} (d : Ghosts D) (entry : DocEntry) (stack : List Proxy) (count : ℕ) (old new : Records) (before after : D) : Type 0 where

@@ -14,7 +14,7 @@ use Rattle.nx_hold.specs.declared.entry.DocEntry.{DocEntry}
 use Rattle.nx_hold.specs.Pieces.{IsTidy, PieceMap}
 use Rattle.nx_hold.specs.Changes.{place_of}
 use Rattle.nx_hold.specs.Documents.{MovesRecords, HasDocument}
-use Rattle.nx_state.specs.State.{size_of}
+use Rattle.nx_state.specs.State.{document_size}
 
 -- the places of the records of a document
 abbrev pub document_places : DocEntry → CutTree → Layout → List RecordPlace
@@ -23,12 +23,12 @@ document_places entry document layout = places_of (whole (place_of entry.root) d
 -- The document of an entry went, with all of its records and the lists that they name, and no page fewer is free.
 abbrev pub RemovesDocument : (entry : DocEntry) (was now : Held) → Type 0
 RemovesDocument entry was now =
-    (pieces : PieceMap was) (document : CutTree) (layout : Layout) → IsLaidOutAs (was.settings).k pieces.piece_at (place_of entry.root) document layout → entry.nodes ≡ size_of document
+    (pieces : PieceMap was) (document : CutTree) (layout : Layout) → IsLaidOutAs (was.settings).k pieces.piece_at (place_of entry.root) document layout → entry.nodes ≡ document_size document
     → MovesRecords (document_places entry document layout) [] 0 was now
 
 -- of each document of the entry, which records hold from its root on, with the lists that records name in order, and which has its number of nodes; with all that is held
 abbrev pub OfEntry : {D : Type 0} → Ghosts D → Records → D → DocEntry → (Held → CutTree → Type 0) → Type 0
-OfEntry d records disk entry P = (document : CutTree) (has : HasDocument d records disk (place_of entry.root) document) → IsTidy has.now → entry.nodes ≡ size_of document → P has.now document
+OfEntry d records disk entry P = (document : CutTree) (has : HasDocument d records disk (place_of entry.root) document) → IsTidy has.now → entry.nodes ≡ document_size document → P has.now document
 
 -- there is none
 abbrev pub HasNone : {D : Type 0} → Ghosts D → Records → D → DocEntry → Type 0

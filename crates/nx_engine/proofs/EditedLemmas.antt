@@ -20,10 +20,10 @@ use Rattle.nx_script.specs.declared.command.Command.TheVariants.{Insert, Retext}
 use Rattle.nx_script.specs.declared.reply.Reply.{Reply}
 use Rattle.nx_script.specs.declared.reply.ReplyError.{ReplyError}
 use Rattle.nx_script.specs.declared.reply.ReplyError.TheVariants.{NoNode, BadPlace, Twice, NoContent, TooDeep, TooMany}
-use Rattle.nx_script.specs.Field.{name_order}
+use Rattle.nx_script.specs.Field.{name_order, vector_order}
 use Rattle.nx_engine.specs.Documents.{Documents}
-use Rattle.nx_engine.specs.Step.{worded, done_unless, by_document, edited, after}
-use Rattle.nx_engine.specs.Plain.{vector_order, documents_in, AreDocuments}
+use Rattle.nx_engine.specs.Step.{worded, done_unless, by_document, documents_edited, documents_after}
+use Rattle.nx_engine.specs.Plain.{documents_in, AreDocuments}
 use Rattle.nx_engine.proofs.MapLemmas.{Shows, tree_of, get_shown, insert_shown, insert_same, written_documents, found_document}
 use Rattle.nx_engine.proofs.StepLemmas.{by_found}
 
@@ -55,24 +55,24 @@ module _ {documents : Documents} {trees : BTreeMap (Vec ℕ) OrderedTree} {name 
     unwritten e = written_shows ∙ ap (insert documents name) e ∙ insert_same documents name tree lent_found
 
 pub edited_at : (documents : Documents) (name : List ℕ) (tree : OrderedTree) (fault : OrderedTree → Option ReplyError) (change : OrderedTree → OrderedTree) (f : Option ReplyError) →
-    get documents name ≡ Some tree → fault tree ≡ f → edited documents name fault change ≡ cond (is_none f) (insert documents name (change tree)) documents
+    get documents name ≡ Some tree → fault tree ≡ f → documents_edited documents name fault change ≡ cond (is_none f) (insert documents name (change tree)) documents
 edited_at documents name tree fault change f g e =
     ap (λ o. option_map_or (λ t. cond (is_none (fault t)) (insert documents name (change t)) documents) o documents) g
     ∙ ap (λ o. cond (is_none o) (insert documents name (change tree)) documents) e
 
 -- no document of that name, so none is edited
-pub edited_absent : (documents : Documents) (name : List ℕ) (fault : OrderedTree → Option ReplyError) (change : OrderedTree → OrderedTree) → get documents name ≡ None → edited documents name fault change ≡ documents
+pub edited_absent : (documents : Documents) (name : List ℕ) (fault : OrderedTree → Option ReplyError) (change : OrderedTree → OrderedTree) → get documents name ≡ None → documents_edited documents name fault change ≡ documents
 edited_absent documents name fault change g = ap (λ o. option_map_or (λ t. cond (is_none (fault t)) (insert documents name (change t)) documents) o documents) g
 
 -- a document that is as it was, put there again
 kept : (documents : Documents) (name : List ℕ) (tree new : OrderedTree) (fault : OrderedTree → Option ReplyError) (change : OrderedTree → OrderedTree) (x : ReplyError) →
-    get documents name ≡ Some tree → fault tree ≡ Some x → new ≡ tree → insert documents name new ≡ edited documents name fault change
+    get documents name ≡ Some tree → fault tree ≡ Some x → new ≡ tree → insert documents name new ≡ documents_edited documents name fault change
 kept documents name tree new fault change x g why e = ap (insert documents name) e ∙ insert_same documents name tree g ∙ sym (edited_at documents name tree fault change (Some x) g why)
 
 -- an edit that wasn't stopped by want of memory leaves what it says
 edit_leaves : (documents : Documents) (name : List ℕ) (tree new : OrderedTree) (fault : OrderedTree → Option ReplyError) (change : OrderedTree → OrderedTree) (r : Result (Unit {0}) TreeError) →
     get documents name ≡ Some tree → fault tree ≡ option_and_then worded (result_err r) → OnOk r (new ≡ change tree) → OnErr r (new ≡ tree) → ¬ (r ≡ Err tree_error.Memory) →
-    insert documents name new ≡ edited documents name fault change
+    insert documents name new ≡ documents_edited documents name fault change
 edit_leaves documents name tree new fault change (Ok u) g why ok err other = ap (insert documents name) ok ∙ sym (edited_at documents name tree fault change None g why)
 edit_leaves documents name tree new fault change (Err tree_error.NoNode) g why ok err other = kept documents name tree new fault change NoNode g why err
 edit_leaves documents name tree new fault change (Err tree_error.BadPlace) g why ok err other = kept documents name tree new fault change BadPlace g why err
@@ -94,10 +94,10 @@ FailsAlike a r = IsErr a ↔ (r ≡ Err tree_error.Memory)
 module _ {documents : Documents} {trees : BTreeMap (Vec ℕ) OrderedTree} {name key : List ℕ} {tree : OrderedTree} (l : Lent documents trees name key tree) (written : BTreeMap (Vec ℕ) OrderedTree) (new : OrderedTree)
     (w : Writes trees written key new) (r : Result (Unit {0}) TreeError) (err : OnErr r (new ≡ tree)) (a : Result Reply NoMemory) (alike : FailsAlike a r) where
   pub edit_done : (fault : OrderedTree → Option ReplyError) (change : OrderedTree → OrderedTree) → fault tree ≡ option_and_then worded (result_err r) → OnOk r (new ≡ change tree) →
-      OnOk a (documents_in written ≡ edited documents name fault change)
+      OnOk a (documents_in written ≡ documents_edited documents name fault change)
   edit_done fault change why ok = by_reply a alike
     where
-      by_reply : (b : Result Reply NoMemory) → FailsAlike b r → OnOk b (documents_in written ≡ edited documents name fault change)
+      by_reply : (b : Result Reply NoMemory) → FailsAlike b r → OnOk b (documents_in written ≡ documents_edited documents name fault change)
       by_reply (Ok reply) h = written_shows l written new w ∙ edit_leaves documents name tree new fault change r (lent_found l) why ok err (λ e. let f = h.1 e in cc)
       by_reply (Err e) h = tt
 
@@ -109,10 +109,10 @@ module _ {documents : Documents} {trees : BTreeMap (Vec ℕ) OrderedTree} {name 
       by_reply (Err e) h = unwritten l written new w (MatchResult-at_err _ _ tree_error.Memory (h.0 refl) err)
 
 -- a node put into no document, whatever its line says
-pub insert_absent : (documents : Documents) (name path : List ℕ) (said : LineBody) → get documents name ≡ None → after documents (Insert name path said) ≡ documents
+pub insert_absent : (documents : Documents) (name path : List ℕ) (said : LineBody) → get documents name ≡ None → documents_after documents (Insert name path said) ≡ documents
 insert_absent documents name path (line.Read node) g = edited_absent documents name _ _ g
 insert_absent documents name path (line.Wrong error) g = refl
 
-pub retext_absent : (documents : Documents) (name path : List ℕ) (said : TextBody) → get documents name ≡ None → after documents (Retext name path said) ≡ documents
+pub retext_absent : (documents : Documents) (name path : List ℕ) (said : TextBody) → get documents name ≡ None → documents_after documents (Retext name path said) ≡ documents
 retext_absent documents name path (content.Read bytes) g = edited_absent documents name _ _ g
 retext_absent documents name path (content.Wrong error) g = refl

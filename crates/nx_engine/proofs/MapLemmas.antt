@@ -20,9 +20,9 @@ use Rattle.std.proofs.lemmas.Map.Lookups.{exact_bytes}
 use Rattle.std.proofs.lemmas.Map.Views.{tells_apart, IfSome-lookup_from_All, All-values-insert_entry, All-map-remove_entry, All-values-set_value}
 use Rattle.nx_tree.specs.Forest.{OrderedTree}
 use Rattle.nx_tree.specs.Document.{IsDocument}
-use Rattle.nx_script.specs.Field.{name_order}
+use Rattle.nx_script.specs.Field.{name_order, vector_order, by_bytes}
 use Rattle.nx_engine.specs.Documents.{Documents}
-use Rattle.nx_engine.specs.Plain.{vector_order, by_bytes, documents_in, AreDocuments}
+use Rattle.nx_engine.specs.Plain.{documents_in, AreDocuments}
 
 both : (a b : Bool) → T a → T b → T (a && b)
 both true b p q = q

@@ -25,7 +25,7 @@ use Rattle.nx_script.specs.declared.reply.Reply.TheVariants as reply
 use Rattle.nx_script.specs.declared.reply.ReplyError.{ReplyError}
 use Rattle.nx_script.specs.declared.reply.ReplyError.TheVariants.{NoDocument, Exists, Pyx, NoNode}
 use Rattle.nx_engine.specs.Documents.{Documents}
-use Rattle.nx_engine.specs.Step.{worded, done_unless, by_document, loaded, shown, reply_to, edited, after, name_at, insert_fault, delete_fault, retext_fault}
+use Rattle.nx_engine.specs.Step.{worded, done_unless, by_document, loaded, shown, reply_to, documents_edited, documents_after, name_at, insert_fault, delete_fault, retext_fault}
 use Rattle.nx_engine.proofs.MapLemmas.{remove_absent}
 
 -- an answer that may be a refusal is worded as one without want of memory
@@ -41,7 +41,7 @@ worded-refusal_in (Err tree_error.Memory) = refl
 
 -- an edit that is refused leaves the documents
 refused_edit : (documents : Documents) (name : List ℕ) (fault : OrderedTree → Option ReplyError) (change : OrderedTree → OrderedTree) (e : ReplyError) →
-    by_document documents name (λ tree. done_unless (fault tree)) ≡ reply.Refused e → edited documents name fault change ≡ documents
+    by_document documents name (λ tree. done_unless (fault tree)) ≡ reply.Refused e → documents_edited documents name fault change ≡ documents
 refused_edit documents name fault change e = at_tree (get documents name)
   where
     at_fault : (tree : OrderedTree) (f : Option ReplyError) → done_unless f ≡ reply.Refused e → cond (is_none f) (insert documents name (change tree)) documents ≡ documents
@@ -66,7 +66,7 @@ refused_load documents name tree true e r = refl
 refused_load documents name tree false e r = cc
 
 -- a command that is refused changes nothing
-pub refused_after : (documents : Documents) (command : Command) (e : ReplyError) → reply_to documents command ≡ reply.Refused e → after documents command ≡ documents
+pub refused_after : (documents : Documents) (command : Command) (e : ReplyError) → reply_to documents command ≡ reply.Refused e → documents_after documents command ≡ documents
 refused_after documents (Load name (load.Read tree)) e r = refused_load documents name tree (contains_key documents name) e r
 refused_after documents (Load name (load.Wrong error)) e r = refl
 refused_after documents (Discard name) e r = refused_discard documents name e r
@@ -86,7 +86,7 @@ refused_after documents Bad e r = refl
 
 -- the same, of what a call may not end
 pub refused_leaves : (documents left : Documents) (command : Command) (r : Result Reply NoMemory) → IfOk r (λ said. said ≡ reply_to documents command) →
-    OnOk r (left ≡ after documents command) → IfOk r (λ said. (e : ReplyError) → said ≡ reply.Refused e → left ≡ documents)
+    OnOk r (left ≡ documents_after documents command) → IfOk r (λ said. (e : ReplyError) → said ≡ reply.Refused e → left ≡ documents)
 refused_leaves documents left command (Ok x) is leaves = λ e r. leaves ∙ refused_after documents command e (sym is ∙ r)
 refused_leaves documents left command (Err e) is leaves = tt
 
@@ -96,12 +96,12 @@ by_found documents name tree answer_of e = ap (λ o. option_map_or answer_of o (
 pub by_absent : (documents : Documents) (name : List ℕ) (answer_of : OrderedTree → Reply) → get documents name ≡ None → by_document documents name answer_of ≡ reply.Refused NoDocument
 by_absent documents name answer_of e = ap (λ o. option_map_or answer_of o (reply.Refused NoDocument)) e
 
-pub load_present : (documents : Documents) (name : List ℕ) (body : LoadBody) → contains_key documents name ≡ true → after documents (Load name body) ≡ documents
+pub load_present : (documents : Documents) (name : List ℕ) (body : LoadBody) → contains_key documents name ≡ true → documents_after documents (Load name body) ≡ documents
 load_present documents name (load.Read tree) e = rw e refl
 load_present documents name (load.Wrong error) e = refl
 
-pub load_absent : (documents : Documents) (name : List ℕ) (body : LoadBody) (tree : OrderedTree) → contains_key documents name ≡ false → body ≡ load.Read tree → after documents (Load name body) ≡ insert documents name tree
-load_absent documents name body tree e is = ap (λ b. after documents (Load name b)) is ∙ cond-false _ documents (insert documents name tree) e
+pub load_absent : (documents : Documents) (name : List ℕ) (body : LoadBody) (tree : OrderedTree) → contains_key documents name ≡ false → body ≡ load.Read tree → documents_after documents (Load name body) ≡ insert documents name tree
+load_absent documents name body tree e is = ap (λ b. documents_after documents (Load name b)) is ∙ cond-false _ documents (insert documents name tree) e
 
 pub shown_there : (documents : Documents) (name path : List ℕ) (tree found : OrderedTree) (node : Node) (n : ℕ) → get documents name ≡ Some tree → at tree path ≡ Some found →
     node ≡ found.node → n ≡ length (trees_of found.below) → reply.Shown node n ≡ reply_to documents (Get name path)

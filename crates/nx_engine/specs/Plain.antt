@@ -1,22 +1,13 @@
 -- The documents that a map of trees keeps.
-use Rattle.std.specs.declared.cmp.Ordering.{Ordering}
-use Rattle.std.specs.Prelude.{ℕ, List, map, All}
+use Rattle.std.specs.Prelude.{ℕ, All}
 use Rattle.std.specs.Global.{Vec}
 use Rattle.std.specs.Coded.{Coded, coded_list, coded_ℕ}
 use Rattle.std.specs.BTreeMap.{BTreeMap, IsOrdered, values}
 use Rattle.std.specs.FinMap.{from_sorted, code}
 use Rattle.nx_tree.specs.Forest.{OrderedTree, tree_code}
 use Rattle.nx_tree.specs.Document.{IsDocument}
-use Rattle.nx_script.specs.Field.{name_order}
+use Rattle.nx_script.specs.Field.{name_order, by_bytes, vector_order}
 use Rattle.nx_engine.specs.Documents.{Documents}
-
--- the order of names that are vectors
-abbrev pub vector_order : Vec ℕ → Vec ℕ → Ordering
-vector_order x y = name_order x.items y.items
-
--- the entries, by the names' bytes
-abbrev pub by_bytes : List (Vec ℕ × OrderedTree) → List (List ℕ × OrderedTree)
-by_bytes es = map (λ e. (e.0.items, e.1)) es
 
 abbrev pub documents_in : BTreeMap (Vec ℕ) OrderedTree → Documents
 documents_in trees = from_sorted {R = name_order} (by_bytes trees.entries)

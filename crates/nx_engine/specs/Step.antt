@@ -72,14 +72,14 @@ abbrev pub shown : OrderedTree → Reply
 shown tree = reply.Shown tree.node (length (trees_of tree.below))
 
 -- a document's name and its number of nodes
-abbrev pub listed : List ℕ × OrderedTree → DocLine
-listed entry = record { name = entry.0; nodes = 1 + nodes entry.1.below }
+abbrev pub document_line : List ℕ × OrderedTree → DocLine
+document_line entry = record { name = entry.0; nodes = 1 + nodes entry.1.below }
 
 -- What a command is answered. Trees in memory have no intervals, no rules and no log, so lines that ask for them are none.
 abbrev pub reply_to : Documents → Command → Reply
 reply_to documents (Load name body) = if contains_key documents name then reply.Refused Exists else loaded body
 reply_to documents (Discard name) = by_document documents name (λ _. reply.Done)
-reply_to documents Names = reply.Names (map listed (entries documents))
+reply_to documents Names = reply.Names (map document_line (entries documents))
 reply_to documents (Export name) = by_document documents name (λ tree. reply.Exported (text tree))
 reply_to documents (Insert name path body) = by_document documents name (λ tree. done_unless (insert_fault path body tree))
 reply_to documents (Delete name path) = by_document documents name (λ tree. done_unless (delete_fault path tree))
@@ -92,27 +92,27 @@ reply_to documents Checkpoint = reply.Refused Syntax
 reply_to documents Bad = reply.Refused Syntax
 
 -- the documents after an edit of one, unless there is none of that name or it is refused
-abbrev pub edited : Documents → List ℕ → (OrderedTree → Option ReplyError) → (OrderedTree → OrderedTree) → Documents
-edited documents name fault change =
+abbrev pub documents_edited : Documents → List ℕ → (OrderedTree → Option ReplyError) → (OrderedTree → OrderedTree) → Documents
+documents_edited documents name fault change =
     option_map_or (λ tree. if is_none (fault tree) then insert documents name (change tree) else documents) (get documents name) documents
 
 -- the documents after a command
-abbrev pub after : Documents → Command → Documents
-after documents (Load name (load.Read tree)) = if contains_key documents name then documents else insert documents name tree
-after documents (Load name (load.Wrong error)) = documents
-after documents (Discard name) = remove documents name
-after documents (Insert name path (line.Read node)) = edited documents name (insert_fault path (line.Read node)) (put node path)
-after documents (Insert name path (line.Wrong error)) = documents
-after documents (Delete name path) = edited documents name (delete_fault path) (cut_at path)
-after documents (Retext name path (content.Read bytes)) = edited documents name (retext_fault path (content.Read bytes)) (retext bytes path)
-after documents (Retext name path (content.Wrong error)) = documents
-after documents _ = documents
+abbrev pub documents_after : Documents → Command → Documents
+documents_after documents (Load name (load.Read tree)) = if contains_key documents name then documents else insert documents name tree
+documents_after documents (Load name (load.Wrong error)) = documents
+documents_after documents (Discard name) = remove documents name
+documents_after documents (Insert name path (line.Read node)) = documents_edited documents name (insert_fault path (line.Read node)) (put node path)
+documents_after documents (Insert name path (line.Wrong error)) = documents
+documents_after documents (Delete name path) = documents_edited documents name (delete_fault path) (cut_at path)
+documents_after documents (Retext name path (content.Read bytes)) = documents_edited documents name (retext_fault path (content.Read bytes)) (retext bytes path)
+documents_after documents (Retext name path (content.Wrong error)) = documents
+documents_after documents _ = documents
 
 -- the replies to commands, one after the other
 abbrev pub replies : Documents → List Command → List Reply
 replies documents [] = []
-replies documents (command ∷ commands) = reply_to documents command ∷ replies (after documents command) commands
+replies documents (command ∷ commands) = reply_to documents command ∷ replies (documents_after documents command) commands
 
 -- the documents after commands
 abbrev pub after_all : Documents → List Command → Documents
-after_all documents commands = fold after documents commands
+after_all documents commands = fold documents_after documents commands

@@ -4,7 +4,7 @@ ghost use Rattle.std.specs.Result.{result_err};
 ghost use Rattle.std.specs.FinMap.{empty, get, insert, remove, contains_key, entries};
 ghost use Rattle.nx_tree.specs.Document.{IsDocument, IsNode, longest_node};
 ghost use Rattle.nx_script.specs.Commands.{CanCome};
-ghost use Rattle.nx_engine.specs.Step.{reply_to, after, name_at, done_unless, worded};
+ghost use Rattle.nx_engine.specs.Step.{reply_to, documents_after, name_at, done_unless, worded};
 
 use nx_lists::LONGEST_NODE;
 use nx_pyx::{PyxError, PyxFault, write};
@@ -59,7 +59,7 @@ impl Plain {
     pub fn apply(&mut self, command: Command) -> Result<Reply, NoMemory>
         requires { CanCome command }
         ensures reply { IfOk result (λ reply. reply ≡ reply_to self.old command) }
-        ensures ok { OnOk result (self.new ≡ after self.old command) }
+        ensures ok { OnOk result (self.new ≡ documents_after self.old command) }
         ensures refused { IfOk result (λ reply. (e : ReplyError) → reply ≡ Reply.Refused e → self.new ≡ self.old) }
         ensures err { OnErr result (self.new ≡ self.old) }
     {
@@ -91,7 +91,7 @@ impl Plain {
     fn load(&mut self, name: Bytes, body: LoadBody) -> Result<Reply, NoMemory>
         requires { CanCome (Command.Load name body) }
         ensures reply { IfOk result (λ reply. reply ≡ reply_to self.old (Command.Load name body)) }
-        ensures ok { OnOk result (self.new ≡ after self.old (Command.Load name body)) }
+        ensures ok { OnOk result (self.new ≡ documents_after self.old (Command.Load name body)) }
         ensures err { OnErr result (self.new ≡ self.old) }
     {
         if self.documents.contains_key(name.as_slice()) {
@@ -112,7 +112,7 @@ impl Plain {
 
     fn discard(&mut self, name: &Bytes) -> Reply
         ensures reply { result ≡ reply_to self.old (Command.Discard name.now) }
-        ensures documents { self.new ≡ after self.old (Command.Discard name.now) }
+        ensures documents { self.new ≡ documents_after self.old (Command.Discard name.now) }
     {
         match self.documents.remove(name.as_slice()) {
             Some(_) => Reply::Done,
@@ -145,7 +145,7 @@ impl Plain {
     fn insert(&mut self, name: &Bytes, path: &Path, line: LineBody) -> Result<Reply, NoMemory>
         requires { CanCome (Command.Insert name.now path.now line) }
         ensures reply { IfOk result (λ reply. reply ≡ reply_to self.old (Command.Insert name.now path.now line)) }
-        ensures ok { OnOk result (self.new ≡ after self.old (Command.Insert name.now path.now line)) }
+        ensures ok { OnOk result (self.new ≡ documents_after self.old (Command.Insert name.now path.now line)) }
         ensures err { OnErr result (self.new ≡ self.old) }
     {
         let Some(tree) = self.documents.get_mut(name.as_slice()) else {
@@ -160,7 +160,7 @@ impl Plain {
 
     fn delete(&mut self, name: &Bytes, path: &Path) -> Result<Reply, NoMemory>
         ensures reply { IfOk result (λ reply. reply ≡ reply_to self.old (Command.Delete name.now path.now)) }
-        ensures ok { OnOk result (self.new ≡ after self.old (Command.Delete name.now path.now)) }
+        ensures ok { OnOk result (self.new ≡ documents_after self.old (Command.Delete name.now path.now)) }
         ensures err { OnErr result (self.new ≡ self.old) }
     {
         let Some(tree) = self.documents.get_mut(name.as_slice()) else {
@@ -172,7 +172,7 @@ impl Plain {
     fn retext(&mut self, name: &Bytes, path: &Path, text: TextBody) -> Result<Reply, NoMemory>
         requires { CanCome (Command.Retext name.now path.now text) }
         ensures reply { IfOk result (λ reply. reply ≡ reply_to self.old (Command.Retext name.now path.now text)) }
-        ensures ok { OnOk result (self.new ≡ after self.old (Command.Retext name.now path.now text)) }
+        ensures ok { OnOk result (self.new ≡ documents_after self.old (Command.Retext name.now path.now text)) }
         ensures err { OnErr result (self.new ≡ self.old) }
     {
         let Some(tree) = self.documents.get_mut(name.as_slice()) else {

@@ -17,7 +17,7 @@ use Rattle.nx_filters.specs.declared.give.GiveError.{GiveError}
 use Rattle.nx_filters.specs.declared.give.GiveError.TheVariants as give_error
 use Rattle.nx_filters.specs.declared.refusal.Refusal.{Refusal}
 use Rattle.nx_filters.specs.Refusal.{refusal_line}
-use Rattle.nx_filters.specs.Outcome.{Meaning, TakesFew, EndsWhole, EndsRefused, StopsBy, ReadsTo, Gives, FailsGiving, Given, status_after, line_after, EndsAfter, output_of, HasToldOutcome, Ends, RunsBeside, IsUndisturbed, Completes, HoldsTogether}
+use Rattle.nx_filters.specs.Outcome.{Meaning, TakesFew, EndsWhole, EndsRefused, StopsBy, ReadsTo, Gives, FailsGiving, Given, status_after, line_after, EndsAfter, outcome_output, HasToldOutcome, Ends, RunsBeside, IsUndisturbed, Completes, HoldsTogether}
 
 -- a count that has risen since a later moment has risen since an earlier one
 pub rose_since : (a b c : ℕ) → a ≤ b → Rose b c → Rose a c
@@ -233,8 +233,8 @@ module _ {D : Type 0} {d : Ghosts D} where
   module _ {m : Meaning} where
     -- a run by what it left and what it gave
     pub runs_by : {a b : D} (outcome : Option (Result m.Answer Refusal)) (status : Status) → HasToldOutcome m outcome (d.beside a).input (d.beside b).input →
-        Ends m outcome status (d.beside a) (d.beside b) → AppendsPrefix (output_of m outcome) (d.beside a).output (d.beside b).output →
-        TakesFew (d.beside a).input (d.beside b).input → TalksAlone d (output_of m outcome) a b → RunsBeside d m status a b
+        Ends m outcome status (d.beside a) (d.beside b) → AppendsPrefix (outcome_output m outcome) (d.beside a).output (d.beside b).output →
+        TakesFew (d.beside a).input (d.beside b).input → TalksAlone d (outcome_output m outcome) a b → RunsBeside d m status a b
     runs_by outcome status told ends prefix few talks = record {
       run = record {
         outcome = outcome;

@@ -17,7 +17,7 @@ use Rattle.nx_parts.proofs.MinimaLemmas.{minima_once}
 use Rattle.nx_cuts.proofs.AtMostLemmas.{feasible_light}
 use Rattle.nx_partition.specs.declared.error.PlanError.{PlanError}
 use Rattle.nx_partition.specs.declared.error.PlanError.TheVariants as plan_error
-use Rattle.nx_partition.specs.Bounding.{IsRefused}
+use Rattle.nx_partition.specs.Bounding.{IsPlanRefused}
 use Rattle.nx_partition.specs.Planning.{IsPlan}
 use Rattle.nx_filters.specs.declared.refusal.Refusal.{Refusal}
 use Rattle.nx_filters.specs.declared.refusal.Refusal.TheVariants.{Pyx, TooHeavy, Bounds}
@@ -113,7 +113,7 @@ pub plan_read : (k : ℕ) (tree : OrderedTree) (answer : Plan) (old new : Beside
 plan_read k tree answer old new (taken, whole, reads) planned = (taken, whole, record { tree = tree; reads = reads; planned = planned })
 
 -- or none
-pub plan_stops : (k : ℕ) (tree : OrderedTree) (error : PlanError) (old new : Beside) → ReadsTo tidy (Ok tree) old new → IsRefused k tree error → StopsBy (plan k) (take_error_of_plan error) old new
+pub plan_stops : (k : ℕ) (tree : OrderedTree) (error : PlanError) (old new : Beside) → ReadsTo tidy (Ok tree) old new → IsPlanRefused k tree error → StopsBy (plan k) (take_error_of_plan error) old new
 plan_stops k tree (plan_error.TooHeavy path slots) old new (taken, whole, reads) heavy = (
   taken,
   record { takes = whole.takes; few = (let few : length taken < most_input = whole.few in omega arith); refused = inr (whole.end, whole.few, (tree, reads, heavy)) },

@@ -21,7 +21,7 @@ use Rattle.nx_filters.specs.declared.refusal.Refusal.TheVariants.{Pyx, TooHeavy,
 use Rattle.nx_filters.specs.declared.take_error.TakeError.{TakeError}
 use Rattle.nx_filters.specs.declared.take_error.TakeError.TheVariants.{Refused, ReadFault, TooMuch, NoMemory}
 use Rattle.nx_filters.specs.Outcome.{EndsWhole, StopsBy}
-use Rattle.nx_filters.specs.Planned.{IsPlanned, HasLines, HasDot, HasDocument, StopsWhole}
+use Rattle.nx_filters.specs.Planned.{IsPlanned, HasLines, HasDot, HasDocumentBeforeDot, StopsWhole}
 use Rattle.nx_filters.specs.Consumer.{StopsAt}
 use Rattle.nx_filters.specs.Verify.{ShowsClaim, verify}
 use Rattle.nx_filters.proofs.ConsumerLemmas.{few_had}
@@ -75,7 +75,7 @@ document_shows tree taken before =
 
 -- before a dot
 pub document_dotted : (body : Body) (behind s : List ℕ) (tree : OrderedTree) → HasDot body behind s → ((t : List ℕ) → IsEndedBy body t → (more : List ℕ) → Reads (before_dot (t ++ more)) tree) →
-    HasDocument tree behind s
+    HasDocumentBeforeDot tree behind s
 document_dotted body behind s tree dot reads =
     let before : (more : List ℕ) → Reads (before_dot (s ++ more)) tree =
     λ more. subst (λ (l : List ℕ). Reads (before_dot l) tree) (sym (parts more)) (reads dot.prefix dot.ended (behind ++ more)) in
@@ -99,7 +99,7 @@ pub document_whole : (body : Body) (behind s : List ℕ) (tree : OrderedTree) �
 document_whole body behind s tree lines reads = record { reads = reads; behind = lines.none ∙ sym (after_in-none (cut s).ended (cut s).rest lines.within.undotted) }
 
 -- more of the text behind the dot
-pub document_more : (tree : OrderedTree) (plan plan' block s : List ℕ) → HasDocument tree plan s → plan' ≡ plan ++ block → HasDocument tree plan' (s ++ block)
+pub document_more : (tree : OrderedTree) (plan plan' block s : List ℕ) → HasDocumentBeforeDot tree plan s → plan' ≡ plan ++ block → HasDocumentBeforeDot tree plan' (s ++ block)
 document_more tree plan plan' block s document adds =
     let before : (more : List ℕ) → Reads (before_dot ((s ++ block) ++ more)) tree =
     λ more. subst (λ (l : List ℕ). Reads (before_dot l) tree) (sym (append_assoc s block more)) (document.before (block ++ more)) in
@@ -110,7 +110,7 @@ document_more tree plan plan' block s document adds =
     }
 
 -- all of it
-pub document_planned : (tree : OrderedTree) (plan s : List ℕ) → HasDocument tree plan s → IsPlanned tree plan s
+pub document_planned : (tree : OrderedTree) (plan s : List ℕ) → HasDocumentBeforeDot tree plan s → IsPlanned tree plan s
 document_planned tree plan s document = record {
   reads = subst (λ (l : List ℕ). Reads (before_dot l) tree) (append-nil s) (document.before []);
   behind = sym (append-nil plan) ∙ sym (document.after []) ∙ ap after_dot (append-nil s);

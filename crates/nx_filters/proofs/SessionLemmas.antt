@@ -18,7 +18,7 @@ use Rattle.nx_script.specs.Script.{HasGiven, HasGivenIn, Stops, unread}
 use Rattle.nx_script.proofs.OneList.{one_list, given_prefix, whole_more}
 use Rattle.nx_script.proofs.ScriptLemmas.{in_input, looked, parsed_whole}
 use Rattle.nx_engine.specs.Documents.{Documents}
-use Rattle.nx_engine.specs.Step.{reply_to, after, after_all}
+use Rattle.nx_engine.specs.Step.{reply_to, documents_after, after_all}
 use Rattle.nx_filters.specs.declared.status.Status.{Status}
 use Rattle.nx_filters.specs.declared.status.Status.TheVariants.{Done, NoMemory}
 use Rattle.nx_filters.specs.declared.give.GiveError.{GiveError}
@@ -26,22 +26,22 @@ use Rattle.nx_filters.specs.declared.give.GiveError.TheVariants as give_error
 use Rattle.nx_filters.specs.declared.refusal.Refusal.{Refusal}
 use Rattle.nx_filters.specs.TakeError.{status_of_script, status_of_give_error}
 use Rattle.nx_filters.specs.Outcome.{Gives, FailsGiving, Given, GivesBut, IsDue, Ends, HasToldOutcome, RunsBeside, HoldsTogether, HasOneText}
-use Rattle.nx_filters.specs.Session.{texts_from, texts, AreFirst, script_run, HasAnswered, HasStopped, IsAnswered}
+use Rattle.nx_filters.specs.Session.{texts_from, texts, AreFirst, script_run, HasAnswered, HasStoppedGiving, AreAnswered}
 use Rattle.nx_filters.proofs.GiveLemmas.{given_nothing, gave_rest, alone_rest}
 use Rattle.nx_filters.proofs.OutcomeLemmas.{rose_since, gives_appends, gives_more, gives_all_prefix, given_prefix as prefix_given, given_then, fails_more, told_answer, told_nothing, runs_by}
 
 -- the documents after commands and more commands
 pub after_all-append : (documents : Documents) (commands more : List Command) → after_all documents (commands ++ more) ≡ after_all (after_all documents commands) more
 after_all-append documents [] more = refl
-after_all-append documents (c ∷ commands) more = after_all-append (after documents c) commands more
+after_all-append documents (c ∷ commands) more = after_all-append (documents_after documents c) commands more
 
 -- the replies to commands and more commands
 pub texts_from-append : (documents : Documents) (commands more : List Command) →
     texts_from documents (commands ++ more) ≡ texts_from documents commands ++ texts_from (after_all documents commands) more
 texts_from-append documents [] more = refl
 texts_from-append documents (c ∷ commands) more =
-    ap (λ (t : List ℕ). reply_text (reply_to documents c) ++ t) (texts_from-append (after documents c) commands more)
-    ∙ sym (append_assoc (reply_text (reply_to documents c)) (texts_from (after documents c) commands) (texts_from (after_all (after documents c) commands) more))
+    ap (λ (t : List ℕ). reply_text (reply_to documents c) ++ t) (texts_from-append (documents_after documents c) commands more)
+    ∙ sym (append_assoc (reply_text (reply_to documents c)) (texts_from (documents_after documents c) commands) (texts_from (after_all (documents_after documents c) commands) more))
 
 -- the reply to one command alone
 pub texts_from-one : (documents : Documents) (c : Command) → texts_from documents (c ∷ []) ≡ reply_text (reply_to documents c)
@@ -176,12 +176,12 @@ module _ {D : Type 0} {d : Ghosts D} where
 
   -- before the first command
   pub answered_none : {a : D} {script : Script} {plain : Documents} {block : List ℕ} → plain ≡ empty → block ≡ [] → HasGivenIn script [] [] (d.beside a).input (d.beside a).input →
-      IsAnswered d [] [] script plain block a a
+      AreAnswered d [] [] script plain block a a
   answered_none none nothing given = record { given = given; documents = none; none_left = nothing; gives = refl; alone = none_talked [] }
 
   -- the replies to commands and, behind them, bytes of the replies to more
   talked_then : {first now last : D} {taken : List ℕ} {commands : List Command} {script : Script} {plain : Documents} {block : List ℕ} (more : List Command) →
-      IsAnswered d taken commands script plain block first now → GivesAlone d (block ++ texts_from plain more) now last → TalksAlone d (texts (commands ++ more)) first last
+      AreAnswered d taken commands script plain block first now → GivesAlone d (block ++ texts_from plain more) now last → TalksAlone d (texts (commands ++ more)) first last
   talked_then {first = first} {now = now} {last = last} {commands = commands} {plain = plain} more answered gives =
       let rest = texts_from (after_all empty commands) more in
       let given : GivesAlone d rest now last =
@@ -193,7 +193,7 @@ module _ {D : Type 0} {d : Ghosts D} where
 
   -- what was given behind the replies to earlier commands
   gave_then : {first now : D} {taken : List ℕ} {commands : List Command} {script : Script} {plain : Documents} {block : List ℕ} (last : D) (more : List Command) (given : Result (Unit {0}) GiveError) →
-      IsAnswered d taken commands script plain block first now → Given (block ++ texts_from plain more) given (d.beside now) (d.beside last) →
+      AreAnswered d taken commands script plain block first now → Given (block ++ texts_from plain more) given (d.beside now) (d.beside last) →
       Given (texts (commands ++ more)) given (d.beside first) (d.beside last)
   gave_then {first = first} {now = now} {commands = commands} {plain = plain} {block = block} last more given answered gave =
       let rest = texts_from (after_all empty commands) more in
@@ -206,8 +206,8 @@ module _ {D : Type 0} {d : Ghosts D} where
 
   -- commands more were answered, and then the block was given
   pub answered_more : {first now next last : D} {taken : List ℕ} {commands more : List Command} {old new : Script} {plain plain' : Documents} {block left rest : List ℕ} →
-      IsAnswered d taken commands old plain block first now → rest ≡ [] → HasAnswered d (d.beside first).input taken commands more new plain plain' block left now next →
-      Gives left (d.beside next).output (d.beside last).output → GivesAlone d left next last → IsAnswered d taken (commands ++ more) new plain' rest first last
+      AreAnswered d taken commands old plain block first now → rest ≡ [] → HasAnswered d (d.beside first).input taken commands more new plain plain' block left now next →
+      Gives left (d.beside next).output (d.beside last).output → GivesAlone d left next last → AreAnswered d taken (commands ++ more) new plain' rest first last
   answered_more {first = first} {now = now} {next = next} {last = last} {taken = taken} {commands = commands} {more = more} {old = old} {new = new} {plain = plain} {block = block} answered none did gives alone = record {
     given = subst (λ (i : Option (List ℕ)). HasGivenIn new taken (commands ++ more) (d.beside first).input i) (sym alone.input_stays) did.given;
     documents = did.documents ∙ ap (λ (p : Documents). after_all p more) answered.documents ∙ sym (after_all-append empty commands more);
@@ -218,8 +218,8 @@ module _ {D : Type 0} {d : Ghosts D} where
 
   -- more input was asked for
   pub answered_filled : {first now last : D} {taken more : List ℕ} {commands : List Command} {old new : Script} {plain : Documents} {block : List ℕ} →
-      IsAnswered d taken commands old plain block first now → HasGivenIn new more commands (d.beside first).input (d.beside last).input → TakesAlone d now last →
-      IsAnswered d more commands new plain block first last
+      AreAnswered d taken commands old plain block first now → HasGivenIn new more commands (d.beside first).input (d.beside last).input → TakesAlone d now last →
+      AreAnswered d more commands new plain block first last
   answered_filled {first = first} {now = now} {last = last} {commands = commands} answered given takes = record {
     given = given;
     documents = answered.documents;
@@ -231,7 +231,7 @@ module _ {D : Type 0} {d : Ghosts D} where
 
   -- the giving stopped while commands were answered
   pub session_stopped : {first now last : D} {stop : GiveError} {taken : List ℕ} {commands more : List Command} {script script' : Script} {plain : Documents} {block : List ℕ} →
-      IsAnswered d taken commands script plain block first now → HasStopped d stop (d.beside first).input taken commands more script' plain block now last →
+      AreAnswered d taken commands script plain block first now → HasStoppedGiving d stop (d.beside first).input taken commands more script' plain block now last →
       RunsBeside d script_run (status_of_give_error stop) first last
   session_stopped {first = first} {now = now} {last = last} {stop = stop} {taken = taken} {commands = commands} {more = more} {script = script} {script' = script'} {plain = plain} {block = block} answered stopped =
       let gave = gave_then last more (Err stop) answered stopped.gave in
@@ -241,7 +241,7 @@ module _ {D : Type 0} {d : Ghosts D} where
       (talked_then more answered stopped.alone)
 
   -- all commands are answered
-  pub session_done : {first now : D} {taken : List ℕ} {commands : List Command} {script : Script} {plain : Documents} {block : List ℕ} → IsAnswered d taken commands script plain block first now →
+  pub session_done : {first now : D} {taken : List ℕ} {commands : List Command} {script : Script} {plain : Documents} {block : List ℕ} → AreAnswered d taken commands script plain block first now →
       script.ended ≡ true → AreCommands taken commands → RunsBeside d script_run Done first now
   session_done {first = first} {now = now} {taken = taken} {commands = commands} {script = script} answered ended are =
       let (end, few) = answered.given.end ended in
@@ -253,7 +253,7 @@ module _ {D : Type 0} {d : Ghosts D} where
 
   -- the input gave no more
   pub session_unfilled : {first now last : D} {taken : List ℕ} {commands : List Command} {script : Script} {plain : Documents} {block : List ℕ} (error : ScriptError) →
-      IsAnswered d taken commands script plain block first last → (d.beside first).in_faults ≤ (d.beside now).in_faults →
+      AreAnswered d taken commands script plain block first last → (d.beside first).in_faults ≤ (d.beside now).in_faults →
       (error ≡ scripts.Read → Rose (d.beside now).in_faults (d.beside last).in_faults) → Stops error script [] commands (d.beside first).input (d.beside last).input →
       RunsBeside d script_run (status_of_script error) first last
   session_unfilled {first = first} {now = now} {last = last} {taken = taken} {commands = commands} {script = script} error answered earlier rose stops =
@@ -322,13 +322,13 @@ module _ {D : Type 0} {d : Ghosts D} where
 
   -- one command more is answered
   pub has_answered_more : {a now next : D} {first : Option (List ℕ)} {taken : List ℕ} {commands more : List Command} {old new : Script} {p0 p p' : Documents} {b0 b b' : List ℕ} (c : Command) →
-      new.ended ≡ old.ended → HasAnswered d first taken commands more old p0 p b0 b a now → HasGiven new taken ((commands ++ more) ++ c ∷ []) → p' ≡ after p c →
+      new.ended ≡ old.ended → HasAnswered d first taken commands more old p0 p b0 b a now → HasGiven new taken ((commands ++ more) ++ c ∷ []) → p' ≡ documents_after p c →
       GivesBut (b ++ reply_text (reply_to p c)) b' (d.beside now) (d.beside next) → GivesAlone d (b ++ reply_text (reply_to p c)) now next →
       HasAnswered d first taken commands (more ++ c ∷ []) new p0 p' b0 b' a next
   has_answered_more {a = a} {now = now} {next = next} {first = first} {taken = taken} {commands = commands} {more = more} {old = old} {new = new} {p0 = p0} {p = p} {b0 = b0} {b = b} {b' = b'} c same did given documents part alone =
       record {
         given = one_more c same did given alone.input_stays;
-        documents = documents ∙ ap (λ (q : Documents). after q c) did.documents ∙ sym (after_all-append p0 more (c ∷ []));
+        documents = documents ∙ ap (λ (q : Documents). documents_after q c) did.documents ∙ sym (after_all-append p0 more (c ∷ []));
         gave = record {
           done = did.gave.done ++ part.done;
           parts = append_assoc did.gave.done part.done b' ∙ ap (λ (l : List ℕ). did.gave.done ++ l) part.parts ∙ with_reply c did;
@@ -355,7 +355,7 @@ module _ {D : Type 0} {d : Ghosts D} where
 
   -- a stop where nothing was given since
   pub stopped_after : {a now : D} {first : Option (List ℕ)} {taken : List ℕ} {commands more : List Command} {script : Script} {p0 p : Documents} {b0 b : List ℕ} →
-      HasAnswered d first taken commands more script p0 p b0 b a now → HasStopped d give_error.NoMemory first taken commands more script p0 b0 a now
+      HasAnswered d first taken commands more script p0 p b0 b a now → HasStoppedGiving d give_error.NoMemory first taken commands more script p0 b0 a now
   stopped_after {a = a} {now = now} {b = b} did = record {
     given = did.given;
     gave = gave_rest (Err give_error.NoMemory) (d.beside now) did.alone.areas.out_faults_later did.gave (given_nothing b (d.beside now));
@@ -365,7 +365,7 @@ module _ {D : Type 0} {d : Ghosts D} where
   -- a stop while the block is given
   pub stopped_giving : {a now next : D} {stop : GiveError} {first : Option (List ℕ)} {taken : List ℕ} {commands more : List Command} {script : Script} {p0 p : Documents} {b0 b : List ℕ} →
       HasAnswered d first taken commands more script p0 p b0 b a now → Given b (Err stop) (d.beside now) (d.beside next) → GivesAlone d b now next →
-      HasStopped d stop first taken commands more script p0 b0 a next
+      HasStoppedGiving d stop first taken commands more script p0 b0 a next
   stopped_giving {next = next} {stop = stop} {first = first} {taken = taken} {commands = commands} {more = more} {script = script} did gave alone = record {
     given = subst (λ (i : Option (List ℕ)). HasGivenIn script taken (commands ++ more) first i) (sym alone.input_stays) did.given;
     gave = gave_rest (Err stop) (d.beside next) did.alone.areas.out_faults_later did.gave gave;
@@ -376,7 +376,7 @@ module _ {D : Type 0} {d : Ghosts D} where
   pub stopped_answering : {a now next : D} {stop : GiveError} {first : Option (List ℕ)} {taken : List ℕ} {commands more : List Command} {old new : Script} {p0 p : Documents} {b0 b : List ℕ} (c : Command) →
       new.ended ≡ old.ended → HasAnswered d first taken commands more old p0 p b0 b a now → HasGiven new taken ((commands ++ more) ++ c ∷ []) →
       Given (b ++ reply_text (reply_to p c)) (Err stop) (d.beside now) (d.beside next) → GivesAlone d (b ++ reply_text (reply_to p c)) now next →
-      HasStopped d stop first taken commands (more ++ c ∷ []) new p0 b0 a next
+      HasStoppedGiving d stop first taken commands (more ++ c ∷ []) new p0 b0 a next
   stopped_answering {next = next} {stop = stop} {first = first} {taken = taken} {commands = commands} {more = more} {old = old} {new = new} {p0 = p0} {p = p} {b0 = b0} {b = b} c same did given gave alone = record {
     given = one_more c same did given alone.input_stays;
     gave = gave_reply next c (Err stop) did gave;

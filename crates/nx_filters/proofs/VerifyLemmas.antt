@@ -9,14 +9,14 @@ use Rattle.nx_pyx.specs.Lines.{cut, without_cr, last_line, lines}
 use Rattle.nx_pyx.proofs.DocumentLemmas.{no_fault}
 use Rattle.nx_pyx.proofs.Reading.{one_reading}
 use Rattle.nx_script.specs.Commands.{is_dot}
-use Rattle.nx_script.specs.BeforeDot.{joined, after_in, before_dot, after_dot}
-use Rattle.nx_script.proofs.BeforeDot.{joined-cut}
+use Rattle.nx_script.specs.BeforeDot.{joined_lines, after_in, before_dot, after_dot}
+use Rattle.nx_script.proofs.BeforeDot.{joined_lines-cut}
 use Rattle.nx_parts.specs.declared.interval.Interval.{Interval}
 use Rattle.nx_parts.specs.declared.bounds.Bound.{Bound}
 use Rattle.nx_parts.specs.declared.plan.Plan.{Plan}
 use Rattle.nx_bounds.specs.declared.error.BoundsError.{BoundsError}
 use Rattle.nx_bounds.specs.declared.error.BoundsError.TheVariants.{Parts, WrongWeight, Length, Unsupported, Count, BadPlanLine, Memory}
-use Rattle.nx_bounds.specs.Refusal.{IsSound, IsNotCertified}
+use Rattle.nx_bounds.specs.Refusal.{IsSoundPlan, IsNotCertified}
 use Rattle.nx_bounds.specs.PlanText.{plan_line, part_line, bound_lines, lines_of, bad_line, ReadsAs}
 use Rattle.nx_bounds.proofs.OnePlan.{same_plan, sound}
 use Rattle.nx_bounds.proofs.VerdictLemmas.{spared, one_refusal}
@@ -30,10 +30,10 @@ use Rattle.nx_filters.specs.Verify.{certified_line, IsCertifiedText, IsRefusedTe
 
 -- The lists of a plan are no longer than its text:
 
-few_joined : (pieces : List (List ℕ)) (rest : List ℕ) → length pieces + length rest ≤ length (joined pieces rest)
+few_joined : (pieces : List (List ℕ)) (rest : List ℕ) → length pieces + length rest ≤ length (joined_lines pieces rest)
 few_joined [] rest = omega arith
 few_joined (piece ∷ pieces) rest =
-    let e : length (piece ++ 10 ∷ joined pieces rest) ≡ length piece + length (10 ∷ joined pieces rest) = length-append piece (10 ∷ joined pieces rest) in
+    let e : length (piece ++ 10 ∷ joined_lines pieces rest) ≡ length piece + length (10 ∷ joined_lines pieces rest) = length-append piece (10 ∷ joined_lines pieces rest) in
     omega (arith, few_joined pieces rest)
 
 one_line : (rest : List ℕ) → length (last_line rest) ≤ length rest
@@ -42,7 +42,7 @@ one_line (b ∷ rest) = omega arith
 
 lines_few : (text : List ℕ) → length (lines text) ≤ length text
 lines_few text =
-    let all : length (joined (cut text).ended (cut text).rest) ≡ length text = ap length (joined-cut text) in
+    let all : length (joined_lines (cut text).ended (cut text).rest) ≡ length text = ap length (joined_lines-cut text) in
     let split : length (lines text) ≡ length (map without_cr (cut text).ended) + length (last_line (cut text).rest) = length-append (map without_cr (cut text).ended) (last_line (cut text).rest) in
     let same : length (map without_cr (cut text).ended) ≡ length (cut text).ended = length-map (cut text).ended without_cr in
     omega (arith, few_joined (cut text).ended (cut text).rest, one_line (cut text).rest)
@@ -77,38 +77,38 @@ read_few text (Err error) short reads = tt
 
 -- The text behind the dot is no longer than the input:
 
-after_short : (pieces : List (List ℕ)) (rest : List ℕ) → length (after_in pieces rest) ≤ length (joined pieces rest)
+after_short : (pieces : List (List ℕ)) (rest : List ℕ) → length (after_in pieces rest) ≤ length (joined_lines pieces rest)
 after_short [] rest = omega arith
 after_short (piece ∷ pieces) rest = by_dot (is_dot (without_cr piece)) refl (after_short pieces rest)
   where
-    longer : length (joined (piece ∷ pieces) rest) ≡ length piece + (1 + length (joined pieces rest))
-    longer = let e : length (piece ++ 10 ∷ joined pieces rest) ≡ length piece + length (10 ∷ joined pieces rest) = length-append piece (10 ∷ joined pieces rest) in omega arith
+    longer : length (joined_lines (piece ∷ pieces) rest) ≡ length piece + (1 + length (joined_lines pieces rest))
+    longer = let e : length (piece ++ 10 ∷ joined_lines pieces rest) ≡ length piece + length (10 ∷ joined_lines pieces rest) = length-append piece (10 ∷ joined_lines pieces rest) in omega arith
 
-    by_dot : (t : Bool) → is_dot (without_cr piece) ≡ t → length (after_in pieces rest) ≤ length (joined pieces rest) →
-        length (after_in (piece ∷ pieces) rest) ≤ length (joined (piece ∷ pieces) rest)
+    by_dot : (t : Bool) → is_dot (without_cr piece) ≡ t → length (after_in pieces rest) ≤ length (joined_lines pieces rest) →
+        length (after_in (piece ∷ pieces) rest) ≤ length (joined_lines (piece ∷ pieces) rest)
     by_dot true is less =
-        let e : length (after_in (piece ∷ pieces) rest) ≡ length (joined pieces rest) = ap (λ (t : Bool). length (if t then joined pieces rest else after_in pieces rest)) is in
-        let more : length (joined (piece ∷ pieces) rest) ≡ length piece + (1 + length (joined pieces rest)) = longer in
+        let e : length (after_in (piece ∷ pieces) rest) ≡ length (joined_lines pieces rest) = ap (λ (t : Bool). length (if t then joined_lines pieces rest else after_in pieces rest)) is in
+        let more : length (joined_lines (piece ∷ pieces) rest) ≡ length piece + (1 + length (joined_lines pieces rest)) = longer in
         omega arith
     by_dot false is less =
-        let e : length (after_in (piece ∷ pieces) rest) ≡ length (after_in pieces rest) = ap (λ (t : Bool). length (if t then joined pieces rest else after_in pieces rest)) is in
-        let more : length (joined (piece ∷ pieces) rest) ≡ length piece + (1 + length (joined pieces rest)) = longer in
+        let e : length (after_in (piece ∷ pieces) rest) ≡ length (after_in pieces rest) = ap (λ (t : Bool). length (if t then joined_lines pieces rest else after_in pieces rest)) is in
+        let more : length (joined_lines (piece ∷ pieces) rest) ≡ length piece + (1 + length (joined_lines pieces rest)) = longer in
         omega arith
 
 pub text_short : (tree : OrderedTree) (plan taken : List ℕ) → length taken < most_input → IsPlanned tree plan taken → length plan < 2 ^ 32
 text_short tree plan taken short planned =
     let is : length plan ≡ length (after_dot taken) = ap length planned.behind in
-    let all : length (joined (cut taken).ended (cut taken).rest) ≡ length taken = ap length (joined-cut taken) in
+    let all : length (joined_lines (cut taken).ended (cut taken).rest) ≡ length taken = ap length (joined_lines-cut taken) in
     omega (arith, after_short (cut taken).ended (cut taken).rest)
 
 -- One verdict on an input:
 
-refuses_not : (k : ℕ) (tree : OrderedTree) (text : List ℕ) (plan : Plan) (error : BoundsError) → error ≢ Memory → ReadsAs text plan → IsSound k tree plan →
+refuses_not : (k : ℕ) (tree : OrderedTree) (text : List ℕ) (plan : Plan) (error : BoundsError) → error ≢ Memory → ReadsAs text plan → IsSoundPlan k tree plan →
     (other : Plan) × ReadsAs text other × IsNotCertified k tree other error → ⊥
 refuses_not k tree text plan error some says sound_plan (other, says_other, refused) =
     some (spared k tree plan error sound_plan (subst (λ (p : Plan). IsNotCertified k tree p error) (same_plan (lines text) other plan says_other says) refused))
 
-text_excludes : (k : ℕ) (tree : OrderedTree) (text : List ℕ) (plan : Plan) (error : BoundsError) → ReadsAs text plan → IsSound k tree plan → IsRefusedText k tree text error → ⊥
+text_excludes : (k : ℕ) (tree : OrderedTree) (text : List ℕ) (plan : Plan) (error : BoundsError) → ReadsAs text plan → IsSoundPlan k tree plan → IsRefusedText k tree text error → ⊥
 text_excludes k tree text plan (BadPlanLine line) says sound_plan refused = let none : None ≡ Some line = sym (sound (lines text) plan says) ∙ refused in cc
 text_excludes k tree text plan Memory says sound_plan refused = refused
 text_excludes k tree text plan (Parts error) says sound_plan refused = refuses_not k tree text plan (Parts error) (λ h. cc h) says sound_plan refused

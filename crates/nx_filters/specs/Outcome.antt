@@ -133,10 +133,10 @@ HasOutcome m (Some (Ok answer)) input = m.says input answer
 HasOutcome m (Some (Err refusal)) input = m.refuses input refusal
 
 -- the whole output of a run with this outcome; without one nothing is given
-abbrev pub output_of : (m : Meaning) → Option (Result m.Answer Refusal) → List ℕ
-output_of m None = []
-output_of m (Some (Ok answer)) = m.text_of answer
-output_of m (Some (Err refusal)) = refusal_line refusal
+abbrev pub outcome_output : (m : Meaning) → Option (Result m.Answer Refusal) → List ℕ
+outcome_output m None = []
+outcome_output m (Some (Ok answer)) = m.text_of answer
+outcome_output m (Some (Err refusal)) = refusal_line refusal
 
 -- Where the input is told to the end, it has this outcome.
 abbrev pub HasToldOutcome : (m : Meaning) → Option (Result m.Answer Refusal) → Option (List ℕ) → Option (List ℕ) → Type 0
@@ -169,8 +169,8 @@ pub record Runs {D : Type 0} (d : Ghosts D) (m : Meaning) (Stands : Option (Resu
   pub outcome : Option (Result m.Answer Refusal)
   pub told : HasToldOutcome m outcome (d.beside old).input (d.beside new).input
   pub ends : Ends m outcome status (d.beside old) (d.beside new)
-  pub prefix : AppendsPrefix (output_of m outcome) (d.beside old).output (d.beside new).output
-  pub time : Elapses d.moment d.stood_since old new (λ s. AppendsPrefix (output_of m outcome) (d.beside old).output s.output × Stands outcome s)
+  pub prefix : AppendsPrefix (outcome_output m outcome) (d.beside old).output (d.beside new).output
+  pub time : Elapses d.moment d.stood_since old new (λ s. AppendsPrefix (outcome_output m outcome) (d.beside old).output s.output × Stands outcome s)
   pub bounded : TakesFew (d.beside old).input (d.beside new).input
   pub counts : CountsGrow (d.beside old) (d.beside new)
 

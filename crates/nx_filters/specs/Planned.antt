@@ -29,7 +29,7 @@ pub record HasDot (body : Body) (behind taken : List ℕ) : Type 0 where
   pub ended : IsEndedBy body prefix
 
 -- The bytes hold the dot: the lines before it say this tree, and this text stands behind it so far.
-pub record HasDocument (tree : OrderedTree) (plan taken : List ℕ) : Type 0 where
+pub record HasDocumentBeforeDot (tree : OrderedTree) (plan taken : List ℕ) : Type 0 where
   pub before : (more : List ℕ) → Reads (before_dot (taken ++ more)) tree
   pub after : (more : List ℕ) → after_dot (taken ++ more) ≡ plan ++ more
   pub shows : ShowsClaim taken (Ok [])

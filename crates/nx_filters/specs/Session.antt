@@ -56,14 +56,14 @@ pub record HasAnswered {D : Type 0} (d : Ghosts D) (first : Option (List ℕ)) (
   pub alone : GivesAlone d (old_block ++ texts_from old_plain more) old new
 
 -- These commands more came, and the giving of the replies to them stopped.
-pub record HasStopped {D : Type 0} (d : Ghosts D) (stop : GiveError) (first : Option (List ℕ)) (taken : List ℕ) (commands more : List Command)
+pub record HasStoppedGiving {D : Type 0} (d : Ghosts D) (stop : GiveError) (first : Option (List ℕ)) (taken : List ℕ) (commands more : List Command)
     (script : Script) (plain : Documents) (block : List ℕ) (old new : D) : Type 0 where
   pub given : HasGivenIn script taken (commands ++ more) first (d.beside new).input
   pub gave : Given (block ++ texts_from plain more) (Err stop) (d.beside old) (d.beside new)
   pub alone : GivesAlone d (block ++ texts_from plain more) old new
 
 -- The bytes that were taken give these commands, all of them are answered, and their replies are given.
-pub record IsAnswered {D : Type 0} (d : Ghosts D) (taken : List ℕ) (commands : List Command)
+pub record AreAnswered {D : Type 0} (d : Ghosts D) (taken : List ℕ) (commands : List Command)
     (script : Script) (plain : Documents) (block : List ℕ) (first now : D) : Type 0 where
   pub given : HasGivenIn script taken commands (d.beside first).input (d.beside now).input
   pub documents : plain ≡ after_all empty commands

@@ -9,16 +9,16 @@ use Rattle.nx_script.specs.BeforeDot.{before_dot, after_dot, shown_before_dot}
 use Rattle.nx_parts.specs.declared.plan.Plan.{Plan}
 use Rattle.nx_bounds.specs.declared.error.BoundsError.{BoundsError}
 use Rattle.nx_bounds.specs.declared.error.BoundsError.TheVariants.{BadPlanLine, Memory}
-use Rattle.nx_bounds.specs.Refusal.{IsSound, IsCertified, IsNotCertified}
+use Rattle.nx_bounds.specs.Refusal.{IsSoundPlan, IsCertified, IsNotCertified}
 use Rattle.nx_bounds.specs.PlanText.{ReadsAs, IsNoPlan}
 use Rattle.nx_filters.specs.declared.refusal.Refusal.{Refusal}
 use Rattle.nx_filters.specs.declared.refusal.Refusal.TheVariants.{Pyx, TooHeavy, Bounds}
-use Rattle.nx_filters.specs.Refusal.{line_of}
+use Rattle.nx_filters.specs.Refusal.{line_of_fields}
 use Rattle.nx_filters.specs.Outcome.{Meaning}
 
 -- the line for a plan of so many intervals that is certified
 abbrev pub certified_line : ℕ → List ℕ
-certified_line intervals = line_of (codes "certified" ∷ decimal intervals ∷ [])
+certified_line intervals = line_of_fields (codes "certified" ∷ decimal intervals ∷ [])
 
 -- The text is that of a plan which is certified for the tree.
 pub record IsCertifiedText (k : ℕ) (tree : OrderedTree) (text : List ℕ) (intervals : ℕ) : Type 0 where
@@ -45,7 +45,7 @@ pub record IsSoundInput (k : ℕ) (input : List ℕ) : Type 0 where
   pub reads : Reads (before_dot input) tree
   pub plan : Plan
   pub says : ReadsAs (after_dot input) plan
-  pub sound : IsSound k tree plan
+  pub sound : IsSoundPlan k tree plan
 
 -- why the input is refused: by its document first, then by its plan
 abbrev pub IsRefusedInput : ℕ → List ℕ → Refusal → Type 0

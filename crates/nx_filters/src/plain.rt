@@ -7,9 +7,9 @@ ghost use Rattle.nx_script.specs.declared.command.Command.{Command};
 ghost use Rattle.nx_script.specs.Commands.{AreCommands, AreWhole, CanCome};
 ghost use Rattle.nx_script.specs.Reply.{reply_text};
 ghost use Rattle.nx_script.specs.Script.{HasGivenIn, IsDrained};
-ghost use Rattle.nx_engine.specs.Step.{reply_to, after};
+ghost use Rattle.nx_engine.specs.Step.{reply_to, documents_after};
 ghost use Rattle.nx_filters.specs.Outcome.{GivenBut, RunsBeside};
-ghost use Rattle.nx_filters.specs.Session.{HasAnswered, HasStopped, script_run, session_status};
+ghost use Rattle.nx_filters.specs.Session.{HasAnswered, HasStoppedGiving, script_run, session_status};
 
 use crate::Status;
 use crate::give::{BLOCK, GiveError, give_block, give_into};
@@ -64,7 +64,7 @@ fn answer_ready<H: Host>(
     ensures taken { OnOk result (script.new.input.taken ≡ script.old.input.taken) }
     ensures ended { OnOk result (script.new.ended ≡ script.old.ended) }
     ensures err { IfErr result (λ error. (first : Option (List ℕ)) (taken : List ℕ) (commands : List Command) → HasGivenIn script.old taken commands first (H.beside host.old).input →
-        (more : List Command) × (last : Script) × (last.ended ≡ script.old.ended) × HasStopped ⟦<H as Disk>⟧ error first taken commands more last plain.old block.old host.old host.new) }
+        (more : List Command) × (last : Script) × (last.ended ≡ script.old.ended) × HasStoppedGiving ⟦<H as Disk>⟧ error first taken commands more last plain.old block.old host.old host.new) }
 {
     loop {
         let Ok(next) = script.ready() else {
@@ -91,7 +91,7 @@ fn answer<H: Host>(
 ) -> Result<(), GiveError>
     requires { CanCome command }
     ensures given { GivenBut (block.old ++ reply_text (reply_to plain.old command)) block.new result (H.beside host.old) (H.beside host.new) }
-    ensures documents { OnOk result (plain.new ≡ after plain.old command) }
+    ensures documents { OnOk result (plain.new ≡ documents_after plain.old command) }
     ensures alone { GivesAlone ⟦<H as Disk>⟧ (block.old ++ reply_text (reply_to plain.old command)) host.old host.new }
 {
     match command {

@@ -2,7 +2,7 @@
 ghost use Rattle.std.specs.Prelude.{◌≡◌, ◌≤◌, ℕ, List, ◌++◌, length, take, IfOk, IfErr, IfSome, MatchOption};
 ghost use Rattle.nx_host.specs.Phase.{TakesAlone};
 ghost use Rattle.nx_script.specs.Body.{AwaitsDot, IsEndedBy};
-ghost use Rattle.nx_filters.specs.Planned.{IsPlanned, HasLines, HasDot, HasDocument, StopsWhole};
+ghost use Rattle.nx_filters.specs.Planned.{IsPlanned, HasLines, HasDot, HasDocumentBeforeDot, StopsWhole};
 ghost use Rattle.nx_filters.specs.Consumer.{StopsAt};
 ghost use Rattle.nx_filters.specs.Outcome.{EndsWhole, StopsBy, TakesFew};
 ghost use Rattle.nx_filters.specs.Verify.{ShowsClaim, verify};
@@ -52,7 +52,7 @@ impl Consumer for Lines {
 }
 
 impl Consumer for Planned {
-    ghost has_read = { λ planned taken. HasDocument planned.tree planned.plan taken };
+    ghost has_read = { λ planned taken. HasDocumentBeforeDot planned.tree planned.plan taken };
 
     ghost has_enough = { λ _ _. ⊥ };
 
@@ -108,7 +108,7 @@ fn take_lines(body: &mut Body, bytes: &[u8]) -> Result<Option<usize>, NoMemory>
 fn into_planned(lines: Lines) -> Result<Planned, TakeError>
     ensures whole { IfOk result (λ planned. (s : List ℕ) → HasLines lines.body lines.behind s → IsPlanned planned.tree planned.plan s) }
     ensures faulty { IfErr result (λ stop. (s : List ℕ) → HasLines lines.body lines.behind s → StopsWhole stop s) }
-    ensures dotted { IfOk result (λ planned. (s : List ℕ) → HasDot lines.body lines.behind s → HasDocument planned.tree planned.plan s) }
+    ensures dotted { IfOk result (λ planned. (s : List ℕ) → HasDot lines.body lines.behind s → HasDocumentBeforeDot planned.tree planned.plan s) }
     ensures refused { IfErr result (λ stop. (s : List ℕ) → HasDot lines.body lines.behind s → StopsAt ShowsClaim stop s) }
 {
     let Lines { body, behind } = lines;

@@ -34,7 +34,7 @@ use Rattle.nx_filters.specs.TakeError.{status_of_script, status_of_give_error}
 use Rattle.nx_filters.specs.Outcome.{TakesFew, CountsGrow, EndsWhole, Given}
 use Rattle.nx_filters.specs.Session.{AreFirst}
 use Rattle.nx_front.specs.Serving.{Turn, state_after, commands_of, texts_of, ShowsMoment, ShowsBetween, LeavesMoments, EndsBetween, AreOfTaken, EndsServing, EndsWithCheckpoint, HasEmptyLog, LeavesAll, TakesNoByte, ServesFrom, IsCaused, EndsWithoutHeader, Serves}
-use Rattle.nx_front.specs.Conversation.{ShowsReached, HasRun, HasBegun, GoesOn, IsConversing, Answers, Begins, StopsShort, IsStopped, IsEnded, Converses, status_of_engine}
+use Rattle.nx_front.specs.Conversation.{ShowsReached, HasRun, HasBegun, IsLater, IsConversing, AnswersNext, BeginsNext, StopsShort, IsUnanswered, IsEnded, Converses, status_of_engine}
 use Rattle.nx_filters.proofs.OutcomeLemmas.{rose_since, told_at_first, kept_appends, keeps_of}
 use Rattle.nx_filters.proofs.SessionLemmas.{first_given, few_given}
 use Rattle.nx_front.proofs.ClockLemmas.{HasClock, at_end}
@@ -147,10 +147,10 @@ ends_after Refused turns taken a b c input output ends = absurd ends
 module _ {D : Type 0} {d : Ghosts D} where
   -- No count fell:
 
-  none_goes : {a : D} → GoesOn d a a
+  none_goes : {a : D} → IsLater d a a
   none_goes = record { told = λ told. told; counts = record { read = omega arith; written = omega arith }; faults_later = omega arith }
 
-  goes_then : {a b c : D} → GoesOn d a b → GoesOn d b c → GoesOn d a c
+  goes_then : {a b c : D} → IsLater d a b → IsLater d b c → IsLater d a c
   goes_then {a = a} {b = b} {c = c} first second = record {
     told = λ told. first.told (second.told told);
     counts = record {
@@ -160,14 +160,14 @@ module _ {D : Type 0} {d : Ghosts D} where
     faults_later = let x : d.faults a ≤ d.faults b = first.faults_later in let y : d.faults b ≤ d.faults c = second.faults_later in omega arith;
   }
 
-  takes_goes : {a b : D} → TakesNone d a b → GoesOn d a b
+  takes_goes : {a b : D} → TakesNone d a b → IsLater d a b
   takes_goes {a = a} {b = b} takes = record {
     told = takes.told;
     counts = record { read = (let same : (d.beside b).in_faults ≡ (d.beside a).in_faults = takes.in_faults_stay in omega arith); written = takes.out_faults_later };
     faults_later = takes.faults_later;
   }
 
-  leaves_goes : {a b : D} {P : Option (List ℕ) → Type 0} → LeavesAreas d a b P → GoesOn d a b
+  leaves_goes : {a b : D} {P : Option (List ℕ) → Type 0} → LeavesAreas d a b P → IsLater d a b
   leaves_goes {a = a} {b = b} leaves = record {
     told = told_at_first (d.contents a) (d.contents b) leaves.contents_stay;
     counts = record { read = leaves.in_faults_later; written = leaves.out_faults_later };
@@ -196,7 +196,7 @@ module _ {D : Type 0} {d : Ghosts D} where
   -- one command more is answered
   pub conversing_more : {begun : Store} {taken : List ℕ} {commands : List Command} {old new : Script} {store store' : Store} {block block' : List ℕ} {first now next : D} (command : Command) →
       new.ended ≡ old.ended → IsConversing d begun taken commands old store block first now → HasGiven new taken (commands ++ command ∷ []) → TakesNone d now next →
-      Answers d command store store' block block' now next → IsConversing d begun taken (commands ++ command ∷ []) new store' block' first next
+      AnswersNext d command store store' block block' now next → IsConversing d begun taken (commands ++ command ∷ []) new store' block' first next
   conversing_more {commands = commands} {first = first} {next = next} command same talk given takes answers = record {
     given = with_command command next same talk given takes;
     goes = goes_then talk.goes (takes_goes takes);
@@ -291,7 +291,7 @@ module _ {D : Type 0} {d : Ghosts D} where
         emptied = λ is. (last is).1;
       }
 
-  stopped_ends : {first now : D} (status : Status) (next : D) → GoesOn d first now → IsStopped d status now next → IsEnded d status first next
+  stopped_ends : {first now : D} (status : Status) (next : D) → IsLater d first now → IsUnanswered d status now next → IsEnded d status first next
   stopped_ends {first = first} {now = now} DiskFault next goes rose = rose_since (d.faults first) (d.faults now) (d.faults next) goes.faults_later rose
   stopped_ends {first = first} {now = now} WriteFault next goes rose = rose_since (d.beside first).out_faults (d.beside now).out_faults (d.beside next).out_faults goes.counts.written rose
   stopped_ends NoMemory next goes stopped = tt
@@ -306,7 +306,7 @@ module _ {D : Type 0} {d : Ghosts D} where
   -- a command isn't answered
   pub converses_stopped : {begun : Store} {taken : List ℕ} {commands : List Command} {old new : Script} {store : Store} {block : List ℕ} {first now next : D} (command : Command) (status : Status) →
       HasClock d → new.ended ≡ old.ended → IsConversing d begun taken commands old store block first now → HasGiven new taken (commands ++ command ∷ []) → TakesNone d now next →
-      Begins d command status store block now next → IsStopped d status now next → Converses d begun status first next
+      BeginsNext d command status store block now next → IsUnanswered d status now next → Converses d begun status first next
   converses_stopped {commands = commands} {first = first} {next = next} command status clock same talk given takes begins stopped =
       let came = with_command command next same talk given takes in
       record {
@@ -439,7 +439,7 @@ module _ {D : Type 0} {d : Ghosts D} where
     written = let same : (d.beside b).out_faults ≡ (d.beside a).out_faults = still.beside_stays.out_faults in omega arith;
   }
 
-  still_goes : {a b : D} → IsStill d a b → GoesOn d a b
+  still_goes : {a b : D} → IsStill d a b → IsLater d a b
   still_goes {a = a} {b = b} still = record {
     told = subst (λ (o : Option Image). IsSome o → IsSome (d.contents a)) (sym still.contents_stay) (λ told. told);
     counts = counts_still still;

@@ -20,22 +20,22 @@ use Rattle.nx_state.proofs.FirstLemmas.{new_is_held}
 use Rattle.nx_filters.specs.declared.status.Status.{Status}
 use Rattle.nx_filters.specs.declared.status.Status.TheVariants.{Done, Usage, Refused, DiskFault, ReadFault, WriteFault, NoMemory, NotAStore, Damaged, TooMuch}
 use Rattle.nx_filters.specs.Outcome.{FailsGiving}
-use Rattle.nx_front.specs.Init.{made_line, exists_line, HasNoPage, HasPage, IsOldOrNew, Says, IsMaking, IsMade, Makes, FindsPages, GivesUp, Initializes, IsUntroubled, CompletesInit, InitHoldsTogether, HoldsNothing}
+use Rattle.nx_front.specs.Init.{made_line, exists_line, HasNoPage, HasPage, IsOldOrNew, SaysLine, IsMaking, IsStoreMade, MakesStore, FindsPages, GivesUp, Initializes, IsUntroubled, CompletesInit, InitHoldsTogether, HoldsNothing}
 use Rattle.nx_filters.proofs.OutcomeLemmas.{told_at_first, kept_appends, fails_then}
 
 -- a line behind an output that stayed
-says_after : (line : List ℕ) (whole status : Status) (old middle new : Beside) → LeavesBeside old middle → Says line whole status middle new → Says line whole status old new
+says_after : (line : List ℕ) (whole status : Status) (old middle new : Beside) → LeavesBeside old middle → SaysLine line whole status middle new → SaysLine line whole status old new
 says_after line whole status old middle new stays (inl (is, appends)) =
     inl (is, appends_then [] line old.output middle.output new.output (kept_appends old.output middle.output stays.output) appends)
 says_after line whole status old middle new stays (inr (is, fails)) =
     inr (is, fails_then [] line old middle new (let same : middle.out_faults ≡ old.out_faults = stays.out_faults in omega (arith, same)) (kept_appends old.output middle.output stays.output) fails)
 
 -- where writing didn't fail, the line was given
-said : (line : List ℕ) (whole status : Status) (old new : Beside) → ¬ Rose old.out_faults new.out_faults → Says line whole status old new → status ≡ whole
+said : (line : List ℕ) (whole status : Status) (old new : Beside) → ¬ Rose old.out_faults new.out_faults → SaysLine line whole status old new → status ≡ whole
 said line whole status old new calm (inl (is, gave)) = is
 said line whole status old new calm (inr (is, fails)) = absurd (calm fails.rose)
 
-no_usage : (line : List ℕ) (whole : Status) (old new : Beside) → (Usage ≡ whole → ⊥) → Says line whole Usage old new → ⊥
+no_usage : (line : List ℕ) (whole : Status) (old new : Beside) → (Usage ≡ whole → ⊥) → SaysLine line whole Usage old new → ⊥
 no_usage line whole old new other (inl (is, gave)) = other is
 no_usage line whole old new other (inr (is, fails)) = cc is
 
@@ -55,7 +55,7 @@ fails_once line old new some rose prefix = record {
 module _ {D : Type 0} {d : Ghosts D} {a b c : D} where
   -- the input stays, and no count falls
   initializes : (settings : Settings) (status : Status) (line : List ℕ) → LeavesBeside (d.beside a) (d.beside b) → d.faults a ≤ d.faults b → GivesAlone d line b c →
-      Makes d settings status a c ⊎ FindsPages d status a c ⊎ GivesUp d settings status a c → Initializes d settings status a c
+      MakesStore d settings status a c ⊎ FindsPages d status a c ⊎ GivesUp d settings status a c → Initializes d settings status a c
   initializes settings status line stays later gives ends = record {
     ends = ends;
     input_stays = subst (λ (o : Option (List ℕ)). Keeps (d.beside a).input o) (sym gives.input_stays) stays.input;
@@ -70,13 +70,13 @@ module _ {D : Type 0} {d : Ghosts D} {a b c : D} where
   -- the store was made, and `ok` is given
   pub makes : (settings : Settings) (status : Status) → WritesAlone d a b (λ i. (was : Image) → IsSettled d a was → IsOldOrNew settings was i) →
       ((was now : Image) → IsSettled d a was → d.contents b ≡ Some now → IsSettled d b now × IsNewStore settings was now) →
-      Says made_line Done status (d.beside b) (d.beside c) → GivesAlone d made_line b c → Initializes d settings status a c
+      SaysLine made_line Done status (d.beside b) (d.beside c) → GivesAlone d made_line b c → Initializes d settings status a c
   makes settings status goes made says gives =
       let told_there : IsSome (d.contents c) → IsSome (d.contents b) = told_at_first (d.contents b) (d.contents c) gives.areas.contents_stay in
       initializes settings status made_line goes.beside_stays goes.faults_later gives
       (inl (record {
         says = says_after made_line Done status (d.beside a) (d.beside b) (d.beside c) goes.beside_stays says;
-        time = elapsed_then {P = λ s. IsMaking d settings a c s ⊎ IsMade d settings a c s}
+        time = elapsed_then {P = λ s. IsMaking d settings a c s ⊎ IsStoreMade d settings a c s}
             (elapsed_weaker goes.time (λ s h. inl (h.0, λ was settled told. h.1 (told_there told) was settled)))
             gives.areas.time
             (λ s h. inr (
@@ -95,7 +95,7 @@ module _ {D : Type 0} {d : Ghosts D} {a b c : D} where
 
   -- there were pages, and that is given
   pub finds_pages : (settings : Settings) (status : Status) → IsStill d a b → ((was : Image) → IsSettled d a was → HasPage was) →
-      Says exists_line Refused status (d.beside b) (d.beside c) → GivesAlone d exists_line b c → Initializes d settings status a c
+      SaysLine exists_line Refused status (d.beside b) (d.beside c) → GivesAlone d exists_line b c → Initializes d settings status a c
   finds_pages settings status still pages says gives =
       initializes settings status exists_line still.beside_stays still.faults_later gives
       (inr (inl (record {
@@ -144,7 +144,7 @@ module _ {D : Type 0} {d : Ghosts D} {a b : D} where
   given_up settings was (Damaged page) calm ends = absurd ends
   given_up settings was TooMuch calm ends = absurd ends
 
-  ends_completely : (settings : Settings) (was : Image) (status : Status) → IsUntroubled d was a b → Makes d settings status a b ⊎ FindsPages d status a b ⊎ GivesUp d settings status a b →
+  ends_completely : (settings : Settings) (was : Image) (status : Status) → IsUntroubled d was a b → MakesStore d settings status a b ⊎ FindsPages d status a b ⊎ GivesUp d settings status a b →
       CompletesInit was status
   ends_completely settings was status calm (inl made) =
       let (now, here) = some_of (d.contents b) calm.still_told in
@@ -158,7 +158,7 @@ module _ {D : Type 0} {d : Ghosts D} {a b : D} where
   pub init_completes : (settings : Settings) (status : Status) (was : Image) → Initializes d settings status a b → IsUntroubled d was a b → CompletesInit was status
   init_completes settings status was carried calm = ends_completely settings was status calm carried.ends
 
-  ends_without : (settings : Settings) → Makes d settings Usage a b ⊎ FindsPages d Usage a b ⊎ GivesUp d settings Usage a b → ⊥
+  ends_without : (settings : Settings) → MakesStore d settings Usage a b ⊎ FindsPages d Usage a b ⊎ GivesUp d settings Usage a b → ⊥
   ends_without settings (inl made) = no_usage made_line Done (d.beside a) (d.beside b) (λ is. cc is) made.says
   ends_without settings (inr (inl found)) = no_usage exists_line Refused (d.beside a) (d.beside b) (λ is. cc is) found.says
   ends_without settings (inr (inr ends)) = ends

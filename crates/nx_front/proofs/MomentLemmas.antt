@@ -7,7 +7,7 @@ use Rattle.nx_host.specs.Disk.{Image}
 use Rattle.nx_script.specs.declared.command.Command.{Command}
 use Rattle.nx_script.specs.declared.reply.Reply.{Reply}
 use Rattle.nx_script.specs.declared.reply.Reply.TheVariants as reply
-use Rattle.nx_script.specs.Reply.{reply_text, doc_line, part_line, rule_line}
+use Rattle.nx_script.specs.Reply.{reply_text, doc_line, interval_line, rule_line}
 use Rattle.nx_state.specs.State.{State}
 use Rattle.nx_state.specs.Stands.{Recovers}
 use Rattle.nx_store.specs.Carried.{StoreStep}
@@ -45,7 +45,7 @@ reply_some (reply.Loaded nodes intervals) = omega arith
 reply_some (reply.Shown node children) = omega arith
 reply_some (reply.Names docs) = dot_behind (flat_map doc_line docs)
 reply_some (reply.Exported text) = dot_behind text
-reply_some (reply.Laid parts weights) = dot_behind (flat_map part_line (zip parts weights))
+reply_some (reply.Laid parts weights) = dot_behind (flat_map interval_line (zip parts weights))
 reply_some (reply.Rules rules) = dot_behind (flat_map rule_line rules)
 reply_some (reply.Refused error) = omega arith
 

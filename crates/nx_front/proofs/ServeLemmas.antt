@@ -18,7 +18,7 @@ use Rattle.nx_store.specs.declared.store.Store.{Store}
 use Rattle.nx_store.specs.declared.error.EngineError.{EngineError}
 use Rattle.nx_store.specs.declared.error.EngineError.TheVariants as engine
 use Rattle.nx_store.specs.Carried.{StoreStep}
-use Rattle.nx_store.specs.Store.{Turn as StoreTurn, IsAt, IsOf, IsOfEither, Shows, ShowsAnswer, ShowsGiven, IsGiven, IsApplied, IsAnswered, IsExported, TakesNone, NotApplied}
+use Rattle.nx_store.specs.Store.{StoreTurn, IsAt, IsOf, IsOfEither, Shows, ShowsAnswer, ShowsGiven, IsGiven, IsApplied, IsAnswered, IsExported, TakesNone, NotApplied}
 use Rattle.nx_store.proofs.AtLemmas.{at_beside, at_image}
 use Rattle.nx_store.proofs.CaseLemmas.{quiet_leaves}
 use Rattle.nx_steps.specs.Step.{may_change}
@@ -29,7 +29,7 @@ use Rattle.nx_filters.specs.declared.give.GiveError.TheVariants as give_error
 use Rattle.nx_filters.specs.TakeError.{status_of_give_error}
 use Rattle.nx_filters.specs.Outcome.{Given}
 use Rattle.nx_front.specs.Serving.{Turn, state_after, commands_of, texts_of, ShowsBetween, LeavesMoments, EndsBetween, HasEmptyLog}
-use Rattle.nx_front.specs.Conversation.{IsReached, ShowsReached, IsReachedBetween, HasRun, HasServed, HasBegun, Answers, Begins, StopsShort, IsStopped, status_of_engine}
+use Rattle.nx_front.specs.Conversation.{IsReached, ShowsReached, IsReachedBetween, HasRun, HasServed, HasBegun, AnswersNext, BeginsNext, StopsShort, IsUnanswered, status_of_engine}
 use Rattle.nx_filters.proofs.OutcomeLemmas.{kept_appends, gives_appends, keeps_of}
 use Rattle.nx_front.proofs.ClockLemmas.{HasClock, at_end}
 use Rattle.nx_front.proofs.MomentLemmas.{run_more, after_more, texts_more, commands_more, longer, last, longer_between, last_between, part_between, every_between, le_or}
@@ -309,13 +309,13 @@ module _ {D : Type 0} {d : Ghosts D} where
 
   -- it isn't begun where the block isn't given
   pub block_begins : {now next : D} {store : Store} {block : List ℕ} (command : Command) (stop : GiveError) → HasClock d → GivesAlone d block now next →
-      Begins d command (status_of_give_error stop) store block now next
+      BeginsNext d command (status_of_give_error stop) store block now next
   block_begins {block = block} command stop clock alone first state turns served told = (stops_giving stop, begun_none command clock served (leaves_gives block alone.areas served.at))
 
   -- A command that may change the store is answered, once the block is given.
   pub loud_answers : {now mid next : D} {store store' : Store} {block left : List ℕ} (command : Command) → left ≡ [] → Given block (Ok tt) (d.beside now) (d.beside mid) → GivesAlone d block now mid →
       TakesNone d mid next → ((state : State) → IsAt d store mid state → IsSome (d.contents next) → IsAnswered d (Ok tt) state command store' mid next) →
-      Answers d command store store' block left now next
+      AnswersNext d command store store' block left now next
   loud_answers command none gave alone takes answers first state turns served told =
       let there = given_block served none gave alone (takes.told told) in
       let (turn, at, appends, time, log) = answers (state_after state turns) there.at told in
@@ -340,7 +340,7 @@ module _ {D : Type 0} {d : Ghosts D} where
 
   pub loud_begins : {now mid next : D} {store : Store} {block left : List ℕ} (store' : Store) (command : Command) (e : EngineError) → HasClock d → left ≡ [] →
       Given block (Ok tt) (d.beside now) (d.beside mid) → GivesAlone d block now mid → TakesNone d mid next →
-      ((state : State) → IsAt d store mid state → IsSome (d.contents next) → IsAnswered d (Err e) state command store' mid next) → Begins d command (status_of_engine e) store block now next
+      ((state : State) → IsAt d store mid state → IsSome (d.contents next) → IsAnswered d (Err e) state command store' mid next) → BeginsNext d command (status_of_engine e) store block now next
   loud_begins store' command e clock none gave alone takes answers first state turns served told =
       let there = given_block served none gave alone (takes.told told) in
       loud_stops store' command e clock there none (answers (state_after state turns) there.at told)
@@ -356,7 +356,7 @@ module _ {D : Type 0} {d : Ghosts D} where
   -- ... and its reply stands behind what the block has
   pub quiet_answers : {now next : D} {store store' : Store} {block left : List ℕ} {P : Image → Type 0} (command : Command) (reply : Reply) → may_change command ≡ false → left ≡ block ++ reply_text reply →
       WritesAlone d now next P → ((state : State) → IsAt d store now state → IsSome (d.contents next) → IsApplied d (Ok reply) state command store' now next) →
-      Answers d command store store' block left now next
+      AnswersNext d command store store' block left now next
   quiet_answers {now = now} {next = next} {store' = store'} {block = block} command reply calm is alone applies first state turns served told =
       let (after, step, at, shows, log) = applies (state_after state turns) served.at told in
       let same = quiet_leaves command calm (state_after state turns) after reply step in
@@ -369,7 +369,7 @@ module _ {D : Type 0} {d : Ghosts D} where
 
   -- ... but for the text of its reply
   pub quiet_pushless : {now next : D} {store store' : Store} {block : List ℕ} (command : Command) (reply : Reply) → HasClock d → may_change command ≡ false →
-      ((state : State) → IsAt d store now state → IsSome (d.contents next) → IsApplied d (Ok reply) state command store' now next) → Begins d command NoMemory store block now next
+      ((state : State) → IsAt d store now state → IsSome (d.contents next) → IsApplied d (Ok reply) state command store' now next) → BeginsNext d command NoMemory store block now next
   quiet_pushless {now = now} {next = next} {block = block} command reply clock calm applies first state turns served told =
       let (after, step, at, shows, log) = applies (state_after state turns) served.at told in
       let before = state_after state turns in
@@ -394,7 +394,7 @@ module _ {D : Type 0} {d : Ghosts D} where
   quiet_stops store' command engine.Ended clock calm served applied = absurd applied
 
   pub quiet_begins : {now next : D} {store : Store} {block : List ℕ} (store' : Store) (command : Command) (e : EngineError) → HasClock d → may_change command ≡ false →
-      ((state : State) → IsAt d store now state → IsSome (d.contents next) → IsApplied d (Err e) state command store' now next) → Begins d command (status_of_engine e) store block now next
+      ((state : State) → IsAt d store now state → IsSome (d.contents next) → IsApplied d (Err e) state command store' now next) → BeginsNext d command (status_of_engine e) store block now next
   quiet_begins store' command e clock calm applies first state turns served told = quiet_stops store' command e clock calm served (applies (state_after state turns) served.at told)
 
   -- A document's text is given behind what the block has, but for a last part.
@@ -406,7 +406,7 @@ module _ {D : Type 0} {d : Ghosts D} where
       (turn, refl, served_quietly turn served done.step refl, after_more state turns turn)
 
   pub export_answers : {now next : D} {store store' : Store} {block left shown name : List ℕ} {u : Unit {0}} (command : Command) → command ≡ Export name → shown ≡ name →
-      ((state : State) → IsAt d store now state → IsSome (d.contents next) → IsExported d (Ok u) state shown block left store' now next) → Answers d command store store' block left now next
+      ((state : State) → IsAt d store now state → IsSome (d.contents next) → IsExported d (Ok u) state shown block left store' now next) → AnswersNext d command store store' block left now next
   export_answers {now = now} {next = next} {store' = store'} {block = block} {shown = shown} {name = name} command is same_name exports first state turns served told =
       let done = exports (state_after state turns) served.at told in
       let (turn, of_it, there, same) = exported served done in
@@ -430,7 +430,7 @@ module _ {D : Type 0} {d : Ghosts D} where
   export_stops engine.Ended served done given = absurd given
 
   pub export_begins : {now next : D} {store store' : Store} {block left shown name : List ℕ} (command : Command) (e : EngineError) → HasClock d → command ≡ Export name → shown ≡ name →
-      ((state : State) → IsAt d store now state → IsSome (d.contents next) → IsExported d (Err e) state shown block left store' now next) → Begins d command (status_of_engine e) store block now next
+      ((state : State) → IsAt d store now state → IsSome (d.contents next) → IsExported d (Err e) state shown block left store' now next) → BeginsNext d command (status_of_engine e) store block now next
   export_begins {now = now} {next = next} {block = block} command e clock is same_name exports first state turns served told =
       let done = exports (state_after state turns) served.at told in
       let (turn, of_it, there, same) = exported served done in
@@ -453,7 +453,7 @@ module _ {D : Type 0} {d : Ghosts D} where
 
 module _ {D : Type 0} (d : Ghosts D) (a b : D) where
   -- why a command wasn't carried out
-  pub stopped_applying : (old new : Store) (e : EngineError) → NotApplied d e old new a b → IsStopped d (status_of_engine e) a b
+  pub stopped_applying : (old new : Store) (e : EngineError) → NotApplied d e old new a b → IsUnanswered d (status_of_engine e) a b
   stopped_applying old new engine.Disk (rose, ends) = rose
   stopped_applying old new (engine.Damaged page) why = tt
   stopped_applying old new engine.Ended why = tt
@@ -463,6 +463,6 @@ module _ {D : Type 0} (d : Ghosts D) (a b : D) where
   stopped_applying old new engine.NotAStore why = absurd why
 
   -- why the block wasn't given
-  pub block_stopped : (block : List ℕ) (stop : GiveError) → Given block (Err stop) (d.beside a) (d.beside b) → IsStopped d (status_of_give_error stop) a b
+  pub block_stopped : (block : List ℕ) (stop : GiveError) → Given block (Err stop) (d.beside a) (d.beside b) → IsUnanswered d (status_of_give_error stop) a b
   block_stopped block give_error.WriteFault fails = fails.rose
   block_stopped block give_error.NoMemory gave = tt

@@ -9,7 +9,7 @@ use Rattle.nx_filters.specs.declared.status.Status.TheVariants.{Done, Usage, Ref
 use Rattle.nx_front.specs.declared.words.CommandLine.{CommandLine}
 use Rattle.nx_front.specs.declared.words.CommandLine.TheVariants.{Tidy, Plain, Run, Plan, Verify, Init}
 use Rattle.nx_filters.specs.Outcome.{Meaning, RunsBeside, TakesFew, CountsGrow, Completes, HoldsTogether}
-use Rattle.nx_front.specs.Run.{IsCarriedOut, CompletesInput, IsCompleted, IsCoherent, Agrees}
+use Rattle.nx_front.specs.Run.{IsCarriedOut, CompletesInput, IsCompleted, IsCoherent, AnswersAgree}
 use Rattle.nx_filters.specs.Plan.{IsLightInput, plan}
 use Rattle.nx_filters.specs.Verify.{IsSoundInput, verify}
 use Rattle.nx_filters.proofs.OutcomeLemmas.{completes}
@@ -122,7 +122,7 @@ together (Verify k) = verify_together k
 together (Init settings) = init_together settings
 
 -- how the answers of each input go together
-pub agrees : (line : CommandLine) → Agrees line
+pub agrees : (line : CommandLine) → AnswersAgree line
 agrees Tidy = tidy_once
 agrees Plain = script_once
 agrees Run = one_script

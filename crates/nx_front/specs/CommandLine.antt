@@ -41,19 +41,19 @@ usual_settings k = record { k = k; target = 50; tolerance = k / 4; limit = most_
 
 -- the settings that these words say: what a part weighs at most, and then a target, a tolerance and a limit of pages, each of which may be left out with those
 -- behind it
-abbrev pub settings_of : List (List ℕ) → Option Settings
-settings_of (k ∷ []) = if is_weight_limit k then Some (usual_settings (value_of k)) else None
-settings_of (k ∷ target ∷ []) =
+abbrev pub settings_said : List (List ℕ) → Option Settings
+settings_said (k ∷ []) = if is_weight_limit k then Some (usual_settings (value_of k)) else None
+settings_said (k ∷ target ∷ []) =
     if is_weight_limit k && is_target target then Some (record (usual_settings (value_of k)) { target = value_of target }) else None
-settings_of (k ∷ target ∷ tolerance ∷ []) =
+settings_said (k ∷ target ∷ tolerance ∷ []) =
     if is_weight_limit k && is_target target && is_tolerance tolerance
     then Some (record (usual_settings (value_of k)) { target = value_of target; tolerance = value_of tolerance })
     else None
-settings_of (k ∷ target ∷ tolerance ∷ limit ∷ []) =
+settings_said (k ∷ target ∷ tolerance ∷ limit ∷ []) =
     if is_weight_limit k && is_target target && is_tolerance tolerance && is_page_limit limit
     then Some (record { k = value_of k; target = value_of target; tolerance = value_of tolerance; limit = value_of limit })
     else None
-settings_of _ = None
+settings_said _ = None
 
 -- a store and `tidy`, whatever the store, or a store or none, which is a low line, and `run`
 abbrev pub command_of_two : List ℕ → List ℕ → Option CommandLine
@@ -72,16 +72,16 @@ command_of_three store command limit =
 
 -- a store that is used, `init`, and the settings that it is made with
 abbrev pub command_of_init : List ℕ → List (List ℕ) → Option CommandLine
-command_of_init store words = if is_named_store store then option_map Init (settings_of words) else None
+command_of_init store words = if is_named_store store then option_map Init (settings_said words) else None
 
 -- behind any command but `init`
-abbrev pub command_of : List ℕ → List ℕ → List (List ℕ) → Option CommandLine
-command_of store command [] = command_of_two store command
-command_of store command (limit ∷ []) = command_of_three store command limit
-command_of store command _ = None
+abbrev pub command_line_of : List ℕ → List ℕ → List (List ℕ) → Option CommandLine
+command_line_of store command [] = command_of_two store command
+command_line_of store command (limit ∷ []) = command_of_three store command limit
+command_line_of store command _ = None
 
 abbrev pub command_line : List (List ℕ) → Option CommandLine
-command_line (store ∷ command ∷ words) = if bytes_eq command (codes "init") then command_of_init store words else command_of store command words
+command_line (store ∷ command ∷ words) = if bytes_eq command (codes "init") then command_of_init store words else command_line_of store command words
 command_line _ = None
 
 -- the numbers that a command line says are in their ranges

@@ -59,7 +59,7 @@ pub record HasServed {D : Type 0} (d : Ghosts D) (state : State) (turns : List T
   pub none_begun : (n : ℕ) (image : Image) → length done ≤ n → IsOf (state_after state turns) image → IsReachedBetween state turns (take n (texts_of turns)) image
 
 -- No count fell, and what is told of the disk now was told before.
-pub record GoesOn {D : Type 0} (d : Ghosts D) (old new : D) : Type 0 where
+pub record IsLater {D : Type 0} (d : Ghosts D) (old new : D) : Type 0 where
   pub told : IsSome (d.contents new) → IsSome (d.contents old)
   pub counts : CountsGrow (d.beside old) (d.beside new)
   pub faults_later : d.faults old ≤ d.faults new
@@ -68,7 +68,7 @@ pub record GoesOn {D : Type 0} (d : Ghosts D) (old new : D) : Type 0 where
 -- disk was left.
 pub record IsConversing {D : Type 0} (d : Ghosts D) (begun : Store) (taken : List ℕ) (commands : List Command) (script : Script) (store : Store) (block : List ℕ) (first now : D) : Type 0 where
   pub given : HasGivenIn script taken commands (d.beside first).input (d.beside now).input
-  pub goes : GoesOn d first now
+  pub goes : IsLater d first now
   pub served : (state : State) → IsAt d begun first state → IsSome (d.contents now) → (turns : List Turn) × (commands_of turns ≡ commands) × HasServed d state turns store block first now
   pub emptied : (state : State) → IsAt d begun first state → IsSome (d.contents now) → EndsWithCheckpoint commands → HasEmptyLog d now
   pub unbegun : commands ≡ [] → (block ≡ []) × LeavesAll d first now
@@ -91,12 +91,12 @@ StopsShort NoMemory = Unit {0}
 StopsShort _ = ⊥
 
 -- why a command isn't answered, whatever the store is at
-abbrev pub IsStopped : {D : Type 0} → Ghosts D → Status → D → D → Type 0
-IsStopped d DiskFault old new = Rose (d.faults old) (d.faults new)
-IsStopped d WriteFault old new = Rose (d.beside old).out_faults (d.beside new).out_faults
-IsStopped d NoMemory old new = Unit {0}
-IsStopped d (Damaged page) old new = Unit {0}
-IsStopped d _ old new = ⊥
+abbrev pub IsUnanswered : {D : Type 0} → Ghosts D → Status → D → D → Type 0
+IsUnanswered d DiskFault old new = Rose (d.faults old) (d.faults new)
+IsUnanswered d WriteFault old new = Rose (d.beside old).out_faults (d.beside new).out_faults
+IsUnanswered d NoMemory old new = Unit {0}
+IsUnanswered d (Damaged page) old new = Unit {0}
+IsUnanswered d _ old new = ⊥
 
 -- A run had turns of the first of these commands, and ended between two of them, but for a fault of the disk or of writing.
 pub record HasBegun {D : Type 0} (d : Ghosts D) (status : Status) (state : State) (commands : List Command) (first now : D) : Type 0 where
@@ -107,14 +107,14 @@ pub record HasBegun {D : Type 0} (d : Ghosts D) (status : Status) (state : State
   pub between : EndsBetween status → LeavesMoments d now (ShowsBetween (d.beside first).output state turns)
 
 -- the next command is answered, whatever was answered before
-abbrev pub Answers : {D : Type 0} → Ghosts D → Command → Store → Store → List ℕ → List ℕ → D → D → Type 0
-Answers {D} d command store store' block block' now next =
+abbrev pub AnswersNext : {D : Type 0} → Ghosts D → Command → Store → Store → List ℕ → List ℕ → D → D → Type 0
+AnswersNext {D} d command store store' block block' now next =
     (first : D) (state : State) (turns : List Turn) → HasServed d state turns store block first now → IsSome (d.contents next) →
     (turn : Turn) × (turn.command ≡ command) × HasServed d state (turns ++ turn ∷ []) store' block' first next × (command ≡ Checkpoint → HasEmptyLog d next)
 
 -- ... or it is begun at most
-abbrev pub Begins : {D : Type 0} → Ghosts D → Command → Status → Store → List ℕ → D → D → Type 0
-Begins {D} d command status store block now next =
+abbrev pub BeginsNext : {D : Type 0} → Ghosts D → Command → Status → Store → List ℕ → D → D → Type 0
+BeginsNext {D} d command status store block now next =
     (first : D) (state : State) (turns : List Turn) → HasServed d state turns store block first now → IsSome (d.contents next) →
     StopsShort status × HasBegun d status state (commands_of turns ++ command ∷ []) first next
 
@@ -137,7 +137,7 @@ pub record Converses {D : Type 0} (d : Ghosts D) (begun : Store) (status : Statu
   pub from : (state : State) → IsAt d begun first state → IsSome (d.contents now) → ServesFrom d state status first now
   pub cause : IsEnded d status first now
   pub bounded : TakesFew (d.beside first).input (d.beside now).input
-  pub goes : GoesOn d first now
+  pub goes : IsLater d first now
   pub untaken : TakesNoByte (d.beside first) (d.beside now) → LeavesAll d first now
 
 -- commands more of a script are answered

@@ -39,26 +39,26 @@ abbrev pub OfTheDisk : {D : Type 0} → Ghosts D → D → D → (Image → Type
 OfTheDisk d old new Said = (was : Image) → IsSettled d old was → IsSome (d.contents new) → Said was
 
 -- how a run ends that gives this line: with `whole`, or with a write fault
-abbrev pub Says : List ℕ → Status → Status → Beside → Beside → Type 0
-Says line whole status old new = ((status ≡ whole) × Appends line old.output new.output) ⊎ ((status ≡ WriteFault) × FailsGiving line old new)
+abbrev pub SaysLine : List ℕ → Status → Status → Beside → Beside → Type 0
+SaysLine line whole status old new = ((status ≡ whole) × Appends line old.output new.output) ⊎ ((status ≡ WriteFault) × FailsGiving line old new)
 
 -- a moment at which nothing was given, and the image is as the disk was, or the new store
 abbrev pub IsMaking : {D : Type 0} → Ghosts D → Settings → D → D → Stood → Type 0
 IsMaking d settings old new s = Keeps (d.beside old).output s.output × OfTheDisk d old new (λ was. IsOldOrNew settings was s.image)
 
 -- a moment at which a prefix of `ok` was given, and the image is the new store
-abbrev pub IsMade : {D : Type 0} → Ghosts D → Settings → D → D → Stood → Type 0
-IsMade d settings old new s = AppendsPrefix made_line (d.beside old).output s.output × OfTheDisk d old new (λ was. IsNewStore settings was s.image)
+abbrev pub IsStoreMade : {D : Type 0} → Ghosts D → Settings → D → D → Stood → Type 0
+IsStoreMade d settings old new s = AppendsPrefix made_line (d.beside old).output s.output × OfTheDisk d old new (λ was. IsNewStore settings was s.image)
 
 -- The store was made, and then `ok` given: while a byte of it is out, each image is the new store, and so is the one that is left.
-pub record Makes {D : Type 0} (d : Ghosts D) (settings : Settings) (status : Status) (old new : D) : Type 0 where
-  pub says : Says made_line Done status (d.beside old) (d.beside new)
-  pub time : Elapses d.moment d.stood_since old new (λ s. IsMaking d settings old new s ⊎ IsMade d settings old new s)
+pub record MakesStore {D : Type 0} (d : Ghosts D) (settings : Settings) (status : Status) (old new : D) : Type 0 where
+  pub says : SaysLine made_line Done status (d.beside old) (d.beside new)
+  pub time : Elapses d.moment d.stood_since old new (λ s. IsMaking d settings old new s ⊎ IsStoreMade d settings old new s)
   pub made : (was now : Image) → IsSettled d old was → d.contents new ≡ Some now → IsSettled d new now × IsNewStore settings was now
 
 -- The disk had pages. Both areas were left as they were, and the line was given that says so.
 pub record FindsPages {D : Type 0} (d : Ghosts D) (status : Status) (old new : D) : Type 0 where
-  pub says : Says exists_line Refused status (d.beside old) (d.beside new)
+  pub says : SaysLine exists_line Refused status (d.beside old) (d.beside new)
   pub time : Elapses d.moment d.stood_since old new (λ s. AppendsPrefix exists_line (d.beside old).output s.output × d.may_leave old s.image)
   pub pages : (was : Image) → IsSettled d old was → HasPage was
   pub contents_stay : Keeps (d.contents old) (d.contents new)
@@ -72,7 +72,7 @@ GivesUp d settings _ old new = ⊥
 
 -- How `init` is carried out. It takes no input.
 pub record Initializes {D : Type 0} (d : Ghosts D) (settings : Settings) (status : Status) (old new : D) : Type 0 where
-  pub ends : Makes d settings status old new ⊎ FindsPages d status old new ⊎ GivesUp d settings status old new
+  pub ends : MakesStore d settings status old new ⊎ FindsPages d status old new ⊎ GivesUp d settings status old new
   pub input_stays : Keeps (d.beside old).input (d.beside new).input
   pub in_faults_stay : (d.beside new).in_faults ≡ (d.beside old).in_faults
   pub out_faults_later : (d.beside old).out_faults ≤ (d.beside new).out_faults

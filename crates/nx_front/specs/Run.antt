@@ -45,10 +45,10 @@ IsCoherent (Verify k) = HoldsTogether (verify k)
 IsCoherent (Init settings) = InitHoldsTogether settings
 
 -- how the answers of an input go together: they have one text, but those of `plan` are only as good as each other; those of `run` over a store are of one list of commands; a new store holds one thing
-abbrev pub Agrees : CommandLine → Type 0
-Agrees Tidy = HasOneText tidy
-Agrees Plain = HasOneText script_run
-Agrees Run = HasOneScript
-Agrees (Plan k) = HasEqualPlans k
-Agrees (Verify k) = HasOneText (verify k)
-Agrees (Init settings) = HoldsNothing settings
+abbrev pub AnswersAgree : CommandLine → Type 0
+AnswersAgree Tidy = HasOneText tidy
+AnswersAgree Plain = HasOneText script_run
+AnswersAgree Run = HasOneScript
+AnswersAgree (Plan k) = HasEqualPlans k
+AnswersAgree (Verify k) = HasOneText (verify k)
+AnswersAgree (Init settings) = HoldsNothing settings

@@ -7,7 +7,7 @@ use Rattle.nx_host.specs.Host.{Takes, Appends}
 use Rattle.nx_host.specs.Input.{most_input}
 use Rattle.nx_host.specs.Still.{IsSettled, IsStill}
 use Rattle.nx_host.specs.Time.{Stood, Elapses}
-use Rattle.nx_records.specs.Records.{HasHeader, group_count}
+use Rattle.nx_records.specs.Records.{HasHeader, image_group_count}
 use Rattle.nx_script.specs.declared.command.Command.{Command}
 use Rattle.nx_script.specs.declared.command.Command.TheVariants.{Checkpoint}
 use Rattle.nx_script.specs.declared.reply.Reply.{Reply}
@@ -110,7 +110,7 @@ EndsWithCheckpoint commands = (before : List Command) × (commands ≡ before ++
 
 -- Each image that a crash may leave has no group in its log.
 abbrev pub HasEmptyLog : {D : Type 0} → Ghosts D → D → Type 0
-HasEmptyLog d disk = (i : Image) → d.may_leave disk i → group_count i ≡ 0
+HasEmptyLog d disk = (i : Image) → d.may_leave disk i → image_group_count i ≡ 0
 
 -- There is one run from this state on, over the first commands of the input, those that were answered and, where one was begun, that one. Each moment is one of
 -- it, also the one at the end, which is between two commands, but for a fault of the disk or of writing. Where all went well, each image that a crash may leave is

@@ -2,7 +2,7 @@
 ghost use Rattle.std.specs.Prelude.{◌≤◌, length};
 ghost use Rattle.nx_records.specs.Words.{AreSettings};
 ghost use Rattle.nx_host.specs.Phase.{GivesAlone};
-ghost use Rattle.nx_front.specs.Init.{Says, Initializes};
+ghost use Rattle.nx_front.specs.Init.{SaysLine, Initializes};
 
 use crate::Status;
 use nx_host::{Disk, Host};
@@ -30,7 +30,7 @@ pub fn init<H: Host>(alloc: Global, host: &mut H, settings: Settings) -> Status
 // Gives a line, with which the run ends.
 fn say<H: Host>(host: &mut H, line: &[u8], whole: Status) -> Status
     requires { 1 ≤ length line.now }
-    ensures says { Says line.now whole result (H.beside host.old) (H.beside host.new) }
+    ensures says { SaysLine line.now whole result (H.beside host.old) (H.beside host.new) }
     ensures alone { GivesAlone ⟦<H as Disk>⟧ line.now host.old host.new }
 {
     match host.emit(line) {

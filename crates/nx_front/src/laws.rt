@@ -1,5 +1,5 @@
 //! What holds of the command lines themselves, apart from the code that carries them out.
-ghost use Rattle.nx_front.specs.Run.{IsCoherent, Agrees};
+ghost use Rattle.nx_front.specs.Run.{IsCoherent, AnswersAgree};
 ghost use Rattle.nx_front.specs.declared.words.CommandLine.{CommandLine};
 
 /// What is said of the input of a command line holds together: a refusal that bytes show is one of
@@ -10,5 +10,5 @@ ghost use Rattle.nx_front.specs.declared.words.CommandLine.{CommandLine};
 /// store, a disk holds one state at most, and none without a header, and an input has one list of commands.
 pub fn outcomes()
     ensures together { (line : CommandLine) → IsCoherent line }
-    ensures answers { (line : CommandLine) → Agrees line }
+    ensures answers { (line : CommandLine) → AnswersAgree line }
 {}

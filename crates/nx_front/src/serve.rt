@@ -7,7 +7,7 @@ ghost use Rattle.nx_steps.specs.Step.{may_change};
 ghost use Rattle.nx_store.specs.Store.{TakesNone};
 ghost use Rattle.nx_filters.specs.Session.{session_status};
 ghost use Rattle.nx_front.specs.Serving.{Serves};
-ghost use Rattle.nx_front.specs.Conversation.{Answers, Begins, IsStopped, AnswersAll, EndsConversing, Converses, status_of_engine};
+ghost use Rattle.nx_front.specs.Conversation.{AnswersNext, BeginsNext, IsUnanswered, AnswersAll, EndsConversing, Converses, status_of_engine};
 
 use crate::Status;
 use nx_filters::{BLOCK, give_block};
@@ -84,9 +84,9 @@ fn answer<H: Host>(
     command: Command,
 ) -> Result<(), Status>
     requires { CanCome command }
-    ensures ok { OnOk result (Answers ⟦<H as Disk>⟧ command store.old store.new block.old block.new host.old host.new) }
-    ensures err { IfErr result (λ status. Begins ⟦<H as Disk>⟧ command status store.old block.old host.old host.new) }
-    ensures cause { IfErr result (λ status. IsStopped ⟦<H as Disk>⟧ status host.old host.new) }
+    ensures ok { OnOk result (AnswersNext ⟦<H as Disk>⟧ command store.old store.new block.old block.new host.old host.new) }
+    ensures err { IfErr result (λ status. BeginsNext ⟦<H as Disk>⟧ command status store.old block.old host.old host.new) }
+    ensures cause { IfErr result (λ status. IsUnanswered ⟦<H as Disk>⟧ status host.old host.new) }
     ensures beside { TakesNone ⟦<H as Disk>⟧ host.old host.new }
 {
     if writes(&command) {
@@ -103,9 +103,9 @@ fn answer_alone<H: Host>(
     command: Command,
 ) -> Result<(), Status>
     requires { CanCome command }
-    ensures ok { OnOk result (Answers ⟦<H as Disk>⟧ command store.old store.new block.old block.new host.old host.new) }
-    ensures err { IfErr result (λ status. Begins ⟦<H as Disk>⟧ command status store.old block.old host.old host.new) }
-    ensures cause { IfErr result (λ status. IsStopped ⟦<H as Disk>⟧ status host.old host.new) }
+    ensures ok { OnOk result (AnswersNext ⟦<H as Disk>⟧ command store.old store.new block.old block.new host.old host.new) }
+    ensures err { IfErr result (λ status. BeginsNext ⟦<H as Disk>⟧ command status store.old block.old host.old host.new) }
+    ensures cause { IfErr result (λ status. IsUnanswered ⟦<H as Disk>⟧ status host.old host.new) }
     ensures beside { TakesNone ⟦<H as Disk>⟧ host.old host.new }
 {
     give_block(host, block)?;
@@ -124,9 +124,9 @@ fn answer_behind<H: Host>(
 ) -> Result<(), Status>
     requires can_come { CanCome command }
     requires leaves { may_change command ≡ false }
-    ensures ok { OnOk result (Answers ⟦<H as Disk>⟧ command store.old store.new block.old block.new host.old host.new) }
-    ensures err { IfErr result (λ status. Begins ⟦<H as Disk>⟧ command status store.old block.old host.old host.new) }
-    ensures cause { IfErr result (λ status. IsStopped ⟦<H as Disk>⟧ status host.old host.new) }
+    ensures ok { OnOk result (AnswersNext ⟦<H as Disk>⟧ command store.old store.new block.old block.new host.old host.new) }
+    ensures err { IfErr result (λ status. BeginsNext ⟦<H as Disk>⟧ command status store.old block.old host.old host.new) }
+    ensures cause { IfErr result (λ status. IsUnanswered ⟦<H as Disk>⟧ status host.old host.new) }
     ensures beside { TakesNone ⟦<H as Disk>⟧ host.old host.new }
 {
     match command {

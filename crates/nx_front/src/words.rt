@@ -2,7 +2,7 @@
 ghost use Rattle.std.specs.Prelude.{◌≡◌, ◌≤◌, true, false, IfOk, IfSome, MatchOption};
 ghost use Rattle.nx_pyx.specs.Field.{value_of};
 ghost use Rattle.nx_records.specs.Words.{AreSettings};
-ghost use Rattle.nx_front.specs.CommandLine.{is_store, is_named_store, is_within, is_weight_limit, usual_settings, settings_of, command_of_two, command_of_three, command_of_init, command_of, command_line, IsLimited};
+ghost use Rattle.nx_front.specs.CommandLine.{is_store, is_named_store, is_within, is_weight_limit, usual_settings, settings_said, command_of_two, command_of_three, command_of_init, command_line_of, command_line, IsLimited};
 
 use nx_lists::List;
 use nx_pyx::position;
@@ -99,7 +99,7 @@ fn command_of_init(store: &str, words: &[Word]) -> Option<CommandLine>
 
 // The settings that the words say. Each but the first may be left out with those behind it.
 fn settings_of(words: &[Word]) -> Option<Settings>
-    ensures said { result ≡ settings_of words.now }
+    ensures said { result ≡ settings_said words.now }
     ensures limit { IfSome result AreSettings }
 {
     match words {
@@ -151,7 +151,7 @@ fn usual_settings(limit: &str) -> Option<Settings>
 
 // The command line of a store, a command that isn't `init`, and these words.
 fn command_of(store: &str, command: &str, words: &[Word]) -> Option<CommandLine>
-    ensures line { result ≡ command_of store.now command.now words.now }
+    ensures line { result ≡ command_line_of store.now command.now words.now }
     ensures limit { IfSome result IsLimited }
 {
     match words {

@@ -9,7 +9,7 @@ use Rattle.nx_piece.specs.Encoding.{proxies_bytes}
 use Rattle.nx_layouts.specs.Layout.{RecordPlace}
 use Rattle.nx_layouts.proofs.PlaceLemmas.{no_place, one_place, first_among, is_among}
 use Rattle.nx_hold.specs.Changes.{piece_needs, AddsPiece, UpdatesPiece, RemovesPiece}
-use Rattle.nx_hold.specs.Pieces.{record_at, HoldsPiece, NamesList, NamesNot, ChangesOne}
+use Rattle.nx_hold.specs.Pieces.{record_at, HoldsPiece, NamesList, NamesNot, ChangesOneRecord}
 use Rattle.nx_hold.specs.Documents.{NamesAmong, MovesRecords, AddsRecords, HaveSame, MovesSame, MovesAddUp, MovesBeside, UpdateMoves, RemoveMoves, OneWentSeveralCame, PiecesStayAround, PieceAddsRecord, RecordsAddUp, PiecesStayBeside}
 use Rattle.nx_hold.proofs.PieceLemmas.{some_same, no_value, stays_stored, pieces_stay}
 use Rattle.nx_hold.proofs.MapLemmas.{held_at, told_some}
@@ -192,7 +192,7 @@ at_one : (P : RecordPlace → Type 0) (place other : RecordPlace) → Contains (
 at_one P place other among h = subst P (sym (one_place place other among)) h
 
 module _ (old new : RecordPlace) (piece : Piece) (was now : Held) (updates : UpdatesPiece old new piece was now) where
-  abbrev alone : ChangesOne (Some old) (Some new) (piece_needs piece) was now
+  abbrev alone : ChangesOneRecord (Some old) (Some new) (piece_needs piece) was now
   alone = updates.alone
 
   new_names : (chain : ℕ) → NamesNot now (Some new) chain ⊎ NamesAmong now (new ∷ []) chain

@@ -9,7 +9,7 @@ use Rattle.nx_piece.specs.declared.piece.Stored.TheVariants.{Inline, Chained}
 use Rattle.nx_piece.specs.Encoding.{proxies_bytes}
 use Rattle.nx_piece.proofs.Laws.{one_stored, proxies_unique}
 use Rattle.nx_layouts.specs.Layout.{RecordPlace}
-use Rattle.nx_hold.specs.Pieces.{record_at, IsStored, HoldsPiece, NamesList, NamesNot, IsTidy, ChangesOne}
+use Rattle.nx_hold.specs.Pieces.{record_at, IsStored, HoldsPiece, NamesList, NamesNot, IsTidy, ChangesOneRecord}
 
 pub some_same : {A : Type 0} {x y : A} → Some x ≡ Some y → x ≡ y
 some_same e = cc
@@ -66,7 +66,7 @@ pieces_stay was now place piece same lists (inr h) = inr (record {
 })
 
 -- a list that another record names stays
-pub lists_stay : {old new : Option RecordPlace} {needs : ℕ} {was now : Held} {place : RecordPlace} → IsTidy was → ChangesOne old new needs was now → (Some place ≡ old → ⊥)
+pub lists_stay : {old new : Option RecordPlace} {needs : ℕ} {was now : Held} {place : RecordPlace} → IsTidy was → ChangesOneRecord old new needs was now → (Some place ≡ old → ⊥)
     → (count chain : ℕ) → NamesList was place count chain → now.lists chain ≡ was.lists chain
 lists_stay {old} {new} {needs} {was} {now} {place} tidy h not_old count chain names = h.lists chain free_of_old free_of_new
   where
@@ -79,7 +79,7 @@ lists_stay {old} {new} {needs} {was} {now} {place} tidy h not_old count chain na
         let some = (tidy.there place count chain names).1 in
         no_value (sym some ∙ none)
 
-pub others_stay : (old new : Option RecordPlace) (needs : ℕ) (was now : Held) → IsTidy was → ChangesOne old new needs was now
+pub others_stay : (old new : Option RecordPlace) (needs : ℕ) (was now : Held) → IsTidy was → ChangesOneRecord old new needs was now
     → (place : RecordPlace) → (Some place ≡ old → ⊥) → (Some place ≡ new → ⊥)
     → (piece : Piece) → (HoldsPiece was place piece → HoldsPiece now place piece) × (HoldsPiece now place piece → HoldsPiece was place piece)
 others_stay old new needs was now tidy h place not_old not_new piece =

@@ -18,7 +18,7 @@ use Rattle.nx_piece.proofs.BodyLemmas.{proxies_length}
 use Rattle.nx_piece.proofs.Laws.{inline_bytes, chained_bytes, body_fits}
 use Rattle.nx_layouts.specs.Layout.{RecordPlace}
 use Rattle.nx_layouts.proofs.PlaceLemmas.{place_is}
-use Rattle.nx_hold.specs.Pieces.{record_at, IsStored, HoldsPiece, HoldsNone, NamesList, NamesNot, HasNamedList, IsTidy, SameBeside, ChangesOne}
+use Rattle.nx_hold.specs.Pieces.{record_at, IsStored, HoldsPiece, HoldsNone, NamesList, NamesNot, HasNamedList, IsTidy, SameBeside, ChangesOneRecord}
 use Rattle.nx_hold.specs.Changes.{piece_needs, chain_pages, AddsPiece, UpdatesPiece, RemovesPiece}
 use Rattle.nx_hold.specs.Putting.{LacksProxies, chain_of, HasList, without_list, with_list, FreesChain, IsFormOf, PutsProxies}
 use Rattle.nx_hold.proofs.PieceLemmas.{some_same, no_value, one_at, no_both, chain_same, count_same}
@@ -119,7 +119,7 @@ lists_change gone come bytes was now are fresh = record {
 
 module _ {old new : Option RecordPlace} {gone come : Option ℕ} {was now : Held} (names : NamesOne was old gone) (named : NamesOne now new come) (lists : ListsChange gone come was now) where
   change_one : (needs : ℕ) → SameBeside old new was now → ((place : RecordPlace) → Some place ≡ old → (Some place ≡ new → ⊥) → record_at now place ≡ None)
-      → now.settings ≡ was.settings → now.catalog ≡ was.catalog → was.free ≤ now.free + needs → ChangesOne old new needs was now
+      → now.settings ≡ was.settings → now.catalog ≡ was.catalog → was.free ≤ now.free + needs → ChangesOneRecord old new needs was now
   change_one needs beside went settings catalog free = record {
     beside = beside;
     went = went;

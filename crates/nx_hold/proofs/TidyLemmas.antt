@@ -9,7 +9,7 @@ use Rattle.nx_piece.specs.Encoding.{proxies_bytes}
 use Rattle.nx_piece.proofs.BodyLemmas.{proxies_length}
 use Rattle.nx_layouts.specs.Layout.{RecordPlace}
 use Rattle.nx_layouts.proofs.PlaceLemmas.{same_place}
-use Rattle.nx_hold.specs.Pieces.{HoldsPiece, NamesList, NamesNot, HasNamedList, IsTidy, ChangesOne, ComesPiece}
+use Rattle.nx_hold.specs.Pieces.{HoldsPiece, NamesList, NamesNot, HasNamedList, IsTidy, ChangesOneRecord, ComesPiece}
 use Rattle.nx_hold.specs.Changes.{AddsPiece, IsAdded, piece_needs}
 use Rattle.nx_hold.proofs.PieceLemmas.{one_piece, some_same, no_value, one_at, no_both, chain_same, count_same, stays_stored, lists_stay, others_stay}
 use Rattle.nx_hold.proofs.MapLemmas.{no_record}
@@ -40,7 +40,7 @@ held_named held place piece holds count chain names = ap is_some (listed held pl
 pub read_one : (held : Held) (place : RecordPlace) {piece : Piece} → (HasNamedList held place → HoldsPiece held place piece) → (other : Piece) → HoldsPiece held place other → piece ≡ other
 read_one held place {piece} reads other holds = one_piece held place piece other (reads (held_named held place other holds)) holds
 
-module _ {old new : Option RecordPlace} {needs : ℕ} {was now : Held} (tidy : IsTidy was) (h : ChangesOne old new needs was now) where
+module _ {old new : Option RecordPlace} {needs : ℕ} {was now : Held} (tidy : IsTidy was) (h : ChangesOneRecord old new needs was now) where
   -- a record that isn't the new one was there before, and isn't the old one
   earlier : (place : RecordPlace) (count chain : ℕ) → (Some place ≡ new → ⊥) → NamesList now place count chain → (Some place ≡ old → ⊥) × NamesList was place count chain
   earlier place count chain not_new names = (not_old, (names.0, stays_stored now was place (Chained names.0 count chain) (sym (h.beside place not_old not_new)) names.1))

@@ -10,7 +10,7 @@ use Rattle.nx_piece.specs.declared.piece.Proxy.{Proxy}
 use Rattle.nx_piece.specs.declared.piece.Stored.{Stored}
 use Rattle.nx_piece.specs.Valid.{is_inline}
 use Rattle.nx_layouts.specs.Layout.{RecordPlace}
-use Rattle.nx_hold.specs.Pieces.{record_at, IsStored, HoldsPiece, HoldsNone, NamesList, IsTidy, ChangesOne, PieceMap}
+use Rattle.nx_hold.specs.Pieces.{record_at, IsStored, HoldsPiece, HoldsNone, NamesList, IsTidy, ChangesOneRecord, PieceMap}
 
 abbrev pub place_of : Rid → RecordPlace
 place_of rid = record { page = rid.page; slot = rid.slot }
@@ -39,7 +39,7 @@ IsPieceRecord held place = (stored : Stored) × IsStored held place stored
 pub record AddsPiece (place : RecordPlace) (piece : Piece) (was now : Held) : Type 0 where
   pub was_free : record_at was place ≡ None
   pub holds : HoldsPiece now place piece
-  pub alone : ChangesOne None (Some place) (piece_needs piece) was now
+  pub alone : ChangesOneRecord None (Some place) (piece_needs piece) was now
 
 -- A piece came in the place of another, or came to a place that was free and the other went. A record that is no longer than the other keeps its place.
 pub record UpdatesPiece (old new : RecordPlace) (piece : Piece) (was now : Held) : Type 0 where
@@ -47,12 +47,12 @@ pub record UpdatesPiece (old new : RecordPlace) (piece : Piece) (was now : Held)
   pub was_free : (old ≡ new → ⊥) → record_at was new ≡ None
   pub holds : HoldsPiece now new piece
   pub stays : (before after : List ℕ) → record_at was old ≡ Some before → record_at now new ≡ Some after → length after ≤ length before → new ≡ old
-  pub alone : ChangesOne (Some old) (Some new) (piece_needs piece) was now
+  pub alone : ChangesOneRecord (Some old) (Some new) (piece_needs piece) was now
 
 -- A piece went.
 pub record RemovesPiece (place : RecordPlace) (was now : Held) : Type 0 where
   pub was_there : IsPieceRecord was place
-  pub alone : ChangesOne (Some place) None 0 was now
+  pub alone : ChangesOneRecord (Some place) None 0 was now
 
 -- Of what they stood for, where its lists are in order, the records now stand for something that came of it so, and its lists are in order.
 abbrev pub ComesTidy : {D : Type 0} → Ghosts D → Records → Records → D → D → (Held → Held → Type 0) → Type 0

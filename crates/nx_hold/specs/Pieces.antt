@@ -59,7 +59,7 @@ NamesNot held place chain = (at : RecordPlace) (count : ℕ) → Some at ≡ pla
 
 -- A change of one record: that at the first place goes, and one comes at the second, where there are such. All other records stay, and so do all lists but the one
 -- that the old record named and the one that the new record names. At most so many fewer pages are free.
-pub record ChangesOne (old new : Option RecordPlace) (needs : ℕ) (was now : Held) : Type 0 where
+pub record ChangesOneRecord (old new : Option RecordPlace) (needs : ℕ) (was now : Held) : Type 0 where
   pub beside : SameBeside old new was now
   pub went : (place : RecordPlace) → Some place ≡ old → (Some place ≡ new → ⊥) → record_at now place ≡ None
   pub lists : (chain : ℕ) → NamesNot was old chain → NamesNot now new chain → now.lists chain ≡ was.lists chain
@@ -79,8 +79,8 @@ PiecesStay = (was now : Held) (place : RecordPlace) (piece : Piece) → record_a
     → ((count chain : ℕ) → NamesList was place count chain → now.lists chain ≡ was.lists chain) → HoldsPiece was place piece → HoldsPiece now place piece
 
 -- A change of one record leaves the pieces of all others, and brings none to another place.
-abbrev pub OthersStay : Type 0
-OthersStay = (old new : Option RecordPlace) (needs : ℕ) (was now : Held) → IsTidy was → ChangesOne old new needs was now
+abbrev pub OtherPiecesStay : Type 0
+OtherPiecesStay = (old new : Option RecordPlace) (needs : ℕ) (was now : Held) → IsTidy was → ChangesOneRecord old new needs was now
     → (place : RecordPlace) → (Some place ≡ old → ⊥) → (Some place ≡ new → ⊥)
     → (piece : Piece) → (HoldsPiece was place piece → HoldsPiece now place piece) × (HoldsPiece now place piece → HoldsPiece was place piece)
 
@@ -90,7 +90,7 @@ ComesPiece now new = (place : RecordPlace) → Some place ≡ new → (piece : P
 
 -- Lists stay in order where one record changes, and the one that comes holds a piece.
 abbrev pub TidyStays : Type 0
-TidyStays = (old new : Option RecordPlace) (needs : ℕ) (was now : Held) → IsTidy was → ChangesOne old new needs was now → ComesPiece now new → IsTidy now
+TidyStays = (old new : Option RecordPlace) (needs : ℕ) (was now : Held) → IsTidy was → ChangesOneRecord old new needs was now → ComesPiece now new → IsTidy now
 
 -- no piece is held by the record at the place, or no record is there
 abbrev pub HoldsNone : Held → RecordPlace → Type 0

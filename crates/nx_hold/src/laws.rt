@@ -1,5 +1,5 @@
 //! What holds of the pieces that records hold.
-ghost use Rattle.nx_hold.specs.Pieces.{HavePieceMap, OnePiece, OthersStay, PiecesStay, TidyStays};
+ghost use Rattle.nx_hold.specs.Pieces.{HavePieceMap, OnePiece, OtherPiecesStay, PiecesStay, TidyStays};
 ghost use Rattle.nx_hold.specs.Changes.{AddsStay, MapGrows};
 ghost use Rattle.nx_hold.specs.Documents.{MovesAddUp, MovesBeside, MovesSame, OneWentSeveralCame, PieceAddsRecord, PiecesStayAround, PiecesStayBeside, RecordsAddUp, RemoveMoves, UpdateMoves};
 
@@ -16,7 +16,7 @@ pub fn pieces_stay()
 /// Where no two records name one list, and each list that is named is there, a change of one record leaves the pieces
 /// of all others.
 pub fn others_stay()
-    ensures { OthersStay }
+    ensures { OtherPiecesStay }
 {}
 
 /// The pieces of a store are a map from the places of their records.

@@ -5,7 +5,7 @@ ghost use Rattle.nx_records.specs.Words.{Held};
 ghost use Rattle.nx_records.specs.Records.{StandsFor, KeepsSaved, ComesTo, LeavesRecords, HasChanges, has_ended};
 ghost use Rattle.nx_records.specs.Refusals.{NotRead, NotChanged, NotStored, RunsOn};
 ghost use Rattle.nx_piece.specs.declared.piece.Piece.{Piece};
-ghost use Rattle.nx_piece.specs.Gapped.{width};
+ghost use Rattle.nx_piece.specs.Gapped.{gapped_width};
 ghost use Rattle.nx_piece.specs.Valid.{IsValidPiece, HaveNumbers};
 ghost use Rattle.nx_hold.specs.Pieces.{HoldsPiece, HoldsNone, HasNamedList};
 ghost use Rattle.nx_hold.specs.Changes.{place_of, place_named, chain_pages, piece_needs, TakesPages, AddsPiece, UpdatesPiece, RemovesPiece, ComesTidy};
@@ -95,7 +95,7 @@ pub fn add_piece<D: Disk>(
 ) -> Result<Proxy, StoreError>
     requires { IsValidPiece piece.now }
     ensures still { IsStill D.Disk disk.old disk.new }
-    ensures roots { IfOk result (λ proxy. proxy.roots ≡ width piece.now.body.roots) }
+    ensures roots { IfOk result (λ proxy. proxy.roots ≡ gapped_width piece.now.body.roots) }
     ensures ok { IfOk result (λ proxy. ComesTidy D.Disk records.old records.new disk.old disk.new (λ was now. AddsPiece (place_named proxy) piece.now was now)) }
     // Also where lists that records name are out of order.
     ensures takes { IfOk result (λ proxy. ComesTo D.Disk records.old records.new disk.old disk.new (λ was now. was.free ≤ now.free + piece_needs piece.now)) }
@@ -127,7 +127,7 @@ pub fn update_piece<D: Disk>(
 ) -> Result<Proxy, StoreError>
     requires { IsValidPiece piece.now }
     ensures still { IsStill D.Disk disk.old disk.new }
-    ensures roots { IfOk result (λ proxy. proxy.roots ≡ width piece.now.body.roots) }
+    ensures roots { IfOk result (λ proxy. proxy.roots ≡ gapped_width piece.now.body.roots) }
     ensures ok { IfOk result (λ proxy. ComesTidy D.Disk records.old records.new disk.old disk.new (λ was now. UpdatesPiece (place_of rid) (place_named proxy) piece.now was now)) }
     ensures keeps { IfOk result (λ proxy. RunsOn records.old records.new × KeepsSaved D.Disk records.old records.new disk.old disk.new × HasChanges records.new) }
     ensures refused { IfErr result (λ e. NotStored D.Disk (λ was. piece_needs piece.now) (λ was. HoldsNone was (place_of rid)) rid.page e records.old records.new disk.old disk.new) }
@@ -162,9 +162,9 @@ pub fn remove_piece<D: Disk>(
 
 // The proxy of a piece at a place.
 fn proxy_of(rid: Rid, piece: &Piece) -> Proxy
-    requires { width piece.now.body.roots ≤ 256 }
+    requires { gapped_width piece.now.body.roots ≤ 256 }
     ensures place { place_named result ≡ place_of rid }
-    ensures roots { result.roots ≡ width piece.now.body.roots }
+    ensures roots { result.roots ≡ gapped_width piece.now.body.roots }
 {
     Proxy {
         page: rid.page,

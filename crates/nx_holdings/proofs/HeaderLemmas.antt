@@ -7,7 +7,7 @@ use Rattle.nx_numbers.proofs.Numbers.{length-number_bytes, number_at-number_byte
 use Rattle.nx_replay.specs.Log.{mark}
 use Rattle.nx_holdings.specs.declared.header.Header.{Header}
 use Rattle.nx_holdings.specs.declared.header.Settings.{Settings}
-use Rattle.nx_holdings.specs.Header.{fields_bytes, fields_of, header_bytes, IsHeader, IsLaid}
+use Rattle.nx_holdings.specs.Header.{fields_bytes, fields_of, header_bytes, IsHeader, IsHeaderLaid}
 
 fields_bytes-append : (fs gs : List (ℕ × ℕ)) → fields_bytes (fs ++ gs) ≡ fields_bytes fs ++ fields_bytes gs
 fields_bytes-append [] gs = refl
@@ -26,8 +26,8 @@ length-fields (f ∷ fs) =
     length-append (number_bytes f.0 f.1) (fields_bytes fs) ∙ omega arith
 
 -- the next field is written
-pub laid_more : (size at number : ℕ) (page : List ℕ) (fields : List (ℕ × ℕ)) → at + size ≤ 8192 → IsLaid page at fields
-    → IsLaid (with_number size page at number) (at + size) (fields ++ (size, number) ∷ [])
+pub laid_more : (size at number : ℕ) (page : List ℕ) (fields : List (ℕ × ℕ)) → at + size ≤ 8192 → IsHeaderLaid page at fields
+    → IsHeaderLaid (with_number size page at number) (at + size) (fields ++ (size, number) ∷ [])
 laid_more size at number page fields room laid =
     let front = mark ++ fields_bytes fields in
     let zeros = replicate (8192 - at) 0 in
@@ -49,7 +49,7 @@ laid_more size at number page fields room laid =
     }
 
 -- with all fields written it is the header
-pub laid_whole : (h : Header) (page : List ℕ) → IsLaid page 52 (fields_of h) → page ≡ header_bytes h
+pub laid_whole : (h : Header) (page : List ℕ) → IsHeaderLaid page 52 (fields_of h) → page ≡ header_bytes h
 unfolding header_bytes
 laid_whole h page laid = laid.are ∙ append_assoc mark (fields_bytes (fields_of h)) (replicate 8140 0)
 

@@ -48,7 +48,7 @@ abbrev pub IsNoHeader : List ℕ → Type 0
 IsNoHeader bytes = (h : Header) → IsHeader bytes h → ⊥
 
 -- a page to which the mark and these fields are written, up to an offset, with zero bytes behind them
-pub record IsLaid (page : List ℕ) (at : ℕ) (fields : List (ℕ × ℕ)) : Type 0 where
+pub record IsHeaderLaid (page : List ℕ) (at : ℕ) (fields : List (ℕ × ℕ)) : Type 0 where
   pub here : length (mark ++ fields_bytes fields) ≡ at
   pub low : at ≤ page_size
   pub are : page ≡ (mark ++ fields_bytes fields) ++ replicate (page_size - at) 0

@@ -1,5 +1,5 @@
 // The header of a store, which is its page 0.
-ghost use Rattle.nx_holdings.specs.Header.{AreSettings, IsHeader, IsInRange, IsLaid, IsNoHeader, header_bytes};
+ghost use Rattle.nx_holdings.specs.Header.{AreSettings, IsHeader, IsInRange, IsHeaderLaid, IsNoHeader, header_bytes};
 ghost use Rattle.nx_numbers.specs.Numbers.{number_at};
 ghost use Rattle.std.specs.Prelude.{◌≡◌, ◌↔◌, ◌+◌, ◌∷◌, ◌++◌, [], ◌≤◌, ℕ, List, length, drop, true, MatchOption};
 ghost use Rattle.nx_numbers.specs.Sizes.{page_size};
@@ -82,7 +82,7 @@ fn set_mark(bytes: &mut [u8])
 
 // A page that begins with the mark, and has zero bytes behind it.
 fn marked() -> PageBytes
-    ensures { IsLaid result.bytes 8 [] }
+    ensures { IsHeaderLaid result.bytes 8 [] }
 {
     let mut page = blank();
     set_mark(&mut page.bytes);
@@ -92,7 +92,7 @@ fn marked() -> PageBytes
 // Writes the next field of two bytes.
 fn lay_u16(page: &mut PageBytes, at: usize, number: u16)
     requires { at + 2 ≤ page_size }
-    ensures { (fields : List (ℕ × ℕ)) → IsLaid page.old.bytes at fields → IsLaid page.new.bytes (at + 2) (fields ++ (2, number) ∷ []) }
+    ensures { (fields : List (ℕ × ℕ)) → IsHeaderLaid page.old.bytes at fields → IsHeaderLaid page.new.bytes (at + 2) (fields ++ (2, number) ∷ []) }
 {
     set_u16_at(&mut page.bytes, at, number);
 }
@@ -100,7 +100,7 @@ fn lay_u16(page: &mut PageBytes, at: usize, number: u16)
 // Writes the next field of four bytes.
 fn lay_u32(page: &mut PageBytes, at: usize, number: u32)
     requires { at + 4 ≤ page_size }
-    ensures { (fields : List (ℕ × ℕ)) → IsLaid page.old.bytes at fields → IsLaid page.new.bytes (at + 4) (fields ++ (4, number) ∷ []) }
+    ensures { (fields : List (ℕ × ℕ)) → IsHeaderLaid page.old.bytes at fields → IsHeaderLaid page.new.bytes (at + 4) (fields ++ (4, number) ∷ []) }
 {
     set_u32_at(&mut page.bytes, at, number);
 }
@@ -108,7 +108,7 @@ fn lay_u32(page: &mut PageBytes, at: usize, number: u32)
 // Writes the next field of eight bytes.
 fn lay_u64(page: &mut PageBytes, at: usize, number: u64)
     requires { at + 8 ≤ page_size }
-    ensures { (fields : List (ℕ × ℕ)) → IsLaid page.old.bytes at fields → IsLaid page.new.bytes (at + 8) (fields ++ (8, number) ∷ []) }
+    ensures { (fields : List (ℕ × ℕ)) → IsHeaderLaid page.old.bytes at fields → IsHeaderLaid page.new.bytes (at + 8) (fields ++ (8, number) ∷ []) }
 {
     set_u64_at(&mut page.bytes, at, number);
 }

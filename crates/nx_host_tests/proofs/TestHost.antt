@@ -3,7 +3,7 @@ use Rattle.std.proofs.Common.{◌≡◌, ◌⊎◌, inl, inr, ⊎_elim, ℕ, zer
 use Rattle.std.proofs.lemmas.List.{take_at, take_all, drop-drop, length-take-le}
 use Rattle.nx_host.specs.Host.{AppendsPrefix}
 use Rattle.nx_host.specs.Time.{Stood, Elapses}
-use Rattle.nx_host_tests.specs.TestHost.{WasPrefix, StoodSince}
+use Rattle.nx_host_tests.specs.TestHost.{WasPrefix, EmptyStoodSince}
 use Rattle.nx_host.specs.Disk.{no_bytes}
 
 -- A piece that was copied to the beginning of a slice was the first of the input that was left.
@@ -97,7 +97,7 @@ abbrev moment_of : Moments → ℕ
 moment_of d = length d.0
 
 abbrev since_of : Moments → ℕ → Stood → Type 0
-since_of d = StoodSince d.0 d.1
+since_of d = EmptyStoodSince d.0 d.1
 
 added : (past output bytes : List ℕ) → Elapses moment_of since_of (past, output) (past ++ length output ∷ [], output ++ bytes) (λ s. AppendsPrefix bytes (Some output) s.output × (s.image ≡ no_bytes))
 added past output bytes = record {

@@ -12,7 +12,7 @@ WasPrefix [] output seen = ⊥
 WasPrefix (n ∷ past) output seen = (seen ≡ Some (take n output)) ⊎ WasPrefix past output seen
 
 -- At some moment from t on this stood: an empty disk, and the output or a prefix of it. `past` has the output's length at each moment before now.
-pub record StoodSince (past output : List ℕ) (t : ℕ) (s : Stood) : Type 0 where
+pub record EmptyStoodSince (past output : List ℕ) (t : ℕ) (s : Stood) : Type 0 where
   pub empty : s.image ≡ no_bytes
   pub prefix : (s.output ≡ Some output) ⊎ WasPrefix (drop t past) output s.output
 
@@ -29,12 +29,12 @@ told_either past output seen (inl now) = ap is_some now
 told_either past output seen (inr was) = told_prefix past output seen was
 
 -- each of its moments is told
-pub told : (past output : List ℕ) (t : ℕ) (s : Stood) → StoodSince past output t s → IsSome s.output
-told past output t s since = told_either (drop t past) output s.output since.prefix
+pub told_since : (past output : List ℕ) (t : ℕ) (s : Stood) → EmptyStoodSince past output t s → IsSome s.output
+told_since past output t s since = told_either (drop t past) output s.output since.prefix
 
 -- what is there now stands since any of them
-pub stands : (past output : List ℕ) (t : ℕ) (image : Image) → image ≡ no_bytes → StoodSince past output t (record { output = Some output; image = image })
-stands past output t image is = record { empty = is; prefix = inl refl }
+pub stands_since : (past output : List ℕ) (t : ℕ) (image : Image) → image ≡ no_bytes → EmptyStoodSince past output t (record { output = Some output; image = image })
+stands_since past output t image is = record { empty = is; prefix = inl refl }
 
 none_left : (past output : List ℕ) (seen : Option (List ℕ)) → WasPrefix (drop (length past) past) output seen → ⊥
 none_left [] output seen was = was
@@ -45,12 +45,12 @@ only_prefix past output seen (inl now) = now
 only_prefix past output seen (inr was) = absurd (none_left past output seen was)
 
 -- and nothing else since this one
-pub only_whole : (past output : List ℕ) (s : Stood) → StoodSince past output (length past) s → (s.output ≡ Some output) × (s.image ≡ no_bytes)
+pub only_whole : (past output : List ℕ) (s : Stood) → EmptyStoodSince past output (length past) s → (s.output ≡ Some output) × (s.image ≡ no_bytes)
 only_whole past output s since = (only_prefix past output s.output since.prefix, since.empty)
 
 -- what stood since a later moment
-pub earlier : (past output : List ℕ) (t u : ℕ) (s : Stood) → t ≤ u → StoodSince past output u s → StoodSince past output t s
-earlier past output t u s le since = record { empty = since.empty; prefix = before since.prefix }
+pub stood_since_earlier : (past output : List ℕ) (t u : ℕ) (s : Stood) → t ≤ u → EmptyStoodSince past output u s → EmptyStoodSince past output t s
+stood_since_earlier past output t u s le since = record { empty = since.empty; prefix = before since.prefix }
   where
     longer : (n : ℕ) (lengths : List ℕ) → WasPrefix (drop n lengths) output s.output → WasPrefix lengths output s.output
     longer zero lengths was = was
@@ -65,7 +65,7 @@ earlier past output t u s le since = record { empty = since.empty; prefix = befo
     before (inr was) = inr (longer (u - t) (drop t past) (subst (λ (l : List ℕ). WasPrefix l output s.output) (sym cut) was))
 
 -- the input that is left
-pub bytes_left : (given : ℕ) (input left : List ℕ) → AreBytes input → Some (drop given input) ≡ Some left → AreBytes left
-bytes_left given input left bytes is =
+pub input_left_is_bytes : (given : ℕ) (input left : List ℕ) → AreBytes input → Some (drop given input) ≡ Some left → AreBytes left
+input_left_is_bytes given input left bytes is =
     let same : drop given input ≡ left = cc in
     subst AreBytes same (λ i. subst (λ (b : ℕ). b < 256) (sym (get_or-drop given input i 0)) (bytes (given + i)))

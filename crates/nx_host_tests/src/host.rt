@@ -1,6 +1,6 @@
 // A host of tests that tells its input, its output and its moments.
 ghost use Rattle.std.specs.Prelude.{◌≡◌, ◌+◌, ◌<◌, ◌≤◌, ◌↔◌, [], ◌∷◌, ◌++◌, length, drop, min, Some, IsTrue, OnOk, OnErr, refl};
-ghost use Rattle.nx_host_tests.specs.TestHost.{StoodSince, only_nothing, told, stands, only_whole, earlier, bytes_left};
+ghost use Rattle.nx_host_tests.specs.TestHost.{EmptyStoodSince, only_nothing, told_since, stands_since, only_whole, stood_since_earlier, input_left_is_bytes};
 ghost use Rattle.nx_host.specs.Disk.{AreBytes, HoldsBytes, no_bytes};
 ghost use Rattle.nx_host.proofs.DiskLemmas.{no_bytes_hold_bytes};
 ghost use Rattle.std.proofs.Common.{subst, sym};
@@ -128,7 +128,7 @@ impl Disk for DisklessHost {
 
     ghost moment = { λ host. length host.past.items };
 
-    ghost stood_since = { λ host. StoodSince host.past.items host.output.items };
+    ghost stood_since = { λ host. EmptyStoodSince host.past.items host.output.items };
 
     ghost faults = { λ host. host.counts.faults };
 
@@ -136,13 +136,13 @@ impl Disk for DisklessHost {
 
     ghost contents_may_stay = { λ host image is. only_nothing image is };
 
-    ghost told_before = { λ host t s le since is_told. told host.past.items host.output.items t s since };
+    ghost told_before = { λ host t s le since is_told. told_since host.past.items host.output.items t s since };
 
-    ghost stands_now = { λ host t image le may. stands host.past.items host.output.items t image may };
+    ghost stands_now = { λ host t image le may. stands_since host.past.items host.output.items t image may };
 
     ghost only_now = { λ host s since. only_whole host.past.items host.output.items s since };
 
-    ghost since_earlier = { λ host t u s le now since. earlier host.past.items host.output.items t u s le since };
+    ghost since_earlier = { λ host t u s le now since. stood_since_earlier host.past.items host.output.items t u s le since };
 
     ghost some_image = { λ host. (no_bytes, refl) };
 
@@ -150,7 +150,7 @@ impl Disk for DisklessHost {
 
     ghost past_holds_bytes = { λ host t s le since. subst HoldsBytes (sym since.empty) no_bytes_hold_bytes };
 
-    ghost input_is_bytes = { λ host input is. bytes_left host.given host.input.items input host.bytes is };
+    ghost input_is_bytes = { λ host input is. input_left_is_bytes host.given host.input.items input host.bytes is };
 
     fn length(&mut self, _area: Area) -> Result<u64, Failed> {
         if self.calls.next_fails() {

@@ -34,7 +34,7 @@ free_trees Bare h = tt
 free_trees (Grown node below beside) h = free_trees beside h
 free_trees (Kept place members beside) h = absurd h
 
-free_width : (a : Layout) → AreFree a → gapped.width (piece_body a) ≡ width a
+free_width : (a : Layout) → AreFree a → gapped.gapped_width (piece_body a) ≡ width a
 free_width Bare h = refl
 free_width (Grown node below beside) h = let p = free_width beside h in omega arith
 free_width (Kept place members beside) h = absurd h

@@ -12,7 +12,7 @@ use Rattle.nx_matrix.specs.declared.rule.Entry.TheVariants.{Free}
 use Rattle.nx_matrix.specs.declared.rule.Rule.{Rule}
 use Rattle.nx_matrix.specs.declared.error.MatrixError.{MatrixError}
 use Rattle.nx_matrix.specs.declared.error.MatrixError.TheVariants.{Memory}
-use Rattle.nx_matrix.specs.Rules.{pair_of, is_for, has_rule, entry_of, AreRules, IsAt, IsGap, IsRefused, most_rules}
+use Rattle.nx_matrix.specs.Rules.{pair_of, is_for, has_rule, entry_of, AreRules, IsRuleAt, IsGap, IsRuleRefused, most_rules}
 use Rattle.nx_matrix.proofs.OrderLemmas.{Pair, not_less, not_greater}
 
 both : (a b : Bool) → a && b ≡ true → (a ≡ true) × (b ≡ true)
@@ -69,12 +69,12 @@ NoneBefore rules pair place = (k : ℕ) (d : Rule) → k < place → pair_of (ge
 rest_before : (r : Rule) (rules : List Rule) (pair : Pair) (place : ℕ) → NoneBefore (r ∷ rules) pair (suc place) → NoneBefore rules pair place
 rest_before r rules pair place none k d lt = none (suc k) d (omega arith)
 
-pub at_before : (rules : List Rule) (pair : Pair) (place : ℕ) → AreRules rules → IsAt rules pair place → NoneBefore rules pair place
+pub at_before : (rules : List Rule) (pair : Pair) (place : ℕ) → AreRules rules → IsRuleAt rules pair place → NoneBefore rules pair place
 at_before rules pair place are is_at k d lt same =
     not_less (pair_of (get_or rules k d)) (pair_of (get_or rules place d)) (are.ordered k place d lt is_at.within) (same ∙ sym (is_at.same d))
 
 -- nor behind it
-pub at_behind : (rules : List Rule) (pair : Pair) (place : ℕ) → AreRules rules → IsAt rules pair place → (k : ℕ) (d : Rule) → place < k → k < length rules → pair_of (get_or rules k d) ≢ pair
+pub at_behind : (rules : List Rule) (pair : Pair) (place : ℕ) → AreRules rules → IsRuleAt rules pair place → (k : ℕ) (d : Rule) → place < k → k < length rules → pair_of (get_or rules k d) ≢ pair
 at_behind rules pair place are is_at k d lt within same =
     not_less (pair_of (get_or rules place d)) (pair_of (get_or rules k d)) (are.ordered place k d lt within) (is_at.same d ∙ sym same)
 
@@ -114,7 +114,7 @@ module _ (pair : Pair) (p c : List ℕ) where
           let h' : entry_of new p c ≡ entry_of old p c = h ∙ ap (λ t. cond t entry (entry_of old p c)) e in
           entry_cons r new ∙ ap (λ x. cond (is_for p c r) r.entry x) h' ∙ sym (entry_cons r old) ∙ ap (λ t. cond t entry (entry_of (r ∷ old) p c)) (sym e)
 
-  pub entry_set : (rules : List Rule) (place : ℕ) (rule : Rule) → pair_of rule ≡ pair → IsAt rules pair place → NoneBefore rules pair place → entry_of (set rules place rule) p c ≡ cond asked rule.entry (entry_of rules p c)
+  pub entry_set : (rules : List Rule) (place : ℕ) (rule : Rule) → pair_of rule ≡ pair → IsRuleAt rules pair place → NoneBefore rules pair place → entry_of (set rules place rule) p c ≡ cond asked rule.entry (entry_of rules p c)
   entry_set [] place rule same is_at none = absurd (omega (arith, is_at.within))
   entry_set (r ∷ rules) zero rule same is_at none =
       let old = for_same r (is_at.same r) in
@@ -149,7 +149,7 @@ module _ (pair : Pair) (p c : List ℕ) where
           entry_none rules p c (λ k d lt same. none k d lt (same ∙ sym here)) ∙ ap (λ t. cond t Free (entry_of rules p c)) (sym e)
       by false e = ap (λ t. cond t Free (entry_of rules p c)) (sym e)
 
-  pub entry_remove : (rules : List Rule) (place : ℕ) → IsAt rules pair place → NoneBefore rules pair place → ((k : ℕ) (d : Rule) → place < k → k < length rules → pair_of (get_or rules k d) ≢ pair) → entry_of (remove rules place) p c ≡ cond asked Free (entry_of rules p c)
+  pub entry_remove : (rules : List Rule) (place : ℕ) → IsRuleAt rules pair place → NoneBefore rules pair place → ((k : ℕ) (d : Rule) → place < k → k < length rules → pair_of (get_or rules k d) ≢ pair) → entry_of (remove rules place) p c ≡ cond asked Free (entry_of rules p c)
   entry_remove [] place is_at none behind = absurd (omega (arith, is_at.within))
   entry_remove (r ∷ rules) zero is_at none behind =
       entry_absent rules (λ k d lt. behind (suc k) d (omega arith) (omega arith))
@@ -165,7 +165,7 @@ module _ (pair : Pair) (p c : List ℕ) where
       (entry_remove rules place (record { within = omega (arith, is_at.within); same = is_at.same }) (rest_before r rules pair place none) (λ k d lt within. behind (suc k) d (omega arith) (omega arith)))
 
 -- the first rule for the pair gives its entry
-pub entry_at : (rules : List Rule) (parent child : List ℕ) (place : ℕ) (d : Rule) → IsAt rules (parent, child) place → NoneBefore rules (parent, child) place → entry_of rules parent child ≡ (get_or rules place d).entry
+pub entry_at : (rules : List Rule) (parent child : List ℕ) (place : ℕ) (d : Rule) → IsRuleAt rules (parent, child) place → NoneBefore rules (parent, child) place → entry_of rules parent child ≡ (get_or rules place d).entry
 entry_at [] parent child place d is_at none = absurd (omega (arith, is_at.within))
 entry_at (r ∷ rules) parent child zero d is_at none =
     entry_cons (parent, child) parent child r rules ∙ ap (λ t. cond t r.entry (entry_of rules parent child)) (is_for_itself parent child r (is_at.same r))
@@ -174,8 +174,8 @@ entry_at (r ∷ rules) parent child (suc place) d is_at none =
     ∙ entry_at rules parent child place d (record { within = omega (arith, is_at.within); same = is_at.same }) (rest_before r rules (parent, child) place none)
 
 -- an error of memory alone, as it comes for one more rule
-pub memory_refused : (rules : List Rule) (parent child : List ℕ) (entry : Entry) (r : Result (Unit {0}) MatrixError) → NoneFor rules (parent, child) → entry ≢ Free → length rules < most_rules → IsErrAnd r (λ e. e ≡ Memory) → IfErr r (IsRefused rules parent child entry)
+pub memory_refused : (rules : List Rule) (parent child : List ℕ) (entry : Entry) (r : Result (Unit {0}) MatrixError) → NoneFor rules (parent, child) → entry ≢ Free → length rules < most_rules → IsErrAnd r (λ e. e ≡ Memory) → IfErr r (IsRuleRefused rules parent child entry)
 memory_refused rules parent child entry r none bound few err =
     let found = err_from_is_err_and r err in
-    subst (λ x. IfErr x (IsRefused rules parent child entry)) (sym found.1)
-    (subst (λ e. IsRefused rules parent child entry e) (sym found.2) ((bound, has_none rules parent child none), few))
+    subst (λ x. IfErr x (IsRuleRefused rules parent child entry)) (sym found.1)
+    (subst (λ e. IsRuleRefused rules parent child entry e) (sym found.2) ((bound, has_none rules parent child none), few))

@@ -15,7 +15,7 @@ use Rattle.std.proofs.lemmas.List.Edits.{length-insert, length-remove, get_or-in
 use Rattle.std.proofs.lemmas.List.Quantifiers.{all_pairs_remove}
 use Rattle.nx_matrix.specs.declared.rule.Entry.TheVariants.{Free}
 use Rattle.nx_matrix.specs.declared.rule.Rule.{Rule}
-use Rattle.nx_matrix.specs.Rules.{pair_cmp, pair_of, IsLabel, AreRules, IsAt, IsGap, most_rules}
+use Rattle.nx_matrix.specs.Rules.{pair_cmp, pair_of, IsLabel, AreRules, IsRuleAt, IsGap, most_rules}
 
 abbrev pub Pair : Type 0
 Pair = List ℕ × List ℕ
@@ -162,7 +162,7 @@ module _ (rules : List Rule) (ordered : AllPairs (λ a b. pair_cmp (pair_of a) (
 
 module _ (rules : List Rule) (are : AreRules rules) (q : Pair) (place : ℕ) where
   -- a rule's entry is changed
-  pub set_rules : IsAt rules q place → (rule : Rule) → pair_of rule ≡ q → rule.entry ≢ Free → IsLabel rule.parent × IsLabel rule.child → AreRules (set rules place rule)
+  pub set_rules : IsRuleAt rules q place → (rule : Rule) → pair_of rule ≡ q → rule.entry ≢ Free → IsLabel rule.parent × IsLabel rule.child → AreRules (set rules place rule)
   set_rules is_at rule same bound labelled = record {
     few = omega (arith, length-set rules place rule, are.few);
     labelled = All-set (λ r. IsLabel r.parent × IsLabel r.child) rules place rule labelled are.labelled;
@@ -186,7 +186,7 @@ module _ (rules : List Rule) (are : AreRules rules) (q : Pair) (place : ℕ) whe
         ]
       ]
 
-  pub remove_rules : IsAt rules q place → AreRules (remove rules place)
+  pub remove_rules : IsRuleAt rules q place → AreRules (remove rules place)
   remove_rules is_at = record {
     few = omega (arith, length-remove rules place is_at.within, are.few);
     labelled = all_remove (λ r. IsLabel r.parent × IsLabel r.child) rules are.labelled place is_at.within;

@@ -24,6 +24,6 @@ mark_of Text = Some 35
 mark_of Instruction = Some 63
 
 -- bytes behind a mark
-abbrev pub marked : Option ℕ → List ℕ → List ℕ
-marked None bytes = bytes
-marked (Some mark) bytes = mark ∷ bytes
+abbrev pub behind_mark : Option ℕ → List ℕ → List ℕ
+behind_mark None bytes = bytes
+behind_mark (Some mark) bytes = mark ∷ bytes

@@ -1,5 +1,5 @@
 -- Rules for pairs of labels, and the entries that they give.
-use Rattle.std.specs.Prelude.{◌≡◌, ◌≢◌, ℕ, ◌<◌, ◌≤◌, Bool, false, ◌&&◌, if◌then◌else◌, List, length, slice_index_or}
+use Rattle.std.specs.Prelude.{◌≡◌, ◌≢◌, ℕ, ◌<◌, ◌≤◌, Bool, true, false, ◌&&◌, if◌then◌else◌, List, length, slice_index_or}
 use Rattle.std.specs.Cmp.Lexicographic.{slice_cmp}
 use Rattle.std.specs.List.{All, AllPairs, find, list_any}
 use Rattle.std.specs.Option.{option_map_or}
@@ -8,7 +8,7 @@ use Rattle.std.specs.Str.{bytes_eq}
 use Rattle.std.specs.declared.cmp.Ordering.{Ordering}
 use Rattle.std.specs.declared.cmp.Ordering.TheVariants.{Less, Greater}
 use Rattle.nx_matrix.specs.declared.rule.Entry.{Entry}
-use Rattle.nx_matrix.specs.declared.rule.Entry.TheVariants.{Free}
+use Rattle.nx_matrix.specs.declared.rule.Entry.TheVariants.{Standalone, Cluster, Free}
 use Rattle.nx_matrix.specs.declared.rule.Rule.{Rule}
 use Rattle.nx_matrix.specs.declared.error.MatrixError.{MatrixError}
 use Rattle.nx_matrix.specs.declared.error.MatrixError.TheVariants.{TooManyRules, Memory}
@@ -19,6 +19,12 @@ most_rules = 4096
 
 abbrev pub longest_label : ℕ
 longest_label = 1024
+
+-- the entry asks for nothing
+abbrev pub is_free : Entry → Bool
+is_free Standalone = false
+is_free Cluster = false
+is_free Free = true
 
 -- the order of two pairs of labels: by the parents' bytes, then by the children's
 abbrev pub pair_cmp : List ℕ × List ℕ → List ℕ × List ℕ → Ordering
@@ -60,9 +66,9 @@ abbrev pub AddsRule : List Rule → List ℕ → List ℕ → Entry → Type 0
 AddsRule rules parent child entry = (entry ≢ Free) × (has_rule rules parent child ≡ false)
 
 -- when a change is refused: for a pair without a rule where no more fit, or for want of memory for one more
-abbrev pub IsRefused : List Rule → List ℕ → List ℕ → Entry → MatrixError → Type 0
-IsRefused rules parent child entry TooManyRules = AddsRule rules parent child entry × (length rules ≡ most_rules)
-IsRefused rules parent child entry Memory = AddsRule rules parent child entry × (length rules < most_rules)
+abbrev pub IsRuleRefused : List Rule → List ℕ → List ℕ → Entry → MatrixError → Type 0
+IsRuleRefused rules parent child entry TooManyRules = AddsRule rules parent child entry × (length rules ≡ most_rules)
+IsRuleRefused rules parent child entry Memory = AddsRule rules parent child entry × (length rules < most_rules)
 
 -- each rule before the place is for a lesser pair, and each from it on for a greater one
 pub record IsGap (rules : List Rule) (pair : List ℕ × List ℕ) (place : ℕ) : Type 0 where
@@ -71,6 +77,6 @@ pub record IsGap (rules : List Rule) (pair : List ℕ × List ℕ) (place : ℕ)
   pub after : (k : ℕ) (d : Rule) → place ≤ k → k < length rules → pair_cmp (pair_of (slice_index_or rules k d)) pair ≡ Greater
 
 -- the rule at the place is for the pair
-pub record IsAt (rules : List Rule) (pair : List ℕ × List ℕ) (place : ℕ) : Type 0 where
+pub record IsRuleAt (rules : List Rule) (pair : List ℕ × List ℕ) (place : ℕ) : Type 0 where
   pub within : place < length rules
   pub same : (d : Rule) → pair_of (slice_index_or rules place d) ≡ pair

@@ -2,7 +2,7 @@
 ghost use Rattle.std.specs.Prelude.{◌≡◌, Option, List};
 ghost use Rattle.std.specs.Cmp.Lexicographic.{slice_cmp};
 ghost use Rattle.std.specs.Ordering.{nat_cmp};
-ghost use Rattle.nx_matrix.specs.Label.{label, marked, mark_of};
+ghost use Rattle.nx_matrix.specs.Label.{label, behind_mark, mark_of};
 ghost use Rattle.nx_matrix.specs.Rules.{pair_cmp, pair_of};
 
 use crate::Rule;
@@ -23,7 +23,7 @@ pub(crate) fn mark_of(kind: Kind) -> Option<u8>
 
 // What stands behind that byte in the label of the node.
 pub(crate) fn unmarked(node: &Node) -> &[u8]
-    ensures { marked (mark_of node.now.kind) result.now ≡ label node.now }
+    ensures { behind_mark (mark_of node.now.kind) result.now ≡ label node.now }
 {
     match node.kind {
         Kind::Doc => b"doc",
@@ -34,7 +34,7 @@ pub(crate) fn unmarked(node: &Node) -> &[u8]
 
 // The order of these bytes and a label.
 pub(crate) fn compare_label(bytes: &[u8], mark: Option<u8>, unmarked: &[u8]) -> Ordering
-    ensures { result ≡ slice_cmp nat_cmp bytes.now (marked mark unmarked.now) }
+    ensures { result ≡ slice_cmp nat_cmp bytes.now (behind_mark mark unmarked.now) }
 {
     let Some(mark) = mark else {
         return bytes.cmp(&unmarked);
@@ -57,7 +57,7 @@ pub(crate) fn compare_rule(
     child_mark: Option<u8>,
     child: &[u8],
 ) -> Ordering
-    ensures { result ≡ pair_cmp (pair_of rule.now) (marked parent_mark parent.now, marked child_mark child.now) }
+    ensures { result ≡ pair_cmp (pair_of rule.now) (behind_mark parent_mark parent.now, behind_mark child_mark child.now) }
 {
     match compare_label(rule.parent.as_slice(), parent_mark, parent) {
         Ordering::Less => Ordering::Less,

@@ -1,6 +1,6 @@
 // The map from pairs of labels to entries, kept as a sorted list of rules.
 ghost use Rattle.std.specs.Prelude.{◌≡◌, ◌≢◌, ◌≤◌, [], length, IfOk, IfErr, OnOk, OnErr};
-ghost use Rattle.nx_matrix.specs.Label.{label, marked};
+ghost use Rattle.nx_matrix.specs.Label.{label, behind_mark};
 
 use crate::label::{compare_rule, mark_of, unmarked};
 use crate::rule::make_rule;
@@ -31,7 +31,7 @@ impl Model for Matrix {
 }
 
 impl Matrix {
-    ghost use Rattle.nx_matrix.specs.Rules.{AddsRule, AreRules, IsAt, IsGap, IsLabel, IsRefused, SetsEntry, entry_of, most_rules};
+    ghost use Rattle.nx_matrix.specs.Rules.{AddsRule, AreRules, IsRuleAt, IsGap, IsLabel, IsRuleRefused, SetsEntry, entry_of, most_rules};
 
     /// No rules. It takes no memory.
     pub fn new(alloc: Global) -> Matrix
@@ -62,7 +62,7 @@ impl Matrix {
         requires child { IsLabel child.now }
         ensures ok { OnOk result (SetsEntry self.old self.new parent.now child.now entry) }
         ensures err { OnErr result (self.new ≡ self.old) }
-        ensures cause { IfErr result (IsRefused self.old parent.now child.now entry) }
+        ensures cause { IfErr result (IsRuleRefused self.old parent.now child.now entry) }
     {
         match self.search(None, parent, None, child) {
             Ok(place) => {
@@ -118,8 +118,8 @@ impl Matrix {
         child_mark: Option<u8>,
         child: &[u8],
     ) -> Result<usize, usize>
-        ensures found { IfOk result (IsAt self.now (marked parent_mark parent.now, marked child_mark child.now)) }
-        ensures absent { IfErr result (IsGap self.now (marked parent_mark parent.now, marked child_mark child.now)) }
+        ensures found { IfOk result (IsRuleAt self.now (behind_mark parent_mark parent.now, behind_mark child_mark child.now)) }
+        ensures absent { IfErr result (IsGap self.now (behind_mark parent_mark parent.now, behind_mark child_mark child.now)) }
     {
         let (mut low, mut high) = (0, self.rules.len());
         while low < high {
@@ -135,7 +135,7 @@ impl Matrix {
 
     // Makes the entry of the rule at the place, which is for this pair.
     fn change(&mut self, place: usize, parent: &[u8], child: &[u8], entry: Entry)
-        requires { IsAt self.old (parent.now, child.now) place }
+        requires { IsRuleAt self.old (parent.now, child.now) place }
         ensures { SetsEntry self.old self.new parent.now child.now entry }
     {
         match entry {
@@ -160,7 +160,7 @@ impl Matrix {
         requires gap { IsGap self.old (parent.now, child.now) place }
         ensures ok { OnOk result (SetsEntry self.old self.new parent.now child.now entry) }
         ensures err { OnErr result (self.new ≡ self.old) }
-        ensures cause { IfErr result (IsRefused self.old parent.now child.now entry) }
+        ensures cause { IfErr result (IsRuleRefused self.old parent.now child.now entry) }
     {
         if self.rules.len() >= MOST_RULES {
             return Err(MatrixError::TooManyRules);

@@ -12,7 +12,7 @@ use Rattle.nx_memory.specs.declared.image.Choice.{Choice}
 use Rattle.nx_memory.specs.declared.image.Choice.TheVariants.{Kept, Lost, Ones}
 use Rattle.nx_memory.specs.History.{Present, before, with_area, MayLeave, IsHistory}
 use Rattle.nx_memory.specs.Laws.{image_holds_bytes, contents_left}
-use Rattle.nx_memory.specs.Crash.{ones_over, nothing_over, crashed, left_by}
+use Rattle.nx_memory.specs.Crash.{ones_over, nothing_over, crashed, crash_image}
 use Rattle.nx_memory.specs.Undo.{since, undone_all, filled_all, area_by}
 use Rattle.nx_memory.proofs.HistoryLemmas.{same_image, left_apart}
 
@@ -49,12 +49,12 @@ crashed_filled area (Emit was ∷ earlier) now = crashed_filled area earlier (be
 
 -- an image whose areas were come by so
 pub left_is : (choice : Choice) (changes : List Change) (now : Present) (image : Image) → image.pages ≡ area_by choice Pages changes now.areas.pages now.covered →
-    image.log ≡ area_by choice Log changes now.areas.log now.covered → image ≡ left_by choice changes now
+    image.log ≡ area_by choice Log changes now.areas.log now.covered → image ≡ crash_image choice changes now
 left_is Kept changes now image pages log = same_image image now.areas pages log
 left_is Lost changes now image pages log =
-    same_image image (left_by Lost changes now) (pages ∙ sym (crashed_undone Pages changes now)) (log ∙ sym (crashed_undone Log changes now))
+    same_image image (crash_image Lost changes now) (pages ∙ sym (crashed_undone Pages changes now)) (log ∙ sym (crashed_undone Log changes now))
 left_is Ones changes now image pages log =
-    same_image image (left_by Ones changes now)
+    same_image image (crash_image Ones changes now)
     (pages ∙ sym (crashed_filled Pages changes now ∙ ap (filled_all Pages (since Pages changes)) (crashed_undone Pages changes now)))
     (log ∙ sym (crashed_filled Log changes now ∙ ap (filled_all Log (since Log changes)) (crashed_undone Log changes now)))
 
@@ -179,7 +179,7 @@ ones_tear : Tears ones_over
 ones_tear = record { torn = λ at count bytes. ones_torn at count bytes; bytes = λ at count bytes held. ones_are_bytes at count bytes held }
 
 -- each choice leaves an image that a crash may leave
-pub choice_left : (choice : Choice) (changes : List Change) (now : Present) → IsHistory changes now → MayLeave changes now (left_by choice changes now)
+pub choice_left : (choice : Choice) (changes : List Change) (now : Present) → IsHistory changes now → MayLeave changes now (crash_image choice changes now)
 choice_left Kept changes now history = contents_left changes now history
 choice_left Lost changes now history = crashes_left nothing_over nothing_tears changes now history
 choice_left Ones changes now history = crashes_left ones_over ones_tear changes now history

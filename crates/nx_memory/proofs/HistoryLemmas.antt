@@ -8,7 +8,7 @@ use Rattle.nx_host.specs.declared.disk.Area.{Area}
 use Rattle.nx_host.specs.declared.disk.Area.TheVariants.{Pages, Log}
 use Rattle.nx_memory.specs.declared.history.Change.{Change}
 use Rattle.nx_memory.specs.declared.history.Change.TheVariants.{Write, Sync, Emit}
-use Rattle.nx_memory.specs.History.{Present, before, with_area, MayLeave, Stands, StoodSince}
+use Rattle.nx_memory.specs.History.{Present, before, with_area, MayLeave, StandsNow, StoodSince}
 
 -- Areas are torn apart from each other.
 
@@ -63,7 +63,7 @@ moment_of d = length d.0
 abbrev pub since_of : Moments → ℕ → Stood → Type 0
 since_of d = StoodSince d.0 d.1
 
-added : {P : Stood → Type 0} (change : Change) (earlier : List Change) (now : Present) → ((s : Stood) → Stands (change ∷ earlier) now s → P s) →
+added : {P : Stood → Type 0} (change : Change) (earlier : List Change) (now : Present) → ((s : Stood) → StandsNow (change ∷ earlier) now s → P s) →
     Elapses moment_of since_of (earlier, before change now) (change ∷ earlier, now) P
 unfolding StoodSince
 added change earlier now adds = record {
@@ -74,11 +74,11 @@ added change earlier now adds = record {
 
 -- One change more adds what stands after it.
 pub changed : {P : Stood → Type 0} (change : Change) {earlier later : List Change} {was now : Present} → later ≡ change ∷ earlier → before change now ≡ was →
-    ((s : Stood) → Stands later now s → P s) → Elapses moment_of since_of (earlier, was) (later, now) P
+    ((s : Stood) → StandsNow later now s → P s) → Elapses moment_of since_of (earlier, was) (later, now) P
 changed {P = P} change {earlier = earlier} {later = later} {was = was} {now = now} one_more undone adds =
     let P' = λ (l : List Change). Elapses moment_of since_of (earlier, was) (l, now) P in
     let from = λ (w : Present). Elapses moment_of since_of (earlier, w) (change ∷ earlier, now) P in
-    subst P' (sym one_more) (subst from undone (added change earlier now (λ s here. adds s (subst (λ (l : List Change). Stands l now s) (sym one_more) here))))
+    subst P' (sym one_more) (subst from undone (added change earlier now (λ s here. adds s (subst (λ (l : List Change). StandsNow l now s) (sym one_more) here))))
 
 -- What one change more does to the images.
 

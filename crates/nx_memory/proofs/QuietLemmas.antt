@@ -5,7 +5,7 @@ use Rattle.nx_host.specs.Disk.{Keeps}
 use Rattle.nx_host.specs.Host.{AppendsPrefix}
 use Rattle.nx_host.specs.Time.{Stood, Elapses}
 use Rattle.nx_memory.specs.declared.history.Change.{Change}
-use Rattle.nx_memory.specs.History.{Present, before, MayLeave, Stands}
+use Rattle.nx_memory.specs.History.{Present, before, MayLeave, StandsNow}
 use Rattle.nx_memory.specs.Quiet.{told_of, moment_at, QuietSince}
 use Rattle.nx_memory.proofs.HistoryLemmas.{Moments, changed}
 
@@ -21,7 +21,7 @@ since_in d = QuietSince d.0 d.1.0 d.1.1
 
 -- one change more
 pub quiet_changed : {P : Stood → Type 0} (change : Change) {full : Bool} {earlier later : List Change} {was now : Present} → full ≡ false →
-    later ≡ change ∷ earlier → before change now ≡ was → ((s : Stood) → Stands later now s → P s) → Elapses moment_in since_in (full, (earlier, was)) (full, (later, now)) P
+    later ≡ change ∷ earlier → before change now ≡ was → ((s : Stood) → StandsNow later now s → P s) → Elapses moment_in since_in (full, (earlier, was)) (full, (later, now)) P
 quiet_changed {P = P} change {earlier = earlier} {later = later} {was = was} {now = now} is one_more undone adds =
     let time = changed change one_more undone adds in
     let here : Elapses moment_in since_in (false, (earlier, was)) (false, (later, now)) P = record { later = time.later; nothing_else = time.nothing_else; keeps = time.keeps } in

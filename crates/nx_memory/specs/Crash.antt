@@ -32,7 +32,7 @@ crashed f area (Sync a ∷ earlier) now = cond (is_area a area) (area_of area no
 crashed f area (Emit was ∷ earlier) now = crashed f area earlier (before (Emit was) now)
 
 -- the image that a crash leaves by this choice
-abbrev pub left_by : Choice → List Change → Present → Image
-left_by Kept changes now = now.areas
-left_by Lost changes now = record { pages = crashed nothing_over Pages changes now; log = crashed nothing_over Log changes now }
-left_by Ones changes now = record { pages = crashed ones_over Pages changes now; log = crashed ones_over Log changes now }
+abbrev pub crash_image : Choice → List Change → Present → Image
+crash_image Kept changes now = now.areas
+crash_image Lost changes now = record { pages = crashed nothing_over Pages changes now; log = crashed nothing_over Log changes now }
+crash_image Ones changes now = record { pages = crashed ones_over Pages changes now; log = crashed ones_over Log changes now }

@@ -47,14 +47,14 @@ MayLeave (Sync area ∷ earlier) now image = MayLeave earlier now image × (area
 MayLeave (Emit was ∷ earlier) now image = MayLeave earlier (before (Emit was) now) image
 
 -- After these changes there is this output, and a crash may leave this image.
-pub record Stands (changes : List Change) (now : Present) (s : Stood) : Type 0 where
+pub record StandsNow (changes : List Change) (now : Present) (s : Stood) : Type 0 where
   pub output : s.output ≡ Some now.output
   pub image : MayLeave changes now s.image
 
 -- That was so at some moment from t on. A moment is the number of changes until then.
 unfoldable pub StoodSince : List Change → Present → ℕ → Stood → Type 0
-StoodSince [] now t s = Stands [] now s
-StoodSince (change ∷ earlier) now t s = Stands (change ∷ earlier) now s ⊎ ((t ≤ length earlier) × StoodSince earlier (before change now) t s)
+StoodSince [] now t s = StandsNow [] now s
+StoodSince (change ∷ earlier) now t s = StandsNow (change ∷ earlier) now s ⊎ ((t ≤ length earlier) × StoodSince earlier (before change now) t s)
 
 -- A write tore its area from what stood there before.
 abbrev pub IsTear : Change → Present → Type 0

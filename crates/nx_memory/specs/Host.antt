@@ -4,7 +4,7 @@ use Rattle.nx_host.specs.Disk.{Image}
 use Rattle.nx_memory.specs.declared.calls.Calls.{Calls}
 use Rattle.nx_memory.specs.declared.calls.Counts.{Counts}
 use Rattle.nx_memory.specs.declared.host.MemoryHost.{MemoryHost}
-use Rattle.nx_memory.specs.Calls.{fails, next_number, IsNext}
+use Rattle.nx_memory.specs.Calls.{fails, next_call_number, IsNext}
 use Rattle.nx_host.specs.Time.{Stood, Elapses}
 use Rattle.nx_memory.specs.History.{MayLeave, StoodSince}
 use Rattle.nx_memory.specs.declared.image.Image as given
@@ -14,14 +14,14 @@ use Rattle.nx_memory.specs.Memory.{changes_of, present_of, areas_of, output_of}
 
 -- whether the next call is to fail
 abbrev pub next_fails : MemoryHost → Bool
-next_fails host = fails (next_number host.calls) host.calls
+next_fails host = fails (next_call_number host.calls) host.calls
 
 -- a count that rose by one, up to 2^64 - 1
 abbrev pub raised : ℕ → ℕ
 raised count = min (count + 1) (2 ^ 64 - 1)
 
 -- A call failed: it left these counts, and all else as it was.
-pub record Refuses (counts : Counts) (old new : MemoryHost) : Type 0 where
+pub record FailsCall (counts : Counts) (old new : MemoryHost) : Type 0 where
   pub next : IsNext old.calls new.calls
   pub counts_are : new.counts ≡ counts
   pub memory_stays : new.memory ≡ old.memory
@@ -72,7 +72,7 @@ pub record HasOnly (host : MemoryHost) (areas : Image) : Type 0 where
   pub only : (image : Image) → HostMayLeave host image → image ≡ areas
 
 -- Each area may grow by so many bytes, and the output and the history take so many.
-pub record HasRoomFor (room : ℕ) (image : given.Image) (memory : Memory) : Type 0 where
+pub record HasRoomToGrow (room : ℕ) (image : given.Image) (memory : Memory) : Type 0 where
   pub pages : memory.pages.most ≡ length image.pages + room
   pub log : memory.log.most ≡ length image.log + room
   pub output : memory.output.most ≡ room

@@ -9,7 +9,7 @@ use Rattle.nx_host.specs.Disk.{Image, AreBytes, HoldsBytes}
 use Rattle.nx_host.specs.Time.{Stood}
 use Rattle.nx_memory.specs.declared.history.Change.{Change}
 use Rattle.nx_memory.specs.declared.history.Change.TheVariants.{Write, Sync, Emit}
-use Rattle.nx_memory.specs.History.{Present, before, MayLeave, Stands, StoodSince, IsTear, IsHistory}
+use Rattle.nx_memory.specs.History.{Present, before, MayLeave, StandsNow, StoodSince, IsTear, IsHistory}
 
 -- Each image holds bytes.
 pub image_holds_bytes : (changes : List Change) (now : Present) (image : Image) → IsHistory changes now → MayLeave changes now image → HoldsBytes image
@@ -42,7 +42,7 @@ stood [] now t image left = record { output = refl; image = left }
 stood (change ∷ earlier) now t image left = inl (record { output = refl; image = left })
 
 -- Since this one nothing else has.
-pub only_stands : (changes : List Change) (now : Present) (s : Stood) → StoodSince changes now (length changes) s → Stands changes now s
+pub only_stands : (changes : List Change) (now : Present) (s : Stood) → StoodSince changes now (length changes) s → StandsNow changes now s
 unfolding StoodSince
 only_stands [] now s since = since
 only_stands (change ∷ earlier) now s (inl here) = here

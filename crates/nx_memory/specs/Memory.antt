@@ -37,7 +37,7 @@ pub record HasSameRoom (old new : Memory) : Type 0 where
   pub history : new.history.room ≡ old.history.room
 
 -- new is old with one change more, and the same input
-pub record Adds (change : Change) (old new : Memory) : Type 0 where
+pub record AddsChange (change : Change) (old new : Memory) : Type 0 where
   pub changes : changes_of new ≡ change ∷ changes_of old
   pub before : before change (present_of new) ≡ present_of old
   pub input : new.source ≡ old.source

@@ -6,14 +6,14 @@ use Rattle.nx_memory.specs.declared.history.Change.{Change}
 use Rattle.nx_memory.specs.declared.quiet.QuietHost.{QuietHost}
 use Rattle.nx_memory.specs.History.{MayLeave}
 use Rattle.nx_memory.specs.Source.{bytes_left}
-use Rattle.nx_memory.specs.Memory.{changes_of, present_of, output_of, Adds}
+use Rattle.nx_memory.specs.Memory.{changes_of, present_of, output_of, AddsChange}
 use Rattle.nx_memory.specs.Quiet.{told_of, moment_at, QuietSince}
 
 -- Where the host still tells what it holds, it told it before, there was room, and the change was added.
-pub record GoesOn (change : Change) (HasRoom : Type 0) (old new : QuietHost) : Type 0 where
+pub record GoesOnTelling (change : Change) (HasRoom : Type 0) (old new : QuietHost) : Type 0 where
   pub was_told : old.full ≡ false
   pub had_room : HasRoom
-  pub adds : Adds change old.memory new.memory
+  pub adds : AddsChange change old.memory new.memory
 
 -- Where it tells it no longer, that was so before or there was no room, and nothing changed.
 pub record IsUsedUp (HasRoom : Type 0) (old new : QuietHost) : Type 0 where

@@ -27,7 +27,7 @@ pub(crate) struct Calls {
 }
 
 impl Calls {
-    ghost use Rattle.nx_memory.specs.Calls.{fails, IsNext, next_number};
+    ghost use Rattle.nx_memory.specs.Calls.{fails, IsNext, next_call_number};
 
     /// No call was made, and none fails.
     pub(crate) fn new(alloc: Global) -> Calls
@@ -45,7 +45,7 @@ impl Calls {
     /// Counts one call more, and says whether it fails.
     pub(crate) fn next_fails(&mut self) -> bool
         ensures next { IsNext self.old self.new }
-        ensures fails { result ≡ fails (next_number self.old) self.old }
+        ensures fails { result ≡ fails (next_call_number self.old) self.old }
     {
         self.made = self.made.saturating_add(1);
         self.made > self.last || self.failing.contains(&self.made)

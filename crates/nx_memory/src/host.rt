@@ -32,8 +32,8 @@ pub struct MemoryHost {
 }
 
 impl MemoryHost {
-    ghost use Rattle.nx_memory.specs.Host.{raised, areas_in, no_counts, IsFresh, HasOnly, HasRoomFor, HostMayLeave, NoneFails};
-    ghost use Rattle.nx_memory.specs.Crash.{left_by};
+    ghost use Rattle.nx_memory.specs.Host.{raised, areas_in, no_counts, IsFresh, HasOnly, HasRoomToGrow, HostMayLeave, NoneFails};
+    ghost use Rattle.nx_memory.specs.Crash.{crash_image};
     ghost use Rattle.nx_memory.specs.Calls.{fails};
     ghost use Rattle.std.specs.Prelude.{◌-◌, ◌==◌, ◌||◌, ℕ};
     ghost use Rattle.std.specs.List.{list_any};
@@ -57,7 +57,7 @@ impl MemoryHost {
         requires room { room ≤ 2 ^ 32 }
         ensures fresh { IfOk result (λ host. IsFresh image input host.memory) }
         ensures settled { IfOk result (λ host. HasOnly host (areas_in image)) }
-        ensures room { IfOk result (λ host. HasRoomFor room image host.memory) }
+        ensures room { IfOk result (λ host. HasRoomToGrow room image host.memory) }
         ensures piece { IfOk result (λ host. host.piece ≡ piece) }
         ensures counts { IfOk result (λ host. host.counts ≡ no_counts) }
         ensures calls { IfOk result (λ host. (host.calls.made ≡ 0) × NoneFails host.calls) }
@@ -101,7 +101,7 @@ impl MemoryHost {
     ///
     /// Errors: `NoMemory`.
     pub fn image(&self, choice: Choice) -> Result<Image, NoMemory>
-        ensures image { IfOk result (λ image. areas_in image ≡ left_by choice (changes_of self.now.memory) (present_of self.now.memory)) }
+        ensures image { IfOk result (λ image. areas_in image ≡ crash_image choice (changes_of self.now.memory) (present_of self.now.memory)) }
         ensures left { IfOk result (λ image. HostMayLeave self.now (areas_in image)) }
     {
         self.memory.image(self.alloc, choice)
@@ -143,8 +143,8 @@ impl MemoryHost {
 }
 
 impl Disk for MemoryHost {
-    ghost use Rattle.nx_memory.specs.Host.{next_fails, raised, Passes, Refuses, MayFail, HostElapses, HostMayLeave, AreAmong};
-    ghost use Rattle.nx_memory.specs.Memory.{Adds, HasRoomToWrite, HasRoomToSync};
+    ghost use Rattle.nx_memory.specs.Host.{next_fails, raised, Passes, FailsCall, MayFail, HostElapses, HostMayLeave, AreAmong};
+    ghost use Rattle.nx_memory.specs.Memory.{AddsChange, HasRoomToWrite, HasRoomToSync};
     ghost use Rattle.nx_host.specs.Disk.{WritesTo, ComesTorn, IsDurable, Keeps, area_of, given_at};
 
     ghost contents = { λ host. Some (areas_of host.memory) };
@@ -188,7 +188,7 @@ impl Disk for MemoryHost {
         ensures passes { OnOk result (Passes self.old.counts (Unit {0}) self.old self.new) }
         ensures value { IfOk result (λ n. n ≡ length (area_of area (areas_of self.old.memory))) }
         ensures memory { self.new.memory ≡ self.old.memory }
-        ensures refuses { OnErr result (Refuses (record self.old.counts { faults = raised self.old.counts.faults }) self.old self.new) }
+        ensures refuses { OnErr result (FailsCall (record self.old.counts { faults = raised self.old.counts.faults }) self.old self.new) }
         ensures reason { OnErr result (next_fails self.old ≡ true) }
         ensures faults { self.old.counts.faults ≤ self.new.counts.faults }
     {
@@ -203,7 +203,7 @@ impl Disk for MemoryHost {
         ensures count { IfOk result (λ n. n ≡ length (given_at at (length into.old) (area_of area (areas_of self.old.memory)))) }
         ensures bytes { IfOk result (λ n. take n into.new ≡ given_at at (length into.old) (area_of area (areas_of self.old.memory))) }
         ensures memory { self.new.memory ≡ self.old.memory }
-        ensures refuses { OnErr result (Refuses (record self.old.counts { reads = raised self.old.counts.reads; faults = raised self.old.counts.faults }) self.old self.new) }
+        ensures refuses { OnErr result (FailsCall (record self.old.counts { reads = raised self.old.counts.reads; faults = raised self.old.counts.faults }) self.old self.new) }
         ensures reason { OnErr result (next_fails self.old ≡ true) }
         ensures faults { self.old.counts.faults ≤ self.new.counts.faults }
         ensures reads { (self.old.counts.reads ≤ self.new.counts.reads) × (self.new.counts.reads ≤ self.old.counts.reads + 1) }
@@ -219,8 +219,8 @@ impl Disk for MemoryHost {
         requires { at + length bytes.now ≤ 2 ^ 63 }
         ensures passes { OnOk result (Passes self.old.counts (HasRoomToWrite area at (length bytes.now) self.old.memory) self.old self.new) }
         ensures written { OnOk result (WritesTo area at bytes.now (areas_of self.old.memory) (areas_of self.new.memory)) }
-        ensures adds { OnOk result (Adds (Change.Write area at (length bytes.now) (length (area_of area (areas_of self.old.memory)))) self.old.memory self.new.memory) }
-        ensures refuses { OnErr result (Refuses (record self.old.counts { faults = raised self.old.counts.faults }) self.old self.new) }
+        ensures adds { OnOk result (AddsChange (Change.Write area at (length bytes.now) (length (area_of area (areas_of self.old.memory)))) self.old.memory self.new.memory) }
+        ensures refuses { OnErr result (FailsCall (record self.old.counts { faults = raised self.old.counts.faults }) self.old self.new) }
         ensures reason { OnErr result (MayFail (HasRoomToWrite area at (length bytes.now) self.old.memory) self.old) }
         ensures images { AreAmong (HostMayLeave self.new) (ComesTorn area at (length bytes.now) (HostMayLeave self.old)) }
         ensures time { HostElapses self.old self.new (λ s. Keeps (Some (output_of self.old.memory)) s.output × ComesTorn area at (length bytes.now) (HostMayLeave self.old) s.image) }
@@ -238,8 +238,8 @@ impl Disk for MemoryHost {
     fn sync(&mut self, area: Area) -> Result<(), Failed>
         ensures passes { OnOk result (Passes self.old.counts (HasRoomToSync self.old.memory) self.old self.new) }
         ensures areas { areas_of self.new.memory ≡ areas_of self.old.memory }
-        ensures adds { OnOk result (Adds (Change.Sync area) self.old.memory self.new.memory) }
-        ensures refuses { OnErr result (Refuses (record self.old.counts { faults = raised self.old.counts.faults }) self.old self.new) }
+        ensures adds { OnOk result (AddsChange (Change.Sync area) self.old.memory self.new.memory) }
+        ensures refuses { OnErr result (FailsCall (record self.old.counts { faults = raised self.old.counts.faults }) self.old self.new) }
         ensures reason { OnErr result (MayFail (HasRoomToSync self.old.memory) self.old) }
         ensures durable { OnOk result (IsDurable area (HostMayLeave self.new) (areas_of self.new.memory)) }
         ensures images { AreAmong (HostMayLeave self.new) (HostMayLeave self.old) }
@@ -257,8 +257,8 @@ impl Disk for MemoryHost {
 }
 
 impl Host for MemoryHost {
-    ghost use Rattle.nx_memory.specs.Host.{next_fails, raised, Passes, Refuses, MayFail, HostElapses, HostMayLeave, AreSame};
-    ghost use Rattle.nx_memory.specs.Memory.{Adds, HasRoomToEmit};
+    ghost use Rattle.nx_memory.specs.Host.{next_fails, raised, Passes, FailsCall, MayFail, HostElapses, HostMayLeave, AreSame};
+    ghost use Rattle.nx_memory.specs.Memory.{AddsChange, HasRoomToEmit};
     ghost use Rattle.nx_host.specs.Host.{AppendsPrefix};
 
     fn read_in(&mut self, into: &mut [u8]) -> Result<usize, Failed>
@@ -268,7 +268,7 @@ impl Host for MemoryHost {
         ensures left { IfOk result (λ n. bytes_left self.new.memory.source ≡ drop n (bytes_left self.old.memory.source)) }
         ensures piece { 0 < self.old.piece }
         ensures others { OnOk result (self.new.memory ≡ record self.old.memory { source = self.new.memory.source }) }
-        ensures refuses { OnErr result (Refuses (record self.old.counts { in_faults = raised self.old.counts.in_faults }) self.old self.new) }
+        ensures refuses { OnErr result (FailsCall (record self.old.counts { in_faults = raised self.old.counts.in_faults }) self.old self.new) }
         ensures reason { OnErr result (next_fails self.old ≡ true) }
         ensures in_faults { self.old.counts.in_faults ≤ self.new.counts.in_faults }
     {
@@ -282,8 +282,8 @@ impl Host for MemoryHost {
         ensures passes { OnOk result (Passes self.old.counts (HasRoomToEmit (length bytes.now) self.old.memory) self.old self.new) }
         ensures output { OnOk result (output_of self.new.memory ≡ output_of self.old.memory ++ bytes.now) }
         ensures areas { areas_of self.new.memory ≡ areas_of self.old.memory }
-        ensures adds { OnOk result (Adds (Change.Emit (length (output_of self.old.memory))) self.old.memory self.new.memory) }
-        ensures refuses { OnErr result (Refuses (record self.old.counts { out_faults = raised self.old.counts.out_faults }) self.old self.new) }
+        ensures adds { OnOk result (AddsChange (Change.Emit (length (output_of self.old.memory))) self.old.memory self.new.memory) }
+        ensures refuses { OnErr result (FailsCall (record self.old.counts { out_faults = raised self.old.counts.out_faults }) self.old self.new) }
         ensures reason { OnErr result (MayFail (HasRoomToEmit (length bytes.now) self.old.memory) self.old) }
         ensures images { AreSame (HostMayLeave self.new) (HostMayLeave self.old) }
         ensures time { HostElapses self.old self.new (λ s. AppendsPrefix bytes.now (Some (output_of self.old.memory)) s.output × HostMayLeave self.old s.image) }

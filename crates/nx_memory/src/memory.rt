@@ -29,8 +29,8 @@ pub(crate) struct Memory {
 impl Memory {
     ghost use Rattle.nx_memory.specs.Source.{bytes_left};
     ghost use Rattle.nx_memory.specs.History.{MayLeave};
-    ghost use Rattle.nx_memory.specs.Crash.{left_by};
-    ghost use Rattle.nx_memory.specs.Memory.{changes_of, present_of, areas_of, output_of, most_of, Adds, HasRoomToWrite, HasRoomToSync, HasRoomToEmit};
+    ghost use Rattle.nx_memory.specs.Crash.{crash_image};
+    ghost use Rattle.nx_memory.specs.Memory.{changes_of, present_of, areas_of, output_of, most_of, AddsChange, HasRoomToWrite, HasRoomToSync, HasRoomToEmit};
 
     /// These areas and this input, with so much room for each of the areas, the output and the
     /// history.
@@ -81,7 +81,7 @@ impl Memory {
 
     /// What a crash may leave of the areas, by this choice.
     pub(crate) fn image(&self, alloc: Global, choice: Choice) -> Result<Image, NoMemory>
-        ensures image { IfOk result (λ image. record { pages = image.pages; log = image.log } ≡ left_by choice (changes_of self.now) (present_of self.now)) }
+        ensures image { IfOk result (λ image. record { pages = image.pages; log = image.log } ≡ crash_image choice (changes_of self.now) (present_of self.now)) }
         ensures left { IfOk result (λ image. MayLeave (changes_of self.now) (present_of self.now) (record { pages = image.pages; log = image.log })) }
     {
         let changes = &self.history.changes;
@@ -102,7 +102,7 @@ impl Memory {
     pub(crate) fn write(&mut self, area: Area, at: u64, bytes: &[u8]) -> bool
         requires { at + length bytes.now ≤ 2 ^ 63 }
         ensures room { IsTrue result ↔ HasRoomToWrite area at (length bytes.now) self.old }
-        ensures adds { IsTrue result → Adds (Change.Write area at (length bytes.now) (length (area_of area (areas_of self.old)))) self.old self.new }
+        ensures adds { IsTrue result → AddsChange (Change.Write area at (length bytes.now) (length (area_of area (areas_of self.old)))) self.old self.new }
         ensures written { IsTrue result → WritesTo area at bytes.now (areas_of self.old) (areas_of self.new) }
         ensures refused { IsFalse result → self.new ≡ self.old }
     {
@@ -115,7 +115,7 @@ impl Memory {
     /// Makes what was written to an area durable, where the history has room, and says whether it had.
     pub(crate) fn sync(&mut self, area: Area) -> bool
         ensures room { IsTrue result ↔ HasRoomToSync self.old }
-        ensures adds { IsTrue result → Adds (Change.Sync area) self.old self.new }
+        ensures adds { IsTrue result → AddsChange (Change.Sync area) self.old self.new }
         ensures areas { areas_of self.new ≡ areas_of self.old }
         ensures refused { IsFalse result → self.new ≡ self.old }
     {
@@ -129,7 +129,7 @@ impl Memory {
     /// Appends to the output, where output and history have room, and says whether they had.
     pub(crate) fn emit(&mut self, bytes: &[u8]) -> bool
         ensures room { IsTrue result ↔ HasRoomToEmit (length bytes.now) self.old }
-        ensures adds { IsTrue result → Adds (Change.Emit (length (output_of self.old))) self.old self.new }
+        ensures adds { IsTrue result → AddsChange (Change.Emit (length (output_of self.old))) self.old self.new }
         ensures output { IsTrue result → output_of self.new ≡ output_of self.old ++ bytes.now }
         ensures areas { areas_of self.new ≡ areas_of self.old }
         ensures refused { IsFalse result → self.new ≡ self.old }

@@ -27,8 +27,8 @@ pub struct QuietHost {
 }
 
 impl QuietHost {
-    ghost use Rattle.nx_memory.specs.Host.{IsFresh, HasRoomFor, areas_in};
-    ghost use Rattle.nx_memory.specs.Crash.{left_by};
+    ghost use Rattle.nx_memory.specs.Host.{IsFresh, HasRoomToGrow, areas_in};
+    ghost use Rattle.nx_memory.specs.Crash.{crash_image};
 
     /// A host of these areas, with nothing unsynced, and this input. The output is empty.
     ///
@@ -39,7 +39,7 @@ impl QuietHost {
     pub fn new(alloc: Global, image: Image, input: Bytes, room: u64) -> Result<QuietHost, NoMemory>
         requires { room ≤ 2 ^ 32 }
         ensures fresh { IfOk result (λ host. IsFresh image input host.memory) }
-        ensures room { IfOk result (λ host. HasRoomFor room image host.memory) }
+        ensures room { IfOk result (λ host. HasRoomToGrow room image host.memory) }
         ensures told { IfOk result (λ host. host.full ≡ false) }
         ensures reads { IfOk result (λ host. host.reads ≡ 0) }
     {
@@ -69,7 +69,7 @@ impl QuietHost {
     ///
     /// Errors: `NoMemory`.
     pub fn image(&self, choice: Choice) -> Result<Image, NoMemory>
-        ensures image { IfOk result (λ image. areas_in image ≡ left_by choice (changes_of self.now.memory) (present_of self.now.memory)) }
+        ensures image { IfOk result (λ image. areas_in image ≡ crash_image choice (changes_of self.now.memory) (present_of self.now.memory)) }
         ensures left { IfOk result (λ image. MayLeave (changes_of self.now.memory) (present_of self.now.memory) (areas_in image)) }
     {
         self.memory.image(self.alloc, choice)
@@ -80,7 +80,7 @@ impl Disk for QuietHost {
     ghost use Rattle.nx_host.specs.Disk.{WritesTo, ComesTorn, IsDurable, Keeps, LeavesBeside, area_of};
     ghost use Rattle.nx_memory.specs.Memory.{HasRoomToWrite, HasRoomToSync};
     ghost use Rattle.nx_memory.specs.Host.{AreAmong};
-    ghost use Rattle.nx_memory.specs.QuietHost.{GoesOn, IsUsedUp, QuietMayLeave, QuietElapses, quiet_beside};
+    ghost use Rattle.nx_memory.specs.QuietHost.{GoesOnTelling, IsUsedUp, QuietMayLeave, QuietElapses, quiet_beside};
 
     ghost contents = { λ host. told_of host.full (areas_of host.memory) };
 
@@ -131,7 +131,7 @@ impl Disk for QuietHost {
     fn write_at(&mut self, area: Area, at: u64, bytes: &[u8]) -> Result<(), Failed>
         requires { at + length bytes.now ≤ 2 ^ 63 }
         ensures ok { IsOk result }
-        ensures goes_on { self.new.full ≡ false → GoesOn (Change.Write area at (length bytes.now) (length (area_of area (areas_of self.old.memory)))) (HasRoomToWrite area at (length bytes.now) self.old.memory) self.old self.new }
+        ensures goes_on { self.new.full ≡ false → GoesOnTelling (Change.Write area at (length bytes.now) (length (area_of area (areas_of self.old.memory)))) (HasRoomToWrite area at (length bytes.now) self.old.memory) self.old self.new }
         ensures used_up { self.new.full ≡ true → IsUsedUp (HasRoomToWrite area at (length bytes.now) self.old.memory) self.old self.new }
         ensures told { IsSome (told_of self.new.full (areas_of self.new.memory)) → IsSome (told_of self.old.full (areas_of self.old.memory)) }
         ensures written { IfSome (told_of self.new.full (areas_of self.new.memory)) (λ now. IfSome (told_of self.old.full (areas_of self.old.memory)) (λ was. WritesTo area at bytes.now was now)) }
@@ -152,7 +152,7 @@ impl Disk for QuietHost {
 
     fn sync(&mut self, area: Area) -> Result<(), Failed>
         ensures ok { IsOk result }
-        ensures goes_on { self.new.full ≡ false → GoesOn (Change.Sync area) (HasRoomToSync self.old.memory) self.old self.new }
+        ensures goes_on { self.new.full ≡ false → GoesOnTelling (Change.Sync area) (HasRoomToSync self.old.memory) self.old self.new }
         ensures used_up { self.new.full ≡ true → IsUsedUp (HasRoomToSync self.old.memory) self.old self.new }
         ensures told { IsSome (told_of self.new.full (areas_of self.new.memory)) → IsSome (told_of self.old.full (areas_of self.old.memory)) }
         ensures contents { Keeps (told_of self.old.full (areas_of self.old.memory)) (told_of self.new.full (areas_of self.new.memory)) }
@@ -178,7 +178,7 @@ impl Host for QuietHost {
     ghost use Rattle.nx_host.specs.Host.{Appends, AppendsPrefix};
     ghost use Rattle.nx_memory.specs.Memory.{HasRoomToEmit};
     ghost use Rattle.nx_memory.specs.Host.{AreSame};
-    ghost use Rattle.nx_memory.specs.QuietHost.{GoesOn, IsUsedUp, QuietMayLeave, QuietElapses, quiet_beside};
+    ghost use Rattle.nx_memory.specs.QuietHost.{GoesOnTelling, IsUsedUp, QuietMayLeave, QuietElapses, quiet_beside};
 
     fn read_in(&mut self, into: &mut [u8]) -> Result<usize, Failed> {
         let most = into.len();
@@ -187,7 +187,7 @@ impl Host for QuietHost {
 
     fn emit(&mut self, bytes: &[u8]) -> Result<(), Failed>
         ensures ok { IsOk result }
-        ensures goes_on { self.new.full ≡ false → GoesOn (Change.Emit (length (output_of self.old.memory))) (HasRoomToEmit (length bytes.now) self.old.memory) self.old self.new }
+        ensures goes_on { self.new.full ≡ false → GoesOnTelling (Change.Emit (length (output_of self.old.memory))) (HasRoomToEmit (length bytes.now) self.old.memory) self.old self.new }
         ensures used_up { self.new.full ≡ true → IsUsedUp (HasRoomToEmit (length bytes.now) self.old.memory) self.old self.new }
         ensures output { Appends bytes.now (quiet_beside self.old).output (quiet_beside self.new).output }
         ensures input { bytes_left self.new.memory.source ≡ bytes_left self.old.memory.source }

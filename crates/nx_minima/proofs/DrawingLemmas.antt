@@ -3,7 +3,7 @@ use Rattle.std.proofs.Common.{◌≡◌, ℕ, ◌+◌, ◌-◌, ◌≤◌, List,
 use Rattle.std.proofs.Math.Nat.{le-max_right}
 use Rattle.std.proofs.lemmas.List.{length-map}
 use Rattle.nx_tree.specs.Forest.{Forest, Plant, OrderedTree}
-use Rattle.nx_choices.specs.Choice.{Member, Cell, Uncut, Interval, child_of, covered, intervals, numbers, numbers_of, interval_weight, left, AreLight}
+use Rattle.nx_choices.specs.Choice.{Member, Cell, Uncut, Interval, child_of, covered, choice_intervals, numbers, numbers_of, interval_weight, left, AreLight}
 use Rattle.nx_cuts.specs.Cut.{CutTree, joined, forest, width, cuts, part_weight, AreFree, AreParts}
 use Rattle.nx_minima.specs.Drawing.{forms, row, past, drawing, forest_under, AreReached}
 use Rattle.nx_minima.specs.ChoiceLaw.{ChoiceIsDrawn}
@@ -38,7 +38,7 @@ row_reached k (member ∷ members) others (tree ∷ trees) r =
 -- the trees with the intervals of a choice drawn in
 pub record IsDrawn (k : ℕ) (cells : List Cell) (trees : List CutTree) : Type 0 where
   pub parts : AreParts k (drawing cells trees)
-  pub few : cuts (drawing cells trees) + length (covered cells) ≤ intervals cells + numbers cells
+  pub few : cuts (drawing cells trees) + length (covered cells) ≤ choice_intervals cells + numbers cells
   pub little : part_weight (drawing cells trees) ≤ left cells
   pub same : forest (drawing cells trees) ≡ forest_under trees
 
@@ -77,7 +77,7 @@ choice_drawn k node children cells trees admitted r =
       ap (λ (f : Forest). let t : OrderedTree = record { node = node; below = f } in t) d.same,
       record {
         parts = d.parts;
-        few = counted (cuts (drawing cells trees)) (intervals cells) (numbers cells) (length (covered cells)) d.few;
+        few = counted (cuts (drawing cells trees)) (choice_intervals cells) (numbers cells) (length (covered cells)) d.few;
         little = omega (arith, d.little);
       },
     )

@@ -6,7 +6,7 @@ use Rattle.nx_tree.specs.Forest.{Forest, Empty, Plant}
 use Rattle.nx_weights.specs.Weight.{weight}
 use Rattle.nx_parts.specs.declared.bounds.Bound.{Bound}
 use Rattle.nx_choices.specs.declared.child.Child.{Child}
-use Rattle.nx_choices.specs.Choice.{Member, First, Cell, Uncut, Interval, child_of, covered, intervals, numbers, numbers_of, interval_weight, left, AreLight, IsAdmitted, count}
+use Rattle.nx_choices.specs.Choice.{Member, First, Cell, Uncut, Interval, child_of, covered, choice_intervals, numbers, numbers_of, interval_weight, left, AreLight, IsAdmitted, count}
 use Rattle.nx_minima.proofs.Numbers.{AreFirst, AreFirstMembers, IsTrueClaim, AreTrueClaims, lowered_by_claims, count-lowered}
 use Rattle.nx_cuts.specs.Cut.{CutForest, Bare, Grown, Kept, CutTree, joined, forest, cuts, part_weight, AreFree, AreParts, tree_of, parts_of}
 use Rattle.nx_parts.specs.Minima.{IsMinima, AreMinimaOf}
@@ -54,7 +54,7 @@ record IsLevel (k : ℕ) (c : CutForest) : Type 0 where
   covers : covered (cells_of c) ≡ pieces c
   light : AreLight k (cells_of c)
   leaves : left (cells_of c) ≡ part_weight c
-  number : intervals (cells_of c) + numbers (cells_of c) ≡ cuts c + length (pieces c)
+  number : choice_intervals (cells_of c) + numbers (cells_of c) ≡ cuts c + length (pieces c)
 
 level : (k : ℕ) (c : CutForest) → AreParts k c → IsLevel k c
 level k Bare h = record { firsts = tt; covers = refl; light = tt; leaves = refl; number = omega arith }

@@ -2,7 +2,7 @@
 use Rattle.std.proofs.Common.{◌≡◌, ◌⊎◌, inl, inr, ℕ, ◌+◌, ◌<◌, ◌≤◌, List, [], ◌∷◌, ◌++◌, length, map, refl, ap, ◌∙◌, arith}
 use Rattle.std.proofs.lemmas.Bool.{cases_lt}
 use Rattle.nx_choices.specs.declared.child.Child.{Child}
-use Rattle.nx_choices.specs.Choice.{Member, First, Second, Cell, Uncut, Interval, child_of, covered, intervals, numbers_of, numbers, interval_weight, left, AreLight, count}
+use Rattle.nx_choices.specs.Choice.{Member, First, Second, Cell, Uncut, Interval, child_of, covered, choice_intervals, numbers_of, numbers, interval_weight, left, AreLight, count}
 
 -- the members are all in their first form
 abbrev pub AreFirstMembers : List Member → Type 0
@@ -39,7 +39,7 @@ pub record Lowered (k : ℕ) (cells : List Cell) (claims : List Child) : Type 0 
   pub covers : covered lowered ≡ claims
   pub light : AreLight k lowered
   pub leaves : left lowered ≤ left cells
-  pub few : intervals lowered + numbers lowered ≤ intervals cells + numbers cells
+  pub few : choice_intervals lowered + numbers lowered ≤ choice_intervals cells + numbers cells
 
 -- the same where the first interval isn't closed yet
 record Opened (k weight leaving most : ℕ) (claims : List Child) : Type 0 where
@@ -49,7 +49,7 @@ record Opened (k weight leaving most : ℕ) (claims : List Child) : Type 0 where
   weighs : interval_weight prefix ≤ weight
   light : AreLight k behind
   leaves : left behind ≤ leaving
-  few : numbers_of prefix + intervals behind + numbers behind ≤ most
+  few : numbers_of prefix + choice_intervals behind + numbers behind ≤ most
 
 abbrev closed : List Member → List Cell → List Cell
 closed [] cells = cells
@@ -68,7 +68,7 @@ left-closed [] cells = omega arith
 left-closed (member ∷ members) cells = omega arith
 
 few-closed : (prefix : List Member) (cells : List Cell) →
-    intervals (closed prefix cells) + numbers (closed prefix cells) ≤ 1 + (numbers_of prefix + intervals cells + numbers cells)
+    choice_intervals (closed prefix cells) + numbers (closed prefix cells) ≤ 1 + (numbers_of prefix + choice_intervals cells + numbers cells)
 few-closed [] cells = omega arith
 few-closed (member ∷ members) cells = omega arith
 
@@ -111,7 +111,7 @@ extended {claim = claim} true slight o (inr few) (inr none) =
 opened : (k : ℕ) (members : List Member) (cells : List Cell) (claims : List Child) → AreFirstMembers members → interval_weight members ≤ k →
     AreTrueClaims k claims (map child_of members ++ covered cells) →
     ((others : List Child) → AreTrueClaims k others (covered cells) → Lowered k cells others) →
-    Opened k (interval_weight members) (left cells) (numbers_of members + intervals cells + numbers cells) claims
+    Opened k (interval_weight members) (left cells) (numbers_of members + choice_intervals cells + numbers cells) claims
 opened k [] cells claims first light true rest =
     let r = rest claims true in
     record { prefix = []; behind = r.lowered; covers = r.covers; weighs = omega arith; light = r.light; leaves = r.leaves; few = omega (arith, r.few) }
@@ -167,6 +167,6 @@ length-claims k (claim ∷ claims) (actual ∷ actuals) true = omega (arith, len
 
 -- the count of the choice over the claims
 pub count-lowered : (k n : ℕ) (cells : List Cell) (claims : List Child) → AreTrueClaims k claims (covered cells) → 1 ≤ n →
-    1 + intervals cells + numbers cells ≤ n + length (covered cells) → (l : Lowered k cells claims) → count l.lowered ≤ n
+    1 + choice_intervals cells + numbers cells ≤ n + length (covered cells) → (l : Lowered k cells claims) → count l.lowered ≤ n
 count-lowered k n cells claims true one few l =
     omega (arith, l.few, few, one, ap length l.covers, length-claims k claims (covered cells) true)

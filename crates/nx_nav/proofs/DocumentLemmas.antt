@@ -17,7 +17,7 @@ use Rattle.nx_nav.specs.declared.visited.Visited.{Visited}
 use Rattle.nx_nav.specs.Nodes.{CanStand}
 use Rattle.nx_nav.specs.Visited.{HasVisited}
 use Rattle.nx_nav.specs.Refusals.{HoldsNoneWith, IsRefused}
-use Rattle.nx_nav.specs.Steps.{Step, steps, steps_of}
+use Rattle.nx_nav.specs.Steps.{WalkStep, walk_steps, steps_of}
 use Rattle.nx_nav.specs.Walk.{HasTold, HasStopped, IsNone, IsIntervalAt, TellsDocument, StopsWithin}
 use Rattle.nx_nav.proofs.NodeLemmas.{document_stands}
 use Rattle.nx_nav.proofs.PartLemmas.{document_held, document_forest}
@@ -35,16 +35,16 @@ weight-without_places (Grown n b s) = let x = weight-without_places b in let y =
 weight-without_places (Kept p m s) = weight-without_places s
 
 -- the places aren't told
-pub steps-without_places : (l : Layout) → steps (without_places l) ≡ steps l
-steps-without_places Bare = refl
-steps-without_places (Grown n b s) = let x = steps-without_places b in let y = steps-without_places s in cc
-steps-without_places (Kept p m s) =
+pub walk_steps-without_places : (l : Layout) → walk_steps (without_places l) ≡ walk_steps l
+walk_steps-without_places Bare = refl
+walk_steps-without_places (Grown n b s) = let x = walk_steps-without_places b in let y = walk_steps-without_places s in cc
+walk_steps-without_places (Kept p m s) =
     let w = width-without_places m in let v = weight-without_places m in
-    let x = steps-without_places m in let y = steps-without_places s in cc
+    let x = walk_steps-without_places m in let y = walk_steps-without_places s in cc
 
-pub document_steps : (root : RecordPlace) (l : Layout) (document : CutTree) → without_places l ≡ document.below → steps (Kept root (Grown document.node l Bare) Bare) ≡ steps_of document
+pub document_steps : (root : RecordPlace) (l : Layout) (document : CutTree) → without_places l ≡ document.below → walk_steps (Kept root (Grown document.node l Bare) Bare) ≡ steps_of document
 document_steps root l document same =
-    sym (steps-without_places (Kept root (Grown document.node l Bare) Bare)) ∙ ap (λ (c : CutForest). steps (Kept tt (Grown document.node c Bare) Bare)) same
+    sym (walk_steps-without_places (Kept root (Grown document.node l Bare) Bare)) ∙ ap (λ (c : CutForest). walk_steps (Kept tt (Grown document.node c Bare) Bare)) same
 
 module _ {D : Type 0} {d : Ghosts D} {r0 : Records} {x : D} {root : RecordPlace} where
   as_interval : {document : CutTree} (h : HasDocument d r0 x root document) → IsIntervalAt d r0 x root 1 (Kept root (Grown document.node h.laid.layout Bare) Bare)
@@ -79,7 +79,7 @@ pub asked_refused : {D : Type 0} (d : Ghosts D) (r0 r1 : Records) (x y : D) (roo
 asked_refused d r0 r1 x y root left e still refused =
     refused_later d ⊥ ⊥ (HoldsNoneWith d r0 x root left) r0 r0 r1 x x y (leaves_same refl) (λ ended. refl) (omega arith) (λ bad. bad) (λ bad. bad) (λ none document h. none (document_seen still h) document h) e refused
 
-module _ {A D : Type 0} {d : Ghosts D} {Told : A → D → List Step → A → D → Type 0} {r0 : Records} {x : D} {root : RecordPlace} {a : A} where
+module _ {A D : Type 0} {d : Ghosts D} {Told : A → D → List WalkStep → A → D → Type 0} {r0 : Records} {x : D} {root : RecordPlace} {a : A} where
   -- all was told, and the teller paused at the end
   pub document_told : {Unwritten : D → D → Type 0} → IsTeller d Told Unwritten → (left rest : ℕ) (b c : A) (y z : D) (v w : Visited)
       → HasTold d Told (IsIntervalAt d r0 x root 1) a x left v b y rest w → rest ≡ 0 → Told b y [] c z → TellsDocument d Told r0 x root left a c z

@@ -14,30 +14,30 @@ use Rattle.nx_pyx.specs.Text.{text}
 use Rattle.nx_cuts.specs.Cut.{CutTree, tree_of}
 use Rattle.nx_layouts.specs.Layout.{RecordPlace}
 use Rattle.nx_hold.specs.Documents.{HasDocument}
-use Rattle.nx_nav.specs.Given.{AsksAndGives, GivesBut, GivesWithin, GivesText}
+use Rattle.nx_nav.specs.Given.{AsksAndGives, AppendsBut, GivesWithin, GivesText}
 use Rattle.nx_nav.specs.GivenLaws.{within_more}
-use Rattle.nx_nav.specs.Steps.{Step, steps_of}
-use Rattle.nx_nav.specs.Told.{step_text, told_text}
+use Rattle.nx_nav.specs.Steps.{WalkStep, steps_of}
+use Rattle.nx_nav.specs.Told.{walk_step_text, told_text}
 use Rattle.nx_nav.proofs.TextLemmas.{has_text}
 
 -- what isn't given of a prefix is left
-prefix_given : (block : List ℕ) (old new : Option (List ℕ)) → AppendsPrefix block old new → (left : List ℕ) × GivesBut (block ++ []) left old new
+prefix_given : (block : List ℕ) (old new : Option (List ℕ)) → AppendsPrefix block old new → (left : List ℕ) × AppendsBut (block ++ []) left old new
 prefix_given block old None prefix = (block, record { done = []; parts = sym (append-nil block); gave = tt })
 prefix_given block old (Some now) (was, n, is, grew) =
     (drop n block, record { done = take n block; parts = take-append-drop n block ∙ sym (append-nil block); gave = (was, is, grew) })
 
 -- the text that was told of a document, of which this was all or a first part
-module _ {D : Type 0} (d : Ghosts D) {r : Records} {was : D} {root : RecordPlace} {document : CutTree} (h : HasDocument d r was root document) (now block : List ℕ) (same : now ≡ block) (told : List Step) where
-  pub text_gives : (left : List ℕ) (old new : Option (List ℕ)) → told ≡ steps_of document → GivesBut (now ++ told_text told) left old new → GivesBut (block ++ text (tree_of document)) left old new
+module _ {D : Type 0} (d : Ghosts D) {r : Records} {was : D} {root : RecordPlace} {document : CutTree} (h : HasDocument d r was root document) (now block : List ℕ) (same : now ≡ block) (told : List WalkStep) where
+  pub text_gives : (left : List ℕ) (old new : Option (List ℕ)) → told ≡ steps_of document → AppendsBut (now ++ told_text told) left old new → AppendsBut (block ++ text (tree_of document)) left old new
   text_gives left old new all gives =
       let whole : now ++ told_text told ≡ block ++ text (tree_of document) = ap (λ w. w ++ told_text told) same ∙ ap (λ w. block ++ w) (ap told_text all ∙ has_text h) in
-      subst (λ w. GivesBut w left old new) whole gives
+      subst (λ w. AppendsBut w left old new) whole gives
 
-  pub text_within : (more : List Step) (x y : D) → steps_of document ≡ told ++ more → GivesWithin d (now ++ told_text told) x y → GivesWithin d (block ++ text (tree_of document)) x y
+  pub text_within : (more : List WalkStep) (x y : D) → steps_of document ≡ told ++ more → GivesWithin d (now ++ told_text told) x y → GivesWithin d (block ++ text (tree_of document)) x y
   text_within more x y first within =
       let whole : (now ++ told_text told) ++ told_text more ≡ block ++ text (tree_of document) =
       append_assoc now (told_text told) (told_text more) ∙ ap (λ w. w ++ (told_text told ++ told_text more)) same
-      ∙ ap (λ w. block ++ w) (sym (flat_map-append step_text told more) ∙ ap told_text (sym first) ∙ has_text h) in
+      ∙ ap (λ w. block ++ w) (sym (flat_map-append walk_step_text told more) ∙ ap told_text (sym first) ∙ has_text h) in
       subst (λ w. GivesWithin d w x y) whole (within_more d (now ++ told_text told) (told_text more) x y within)
 
 module _ {D : Type 0} {d : Ghosts D} where

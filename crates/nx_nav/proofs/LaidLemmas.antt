@@ -19,13 +19,13 @@ use Rattle.nx_cuts.proofs.DrawnLaw.{part_is}
 use Rattle.nx_layouts.specs.Layout.{RecordPlace, Layout, without_places}
 use Rattle.nx_hold.specs.Documents.{HasDocument}
 use Rattle.nx_nav.specs.Laid.{Course, interval_at, position_after, course_after, course_behind}
-use Rattle.nx_nav.specs.Steps.{Step, Begin, Open, Close, steps, steps_of}
+use Rattle.nx_nav.specs.Steps.{WalkStep, Begin, Open, Close, walk_steps, steps_of}
 use Rattle.nx_piece.proofs.LocateLemmas.{get_behind}
 use Rattle.nx_nav.proofs.SplitLemmas.{nodes-joined, take_part}
 use Rattle.nx_nav.proofs.DocumentLemmas.{width-without_places, weight-without_places}
 
 -- as many weights as intervals
-pub pairs_stay : (at : Course) (told : List Step) → length at.weights ≡ length at.parts → length (course_behind at told).weights ≡ length (course_behind at told).parts
+pub pairs_stay : (at : Course) (told : List WalkStep) → length at.weights ≡ length at.parts → length (course_behind at told).weights ≡ length (course_behind at told).parts
 pairs_stay at [] e = e
 pairs_stay at (Begin roots w ∷ told) e =
     pairs_stay (course_after at (Begin roots w)) told (let a = length-append at.weights (w ∷ []) in let b = length-append at.parts (interval_at at.path at.position roots ∷ []) in omega arith)
@@ -47,7 +47,7 @@ width_few (Kept p m s) = let a = width_few m in let b = width_few s in let c = n
 abbrev at_course : List ℕ → ℕ → List Interval → List ℕ → Course
 at_course path position ps ws = record { path = path; position = position; parts = ps; weights = ws }
 
-behind-append : (at : Course) (told more : List Step) → course_behind at (told ++ more) ≡ course_behind (course_behind at told) more
+behind-append : (at : Course) (told more : List WalkStep) → course_behind at (told ++ more) ≡ course_behind (course_behind at told) more
 behind-append at [] more = refl
 behind-append at (step ∷ told) more = behind-append (course_after at step) told more
 
@@ -70,15 +70,15 @@ closes path p q n ps ws low =
     ∙ ap (λ (i : ℕ). at_course path i ps ws) (let e : min (p + 1) 4294967295 ≡ p + 1 = omega arith in e)
 
 pub laid_forest : {P : Type 0} (k root : ℕ) (path : List ℕ) (position : ℕ) (ps : List Interval) (ws : List ℕ) (l : Cut Node P) → AreParts k l → position + nodes (forest l) ≤ 4294967295
-    → course_behind (at_course (root ∷ path) position ps ws) (steps l) ≡ at_course (root ∷ path) (position + width l) (ps ++ intervals path position l) (ws ++ weights_below l)
+    → course_behind (at_course (root ∷ path) position ps ws) (walk_steps l) ≡ at_course (root ∷ path) (position + width l) (ps ++ intervals path position l) (ws ++ weights_below l)
 laid_forest k root path position ps ws Bare h few = same_course (root ∷ path) position (position + 0) ps (ps ++ []) ws (ws ++ []) (omega arith) (sym (append-nil ps)) (sym (append-nil ws))
 laid_forest k root path position ps ws (Grown n b s) h few =
     let inner = path ++ position ∷ [] in
     let ps1 = ps ++ intervals inner 0 b in
     let ws1 = ws ++ weights_below b in
-    behind-append (at_course (root ∷ inner) 0 ps ws) (steps b) (Close n ∷ steps s)
-    ∙ ap (λ (at : Course). course_behind at (Close n ∷ steps s)) (laid_forest k root inner 0 ps ws b h.0 (omega arith))
-    ∙ ap (λ (at : Course). course_behind at (steps s)) (closes (root ∷ path) position (0 + width b) n ps1 ws1 (omega arith))
+    behind-append (at_course (root ∷ inner) 0 ps ws) (walk_steps b) (Close n ∷ walk_steps s)
+    ∙ ap (λ (at : Course). course_behind at (Close n ∷ walk_steps s)) (laid_forest k root inner 0 ps ws b h.0 (omega arith))
+    ∙ ap (λ (at : Course). course_behind at (walk_steps s)) (closes (root ∷ path) position (0 + width b) n ps1 ws1 (omega arith))
     ∙ laid_forest k root path (position + 1) ps1 ws1 s h.1 (omega arith)
     ∙ same_course (root ∷ path) (position + 1 + width s) (position + (1 + width s)) (ps1 ++ intervals path (position + 1) s) (ps ++ (intervals inner 0 b ++ intervals path (position + 1) s))
     (ws1 ++ weights_below s) (ws ++ (weights_below b ++ weights_below s)) (omega arith) (append_assoc ps (intervals inner 0 b) (intervals path (position + 1) s)) (append_assoc ws (weights_below b) (weights_below s))
@@ -92,9 +92,9 @@ laid_forest k root path position ps ws (Kept p m s) h few =
     let ws1 = ws ++ part_weight m ∷ [] in
     let ps2 = ps1 ++ intervals path position m in
     let ws2 = ws1 ++ weights_below m in
-    ap (λ (i : ℕ). course_behind (at_course (root ∷ path) position (ps ++ Run path position i ∷ []) ws1) (steps m ++ steps s)) end
-    ∙ behind-append (at_course (root ∷ path) position ps1 ws1) (steps m) (steps s)
-    ∙ ap (λ (at : Course). course_behind at (steps s)) (laid_forest k root path position ps1 ws1 m h.3 (omega arith))
+    ap (λ (i : ℕ). course_behind (at_course (root ∷ path) position (ps ++ Run path position i ∷ []) ws1) (walk_steps m ++ walk_steps s)) end
+    ∙ behind-append (at_course (root ∷ path) position ps1 ws1) (walk_steps m) (walk_steps s)
+    ∙ ap (λ (at : Course). course_behind at (walk_steps s)) (laid_forest k root path position ps1 ws1 m h.3 (omega arith))
     ∙ laid_forest k root path (position + width m) ps2 ws2 s h.4 (omega arith)
     ∙ same_course (root ∷ path) (position + width m + width s) (position + (width m + width s)) (ps2 ++ intervals path (position + width m) s) (ps ++ run ∷ (intervals path position m ++ intervals path (position + width m) s))
     (ws2 ++ weights_below s) (ws ++ part_weight m ∷ (weights_below m ++ weights_below s)) (omega arith)
@@ -106,7 +106,7 @@ pub laid_document : (k : ℕ) (t : CutTree) → AreParts k t.below → 1 + nodes
     → course_behind (at_course [] 0 [] []) (steps_of t) ≡ at_course [] 1 (parts_of t) (part_weight (Grown t.node t.below Bare) ∷ weights_below t.below)
 laid_document k t h few =
     let w = part_weight (Grown t.node t.below Bare) in
-    let inner = steps t.below in
+    let inner = walk_steps t.below in
     let ps = Root ∷ intervals [] 0 t.below in
     let ws = w ∷ weights_below t.below in
     ap (course_behind (at_course (0 ∷ []) 0 (Root ∷ []) (w ∷ []))) (append-nil (inner ++ Close t.node ∷ []))
@@ -149,7 +149,7 @@ numbered f base (Kept u m s) h =
 -- the parts of a drawn tree weigh as they are drawn
 pub drawn_weights : (k : ℕ) (t : CutTree) → AreParts k t.below → part_weights (tree_of t) (parts_of t) ≡ part_weight (Grown t.node t.below Bare) ∷ weights_below t.below
 drawn_weights k t h =
-    let f : ℕ → ℕ = λ i. parts.part_weight (tree_of t) (parts_of t) i in
+    let f : ℕ → ℕ = λ i. parts.owned_weight (tree_of t) (parts_of t) i in
     let first : f 0 ≡ weight t.node + part_weight t.below + 0 = let e = part_is k t 0 h in let z = weight-below 0 1 t.below (omega arith) in omega arith in
     ap (λ (x : ℕ). x ∷ map f (range_with_len 1 (length (intervals [] 0 t.below)))) first
     ∙ ap (λ (i : ℕ). part_weight (Grown t.node t.below Bare) ∷ map f (range_with_len 1 i)) (length-intervals [] 0 t.below)

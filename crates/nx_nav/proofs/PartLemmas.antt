@@ -28,7 +28,7 @@ use Rattle.nx_nav.specs.declared.error.NavError.TheVariants as error
 use Rattle.nx_nav.specs.Refusals.{IsRefused, StopsReading, IsPassedOn}
 
 -- trees none of which is a member of an interval are as many in their piece
-members_wide : (a : Layout) → AreFree a → gapped.width (piece_body a) ≡ width a
+members_wide : (a : Layout) → AreFree a → gapped.gapped_width (piece_body a) ≡ width a
 members_wide Bare h = refl
 members_wide (Grown node below beside) h = let p = members_wide beside h in omega arith
 members_wide (Kept place members beside) h = absurd h
@@ -44,14 +44,14 @@ module _ {D : Type 0} {d : Ghosts D} {records : Records} {disk : D} {place : Rec
   interval_piece h piece is = is h.saved h.now (piece_of members) h.stands (interval_held h)
 
   -- as many roots as members
-  pub interval_width : HasInterval d records disk place members → gapped.width (piece_body members) ≡ width members
+  pub interval_width : HasInterval d records disk place members → gapped.gapped_width (piece_body members) ≡ width members
   interval_width h = members_wide members h.light.1
 
 -- where its piece has another number of roots there is no such interval
 pub no_interval : {D : Type 0} {d : Ghosts D} {records : Records} {disk : D} {place : RecordPlace} (roots : ℕ) (piece : Piece) → ((saved now : Held) (held : Piece) → StandsFor d records disk saved now → HoldsPiece now place held → piece ≡ held)
-    → (gapped.width piece.body.roots ≡ roots → ⊥) → HasNoInterval d records disk place roots
+    → (gapped.gapped_width piece.body.roots ≡ roots → ⊥) → HasNoInterval d records disk place roots
 no_interval roots piece holds other members h as_many =
-    let same = ap (λ (p : Piece). gapped.width p.body.roots) (interval_piece h piece holds) in
+    let same = ap (λ (p : Piece). gapped.gapped_width p.body.roots) (interval_piece h piece holds) in
     other (same ∙ interval_width h ∙ as_many)
 
 -- ... and where its piece is heavier than the settings let a part be

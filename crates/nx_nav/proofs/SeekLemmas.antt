@@ -28,7 +28,7 @@ use Rattle.nx_nav.specs.declared.error.NavError.{NavError}
 use Rattle.nx_nav.specs.declared.finding.Shown.{Shown}
 use Rattle.nx_nav.specs.Along.{LeadsThrough, TakePages, ReadsPiece, ReadsAlong}
 use Rattle.nx_nav.specs.Parts.{HasInterval, HasNoInterval, IsPieceAt}
-use Rattle.nx_nav.specs.Refusals.{OfEach, HoldsNone, IsRefused}
+use Rattle.nx_nav.specs.Refusals.{OfEach, HoldsNoDocument, IsRefused}
 use Rattle.nx_nav.specs.Nodes.{CanBe}
 use Rattle.nx_nav.specs.Shows.{ShowsNode, CanBeShown}
 use Rattle.nx_nav.proofs.NodeLemmas.{found_has_come}
@@ -130,7 +130,7 @@ module _ {D : Type 0} {d : Ghosts D} {r0 : Records} {x0 : D} {root : RecordPlace
 
     -- which isn't one that a document may have
     pub shows_none : (tree : GappedTree) (first : ℕ) (shown : Shown) → reached_in piece member rest ≡ Inside tree first → shown.node ≡ tree.node → shown.children ≡ length (children_of piece.proxies first tree.below)
-        → (CanBeShown (length path) shown → ⊥) → HoldsNone d r0 x0 root
+        → (CanBeShown (length path) shown → ⊥) → HoldsNoDocument d r0 x0 root
     shows_none tree first shown e node children cannot document h =
         let there = shows_found tree first shown e node children document h in
         let come = found_has_come (tree_of document) path there.0 h.laid.laid.is_document there.1 in
@@ -216,9 +216,9 @@ module _ {D : Type 0} {d : Ghosts D} {r0 : Records} {x0 : D} {root : RecordPlace
 
   -- the record wasn't read
   pub seek_refused : {r1 : Records} (r2 : Records) {x1 : D} (x2 : D) {place : RecordPlace} {roots member : ℕ} {rest : List ℕ} → IsSeeking d r0 r1 x0 x1 root path place roots member rest → (Nowhere : Type 0) (e : NavError)
-      → IsRefused d ⊥ ⊥ (HasNoInterval d r1 x1 place roots) e r1 r2 x1 x2 → IsRefused d Nowhere ⊥ (HoldsNone d r0 x0 root) e r0 r2 x0 x2
+      → IsRefused d ⊥ ⊥ (HasNoInterval d r1 x1 place roots) e r1 r2 x1 x2 → IsRefused d Nowhere ⊥ (HoldsNoDocument d r0 x0 root) e r0 r2 x0 x2
   seek_refused {r1} r2 {x1} x2 seeking Nowhere e refused =
-      refused_later d Nowhere ⊥ (HoldsNone d r0 x0 root) r0 r1 r2 x0 x1 x2 seeking.stays seeking.alone seeking.still.faults_later absurd (λ bad. bad)
+      refused_later d Nowhere ⊥ (HoldsNoDocument d r0 x0 root) r0 r1 r2 x0 x1 x2 seeking.stays seeking.alone seeking.still.faults_later absurd (λ bad. bad)
       (λ none document h. let on = seeking.on document h in none on.members on.there on.as_many) e refused
 
 -- a call that asked nothing read nothing

@@ -21,7 +21,7 @@ use Rattle.nx_layouts.proofs.ValidLemmas.{body_apart}
 use Rattle.nx_hold.specs.Changes.{place_named}
 use Rattle.nx_nav.specs.Nodes.{CanStand}
 use Rattle.nx_nav.specs.Parts.{HasLayout}
-use Rattle.nx_nav.specs.Steps.{Begin, Open, Close, steps}
+use Rattle.nx_nav.specs.Steps.{Begin, Open, Close, walk_steps}
 use Rattle.nx_nav.specs.Walk.{AreIntervals, IsIntervalAt, IsTreeOf, AreOf, AreIntervalsOf}
 use Rattle.nx_nav.proofs.NodeLemmas.{stands_joined}
 use Rattle.nx_nav.proofs.PartLemmas.{layout_of}
@@ -35,10 +35,10 @@ pub depth-joined : (f g : Forest) → depth (joined f g) ≡ max (depth f) (dept
 depth-joined Empty g = omega arith
 depth-joined (Plant n b s) g = omega (arith, depth-joined s g)
 
-pub steps-joined_layout : (a b : Layout) → steps (joined_layout a b) ≡ steps a ++ steps b
-steps-joined_layout Bare b = refl
-steps-joined_layout (Grown n d s) b = ap (λ xs. Open n ∷ (steps d ++ Close n ∷ xs)) (steps-joined_layout s b) ∙ ap (λ xs. Open n ∷ xs) (sym (append_assoc (steps d) (Close n ∷ steps s) (steps b)))
-steps-joined_layout (Kept p m s) b = ap (λ xs. Begin (width m) (part_weight m) ∷ (steps m ++ xs)) (steps-joined_layout s b) ∙ ap (λ xs. Begin (width m) (part_weight m) ∷ xs) (sym (append_assoc (steps m) (steps s) (steps b)))
+pub walk_steps-joined_layout : (a b : Layout) → walk_steps (joined_layout a b) ≡ walk_steps a ++ walk_steps b
+walk_steps-joined_layout Bare b = refl
+walk_steps-joined_layout (Grown n d s) b = ap (λ xs. Open n ∷ (walk_steps d ++ Close n ∷ xs)) (walk_steps-joined_layout s b) ∙ ap (λ xs. Open n ∷ xs) (sym (append_assoc (walk_steps d) (Close n ∷ walk_steps s) (walk_steps b)))
+walk_steps-joined_layout (Kept p m s) b = ap (λ xs. Begin (width m) (part_weight m) ∷ (walk_steps m ++ xs)) (walk_steps-joined_layout s b) ∙ ap (λ xs. Begin (width m) (part_weight m) ∷ xs) (sym (append_assoc (walk_steps m) (walk_steps s) (walk_steps b)))
 
 pub places-joined_layout : (a b : Layout) → places_of (joined_layout a b) ≡ places_of a ++ places_of b
 places-joined_layout Bare b = refl
@@ -137,7 +137,7 @@ module _ {D : Type 0} (d : Ghosts D) (r0 r1 : Records) (x0 x1 : D) (moved : (lay
         behind = s;
         first = (b, ap (λ (x : Node). Grown x b Bare) (sym e.0), e.1, (proxies_of s ++ more.0, shape), layout_of has (Grown n b Bare) (has.held.0, tt) (has.light.0, tt));
         next = (e.2, (more.0, ap (drop (proxies_in tree.below)) shape ∙ drop_part (proxies_of b) (proxies_of s ++ more.0) (proxies_in tree.below) long), moved s (layout_of has s has.held.1 has.light.1));
-        steps_are = ap (λ xs. Open n ∷ xs) (sym (append_assoc (steps b) (Close n ∷ []) (steps s)));
+        steps_are = ap (λ xs. Open n ∷ xs) (sym (append_assoc (walk_steps b) (Close n ∷ []) (walk_steps s)));
         places_are = ap (λ ps. ps ++ places_of s) (sym (append-nil (places_of b)));
         nodes_are = omega arith;
         front_shallow = omega arith;
@@ -165,7 +165,7 @@ module _ {D : Type 0} (d : Ghosts D) (r0 r1 : Records) (x0 x1 : D) (moved : (lay
         behind = row.behind;
         first = (row.are, ap (take count) shape ∙ take_part (proxies_of row.row) (proxies_of row.behind ++ more.0) count row.counted, layout_of has row.row held.0 light.0);
         next = (row.rest, (more.0, ap (drop count) shape ∙ drop_part (proxies_of row.row) (proxies_of row.behind ++ more.0) count row.counted), moved row.behind (layout_of has row.behind held.1 light.1));
-        steps_are = ap steps row.whole ∙ steps-joined_layout row.row row.behind;
+        steps_are = ap walk_steps row.whole ∙ walk_steps-joined_layout row.row row.behind;
         places_are = ap places_of row.whole ∙ places-joined_layout row.row row.behind;
         nodes_are = n;
         front_shallow = omega (arith, deep);
@@ -192,7 +192,7 @@ module _ {D : Type 0} (d : Ghosts D) (r0 r1 : Records) (x0 x1 : D) (moved : (lay
         behind = s;
         first = (m, ap (λ (x : RecordPlace). Kept x m Bare) (sym named), roots, layout_of has (Kept p m Bare) (has.held.0, has.held.1, tt) (has.light.0, has.light.1, has.light.2, has.light.3, tt));
         next = (h.0, parts.1, moved s (layout_of has s has.held.2 has.light.4));
-        steps_are = ap (λ xs. Begin (width m) (part_weight m) ∷ xs) (ap (λ xs. xs ++ steps s) (sym (append-nil (steps m))));
+        steps_are = ap (λ xs. Begin (width m) (part_weight m) ∷ xs) (ap (λ xs. xs ++ walk_steps s) (sym (append-nil (walk_steps m))));
         places_are = ap (λ ps. p ∷ (ps ++ places_of s)) (sym (append-nil (places_of m)));
         nodes_are = omega (arith, n, alone);
         front_shallow = omega (arith, deep, alone_deep);
@@ -203,13 +203,13 @@ module _ {D : Type 0} (d : Ghosts D) (r0 r1 : Records) (x0 x1 : D) (moved : (lay
       }
 
 -- where no proxy is left there is no interval
-pub row_ends : {D : Type 0} {d : Ghosts D} {r : Records} {x : D} (proxies : List Proxy) (l : Layout) → AreIntervalsOf d r x proxies l → proxies ≡ [] → (steps l ≡ []) × (nodes (forest l) ≡ 0) × (places_of l ≡ [])
+pub row_ends : {D : Type 0} {d : Ghosts D} {r : Records} {x : D} (proxies : List Proxy) (l : Layout) → AreIntervalsOf d r x proxies l → proxies ≡ [] → (walk_steps l ≡ []) × (nodes (forest l) ≡ 0) × (places_of l ≡ [])
 row_ends proxies Bare h e = (refl, refl, refl)
 row_ends proxies (Grown n b s) h e = absurd h.0
 row_ends proxies (Kept p m s) h e = absurd (let f = h.1 in cc)
 
 -- where no item is left there is no tree and no interval
-pub items_end : {D : Type 0} {d : Ghosts D} {r : Records} {x : D} (items : Gapped) (proxies : List Proxy) (l : Layout) → AreOf d r x items proxies l → items ≡ End → (steps l ≡ []) × (nodes (forest l) ≡ 0) × (places_of l ≡ [])
+pub items_end : {D : Type 0} {d : Ghosts D} {r : Records} {x : D} (items : Gapped) (proxies : List Proxy) (l : Layout) → AreOf d r x items proxies l → items ≡ End → (walk_steps l ≡ []) × (nodes (forest l) ≡ 0) × (places_of l ≡ [])
 items_end items proxies Bare h e = (refl, refl, refl)
 items_end items proxies (Grown n b s) h e = absurd (let f = h.0 in cc)
 items_end items proxies (Kept p m s) h e = absurd (no_bare (piece_body s) (sym h.0 ∙ e))

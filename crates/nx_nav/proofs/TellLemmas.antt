@@ -23,7 +23,7 @@ use Rattle.nx_nav.specs.Nodes.{CanBeTree, CanStand}
 use Rattle.nx_nav.specs.Visited.{HasVisited}
 use Rattle.nx_nav.specs.Parts.{HasLayout, HasNoInterval, IsPieceAt}
 use Rattle.nx_nav.specs.Refusals.{IsRefused}
-use Rattle.nx_nav.specs.Steps.{Step, Begin, Open, Close, steps}
+use Rattle.nx_nav.specs.Steps.{WalkStep, Begin, Open, Close, walk_steps}
 use Rattle.nx_nav.specs.Walk.{Visits, HasTold, HasStopped, IsWalkable, IsNone, IsIntervalAt, IsTreeOf, AreOf}
 use Rattle.nx_nav.proofs.PartLemmas.{layout_of}
 use Rattle.nx_nav.proofs.RefusalLemmas.{refused_later, still_runs}
@@ -70,10 +70,10 @@ module _ {D : Type 0} {d : Ghosts D} {x : D} where
       comes_twice walkable.earlier (places_of p.0 ++ []) place (there walkable.earlier walkable.were)
       (subst (λ (i : Layout). ArePlacedOnce (walkable.earlier ++ places_of i)) p.1 walkable.once)
 
-module _ {A D : Type 0} {d : Ghosts D} {Told : A → D → List Step → A → D → Type 0} {Unwritten : D → D → Type 0} (teller : IsTeller d Told Unwritten) {a : A} {x : D} where
+module _ {A D : Type 0} {d : Ghosts D} {Told : A → D → List WalkStep → A → D → Type 0} {Unwritten : D → D → Type 0} (teller : IsTeller d Told Unwritten) {a : A} {x : D} where
   -- it stops before anything is told
   pub stops_at_once : (P : Layout → Type 0) (last : A) (y : D) → Told a x [] last y → HasStopped d Told P a x y
-  stops_at_once P last y goes = record { told = []; last = last; goes = goes; first = λ seen l p. (steps l, refl) }
+  stops_at_once P last y goes = record { told = []; last = last; goes = goes; first = λ seen l p. (walk_steps l, refl) }
 
   module _ (r0 : Records) (tree : GappedTree) (proxies : List Proxy) (b : A) (opened : Told a x (Open tree.node ∷ []) b x) (v : Visited) where
     -- what is below the tree of a layout
@@ -93,7 +93,7 @@ module _ {A D : Type 0} {d : Ghosts D} {Told : A → D → List Step → A → D
           let all = has.all seen p.0 (below_of l p) in
           let count : left - 1 ≡ rest + nodes (forest p.0) = all.1 in
           let size = ap (λ (z : Layout). nodes (forest z)) p.1 in (
-            ap (λ s. Open tree.node ∷ (s ++ Close tree.node ∷ [])) all.0 ∙ ap steps (sym p.1),
+            ap (λ s. Open tree.node ∷ (s ++ Close tree.node ∷ [])) all.0 ∙ ap walk_steps (sym p.1),
             omega arith,
             all.2 ∙ sym (append-nil (places_of p.0)) ∙ ap places_of (sym p.1),
           );
@@ -107,7 +107,7 @@ module _ {A D : Type 0} {d : Ghosts D} {Told : A → D → List Step → A → D
       first = λ seen l p.
           let first = has.first seen p.0 (below_of l p) in (
             first.0 ++ Close tree.node ∷ [],
-            ap steps p.1 ∙ ap (λ s. Open tree.node ∷ (s ++ Close tree.node ∷ [])) first.1 ∙ ap (λ s. Open tree.node ∷ s) (append_assoc has.told first.0 (Close tree.node ∷ [])),
+            ap walk_steps p.1 ∙ ap (λ s. Open tree.node ∷ (s ++ Close tree.node ∷ [])) first.1 ∙ ap (λ s. Open tree.node ∷ s) (append_assoc has.told first.0 (Close tree.node ∷ [])),
           );
     }
 
@@ -116,7 +116,7 @@ module _ {A D : Type 0} {d : Ghosts D} {Told : A → D → List Step → A → D
       told = Open tree.node ∷ has.told;
       last = c;
       goes = teller.join a b c x x y (Open tree.node ∷ []) has.told opened has.goes;
-      first = λ seen l p. (Close tree.node ∷ [], ap steps p.1 ∙ ap (λ s. Open tree.node ∷ (s ++ Close tree.node ∷ [])) (sym (has.all seen p.0 (below_of l p)).0));
+      first = λ seen l p. (Close tree.node ∷ [], ap walk_steps p.1 ∙ ap (λ s. Open tree.node ∷ (s ++ Close tree.node ∷ [])) (sym (has.all seen p.0 (below_of l p)).0));
     }
 
     below_walkable : (deep left : ℕ) → deep ≤ 257 → (l : Layout) (p : IsTreeOf d r0 x tree proxies l) → IsWalkable deep left v l → IsWalkable (deep - 1) (left - 1) v p.0
@@ -176,8 +176,8 @@ module _ {A D : Type 0} {d : Ghosts D} {Told : A → D → List Step → A → D
               ([], ap (λ (q : Piece). q.proxies) whole ∙ sym (append-nil (proxies_of members))),
               layout_of there members there.held.1 there.light.3,
             );
-            steps_are = ap steps p.1 ∙ ap (λ s. Begin (width members) (part_weight members) ∷ s) (append-nil (steps members))
-                ∙ ap (λ (n : ℕ). Begin n (part_weight members) ∷ steps members) p.2 ∙ ap (λ (n : ℕ). Begin roots n ∷ steps members) (sym heavy);
+            steps_are = ap walk_steps p.1 ∙ ap (λ s. Begin (width members) (part_weight members) ∷ s) (append-nil (walk_steps members))
+                ∙ ap (λ (n : ℕ). Begin n (part_weight members) ∷ walk_steps members) p.2 ∙ ap (λ (n : ℕ). Begin roots n ∷ walk_steps members) (sym heavy);
             places_are = ap places_of p.1 ∙ ap (λ ps. place ∷ ps) (append-nil (places_of members));
             nodes_are = omega arith;
             shallow = omega arith;

@@ -15,11 +15,11 @@ use Rattle.nx_hold.specs.Documents.{HasDocument}
 use Rattle.nx_pyx.specs.Event.{Event, Start, End, Single, events}
 use Rattle.nx_pyx.specs.Text.{canonical_line, node_line, text_of, text}
 use Rattle.nx_pyx.specs.Writer.{forest_text, end_line}
-use Rattle.nx_nav.specs.Steps.{Step, Open, Close, steps, steps_of}
-use Rattle.nx_nav.specs.Told.{step_text, told_text}
+use Rattle.nx_nav.specs.Steps.{WalkStep, Open, Close, walk_steps, steps_of}
+use Rattle.nx_nav.specs.Told.{walk_step_text, told_text}
 
-told-append : (s t : List Step) → told_text (s ++ t) ≡ told_text s ++ told_text t
-told-append s t = flat_map-append step_text s t
+told-append : (s t : List WalkStep) → told_text (s ++ t) ≡ told_text s ++ told_text t
+told-append s t = flat_map-append walk_step_text s t
 
 text-append : (es fs : List Event) → text_of (es ++ fs) ≡ text_of es ++ text_of fs
 text-append es fs = flat_map-append (λ (e : Event). canonical_line e ++ 10 ∷ []) es fs
@@ -50,28 +50,28 @@ lined Attribute name content below f parts may e = ap (λ x. (node_line Attribut
 lined Text name content below f parts may e = ap (λ x. (node_line Text name content ++ 10 ∷ []) ++ (x ++ [])) (e ∙ ap (λ (g : Forest). text_of (events g)) may)
 lined Instruction name content below f parts may e = ap (λ x. (node_line Instruction name content ++ 10 ∷ []) ++ (x ++ [])) (e ∙ ap (λ (g : Forest). text_of (events g)) may)
 
-pub told_forest : {P : Type 0} (l : Cut Node P) → IsForest (forest l) → told_text (steps l) ≡ forest_text (forest l)
+pub told_forest : {P : Type 0} (l : Cut Node P) → IsForest (forest l) → told_text (walk_steps l) ≡ forest_text (forest l)
 told_forest Bare h = refl
 told_forest (Grown n b s) h =
-    let first = step_text (Open n) in
-    let last = step_text (Close n) in
-    let own = lined n.kind n.name n.content (told_text (steps b)) (forest b) h.0.parts h.1 (told_forest b h.2) in
+    let first = walk_step_text (Open n) in
+    let last = walk_step_text (Close n) in
+    let own = lined n.kind n.name n.content (told_text (walk_steps b)) (forest b) h.0.parts h.1 (told_forest b h.2) in
     let said = if is_element n.kind then Start n.name ∷ events (forest b) ++ End n.name ∷ [] else Single n ∷ [] in
-    ap (λ x. first ++ x) (told-append (steps b) (Close n ∷ steps s) ∙ sym (append_assoc (told_text (steps b)) last (told_text (steps s))))
-    ∙ sym (append_assoc first (told_text (steps b) ++ last) (told_text (steps s)))
-    ∙ ap (λ x. x ++ told_text (steps s)) own
+    ap (λ x. first ++ x) (told-append (walk_steps b) (Close n ∷ walk_steps s) ∙ sym (append_assoc (told_text (walk_steps b)) last (told_text (walk_steps s))))
+    ∙ sym (append_assoc first (told_text (walk_steps b) ++ last) (told_text (walk_steps s)))
+    ∙ ap (λ x. x ++ told_text (walk_steps s)) own
     ∙ ap (λ x. text_of said ++ x) (told_forest s h.3)
     ∙ sym (text-append said (events (forest s)))
 told_forest (Kept p m s) h =
     let parts = joined_forests (forest m) (forest s) h in
-    told-append (steps m) (steps s) ∙ ap (λ x. x ++ told_text (steps s)) (told_forest m parts.0) ∙ ap (λ x. forest_text (forest m) ++ x) (told_forest s parts.1)
+    told-append (walk_steps m) (walk_steps s) ∙ ap (λ x. x ++ told_text (walk_steps s)) (told_forest m parts.0) ∙ ap (λ x. forest_text (forest m) ++ x) (told_forest s parts.1)
     ∙ sym (text-append (events (forest m)) (events (forest s))) ∙ ap text_of (sym (events-joined (forest m) (forest s)))
 
 pub document_text : (t : CutTree) → t.node.kind ≡ Doc → IsForest (forest t.below) → told_text (steps_of t) ≡ text (tree_of t)
 document_text t root h =
-    let inner = steps t.below in
-    let first : step_text (Open t.node) ≡ [] = ap (λ (k : Kind). if is_doc k then [] else node_line k t.node.name t.node.content ++ 10 ∷ []) root in
-    let last : step_text (Close t.node) ≡ [] = ap (λ (k : Kind). if is_element k then end_line t.node.name else []) root in
+    let inner = walk_steps t.below in
+    let first : walk_step_text (Open t.node) ≡ [] = ap (λ (k : Kind). if is_doc k then [] else node_line k t.node.name t.node.content ++ 10 ∷ []) root in
+    let last : walk_step_text (Close t.node) ≡ [] = ap (λ (k : Kind). if is_element k then end_line t.node.name else []) root in
     ap told_text (append-nil (Open t.node ∷ (inner ++ Close t.node ∷ [])))
     ∙ ap (λ x. x ++ told_text (inner ++ Close t.node ∷ [])) first
     ∙ told-append inner (Close t.node ∷ [])

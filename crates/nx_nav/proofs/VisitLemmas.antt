@@ -7,7 +7,7 @@ use Rattle.std.specs.BTreeMap.{get}
 use Rattle.std.proofs.lemmas.List.Elements.{Contains-push, Contains-push_cases, Contains-append_left, Contains-append_right, Contains-append_cases}
 use Rattle.nx_layouts.specs.Layout.{RecordPlace, ArePlacedOnce}
 use Rattle.nx_layouts.proofs.PlaceLemmas.{one_place}
-use Rattle.nx_nav.specs.Visited.{HasVisited, Sets, flags_of, is_set}
+use Rattle.nx_nav.specs.Visited.{HasVisited, SetsFlag, flags_of, is_set}
 use Rattle.nx_nav.specs.declared.visited.Visited.{Visited}
 
 equal_numbers : (x y : ℕ) → is_eq (nat_cmp x y) ≡ true → x ≡ y
@@ -46,7 +46,7 @@ module _ (old new : Visited) (place : RecordPlace) (places : List RecordPlace) (
       by_case false = refl
 
   -- the place's own flag is set, and each other one is as it was
-  flag_at : {added : Bool} → Sets place.slot added (flags_of old place.page) flags.items → (other : RecordPlace) → is_set (flags_of new other.page) other.slot ≡ cond (is_place place other) true (is_set (flags_of old other.page) other.slot)
+  flag_at : {added : Bool} → SetsFlag place.slot added (flags_of old place.page) flags.items → (other : RecordPlace) → is_set (flags_of new other.page) other.slot ≡ cond (is_place place other) true (is_set (flags_of old other.page) other.slot)
   flag_at sets other = ap (λ (fs : List Bool). is_set fs other.slot) (flags_at other.page) ∙ by_case (is_eq (nat_cmp place.page other.page)) refl
     where
       by_case : (b : Bool) → is_eq (nat_cmp place.page other.page) ≡ b → is_set (cond b flags.items (flags_of old other.page)) other.slot ≡ cond (cond b (place.slot == other.slot) false) true (is_set (flags_of old other.page) other.slot)
@@ -54,7 +54,7 @@ module _ (old new : Visited) (place : RecordPlace) (places : List RecordPlace) (
       by_case false differs = refl
 
   -- a place that wasn't visited comes behind those that were
-  visited_first : Sets place.slot true (flags_of old place.page) flags.items → HasVisited new (places ++ place ∷ [])
+  visited_first : SetsFlag place.slot true (flags_of old place.page) flags.items → HasVisited new (places ++ place ∷ [])
   visited_first sets = record { same = λ other. (there other, back other) }
     where
       there : (other : RecordPlace) → is_set (flags_of new other.page) other.slot ≡ true → Contains (places ++ place ∷ []) other
@@ -76,7 +76,7 @@ module _ (old new : Visited) (place : RecordPlace) (places : List RecordPlace) (
           or_true false e = e
 
   -- whether it is new says which
-  pub visited_or_new : (added : Bool) → Sets place.slot added (flags_of old place.page) flags.items → MatchBool added (HasVisited new (places ++ place ∷ [])) (Contains places place)
+  pub visited_or_new : (added : Bool) → SetsFlag place.slot added (flags_of old place.page) flags.items → MatchBool added (HasVisited new (places ++ place ∷ [])) (Contains places place)
   visited_or_new true sets = visited_first sets
   visited_or_new false sets = (was.same place).0 (was_true (is_set (flags_of old place.page) place.slot) sets.told)
     where

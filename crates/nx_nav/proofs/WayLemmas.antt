@@ -16,7 +16,7 @@ use Rattle.nx_layouts.specs.Layout.{RecordPlace, Layout, places_of, ArePlacedOnc
 use Rattle.nx_nav.specs.declared.error.NavError.{NavError}
 use Rattle.nx_nav.specs.Parts.{HasLayout}
 use Rattle.nx_nav.specs.Refusals.{IsRefused}
-use Rattle.nx_nav.specs.Steps.{Step, steps}
+use Rattle.nx_nav.specs.Steps.{WalkStep, walk_steps}
 use Rattle.nx_nav.specs.Nodes.{CanStand}
 use Rattle.nx_nav.specs.Visited.{HasVisited}
 use Rattle.nx_nav.specs.Walk.{Visits, HasTold, HasStopped, IsNone}
@@ -25,10 +25,10 @@ use Rattle.nx_nav.proofs.PartLemmas.{stands_kept, layout_goes}
 use Rattle.nx_nav.proofs.RefusalLemmas.{refused_later, still_runs}
 
 -- So much of a layout is told, and this is left.
-pub record IsLeft (Q : Layout → Type 0) (told : List Step) (places : List RecordPlace) (left now : ℕ) (layout : Layout) : Type 0 where
+pub record IsLeft (Q : Layout → Type 0) (told : List WalkStep) (places : List RecordPlace) (left now : ℕ) (layout : Layout) : Type 0 where
   pub rest : Layout
   pub is : Q rest
-  pub steps_are : steps layout ≡ told ++ steps rest
+  pub steps_are : walk_steps layout ≡ told ++ walk_steps rest
   pub places_are : places_of layout ≡ places ++ places_of rest
   pub nodes_are : left + nodes (forest rest) ≡ now + nodes (forest layout)
   pub shallow : depth (forest rest) ≤ depth (forest layout)
@@ -40,7 +40,7 @@ pub record IsSplit (P Q : Layout → Type 0) (layout : Layout) : Type 0 where
   pub behind : Layout
   pub first : P front
   pub next : Q behind
-  pub steps_are : steps layout ≡ steps front ++ steps behind
+  pub steps_are : walk_steps layout ≡ walk_steps front ++ walk_steps behind
   pub places_are : places_of layout ≡ places_of front ++ places_of behind
   pub nodes_are : nodes (forest layout) ≡ nodes (forest front) + nodes (forest behind)
   pub front_shallow : depth (forest front) ≤ depth (forest layout)
@@ -48,21 +48,21 @@ pub record IsSplit (P Q : Layout → Type 0) (layout : Layout) : Type 0 where
   pub stand : (level : ℕ) → CanStand level (forest layout) → CanStand level (forest front) × CanStand level (forest behind)
 
 -- Of each layout that P speaks of as much is told, and what is left is one that Q speaks of, where the disk's contents are told.
-pub record IsOnWay {A D : Type 0} (d : Ghosts D) (Told : A → D → List Step → A → D → Type 0) (P Q : Layout → Type 0) (old : A) (before : D) (left : ℕ) (visited : Visited) (now : A) (here : D) (rest : ℕ) (seen : Visited) : Type 0 where
-  pub told : List Step
+pub record IsOnWay {A D : Type 0} (d : Ghosts D) (Told : A → D → List WalkStep → A → D → Type 0) (P Q : Layout → Type 0) (old : A) (before : D) (left : ℕ) (visited : Visited) (now : A) (here : D) (rest : ℕ) (seen : Visited) : Type 0 where
+  pub told : List WalkStep
   pub goes : Told old before told now here
   pub places : List RecordPlace
   pub visits : Visits visited places seen
   pub each : IsSome (d.contents here) → (layout : Layout) → P layout → IsLeft Q told places left rest layout
 
 -- what holds of a teller and its disks
-pub record IsTeller {A D : Type 0} (d : Ghosts D) (Told : A → D → List Step → A → D → Type 0) (Unwritten : D → D → Type 0) : Type 0 where
+pub record IsTeller {A D : Type 0} (d : Ghosts D) (Told : A → D → List WalkStep → A → D → Type 0) (Unwritten : D → D → Type 0) : Type 0 where
   pub asked : (a : A) (x y : D) → IsStill d x y → Told a x [] a y
-  pub join : (a b c : A) (x y z : D) (s t : List Step) → Told a x s b y → Told b y t c z → Told a x (s ++ t) c z
-  pub keeps : (a b : A) (x y : D) (s : List Step) → Told a x s b y → Keeps (d.contents x) (d.contents y)
-  pub fewer : (a b : A) (x y : D) (s : List Step) (i : Image) → Told a x s b y → d.may_leave y i → d.may_leave x i
-  pub faults : (a b : A) (x y : D) (s : List Step) → Told a x s b y → d.faults x ≤ d.faults y
-  pub unwritten : (a b : A) (x y z : D) (s : List Step) → Told a x s b y → Unwritten y z → Unwritten x z
+  pub join : (a b c : A) (x y z : D) (s t : List WalkStep) → Told a x s b y → Told b y t c z → Told a x (s ++ t) c z
+  pub keeps : (a b : A) (x y : D) (s : List WalkStep) → Told a x s b y → Keeps (d.contents x) (d.contents y)
+  pub fewer : (a b : A) (x y : D) (s : List WalkStep) (i : Image) → Told a x s b y → d.may_leave y i → d.may_leave x i
+  pub faults : (a b : A) (x y : D) (s : List WalkStep) → Told a x s b y → d.faults x ≤ d.faults y
+  pub unwritten : (a b : A) (x y z : D) (s : List WalkStep) → Told a x s b y → Unwritten y z → Unwritten x z
 
 -- no place is visited
 pub visits_none : {v : Visited} → Visits v [] v
@@ -82,13 +82,13 @@ once_front earlier places front behind h =
     once_left ((earlier ++ places) ++ front) behind
     (subst ArePlacedOnce (sym (append_assoc (earlier ++ places) front behind ∙ append_assoc earlier places (front ++ behind))) h)
 
-module _ {A D : Type 0} {d : Ghosts D} {Told : A → D → List Step → A → D → Type 0} {Unwritten : D → D → Type 0} (teller : IsTeller d Told Unwritten) where
+module _ {A D : Type 0} {d : Ghosts D} {Told : A → D → List WalkStep → A → D → Type 0} {Unwritten : D → D → Type 0} (teller : IsTeller d Told Unwritten) where
   -- contents that are told later were told before
-  pub told_earlier : {a b : A} {x y : D} {s : List Step} → Told a x s b y → IsSome (d.contents y) → IsSome (d.contents x)
+  pub told_earlier : {a b : A} {x y : D} {s : List WalkStep} → Told a x s b y → IsSome (d.contents y) → IsSome (d.contents x)
   told_earlier {a} {b} {x} {y} {s} goes seen = subst (λ (o : Option Image). IsSome o) (told_same (d.contents x) (d.contents y) (teller.keeps a b x y s goes) seen) seen
 
   -- what records and disk stand for stays
-  pub told_stands : {a b : A} {x y : D} {s : List Step} {r0 r1 : Records} → Told a x s b y → LeavesRecords r0 r1 → IsSome (d.contents y) → (layout : Layout) → HasLayout d r0 x layout → HasLayout d r1 y layout
+  pub told_stands : {a b : A} {x y : D} {s : List WalkStep} {r0 r1 : Records} → Told a x s b y → LeavesRecords r0 r1 → IsSome (d.contents y) → (layout : Layout) → HasLayout d r0 x layout → HasLayout d r1 y layout
   told_stands {a} {b} {x} {y} {s} {r0} {r1} goes same seen =
       layout_goes {r0 = r0} {r1 = r1} same (λ saved now. stands_kept {r = r0} (teller.keeps a b x y s goes) seen (λ i left. teller.fewer a b x y s i goes left))
 
@@ -126,8 +126,8 @@ module _ {A D : Type 0} {d : Ghosts D} {Told : A → D → List Step → A → D
               rest = parts.behind;
               is = parts.next;
               steps_are = here.steps_are
-                  ∙ ap (λ s. way.told ++ s) (parts.steps_are ∙ ap (λ s. s ++ steps parts.behind) (sym all.0))
-                  ∙ sym (append_assoc way.told has.told (steps parts.behind));
+                  ∙ ap (λ s. way.told ++ s) (parts.steps_are ∙ ap (λ s. s ++ walk_steps parts.behind) (sym all.0))
+                  ∙ sym (append_assoc way.told has.told (walk_steps parts.behind));
               places_are = here.places_are
                   ∙ ap (λ ps. way.places ++ ps) (parts.places_are ∙ ap (λ ps. ps ++ places_of parts.behind) (sym visits))
                   ∙ sym (append_assoc way.places has.places (places_of parts.behind));
@@ -147,10 +147,10 @@ module _ {A D : Type 0} {d : Ghosts D} {Told : A → D → List Step → A → D
             let here = way.each (told_earlier has.goes seen) l p in
             let parts = split here.rest here.is in
             let first = has.first seen parts.front parts.first in (
-              first.0 ++ steps parts.behind,
+              first.0 ++ walk_steps parts.behind,
               here.steps_are
-                  ∙ ap (λ s. way.told ++ s) (parts.steps_are ∙ ap (λ s. s ++ steps parts.behind) first.1 ∙ append_assoc has.told first.0 (steps parts.behind))
-                  ∙ sym (append_assoc way.told has.told (first.0 ++ steps parts.behind)),
+                  ∙ ap (λ s. way.told ++ s) (parts.steps_are ∙ ap (λ s. s ++ walk_steps parts.behind) first.1 ∙ append_assoc has.told first.0 (walk_steps parts.behind))
+                  ∙ sym (append_assoc way.told has.told (first.0 ++ walk_steps parts.behind)),
             );
       }
 
@@ -183,7 +183,7 @@ module _ {A D : Type 0} {d : Ghosts D} {Told : A → D → List Step → A → D
           (λ unwritten. teller.unwritten a b x y z way.told way.goes unwritten) (λ none. way_lacks S z deep has none split) e refused
 
     -- all is told
-    pub way_ends : {Q : Layout → Type 0} {b : A} {y : D} {rest : ℕ} {w : Visited} → IsOnWay d Told P Q a x left v b y rest w → ((l : Layout) → Q l → (steps l ≡ []) × (nodes (forest l) ≡ 0) × (places_of l ≡ [])) → HasTold d Told P a x left v b y rest w
+    pub way_ends : {Q : Layout → Type 0} {b : A} {y : D} {rest : ℕ} {w : Visited} → IsOnWay d Told P Q a x left v b y rest w → ((l : Layout) → Q l → (walk_steps l ≡ []) × (nodes (forest l) ≡ 0) × (places_of l ≡ [])) → HasTold d Told P a x left v b y rest w
     way_ends {Q} {b} {y} {rest} way none = record {
       told = way.told;
       goes = way.goes;

@@ -19,7 +19,7 @@ pub record AsksAndGives {D : Type 0} (d : Ghosts D) (old new : D) : Type 0 where
   pub faults_later : d.faults old ≤ d.faults new
 
 -- Of these bytes the first were given, and the others are left.
-pub record GivesBut (bytes left : List ℕ) (old new : Option (List ℕ)) : Type 0 where
+pub record AppendsBut (bytes left : List ℕ) (old new : Option (List ℕ)) : Type 0 where
   pub done : List ℕ
   pub parts : done ++ left ≡ bytes
   pub gave : Appends done old new
@@ -31,5 +31,5 @@ GivesWithin d bytes old new = Elapses d.moment d.stood_since old new (λ s. Appe
 -- From a block and a host to others this text came behind the block, and all that the new block doesn't have was given.
 pub record GivesText {D : Type 0} (d : Ghosts D) (block : List ℕ) (old : D) (text left : List ℕ) (new : D) : Type 0 where
   pub areas : AsksAndGives d old new
-  pub gives : GivesBut (block ++ text) left (d.beside old).output (d.beside new).output
+  pub gives : AppendsBut (block ++ text) left (d.beside old).output (d.beside new).output
   pub time : GivesWithin d (block ++ text) old new

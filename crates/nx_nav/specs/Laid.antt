@@ -5,7 +5,7 @@ use Rattle.std.proofs.Common.{sym, ap, ◌∙◌}
 use Rattle.nx_parts.specs.declared.interval.Interval.{Interval}
 use Rattle.nx_parts.specs.declared.interval.Interval.TheVariants.{Root, Run}
 use Rattle.nx_nav.specs.declared.laid.Laying.{Laying}
-use Rattle.nx_nav.specs.Steps.{Step, Begin, Open, Close}
+use Rattle.nx_nav.specs.Steps.{WalkStep, Begin, Open, Close}
 
 -- Where a walk is: the positions of the open nodes from the root's own on, and that of the next node; with the intervals so far and what their parts weigh.
 pub record Course : Type 0 where
@@ -31,7 +31,7 @@ abbrev pub position_after : Option ℕ → ℕ → ℕ
 position_after None position = position
 position_after (Some last) position = position_behind last 1
 
-abbrev pub course_after : Course → Step → Course
+abbrev pub course_after : Course → WalkStep → Course
 course_after at (Begin roots weight) = record { path = at.path; position = at.position; parts = at.parts ++ interval_at at.path at.position roots ∷ []; weights = at.weights ++ weight ∷ [] }
 course_after at (Open node) = record { path = at.path ++ at.position ∷ []; position = 0; parts = at.parts; weights = at.weights }
 course_after at (Close node) = record {
@@ -42,13 +42,13 @@ course_after at (Close node) = record {
 }
 
 -- where a walk is after these steps
-abbrev pub course_behind : Course → List Step → Course
+abbrev pub course_behind : Course → List WalkStep → Course
 course_behind at [] = at
 course_behind at (step ∷ told) = course_behind (course_after at step) told
 
-course-append : (at : Course) (told more : List Step) → course_behind at (told ++ more) ≡ course_behind (course_behind at told) more
+course-append : (at : Course) (told more : List WalkStep) → course_behind at (told ++ more) ≡ course_behind (course_behind at told) more
 course-append at [] more = refl
 course-append at (step ∷ told) more = course-append (course_after at step) told more
 
-pub courses_join : (was mid now : Course) (told more : List Step) → mid ≡ course_behind was told → now ≡ course_behind mid more → now ≡ course_behind was (told ++ more)
+pub courses_join : (was mid now : Course) (told more : List WalkStep) → mid ≡ course_behind was told → now ≡ course_behind mid more → now ≡ course_behind was (told ++ more)
 courses_join was mid now told more first second = second ∙ ap (λ (at : Course). course_behind at more) first ∙ sym (course-append was told more)

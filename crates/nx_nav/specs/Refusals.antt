@@ -27,8 +27,8 @@ abbrev pub OfEachWith : {D : Type 0} → Ghosts D → Records → D → RecordPl
 OfEachWith d records disk root count P = OfEach d records disk root (λ document. node_count document ≡ count → P document)
 
 -- there is none
-abbrev pub HoldsNone : {D : Type 0} → Ghosts D → Records → D → RecordPlace → Type 0
-HoldsNone d records disk root = OfEach d records disk root (λ document. ⊥)
+abbrev pub HoldsNoDocument : {D : Type 0} → Ghosts D → Records → D → RecordPlace → Type 0
+HoldsNoDocument d records disk root = OfEach d records disk root (λ document. ⊥)
 
 -- there is none with so many nodes
 abbrev pub HoldsNoneWith : {D : Type 0} → Ghosts D → Records → D → RecordPlace → ℕ → Type 0

@@ -19,6 +19,6 @@ pub record HasVisited (visited : Visited) (places : List RecordPlace) : Type 0 w
   pub same : (place : RecordPlace) → (is_set (flags_of visited place.page) place.slot ≡ true) ↔ Contains places place
 
 -- This slot's flag is set beside those that were, and is new where it wasn't among them.
-pub record Sets (slot : ℕ) (new : Bool) (old now : List Bool) : Type 0 where
+pub record SetsFlag (slot : ℕ) (new : Bool) (old now : List Bool) : Type 0 where
   pub told : new ≡ not (is_set old slot)
   pub flags : (other : ℕ) → is_set now other ≡ cond (slot == other) true (is_set old other)

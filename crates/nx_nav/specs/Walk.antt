@@ -13,7 +13,7 @@ use Rattle.nx_nav.specs.Refusals.{OfEach, node_count}
 use Rattle.nx_nav.specs.Nodes.{CanStand}
 use Rattle.nx_nav.specs.declared.visited.Visited.{Visited}
 use Rattle.nx_nav.specs.Visited.{HasVisited}
-use Rattle.nx_nav.specs.Steps.{Step, steps, steps_of}
+use Rattle.nx_nav.specs.Steps.{WalkStep, walk_steps, steps_of}
 
 -- these places come behind all those that were visited before
 abbrev pub Visits : Visited → List RecordPlace → Visited → Type 0
@@ -21,19 +21,19 @@ Visits old places new = (earlier : List RecordPlace) → HasVisited old earlier 
 
 -- From a teller and a disk to others, where the disk's contents are told at the end: what is told of each layout that P speaks of. Its nodes are taken off those that are left,
 -- and the places of its records are visited.
-pub record HasTold {A D : Type 0} (d : Ghosts D) (Told : A → D → List Step → A → D → Type 0) (P : Layout → Type 0) (old : A) (before : D) (left : ℕ) (visited : Visited) (new : A) (after : D) (rest : ℕ) (now : Visited) : Type 0 where
-  pub told : List Step
+pub record HasTold {A D : Type 0} (d : Ghosts D) (Told : A → D → List WalkStep → A → D → Type 0) (P : Layout → Type 0) (old : A) (before : D) (left : ℕ) (visited : Visited) (new : A) (after : D) (rest : ℕ) (now : Visited) : Type 0 where
+  pub told : List WalkStep
   pub goes : Told old before told new after
   pub places : List RecordPlace
   pub visits : Visits visited places now
-  pub all : IsSome (d.contents after) → (layout : Layout) → P layout → (told ≡ steps layout) × (left ≡ rest + nodes (forest layout)) × (places ≡ places_of layout)
+  pub all : IsSome (d.contents after) → (layout : Layout) → P layout → (told ≡ walk_steps layout) × (left ≡ rest + nodes (forest layout)) × (places ≡ places_of layout)
 
 -- ... or of the first part of each, and what came then.
-pub record HasStopped {A D : Type 0} (d : Ghosts D) (Told : A → D → List Step → A → D → Type 0) (P : Layout → Type 0) (old : A) (before after : D) : Type 0 where
-  pub told : List Step
+pub record HasStopped {A D : Type 0} (d : Ghosts D) (Told : A → D → List WalkStep → A → D → Type 0) (P : Layout → Type 0) (old : A) (before after : D) : Type 0 where
+  pub told : List WalkStep
   pub last : A
   pub goes : Told old before told last after
-  pub first : IsSome (d.contents after) → (layout : Layout) → P layout → (more : List Step) × (steps layout ≡ told ++ more)
+  pub first : IsSome (d.contents after) → (layout : Layout) → P layout → (more : List WalkStep) × (walk_steps layout ≡ told ++ more)
 
 -- A document may have these trees where so many levels are left, of those that it has at most. They are so deep and so large at most, and no record of them was visited or comes twice.
 pub record IsWalkable (deep left : ℕ) (visited : Visited) (layout : Layout) : Type 0 where
@@ -73,14 +73,14 @@ module _ {D : Type 0} (d : Ghosts D) (records : Records) (disk : D) where
   AreIntervalsOf proxies layout = AreIntervals layout × (proxies ≡ proxies_of layout) × HasLayout d records disk layout
 
 -- From a teller and a disk to others, where the disk's contents are told at the end: all is told of each document that the records hold from this place on, and it has so many nodes.
-pub record TellsDocument {A D : Type 0} (d : Ghosts D) (Told : A → D → List Step → A → D → Type 0) (records : Records) (before : D) (root : RecordPlace) (count : ℕ) (old new : A) (after : D) : Type 0 where
-  pub told : List Step
+pub record TellsDocument {A D : Type 0} (d : Ghosts D) (Told : A → D → List WalkStep → A → D → Type 0) (records : Records) (before : D) (root : RecordPlace) (count : ℕ) (old new : A) (after : D) : Type 0 where
+  pub told : List WalkStep
   pub goes : Told old before told new after
   pub all : IsSome (d.contents after) → OfEach d records before root (λ document. (node_count document ≡ count) × (told ≡ steps_of document))
 
 -- ... or the first part of each, and what came then.
-pub record StopsWithin {A D : Type 0} (d : Ghosts D) (Told : A → D → List Step → A → D → Type 0) (records : Records) (before : D) (root : RecordPlace) (old : A) (after : D) : Type 0 where
-  pub told : List Step
+pub record StopsWithin {A D : Type 0} (d : Ghosts D) (Told : A → D → List WalkStep → A → D → Type 0) (records : Records) (before : D) (root : RecordPlace) (old : A) (after : D) : Type 0 where
+  pub told : List WalkStep
   pub last : A
   pub goes : Told old before told last after
-  pub first : IsSome (d.contents after) → OfEach d records before root (λ document. (more : List Step) × (steps_of document ≡ told ++ more))
+  pub first : IsSome (d.contents after) → OfEach d records before root (λ document. (more : List WalkStep) × (steps_of document ≡ told ++ more))

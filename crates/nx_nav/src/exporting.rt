@@ -5,7 +5,7 @@ ghost use Rattle.nx_records.specs.Records.{has_ended, LeavesRecords};
 ghost use Rattle.nx_pyx.specs.Text.{text};
 ghost use Rattle.nx_cuts.specs.Cut.{tree_of};
 ghost use Rattle.nx_hold.specs.Changes.{place_of};
-ghost use Rattle.nx_nav.specs.Given.{AsksAndGives, GivesBut, GivesWithin, block_size};
+ghost use Rattle.nx_nav.specs.Given.{AsksAndGives, AppendsBut, GivesWithin, block_size};
 ghost use Rattle.nx_nav.specs.Refusals.{OfEach, HoldsNoneWith, IsRefused, node_count};
 
 use crate::NavError;
@@ -39,7 +39,7 @@ pub fn export<H: Host>(
     ensures areas { AsksAndGives ⟦<H as Disk>⟧ host.old host.new }
     ensures stays { OnOk result ((has_ended records.old ≡ false) × LeavesRecords records.old records.new) }
     ensures ok { OnOk result (IsSome (H.contents host.new) → OfEach ⟦<H as Disk>⟧ records.old host.old (place_of root) (λ document. (node_count document ≡ nodes)
-        × GivesBut (block.old ++ text (tree_of document)) block.new (H.beside host.old).output (H.beside host.new).output)) }
+        × AppendsBut (block.old ++ text (tree_of document)) block.new (H.beside host.old).output (H.beside host.new).output)) }
     ensures little { OnOk result (length block.new < block_size) }
     ensures time { IsSome (H.contents host.new) → OfEach ⟦<H as Disk>⟧ records.old host.old (place_of root) (λ document.
         GivesWithin ⟦<H as Disk>⟧ (block.old ++ text (tree_of document)) host.old host.new) }
@@ -103,12 +103,12 @@ impl<H: Host> Tells<H> for Exporting {
     }
 
     ghost use Rattle.std.proofs.lemmas.List.Concat.{flat_map-append};
-    ghost use Rattle.nx_nav.specs.Told.{step_text};
+    ghost use Rattle.nx_nav.specs.Told.{walk_step_text};
     ghost use Rattle.nx_nav.specs.GivenLaws.{gives_nothing, gives_then, unwritten_before};
 
     ghost asked = { λ a x y still. gives_nothing a.block still };
 
-    ghost then = { λ a b c x y z s t first second. gives_then a.block b.block c.block (told_text s) (told_text t) (told_text (s ++ t)) (flat_map-append step_text s t) first second };
+    ghost then = { λ a b c x y z s t first second. gives_then a.block b.block c.block (told_text s) (told_text t) (told_text (s ++ t)) (flat_map-append walk_step_text s t) first second };
 
     ghost keeps = { λ a b x y s told. (told.areas).contents_stay };
 

@@ -11,7 +11,7 @@ ghost use Rattle.nx_cuts.specs.Cut.{CutTree, tree_of};
 ghost use Rattle.nx_hold.specs.Changes.{place_of};
 ghost use Rattle.nx_hold.specs.Documents.{HasDocument};
 ghost use Rattle.nx_nav.specs.Along.{ReadsAlong};
-ghost use Rattle.nx_nav.specs.Refusals.{OfEach, HoldsNone, IsRefused};
+ghost use Rattle.nx_nav.specs.Refusals.{OfEach, HoldsNoDocument, IsRefused};
 ghost use Rattle.nx_nav.specs.Shows.{ShowsNode, CanBeShown};
 
 use crate::NavError;
@@ -52,7 +52,7 @@ pub fn get<D: Disk>(
     ensures reads { (document : CutTree) (held : HasDocument D.Disk records.old disk.old (place_of root) document) → ReadsAlong held.now (place_of root) path.now (D.reads disk.old) (D.reads disk.new) }
     ensures possible { IfOk result (λ shown. CanBeShown (length path.now) shown) }
     ensures refused { IfErr result (λ e. IsRefused D.Disk (OfEach D.Disk records.old disk.old (place_of root) (λ document. at (tree_of document) path.now ≡ None)) ⊥
-        (HoldsNone D.Disk records.old disk.old (place_of root)) e records.old records.new disk.old disk.new) }
+        (HoldsNoDocument D.Disk records.old disk.old (place_of root)) e records.old records.new disk.old disk.new) }
 {
     if records.is_ended() {
         return Err(NavError::Ended);

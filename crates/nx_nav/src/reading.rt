@@ -4,7 +4,7 @@ ghost use Rattle.std.specs.Prelude.{◌≡◌, ◌≤◌, false, IfOk, IfErr};
 ghost use Rattle.nx_host.specs.Still.{IsStill};
 ghost use Rattle.nx_records.specs.Records.{has_ended, settings_of, LeavesRecords};
 ghost use Rattle.nx_records.specs.Refusals.{EndNow};
-ghost use Rattle.nx_piece.specs.Gapped.{width, gapped_weight};
+ghost use Rattle.nx_piece.specs.Gapped.{gapped_width, gapped_weight};
 ghost use Rattle.nx_piece.specs.Valid.{IsValidPiece};
 ghost use Rattle.nx_hold.specs.Changes.{place_of};
 ghost use Rattle.nx_nav.specs.Along.{ReadsPiece};
@@ -32,7 +32,7 @@ pub fn piece_at<'a, D: Disk>(
     ensures still { IsStill D.Disk disk.old disk.new }
     ensures stays { IfOk result (λ piece. (has_ended records.old ≡ false) × LeavesRecords records.old records.new) }
     ensures valid { IfOk result (λ piece. IsValidPiece piece) }
-    ensures roots { IfOk result (λ piece. width piece.body.roots ≡ roots) }
+    ensures roots { IfOk result (λ piece. gapped_width piece.body.roots ≡ roots) }
     ensures light { IfOk result (λ piece. gapped_weight piece.body.roots ≤ (settings_of records.old).k) }
     ensures ok { IfOk result (λ piece. IsPieceAt D.Disk records.old disk.old (place_of rid) roots piece) }
     ensures reads { ReadsPiece D.Disk records.old disk.old disk.new (place_of rid) }

@@ -7,7 +7,7 @@ ghost use Rattle.nx_piece.specs.Flat.{seen_node};
 ghost use Rattle.nx_cuts.specs.Cut.{tree_of};
 ghost use Rattle.nx_hold.specs.Changes.{place_of};
 ghost use Rattle.nx_nav.specs.Steps.{Open, Close};
-ghost use Rattle.nx_nav.specs.Told.{step_text};
+ghost use Rattle.nx_nav.specs.Told.{walk_step_text};
 ghost use Rattle.nx_nav.specs.Refusals.{OfEach, HoldsNoneWith, IsRefused, node_count};
 
 use crate::NavError;
@@ -103,7 +103,7 @@ impl<D: Disk> Tells<D> for Text {
 
 // Adds the line with which a node begins, but for the root of a document.
 pub(crate) fn push_start(text: &mut Bytes, node: NodeView<'_>) -> Result<(), NoMemory>
-    ensures { OnOk result (text.new ≡ text.old ++ step_text (Open (seen_node node.entry))) }
+    ensures { OnOk result (text.new ≡ text.old ++ walk_step_text (Open (seen_node node.entry))) }
 {
     match node.kind {
         Kind::Doc => Ok(()),
@@ -116,7 +116,7 @@ pub(crate) fn push_start(text: &mut Bytes, node: NodeView<'_>) -> Result<(), NoM
 
 // Adds the line with which an element ends.
 pub(crate) fn push_end(text: &mut Bytes, node: NodeView<'_>) -> Result<(), NoMemory>
-    ensures { OnOk result (text.new ≡ text.old ++ step_text (Close (seen_node node.entry))) }
+    ensures { OnOk result (text.new ≡ text.old ++ walk_step_text (Close (seen_node node.entry))) }
 {
     match node.kind {
         Kind::Element => {

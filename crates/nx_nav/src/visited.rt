@@ -3,7 +3,7 @@ ghost use Rattle.std.specs.Prelude.{◌≡◌, ◌<◌, ◌++◌, ◌∷◌, [],
 ghost use Rattle.std.specs.Bool.{MatchBool};
 ghost use Rattle.nx_layouts.specs.Layout.{RecordPlace};
 ghost use Rattle.nx_hold.specs.Changes.{place_of};
-ghost use Rattle.nx_nav.specs.Visited.{HasVisited, is_set, Sets};
+ghost use Rattle.nx_nav.specs.Visited.{HasVisited, is_set, SetsFlag};
 
 use nx_records::Rid;
 use nx_tree::NoMemory;
@@ -46,7 +46,7 @@ impl Visited {
 
 // Sets a slot's flag, and says whether it wasn't set.
 fn set(flags: &mut Vec<bool>, slot: u16) -> Result<bool, NoMemory>
-    ensures { IfOk result (λ new. Sets slot new flags.old.items flags.new.items) }
+    ensures { IfOk result (λ new. SetsFlag slot new flags.old.items flags.new.items) }
 {
     let slot = usize::from(slot);
     if flags.len() <= slot {

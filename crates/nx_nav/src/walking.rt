@@ -13,7 +13,7 @@ ghost use Rattle.nx_nav.specs.Refusals.{IsRefused, HoldsNoneWith};
 ghost use Rattle.nx_nav.specs.Nodes.{IsRoot};
 ghost use Rattle.nx_nav.specs.Visited.{HasVisited};
 ghost use Rattle.nx_nav.specs.Walk.{HasTold, HasStopped, IsNone, IsIntervalAt, IsTreeOf, AreOf, AreIntervalsOf, TellsDocument, StopsWithin};
-ghost use Rattle.nx_nav.specs.Steps.{Step, Begin, Open, Close};
+ghost use Rattle.nx_nav.specs.Steps.{WalkStep, Begin, Open, Close};
 
 use crate::NavError;
 use crate::judging::is_possible;
@@ -29,7 +29,7 @@ use std::alloc::Global;
 // What a walk tells a document to.
 pub trait Tells<D: Disk> {
     // From one teller and disk so many steps led to others.
-    ghost Told: { Self → D → List Step → Self → D → Type 0 };
+    ghost Told: { Self → D → List WalkStep → Self → D → Type 0 };
 
     // The disk shows that nothing more could be told.
     ghost Unwritten: { D → D → Type 0 };
@@ -61,17 +61,17 @@ pub trait Tells<D: Disk> {
     ghost asked: { (a : Self) (x y : D) → IsStill D.Disk x y → Told a x [] a y };
 
     // Steps behind steps.
-    ghost then: { (a b c : Self) (x y z : D) (s t : List Step) → Told a x s b y → Told b y t c z → Told a x (s ++ t) c z };
+    ghost then: { (a b c : Self) (x y z : D) (s t : List WalkStep) → Told a x s b y → Told b y t c z → Told a x (s ++ t) c z };
 
     // The areas stay as they were.
-    ghost keeps: { (a b : Self) (x y : D) (s : List Step) → Told a x s b y → Keeps (D.contents x) (D.contents y) };
+    ghost keeps: { (a b : Self) (x y : D) (s : List WalkStep) → Told a x s b y → Keeps (D.contents x) (D.contents y) };
 
-    ghost fewer_images: { (a b : Self) (x y : D) (s : List Step) (i : Image) → Told a x s b y → D.may_leave y i → D.may_leave x i };
+    ghost fewer_images: { (a b : Self) (x y : D) (s : List WalkStep) (i : Image) → Told a x s b y → D.may_leave y i → D.may_leave x i };
 
     // The count of faults doesn't fall.
-    ghost faults_later: { (a b : Self) (x y : D) (s : List Step) → Told a x s b y → D.faults x ≤ D.faults y };
+    ghost faults_later: { (a b : Self) (x y : D) (s : List WalkStep) → Told a x s b y → D.faults x ≤ D.faults y };
 
-    ghost unwritten_later: { (a b : Self) (x y z : D) (s : List Step) → Told a x s b y → Unwritten y z → Unwritten x z };
+    ghost unwritten_later: { (a b : Self) (x y z : D) (s : List WalkStep) → Told a x s b y → Unwritten y z → Unwritten x z };
 }
 
 // Tells of the document whose root's record stands at a place, and that has as many nodes as the walk

@@ -6,7 +6,7 @@ use Rattle.nx_choices.specs.declared.child.Stand.{Stand}
 use Rattle.nx_choices.specs.Stand.{takes_second}
 use Rattle.nx_cuts.specs.Cut.{CutTree, intervals}
 use Rattle.nx_minima.specs.Drawing.{Reaches}
-use Rattle.nx_partition.specs.Planning.{number_in, weight_in, opened}
+use Rattle.nx_partition.specs.Planning.{number_in, weight_in, interval_begun}
 
 -- each of these trees reaches the form of its minima in which it stands
 abbrev pub AreFormed : ℕ → List Stand → List Bound → List CutTree → Type 0
@@ -20,4 +20,4 @@ abbrev pub listed : List ℕ → ℕ → List Stand → List CutTree → List In
 listed path position [] trees = []
 listed path position (stand ∷ list) [] = []
 listed path position (stand ∷ list) (tree ∷ trees) =
-    opened path position stand ++ intervals (path ++ position ∷ []) 0 tree.below ++ listed path (position + 1) list trees
+    interval_begun path position stand ++ intervals (path ++ position ∷ []) 0 tree.below ++ listed path (position + 1) list trees

@@ -13,7 +13,7 @@ use Rattle.nx_choices.specs.Stand.{is_second, joins, stands, takes_second, IsCho
 use Rattle.nx_cuts.specs.Cut.{CutTree, width, intervals}
 use Rattle.nx_minima.specs.Drawing.{Reaches, AreReached, forms, row, past, drawing, forest_under}
 use Rattle.nx_minima.specs.Seen.{as_child, seen}
-use Rattle.nx_partition.specs.Planning.{number_in, weight_in, IsPlanned}
+use Rattle.nx_partition.specs.Planning.{number_in, weight_in, AddsDrawing}
 use Rattle.nx_partition.proofs.Formed.{AreFormed, listed}
 use Rattle.nx_minima.proofs.DrawingLemmas.{choice_drawn}
 use Rattle.nx_minima.proofs.MinimaLemmas.{forms-covered}
@@ -106,7 +106,7 @@ all_reached k (stand ∷ list) (bound ∷ bounds) (member ∷ members) (tree ∷
 -- a walk that has followed a choice has drawn the tree
 pub planned : {k : ℕ} {tree : OrderedTree} {second : Bool} {bound : Bound} {path : List ℕ} {list : List Stand} {old new : List Siblings} (own : List Bound) (trees : List CutTree)
     → IsChoice k (weight tree.node) (number_in second bound) (weight_in second bound) (seen own) list → AreFormed k list own trees → forest_under trees ≡ tree.below → new ≡ old ++ listed path 0 list trees
-    → IsPlanned k tree second bound path old new
+    → AddsDrawing k tree second bound path old new
 planned {k} {tree} {second} {bound} {path} {list} {old} own trees c formed same added =
     let r = all_reached k list own (forms c.cells) trees (forms-covered c.cells ∙ c.admitted.covers) (ap (map takes_second) c.are ∙ seconds c.cells) formed in
     let d = choice_drawn k tree.node (seen own) c.cells trees c.admitted r in

@@ -12,14 +12,14 @@ use Rattle.nx_choices.specs.Stand.{is_second, joins, stands, takes_second, IsCho
 use Rattle.nx_minima.specs.Drawing.{forms}
 use Rattle.nx_minima.specs.Seen.{as_child, seen, tops}
 use Rattle.nx_minima.proofs.MinimaLemmas.{forms-covered}
-use Rattle.nx_partition.specs.Planning.{IsInside}
+use Rattle.nx_partition.specs.Planning.{IsWithinChildren}
 use Rattle.nx_partition.proofs.BoundsLemmas.{next_at}
 use Rattle.nx_partition.proofs.PlanLemmas.{seconds}
 
 -- each interval of a choice lies within the children
 abbrev AreInside : List Stand → Type 0
 AreInside [] = Unit {0}
-AreInside (stand ∷ list) = IsInside (length list) stand × AreInside list
+AreInside (stand ∷ list) = IsWithinChildren (length list) stand × AreInside list
 
 length-joins : (members : List Member) → length (joins members) ≡ length members
 length-joins [] = refl
@@ -35,12 +35,12 @@ inside_stands (Uncut child ∷ cells) = (tt, inside_stands cells)
 inside_stands (Interval member members ∷ cells) =
     ((omega arith, omega (arith, length-append (joins members) (stands cells), length-joins members)), inside_joins members (stands cells) (inside_stands cells))
 
-more_inside : (a b : ℕ) (stand : Stand) → a ≤ b → IsInside a stand → IsInside b stand
+more_inside : (a b : ℕ) (stand : Stand) → a ≤ b → IsWithinChildren a stand → IsWithinChildren b stand
 more_inside a b Alone le h = tt
 more_inside a b (Opens number second) le h = (h.0, omega (arith, h.1))
 more_inside a b (Joins second) le h = tt
 
-inside_at : (list : List Stand) (i : ℕ) (stand : Stand) → AreInside list → drop i list ≡ stand ∷ drop (i + 1) list → IsInside (length list) stand
+inside_at : (list : List Stand) (i : ℕ) (stand : Stand) → AreInside list → drop i list ≡ stand ∷ drop (i + 1) list → IsWithinChildren (length list) stand
 inside_at [] i stand h e = absurd (none_left i e)
   where
     none_left : (i : ℕ) → drop i [] ≡ stand ∷ drop (i + 1) [] → ⊥
@@ -48,7 +48,7 @@ inside_at [] i stand h e = absurd (none_left i e)
     none_left (suc i) e = cc
 inside_at (first ∷ list) zero stand h e =
     let same : first ≡ stand = cc in
-    more_inside (length list) (length (first ∷ list)) stand (omega arith) (subst (IsInside (length list)) same h.0)
+    more_inside (length list) (length (first ∷ list)) stand (omega arith) (subst (IsWithinChildren (length list)) same h.0)
 inside_at (first ∷ list) (suc i) stand h e =
     let n : suc (i + 1) ≡ suc i + 1 = omega arith in
     more_inside (length list) (length (first ∷ list)) stand (omega arith) (inside_at list i stand h.1 (e ∙ ap (λ j. stand ∷ drop j (first ∷ list)) (sym n)))
@@ -73,7 +73,7 @@ stands_many {k} {forest = forest} below ts c m f =
 
 -- a stand of a choice over few children
 pub choice_inside : {k own most most_weight : ℕ} {children : List Child} (list : List Stand) (i : ℕ) (stand : Stand) → IsChoice k own most most_weight children list → length list ≤ 524288
-    → drop i list ≡ stand ∷ drop (i + 1) list → IsInside 524288 stand
+    → drop i list ≡ stand ∷ drop (i + 1) list → IsWithinChildren 524288 stand
 choice_inside list i stand c few e = more_inside (length list) 524288 stand few (inside_at list i stand (subst AreInside (sym c.are) (inside_stands c.cells)) e)
 
 -- the next of a list

@@ -14,7 +14,7 @@ use Rattle.nx_cuts.proofs.FeasibleLemmas.{length-intervals}
 use Rattle.nx_minima.specs.Drawing.{forest_under}
 use Rattle.nx_minima.specs.Seen.{seen, tops}
 use Rattle.nx_minima.proofs.ReachLemmas.{same_reaches}
-use Rattle.nx_partition.specs.Planning.{first_bound, number_in, weight_in, opened, IsPlanned}
+use Rattle.nx_partition.specs.Planning.{first_bound, number_in, weight_in, interval_begun, AddsDrawing}
 use Rattle.nx_partition.proofs.Formed.{AreFormed, listed}
 use Rattle.nx_partition.proofs.PlanLemmas.{planned}
 
@@ -23,7 +23,7 @@ nothing_cut [] e = refl
 nothing_cut (x ∷ l) e = absurd (omega arith)
 
 -- where one interval is enough, none stands below the root
-pub uncut : (k : ℕ) (tree : OrderedTree) (bound : Bound) (path : List ℕ) (old : List Interval) → IsMinima k tree bound → bound.least ≡ 1 → IsPlanned k tree false bound path old old
+pub uncut : (k : ℕ) (tree : OrderedTree) (bound : Bound) (path : List ℕ) (old : List Interval) → IsMinima k tree bound → bound.least ≡ 1 → AddsDrawing k tree false bound path old old
 uncut k tree bound path old m one =
     let l = m.lean in
     let s = same_drawn k tree l.one l.holds.0 in
@@ -71,13 +71,13 @@ walked_start c bounds m e =
     record { trees = []; formed = λ others h. subst (λ l. AreFormed c.k c.stands l others) e h; same = λ others f. f; added = λ others. refl; minima = m }
 
 pub walked_more : {c : Course} {rest : Forest} {left : List Stand} {bounds next : List Bound} {position : ℕ} {now mid new : List Interval} (t : OrderedTree) (stand : Stand)
-    → IsWalked c (Plant t.node t.below rest) (stand ∷ left) bounds position now → mid ≡ now ++ opened c.path position stand
-    → IsPlanned c.k t (takes_second stand) (first_bound bounds) (c.path ++ position ∷ []) mid new → drop (1 + nodes t.below) bounds ≡ next → IsWalked c rest left next (position + 1) new
+    → IsWalked c (Plant t.node t.below rest) (stand ∷ left) bounds position now → mid ≡ now ++ interval_begun c.path position stand
+    → AddsDrawing c.k t (takes_second stand) (first_bound bounds) (c.path ++ position ∷ []) mid new → drop (1 + nodes t.below) bounds ≡ next → IsWalked c rest left next (position + 1) new
 walked_more {c} {rest} {left} {bounds} {next} {position} {now} {mid} {new} t stand w opens p jump =
     let q = parted c.k t rest bounds w.minima in
     let own : tops (Plant t.node t.below rest) bounds ≡ first_bound bounds ∷ tops rest next = q.own ∙ ap (λ bs. first_bound bounds ∷ tops rest bs) jump in
     let inner = intervals (c.path ++ position ∷ []) 0 p.drawn.below in
-    let wrote : new ≡ now ++ (opened c.path position stand ++ inner) = p.added ∙ ap (λ l. l ++ inner) opens ∙ append_assoc now (opened c.path position stand) inner in
+    let wrote : new ≡ now ++ (interval_begun c.path position stand ++ inner) = p.added ∙ ap (λ l. l ++ inner) opens ∙ append_assoc now (interval_begun c.path position stand) inner in
     record {
       trees = w.trees ++ p.drawn ∷ [];
       formed = λ others h.
@@ -89,7 +89,7 @@ walked_more {c} {rest} {left} {bounds} {next} {position} {now} {mid} {new} t sta
       added = λ others.
           let tail = listed c.path (position + 1) left others in
           ap (λ l. l ++ tail) wrote
-          ∙ append_assoc now (opened c.path position stand ++ inner) tail
+          ∙ append_assoc now (interval_begun c.path position stand ++ inner) tail
           ∙ w.added (p.drawn ∷ others)
           ∙ ap (λ l. c.old ++ listed c.path 0 c.stands l) (sym (append_assoc w.trees (p.drawn ∷ []) others));
       minima = subst (AreMinimaIn c.k rest) jump q.rest;
@@ -120,7 +120,7 @@ walked_to_next {c} {ts} {bounds} {i} {next} t w e =
 
 pub walked_to_more : {c : Course} {ts : List OrderedTree} {bounds : List Bound} {i next n : ℕ} {path longer shorter : List ℕ} {now mid new : List Interval} (t : OrderedTree) (stand : Stand)
     → IsWalkedTo c ts bounds i next path now → (drop i ts ≡ t ∷ drop (i + 1) ts) × (drop i c.stands ≡ stand ∷ drop (i + 1) c.stands) × (n ≡ 1 + nodes t.below)
-    → mid ≡ now ++ opened path i stand → longer ≡ path ++ i ∷ [] → IsPlanned c.k t (takes_second stand) (first_bound (drop next bounds)) longer mid new → shorter ≡ path
+    → mid ≡ now ++ interval_begun path i stand → longer ≡ path ++ i ∷ [] → AddsDrawing c.k t (takes_second stand) (first_bound (drop next bounds)) longer mid new → shorter ≡ path
     → IsWalkedTo c ts bounds (i + 1) (next + n) shorter new
 walked_to_more {c} {ts} {bounds} {i} {next} {n} {path} {longer} {shorter} {now} {mid} {new} t stand w e opens push p pop =
     let d = ap (λ (xs : List OrderedTree). nodes (forest_of xs)) e.0 in
@@ -128,8 +128,8 @@ walked_to_more {c} {ts} {bounds} {i} {next} {n} {path} {longer} {shorter} {now} 
     let here = subst (λ (xs : List OrderedTree). IsWalked c (forest_of xs) (drop i c.stands) (drop next bounds) i now) e.0 w.walked in
     let there = subst (λ l. IsWalked c (Plant t.node t.below (forest_of (drop (i + 1) ts))) l (drop next bounds) i now) e.1 here in
     record {
-      walked = walked_more t stand there (opens ∙ ap (λ l. now ++ opened l i stand) w.same_path)
-          (subst (λ l. IsPlanned c.k t (takes_second stand) (first_bound (drop next bounds)) l mid new) (push ∙ ap (λ l. l ++ i ∷ []) w.same_path) p)
+      walked = walked_more t stand there (opens ∙ ap (λ l. now ++ interval_begun l i stand) w.same_path)
+          (subst (λ l. AddsDrawing c.k t (takes_second stand) (first_bound (drop next bounds)) l mid new) (push ∙ ap (λ l. l ++ i ∷ []) w.same_path) p)
           (drop-drop (1 + nodes t.below) next bounds ∙ ap (λ m. drop (next + m) bounds) (sym size));
       same_path = pop ∙ w.same_path;
       left = omega (arith, w.left, d, size);
@@ -138,7 +138,7 @@ walked_to_more {c} {ts} {bounds} {i} {next} {n} {path} {longer} {shorter} {now} 
 -- at the end the whole tree is drawn
 pub walked_end : {k : ℕ} {tree : OrderedTree} {second : Bool} {bound : Bound} {path now_path : List ℕ} {bounds : List Bound} {stands : List Stand} {old now : List Interval} {next : ℕ} (own : List Bound) (ts : List OrderedTree) (i : ℕ)
     → IsChoice k (weight tree.node) (number_in second bound) (weight_in second bound) (seen own) stands
-    → IsWalkedTo (record { k = k; forest = tree.below; path = path; stands = stands; own = own; old = old }) ts bounds i next now_path now → drop i ts ≡ [] → drop i stands ≡ [] → IsPlanned k tree second bound path old now
+    → IsWalkedTo (record { k = k; forest = tree.below; path = path; stands = stands; own = own; old = old }) ts bounds i next now_path now → drop i ts ≡ [] → drop i stands ≡ [] → AddsDrawing k tree second bound path old now
 walked_end {k} {tree} {path = path} {bounds = bounds} {stands = stands} {old = old} {now = now} {next = next} own ts i c w none no_stand =
     let course : Course = record { k = k; forest = tree.below; path = path; stands = stands; own = own; old = old } in
     let here = subst (λ (xs : List OrderedTree). IsWalked course (forest_of xs) (drop i stands) (drop next bounds) i now) none w.walked in

@@ -11,14 +11,14 @@ use Rattle.nx_cuts.proofs.NumberLemmas.{length-parts}
 use Rattle.nx_cuts.proofs.OrderLemmas.{drawn_in_order}
 use Rattle.nx_minima.proofs.BoundLemmas.{cuts-nodes}
 use Rattle.nx_minima.proofs.MinimaLemmas.{drawn_lean}
-use Rattle.nx_partition.specs.Planning.{first_bound, IsLeanInOrder, IsPlanned}
+use Rattle.nx_partition.specs.Planning.{first_bound, IsLeanInOrder, AddsDrawing}
 
 -- The intervals are a lean optimal partitioning in document order, and no more than there are nodes.
 pub record IsWhole (k : ℕ) (tree : OrderedTree) (parts : List Interval) : Type 0 where
   pub partitioning : IsLeanInOrder k tree parts
   pub few : length parts ≤ 1 + nodes tree.below
 
-pub whole_plan : (k : ℕ) (tree : OrderedTree) (bounds : List Bound) {path : List ℕ} {old parts : List Interval} → AreMinima k tree bounds → path ≡ [] → old ≡ Root ∷ [] → IsPlanned k tree false (first_bound bounds) path old parts
+pub whole_plan : (k : ℕ) (tree : OrderedTree) (bounds : List Bound) {path : List ℕ} {old parts : List Interval} → AreMinima k tree bounds → path ≡ [] → old ≡ Root ∷ [] → AddsDrawing k tree false (first_bound bounds) path old parts
     → IsWhole k tree parts
 whole_plan k tree [] m top first p = let n = m.one_each in absurd (omega arith)
 whole_plan k tree (bound ∷ bounds) {path} {old} {parts} m top first p =

@@ -15,6 +15,6 @@ pub record Extends (k : ℕ) (tree : OrderedTree) (old new : List Bound) : Type 
   pub minima : AreMinima k tree bounds
 
 -- the first node in document order that weighs more than k stands at the path and weighs so much
-abbrev pub IsRefused : ℕ → OrderedTree → PlanError → Type 0
-IsRefused k tree (TooHeavy path slots) = option_map weighed (first_heavy k tree) ≡ Some (path, slots)
-IsRefused k tree Memory = Unit {0}
+abbrev pub IsPlanRefused : ℕ → OrderedTree → PlanError → Type 0
+IsPlanRefused k tree (TooHeavy path slots) = option_map weighed (first_heavy k tree) ≡ Some (path, slots)
+IsPlanRefused k tree Memory = Unit {0}

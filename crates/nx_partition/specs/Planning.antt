@@ -43,19 +43,19 @@ abbrev pub weight_in : Bool → Bound → ℕ
 weight_in second bound = if second then bound.nearly else bound.lean
 
 -- the interval that begins with a child, if one does
-abbrev pub opened : List ℕ → ℕ → Stand → List Interval
-opened path position Uncut = []
-opened path position (Opens number second) = Run path position (position + number - 1) ∷ []
-opened path position (Joins second) = []
+abbrev pub interval_begun : List ℕ → ℕ → Stand → List Interval
+interval_begun path position Uncut = []
+interval_begun path position (Opens number second) = Run path position (position + number - 1) ∷ []
+interval_begun path position (Joins second) = []
 
 -- an interval that begins at a position has a member, and ends before there is no child any more
-abbrev pub IsInside : ℕ → Stand → Type 0
-IsInside behind Uncut = Unit {0}
-IsInside behind (Opens number second) = (1 ≤ number) × (number ≤ 1 + behind)
-IsInside behind (Joins second) = Unit {0}
+abbrev pub IsWithinChildren : ℕ → Stand → Type 0
+IsWithinChildren behind Uncut = Unit {0}
+IsWithinChildren behind (Opens number second) = (1 ≤ number) × (number ≤ 1 + behind)
+IsWithinChildren behind (Joins second) = Unit {0}
 
 -- A list of intervals has grown by those of a drawing of the tree at the path, in document order. The drawing reaches the form of the tree's minima.
-pub record IsPlanned (k : ℕ) (tree : OrderedTree) (second : Bool) (bound : Bound) (path : List ℕ) (old new : List Interval) : Type 0 where
+pub record AddsDrawing (k : ℕ) (tree : OrderedTree) (second : Bool) (bound : Bound) (path : List ℕ) (old new : List Interval) : Type 0 where
   pub drawn : CutTree
   pub tree_is : tree_of drawn ≡ tree
   pub reaches : Reaches k (number_in second bound) (weight_in second bound) drawn

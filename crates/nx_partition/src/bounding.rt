@@ -2,7 +2,7 @@
 ghost use Rattle.std.specs.Prelude.{◌≤◌, IfOk, OnOk, IfErr};
 ghost use Rattle.nx_weights.specs.Weight.{IsAtMost, IsWithinLimits};
 ghost use Rattle.nx_parts.specs.Minima.{IsMinima, AreMinima, AreMinimaOf};
-ghost use Rattle.nx_partition.specs.Bounding.{Extends, IsRefused};
+ghost use Rattle.nx_partition.specs.Bounding.{Extends, IsPlanRefused};
 
 use crate::PlanError;
 use crate::scratch::{Scratch, as_bound, as_child};
@@ -23,7 +23,7 @@ pub fn bounds(alloc: Global, tree: &Tree, k: u32) -> Result<Bounds, PlanError>
     requires bound { k ≤ 256 }
     requires limits { IsWithinLimits tree.now }
     ensures ok { IfOk result (λ bounds. AreMinima k tree.now bounds) }
-    ensures err { IfErr result (λ error. IsRefused k tree.now error) }
+    ensures err { IfErr result (λ error. IsPlanRefused k tree.now error) }
 {
     if let Some(heavy) = first_heavy(alloc, tree, k)? {
         return Err(PlanError::TooHeavy {

@@ -4,8 +4,8 @@ ghost use Rattle.nx_tree.specs.Forest.{Empty, Plant, nodes};
 ghost use Rattle.nx_tree.specs.Document.{IsDocument};
 ghost use Rattle.nx_weights.specs.Weight.{IsWithinLimits};
 ghost use Rattle.nx_parts.specs.Minima.{AreMinima, AreMinimaIn};
-ghost use Rattle.nx_partition.specs.Bounding.{IsRefused};
-ghost use Rattle.nx_partition.specs.Planning.{first_bound, opened, IsInside, IsLeanInOrder, IsPlan, IsPlanned};
+ghost use Rattle.nx_partition.specs.Bounding.{IsPlanRefused};
+ghost use Rattle.nx_partition.specs.Planning.{first_bound, interval_begun, IsWithinChildren, IsLeanInOrder, IsPlan, AddsDrawing};
 
 use crate::scratch::Scratch;
 use crate::{PlanError, bounds};
@@ -36,7 +36,7 @@ pub fn plan(alloc: Global, tree: &Tree, k: u32) -> Result<Plan, PlanError>
     requires some { 1 ≤ k }
     requires bound { k ≤ 256 }
     ensures ok { IfOk result (λ plan. IsPlan k tree.now plan) }
-    ensures err { IfErr result (λ error. IsRefused k tree.now error) }
+    ensures err { IfErr result (λ error. IsPlanRefused k tree.now error) }
 {
     let minima = bounds(alloc, tree, k)?;
     let plan = plan_from(alloc, tree, k, minima)?;
@@ -52,7 +52,7 @@ pub fn partition(alloc: Global, tree: &Tree, k: u32) -> Result<Partitioning, Pla
     requires some { 1 ≤ k }
     requires bound { k ≤ 256 }
     ensures ok { IfOk result (λ parts. IsLeanInOrder k tree.now parts) }
-    ensures err { IfErr result (λ error. IsRefused k tree.now error) }
+    ensures err { IfErr result (λ error. IsPlanRefused k tree.now error) }
 {
     let minima = bounds(alloc, tree, k)?;
     Ok(parts_from(alloc, tree, k, &minima)?)
@@ -121,7 +121,7 @@ impl Planner {
         requires bound { k ≤ 256 }
         requires limits { IsWithinLimits tree.now }
         requires minima { AreMinimaIn k (Plant tree.now.node tree.now.below Empty) bounds.now }
-        ensures parts { OnOk result (IsPlanned k tree.now second (first_bound bounds.now) self.old.path.items self.old.parts self.new.parts) }
+        ensures parts { OnOk result (AddsDrawing k tree.now second (first_bound bounds.now) self.old.path.items self.old.parts self.new.parts) }
         ensures path { OnOk result (self.new.path.items ≡ self.old.path.items) }
     {
         if !second && bounds[0].least == 1 {
@@ -144,8 +144,8 @@ impl Planner {
     // Adds the interval that begins with the child at the position, if one does.
     fn open(&mut self, stand: Stand, position: u32) -> Result<(), NoMemory>
         requires small { position < 524288 }
-        requires inside { IsInside 524288 stand }
-        ensures parts { OnOk result (self.new.parts ≡ self.old.parts ++ opened self.old.path.items position stand) }
+        requires inside { IsWithinChildren 524288 stand }
+        ensures parts { OnOk result (self.new.parts ≡ self.old.parts ++ interval_begun self.old.path.items position stand) }
         ensures path { self.new.path.items ≡ self.old.path.items }
     {
         if let Stand::Opens { number, .. } = stand {

@@ -4,7 +4,7 @@ use Rattle.std.specs.List.{All, range_with_len}
 use Rattle.nx_tree.specs.Forest.{OrderedTree}
 use Rattle.nx_parts.specs.declared.interval.Interval.{Interval}
 use Rattle.nx_parts.specs.declared.error.PartsError.TheVariants.{Heavy}
-use Rattle.nx_parts.specs.Partitioning.{part_weight, part_weights, IsPartitioning, IsFeasible}
+use Rattle.nx_parts.specs.Partitioning.{owned_weight, part_weights, IsPartitioning, IsFeasible}
 use Rattle.nx_parts.specs.Refusal.{IsFirst, IsHeavy, IsNotFeasible}
 use Rattle.nx_parts.specs.Light.{IsAbove, IsFirstAbove}
 
@@ -19,13 +19,13 @@ at-mapped_range f a (suc n) (suc k) d h = at-mapped_range f (a + 1) n k d (omega
 
 module _ (tree : OrderedTree) (parts : List Interval) (weights : List ℕ) (are : weights ≡ part_weights tree parts) where
   pub length-weights : length weights ≡ length parts
-  length-weights = ap length are ∙ length-mapped_range (part_weight tree parts) 0 (length parts)
+  length-weights = ap length are ∙ length-mapped_range (owned_weight tree parts) 0 (length parts)
 
-  weight_at : (k : ℕ) → k < length parts → get_or weights k 0 ≡ part_weight tree parts k
+  weight_at : (k : ℕ) → k < length parts → get_or weights k 0 ≡ owned_weight tree parts k
   weight_at k h =
       ap (λ (xs : List ℕ). get_or xs k 0) are
-      ∙ at-mapped_range (part_weight tree parts) 0 (length parts) k 0 h
-      ∙ ap (part_weight tree parts) (let e : 0 + k ≡ k = omega arith in e)
+      ∙ at-mapped_range (owned_weight tree parts) 0 (length parts) k 0 h
+      ∙ ap (owned_weight tree parts) (let e : 0 + k ≡ k = omega arith in e)
 
   pub feasible : (k : ℕ) → IsPartitioning tree parts → All (λ weight. weight ≤ k) weights → IsFeasible k tree parts
   feasible k p all = record {

@@ -12,7 +12,7 @@ use Rattle.nx_parts.specs.declared.marks.Mark.TheViews.{roll-Mark, out-roll-Mark
 use Rattle.nx_parts.specs.declared.error.PartsError.{PartsError}
 use Rattle.nx_parts.specs.declared.error.PartsError.TheVariants.{OutOfTree, Overlap, NoRoot, Heavy, Memory}
 use Rattle.nx_parts.specs.Partitioning.{is_child_path}
-use Rattle.nx_parts.specs.Marks.{marked, marked_in, Holds, Clashes, IsClash}
+use Rattle.nx_parts.specs.Marks.{marked, marked_in, HoldsMembers, Clashes, IsClash}
 
 pub marked_in-empty : (xs : List Mark) (m : Mark) (p : ℕ) (path : List ℕ) → ((q : List ℕ) → marked m q ≡ None) → marked_in (xs ++ m ∷ []) p path ≡ marked_in xs p path
 marked_in-empty [] m zero path e = e path
@@ -66,7 +66,7 @@ abbrev pub at_step : ℕ → (List ℕ → Bool) → List ℕ → Bool
 at_step i member [] = false
 at_step i member (p ∷ path) = (i == p) && member path
 
-module _ (old new : Mark) (i : ℕ) (child after : Mark) (n : NextMark old new i child after) (member : List ℕ → Bool) (index : ℕ) (h : Holds member index child after) where
+module _ (old new : Mark) (i : ℕ) (child after : Mark) (n : NextMark old new i child after) (member : List ℕ → Bool) (index : ℕ) (h : HoldsMembers member index child after) where
   step_free : (path : List ℕ) → IsTrue (at_step i member path) → marked old path ≡ None
   step_free [] m = absurd (cc)
   step_free (p ∷ path) m =
@@ -88,7 +88,7 @@ module _ (old new : Mark) (i : ℕ) (child after : Mark) (n : NextMark old new i
   ]
 
   -- what the child holds, the node holds behind the step to the child
-  pub holds-step : Holds (at_step i member) index old new
+  pub holds-step : HoldsMembers (at_step i member) index old new
   holds-step = record { free = step_free; held = step_held }
 
 joined : (index : ℕ) (x y : Bool) (o p : Option ℕ) → o ≡ (if x then Some index else p) → (if y then Some index else o) ≡ (if x || y then Some index else p)
@@ -98,7 +98,7 @@ joined index false true o p e = refl
 joined index false false o p e = e
 
 -- one after the other
-pub holds-then : (m n : List ℕ → Bool) (index : ℕ) (a b c : Mark) → Holds m index a b → Holds n index b c → Holds (λ path. m path || n path) index a c
+pub holds-then : (m n : List ℕ → Bool) (index : ℕ) (a b c : Mark) → HoldsMembers m index a b → HoldsMembers n index b c → HoldsMembers (λ path. m path || n path) index a c
 holds-then m n index a b c h k = record {
   free = λ path t. elim (cases_Bool (m path)) [
     | inl e ↦ h.free path e
@@ -108,14 +108,14 @@ holds-then m n index a b c h k = record {
   held = λ path. k.held path ∙ joined index (m path) (n path) (marked b path) (marked a path) (h.held path);
 }
 
-pub holds-same : (m n : List ℕ → Bool) (index : ℕ) (a b : Mark) → ((path : List ℕ) → m path ≡ n path) → Holds m index a b → Holds n index a b
+pub holds-same : (m n : List ℕ → Bool) (index : ℕ) (a b : Mark) → ((path : List ℕ) → m path ≡ n path) → HoldsMembers m index a b → HoldsMembers n index a b
 holds-same m n index a b e h = record {
   free = λ path t. h.free path (e path ∙ t);
   held = λ path. h.held path ∙ ap (λ (x : Bool). if x then Some index else marked a path) (e path);
 }
 
 -- from a mark that says the same
-pub holds-after : (m : List ℕ → Bool) (index : ℕ) (a b c : Mark) → ((path : List ℕ) → marked b path ≡ marked a path) → Holds m index b c → Holds m index a c
+pub holds-after : (m : List ℕ → Bool) (index : ℕ) (a b c : Mark) → ((path : List ℕ) → marked b path ≡ marked a path) → HoldsMembers m index b c → HoldsMembers m index a c
 holds-after m index a b c s h = record {
   free = λ path t. sym (s path) ∙ h.free path t;
   held = λ path. h.held path ∙ ap (λ (o : Option ℕ). if m path then Some index else o) (s path);
@@ -148,7 +148,7 @@ pub grown-room : (r : Mark-F Mark) (n : ℕ) → n ≤ length r.below.items → 
 grown-room r n h = subst (λ (f : Mark-F Mark). n ≤ length f.below.items) (sym (out-roll-Mark r)) h
 
 module _ (old grown : Mark) (same : (path : List ℕ) → marked grown path ≡ marked old path) (step : ℕ) (rest : List ℕ) (first last index : ℕ) (parent : List ℕ) (is : parent ≡ step ∷ rest) where
-  pub run-holds : (new child after : Mark) → NextMark grown new step child after → Holds (is_child_path rest first last) index child after → Holds (is_child_path parent first last) index old new
+  pub run-holds : (new child after : Mark) → NextMark grown new step child after → HoldsMembers (is_child_path rest first last) index child after → HoldsMembers (is_child_path parent first last) index old new
   run-holds new child after n h =
       holds-same (at_step step (is_child_path rest first last)) (is_child_path parent first last) index old new (λ path. along step rest first last parent path is)
       (holds-after (at_step step (is_child_path rest first last)) index old grown new same (holds-step grown new step child after n (is_child_path rest first last) index h))
@@ -205,7 +205,7 @@ pub record ChildrenSoFar (first i end index : ℕ) (old new : Mark) : Type 0 whe
   pub from : first ≤ i
   pub until : i ≤ max first end
   pub room : end ≤ length (out-Mark new).below.items
-  pub holds : Holds (is_run first i) index old new
+  pub holds : HoldsMembers (is_run first i) index old new
 
 children-start : (first end index : ℕ) (old new : Mark) → end ≤ length (out-Mark new).below.items → ((path : List ℕ) → marked new path ≡ marked old path) → ChildrenSoFar first first end index old new
 children-start first end index old new room same = record {
@@ -226,7 +226,7 @@ length_set [] i m = refl
 length_set (x ∷ xs) zero m = refl
 length_set (x ∷ xs) (suc i) m = ap suc (length_set xs i m)
 
-pub children-more : (first i end index : ℕ) (old mid new child after : Mark) → ChildrenSoFar first i end index old mid → i < end → NextMark mid new i child after → Holds is_empty index child after → ChildrenSoFar first (i + 1) end index old new
+pub children-more : (first i end index : ℕ) (old mid new child after : Mark) → ChildrenSoFar first i end index old mid → i < end → NextMark mid new i child after → HoldsMembers is_empty index child after → ChildrenSoFar first (i + 1) end index old new
 children-more first i end index old mid new child after s within n h = record {
   from = let from = s.from in omega arith;
   until = omega arith;
@@ -235,7 +235,7 @@ children-more first i end index old mid new child after s within n h = record {
       (holds-then (is_run first i) (at_step i is_empty) index old mid new s.holds (holds-step mid new i child after n is_empty index h));
 }
 
-pub children-end : (first last i end index : ℕ) (old new : Mark) → ChildrenSoFar first i end index old new → end ≡ last + 1 → end ≤ i → Holds (is_child_path [] first last) index old new
+pub children-end : (first last i end index : ℕ) (old new : Mark) → ChildrenSoFar first i end index old new → end ≡ last + 1 → end ≤ i → HoldsMembers (is_child_path [] first last) index old new
 children-end first last i end index old new s is past =
     let until = s.until in
     holds-same (is_run first i) (is_child_path [] first last) index old new (run_all first last i (omega arith) (omega arith)) s.holds

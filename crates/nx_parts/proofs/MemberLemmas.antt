@@ -15,7 +15,7 @@ use Rattle.nx_parts.specs.declared.error.PartsError.{PartsError}
 use Rattle.nx_parts.specs.declared.error.PartsError.TheVariants.{OutOfTree, Overlap, NoRoot, Heavy, Memory}
 use Rattle.nx_parts.specs.Partitioning.{has_member, holder, is_in_tree, IsPartitioning}
 use Rattle.nx_parts.specs.Refusal.{IsFirst, IsOutOfTree, Overlaps, IsNoPartitioning}
-use Rattle.nx_parts.specs.Marks.{marked, Holds, IsClash, IsOverlap}
+use Rattle.nx_parts.specs.Marks.{marked, HoldsMembers, IsClash, IsOverlap}
 use Rattle.nx_parts.proofs.HolderLemmas.{position-push, position-None}
 
 -- the marks of the first n intervals, none of which overlaps an earlier one
@@ -55,7 +55,7 @@ module _ (parts : List Interval) (n : ℕ) (interval : Interval) (root : Mark) (
   free_of_earlier path earlier other e lt g =
       position-None (λ (x : Interval). has_member x path) (take n parts) earlier other (sym (s.holders path) ∙ e) (get_taken parts n earlier lt ∙ g)
 
-  module _ (new : Mark) (h : Holds (has_member interval) n root new) where
+  module _ (new : Mark) (h : HoldsMembers (has_member interval) n root new) where
     apart_here : ¬ Overlaps parts n
     apart_here o =
         let same : o.0 ≡ interval = let e = sym o.3 ∙ here in cc in

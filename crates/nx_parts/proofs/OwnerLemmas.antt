@@ -9,7 +9,7 @@ use Rattle.nx_tree.specs.declared.node.Node.{Node}
 use Rattle.nx_tree.specs.Forest.{OrderedTree, Forest, Empty, Plant}
 use Rattle.nx_weights.specs.Weight.{weight, listed_in}
 use Rattle.nx_parts.specs.declared.interval.Interval.{Interval}
-use Rattle.nx_parts.specs.Partitioning.{holder, prefixes, owner, owns, part_weight}
+use Rattle.nx_parts.specs.Partitioning.{holder, prefixes, owner, owns, owned_weight}
 use Rattle.nx_parts.proofs.Owned.{is_place, owned}
 
 prefixes-longer : (path : List ℕ) (position : ℕ) → prefixes (path ++ position ∷ []) ≡ prefixes path ++ (path ++ position ∷ []) ∷ []
@@ -63,8 +63,8 @@ sum_is_owned parts index path position (Plant node below beside) =
     omega (arith, a, b, c, d, f)
 
 -- what a part weighs: the root if the interval has it as a member, and what it owns below
-pub part_weight-walk : (tree : OrderedTree) (parts : List Interval) (index : ℕ) → part_weight tree parts index ≡ (if is_place index (holder parts []) then weight tree.node else 0) + owned parts index (holder parts []) [] 0 tree.below
-part_weight-walk tree parts index =
+pub owned_weight-walk : (tree : OrderedTree) (parts : List Interval) (index : ℕ) → owned_weight tree parts index ≡ (if is_place index (holder parts []) then weight tree.node else 0) + owned parts index (holder parts []) [] 0 tree.below
+owned_weight-walk tree parts index =
     let e = owner-root parts in
     let a : owned_of parts index ([], tree.node) ≡ (if is_place index (holder parts []) then weight tree.node else 0) =
     ap (λ (o : Option ℕ). if is_place index o then weight tree.node else 0) e in

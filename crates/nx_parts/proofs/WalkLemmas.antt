@@ -10,10 +10,10 @@ use Rattle.nx_weights.proofs.LimitLemmas.{document_within}
 use Rattle.nx_weights.proofs.SumLemmas.{tree_weight_most}
 use Rattle.nx_parts.specs.declared.interval.Interval.{Interval}
 use Rattle.nx_parts.specs.declared.marks.Mark.{Mark, out-Mark}
-use Rattle.nx_parts.specs.Partitioning.{holder, part_weight, part_weights}
+use Rattle.nx_parts.specs.Partitioning.{holder, owned_weight, part_weights}
 use Rattle.nx_parts.specs.Marks.{marked, marked_in, holder_by_marks, owed}
 use Rattle.nx_parts.proofs.Owned.{is_place, owned}
-use Rattle.nx_parts.proofs.OwnerLemmas.{part_weight-walk}
+use Rattle.nx_parts.proofs.OwnerLemmas.{owned_weight-walk}
 use Rattle.nx_parts.proofs.OwedLemmas.{at_most_one, owed-total, owed-same, owed-owned}
 
 -- what the sums are before the trees from an index on, where they began as old
@@ -170,16 +170,16 @@ whole_sums tree zeros begun new marks below ts n len owner w index zs within is 
 -- what the sums are after the walk over the whole tree
 pub weights_of : (tree : OrderedTree) (parts : List Interval) (root : Mark) (owner : ℕ) (sums : List ℕ) → ((path : List ℕ) → marked root path ≡ holder parts path) → (out-Mark root).holder ≡ Some owner → length sums ≡ length parts
     → ((index : ℕ) → index < length parts → get_or sums index 0 ≡ (if owner == index then weight tree.node else 0) + owed (holder_by_marks (out-Mark root).below.items) index owner 0 tree.below) → sums ≡ part_weights tree parts
-weights_of tree parts root owner sums marks own len h = fill_by_all (part_weight tree parts) sums (length parts) 0 len pointwise
+weights_of tree parts root owner sums marks own len h = fill_by_all (owned_weight tree parts) sums (length parts) 0 len pointwise
   where
     held : holder parts [] ≡ Some owner
     held = sym (marks []) ∙ own
 
-    pointwise : (k : ℕ) → k < length parts → get_or sums k 0 ≡ part_weight tree parts k
+    pointwise : (k : ℕ) → k < length parts → get_or sums k 0 ≡ owned_weight tree parts k
     pointwise k lt =
         let a = h k lt in
         let o : owed (holder_by_marks (out-Mark root).below.items) k owner 0 tree.below ≡ owned parts k (Some owner) [] 0 tree.below = owed-owned parts (holder_by_marks (out-Mark root).below.items) k owner [] 0 tree.below (λ p rest. marks (p ∷ rest)) in
-        let p = part_weight-walk tree parts k in
+        let p = owned_weight-walk tree parts k in
         let q : (if is_place k (holder parts []) then weight tree.node else 0) ≡ (if owner == k then weight tree.node else 0) = ap (λ (x : Option ℕ). if is_place k x then weight tree.node else 0) held in
         let r : owned parts k (holder parts []) [] 0 tree.below ≡ owned parts k (Some owner) [] 0 tree.below = ap (λ (x : Option ℕ). owned parts k x [] 0 tree.below) held in
         omega (arith, a, o, p, q, r)

@@ -19,7 +19,7 @@ abbrev pub marked_in : List Mark → ℕ → List ℕ → Option ℕ
 marked_in marks position path = option_and_then (λ m. marked m path) (slice_get marks position)
 
 -- the nodes whose paths the test picks were members of no interval, and are members of this one now
-pub record Holds (member : List ℕ → Bool) (index : ℕ) (old new : Mark) : Type 0 where
+pub record HoldsMembers (member : List ℕ → Bool) (index : ℕ) (old new : Mark) : Type 0 where
   pub free : (path : List ℕ) → IsTrue (member path) → marked old path ≡ None
   pub held : (path : List ℕ) → marked new path ≡ (if member path then Some index else marked old path)
 

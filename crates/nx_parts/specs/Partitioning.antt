@@ -55,21 +55,21 @@ abbrev pub owns : List Interval → ℕ → List ℕ → Bool
 owns parts index path = option_map_or (λ place. place == index) (owner parts path) false
 
 -- what the part of an interval weighs: all nodes that it owns
-abbrev pub part_weight : OrderedTree → List Interval → ℕ → ℕ
-part_weight tree parts index = sum_by (λ placed. if owns parts index placed.0 then weight placed.1 else 0) (listed tree)
+abbrev pub owned_weight : OrderedTree → List Interval → ℕ → ℕ
+owned_weight tree parts index = sum_by (λ placed. if owns parts index placed.0 then weight placed.1 else 0) (listed tree)
 
 -- the weights of the parts, in the order of their intervals
 abbrev pub part_weights : OrderedTree → List Interval → List ℕ
-part_weights tree parts = map (part_weight tree parts) (range_with_len 0 (length parts))
+part_weights tree parts = map (owned_weight tree parts) (range_with_len 0 (length parts))
 
 -- what the part of the root's interval weighs
 abbrev pub root_weight : OrderedTree → List Interval → ℕ
-root_weight tree parts = option_map_or (part_weight tree parts) (holder parts []) 0
+root_weight tree parts = option_map_or (owned_weight tree parts) (holder parts []) 0
 
 -- a partitioning none of whose parts weighs more than k
 pub record IsFeasible (k : ℕ) (tree : OrderedTree) (parts : List Interval) : Type 0 where
   pub partitioning : IsPartitioning tree parts
-  pub light : (index : ℕ) → index < length parts → part_weight tree parts index ≤ k
+  pub light : (index : ℕ) → index < length parts → owned_weight tree parts index ≤ k
 
 -- a feasible partitioning with no more intervals than any other
 pub record IsOptimal (k : ℕ) (tree : OrderedTree) (parts : List Interval) : Type 0 where

@@ -5,7 +5,7 @@ use Rattle.nx_parts.specs.declared.interval.Interval.{Interval}
 use Rattle.nx_parts.specs.declared.interval.Interval.TheVariants.{Root}
 use Rattle.nx_parts.specs.declared.error.PartsError.{PartsError}
 use Rattle.nx_parts.specs.declared.error.PartsError.TheVariants.{OutOfTree, Overlap, NoRoot, Heavy, Memory}
-use Rattle.nx_parts.specs.Partitioning.{is_in_tree, ShareMember, IsPartitioning, part_weight}
+use Rattle.nx_parts.specs.Partitioning.{is_in_tree, ShareMember, IsPartitioning, owned_weight}
 
 -- the interval at that place isn't in the tree
 abbrev pub IsOutOfTree : OrderedTree → List Interval → ℕ → Type 0
@@ -32,10 +32,10 @@ IsNoPartitioning tree parts Memory = Unit {0}
 
 -- the part of the interval at that place weighs more than k
 abbrev pub IsHeavy : ℕ → OrderedTree → List Interval → ℕ → Type 0
-IsHeavy k tree parts index = (index < length parts) × (k < part_weight tree parts index)
+IsHeavy k tree parts index = (index < length parts) × (k < owned_weight tree parts index)
 
 -- why a list of intervals is no feasible partitioning of the tree
 abbrev pub IsNotFeasible : ℕ → OrderedTree → List Interval → PartsError → Type 0
 IsNotFeasible k tree parts (Heavy index slots) =
-    IsPartitioning tree parts × IsFirst (IsHeavy k tree parts) index × (slots ≡ part_weight tree parts index)
+    IsPartitioning tree parts × IsFirst (IsHeavy k tree parts) index × (slots ≡ owned_weight tree parts index)
 IsNotFeasible k tree parts error = IsNoPartitioning tree parts error

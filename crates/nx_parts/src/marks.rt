@@ -3,7 +3,7 @@ ghost use Rattle.std.specs.Prelude.{◌≡◌, ◌≤◌, ◌<◌, ◌^◌, [], 
 ghost use Rattle.nx_tree.specs.Document.{is_empty};
 ghost use Rattle.nx_parts.specs.Partitioning.{is_child_path, has_member, holder};
 ghost use Rattle.nx_parts.specs.Refusal.{Overlaps};
-ghost use Rattle.nx_parts.specs.Marks.{marked, marked_in, Holds, IsClash, IsOverlap};
+ghost use Rattle.nx_parts.specs.Marks.{marked, marked_in, HoldsMembers, IsClash, IsOverlap};
 
 use crate::{Interval, PartsError};
 use std::alloc::Global;
@@ -50,7 +50,7 @@ impl Mark {
         interval: &Interval,
         index: u32,
     ) -> Result<(), PartsError>
-        ensures ok { OnOk result (Holds (has_member interval.now) index self.old self.new) }
+        ensures ok { OnOk result (HoldsMembers (has_member interval.now) index self.old self.new) }
         ensures err { IfErr result (IsClash (has_member interval.now) index self.old) }
     {
         match interval {
@@ -65,7 +65,7 @@ impl Mark {
 
     // Makes the node itself a member of the interval.
     fn hold(&mut self, index: u32) -> Result<(), PartsError>
-        ensures ok { OnOk result (Holds is_empty index self.old self.new) }
+        ensures ok { OnOk result (HoldsMembers is_empty index self.old self.new) }
         ensures err { IfErr result (IsClash is_empty index self.old) }
     {
         if self.holder.is_some() {
@@ -83,7 +83,7 @@ impl Mark {
         last: u32,
         index: u32,
     ) -> Result<(), PartsError>
-        ensures ok { OnOk result (Holds (is_child_path [] first last) index self.old self.new) }
+        ensures ok { OnOk result (HoldsMembers (is_child_path [] first last) index self.old self.new) }
         ensures err { IfErr result (IsClash (is_child_path [] first last) index self.old) }
     {
         let end = last as usize + 1;
@@ -103,7 +103,7 @@ impl Mark {
         last: u32,
         index: u32,
     ) -> Result<(), PartsError>
-        ensures ok { OnOk result (Holds (is_child_path parent.now first last) index self.old self.new) }
+        ensures ok { OnOk result (HoldsMembers (is_child_path parent.now first last) index self.old self.new) }
         ensures err { IfErr result (IsClash (is_child_path parent.now first last) index self.old) }
     {
         let Some((position, path)) = parent.split_first() else {

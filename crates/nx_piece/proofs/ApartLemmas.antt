@@ -7,15 +7,15 @@ use Rattle.nx_tree.specs.declared.node.Kind.{Kind}
 use Rattle.nx_tree.specs.declared.node.Kind.TheVariants.{Doc, Element, Attribute, Text, Instruction}
 use Rattle.nx_tree.specs.declared.node.Node.{Node}
 use Rattle.nx_weights.specs.Weight.{weight}
-use Rattle.nx_piece.specs.Gapped.{Gapped, End, Grow, Gap, width, gapped_weight, proxies_in}
-use Rattle.nx_piece.specs.Encoding.{two, four, kind_byte, padding, content_bytes, node_bytes, run_bytes, items_bytes}
+use Rattle.nx_piece.specs.Gapped.{Gapped, End, Grow, Gap, gapped_width, gapped_weight, proxies_in}
+use Rattle.nx_piece.specs.Encoding.{two_bytes, four_bytes, kind_byte, padding, content_bytes, node_bytes, run_bytes, items_bytes}
 use Rattle.nx_piece.specs.Valid.{AreApart}
 use Rattle.nx_piece.proofs.WalkLemmas.{item_count_most, width_most}
 
-pub two_unique : (a b : ℕ) → a < 65536 → b < 65536 → two a ≡ two b → a ≡ b
+pub two_unique : (a b : ℕ) → a < 65536 → b < 65536 → two_bytes a ≡ two_bytes b → a ≡ b
 two_unique a b h k e = sym (from_be_bytes-to_be_bytes_2 a h) ∙ ap (from_be_bytes w16) e ∙ from_be_bytes-to_be_bytes_2 b k
 
-pub four_unique : (a b : ℕ) → a < 4294967296 → b < 4294967296 → four a ≡ four b → a ≡ b
+pub four_unique : (a b : ℕ) → a < 4294967296 → b < 4294967296 → four_bytes a ≡ four_bytes b → a ≡ b
 four_unique a b h k e = sym (from_be_bytes-to_be_bytes_4 a h) ∙ ap (from_be_bytes w32) e ∙ from_be_bytes-to_be_bytes_4 b k
 
 -- the kind of a byte
@@ -103,7 +103,7 @@ pub record IsStorable (f : Gapped) : Type 0 where
   pub few : proxies_in f ≤ 524288
   pub apart : AreApart f
 
-pub storable_node : (n : Node) (b s : Gapped) → IsStorable (Grow n b s) → IsLight n × (width b < 65536) × IsStorable b × IsStorable s
+pub storable_node : (n : Node) (b s : Gapped) → IsStorable (Grow n b s) → IsLight n × (gapped_width b < 65536) × IsStorable b × IsStorable s
 storable_node n b s h =
     let l = h.light in let p = h.few in
     let k = item_count_most b h.apart.0 in let w = width_most b in
@@ -112,7 +112,7 @@ storable_node n b s h =
 pub storable_gap : (c : ℕ) (s : Gapped) → IsStorable (Gap c s) → (c < 4294967296) × IsStorable s
 storable_gap c s h = let l = h.light in let p = h.few in (omega arith, record { light = omega arith; few = omega arith; apart = h.apart.2 })
 
-pub width_row : (f g : Gapped) → width (row f g) ≡ width f + width g
+pub width_row : (f g : Gapped) → gapped_width (row f g) ≡ gapped_width f + gapped_width g
 width_row End g = omega arith
 width_row (Grow n b s) g = let h = width_row s g in omega (arith, h)
 width_row (Gap c s) g = let h = width_row s g in omega (arith, h)
@@ -122,7 +122,7 @@ row_end End = refl
 row_end (Grow n b s) = ap (Grow n b) (row_end s)
 row_end (Gap c s) = ap (Gap c) (row_end s)
 
-no_width : (f : Gapped) → width f ≡ 0 → f ≡ End
+no_width : (f : Gapped) → gapped_width f ≡ 0 → f ≡ End
 no_width End h = refl
 no_width (Grow n b s) h = absurd (omega arith)
 no_width (Gap c s) h = absurd (omega arith)
@@ -134,33 +134,33 @@ pub record GoesOn (f g : Gapped) (x y : List ℕ) : Type 0 where
   pub bytes : x ≡ items_bytes rest ++ y
 
 -- what goes on to the same width is the same
-pub goes_nowhere : (f g : Gapped) (x y : List ℕ) → GoesOn f g x y → width f ≡ width g → (g ≡ f) × (x ≡ y)
+pub goes_nowhere : (f g : Gapped) (x y : List ℕ) → GoesOn f g x y → gapped_width f ≡ gapped_width g → (g ≡ f) × (x ≡ y)
 goes_nowhere f g x y h w =
-    let sum = width_row f h.rest in let is = ap width h.is in
+    let sum = width_row f h.rest in let is = ap gapped_width h.is in
     let none : h.rest ≡ End = no_width h.rest (omega arith) in
     (h.is ∙ ap (row f) none ∙ row_end f, h.bytes ∙ ap (λ (r : Gapped). items_bytes r ++ y) none)
 
 -- the bytes of a tree before others
-pub grow_bytes : (n : Node) (b s : Gapped) (x : List ℕ) → node_bytes n (width b) ++ (items_bytes b ++ (items_bytes s ++ x)) ≡ items_bytes (Grow n b s) ++ x
+pub grow_bytes : (n : Node) (b s : Gapped) (x : List ℕ) → node_bytes n (gapped_width b) ++ (items_bytes b ++ (items_bytes s ++ x)) ≡ items_bytes (Grow n b s) ++ x
 grow_bytes n b s x =
-    sym (append_assoc (node_bytes n (width b) ++ items_bytes b) (items_bytes s) x ∙ append_assoc (node_bytes n (width b)) (items_bytes b) (items_bytes s ++ x))
+    sym (append_assoc (node_bytes n (gapped_width b) ++ items_bytes b) (items_bytes s) x ∙ append_assoc (node_bytes n (gapped_width b)) (items_bytes b) (items_bytes s ++ x))
 
 -- of two rows with one beginning of bytes in common the narrower one begins the wider one
-pub goes_on : (f g : Gapped) (x y : List ℕ) → IsStorable f → IsStorable g → width f ≤ width g → items_bytes f ++ x ≡ items_bytes g ++ y → GoesOn f g x y
+pub goes_on : (f g : Gapped) (x y : List ℕ) → IsStorable f → IsStorable g → gapped_width f ≤ gapped_width g → items_bytes f ++ x ≡ items_bytes g ++ y → GoesOn f g x y
 goes_on End g x y hf hg w e = record { rest = g; is = refl; bytes = e }
 goes_on (Grow n b s) End x y hf hg w e = absurd (omega arith)
 goes_on (Gap c s) End x y hf hg w e = absurd (omega arith)
-goes_on (Grow n b s) (Gap d t) x y hf hg w e = absurd (node_no_run n (width b) d (items_bytes b ++ (items_bytes s ++ x)) (items_bytes t ++ y) (grow_bytes n b s x ∙ e))
-goes_on (Gap c s) (Grow m d t) x y hf hg w e = absurd (node_no_run m (width d) c (items_bytes d ++ (items_bytes t ++ y)) (items_bytes s ++ x) (grow_bytes m d t y ∙ sym e))
+goes_on (Grow n b s) (Gap d t) x y hf hg w e = absurd (node_no_run n (gapped_width b) d (items_bytes b ++ (items_bytes s ++ x)) (items_bytes t ++ y) (grow_bytes n b s x ∙ e))
+goes_on (Gap c s) (Grow m d t) x y hf hg w e = absurd (node_no_run m (gapped_width d) c (items_bytes d ++ (items_bytes t ++ y)) (items_bytes s ++ x) (grow_bytes m d t y ∙ sym e))
 goes_on (Gap c s) (Gap d t) x y hf hg w e =
     let told = run_unique c d (items_bytes s ++ x) (items_bytes t ++ y) (storable_gap c s hf).0 (storable_gap d t hg).0 e in
     let on = goes_on s t x y (storable_gap c s hf).1 (storable_gap d t hg).1 (omega arith) told.1 in
     record { rest = on.rest; is = ap (λ (k : ℕ). Gap k t) (sym told.0) ∙ ap (Gap c) on.is; bytes = on.bytes }
 goes_on (Grow n b s) (Grow m d t) x y hf hg w e =
     let p = storable_node n b s hf in let q = storable_node m d t hg in
-    let told : (n ≡ m) × (width b ≡ width d) × (items_bytes b ++ (items_bytes s ++ x) ≡ items_bytes d ++ (items_bytes t ++ y)) =
+    let told : (n ≡ m) × (gapped_width b ≡ gapped_width d) × (items_bytes b ++ (items_bytes s ++ x) ≡ items_bytes d ++ (items_bytes t ++ y)) =
     node_unique p.0 q.0 p.1 q.1 (grow_bytes n b s x ∙ e ∙ sym (grow_bytes m d t y)) in
-    let same : width b ≡ width d = told.1 in
+    let same : gapped_width b ≡ gapped_width d = told.1 in
     let below = goes_nowhere b d _ _ (goes_on b d (items_bytes s ++ x) (items_bytes t ++ y) p.2 q.2 (omega arith) told.2) same in
     let on = goes_on s t x y p.3 q.3 (omega arith) below.1 in
     record {
@@ -170,5 +170,5 @@ goes_on (Grow n b s) (Grow m d t) x y hf hg w e =
     }
 
 -- two rows of one width with one beginning of bytes in common are one
-pub one_row : (f g : Gapped) (x y : List ℕ) → IsStorable f → IsStorable g → width f ≡ width g → items_bytes f ++ x ≡ items_bytes g ++ y → (g ≡ f) × (x ≡ y)
+pub one_row : (f g : Gapped) (x y : List ℕ) → IsStorable f → IsStorable g → gapped_width f ≡ gapped_width g → items_bytes f ++ x ≡ items_bytes g ++ y → (g ≡ f) × (x ≡ y)
 one_row f g x y hf hg w e = goes_nowhere f g x y (goes_on f g x y hf hg (omega arith) e) w

@@ -10,10 +10,10 @@ use Rattle.std.specs.Prelude.{None}
 use Rattle.nx_piece.specs.declared.piece.Proxy.{Proxy}
 use Rattle.nx_piece.specs.declared.piece.Stored.TheVariants.{Inline, Chained}
 use Rattle.nx_piece.specs.Decoded.{IsDecoded}
-use Rattle.nx_piece.specs.Gapped.{Gapped, GappedTree, End, Grow, Gap, item_count, width, gapped_weight, proxies_in, slots_in}
-use Rattle.nx_piece.specs.Encoding.{four, node_bytes, items_bytes, proxy_bytes, proxies_bytes, items_head_bytes, head_bytes, body_bytes}
+use Rattle.nx_piece.specs.Gapped.{Gapped, GappedTree, End, Grow, Gap, item_count, gapped_width, gapped_weight, proxies_in, slots_in}
+use Rattle.nx_piece.specs.Encoding.{four_bytes, node_bytes, items_bytes, proxy_bytes, proxies_bytes, items_head_bytes, head_bytes, body_bytes}
 use Rattle.nx_piece.specs.Valid.{AreTrees, BeginsNoGap, IsValidBody, IsValidInline, IsValidChained, HaveRoots, HaveNumbers, longest_inline}
-use Rattle.nx_piece.specs.Reading.{alone, HasTaken, Begins, BeginsNoTree, BeginsNoTrees, BeginsNoBody, BeginsNoHead, BeginsNoProxiesHead, IsReadBody, IsLeft}
+use Rattle.nx_piece.specs.Reading.{alone, HasReadItems, BeginsWithItems, BeginsNoTree, BeginsNoTrees, BeginsNoBody, BeginsNoHead, BeginsNoProxiesHead, IsReadBody, IsLeft}
 use Rattle.nx_piece.proofs.WalkLemmas.{item_count_most}
 use Rattle.nx_piece.proofs.ApartLemmas.{two_unique, four_unique, row, width_row, IsStorable, one_row, content_length}
 use Rattle.nx_piece.proofs.ReadLemmas.{read_more, read_none, remains, nothing_begins}
@@ -28,9 +28,9 @@ node_length n i =
 pub items_length : (f : Gapped) → length (items_bytes f) ≡ 8 * slots_in f
 items_length End = refl
 items_length (Grow n b s) =
-    let h = node_length n (width b) in let p = items_length b in let q = items_length s in
-    let x = length-append (node_bytes n (width b) ++ items_bytes b) (items_bytes s) in
-    let y = length-append (node_bytes n (width b)) (items_bytes b) in
+    let h = node_length n (gapped_width b) in let p = items_length b in let q = items_length s in
+    let x = length-append (node_bytes n (gapped_width b) ++ items_bytes b) (items_bytes s) in
+    let y = length-append (node_bytes n (gapped_width b)) (items_bytes b) in
     omega arith
 items_length (Gap c s) = let q = items_length s in omega arith
 
@@ -46,12 +46,12 @@ pub record IsSameBody (form form' : ℕ) (f g : Gapped) (p q c d : ℕ) (x y : L
   pub form_same : form ≡ form'
   pub roots : g ≡ f
   pub proxies : p ≡ q
-  pub chain : four c ≡ four d
+  pub chain : four_bytes c ≡ four_bytes d
   pub behind : x ≡ y
 
 pub body_unique : {form form' p q c d : ℕ} {f g : Gapped} {x y : List ℕ} → IsValidBody f p → IsValidBody g q → body_bytes form f p c ++ x ≡ body_bytes form' g q d ++ y → IsSameBody form form' f g p q c d x y
 body_unique {form} {form'} {p} {q} {c} {d} {f} {g} {x} {y} hf hg e =
-    let w : width f ≡ width g = two_unique (width f) (width g) (let a = hf.few in omega arith) (let a = hg.few in omega arith) (ap (λ (l : List ℕ). take 2 (drop 2 l)) e) in
+    let w : gapped_width f ≡ gapped_width g = two_unique (gapped_width f) (gapped_width g) (let a = hf.few in omega arith) (let a = hg.few in omega arith) (ap (λ (l : List ℕ). take 2 (drop 2 l)) e) in
     let n : p ≡ q = four_unique p q (let a = hf.few_proxies in omega arith) (let a = hg.few_proxies in omega arith) (ap (λ (l : List ℕ). take 4 (drop 8 l)) e) in
     let r = one_row f g x y (valid_storable f p hf) (valid_storable g q hg) w (ap (drop 16) e) in
     record {
@@ -64,8 +64,8 @@ body_unique {form} {form'} {p} {q} {c} {d} {f} {g} {x} {y} hf hg e =
 
 -- the roots that a loop has read
 pub record RootsRead (bytes : List ℕ) (before : Left) (f : Gapped) (rest : List ℕ) (left : Left) (i : ℕ) : Type 0 where
-  pub read : HasTaken bytes before f rest left
-  pub counted : width f ≡ i
+  pub read : HasReadItems bytes before f rest left
+  pub counted : gapped_width f ≡ i
   pub trees : AreTrees f
 
 trees_row : (f : Gapped) (t : GappedTree) → AreTrees f → AreTrees (row f (alone t))
@@ -86,7 +86,7 @@ trees_first (Gap c s) h = h
 pub no_root_read : (bytes : List ℕ) (left : Left) → RootsRead bytes left End bytes left 0
 no_root_read bytes left = record { read = read_none bytes left; counted = refl; trees = tt }
 
-pub root_read : {bytes rest behind : List ℕ} {before between after : Left} {f : Gapped} {t : GappedTree} {i : ℕ} → RootsRead bytes before f rest between i → HasTaken rest between (alone t) behind after → RootsRead bytes before (row f (alone t)) behind after (i + 1)
+pub root_read : {bytes rest behind : List ℕ} {before between after : Left} {f : Gapped} {t : GappedTree} {i : ℕ} → RootsRead bytes before f rest between i → HasReadItems rest between (alone t) behind after → RootsRead bytes before (row f (alone t)) behind after (i + 1)
 root_read {bytes} {rest} {behind} {before} {between} {after} {f} {t} {i} h k =
     let w = width_row f (alone t) in let c = h.counted in
     record { read = read_more h.read k (λ _. tt); counted = omega arith; trees = trees_row f t h.trees }
@@ -96,7 +96,7 @@ pub no_roots : {bytes rest : List ℕ} {before left : Left} {f : Gapped} {i coun
 no_roots {bytes} {rest} {before} {left} {f} {i} {count} h l within none g behind trees w b =
     let n = h.counted in
     let r = remains h.read b l (omega arith) in
-    let wide : 0 < width r.last = let x = ap width r.is ∙ width_row f r.last in omega arith in
+    let wide : 0 < gapped_width r.last = let x = ap gapped_width r.is ∙ width_row f r.last in omega arith in
     nothing_begins {after_run = true} r.begins wide none (λ c y e x. absurd (cc)) (λ e. trees_first r.last (row_trees f r.last (subst AreTrees r.is trees)))
 
 -- the first proxies are read, and whether each of them has 1 to 256 roots is known
@@ -182,7 +182,7 @@ no_chain roots items head none form' roots' items' proxies chain rest is = none 
 
 -- the numbers of a head are those of the body that the bytes begin with
 pub record IsHeadOf (roots items proxies : ℕ) (behind : List ℕ) (f : Gapped) (p : ℕ) (rest : List ℕ) : Type 0 where
-  pub wide : roots ≡ width f
+  pub wide : roots ≡ gapped_width f
   pub many : items ≡ item_count f
   pub all : proxies ≡ p
   pub same : behind ≡ items_bytes f ++ rest
@@ -192,7 +192,7 @@ pub head_unique : {bytes behind : List ℕ} {form roots items proxies chain : �
 head_unique {bytes} {behind} {form} {roots} {items} {proxies} {chain} head form' f p c rest valid is =
     let e = sym head.0 ∙ is in
     record {
-      wide = two_unique roots (width f) head.1 (let a = valid.few in omega arith) (ap (λ (l : List ℕ). take 2 (drop 2 l)) e);
+      wide = two_unique roots (gapped_width f) head.1 (let a = valid.few in omega arith) (ap (λ (l : List ℕ). take 2 (drop 2 l)) e);
       many = four_unique items (item_count f) head.2 (let s = item_count_most f valid.apart in let l = valid.light in omega arith) (ap (λ (l : List ℕ). take 4 (drop 4 l)) e);
       all = four_unique proxies p head.3 (let a = valid.few_proxies in omega arith) (ap (λ (l : List ℕ). take 4 (drop 8 l)) e);
       same = ap (drop 16) e;
@@ -214,7 +214,7 @@ abbrev pub start : (proxies items : ℕ) → Left
 start proxies items = record { room = 256; proxies = proxies; items = items }
 
 -- what is left where a body begins
-begins_roots : {behind rest : List ℕ} {roots items proxies p : ℕ} {f : Gapped} → IsHeadOf roots items proxies behind f p rest → IsValidBody f p → Begins behind (start proxies items) f rest
+begins_roots : {behind rest : List ℕ} {roots items proxies p : ℕ} {f : Gapped} → IsHeadOf roots items proxies behind f p rest → IsValidBody f p → BeginsWithItems behind (start proxies items) f rest
 begins_roots {behind} {rest} {roots} {items} {proxies} {p} {f} t valid =
     record {
       same = t.same;
@@ -242,7 +242,7 @@ bad_items {bytes} {behind} {form} {roots} {items} {proxies} {chain} head many fo
     let n = t.many in let long = ap length t.same ∙ length-append (items_bytes f) rest in
     omega (arith, items_length f, items_few f)
 
-pub bad_sums : {bytes behind rest : List ℕ} {form roots items proxies chain : ℕ} {g : Gapped} {left : Left} → Head bytes behind form roots items proxies chain → HasTaken behind (start proxies items) g rest left × AreTrees g × (width g ≡ roots) → proxies ≤ 524288
+pub bad_sums : {bytes behind rest : List ℕ} {form roots items proxies chain : ℕ} {g : Gapped} {left : Left} → Head bytes behind form roots items proxies chain → HasReadItems behind (start proxies items) g rest left × AreTrees g × (gapped_width g ≡ roots) → proxies ≤ 524288
     → ((left.proxies ≡ 0) × (left.items ≡ 0) → ⊥) → BeginsNoBody bytes
 bad_sums {bytes} {behind} {rest} {form} {roots} {items} {proxies} {chain} {g} {left} head read few bad form' f p c last valid is =
     let t = head_unique head form' f p c last valid is in
@@ -254,19 +254,19 @@ bad_sums {bytes} {behind} {rest} {form} {roots} {items} {proxies} {chain} {g} {l
     let m = t.many in let n = t.all in let k = valid.counted in
     bad (omega arith, omega arith)
 
-pub body_read : {bytes behind rest : List ℕ} {form roots items proxies chain size : ℕ} {g : Gapped} {left : Left} → Head bytes behind form roots items proxies chain → HasTaken behind (start proxies items) g rest left × AreTrees g × (width g ≡ roots)
+pub body_read : {bytes behind rest : List ℕ} {form roots items proxies chain size : ℕ} {g : Gapped} {left : Left} → Head bytes behind form roots items proxies chain → HasReadItems behind (start proxies items) g rest left × AreTrees g × (gapped_width g ≡ roots)
     → 1 ≤ roots → roots ≤ 256 → proxies ≤ 524288 → left.proxies ≡ 0 → left.items ≡ 0 → size ≡ 16 + (length behind - length rest) + 8 * proxies → IsReadBody bytes form g proxies chain rest size
 body_read {bytes} {behind} {rest} {form} {roots} {items} {proxies} {chain} {size} {g} {left} head read some few fits none all sum =
     let x : proxies ≡ left.proxies + proxies_in g = read.0.proxies in let y : items ≡ left.items + item_count g = read.0.items in
     let z : 256 ≡ left.room + gapped_weight g = read.0.room in
-    let w : width g ≡ roots = read.2 in
+    let w : gapped_width g ≡ roots = read.2 in
     let many : items ≡ item_count g = omega arith in
     let long : length behind ≡ length (items_bytes g) + length rest = ap length read.0.same ∙ length-append (items_bytes g) rest in
     let long_slots = items_length g in
     record {
       same = head.0 ∙ ap (λ (r : List ℕ). head_bytes form roots items proxies chain ++ r) read.0.same
           ∙ ap (λ (k : ℕ). head_bytes form k items proxies chain ++ (items_bytes g ++ rest)) (sym w)
-          ∙ ap (λ (k : ℕ). head_bytes form (width g) k proxies chain ++ (items_bytes g ++ rest)) many;
+          ∙ ap (λ (k : ℕ). head_bytes form (gapped_width g) k proxies chain ++ (items_bytes g ++ rest)) many;
       valid = record { trees = read.1; some = omega arith; few = omega arith; light = omega arith; apart = read.0.apart; counted = omega arith; few_proxies = fits };
       chain_fits = head.4;
       inline_size = omega arith;

@@ -4,8 +4,8 @@ use Rattle.std.proofs.lemmas.List.{length-drop}
 use Rattle.nx_piece.specs.declared.viewing.NodeView.{NodeView}
 use Rattle.nx_piece.specs.declared.viewing.Flat.{Flat}
 use Rattle.nx_piece.specs.declared.viewing.Flat.TheVariants.{Tree, Run}
-use Rattle.nx_piece.specs.Gapped.{Gapped, Grow, Gap, width, proxies_in}
-use Rattle.nx_piece.specs.Flat.{seen_node, forest_within, forest_of}
+use Rattle.nx_piece.specs.Gapped.{Gapped, Grow, Gap, gapped_width, proxies_in}
+use Rattle.nx_piece.specs.Flat.{seen_node, forest_within, unflattened}
 
 take_few : (n : ℕ) (items : List Flat) → length (take n items) ≤ length items
 take_few zero items = omega arith
@@ -27,11 +27,11 @@ within_same (suc n) (suc m) (Tree node below ∷ items) h k =
     ∙ ap (λ (f : Gapped). Grow (seen_node node) (forest_within m (take below items)) f) (within_same n m (drop below items) (omega arith) (omega arith))
 
 -- a node before others has so many of them below it
-pub first_tree : (node : NodeView) (below : ℕ) (items : List Flat) → forest_of (Tree node below ∷ items) ≡ Grow (seen_node node) (forest_of (take below items)) (forest_of (drop below items))
+pub first_tree : (node : NodeView) (below : ℕ) (items : List Flat) → unflattened (Tree node below ∷ items) ≡ Grow (seen_node node) (unflattened (take below items)) (unflattened (drop below items))
 first_tree node below items =
     let t = take_few below items in let d = length-drop below items in
     ap (λ (f : Gapped). Grow (seen_node node) f (forest_within (length items) (drop below items))) (within_same (length items) (length (take below items)) (take below items) (omega arith) (omega arith))
-    ∙ ap (λ (f : Gapped). Grow (seen_node node) (forest_of (take below items)) f) (within_same (length items) (length (drop below items)) (drop below items) (omega arith) (omega arith))
+    ∙ ap (λ (f : Gapped). Grow (seen_node node) (unflattened (take below items)) f) (within_same (length items) (length (drop below items)) (drop below items) (omega arith) (omega arith))
 
 take_none : (n : ℕ) → take {A = Flat} n [] ≡ []
 take_none zero = refl
@@ -52,18 +52,18 @@ cut_within (suc below) (item ∷ items) (suc cut) h k =
 
 -- a list that begins with a node, cut behind what stands below it
 pub split_tree : {all rest children beside : List Flat} {first : Flat} {node : NodeView} {below : ℕ} (cut : ℕ) → all ≡ first ∷ rest → first ≡ Tree node below → children ≡ take cut rest → beside ≡ drop cut rest
-    → (below ≤ length rest → cut ≡ below) → (length rest ≤ below → cut ≡ length rest) → forest_of all ≡ Grow (seen_node node) (forest_of children) (forest_of beside)
+    → (below ≤ length rest → cut ≡ below) → (length rest ≤ below → cut ≡ length rest) → unflattened all ≡ Grow (seen_node node) (unflattened children) (unflattened beside)
 split_tree {all} {rest} {children} {beside} {first} {node} {below} cut is tree front back short long =
     let same = cut_within below rest cut short long in
-    ap forest_of (is ∙ ap (λ (x : Flat). x ∷ rest) tree)
+    ap unflattened (is ∙ ap (λ (x : Flat). x ∷ rest) tree)
     ∙ first_tree node below rest
-    ∙ ap (λ (l : List Flat). Grow (seen_node node) (forest_of l) (forest_of (drop below rest))) (sym (front ∙ same.0))
-    ∙ ap (λ (l : List Flat). Grow (seen_node node) (forest_of children) (forest_of l)) (sym (back ∙ same.1))
+    ∙ ap (λ (l : List Flat). Grow (seen_node node) (unflattened l) (unflattened (drop below rest))) (sym (front ∙ same.0))
+    ∙ ap (λ (l : List Flat). Grow (seen_node node) (unflattened children) (unflattened l)) (sym (back ∙ same.1))
 
-pub split_run : {all rest : List Flat} {first : Flat} {count : ℕ} → all ≡ first ∷ rest → first ≡ Run count → forest_of all ≡ Gap count (forest_of rest)
-split_run {all} {rest} {first} {count} is run = ap forest_of (is ∙ ap (λ (x : Flat). x ∷ rest) run)
+pub split_run : {all rest : List Flat} {first : Flat} {count : ℕ} → all ≡ first ∷ rest → first ≡ Run count → unflattened all ≡ Gap count (unflattened rest)
+split_run {all} {rest} {first} {count} is run = ap unflattened (is ∙ ap (λ (x : Flat). x ∷ rest) run)
 
-width_within : (n : ℕ) (items : List Flat) → length items ≤ n → width (forest_within n items) ≤ length items
+width_within : (n : ℕ) (items : List Flat) → length items ≤ n → gapped_width (forest_within n items) ≤ length items
 width_within zero items h = omega arith
 width_within (suc n) [] h = omega arith
 width_within (suc n) (Run count ∷ items) h = let r = width_within n items (omega arith) in omega (arith, r)
@@ -71,7 +71,7 @@ width_within (suc n) (Tree node below ∷ items) h =
     let d = length-drop below items in let r = width_within n (drop below items) (omega arith) in omega arith
 
 -- no more items stand beside each other than there are
-pub width_flat : (items : List Flat) → width (forest_of items) ≤ length items
+pub width_flat : (items : List Flat) → gapped_width (unflattened items) ≤ length items
 width_flat items = width_within (length items) items (omega arith)
 
 -- how many proxies the runs of a flat list stand for
@@ -98,5 +98,5 @@ runs_within (suc n) (Tree node below ∷ items) h =
     let c = runs_cut below items in
     omega arith
 
-pub runs_in : (items : List Flat) → proxies_in (forest_of items) ≡ runs_sum items
+pub runs_in : (items : List Flat) → proxies_in (unflattened items) ≡ runs_sum items
 runs_in items = runs_within (length items) items (omega arith)

@@ -8,7 +8,7 @@ use Rattle.nx_piece.specs.declared.piece.Piece.{Piece}
 use Rattle.nx_piece.specs.declared.piece.Stored.{Stored}
 use Rattle.nx_piece.specs.declared.piece.Stored.TheVariants.{Inline, Chained}
 use Rattle.nx_piece.specs.Decoded.{IsDecoded}
-use Rattle.nx_piece.specs.Gapped.{Gapped, End, Grow, Gap, width, gapped_weight, slots_in}
+use Rattle.nx_piece.specs.Gapped.{Gapped, End, Grow, Gap, gapped_width, gapped_weight, slots_in}
 use Rattle.nx_piece.specs.Encoding.{proxy_bytes, proxies_bytes, body_bytes, encoding}
 use Rattle.nx_piece.specs.Valid.{AreApart, AreTrees, BeginsNoGap, IsValid, IsValidBody, IsValidInline, IsValidChained, IsPiece, HaveRoots, HaveNumbers, HasNumbers, inline_length}
 use Rattle.nx_piece.specs.Weight.{HaveShortNodes}
@@ -68,7 +68,7 @@ chained_bytes body count chain = let i = items_length body.roots in omega arith
 
 piece_within : (piece : Piece) → IsValidBody piece.body.roots (length piece.proxies) → HaveRoots piece.proxies → IsPiece piece
 piece_within piece h ranged =
-    let roots : width piece.body.roots ≤ 256 = h.few in
+    let roots : gapped_width piece.body.roots ≤ 256 = h.few in
     let slots : gapped_weight piece.body.roots ≤ 256 = h.light in
     record {
       body = record { trees = h.trees; some = h.some; few = omega arith; light = omega arith; apart = h.apart; counted = h.counted; few_proxies = h.few_proxies };

@@ -7,7 +7,7 @@ use Rattle.std.proofs.lemmas.List.{drop-drop, length-drop, length-set, length-ta
 use Rattle.nx_weights.specs.Weight.{weight}
 use Rattle.nx_piece.specs.declared.piece.Piece.{Piece}
 use Rattle.nx_piece.specs.declared.piece.Proxy.{Proxy}
-use Rattle.nx_piece.specs.Gapped.{Gapped, GappedTree, End, Grow, Gap, width, gapped_nodes, gapped_weight, proxies_in, with_gap}
+use Rattle.nx_piece.specs.Gapped.{Gapped, GappedTree, End, Grow, Gap, gapped_width, gapped_nodes, gapped_weight, proxies_in, with_gap}
 use Rattle.nx_piece.specs.Valid.{AreApart, AreTrees, BeginsNoGap, HaveRoots, IsBodyWithin}
 use Rattle.nx_piece.specs.Locate.{PieceChild, Own, Kept, Reached, Inside, Outside, Missing, roots_from, kept_from, children_of, reached, reached_in, IsPartOf}
 use Rattle.nx_piece.specs.Cutting.{roots_of, without_tree, smaller_gap, without_proxy, IsWithoutTree, IsWithoutProxy, IsWithProxy}
@@ -17,7 +17,7 @@ use Rattle.nx_piece.proofs.TakeLemmas.{led_nowhere, led_away}
 
 -- One gap more in front:
 
-width_gap : (count : ℕ) (f : Gapped) → width (with_gap count f) ≤ 1 + width f
+width_gap : (count : ℕ) (f : Gapped) → gapped_width (with_gap count f) ≤ 1 + gapped_width f
 width_gap count End = omega arith
 width_gap count (Grow n b s) = omega arith
 width_gap count (Gap c s) = omega arith
@@ -46,7 +46,7 @@ trees_left zero (next ∷ path) (Grow n b s) proxies h = h
 trees_left (suc position) path (Grow n b s) proxies h = trees_left position path s (drop (proxies_in b) proxies) h
 trees_left position path (Gap c s) proxies h = absurd h
 
-width_left : (position : ℕ) (path : List ℕ) (f : Gapped) (proxies : List Proxy) → width (without_tree position path f proxies) ≤ width f
+width_left : (position : ℕ) (path : List ℕ) (f : Gapped) (proxies : List Proxy) → gapped_width (without_tree position path f proxies) ≤ gapped_width f
 width_left position path End proxies = omega arith
 width_left zero [] (Grow n b s) proxies = omega arith
 width_left zero (next ∷ path) (Grow n b s) proxies = omega arith
@@ -137,7 +137,7 @@ counted_left proxies first used position path (Gap c s) t before e =
     omega (arith, h, d, g)
 
 pub within_left : {most_roots most_slots : ℕ} {roots : Gapped} {n m : ℕ} (position : ℕ) (path : List ℕ) (proxies : List Proxy) (t : GappedTree) (before : ℕ) → IsBodyWithin most_roots most_slots roots n → led proxies 0 roots 0 position path ≡ Inside t before
-    → m + proxies_in t.below ≡ n → 1 ≤ width (without_tree position path roots proxies) → IsBodyWithin most_roots most_slots (without_tree position path roots proxies) m
+    → m + proxies_in t.below ≡ n → 1 ≤ gapped_width (without_tree position path roots proxies) → IsBodyWithin most_roots most_slots (without_tree position path roots proxies) m
 within_left {most_roots} {most_slots} {roots} {n} {m} position path proxies t before h led_is sum some =
     let few = h.few in
     let light = h.light in
@@ -198,7 +198,7 @@ removed_is piece member path roots own left here cut first below reached_is part
           let sum : length left + proxies_in cut.below ≡ length piece.proxies = ap (λ (xs : List Proxy). length xs + proxies_in cut.below) left_as ∙ length_around first (proxies_in cut.below) piece.proxies room in
           record {
             body = subst (λ (f : Gapped). IsBodyWithin 256 256 f (length left)) (sym taken.2)
-                (within_left member path piece.proxies cut taken.0 v.body (taken.1 0) sum (subst (λ (f : Gapped). 1 ≤ width f) taken.2 some));
+                (within_left member path piece.proxies cut taken.0 v.body (taken.1 0) sum (subst (λ (f : Gapped). 1 ≤ gapped_width f) taken.2 some));
             ranged = subst HaveRoots (sym left_as) (ranged_around first (first + proxies_in cut.below) piece.proxies v.ranged);
           };
     }
@@ -214,10 +214,10 @@ trees_fewer index (Grow n b s) h =
     ]
 trees_fewer index (Gap c s) h = absurd h
 
-width_fewer : (index : ℕ) (f : Gapped) → AreTrees f → width (without_proxy index f) ≡ width f
+width_fewer : (index : ℕ) (f : Gapped) → AreTrees f → gapped_width (without_proxy index f) ≡ gapped_width f
 width_fewer index End h = refl
 width_fewer index (Grow n b s) h =
-    elim (nat_lt index (proxies_in b)) as (λ t. width (if t then Grow n (without_proxy index b) s else Grow n b (without_proxy (index - proxies_in b) s)) ≡ 1 + width s) [
+    elim (nat_lt index (proxies_in b)) as (λ t. gapped_width (if t then Grow n (without_proxy index b) s else Grow n b (without_proxy (index - proxies_in b) s)) ≡ 1 + gapped_width s) [
       | true ↦ refl
       | false ↦ ap (λ (w : ℕ). 1 + w) (width_fewer (index - proxies_in b) s h)
     ]

@@ -8,8 +8,8 @@ use Rattle.nx_piece.specs.declared.viewing.Flat.{Flat}
 use Rattle.nx_piece.specs.declared.viewing.Flat.TheVariants.{Tree, Run}
 use Rattle.nx_piece.specs.declared.reading.Left.{Left}
 use Rattle.nx_piece.specs.Gapped.{Gapped, GappedTree, End, Grow, Gap, item_count}
-use Rattle.nx_piece.specs.Flat.{seen_node, forest_of, Spells}
-use Rattle.nx_piece.specs.Reading.{alone, HasPushed, HasTaken, HasTakenNode, IsLeft}
+use Rattle.nx_piece.specs.Flat.{seen_node, unflattened, Spells}
+use Rattle.nx_piece.specs.Reading.{alone, HasPushed, HasReadItems, HasTakenNode, IsLeft}
 use Rattle.nx_piece.proofs.ApartLemmas.{row}
 use Rattle.nx_piece.proofs.FlatLemmas.{first_tree}
 use Rattle.nx_piece.proofs.ReadLemmas.{ItemsRead, no_item_read, tree_read, run_read, whole_tree}
@@ -30,16 +30,16 @@ spells_row a b (Grow n d s) g h k = (
 )
 
 -- a forest is the one that its spelling says
-pub spells_forest : (items : List Flat) (f : Gapped) → Spells items f → forest_of items ≡ f
-spells_forest items End h = ap forest_of h
-spells_forest items (Gap c s) h = ap forest_of h.1 ∙ ap (Gap c) (spells_forest h.0 s h.2)
+pub spells_forest : (items : List Flat) (f : Gapped) → Spells items f → unflattened items ≡ f
+spells_forest items End h = ap unflattened h
+spells_forest items (Gap c s) h = ap unflattened h.1 ∙ ap (Gap c) (spells_forest h.0 s h.2)
 spells_forest items (Grow n b s) h =
-    ap forest_of h.3
+    ap unflattened h.3
     ∙ first_tree h.0 (length h.1) (h.1 ++ h.2)
-    ∙ ap (λ (l : List Flat). Grow (seen_node h.0) (forest_of l) (forest_of (drop (length h.1) (h.1 ++ h.2)))) (take-append_seam h.1 h.2)
-    ∙ ap (λ (l : List Flat). Grow (seen_node h.0) (forest_of h.1) (forest_of l)) (drop-append_seam h.1 h.2)
-    ∙ ap (λ (m : Node). Grow m (forest_of h.1) (forest_of h.2)) h.4
-    ∙ ap (λ (g : Gapped). Grow n g (forest_of h.2)) (spells_forest h.1 b h.5)
+    ∙ ap (λ (l : List Flat). Grow (seen_node h.0) (unflattened l) (unflattened (drop (length h.1) (h.1 ++ h.2)))) (take-append_seam h.1 h.2)
+    ∙ ap (λ (l : List Flat). Grow (seen_node h.0) (unflattened h.1) (unflattened l)) (drop-append_seam h.1 h.2)
+    ∙ ap (λ (m : Node). Grow m (unflattened h.1) (unflattened h.2)) h.4
+    ∙ ap (λ (g : Gapped). Grow n g (unflattened h.2)) (spells_forest h.1 b h.5)
     ∙ ap (Grow n b) (spells_forest h.2 s h.6)
 
 pub spells_length : (items : List Flat) (f : Gapped) → Spells items f → length items ≡ item_count f
@@ -70,8 +70,8 @@ pub pushed_length : {old new : List Flat} {f : Gapped} → HasPushed old new f �
 pushed_length {old} {new} {f} h = omega (arith, ap length h.same, length-append old h.added, spells_length h.added f h.spells)
 
 -- what is pushed onto nothing is all
-pub all_pushed : {old new : List Flat} {f : Gapped} → old ≡ [] → HasPushed old new f → forest_of new ≡ f
-all_pushed {old} {new} {f} none h = ap forest_of (h.same ∙ ap (λ (l : List Flat). l ++ h.added) none) ∙ spells_forest h.added f h.spells
+pub all_pushed : {old new : List Flat} {f : Gapped} → old ≡ [] → HasPushed old new f → unflattened new ≡ f
+all_pushed {old} {new} {f} none h = ap unflattened (h.same ∙ ap (λ (l : List Flat). l ++ h.added) none) ∙ spells_forest h.added f h.spells
 
 -- a node, what stands below it behind it, and then their number in its place
 pub tree_pushed : {old begun now new : List Flat} {f : Gapped} (node : NodeView) (place below : ℕ) → begun ≡ old ++ Tree node 0 ∷ [] → HasPushed begun now f → place ≡ length old → below ≡ item_count f → new ≡ slice_set now place (Tree node below)
@@ -99,7 +99,7 @@ no_item_pushed old bytes left = record { forest = End; pushed = none_pushed old;
 
 -- a tree that is read and pushed
 abbrev pub TakesTree : (old new : List Flat) (bytes : List ℕ) (before : Left) (behind : List ℕ) (after : Left) → Type 0
-TakesTree old new bytes before behind after = (t : GappedTree) × HasPushed old new (alone t) × HasTaken bytes before (alone t) behind after
+TakesTree old new bytes before behind after = (t : GappedTree) × HasPushed old new (alone t) × HasReadItems bytes before (alone t) behind after
 
 pub tree_item : {old mid new : List Flat} {bytes rest behind : List ℕ} {before between after : Left} {i : ℕ} {after_run : Bool} → ItemsPushed old mid bytes before rest between i after_run → TakesTree mid new rest between behind after
     → ItemsPushed old new bytes before behind after (i + 1) false
@@ -107,16 +107,16 @@ tree_item {old} {mid} {new} {bytes} {rest} {behind} {before} {between} {after} {
     record { forest = row h.forest (alone k.0); pushed = more_pushed h.pushed k.1; read = tree_read h.read k.2 }
 
 pub leaf_item : {old mid new : List Flat} {bytes rest behind : List ℕ} {before between after : Left} {i : ℕ} {after_run : Bool} (node : NodeView) → ItemsPushed old mid bytes before rest between i after_run
-    → HasTaken rest between (Grow (seen_node node) End End) behind after → new ≡ mid ++ Tree node 0 ∷ [] → ItemsPushed old new bytes before behind after (i + 1) false
+    → HasReadItems rest between (Grow (seen_node node) End End) behind after → new ≡ mid ++ Tree node 0 ∷ [] → ItemsPushed old new bytes before behind after (i + 1) false
 leaf_item node h k is = tree_item h (record { node = seen_node node; below = End }, leaf_pushed node is, k)
 
 pub run_item : {old mid new : List Flat} {bytes rest behind : List ℕ} {before between after : Left} {count i : ℕ} {after_run : Bool} → ItemsPushed old mid bytes before rest between i after_run
-    → (after_run ≡ false) × HasTaken rest between (Gap count End) behind after → new ≡ mid ++ Run count ∷ [] → ItemsPushed old new bytes before behind after (i + 1) true
+    → (after_run ≡ false) × HasReadItems rest between (Gap count End) behind after → new ≡ mid ++ Run count ∷ [] → ItemsPushed old new bytes before behind after (i + 1) true
 run_item {old} {mid} {new} {bytes} {rest} {behind} {before} {between} {after} {count} {i} {after_run} h k is =
     record { forest = row h.forest (Gap count End); pushed = more_pushed h.pushed (run_pushed count is); read = run_read h.read k }
 
 -- no more is left behind what is read
-pub left_few : {bytes rest : List ℕ} {before left : Left} {f : Gapped} → HasTaken bytes before f rest left → IsLeft before → IsLeft left
+pub left_few : {bytes rest : List ℕ} {before left : Left} {f : Gapped} → HasReadItems bytes before f rest left → IsLeft before → IsLeft left
 left_few h l = let a = h.room in let b = h.proxies in let r = l.room in let p = l.proxies in record { room = omega arith; proxies = omega arith }
 
 -- the head of a tree and all its items are read and pushed

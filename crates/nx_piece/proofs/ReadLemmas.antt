@@ -3,10 +3,10 @@ use Rattle.std.proofs.Common.{◌≡◌, ℕ, ◌+◌, ◌<◌, ◌≤◌, Bool,
 use Rattle.nx_tree.specs.declared.node.Node.{Node}
 use Rattle.nx_weights.specs.Weight.{weight}
 use Rattle.nx_piece.specs.declared.reading.Left.{Left}
-use Rattle.nx_piece.specs.Gapped.{Gapped, GappedTree, End, Grow, Gap, item_count, width, gapped_weight, proxies_in}
+use Rattle.nx_piece.specs.Gapped.{Gapped, GappedTree, End, Grow, Gap, item_count, gapped_width, gapped_weight, proxies_in}
 use Rattle.nx_piece.specs.Encoding.{node_bytes, run_bytes, items_bytes}
 use Rattle.nx_piece.specs.Valid.{AreApart, BeginsNoGap}
-use Rattle.nx_piece.specs.Reading.{alone, HasTaken, Begins, BeginsNoTree, BeginsNoRun, HasTakenNode, IsLeft}
+use Rattle.nx_piece.specs.Reading.{alone, HasReadItems, BeginsWithItems, BeginsNoTree, BeginsNoRun, HasTakenNode, IsLeft}
 use Rattle.nx_piece.proofs.WalkLemmas.{item_count_most, width_most}
 use Rattle.nx_piece.proofs.ApartLemmas.{row, width_row, IsStorable, node_unique, grow_bytes, goes_on}
 
@@ -23,8 +23,8 @@ ends_in_gap (Gap d (Gap c s)) = ends_in_gap (Gap c s)
 row_bytes : (f g : Gapped) → items_bytes (row f g) ≡ items_bytes f ++ items_bytes g
 row_bytes End g = refl
 row_bytes (Grow n b s) g =
-    ap (λ (r : List ℕ). (node_bytes n (width b) ++ items_bytes b) ++ r) (row_bytes s g)
-    ∙ sym (append_assoc (node_bytes n (width b) ++ items_bytes b) (items_bytes s) (items_bytes g))
+    ap (λ (r : List ℕ). (node_bytes n (gapped_width b) ++ items_bytes b) ++ r) (row_bytes s g)
+    ∙ sym (append_assoc (node_bytes n (gapped_width b) ++ items_bytes b) (items_bytes s) (items_bytes g))
 row_bytes (Gap c s) g = ap (λ (r : List ℕ). run_bytes c ++ r) (row_bytes s g)
 
 row_weight : (f g : Gapped) → gapped_weight (row f g) ≡ gapped_weight f + gapped_weight g
@@ -61,7 +61,7 @@ apart_row (Gap d (Grow m c s)) g h = apart_row (Grow m c s) g h.2
 apart_row (Gap d (Gap c s)) g h = absurd h.1
 
 -- more is read behind what is read
-pub read_more : {bytes rest behind : List ℕ} {before between after : Left} {f g : Gapped} → HasTaken bytes before f rest between → HasTaken rest between g behind after → (ends_in_gap f ≡ true → BeginsNoGap g) → HasTaken bytes before (row f g) behind after
+pub read_more : {bytes rest behind : List ℕ} {before between after : Left} {f g : Gapped} → HasReadItems bytes before f rest between → HasReadItems rest between g behind after → (ends_in_gap f ≡ true → BeginsNoGap g) → HasReadItems bytes before (row f g) behind after
 read_more {bytes} {rest} {behind} {before} {between} {after} {f} {g} h k next = record {
   same = h.same ∙ ap (λ (r : List ℕ). items_bytes f ++ r) k.same ∙ sym (ap (λ (r : List ℕ). r ++ behind) (row_bytes f g) ∙ append_assoc (items_bytes f) (items_bytes g) behind);
   room = let a = h.room in let b = k.room in let c = row_weight f g in omega arith;
@@ -71,15 +71,15 @@ read_more {bytes} {rest} {behind} {before} {between} {after} {f} {g} h k next = 
 }
 
 -- nothing is read yet
-pub read_none : (bytes : List ℕ) (left : Left) → HasTaken bytes left End bytes left
+pub read_none : (bytes : List ℕ) (left : Left) → HasReadItems bytes left End bytes left
 read_none bytes left = record { same = refl; room = omega arith; proxies = omega arith; items = omega arith; apart = tt }
 
-pub read_storable : (bytes behind : List ℕ) (before after : Left) (f : Gapped) → HasTaken bytes before f behind after → IsLeft before → IsStorable f
+pub read_storable : (bytes behind : List ℕ) (before after : Left) (f : Gapped) → HasReadItems bytes before f behind after → IsLeft before → IsStorable f
 read_storable bytes behind before after f h l =
     let a = h.room in let b = h.proxies in let r = l.room in let p = l.proxies in
     record { light = omega arith; few = omega arith; apart = h.apart }
 
-pub begins_storable : (bytes behind : List ℕ) (left : Left) (f : Gapped) → Begins bytes left f behind → IsLeft left → IsStorable f
+pub begins_storable : (bytes behind : List ℕ) (left : Left) (f : Gapped) → BeginsWithItems bytes left f behind → IsLeft left → IsStorable f
 begins_storable bytes behind left f h l =
     let a = h.room in let b = h.proxies in let r = l.room in let p = l.proxies in
     record { light = omega arith; few = omega arith; apart = h.apart }
@@ -88,10 +88,10 @@ begins_storable bytes behind left f h l =
 pub record Remains (rest : List ℕ) (left : Left) (f g : Gapped) (behind : List ℕ) : Type 0 where
   pub last : Gapped
   pub is : g ≡ row f last
-  pub begins : Begins rest left last behind
+  pub begins : BeginsWithItems rest left last behind
   pub next : ends_in_gap f ≡ true → BeginsNoGap last
 
-pub remains : {bytes rest behind : List ℕ} {before left : Left} {f g : Gapped} → HasTaken bytes before f rest left → Begins bytes before g behind → IsLeft before → width f ≤ width g → Remains rest left f g behind
+pub remains : {bytes rest behind : List ℕ} {before left : Left} {f g : Gapped} → HasReadItems bytes before f rest left → BeginsWithItems bytes before g behind → IsLeft before → gapped_width f ≤ gapped_width g → Remains rest left f g behind
 remains {bytes} {rest} {behind} {before} {left} {f} {g} h k l w =
     let on = goes_on f g rest behind (read_storable _ _ _ _ f h l) (begins_storable _ _ _ g k l) w (sym h.same ∙ k.same) in
     let parts = apart_row f on.rest (subst AreApart on.is k.apart) in
@@ -108,7 +108,7 @@ remains {bytes} {rest} {behind} {before} {left} {f} {g} h k l w =
     }
 
 -- where neither a tree nor a run begins nothing does
-pub nothing_begins : {rest behind : List ℕ} {left : Left} {last : Gapped} {after_run : Bool} → Begins rest left last behind → 0 < width last → BeginsNoTree rest left → BeginsNoRun rest left after_run → (after_run ≡ true → BeginsNoGap last) → ⊥
+pub nothing_begins : {rest behind : List ℕ} {left : Left} {last : Gapped} {after_run : Bool} → BeginsWithItems rest left last behind → 0 < gapped_width last → BeginsNoTree rest left → BeginsNoRun rest left after_run → (after_run ≡ true → BeginsNoGap last) → ⊥
 nothing_begins {rest} {behind} {left} {last = End} {after_run} h w trees runs next = omega arith
 nothing_begins {rest} {behind} {left} {last = (Grow n b s)} {after_run} h w trees runs next =
     let r = h.room in let p = h.proxies in let i = h.items in
@@ -132,8 +132,8 @@ nothing_begins {rest} {behind} {left} {last = (Gap c s)} {after_run = false} h w
 
 -- what a loop has read, and whether a run was the last
 pub record ItemsRead (bytes : List ℕ) (before : Left) (f : Gapped) (rest : List ℕ) (left : Left) (i : ℕ) (after_run : Bool) : Type 0 where
-  pub read : HasTaken bytes before f rest left
-  pub counted : width f ≡ i
+  pub read : HasReadItems bytes before f rest left
+  pub counted : gapped_width f ≡ i
   pub run : ends_in_gap f ≡ after_run
 
 ends_one : (f : Gapped) (n : Node) (b : Gapped) → ends_in_gap (row f (Grow n b End)) ≡ false
@@ -157,13 +157,13 @@ ends_gap (Gap m (Gap n s)) c = ends_gap (Gap n s) c
 pub no_item_read : (bytes : List ℕ) (left : Left) → ItemsRead bytes left End bytes left 0 false
 no_item_read bytes left = record { read = read_none bytes left; counted = refl; run = refl }
 
-pub tree_read : {bytes rest behind : List ℕ} {before between after : Left} {f : Gapped} {t : GappedTree} {i : ℕ} {after_run : Bool} → ItemsRead bytes before f rest between i after_run → HasTaken rest between (alone t) behind after
+pub tree_read : {bytes rest behind : List ℕ} {before between after : Left} {f : Gapped} {t : GappedTree} {i : ℕ} {after_run : Bool} → ItemsRead bytes before f rest between i after_run → HasReadItems rest between (alone t) behind after
     → ItemsRead bytes before (row f (alone t)) behind after (i + 1) false
 tree_read {bytes} {rest} {behind} {before} {between} {after} {f} {t} {i} {after_run} h k =
     let w = width_row f (alone t) in let c = h.counted in
     record { read = read_more h.read k (λ _. tt); counted = omega arith; run = ends_one f t.node t.below }
 
-pub run_read : {bytes rest behind : List ℕ} {before between after : Left} {f : Gapped} {c i : ℕ} {after_run : Bool} → ItemsRead bytes before f rest between i after_run → (after_run ≡ false) × HasTaken rest between (Gap c End) behind after
+pub run_read : {bytes rest behind : List ℕ} {before between after : Left} {f : Gapped} {c i : ℕ} {after_run : Bool} → ItemsRead bytes before f rest between i after_run → (after_run ≡ false) × HasReadItems rest between (Gap c End) behind after
     → ItemsRead bytes before (row f (Gap c End)) behind after (i + 1) true
 run_read {bytes} {rest} {behind} {before} {between} {after} {f} {c} {i} {after_run} h k =
     let w = width_row f (Gap c End) in let n = h.counted in
@@ -176,18 +176,18 @@ head_left bytes behind before left node count h l =
 
 -- a head and all its items are a tree
 pub whole_tree : {bytes behind rest : List ℕ} {before left after : Left} {node : Node} {count i : ℕ} {f : Gapped} {after_run : Bool} → HasTakenNode bytes before node count behind left → ItemsRead behind left f rest after i after_run → i ≡ count
-    → HasTaken bytes before (Grow node f End) rest after
+    → HasReadItems bytes before (Grow node f End) rest after
 whole_tree {bytes} {behind} {rest} {before} {left} {after} {node} {count} {i} {f} {after_run} h k e =
-    let w : count ≡ width f = sym e ∙ sym k.counted in
+    let w : count ≡ gapped_width f = sym e ∙ sym k.counted in
     record {
-      same = h.same ∙ ap (λ (n : ℕ). node_bytes node n ++ behind) w ∙ ap (λ (r : List ℕ). node_bytes node (width f) ++ r) k.read.same ∙ grow_bytes node f End rest;
+      same = h.same ∙ ap (λ (n : ℕ). node_bytes node n ++ behind) w ∙ ap (λ (r : List ℕ). node_bytes node (gapped_width f) ++ r) k.read.same ∙ grow_bytes node f End rest;
       room = let a = h.room in let b = k.read.room in omega arith;
       proxies = let a = h.proxies in let b = k.read.proxies in omega arith;
       items = let a = h.items in let b = k.read.items in omega arith;
       apart = (k.read.apart, tt);
     }
 
-pub lone_node : {bytes behind : List ℕ} {before left : Left} {node : Node} {count : ℕ} → HasTakenNode bytes before node count behind left → count ≡ 0 → HasTaken bytes before (Grow node End End) behind left
+pub lone_node : {bytes behind : List ℕ} {before left : Left} {node : Node} {count : ℕ} → HasTakenNode bytes before node count behind left → count ≡ 0 → HasReadItems bytes before (Grow node End End) behind left
 lone_node {bytes} {behind} {before} {left} {node} {count} h none = whole_tree h (no_item_read behind left) (sym none)
 
 -- where an item of a tree doesn't begin there is no tree
@@ -196,9 +196,9 @@ pub no_tree : {bytes behind rest : List ℕ} {before left between : Left} {node 
 no_tree {bytes} {behind} {rest} {before} {left} {between} {node} {count} {i} {f} {after_run} h l fits k within trees runs t last b =
     let own : weight t.node ≤ 256 = let r = b.room in let q = l.room in omega arith in
     let mine : weight node ≤ 256 = let r = h.room in let q = l.room in omega arith in
-    let few : width t.below < 65536 = let r = b.room in let q = l.room in let s = item_count_most t.below b.apart.0 in let w = width_most t.below in omega arith in
+    let few : gapped_width t.below < 65536 = let r = b.room in let q = l.room in let s = item_count_most t.below b.apart.0 in let w = width_most t.below in omega arith in
     let told = node_unique mine own fits few (sym h.same ∙ b.same ∙ sym (grow_bytes t.node t.below End last)) in
-    let same_count : count ≡ width t.below = told.1 in
+    let same_count : count ≡ gapped_width t.below = told.1 in
     let same_weight : weight node ≡ weight t.node = ap weight told.0 in
     let w = k.counted in
     let left_is = head_left _ _ _ _ _ _ h l in
@@ -210,11 +210,11 @@ no_tree {bytes} {behind} {rest} {before} {left} {between} {node} {count} {i} {f}
       items = let x = b.items in let y = h.items in omega arith;
       apart = b.apart.0;
     }) left_is (omega arith) in
-    let wide : 0 < width r.last = let x = ap width r.is ∙ width_row f r.last in omega arith in
+    let wide : 0 < gapped_width r.last = let x = ap gapped_width r.is ∙ width_row f r.last in omega arith in
     nothing_begins r.begins wide trees runs (λ e. r.next (k.run ∙ e))
 
 -- where no node begins there is no tree
 pub no_head : (bytes : List ℕ) (left : Left) → IsLeft left → ((node : Node) (items : ℕ) (behind : List ℕ) → weight node ≤ left.room → items < 65536 → bytes ≡ node_bytes node items ++ behind → ⊥) → BeginsNoTree bytes left
 no_head bytes left l none t behind b =
     let r = b.room in let q = l.room in let s = item_count_most t.below b.apart.0 in let w = width_most t.below in
-    none t.node (width t.below) (items_bytes t.below ++ behind) (omega arith) (omega arith) (b.same ∙ sym (grow_bytes t.node t.below End behind))
+    none t.node (gapped_width t.below) (items_bytes t.below ++ behind) (omega arith) (omega arith) (b.same ∙ sym (grow_bytes t.node t.below End behind))

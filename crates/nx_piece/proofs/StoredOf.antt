@@ -16,8 +16,8 @@ use Rattle.nx_piece.specs.declared.piece.Proxy.{Proxy}
 use Rattle.nx_piece.specs.declared.piece.Stored.{Stored}
 use Rattle.nx_piece.specs.declared.piece.Stored.TheVariants.{Inline, Chained}
 use Rattle.nx_piece.specs.Decoded.{IsDecoded}
-use Rattle.nx_piece.specs.Gapped.{Gapped, End, Grow, Gap, item_count, width, gapped_weight, proxies_in}
-use Rattle.nx_piece.specs.Encoding.{two, four, kind_byte, padding, content_bytes, node_bytes, items_bytes, proxies_bytes, encoding}
+use Rattle.nx_piece.specs.Gapped.{Gapped, End, Grow, Gap, item_count, gapped_width, gapped_weight, proxies_in}
+use Rattle.nx_piece.specs.Encoding.{two_bytes, four_bytes, kind_byte, padding, content_bytes, node_bytes, items_bytes, proxies_bytes, encoding}
 use Rattle.nx_piece.specs.Valid.{AreApart, AreTrees, BeginsNoGap, IsValid, IsValidBody, IsValidInline, IsValidChained, HaveRoots, HaveNumbers, HasNumbers, inline_length, longest_inline}
 use Rattle.nx_piece.proofs.WalkLemmas.{item_count_most}
 use Rattle.nx_piece.proofs.ApartLemmas.{kind_from, kind_back, IsLight, light_name, IsStorable, storable_node, storable_gap, grow_bytes, content_length}
@@ -82,10 +82,10 @@ node_item : (rows : ℕ → List ℕ → Gapped × List ℕ) (count : ℕ) (n : 
 node_item rows count n i r light fits =
     let run = from_be_bytes w32 (take 4 (drop 4 (node_bytes n i ++ r))) in
     let behind = content_bytes n ++ r in
-    ap (λ (t : Bool). item_of t rows count (kind_from (kind_byte n.kind)) (from_be_bytes w16 (two (length n.name))) (from_be_bytes w16 (two (length n.content))) (from_be_bytes w16 (two i)) run behind) (not_six n.kind)
-    ∙ ap (λ (k : Kind). item_of false rows count k (from_be_bytes w16 (two (length n.name))) (from_be_bytes w16 (two (length n.content))) (from_be_bytes w16 (two i)) run behind) (kind_back n.kind)
-    ∙ ap (λ (k : ℕ). item_of false rows count n.kind k (from_be_bytes w16 (two (length n.content))) (from_be_bytes w16 (two i)) run behind) (from_be_bytes-to_be_bytes_2 (length n.name) (light_name n light).0)
-    ∙ ap (λ (k : ℕ). item_of false rows count n.kind (length n.name) k (from_be_bytes w16 (two i)) run behind) (from_be_bytes-to_be_bytes_2 (length n.content) (light_name n light).1)
+    ap (λ (t : Bool). item_of t rows count (kind_from (kind_byte n.kind)) (from_be_bytes w16 (two_bytes (length n.name))) (from_be_bytes w16 (two_bytes (length n.content))) (from_be_bytes w16 (two_bytes i)) run behind) (not_six n.kind)
+    ∙ ap (λ (k : Kind). item_of false rows count k (from_be_bytes w16 (two_bytes (length n.name))) (from_be_bytes w16 (two_bytes (length n.content))) (from_be_bytes w16 (two_bytes i)) run behind) (kind_back n.kind)
+    ∙ ap (λ (k : ℕ). item_of false rows count n.kind k (from_be_bytes w16 (two_bytes (length n.content))) (from_be_bytes w16 (two_bytes i)) run behind) (from_be_bytes-to_be_bytes_2 (length n.name) (light_name n light).0)
+    ∙ ap (λ (k : ℕ). item_of false rows count n.kind (length n.name) k (from_be_bytes w16 (two_bytes i)) run behind) (from_be_bytes-to_be_bytes_2 (length n.content) (light_name n light).1)
     ∙ ap (λ (k : ℕ). item_of false rows count n.kind (length n.name) (length n.content) k run behind) (from_be_bytes-to_be_bytes_2 i fits)
     ∙ ap (λ (m : Node). (
       Grow m (rows i (drop (size_of (length n.name) (length n.content)) behind)).0 (rows count (rows i (drop (size_of (length n.name) (length n.content)) behind)).1).0,
@@ -93,25 +93,25 @@ node_item rows count n i r light fits =
     )) (node_back n r)
     ∙ ap (λ (bs : List ℕ). (Grow n (rows i bs).0 (rows count (rows i bs).1).0, (rows count (rows i bs).1).1)) (behind_back n r)
 
-row_back : (steps : ℕ) (f : Gapped) (x : List ℕ) → IsStorable f → item_count f < steps → row_of steps (width f) (items_bytes f ++ x) ≡ (f, x)
+row_back : (steps : ℕ) (f : Gapped) (x : List ℕ) → IsStorable f → item_count f < steps → row_of steps (gapped_width f) (items_bytes f ++ x) ≡ (f, x)
 row_back zero f x h few = absurd (omega arith)
 row_back (suc steps) End x h few = refl
 row_back (suc steps) (Grow n b s) x h few =
     let p = storable_node n b s h in
-    let one : width (Grow n b s) ≡ suc (width s) = omega arith in
+    let one : gapped_width (Grow n b s) ≡ suc (gapped_width s) = omega arith in
     let below = row_back steps b (items_bytes s ++ x) p.2 (omega arith) in
     let beside = row_back steps s x p.3 (omega arith) in
     ap (λ (k : ℕ). row_of (suc steps) k (items_bytes (Grow n b s) ++ x)) one
-    ∙ ap (λ (bs : List ℕ). item_at (λ k cs. row_of steps k cs) (width s) bs) (sym (grow_bytes n b s x))
-    ∙ node_item (λ k cs. row_of steps k cs) (width s) n (width b) (items_bytes b ++ (items_bytes s ++ x)) p.0 p.1
-    ∙ ap (λ (r : Gapped × List ℕ). (Grow n r.0 (row_of steps (width s) r.1).0, (row_of steps (width s) r.1).1)) below
+    ∙ ap (λ (bs : List ℕ). item_at (λ k cs. row_of steps k cs) (gapped_width s) bs) (sym (grow_bytes n b s x))
+    ∙ node_item (λ k cs. row_of steps k cs) (gapped_width s) n (gapped_width b) (items_bytes b ++ (items_bytes s ++ x)) p.0 p.1
+    ∙ ap (λ (r : Gapped × List ℕ). (Grow n r.0 (row_of steps (gapped_width s) r.1).0, (row_of steps (gapped_width s) r.1).1)) below
     ∙ ap (λ (r : Gapped × List ℕ). (Grow n b r.0, r.1)) beside
 row_back (suc steps) (Gap c s) x h few =
     let p = storable_gap c s h in
-    let one : width (Gap c s) ≡ suc (width s) = omega arith in
+    let one : gapped_width (Gap c s) ≡ suc (gapped_width s) = omega arith in
     let beside = row_back steps s x p.1 (omega arith) in
     ap (λ (k : ℕ). row_of (suc steps) k (items_bytes (Gap c s) ++ x)) one
-    ∙ ap (λ (k : ℕ). (Gap k (row_of steps (width s) (items_bytes s ++ x)).0, (row_of steps (width s) (items_bytes s ++ x)).1)) (from_be_bytes-to_be_bytes_4 c p.0)
+    ∙ ap (λ (k : ℕ). (Gap k (row_of steps (gapped_width s) (items_bytes s ++ x)).0, (row_of steps (gapped_width s) (items_bytes s ++ x)).1)) (from_be_bytes-to_be_bytes_4 c p.0)
     ∙ ap (λ (r : Gapped × List ℕ). (Gap c r.0, r.1)) beside
 
 -- so many proxies
@@ -126,8 +126,8 @@ proxies_back (p ∷ ps) h k =
     let one : length (p ∷ ps) ≡ suc (length ps) = omega arith in
     let roots : p.roots ≤ 256 = h.1 in
     ap (λ (n : ℕ). proxies_of n (proxies_bytes (p ∷ ps))) one
-    ∙ ap (λ (n : ℕ). record { page = n; slot = from_be_bytes w16 (two p.slot); roots = from_be_bytes w16 (two p.roots) } ∷ proxies_of (length ps) (proxies_bytes ps)) (from_be_bytes-to_be_bytes_4 p.page k.0)
-    ∙ ap (λ (n : ℕ). record { page = p.page; slot = n; roots = from_be_bytes w16 (two p.roots) } ∷ proxies_of (length ps) (proxies_bytes ps)) (from_be_bytes-to_be_bytes_2 p.slot k.1)
+    ∙ ap (λ (n : ℕ). record { page = n; slot = from_be_bytes w16 (two_bytes p.slot); roots = from_be_bytes w16 (two_bytes p.roots) } ∷ proxies_of (length ps) (proxies_bytes ps)) (from_be_bytes-to_be_bytes_4 p.page k.0)
+    ∙ ap (λ (n : ℕ). record { page = p.page; slot = n; roots = from_be_bytes w16 (two_bytes p.roots) } ∷ proxies_of (length ps) (proxies_bytes ps)) (from_be_bytes-to_be_bytes_2 p.slot k.1)
     ∙ ap (λ (n : ℕ). record { page = p.page; slot = p.slot; roots = n } ∷ proxies_of (length ps) (proxies_bytes ps)) (from_be_bytes-to_be_bytes_2 p.roots (omega arith))
     ∙ ap (λ (xs : List Proxy). p ∷ xs) (proxies_back ps h.2 k.2)
 
@@ -142,26 +142,26 @@ looked bytes =
     (from_be_bytes w32 (take 4 (drop 8 bytes))) (from_be_bytes w32 (take 4 (drop 12 bytes)))
 
 -- what is read of a head and of the items behind it
-row_read : (f : Gapped) (p : ℕ) (x : List ℕ) → IsValidBody f p → row_of (suc (from_be_bytes w32 (four (item_count f)))) (from_be_bytes w16 (two (width f))) (items_bytes f ++ x) ≡ (f, x)
+row_read : (f : Gapped) (p : ℕ) (x : List ℕ) → IsValidBody f p → row_of (suc (from_be_bytes w32 (four_bytes (item_count f)))) (from_be_bytes w16 (two_bytes (gapped_width f))) (items_bytes f ++ x) ≡ (f, x)
 row_read f p x h =
-    let few : width f ≤ 256 = h.few in
+    let few : gapped_width f ≤ 256 = h.few in
     let s = item_count_most f h.apart in let l = h.light in
-    ap (λ (k : ℕ). row_of (suc k) (from_be_bytes w16 (two (width f))) (items_bytes f ++ x)) (from_be_bytes-to_be_bytes_4 (item_count f) (omega arith))
-    ∙ ap (λ (k : ℕ). row_of (suc (item_count f)) k (items_bytes f ++ x)) (from_be_bytes-to_be_bytes_2 (width f) (omega arith))
+    ap (λ (k : ℕ). row_of (suc k) (from_be_bytes w16 (two_bytes (gapped_width f))) (items_bytes f ++ x)) (from_be_bytes-to_be_bytes_4 (item_count f) (omega arith))
+    ∙ ap (λ (k : ℕ). row_of (suc (item_count f)) k (items_bytes f ++ x)) (from_be_bytes-to_be_bytes_2 (gapped_width f) (omega arith))
     ∙ row_back (suc (item_count f)) f x (valid_storable f p h) (omega arith)
 
-count_read : (f : Gapped) (p : ℕ) → IsValidBody f p → from_be_bytes w32 (four p) ≡ p
+count_read : (f : Gapped) (p : ℕ) → IsValidBody f p → from_be_bytes w32 (four_bytes p) ≡ p
 count_read f p h = let a = h.few_proxies in from_be_bytes-to_be_bytes_4 p (omega arith)
 
 pub looked_back : (s : Stored) → IsValid s → HasNumbers s → looked (encoding s) ≡ s
 looked_back (Inline piece) h k =
-    ap (λ (r : Gapped × List ℕ). stored_by true r (from_be_bytes w32 (four (length piece.proxies))) (from_be_bytes w32 (four 0))) (row_read piece.body.roots (length piece.proxies) (proxies_bytes piece.proxies) h.body)
-    ∙ ap (λ (n : ℕ). stored_by true (piece.body.roots, proxies_bytes piece.proxies) n (from_be_bytes w32 (four 0))) (count_read piece.body.roots (length piece.proxies) h.body)
+    ap (λ (r : Gapped × List ℕ). stored_by true r (from_be_bytes w32 (four_bytes (length piece.proxies))) (from_be_bytes w32 (four_bytes 0))) (row_read piece.body.roots (length piece.proxies) (proxies_bytes piece.proxies) h.body)
+    ∙ ap (λ (n : ℕ). stored_by true (piece.body.roots, proxies_bytes piece.proxies) n (from_be_bytes w32 (four_bytes 0))) (count_read piece.body.roots (length piece.proxies) h.body)
     ∙ ap (λ (ps : List Proxy). Inline (record { body = piece.body; proxies = ps })) (proxies_back piece.proxies h.ranged k)
 looked_back (Chained body count chain) h k =
-    ap (λ (bs : List ℕ). stored_by false (row_of (suc (from_be_bytes w32 (four (item_count body.roots)))) (from_be_bytes w16 (two (width body.roots))) bs) (from_be_bytes w32 (four count)) (from_be_bytes w32 (four chain))) (sym (append-nil (items_bytes body.roots)))
-    ∙ ap (λ (r : Gapped × List ℕ). stored_by false r (from_be_bytes w32 (four count)) (from_be_bytes w32 (four chain))) (row_read body.roots count [] h.body)
-    ∙ ap (λ (n : ℕ). Chained body n (from_be_bytes w32 (four chain))) (count_read body.roots count h.body)
+    ap (λ (bs : List ℕ). stored_by false (row_of (suc (from_be_bytes w32 (four_bytes (item_count body.roots)))) (from_be_bytes w16 (two_bytes (gapped_width body.roots))) bs) (from_be_bytes w32 (four_bytes count)) (from_be_bytes w32 (four_bytes chain))) (sym (append-nil (items_bytes body.roots)))
+    ∙ ap (λ (r : Gapped × List ℕ). stored_by false r (from_be_bytes w32 (four_bytes count)) (from_be_bytes w32 (four_bytes chain))) (row_read body.roots count [] h.body)
+    ∙ ap (λ (n : ℕ). Chained body n (from_be_bytes w32 (four_bytes chain))) (count_read body.roots count h.body)
     ∙ ap (λ (n : ℕ). Chained body count n) (from_be_bytes-to_be_bytes_4 chain k)
 
 -- each of the conditions holds or doesn't:
@@ -225,10 +225,10 @@ numbers_decided (p ∷ ps) =
 body_decided : (f : Gapped) (p : ℕ) → Decided (IsValidBody f p)
 body_decided f p =
     as_decided
-    (λ (h : (AreTrees f × ((1 ≤ width f) × (width f ≤ 256))) × (((gapped_weight f ≤ 256) × AreApart f) × ((proxies_in f ≡ p) × (p ≤ 524288)))).
+    (λ (h : (AreTrees f × ((1 ≤ gapped_width f) × (gapped_width f ≤ 256))) × (((gapped_weight f ≤ 256) × AreApart f) × ((proxies_in f ≡ p) × (p ≤ 524288)))).
     record { trees = h.0.0; some = h.0.1.0; few = h.0.1.1; light = h.1.0.0; apart = h.1.0.1; counted = h.1.1.0; few_proxies = h.1.1.1 })
     (λ (b : IsValidBody f p). ((b.trees, (b.some, b.few)), ((b.light, b.apart), (b.counted, b.few_proxies))))
-    (both (both (trees_decided f) (both (at_most 1 (width f)) (at_most (width f) 256)))
+    (both (both (trees_decided f) (both (at_most 1 (gapped_width f)) (at_most (gapped_width f) 256)))
     (both (both (at_most (gapped_weight f) 256) (apart_decided f)) (both (same_number (proxies_in f) p) (at_most p 524288))))
 
 valid_decided : (s : Stored) → Decided (IsValid s)

@@ -6,7 +6,7 @@ use Rattle.nx_weights.specs.Weight.{weight}
 use Rattle.nx_piece.specs.declared.piece.Item.{Item}
 use Rattle.nx_piece.specs.declared.piece.Item.TheVariants.{Tree, Run}
 use Rattle.nx_piece.specs.declared.piece.Proxy.{Proxy}
-use Rattle.nx_piece.specs.Gapped.{Gapped, GappedTree, End, Grow, Gap, item_count, grown_of, width, gapped_weight, slots_in}
+use Rattle.nx_piece.specs.Gapped.{Gapped, GappedTree, End, Grow, Gap, item_count, grown_of, gapped_width, gapped_weight, slots_in}
 use Rattle.nx_piece.specs.Items.{gapped_of}
 use Rattle.nx_piece.specs.Encoding.{node_bytes, run_bytes, tree_bytes, items_bytes, proxy_bytes, proxies_bytes, head_bytes, body_bytes}
 use Rattle.nx_piece.specs.Valid.{HaveNumbers, AreApart, BeginsNoGap, IsSmall, IsSmallTree}
@@ -16,7 +16,7 @@ pub next_left : {A : Type 0} (xs : List A) (i : ℕ) (x : A) → i < length xs �
 next_left xs i x within is =
     drop-cons xs i x within ∙ ap (λ y. y ∷ drop (suc i) xs) (sym is) ∙ ap (λ (j : ℕ). x ∷ drop j xs) (let q : suc i ≡ i + 1 = omega arith in q)
 
-pub width_most : (f : Gapped) → width f ≤ item_count f
+pub width_most : (f : Gapped) → gapped_width f ≤ item_count f
 width_most End = omega arith
 width_most (Grow n b s) = omega (arith, width_most s)
 width_most (Gap c s) = omega (arith, width_most s)
@@ -53,24 +53,24 @@ pub next_falls : (f : Gapped) (items : List Item) (i : ℕ) (t : GappedTree) →
 next_falls f items i t e d =
     let a = item_count_drop i items in let b = ap (λ (xs : List Item). item_count (gapped_of xs)) d in let c = ap item_count e in omega arith
 
-width_length : (items : List Item) → width (gapped_of items) ≡ length items
+width_length : (items : List Item) → gapped_width (gapped_of items) ≡ length items
 width_length [] = refl
 width_length (Tree t ∷ items) = let h = width_length items in omega (arith, h)
 width_length (Run c ∷ items) = let h = width_length items in omega (arith, h)
 
 -- the items of a tree as a list
-pub width_items : (f : Gapped) (items : List Item) → gapped_of items ≡ f → length items ≡ width f
-width_items f items e = sym (width_length items) ∙ ap width e
+pub width_items : (f : Gapped) (items : List Item) → gapped_of items ≡ f → length items ≡ gapped_width f
+width_items f items e = sym (width_length items) ∙ ap gapped_width e
 
-width_length_trees : (trees : List GappedTree) → width (grown_of trees) ≡ length trees
+width_length_trees : (trees : List GappedTree) → gapped_width (grown_of trees) ≡ length trees
 width_length_trees [] = refl
 width_length_trees (t ∷ trees) = let h = width_length_trees trees in omega (arith, h)
 
-pub width_trees : (f : Gapped) (trees : List GappedTree) → grown_of trees ≡ f → length trees ≡ width f
-width_trees f trees e = sym (width_length_trees trees) ∙ ap width e
+pub width_trees : (f : Gapped) (trees : List GappedTree) → grown_of trees ≡ f → length trees ≡ gapped_width f
+width_trees f trees e = sym (width_length_trees trees) ∙ ap gapped_width e
 
 -- a piece's trees and gaps are few
-pub small_width : (t : GappedTree) → IsSmallTree t → width t.below < 65536
+pub small_width : (t : GappedTree) → IsSmallTree t → gapped_width t.below < 65536
 small_width t h = let l = h.light in let s = item_count_most t.below h.apart in omega (arith, width_most t.below)
 
 -- what is left of the trees and gaps is as small
@@ -125,9 +125,9 @@ pub measured_end : (items slots n w : ℕ) (rest : Gapped) → IsMeasured items 
 measured_end items slots n w rest h e =
     let a = h.item_sum in let b = h.slot_sum in let p = ap item_count e in let q = ap slots_in e in (omega arith, omega arith)
 
-pub written_start : (now old : List ℕ) (f : Gapped) (t : GappedTree) → now ≡ old ++ node_bytes t.node (width t.below) → f ≡ t.below → IsSmallTree t → IsWritten now f (old ++ tree_bytes t)
+pub written_start : (now old : List ℕ) (f : Gapped) (t : GappedTree) → now ≡ old ++ node_bytes t.node (gapped_width t.below) → f ≡ t.below → IsSmallTree t → IsWritten now f (old ++ tree_bytes t)
 written_start now old f t is e h = record {
-  bytes = ap (λ (r : List ℕ). r ++ items_bytes f) is ∙ append_assoc old (node_bytes t.node (width t.below)) (items_bytes f) ∙ ap (λ (g : Gapped). old ++ (node_bytes t.node (width t.below) ++ items_bytes g)) e;
+  bytes = ap (λ (r : List ℕ). r ++ items_bytes f) is ∙ append_assoc old (node_bytes t.node (gapped_width t.below)) (items_bytes f) ∙ ap (λ (g : Gapped). old ++ (node_bytes t.node (gapped_width t.below) ++ items_bytes g)) e;
   small = let l = h.light in next_small t.below f (sym e) (record { light = omega arith; apart = h.apart });
 }
 
@@ -180,14 +180,14 @@ pub next_at : {A : Type 0} (xs : List A) (i : ℕ) (other : A) → i < length xs
 next_at xs i other within = drop-cons xs i other within ∙ ap (λ (j : ℕ). get_or xs i other ∷ drop j xs) (let q : suc i ≡ i + 1 = omega arith in q)
 
 -- a head and the items of its roots
-pub whole_body : {now first start : List ℕ} {form n items : ℕ} {f roots : Gapped} (proxies chain : ℕ) → now ≡ first ++ items_bytes f → first ≡ start ++ head_bytes form n items proxies chain → start ≡ [] → f ≡ roots → n ≡ width roots → items ≡ item_count roots
+pub whole_body : {now first start : List ℕ} {form n items : ℕ} {f roots : Gapped} (proxies chain : ℕ) → now ≡ first ++ items_bytes f → first ≡ start ++ head_bytes form n items proxies chain → start ≡ [] → f ≡ roots → n ≡ gapped_width roots → items ≡ item_count roots
     → now ≡ body_bytes form roots proxies chain
 whole_body {now} {first} {start} {form} {n} {items} {f} {roots} proxies chain all head none same w s =
     all
     ∙ ap (λ (r : List ℕ). r ++ items_bytes f) (head ∙ ap (λ (r : List ℕ). r ++ head_bytes form n items proxies chain) none)
     ∙ ap (λ (g : Gapped). head_bytes form n items proxies chain ++ items_bytes g) same
     ∙ ap (λ (k : ℕ). head_bytes form k items proxies chain ++ items_bytes roots) w
-    ∙ ap (λ (k : ℕ). head_bytes form (width roots) k proxies chain ++ items_bytes roots) s
+    ∙ ap (λ (k : ℕ). head_bytes form (gapped_width roots) k proxies chain ++ items_bytes roots) s
 
 -- the first proxies are written, and the bytes of the others are left
 pub record ProxiesWritten (now old : List ℕ) (i : ℕ) (all : List Proxy) : Type 0 where

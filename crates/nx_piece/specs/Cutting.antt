@@ -4,7 +4,7 @@ use Rattle.std.specs.List.{sum_by}
 use Rattle.nx_piece.specs.declared.piece.Piece.{Piece}
 use Rattle.nx_piece.specs.declared.piece.Proxy.{Proxy}
 use Rattle.nx_piece.specs.declared.cutting.Removed.{Removed}
-use Rattle.nx_piece.specs.Gapped.{Gapped, GappedTree, End, Grow, Gap, width, proxies_in, with_gap}
+use Rattle.nx_piece.specs.Gapped.{Gapped, GappedTree, End, Grow, Gap, gapped_width, proxies_in, with_gap}
 use Rattle.nx_piece.specs.Locate.{Inside, reached_in, IsPartOf}
 use Rattle.nx_piece.specs.Valid.{IsValidPiece}
 
@@ -39,7 +39,7 @@ pub record IsWithoutTree (piece : Piece) (member : ℕ) (path : List ℕ) (remov
   pub body : removed.rest.body.roots ≡ without_tree member path piece.body.roots piece.proxies
   pub taken : removed.proxies ≡ take (proxies_in removed.tree.below) (drop first piece.proxies)
   pub left : removed.rest.proxies ≡ take first piece.proxies ++ drop (first + proxies_in removed.tree.below) piece.proxies
-  pub valid : IsValidPiece piece → 1 ≤ width removed.rest.body.roots → IsValidPiece removed.rest
+  pub valid : IsValidPiece piece → 1 ≤ gapped_width removed.rest.body.roots → IsValidPiece removed.rest
 
 -- the tree was taken out, or the path leads to no tree of the piece
 abbrev pub IsTreeRemoved : Piece → ℕ → List ℕ → Option Removed → Type 0

@@ -8,15 +8,15 @@ use Rattle.nx_tree.specs.declared.node.Node.{Node}
 use Rattle.nx_piece.specs.declared.piece.Proxy.{Proxy}
 use Rattle.nx_piece.specs.declared.piece.Stored.{Stored}
 use Rattle.nx_piece.specs.declared.piece.Stored.TheVariants.{Inline, Chained}
-use Rattle.nx_piece.specs.Gapped.{Gapped, GappedTree, End, Grow, Gap, width, item_count}
+use Rattle.nx_piece.specs.Gapped.{Gapped, GappedTree, End, Grow, Gap, gapped_width, item_count}
 
 -- a number in two bytes, the highest first
-abbrev pub two : ℕ → List ℕ
-two n = to_be_bytes w16 n
+abbrev pub two_bytes : ℕ → List ℕ
+two_bytes n = to_be_bytes w16 n
 
 -- a number in four bytes, the highest first
-abbrev pub four : ℕ → List ℕ
-four n = to_be_bytes w32 n
+abbrev pub four_bytes : ℕ → List ℕ
+four_bytes n = to_be_bytes w32 n
 
 -- the byte for each kind
 abbrev pub kind_byte : Kind → ℕ
@@ -36,7 +36,7 @@ content_bytes node = node.name ++ node.content ++ replicate (padding (length nod
 
 -- the numbers of a node: its kind, how many bytes its name and its content have, and how many child items it has
 abbrev pub node_head_bytes : (kind : Kind) (name content items : ℕ) → List ℕ
-node_head_bytes kind name content items = kind_byte kind ∷ 0 ∷ two name ++ two content ++ two items
+node_head_bytes kind name content items = kind_byte kind ∷ 0 ∷ two_bytes name ++ two_bytes content ++ two_bytes items
 
 -- a node with its number of child items
 abbrev pub node_bytes : Node → ℕ → List ℕ
@@ -44,19 +44,19 @@ node_bytes node items = node_head_bytes node.kind (length node.name) (length nod
 
 -- a run of proxies
 abbrev pub run_bytes : ℕ → List ℕ
-run_bytes count = 6 ∷ 0 ∷ 0 ∷ 0 ∷ four count
+run_bytes count = 6 ∷ 0 ∷ 0 ∷ 0 ∷ four_bytes count
 
 -- the items in document order, a node before its child items
 abbrev pub items_bytes : Gapped → List ℕ
 items_bytes End = []
-items_bytes (Grow node below beside) = node_bytes node (width below) ++ items_bytes below ++ items_bytes beside
+items_bytes (Grow node below beside) = node_bytes node (gapped_width below) ++ items_bytes below ++ items_bytes beside
 items_bytes (Gap count beside) = run_bytes count ++ items_bytes beside
 
 abbrev pub tree_bytes : GappedTree → List ℕ
-tree_bytes tree = node_bytes tree.node (width tree.below) ++ items_bytes tree.below
+tree_bytes tree = node_bytes tree.node (gapped_width tree.below) ++ items_bytes tree.below
 
 abbrev pub proxy_bytes : Proxy → List ℕ
-proxy_bytes proxy = four proxy.page ++ two proxy.slot ++ two proxy.roots
+proxy_bytes proxy = four_bytes proxy.page ++ two_bytes proxy.slot ++ two_bytes proxy.roots
 
 -- the proxies in order
 abbrev pub proxies_bytes : List Proxy → List ℕ
@@ -65,17 +65,17 @@ proxies_bytes (proxy ∷ proxies) = proxy_bytes proxy ++ proxies_bytes proxies
 
 -- the form, and how many roots and items there are
 abbrev pub items_head_bytes : (form roots items : ℕ) → List ℕ
-items_head_bytes form roots items = form ∷ 0 ∷ two roots ++ four items
+items_head_bytes form roots items = form ∷ 0 ∷ two_bytes roots ++ four_bytes items
 
 -- how many proxies there are and, where they stand elsewhere, the first page of their chain
 abbrev pub proxies_head_bytes : (proxies chain : ℕ) → List ℕ
-proxies_head_bytes proxies chain = four proxies ++ four chain
+proxies_head_bytes proxies chain = four_bytes proxies ++ four_bytes chain
 
 abbrev pub head_bytes : (form roots items proxies chain : ℕ) → List ℕ
 head_bytes form roots items proxies chain = items_head_bytes form roots items ++ proxies_head_bytes proxies chain
 
 abbrev pub body_bytes : (form : ℕ) (roots : Gapped) (proxies chain : ℕ) → List ℕ
-body_bytes form roots proxies chain = head_bytes form (width roots) (item_count roots) proxies chain ++ items_bytes roots
+body_bytes form roots proxies chain = head_bytes form (gapped_width roots) (item_count roots) proxies chain ++ items_bytes roots
 
 -- the bytes of a record
 abbrev pub encoding : Stored → List ℕ

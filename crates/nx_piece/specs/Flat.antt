@@ -18,8 +18,8 @@ forest_within (suc most) (Tree node below ∷ rest) =
     Grow (seen_node node) (forest_within most (take below rest)) (forest_within most (drop below rest))
 forest_within (suc most) (Run count ∷ rest) = Gap count (forest_within most rest)
 
-abbrev pub forest_of : List Flat → Gapped
-forest_of items = forest_within (length items) items
+abbrev pub unflattened : List Flat → Gapped
+unflattened items = forest_within (length items) items
 
 -- the items are those of a forest, and each node knows how many stand below it
 abbrev pub Spells : List Flat → Gapped → Type 0

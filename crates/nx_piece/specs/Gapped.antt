@@ -23,10 +23,10 @@ item_count (Grow node below beside) = 1 + item_count below + item_count beside
 item_count (Gap count beside) = 1 + item_count beside
 
 -- how many trees and gaps stand beside each other
-abbrev pub width : Gapped → ℕ
-width End = 0
-width (Grow node below beside) = 1 + width beside
-width (Gap count beside) = 1 + width beside
+abbrev pub gapped_width : Gapped → ℕ
+gapped_width End = 0
+gapped_width (Grow node below beside) = 1 + gapped_width beside
+gapped_width (Gap count beside) = 1 + gapped_width beside
 
 -- how many nodes
 abbrev pub gapped_nodes : Gapped → ℕ
@@ -64,10 +64,10 @@ grown_of [] = End
 grown_of (t ∷ ts) = Grow t.node t.below (grown_of ts)
 
 -- as a list: a node or a gap before what follows it, and a mark at each end
-abbrev pub spelled : Gapped → List (Option (Node ⊎ ℕ)) → List (Option (Node ⊎ ℕ))
-spelled End rest = None ∷ rest
-spelled (Grow node below beside) rest = Some (inl node) ∷ spelled below (spelled beside rest)
-spelled (Gap count beside) rest = Some (inr count) ∷ spelled beside rest
+abbrev pub spelled_gapped : Gapped → List (Option (Node ⊎ ℕ)) → List (Option (Node ⊎ ℕ))
+spelled_gapped End rest = None ∷ rest
+spelled_gapped (Grow node below beside) rest = Some (inl node) ∷ spelled_gapped below (spelled_gapped beside rest)
+spelled_gapped (Gap count beside) rest = Some (inr count) ∷ spelled_gapped beside rest
 
 abbrev pub grow_first : Node → List Gapped → List Gapped
 grow_first node (below ∷ beside ∷ rest) = Grow node below beside ∷ rest
@@ -77,25 +77,25 @@ abbrev pub gap_first : ℕ → List Gapped → List Gapped
 gap_first count (beside ∷ rest) = Gap count beside ∷ rest
 gap_first count [] = []
 
-abbrev pub unspelled : List (Option (Node ⊎ ℕ)) → List Gapped
-unspelled [] = []
-unspelled (None ∷ rest) = End ∷ unspelled rest
-unspelled (Some (inl node) ∷ rest) = grow_first node (unspelled rest)
-unspelled (Some (inr count) ∷ rest) = gap_first count (unspelled rest)
+abbrev pub unspelled_gapped : List (Option (Node ⊎ ℕ)) → List Gapped
+unspelled_gapped [] = []
+unspelled_gapped (None ∷ rest) = End ∷ unspelled_gapped rest
+unspelled_gapped (Some (inl node) ∷ rest) = grow_first node (unspelled_gapped rest)
+unspelled_gapped (Some (inr count) ∷ rest) = gap_first count (unspelled_gapped rest)
 
-pub unspelled-spelled : (f : Gapped) (rest : List (Option (Node ⊎ ℕ))) → unspelled (spelled f rest) ≡ f ∷ unspelled rest
-unspelled-spelled End rest = refl
-unspelled-spelled (Grow node below beside) rest =
-    ap (grow_first node) (unspelled-spelled below (spelled beside rest) ∙ ap (λ r. below ∷ r) (unspelled-spelled beside rest))
-unspelled-spelled (Gap count beside) rest = ap (gap_first count) (unspelled-spelled beside rest)
+pub unspelled_gapped-spelled : (f : Gapped) (rest : List (Option (Node ⊎ ℕ))) → unspelled_gapped (spelled_gapped f rest) ≡ f ∷ unspelled_gapped rest
+unspelled_gapped-spelled End rest = refl
+unspelled_gapped-spelled (Grow node below beside) rest =
+    ap (grow_first node) (unspelled_gapped-spelled below (spelled_gapped beside rest) ∙ ap (λ r. below ∷ r) (unspelled_gapped-spelled beside rest))
+unspelled_gapped-spelled (Gap count beside) rest = ap (gap_first count) (unspelled_gapped-spelled beside rest)
 
 abbrev pub first_gapped : List Gapped → Gapped
 first_gapped [] = End
 first_gapped (f ∷ fs) = f
 
 abbrev pub gapped_code : Coded Gapped
-gapped_code = code_by (List (Option (Node ⊎ ℕ))) (coded_list (coded_option (coded⊎ node_code coded_ℕ))) (λ f. spelled f [])
-    (λ s. first_gapped (unspelled s)) (λ f. ap first_gapped (unspelled-spelled f []))
+gapped_code = code_by (List (Option (Node ⊎ ℕ))) (coded_list (coded_option (coded⊎ node_code coded_ℕ))) (λ f. spelled_gapped f [])
+    (λ s. first_gapped (unspelled_gapped s)) (λ f. ap first_gapped (unspelled_gapped-spelled f []))
 
 abbrev pub gapped_tree_code : Coded GappedTree
 gapped_tree_code = code_by (Node × Gapped) (coded× node_code gapped_code) (λ t. (t.node, t.below))

@@ -8,7 +8,7 @@ use Rattle.nx_piece.specs.declared.reading.Left.{Left}
 use Rattle.nx_piece.specs.declared.piece.Proxy.{Proxy}
 use Rattle.nx_piece.specs.declared.viewing.Flat.{Flat}
 use Rattle.nx_piece.specs.Flat.{Spells}
-use Rattle.nx_piece.specs.Gapped.{Gapped, GappedTree, End, Grow, Gap, item_count, width, gapped_weight, proxies_in}
+use Rattle.nx_piece.specs.Gapped.{Gapped, GappedTree, End, Grow, Gap, item_count, gapped_width, gapped_weight, proxies_in}
 use Rattle.nx_piece.specs.Encoding.{node_head_bytes, content_bytes, node_bytes, run_bytes, items_bytes, proxies_bytes, items_head_bytes, proxies_head_bytes, head_bytes, body_bytes}
 use Rattle.nx_piece.specs.Valid.{AreApart, AreTrees, HaveRoots, IsValidBody, inline_length}
 
@@ -23,7 +23,7 @@ pub record HasPushed (old new : List Flat) (f : Gapped) : Type 0 where
   pub spells : Spells added f
 
 -- the bytes begin with the items of f, and what they take of weight, proxies and items is taken
-pub record HasTaken (bytes : List ℕ) (before : Left) (f : Gapped) (behind : List ℕ) (after : Left) : Type 0 where
+pub record HasReadItems (bytes : List ℕ) (before : Left) (f : Gapped) (behind : List ℕ) (after : Left) : Type 0 where
   pub same : bytes ≡ items_bytes f ++ behind
   pub room : before.room ≡ after.room + gapped_weight f
   pub proxies : before.proxies ≡ after.proxies + proxies_in f
@@ -31,7 +31,7 @@ pub record HasTaken (bytes : List ℕ) (before : Left) (f : Gapped) (behind : Li
   pub apart : AreApart f
 
 -- the bytes begin with the items of f, for which enough of weight, proxies and items is left
-pub record Begins (bytes : List ℕ) (left : Left) (f : Gapped) (behind : List ℕ) : Type 0 where
+pub record BeginsWithItems (bytes : List ℕ) (left : Left) (f : Gapped) (behind : List ℕ) : Type 0 where
   pub same : bytes ≡ items_bytes f ++ behind
   pub room : gapped_weight f ≤ left.room
   pub proxies : proxies_in f ≤ left.proxies
@@ -40,15 +40,15 @@ pub record Begins (bytes : List ℕ) (left : Left) (f : Gapped) (behind : List �
 
 -- the bytes begin with no tree
 abbrev pub BeginsNoTree : List ℕ → Left → Type 0
-BeginsNoTree bytes left = (t : GappedTree) (behind : List ℕ) → Begins bytes left (alone t) behind → ⊥
+BeginsNoTree bytes left = (t : GappedTree) (behind : List ℕ) → BeginsWithItems bytes left (alone t) behind → ⊥
 
 -- the bytes begin with no run that may come, since none may come after a run
 abbrev pub BeginsNoRun : List ℕ → Left → Bool → Type 0
-BeginsNoRun bytes left after_run = (count : ℕ) (behind : List ℕ) → after_run ≡ false → Begins bytes left (Gap count End) behind → ⊥
+BeginsNoRun bytes left after_run = (count : ℕ) (behind : List ℕ) → after_run ≡ false → BeginsWithItems bytes left (Gap count End) behind → ⊥
 
 -- the bytes don't begin with so many trees
 abbrev pub BeginsNoTrees : List ℕ → Left → ℕ → Type 0
-BeginsNoTrees bytes left count = (f : Gapped) (behind : List ℕ) → AreTrees f → width f ≡ count → Begins bytes left f behind → ⊥
+BeginsNoTrees bytes left count = (f : Gapped) (behind : List ℕ) → AreTrees f → gapped_width f ≡ count → BeginsWithItems bytes left f behind → ⊥
 
 -- at most as much is left as a piece may have
 pub record IsLeft (left : Left) : Type 0 where

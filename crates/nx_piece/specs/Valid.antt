@@ -5,7 +5,7 @@ use Rattle.nx_piece.specs.declared.piece.Piece.{Piece}
 use Rattle.nx_piece.specs.declared.piece.Proxy.{Proxy}
 use Rattle.nx_piece.specs.declared.piece.Stored.{Stored}
 use Rattle.nx_piece.specs.declared.piece.Stored.TheVariants.{Inline, Chained}
-use Rattle.nx_piece.specs.Gapped.{Gapped, GappedTree, End, Grow, Gap, width, gapped_weight, proxies_in, slots_in}
+use Rattle.nx_piece.specs.Gapped.{Gapped, GappedTree, End, Grow, Gap, gapped_width, gapped_weight, proxies_in, slots_in}
 
 -- no gap is the first
 abbrev pub BeginsNoGap : Gapped → Type 0
@@ -28,8 +28,8 @@ AreTrees (Gap count beside) = ⊥
 -- the nodes of a piece with so many proxies, which has at most so many roots and weighs at most so many slots
 pub record IsBodyWithin (most_roots most_slots : ℕ) (roots : Gapped) (proxies : ℕ) : Type 0 where
   pub trees : AreTrees roots
-  pub some : 1 ≤ width roots
-  pub few : width roots ≤ most_roots
+  pub some : 1 ≤ gapped_width roots
+  pub few : gapped_width roots ≤ most_roots
   pub light : gapped_weight roots ≤ most_slots
   pub apart : AreApart roots
   pub counted : proxies_in roots ≡ proxies

@@ -9,11 +9,11 @@ use Rattle.nx_piece.specs.declared.viewing.ItemView.TheVariants.{Tree, Run}
 use Rattle.nx_piece.specs.declared.viewing.StoredView.{StoredView}
 use Rattle.nx_piece.specs.declared.viewing.StoredView.TheVariants.{Inline, Chained}
 use Rattle.nx_piece.specs.Gapped.{Gapped, GappedTree, Grow, Gap}
-use Rattle.nx_piece.specs.Flat.{seen_node, forest_of}
+use Rattle.nx_piece.specs.Flat.{seen_node, unflattened}
 
 -- the forest with gaps that stands there
 abbrev pub seen_items : ItemsView → Gapped
-seen_items view = forest_of view.items.now
+seen_items view = unflattened view.items.now
 
 -- the node with what is below it
 abbrev pub seen_tree : TreeView → GappedTree

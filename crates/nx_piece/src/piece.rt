@@ -1,6 +1,6 @@
 // A piece: the nodes of one part, and the proxies of the parts below it.
 ghost use Rattle.std.specs.Prelude.{◌≡◌, ◌==◌, OnOk, OnErr, IfOk};
-ghost use Rattle.nx_piece.specs.Gapped.{Gapped, grown_of, width};
+ghost use Rattle.nx_piece.specs.Gapped.{Gapped, grown_of, gapped_width};
 ghost use Rattle.nx_piece.specs.Items.{gapped_of, with_last, with_last_tree};
 
 use nx_lists::{List, NoMemory};
@@ -119,14 +119,14 @@ impl Items {
 
     /// The number of items, a run counted as one.
     pub fn len(&self) -> usize
-        ensures { result ≡ width self.now }
+        ensures { result ≡ gapped_width self.now }
     {
         self.items.as_slice().len()
     }
 
     /// Whether there is no item.
     pub fn is_empty(&self) -> bool
-        ensures { result ≡ (width self.now == 0) }
+        ensures { result ≡ (gapped_width self.now == 0) }
     {
         self.items.as_slice().is_empty()
     }
@@ -221,14 +221,14 @@ impl PieceTrees {
 
     /// The number of trees.
     pub fn len(&self) -> usize
-        ensures { result ≡ width self.now }
+        ensures { result ≡ gapped_width self.now }
     {
         self.trees.as_slice().len()
     }
 
     /// Whether there is no tree.
     pub fn is_empty(&self) -> bool
-        ensures { result ≡ (width self.now == 0) }
+        ensures { result ≡ (gapped_width self.now == 0) }
     {
         self.trees.as_slice().is_empty()
     }

@@ -7,13 +7,13 @@ ghost use Rattle.nx_tree.specs.declared.node.Node.{Node};
 ghost use Rattle.nx_tree.specs.declared.node.Kind.{Kind};
 ghost use Rattle.nx_weights.specs.Weight.{weight};
 ghost use Rattle.nx_piece.specs.Encoding.{kind_byte, node_head_bytes, node_bytes, content_bytes, run_bytes, items_head_bytes, proxies_head_bytes, head_bytes, proxy_bytes, proxies_bytes};
-ghost use Rattle.nx_piece.specs.Gapped.{Gapped, GappedTree, End, Grow, Gap, width};
+ghost use Rattle.nx_piece.specs.Gapped.{Gapped, GappedTree, End, Grow, Gap, gapped_width};
 ghost use Rattle.nx_piece.specs.declared.piece.Proxy.{Proxy};
 ghost use Rattle.nx_piece.specs.Valid.{AreTrees, HaveRoots, HaveNumbers};
 ghost use Rattle.nx_piece.specs.Decoded.{IsDecoded};
 ghost use Rattle.nx_piece.specs.Flat.{seen_node};
 ghost use Rattle.nx_piece.specs.Viewing.{viewed};
-ghost use Rattle.nx_piece.specs.Reading.{alone, HasTaken, HasPushed, AreNoProxies, BeginsNoTree, BeginsNoRun, BeginsNoTrees, BeginsNoBody, BeginsNoNode, BeginsNoNodeHead, BeginsNoContent, BeginsNoRunItem, BeginsNoHead, BeginsNoItemsHead, BeginsNoProxiesHead, IsHeadRead, IsReadBody, HasTakenNode, IsLeft};
+ghost use Rattle.nx_piece.specs.Reading.{alone, HasReadItems, HasPushed, AreNoProxies, BeginsNoTree, BeginsNoRun, BeginsNoTrees, BeginsNoBody, BeginsNoNode, BeginsNoNodeHead, BeginsNoContent, BeginsNoRunItem, BeginsNoHead, BeginsNoItemsHead, BeginsNoProxiesHead, IsHeadRead, IsReadBody, HasTakenNode, IsLeft};
 
 use crate::viewing::Flat;
 use crate::{BodyView, NodeView, PieceView, Proxies, Proxy, StoredView};
@@ -141,7 +141,7 @@ fn read_roots<'a>(
 ) -> Option<(&'a [u8], Left)>
     requires few { IsLeft left }
     requires room { vec_len flat.old + left.items ≤ vec_capacity flat.old }
-    ensures { MatchOption result (BeginsNoTrees bytes.now left count) (λ found. (f : Gapped) × HasPushed flat.old.items flat.new.items f × HasTaken bytes.now left f found.0.now found.1 × AreTrees f × (width f ≡ count)) }
+    ensures { MatchOption result (BeginsNoTrees bytes.now left count) (λ found. (f : Gapped) × HasPushed flat.old.items flat.new.items f × HasReadItems bytes.now left f found.0.now found.1 × AreTrees f × (gapped_width f ≡ count)) }
 {
     let mut rest = bytes;
     let mut left = left;
@@ -159,7 +159,7 @@ fn read_roots<'a>(
 fn read_tree<'a>(flat: &mut Vec<Flat<'a>>, bytes: &'a [u8], left: Left) -> Option<(&'a [u8], Left)>
     requires few { IsLeft left }
     requires room { vec_len flat.old + left.items ≤ vec_capacity flat.old }
-    ensures tree { MatchOption result (BeginsNoTree bytes.now left) (λ found. (t : GappedTree) × HasPushed flat.old.items flat.new.items (alone t) × HasTaken bytes.now left (alone t) found.0.now found.1) }
+    ensures tree { MatchOption result (BeginsNoTree bytes.now left) (λ found. (t : GappedTree) × HasPushed flat.old.items flat.new.items (alone t) × HasReadItems bytes.now left (alone t) found.0.now found.1) }
     ensures capacity { vec_capacity flat.new ≡ vec_capacity flat.old }
 {
     let Some((node, count, behind, between)) = take_node(bytes, left) else {
@@ -217,7 +217,7 @@ fn take_node(bytes: &[u8], left: Left) -> Option<(NodeView<'_>, u16, &[u8], Left
 // A tree of one node that may come here, and what stands behind it.
 fn take_leaf(bytes: &[u8], left: Left) -> Option<(NodeView<'_>, &[u8], Left)>
     requires { IsLeft left }
-    ensures { IfSome result (λ found. HasTaken bytes.now left (Grow (seen_node found.0) End End) found.1.now found.2) }
+    ensures { IfSome result (λ found. HasReadItems bytes.now left (Grow (seen_node found.0) End End) found.1.now found.2) }
 {
     let [_, _, _, _, _, _, 0, 0, ..] = bytes else {
         return None;
@@ -239,7 +239,7 @@ struct Left {
 
 // A run that may come here, and what stands behind it.
 fn take_run(bytes: &[u8], left: Left, after_run: bool) -> Option<(u32, &[u8], Left)>
-    ensures { MatchOption result (BeginsNoRun bytes.now left after_run) (λ read. (after_run ≡ false) × HasTaken bytes.now left (Gap read.0 End) read.1.now read.2) }
+    ensures { MatchOption result (BeginsNoRun bytes.now left after_run) (λ read. (after_run ≡ false) × HasReadItems bytes.now left (Gap read.0 End) read.1.now read.2) }
 {
     if after_run || left.items == 0 {
         return None;

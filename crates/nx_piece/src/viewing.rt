@@ -1,8 +1,8 @@
 // The nodes of a record as they lie in its bytes, as one flat list.
 ghost use Rattle.std.specs.Prelude.{◌≡◌, ◌≤◌, IfOk, MatchOption};
 ghost use Rattle.nx_weights.specs.Weight.{weight};
-ghost use Rattle.nx_piece.specs.Gapped.{End, width, gapped_weight, proxies_in};
-ghost use Rattle.nx_piece.specs.Flat.{seen_node, forest_of};
+ghost use Rattle.nx_piece.specs.Gapped.{End, gapped_width, gapped_weight, proxies_in};
+ghost use Rattle.nx_piece.specs.Flat.{seen_node, unflattened};
 ghost use Rattle.nx_piece.specs.Viewing.{seen_items, begun_with};
 
 use crate::Proxies;
@@ -102,7 +102,7 @@ impl<'a> ItemsView<'a> {
 
     /// The number of items, a run counted as one. It takes no memory.
     pub fn len(self) -> usize
-        ensures { result ≡ width (seen_items self.entry) }
+        ensures { result ≡ gapped_width (seen_items self.entry) }
     {
         // There are no more than at all depths together.
         let most = self.items.len();
@@ -148,20 +148,20 @@ impl<'a> Model for BodyView<'a> {
     ghost coded = { body_code };
 
     ghost use Rattle.std.specs.Prelude.{◌≡◌};
-    ghost use Rattle.nx_piece.specs.Gapped.{width, gapped_weight};
-    ghost use Rattle.nx_piece.specs.Flat.{forest_of};
+    ghost use Rattle.nx_piece.specs.Gapped.{gapped_width, gapped_weight};
+    ghost use Rattle.nx_piece.specs.Flat.{unflattened};
 
-    ghost view = { λ a. record { roots = forest_of a.items.items } };
+    ghost view = { λ a. record { roots = unflattened a.items.items } };
 
-    ghost invariant = { λ a. (a.roots ≡ width (forest_of a.items.items)) × (a.weight ≡ gapped_weight (forest_of a.items.items)) };
+    ghost invariant = { λ a. (a.roots ≡ gapped_width (unflattened a.items.items)) × (a.weight ≡ gapped_weight (unflattened a.items.items)) };
 }
 
 impl<'a> BodyView<'a> {
     // The body of these items, which has so many roots and weighs so much.
     pub(crate) fn new(items: Vec<Flat<'a>>, roots: u16, weight: u32) -> BodyView<'a>
-        requires roots { roots ≡ width (forest_of items.items) }
-        requires weight { weight ≡ gapped_weight (forest_of items.items) }
-        ensures { result.roots ≡ forest_of items.entry.items }
+        requires roots { roots ≡ gapped_width (unflattened items.items) }
+        requires weight { weight ≡ gapped_weight (unflattened items.items) }
+        ensures { result.roots ≡ unflattened items.entry.items }
     {
         BodyView {
             items,
@@ -181,7 +181,7 @@ impl<'a> BodyView<'a> {
 
     /// How many roots there are.
     pub fn root_count(&self) -> u16
-        ensures { result ≡ width self.now.roots }
+        ensures { result ≡ gapped_width self.now.roots }
     {
         self.roots
     }

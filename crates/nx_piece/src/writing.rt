@@ -2,8 +2,8 @@
 ghost use Rattle.std.specs.Prelude.{◌≡◌, ◌+◌, ◌*◌, ◌<◌, ◌≤◌, ◌∷◌, ◌++◌, length, IfOk, OnOk};
 ghost use Rattle.std.proofs.Math.ListN.{replicate};
 ghost use Rattle.nx_weights.specs.Weight.{weight};
-ghost use Rattle.nx_piece.specs.Gapped.{item_count, grown_of, width, slots_in};
-ghost use Rattle.nx_piece.specs.Encoding.{two, four, kind_byte, items_head_bytes, proxies_head_bytes, node_head_bytes, node_bytes, run_bytes, tree_bytes, items_bytes, proxies_bytes, head_bytes, body_bytes, encoding};
+ghost use Rattle.nx_piece.specs.Gapped.{item_count, grown_of, gapped_width, slots_in};
+ghost use Rattle.nx_piece.specs.Encoding.{two_bytes, four_bytes, kind_byte, items_head_bytes, proxies_head_bytes, node_head_bytes, node_bytes, run_bytes, tree_bytes, items_bytes, proxies_bytes, head_bytes, body_bytes, encoding};
 ghost use Rattle.nx_piece.specs.Valid.{IsValid, IsValidPiece, is_inline, HasNumbers, HaveNumbers, IsValidBody, IsSmall, IsSmallTree};
 
 use crate::reading::LONGEST_INLINE;
@@ -269,7 +269,7 @@ fn push_proxies(proxies: &[Proxy], out: &mut Bytes) -> Result<(), NoMemory>
 }
 
 fn push_proxy(page: u32, slot: u16, roots: u16, out: &mut Bytes) -> Result<(), NoMemory>
-    ensures bytes { OnOk result (out.new ≡ out.old ++ (four page ++ two slot ++ two roots)) }
+    ensures bytes { OnOk result (out.new ≡ out.old ++ (four_bytes page ++ two_bytes slot ++ two_bytes roots)) }
     ensures numbers { (page < 4294967296) × (slot < 65536) }
 {
     let [p3, p2, p1, p0] = page.to_be_bytes();

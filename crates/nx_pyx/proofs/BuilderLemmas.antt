@@ -16,8 +16,8 @@ use Rattle.nx_pyx.specs.declared.error.ReadError.TheVariants.{Pyx}
 use Rattle.nx_pyx.specs.declared.builder.Level.{Level}
 use Rattle.nx_pyx.specs.declared.builder.Builder.{Builder}
 use Rattle.nx_pyx.specs.Event.{Event, Start, End, Single, events, event_of}
-use Rattle.nx_pyx.specs.Fault.{Standing, after, attributes_after, standing, events_of, line_fault, first_fault, fault_at, refusal, is_outside, is_innermost, end_fault, fault_at_end}
-use Rattle.nx_pyx.specs.Builder.{level_events, open_names_over, IsBuilt, AreLevels, standing_at, standing_of, IsMade, Knows, HasBuilt, Makes, Refuses, Fails}
+use Rattle.nx_pyx.specs.Fault.{Standing, standing_after, attributes_after, standing, events_of, line_fault, first_fault, fault_at, fault_at_standing, is_outside, is_innermost, end_fault, fault_at_end}
+use Rattle.nx_pyx.specs.Builder.{level_events, open_names_over, IsBuilt, AreLevels, standing_at, standing_of, IsMade, Knows, HasBuilt, Makes, RefusesEvent, Fails}
 use Rattle.nx_pyx.proofs.GoesLemmas.{sound_goes}
 use Rattle.nx_pyx.proofs.DocumentLemmas.{events_single, document_from_goes}
 use Rattle.nx_pyx.proofs.Built.{forest_from_goes}
@@ -55,7 +55,7 @@ made_start levels children rooted nodes attributes es name made named short room
     let level : Level = record { before = children; name = name } in
     record {
       says = ap (λ r. r ++ Start name ∷ []) made.says ∙ sym (append-nil _ ∙ level_events-more levels level);
-      stands = standing-more es (Start name) ∙ ap (λ s. after s (Start name)) made.stands
+      stands = standing-more es (Start name) ∙ ap (λ s. standing_after s (Start name)) made.stands
           ∙ ap (λ (names : List (List ℕ)). let s : Standing = record { open_names = names; rooted = true; nodes = nodes + 1; attributes = Some [] } in s) (sym (open_names_over-more levels level []));
       levels_formed = AreLevels-more levels level made.levels_formed named short made.children_formed;
       children_formed = tt;
@@ -73,7 +73,7 @@ made_single levels children rooted nodes attributes es node made formed other ro
     record {
       says = ap (λ r. r ++ Single node ∷ []) made.says ∙ append_assoc (level_events levels) (events children) (Single node ∷ [])
           ∙ ap (λ r. level_events levels ++ r) (sym (events-planted children tree ∙ ap (λ r. events children ++ r) (events_single node forest.Empty forest.Empty other)));
-      stands = standing-more es (Single node) ∙ ap (λ s. after s (Single node)) made.stands;
+      stands = standing-more es (Single node) ∙ ap (λ s. standing_after s (Single node)) made.stands;
       levels_formed = made.levels_formed;
       children_formed = IsBuilt-planted children tree made.children_formed (formed, (λ _. refl), tt, tt);
       few = let f : length es + length levels + 2 ≤ 2 * nodes = made.few in
@@ -95,7 +95,7 @@ made_end levels level children rooted nodes attributes es content made bare =
       says = ap (λ r. r ++ End level.name ∷ []) (made.says ∙ ap (λ r. r ++ events children) (level_events-more levels level))
           ∙ regrouped (level_events levels) (events level.before) (events children) (Start level.name) (End level.name)
           ∙ ap (λ r. level_events levels ++ r) (sym (events-planted level.before tree));
-      stands = standing-more es (End level.name) ∙ ap (λ s. after s (End level.name)) made.stands
+      stands = standing-more es (End level.name) ∙ ap (λ s. standing_after s (End level.name)) made.stands
           ∙ ap (λ (names : List (List ℕ)). let s : Standing = record { open_names = drop 1 names; rooted = rooted; nodes = nodes; attributes = None } in s) (open_names_over-more levels level []);
       levels_formed = parts.0;
       children_formed = IsBuilt-planted level.before tree parts.3 (
@@ -122,13 +122,13 @@ is_innermost-more levels level name = ap (is_innermost name) (open_names_over-mo
 
 -- the builder takes one line more
 pub taken_more : (old new : Builder) (ls : List (List ℕ)) (line : List ℕ) (e : Event) (n : ℕ) →
-    HasBuilt old ls → event_of line ≡ Some e → ((attributes : Option (List (List ℕ))) → Knows old attributes → refusal (standing_of old attributes) e ≡ None) →
+    HasBuilt old ls → event_of line ≡ Some e → ((attributes : Option (List (List ℕ))) → Knows old attributes → fault_at_standing (standing_of old attributes) e ≡ None) →
     ((es : List Event) (attributes : Option (List (List ℕ))) → Knows old attributes → IsMade old.levels.items old.children old.rooted old.nodes attributes es →
     (next : Option (List (List ℕ))) × Knows new next × IsMade new.levels.items new.children new.rooted new.nodes next (es ++ e ∷ [])) →
     new.lines ≡ length ls + 1 → HasBuilt new (ls ++ line ∷ [])
 taken_more old new ls line e n taken says fine makes counted =
     let fault : line_fault ls line ≡ None =
-    ap (λ o. option_map_or (refusal (standing (events_of ls))) o (Some BadCode)) says ∙ ap (λ s. refusal s e) taken.made.stands ∙ fine taken.attributes taken.known in
+    ap (λ o. option_map_or (fault_at_standing (standing (events_of ls))) o (Some BadCode)) says ∙ ap (λ s. fault_at_standing s e) taken.made.stands ∙ fine taken.attributes taken.known in
     let more : events_of (ls ++ line ∷ []) ≡ events_of ls ++ e ∷ [] =
     events_of-append ls (line ∷ []) ∙ ap (λ o. events_of ls ++ cons_option o []) says in
     let next = makes (events_of ls) taken.attributes taken.known taken.made in
@@ -143,11 +143,11 @@ taken_more old new ls line e n taken says fine makes counted =
 
 -- the fault of a line that says an event
 pub fault_next : (builder : Builder) (ls : List (List ℕ)) (line : List ℕ) (e : Event) (taken : HasBuilt builder ls) → event_of line ≡ Some e →
-    first_fault ls (line ∷ []) ≡ option_map (fault_at (length ls + 1)) (refusal (standing_of builder taken.attributes) e)
+    first_fault ls (line ∷ []) ≡ option_map (fault_at (length ls + 1)) (fault_at_standing (standing_of builder taken.attributes) e)
 fault_next builder ls line e taken says =
     first_fault-one ls line
     ∙ ap (option_map (fault_at (length ls + 1)))
-    (ap (λ o. option_map_or (refusal (standing (events_of ls))) o (Some BadCode)) says ∙ ap (λ s. refusal s e) taken.made.stands)
+    (ap (λ o. option_map_or (fault_at_standing (standing (events_of ls))) o (Some BadCode)) says ∙ ap (λ s. fault_at_standing s e) taken.made.stands)
 
 -- how many lines a builder may have taken
 pub few_lines : (builder : Builder) (ls : List (List ℕ)) → HasBuilt builder ls → length ls < 2 ^ 21
@@ -202,13 +202,13 @@ takes_event builder new line e n says counted makes ls taken =
 
 -- a line that says an event which is refused
 pub refuses_event : (builder : Builder) (line : List ℕ) (e : Event) (n : ℕ) (error : ReadError) → event_of line ≡ Some e → n ≡ min (builder.lines + 1) (2 ^ 64 - 1) →
-    Refuses (with_lines builder n) n e error →
+    RefusesEvent (with_lines builder n) n e error →
     (ls : List (List ℕ)) → HasBuilt builder ls → Fails error (first_fault ls (line ∷ []))
 refuses_event builder line e n error says counted fails ls taken =
     let few : length ls < 2 ^ 21 = few_lines builder ls taken in
     let is : builder.lines ≡ length ls = taken.counted in
     let at : n ≡ length ls + 1 = omega arith in
-    subst (Fails error) (ap (λ (m : ℕ). option_map (fault_at m) (refusal (standing_of builder taken.attributes) e)) at ∙ sym (fault_next builder ls line e taken says))
+    subst (Fails error) (ap (λ (m : ℕ). option_map (fault_at m) (fault_at_standing (standing_of builder taken.attributes) e)) at ∙ sym (fault_next builder ls line e taken says))
     (fails taken.attributes (record { may_come = taken.known.may_come; holds = taken.known.holds }))
 
 -- the code says the fault of the end within an element

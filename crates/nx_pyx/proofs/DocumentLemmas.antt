@@ -17,7 +17,7 @@ use Rattle.nx_tree.specs.Document.{is_element, is_attribute, is_name, HasParts, 
 use Rattle.nx_pyx.specs.declared.error.PyxError.{PyxError}
 use Rattle.nx_pyx.specs.Lines.{lines}
 use Rattle.nx_pyx.specs.Event.{Event, Start, End, Single, event_of, events}
-use Rattle.nx_pyx.specs.Fault.{Standing, at_first, attributes_after, standing, is_outside, is_text, is_among, makes_node, refusal, events_of, fault_at, first_fault, end_fault, fault_at_end, fault_of}
+use Rattle.nx_pyx.specs.Fault.{Standing, at_first, attributes_after, standing, is_outside, is_text, is_among, makes_node, fault_at_standing, events_of, fault_at, first_fault, end_fault, fault_at_end, fault_of}
 use Rattle.nx_pyx.specs.Reading.{Reads}
 use Rattle.nx_pyx.proofs.GoesLemmas.{Goes, Goes-append, Passes, unrefused, not_refused, sound_goes, goes_sound}
 
@@ -128,7 +128,7 @@ inside : (name : List ℕ) (names : List (List ℕ)) → (length (name ∷ names
 inside name names = ne_eqb (length (name ∷ names)) 0 (λ h. omega arith)
 
 -- the room that an event which makes a node has
-room : (s : Standing) (e : Event) → makes_node e ≡ true → refusal s e ≡ None → (length s.open_names < deepest) × (s.nodes < most_nodes)
+room : (s : Standing) (e : Event) → makes_node e ≡ true → fault_at_standing s e ≡ None → (length s.open_names < deepest) × (s.nodes < most_nodes)
 room s e made h =
     let p = unrefused s e h in (
       leb-false deepest (length s.open_names) (subst (λ (b : Bool). (b && nat_le deepest (length s.open_names)) ≡ false) made p.shallow),
@@ -136,7 +136,7 @@ room s e made h =
     )
 
 -- an element may start, where there is room
-pub may_start : (node : Node) (s : Standing) → node.kind ≡ Element → IsNode node → (is_outside s && s.rooted) ≡ false → length s.open_names < deepest → s.nodes < most_nodes → refusal s (Start node.name) ≡ None
+pub may_start : (node : Node) (s : Standing) → node.kind ≡ Element → IsNode node → (is_outside s && s.rooted) ≡ false → length s.open_names < deepest → s.nodes < most_nodes → fault_at_standing s (Start node.name) ≡ None
 may_start node s is good placed deep many =
     let short = good.short in
     not_refused s (Start node.name) (record {
@@ -152,7 +152,7 @@ may_start node s is good placed deep many =
 -- a node without children may stand where its kind may, where there is room
 pub may_come : (node : Node) (s : Standing) → IsNode node → (is_text node.kind && is_outside s) ≡ false
     → (is_attribute node.kind && is_none s.attributes) ≡ false → (is_attribute node.kind && is_among node.name (unwrap_or s.attributes [])) ≡ false
-    → length s.open_names < deepest → s.nodes < most_nodes → refusal s (Single node) ≡ None
+    → length s.open_names < deepest → s.nodes < most_nodes → fault_at_standing s (Single node) ≡ None
 may_come node s good placed timely fresh deep many =
     not_refused s (Single node) (record {
       short = le-ltb longest_node (length node.name + length node.content) good.short;
@@ -165,7 +165,7 @@ may_come node s good placed timely fresh deep many =
     })
 
 -- the innermost element may end
-pub may_end : (node : Node) (names : List (List ℕ)) (n : ℕ) (attributes : Option (List (List ℕ))) → IsNode node → refusal (within (node.name ∷ names) n attributes) (End node.name) ≡ None
+pub may_end : (node : Node) (names : List (List ℕ)) (n : ℕ) (attributes : Option (List (List ℕ))) → IsNode node → fault_at_standing (within (node.name ∷ names) n attributes) (End node.name) ≡ None
 may_end node names n attributes good =
     let short = good.short in
     not_refused (within (node.name ∷ names) n attributes) (End node.name) (record {
@@ -259,12 +259,12 @@ none_after node = either_none (is_attribute node.kind)
     either_none false = refl
 
 -- a node without children outside leads on outside
-goes_outside : (node : Node) (es : List Event) (rooted : Bool) (n : ℕ) (u : Standing) → refusal (outside rooted n) (Single node) ≡ None → Goes (outside rooted (n + 1)) es u → Goes (outside rooted n) (Single node ∷ es) u
+goes_outside : (node : Node) (es : List Event) (rooted : Bool) (n : ℕ) (u : Standing) → fault_at_standing (outside rooted n) (Single node) ≡ None → Goes (outside rooted (n + 1)) es u → Goes (outside rooted n) (Single node ∷ es) u
 goes_outside node es rooted n u ok goes =
     (ok, subst (λ (o : Option (List (List ℕ))). Goes (record { open_names = []; rooted = rooted; nodes = n + 1; attributes = o }) es u) (sym (none_after node)) goes)
 
 -- an instruction may stand outside, where there is room
-may_instruct : (node : Node) (rooted : Bool) (n : ℕ) → node.kind ≡ Instruction → IsNode node → n < most_nodes → refusal (outside rooted n) (Single node) ≡ None
+may_instruct : (node : Node) (rooted : Bool) (n : ℕ) → node.kind ≡ Instruction → IsNode node → n < most_nodes → fault_at_standing (outside rooted n) (Single node) ≡ None
 may_instruct node rooted n is good many =
     may_come node (outside rooted n) good
     (ap (λ (k : Kind). is_text k && is_outside (outside rooted n)) is)

@@ -8,7 +8,7 @@ use Rattle.nx_pyx.specs.declared.error.PyxFault.{PyxFault}
 use Rattle.nx_pyx.specs.declared.error.PyxFault.TheVariants.{BadCode, LongLine}
 use Rattle.nx_pyx.specs.Lines.{without_cr, has_lf}
 use Rattle.nx_pyx.specs.Event.{Event, event_by, event_of}
-use Rattle.nx_pyx.specs.Fault.{Standing, standing, events_of, event_size, is_long, refusal, line_fault, early_fault}
+use Rattle.nx_pyx.specs.Fault.{Standing, standing, events_of, event_size, is_long, fault_at_standing, line_fault, early_fault}
 use Rattle.nx_pyx.proofs.Sizes.{size_of, event_grows, event_coded, no_cr, cr_kept, code_kept, last_byte}
 
 -- where nothing is said
@@ -72,13 +72,13 @@ long_stays bytes more h =
 pub long_fault : (before : List (List ℕ)) (line : List ℕ) → says_long line ≡ true → line_fault before line ≡ Some LongLine
 long_fault before line h = refused (standing (events_of before)) (event_of line) h
   where
-    refused : (s : Standing) (o : Option Event) → is_long_answer o ≡ true → option_map_or (refusal s) o (Some BadCode) ≡ Some LongLine
+    refused : (s : Standing) (o : Option Event) → is_long_answer o ≡ true → option_map_or (fault_at_standing s) o (Some BadCode) ≡ Some LongLine
     refused s None k = absurd (cc)
     refused s (Some e) k = rw k refl
 
 -- a line without a code has that fault wherever it stands
 pub uncoded_fault : (before : List (List ℕ)) (code : ℕ) (bytes : List ℕ) → is_some (event_by code []) ≡ false → line_fault before (without_cr (code ∷ bytes)) ≡ Some BadCode
-uncoded_fault before code bytes h = ap (λ (o : Option Event). option_map_or (refusal (standing (events_of before))) o (Some BadCode)) (uncoded_line code bytes h)
+uncoded_fault before code bytes h = ap (λ (o : Option Event). option_map_or (fault_at_standing (standing (events_of before))) o (Some BadCode)) (uncoded_line code bytes h)
 
 -- the early fault by what the code alone says and what the line says so far
 abbrev early_by : Option Event → Option Event → Option PyxFault

@@ -7,7 +7,7 @@ use Rattle.std.proofs.lemmas.List.{take-append-drop, take_all, take_more, map-ap
 use Rattle.std.proofs.lemmas.List.Folds.{list_all_more, list_all_at}
 use Rattle.std.proofs.lemmas.List.Sums.{fold-append, fold_more}
 use Rattle.nx_pyx.specs.Event.{is_space}
-use Rattle.nx_pyx.specs.Field.{behind, is_digit, is_number, is_position, steps, is_path, positions_of, value_of, greatest_position}
+use Rattle.nx_pyx.specs.Field.{behind_space, is_digit, is_number, is_position, steps, is_path, positions_of, value_of, greatest_position}
 
 -- an element passes where the first that does stands before the end
 pub any_first : {X : Type 0} (p : X → Bool) (xs : List X) → list_any p xs ≡ nat_lt (position_or_len p xs) (length xs)
@@ -23,13 +23,13 @@ uncut true q bs h = cc
 uncut false q bs h = refl
 
 -- what stands behind the first space
-pub behind-Some : (bs : List ℕ) (end : ℕ) → position is_space bs ≡ Some end → behind bs ≡ Some (drop (end + 1) bs)
-behind-Some bs end h =
+pub behind_space-Some : (bs : List ℕ) (end : ℕ) → position is_space bs ≡ Some end → behind_space bs ≡ Some (drop (end + 1) bs)
+behind_space-Some bs end h =
     let q = position_or_len is_space bs in
     ap (λ t. cond t (Some (drop (q + 1) bs)) None) (any_first is_space bs) ∙ cut_at (nat_lt q (length bs)) q end bs h
 
-pub behind-None : (bs : List ℕ) → position is_space bs ≡ None → behind bs ≡ None
-behind-None bs h =
+pub behind_space-None : (bs : List ℕ) → position is_space bs ≡ None → behind_space bs ≡ None
+behind_space-None bs h =
     let q = position_or_len is_space bs in
     ap (λ t. cond t (Some (drop (q + 1) bs)) None) (any_first is_space bs) ∙ uncut (nat_lt q (length bs)) q bs h
 

@@ -8,7 +8,7 @@ use Rattle.nx_pyx.specs.declared.error.PyxFault.TheVariants.{LongLine}
 use Rattle.nx_pyx.specs.Lines.{without_cr}
 use Rattle.nx_pyx.specs.Event.{Event, is_space, unescape, unescaped_byte, event_by, event_of}
 use Rattle.nx_pyx.specs.Fault.{event_size, is_long, early_fault}
-use Rattle.nx_pyx.specs.Reader.{HasRoom}
+use Rattle.nx_pyx.specs.Reader.{MayGrowBy}
 use Rattle.nx_pyx.proofs.Sizes.{size_of, named_size, size_at_space, size_in_name, event_by_tests, no_cr, cr_kept, code_kept}
 use Rattle.nx_pyx.proofs.Early.{uncoded_line}
 use Rattle.nx_pyx.proofs.UnescapeLemmas.{length-unescape}
@@ -82,17 +82,17 @@ has_code code rest e says =
     (cases_Bool (is_some (event_by code [])))
 
 -- before its first byte a line has no room
-pub room_empty : (bytes : List ℕ) → bytes ≡ [] → HasRoom bytes 0
+pub room_empty : (bytes : List ℕ) → bytes ≡ [] → MayGrowBy bytes 0
 room_empty bytes is [] h = ap (λ (line : List ℕ). early_fault (line ++ [])) is
 room_empty bytes is (b ∷ more) h = absurd (omega arith)
 
 -- few bytes may become as many as are allowed
-pub room_few : (bytes : List ℕ) (e : Event) → event_of (without_cr bytes) ≡ Some e → length bytes ≤ longest_node → HasRoom bytes (longest_node - length bytes)
+pub room_few : (bytes : List ℕ) (e : Event) → event_of (without_cr bytes) ≡ Some e → length bytes ≤ longest_node → MayGrowBy bytes (longest_node - length bytes)
 room_few [] e says few more h = absurd (cc)
 room_few (code ∷ rest) e says few more h = early_short code (rest ++ more) (has_code code rest e says) (omega (arith, length-append rest more))
 
 -- a line may say as many bytes more as are left, but for a CR that was dropped
-pub room_left : (bytes : List ℕ) (e : Event) (left : ℕ) → event_of (without_cr bytes) ≡ Some e → event_size e + left ≡ longest_node → HasRoom bytes (left - 1)
+pub room_left : (bytes : List ℕ) (e : Event) (left : ℕ) → event_of (without_cr bytes) ≡ Some e → event_size e + left ≡ longest_node → MayGrowBy bytes (left - 1)
 room_left [] e left says is more h = absurd (cc)
 room_left (code ∷ rest) e left says is more h =
     early_coded code (rest ++ more) (has_code code rest e says)
@@ -114,7 +114,7 @@ too_long (code ∷ rest) e says long =
     ∙ ap (λ (t : Bool). if t then Some LongLine else None) long
 
 -- what has come is taken from the room
-pub room_less : (held bytes new : List ℕ) (room left : ℕ) → new ≡ held ++ bytes → length bytes + left ≤ room → HasRoom held room → HasRoom new left
+pub room_less : (held bytes new : List ℕ) (room left : ℕ) → new ≡ held ++ bytes → length bytes + left ≤ room → MayGrowBy held room → MayGrowBy new left
 room_less held bytes new room left is fits has more h =
     ap (λ (line : List ℕ). early_fault (line ++ more)) is
     ∙ ap early_fault (append_assoc held bytes more)

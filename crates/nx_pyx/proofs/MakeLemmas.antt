@@ -18,32 +18,32 @@ use Rattle.nx_pyx.specs.declared.names.Names.{Names}
 use Rattle.nx_pyx.specs.declared.builder.Level.{Level}
 use Rattle.nx_pyx.specs.declared.builder.Builder.{Builder}
 use Rattle.nx_pyx.specs.Event.{Event, Start, End, Single}
-use Rattle.nx_pyx.specs.Fault.{Standing, attributes_after, fault_at, refusal, makes_node, is_among, is_long, is_misnamed, is_misplaced, is_late, is_repeated, is_deep, is_surplus}
+use Rattle.nx_pyx.specs.Fault.{Standing, attributes_after, fault_at, fault_at_standing, makes_node, is_among, is_long, is_misnamed, is_misplaced_event, is_late, is_repeated_event, is_deep, is_surplus}
 use Rattle.nx_pyx.specs.Names.{HoldsNames}
 use Rattle.nx_pyx.specs.Line.{node_in}
-use Rattle.nx_pyx.specs.Builder.{standing_at, standing_of, IsMade, Knows, Makes, Refuses, Fails, Pushes, HasNoRoom}
+use Rattle.nx_pyx.specs.Builder.{standing_at, standing_of, IsMade, Knows, Makes, RefusesEvent, Fails, Pushes, HasNoRoom}
 use Rattle.nx_pyx.proofs.EventLemmas.{refused_place, refused_late, refused_twice, refused_room}
 use Rattle.nx_pyx.proofs.BuilderLemmas.{length-open_names_over, is_outside-standing_at, is_innermost-more, made_start, made_single, made_end}
 
 -- the fault that the code names is the event's
 pub refuses : (builder : Builder) (e : Event) (error : ReadError) (f : PyxFault) → error ≡ Pyx (fault_at builder.lines f) →
-    ((a : Option (List (List ℕ))) → Knows builder a → refusal (standing_of builder a) e ≡ Some f) → Refuses builder builder.lines e error
+    ((a : Option (List (List ℕ))) → Knows builder a → fault_at_standing (standing_of builder a) e ≡ Some f) → RefusesEvent builder builder.lines e error
 refuses builder e error f is at =
-    λ a known. subst (λ (x : ReadError). Fails x (option_map (fault_at builder.lines) (refusal (standing_of builder a) e))) (sym is)
+    λ a known. subst (λ (x : ReadError). Fails x (option_map (fault_at builder.lines) (fault_at_standing (standing_of builder a) e))) (sym is)
     (ap (option_map (fault_at builder.lines)) (at a known))
 
 -- want of memory refuses anything
-pub memory_refuses : (builder : Builder) (n : ℕ) (e : Event) (error : ReadError) → error ≡ Memory → Refuses builder n e error
+pub memory_refuses : (builder : Builder) (n : ℕ) (e : Event) (error : ReadError) → error ≡ Memory → RefusesEvent builder n e error
 memory_refuses builder n e error is =
-    λ a known. subst (λ (x : ReadError). Fails x (option_map (fault_at n) (refusal (standing_of builder a) e))) (sym is) tt
+    λ a known. subst (λ (x : ReadError). Fails x (option_map (fault_at n) (fault_at_standing (standing_of builder a) e))) (sym is) tt
 
 -- nothing but room can be wanting
 pub record IsFit (s : Standing) (e : Event) : Type 0 where
   pub short : is_long e ≡ false
   pub named : is_misnamed e ≡ false
-  pub placed : is_misplaced s e ≡ false
+  pub placed : is_misplaced_event s e ≡ false
   pub timely : is_late s e ≡ false
-  pub fresh : is_repeated s e ≡ false
+  pub fresh : is_repeated_event s e ≡ false
 
 by_room : (deep surplus makes t u : Bool) → makes ≡ true → deep ≡ (makes && t) → surplus ≡ (makes && u) →
     (if deep then Some TooDeep else if surplus then Some TooMany else None) ≡ (if t then Some TooDeep else if u then Some TooMany else None)
@@ -51,7 +51,7 @@ by_room deep surplus makes t u h a b = simp (a, b, h)
 
 -- the fault of an event that is fit otherwise
 pub room_of : (builder : Builder) (a : Option (List (List ℕ))) (e : Event) → IsFit (standing_of builder a) e → makes_node e ≡ true →
-    refusal (standing_of builder a) e ≡ (if nat_le deepest (length builder.levels.items) then Some TooDeep else if nat_le most_nodes builder.nodes then Some TooMany else None)
+    fault_at_standing (standing_of builder a) e ≡ (if nat_le deepest (length builder.levels.items) then Some TooDeep else if nat_le most_nodes builder.nodes then Some TooMany else None)
 room_of builder a e fit makes =
     refused_room (standing_of builder a) e fit.short fit.named fit.placed fit.timely fit.fresh
     ∙ by_room (is_deep (standing_of builder a) e) (is_surplus (standing_of builder a) e) (makes_node e) (nat_le deepest (length builder.levels.items)) (nat_le most_nodes builder.nodes) makes
@@ -60,7 +60,7 @@ room_of builder a e fit makes =
 
 -- the event has room
 pub roomy : (builder : Builder) (a : Option (List (List ℕ))) (e : Event) → IsFit (standing_of builder a) e → makes_node e ≡ true →
-    nat_le deepest (length builder.levels.items) ≡ false → builder.nodes < most_nodes → refusal (standing_of builder a) e ≡ None
+    nat_le deepest (length builder.levels.items) ≡ false → builder.nodes < most_nodes → fault_at_standing (standing_of builder a) e ≡ None
 roomy builder a e fit makes shallow few =
     room_of builder a e fit makes
     ∙ ap (λ t. if t then Some TooDeep else if nat_le most_nodes builder.nodes then Some TooMany else None) shallow
@@ -69,7 +69,7 @@ roomy builder a e fit makes shallow few =
 -- the event has no room
 pub roomless : (builder tried : Builder) (e : Event) (error : ReadError) → tried.levels ≡ builder.levels → tried.nodes ≡ builder.nodes → tried.lines ≡ builder.lines →
     ((a : Option (List (List ℕ))) → Knows builder a → IsFit (standing_of builder a) e) → makes_node e ≡ true →
-    HasNoRoom tried error → Refuses builder builder.lines e error
+    HasNoRoom tried error → RefusesEvent builder builder.lines e error
 roomless builder tried e error levels nodes lines fit makes full =
     refuses builder e error full.fault (full.says ∙ ap (λ (n : ℕ). Pyx (fault_at n full.fault)) lines)
     (λ a known. room_of builder a e (fit a known) makes
@@ -91,7 +91,7 @@ start_fit builder a name short named beside =
     }
 
 pub start_misplaced : (builder : Builder) (a : Option (List (List ℕ))) (name : List ℕ) → is_long (Start name) ≡ false → is_name name ≡ true →
-    ((length builder.levels.items == 0) && builder.rooted) ≡ true → refusal (standing_of builder a) (Start name) ≡ Some BadNesting
+    ((length builder.levels.items == 0) && builder.rooted) ≡ true → fault_at_standing (standing_of builder a) (Start name) ≡ Some BadNesting
 start_misplaced builder a name short named beside =
     refused_place (standing_of builder a) (Start name) short (ap not named) (ap (λ t. t && builder.rooted) (is_outside-standing_at builder.levels.items builder.rooted builder.nodes a) ∙ beside)
 
@@ -119,18 +119,18 @@ starts old new level name short named beside shallow few levels before called ch
 
 pub end_refused : (old : Builder) (levels : List Level) (level : Level) (name open_name : List ℕ) (a : Option (List (List ℕ))) → is_long (End name) ≡ false →
     old.levels.items ≡ levels ++ level ∷ [] → true ≡ not (bytes_eq name open_name) → open_name ≡ level.name →
-    refusal (standing_of old a) (End name) ≡ Some BadNesting
+    fault_at_standing (standing_of old a) (End name) ≡ Some BadNesting
 end_refused old levels level name open_name a short is other called =
     refused_place (standing_of old a) (End name) short refl
-    (ap (λ (l : List Level). is_misplaced (standing_at l old.rooted old.nodes a) (End name)) is ∙ ap not (is_innermost-more levels level name) ∙ sym (other ∙ ap (λ (o : List ℕ). not (bytes_eq name o)) called))
+    (ap (λ (l : List Level). is_misplaced_event (standing_at l old.rooted old.nodes a) (End name)) is ∙ ap not (is_innermost-more levels level name) ∙ sym (other ∙ ap (λ (o : List ℕ). not (bytes_eq name o)) called))
 
 pub end_outside : (old : Builder) (name : List ℕ) (a : Option (List (List ℕ))) → is_long (End name) ≡ false → old.levels.items ≡ [] →
-    refusal (standing_of old a) (End name) ≡ Some BadNesting
+    fault_at_standing (standing_of old a) (End name) ≡ Some BadNesting
 end_outside old name a short none =
-    refused_place (standing_of old a) (End name) short refl (ap (λ (l : List Level). is_misplaced (standing_at l old.rooted old.nodes a) (End name)) none)
+    refused_place (standing_of old a) (End name) short refl (ap (λ (l : List Level). is_misplaced_event (standing_at l old.rooted old.nodes a) (End name)) none)
 
 end_fine : (levels : List Level) (level : Level) (rooted : Bool) (nodes : ℕ) (a : Option (List (List ℕ))) (name : List ℕ) → is_long (End name) ≡ false →
-    bytes_eq name level.name ≡ true → refusal (standing_at (levels ++ level ∷ []) rooted nodes a) (End name) ≡ None
+    bytes_eq name level.name ≡ true → fault_at_standing (standing_at (levels ++ level ∷ []) rooted nodes a) (End name) ≡ None
 end_fine levels level rooted nodes a name short equal =
     refused_room (standing_at (levels ++ level ∷ []) rooted nodes a) (End name) short refl (ap not (is_innermost-more levels level name ∙ equal)) refl refl
 
@@ -144,7 +144,7 @@ ends old new level name open_name content before below short same called levels 
     let equal : bytes_eq name level.name ≡ true = not_not (bytes_eq name level.name) (same ∙ ap (λ (n : List ℕ). not (bytes_eq name n)) called) in
     let named : name ≡ level.name = (bytes_eq-Decides name level.name).0 equal in
     record {
-      fine = λ a known. ap (λ (l : List Level). refusal (standing_at l old.rooted old.nodes a) (End name)) levels ∙ end_fine new.levels.items level old.rooted old.nodes a name short equal;
+      fine = λ a known. ap (λ (l : List Level). fault_at_standing (standing_at l old.rooted old.nodes a) (End name)) levels ∙ end_fine new.levels.items level old.rooted old.nodes a name short equal;
       made = λ es a known made.
           let P : List Level → Type 0 = λ l. IsMade l old.children old.rooted old.nodes a es in (
             None,
@@ -225,7 +225,7 @@ attribute_fit builder new a name content short named may fresh new_one inserts k
 
 -- the element has the attribute
 pub attribute_twice : (builder : Builder) (new : Names) (a : Option (List (List ℕ))) (name content : List ℕ) → is_long (Single (node_in Attribute name content)) ≡ false →
-    is_name name ≡ true → builder.may_have ≡ true → Inserts builder.attributes new name false → Knows builder a → refusal (standing_of builder a) (Single (node_in Attribute name content)) ≡ Some Twice
+    is_name name ≡ true → builder.may_have ≡ true → Inserts builder.attributes new name false → Knows builder a → fault_at_standing (standing_of builder a) (Single (node_in Attribute name content)) ≡ Some Twice
 attribute_twice builder new a name content short named may inserts known =
     refused_twice (standing_of builder a) (Single (node_in Attribute name content)) short (ap not named) refl (none_of_some a (known.may_come ∙ may))
     (not_false (is_among name (unwrap_or a [])) (among builder.attributes new a name false (known.may_come ∙ may) known.holds inserts))
@@ -236,7 +236,7 @@ attribute_twice builder new a name content short named may inserts known =
 
 -- no attribute may come
 pub attribute_late : (builder : Builder) (a : Option (List (List ℕ))) (name content : List ℕ) → is_long (Single (node_in Attribute name content)) ≡ false →
-    is_name name ≡ true → builder.may_have ≡ false → Knows builder a → refusal (standing_of builder a) (Single (node_in Attribute name content)) ≡ Some BadAttribute
+    is_name name ≡ true → builder.may_have ≡ false → Knows builder a → fault_at_standing (standing_of builder a) (Single (node_in Attribute name content)) ≡ Some BadAttribute
 attribute_late builder a name content short named may known =
     refused_late (standing_of builder a) (Single (node_in Attribute name content)) short (ap not named) refl (none_there a (known.may_come ∙ may))
   where

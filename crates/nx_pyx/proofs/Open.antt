@@ -14,7 +14,7 @@ use Rattle.nx_tree.specs.Forest.{Forest, Plant}
 use Rattle.nx_tree.specs.Document.{is_element, is_attribute}
 use Rattle.nx_pyx.specs.declared.builder.Level.{Level}
 use Rattle.nx_pyx.specs.Event.{Event, Start, End, Single, events}
-use Rattle.nx_pyx.specs.Fault.{Standing, at_first, after, attributes_after, standing, makes_node, events_of, first_fault}
+use Rattle.nx_pyx.specs.Fault.{Standing, at_first, standing_after, attributes_after, standing, makes_node, events_of, first_fault}
 use Rattle.nx_pyx.specs.Open.{OpenAre, is_start, EndWithAttributes}
 use Rattle.nx_pyx.specs.Builder.{level_events, open_names_over}
 use Rattle.nx_pyx.proofs.DocumentLemmas.{kind_cases, events_element, events_single}
@@ -22,19 +22,19 @@ use Rattle.nx_pyx.proofs.EventLemmas.{standing-more}
 use Rattle.nx_pyx.proofs.Outcome.{form_of}
 
 -- whole trees leave open what was open
-trees_leave : (f : Forest) (s : Standing) → (fold after s (events f)).open_names ≡ s.open_names
+trees_leave : (f : Forest) (s : Standing) → (fold standing_after s (events f)).open_names ≡ s.open_names
 trees_leave forest.Empty s = refl
 trees_leave (Plant node below beside) s =
     ⊎_elim
     (λ (is : node.kind ≡ Element).
-    let inner : Standing = fold after (after s (Start node.name)) (events below) in
-    ap (λ (es : List Event). (fold after s es).open_names) (events_element node below beside is)
-    ∙ ap (λ (t : Standing). t.open_names) (fold-append after (after s (Start node.name)) (events below) (End node.name ∷ events beside))
-    ∙ trees_leave beside (after inner (End node.name))
-    ∙ ap (λ (names : List (List ℕ)). drop 1 names) (trees_leave below (after s (Start node.name))))
+    let inner : Standing = fold standing_after (standing_after s (Start node.name)) (events below) in
+    ap (λ (es : List Event). (fold standing_after s es).open_names) (events_element node below beside is)
+    ∙ ap (λ (t : Standing). t.open_names) (fold-append standing_after (standing_after s (Start node.name)) (events below) (End node.name ∷ events beside))
+    ∙ trees_leave beside (standing_after inner (End node.name))
+    ∙ ap (λ (names : List (List ℕ)). drop 1 names) (trees_leave below (standing_after s (Start node.name))))
     (λ (is : is_element node.kind ≡ false).
-    ap (λ (es : List Event). (fold after s es).open_names) (events_single node below beside is)
-    ∙ trees_leave beside (after s (Single node)))
+    ap (λ (es : List Event). (fold standing_after s es).open_names) (events_single node below beside is)
+    ∙ trees_leave beside (standing_after s (Single node)))
     (kind_cases node.kind)
 
 -- what is open is what stands open
@@ -42,8 +42,8 @@ open_stands : (names : List (List ℕ)) (es : List Event) → OpenAre names es �
 open_stands [] es are = ap (λ (xs : List Event). (standing xs).open_names) are.1 ∙ trees_leave are.0 at_first
 open_stands (name ∷ names) es are =
     ap (λ (xs : List Event). (standing xs).open_names) are.3
-    ∙ ap (λ (t : Standing). t.open_names) (fold-append after at_first are.0 (Start name ∷ events are.2))
-    ∙ trees_leave are.2 (after (standing are.0) (Start name))
+    ∙ ap (λ (t : Standing). t.open_names) (fold-append standing_after at_first are.0 (Start name ∷ events are.2))
+    ∙ trees_leave are.2 (standing_after (standing are.0) (Start name))
     ∙ ap (λ (ns : List (List ℕ)). name ∷ ns) (open_stands names are.0 are.1)
 
 behind_start : (prefix before inner : List Event) (name : List ℕ) → (prefix ++ (before ++ Start name ∷ [])) ++ inner ≡ (prefix ++ before) ++ Start name ∷ inner
@@ -75,19 +75,19 @@ open_are ls sound names = (
   λ is. subst (λ (ns : List (List ℕ)). OpenAre ns (events_of ls)) is (stands_open ls sound),
 )
 
-rooted_from : (s : Standing) (es : List Event) → (fold after s es).rooted ≡ (s.rooted || list_any is_start es)
+rooted_from : (s : Standing) (es : List Event) → (fold standing_after s es).rooted ≡ (s.rooted || list_any is_start es)
 rooted_from s [] = or_false s.rooted
   where
     or_false : (b : Bool) → b ≡ (b || false)
     or_false true = refl
     or_false false = refl
-rooted_from s (Start name ∷ es) = rooted_from (after s (Start name)) es ∙ or_true s.rooted
+rooted_from s (Start name ∷ es) = rooted_from (standing_after s (Start name)) es ∙ or_true s.rooted
   where
     or_true : (b : Bool) → true ≡ (b || true)
     or_true true = refl
     or_true false = refl
-rooted_from s (End name ∷ es) = rooted_from (after s (End name)) es
-rooted_from s (Single node ∷ es) = rooted_from (after s (Single node)) es
+rooted_from s (End name ∷ es) = rooted_from (standing_after s (End name)) es
+rooted_from s (Single node ∷ es) = rooted_from (standing_after s (Single node)) es
 
 -- an element has come where one of the events starts it
 pub rooted_is : (es : List Event) → (standing es).rooted ≡ list_any is_start es
@@ -99,11 +99,11 @@ nodes_more n e es =
     let more : count_by makes_node (e ∷ es) ≡ cond (makes_node e) 1 0 + count_by makes_node es = sum_by-cons (λ x. cond (makes_node x) 1 0) e es in
     omega arith
 
-nodes_from : (s : Standing) (es : List Event) → (fold after s es).nodes ≡ s.nodes + count_by makes_node es
+nodes_from : (s : Standing) (es : List Event) → (fold standing_after s es).nodes ≡ s.nodes + count_by makes_node es
 nodes_from s [] = omega arith
-nodes_from s (Start name ∷ es) = nodes_from (after s (Start name)) es ∙ nodes_more s.nodes (Start name) es
-nodes_from s (End name ∷ es) = nodes_from (after s (End name)) es ∙ ap (λ (n : ℕ). n + count_by makes_node es) (sym (add-zero s.nodes)) ∙ nodes_more s.nodes (End name) es
-nodes_from s (Single node ∷ es) = nodes_from (after s (Single node)) es ∙ nodes_more s.nodes (Single node) es
+nodes_from s (Start name ∷ es) = nodes_from (standing_after s (Start name)) es ∙ nodes_more s.nodes (Start name) es
+nodes_from s (End name ∷ es) = nodes_from (standing_after s (End name)) es ∙ ap (λ (n : ℕ). n + count_by makes_node es) (sym (add-zero s.nodes)) ∙ nodes_more s.nodes (End name) es
+nodes_from s (Single node ∷ es) = nodes_from (standing_after s (Single node)) es ∙ nodes_more s.nodes (Single node) es
 
 -- there are the document's root and as many nodes as events make
 pub nodes_are : (es : List Event) → (standing es).nodes ≡ 1 + count_by makes_node es
@@ -115,19 +115,19 @@ attribute_after node names is = ap (λ (b : Bool). if b then Some (node.name ∷
 
 -- attributes behind others
 attributes_from : (s : Standing) (names : List (List ℕ)) (nodes : List Node) → s.attributes ≡ Some names → IsTrue (list_all (λ node. is_attribute node.kind) nodes)
-    → (fold after s (map (λ node. Single node) nodes)).attributes ≡ Some (fold (λ names name. name ∷ names) names (map (λ node. node.name) nodes))
+    → (fold standing_after s (map (λ node. Single node) nodes)).attributes ≡ Some (fold (λ names name. name ∷ names) names (map (λ node. node.name) nodes))
 attributes_from s names [] so_far all = so_far
 attributes_from s names (node ∷ nodes) so_far all =
     let parts = and_parts (is_attribute node.kind) (list_all (λ node. is_attribute node.kind) nodes) all in
-    attributes_from (after s (Single node)) (node.name ∷ names) nodes
+    attributes_from (standing_after s (Single node)) (node.name ∷ names) nodes
     (ap (attributes_after node) so_far ∙ attribute_after node names parts.0) parts.1
 
 -- what stands after attributes behind a start
 ends_stands : (es : List Event) (names : List (List ℕ)) → EndWithAttributes es names → (standing es).attributes ≡ Some names
 ends_stands es names ends =
     ap (λ (xs : List Event). (standing xs).attributes) ends.ends
-    ∙ ap (λ (s : Standing). s.attributes) (fold-append after at_first ends.before (Start ends.element ∷ map (λ node. Single node) ends.attributes))
-    ∙ attributes_from (after (standing ends.before) (Start ends.element)) [] ends.attributes refl ends.alone
+    ∙ ap (λ (s : Standing). s.attributes) (fold-append standing_after at_first ends.before (Start ends.element ∷ map (λ node. Single node) ends.attributes))
+    ∙ attributes_from (standing_after (standing ends.before) (Start ends.element)) [] ends.attributes refl ends.alone
     ∙ ap (λ (ns : List (List ℕ)). Some ns) (sym ends.named)
 
 -- where an attribute may still come after a node, it is one, and the names grew by its own
@@ -139,7 +139,7 @@ attribute_by true name (Some others) names h = (refl, (others, refl, cc))
 
 -- one event more
 ends_more : (es : List Event) (e : Event) → ((names : List (List ℕ)) → (standing es).attributes ≡ Some names → EndWithAttributes es names)
-    → (names : List (List ℕ)) → (after (standing es) e).attributes ≡ Some names → EndWithAttributes (es ++ e ∷ []) names
+    → (names : List (List ℕ)) → (standing_after (standing es) e).attributes ≡ Some names → EndWithAttributes (es ++ e ∷ []) names
 ends_more es (Start name) ends names is = record { before = es; element = name; attributes = []; ends = refl; alone = refl; named = cc }
 ends_more es (End name) ends names is = absurd (cc)
 ends_more es (Single node) ends names is =
@@ -166,14 +166,14 @@ ends_more es (Single node) ends names is =
 
 -- what stands after events that come behind others
 stands_ends_from : (prefix es : List Event) → ((names : List (List ℕ)) → (standing prefix).attributes ≡ Some names → EndWithAttributes prefix names)
-    → (names : List (List ℕ)) → (fold after (standing prefix) es).attributes ≡ Some names → EndWithAttributes (prefix ++ es) names
+    → (names : List (List ℕ)) → (fold standing_after (standing prefix) es).attributes ≡ Some names → EndWithAttributes (prefix ++ es) names
 stands_ends_from prefix [] ends names is = subst (λ (es : List Event). EndWithAttributes es names) (sym (append-nil prefix)) (ends names is)
 stands_ends_from prefix (e ∷ es) ends names is =
-    let more : standing (prefix ++ e ∷ []) ≡ after (standing prefix) e = standing-more prefix e in
+    let more : standing (prefix ++ e ∷ []) ≡ standing_after (standing prefix) e = standing-more prefix e in
     subst (λ (xs : List Event). EndWithAttributes xs names) (append_assoc prefix (e ∷ []) es)
     (stands_ends_from (prefix ++ e ∷ []) es
     (λ ns at. ends_more prefix e ends ns (sym (ap (λ (s : Standing). s.attributes) more) ∙ at))
-    names (ap (λ (s : Standing). (fold after s es).attributes) more ∙ is))
+    names (ap (λ (s : Standing). (fold standing_after s es).attributes) more ∙ is))
 
 -- where the next attribute may come, the names are those of the attributes behind the last start
 pub attributes_are : (es : List Event) (names : List (List ℕ)) → EndWithAttributes es names ↔ ((standing es).attributes ≡ Some names)

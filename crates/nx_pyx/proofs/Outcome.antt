@@ -15,7 +15,7 @@ use Rattle.nx_pyx.specs.declared.error.PyxError.{PyxError}
 use Rattle.nx_pyx.specs.declared.builder.Level.{Level}
 use Rattle.nx_pyx.specs.Lines.{lines}
 use Rattle.nx_pyx.specs.Event.{Event, Start, End, Single, named_node, text_node, unescape, event_of, events}
-use Rattle.nx_pyx.specs.Fault.{Standing, attributes_after, standing, is_text, refusal, events_of, fault_at, first_fault, end_fault, fault_of}
+use Rattle.nx_pyx.specs.Fault.{Standing, attributes_after, standing, is_text, fault_at_standing, events_of, fault_at, first_fault, end_fault, fault_of}
 use Rattle.nx_pyx.specs.Reading.{Reads}
 use Rattle.nx_pyx.specs.Outcome.{HasOneReading, HasOneFault}
 use Rattle.nx_pyx.specs.Builder.{level_events, standing_at, IsMade}
@@ -132,9 +132,9 @@ form_end levels children rooted nodes attributes es name made passes =
     (last_level levels)
 
 -- one event more, which a line may say and no test refuses
-form_next : (es : List Event) (e : Event) → IsForm es → IsSayable e → refusal (standing es) e ≡ None → IsForm (es ++ e ∷ [])
+form_next : (es : List Event) (e : Event) → IsForm es → IsSayable e → fault_at_standing (standing es) e ≡ None → IsForm (es ++ e ∷ [])
 form_next es (Start name) form said ok =
-    let p = unrefused (standing_at form.levels form.rooted form.nodes form.attributes) (Start name) (subst (λ (s : Standing). refusal s (Start name) ≡ None) form.made.stands ok) in
+    let p = unrefused (standing_at form.levels form.rooted form.nodes form.attributes) (Start name) (subst (λ (s : Standing). fault_at_standing s (Start name) ≡ None) form.made.stands ok) in
     record {
       levels = form.levels ++ record { before = form.children; name = name } ∷ [];
       children = forest.Empty;
@@ -146,9 +146,9 @@ form_next es (Start name) form said ok =
     }
 form_next es (End name) form said ok =
     form_end form.levels form.children form.rooted form.nodes form.attributes es name form.made
-    (unrefused (standing_at form.levels form.rooted form.nodes form.attributes) (End name) (subst (λ (s : Standing). refusal s (End name) ≡ None) form.made.stands ok))
+    (unrefused (standing_at form.levels form.rooted form.nodes form.attributes) (End name) (subst (λ (s : Standing). fault_at_standing s (End name) ≡ None) form.made.stands ok))
 form_next es (Single node) form said ok =
-    let p = unrefused (standing_at form.levels form.rooted form.nodes form.attributes) (Single node) (subst (λ (s : Standing). refusal s (Single node) ≡ None) form.made.stands ok) in
+    let p = unrefused (standing_at form.levels form.rooted form.nodes form.attributes) (Single node) (subst (λ (s : Standing). fault_at_standing s (Single node) ≡ None) form.made.stands ok) in
     record {
       levels = form.levels;
       children = planted form.children (record { node = node; below = forest.Empty });

@@ -10,7 +10,7 @@ use Rattle.nx_pyx.specs.declared.builder.Builder.{Builder}
 use Rattle.nx_pyx.specs.declared.reader.Reader.{Reader}
 use Rattle.nx_pyx.specs.Fault.{first_fault, shown_fault, early_fault, fault_at, fault_at_end, fault_of}
 use Rattle.nx_pyx.specs.Builder.{HasBuilt, Fails}
-use Rattle.nx_pyx.specs.Reader.{HasRead, HasRoom}
+use Rattle.nx_pyx.specs.Reader.{HasRead, MayGrowBy}
 use Rattle.nx_pyx.specs.Lines.{Pieces, prepend, cut, without_cr, last_line, ended_lines, lines, has_lf, EndsLine}
 use Rattle.nx_pyx.proofs.ShownFaultLemmas.{onto, cut-append, cut-rest, first_fault-append, fault_shows}
 use Rattle.nx_pyx.proofs.DocumentLemmas.{no_fault}
@@ -86,12 +86,12 @@ ended_lines-held s bytes none = ap (λ (p : Pieces). map without_cr p.ended) (cu
 
 -- a reader holds more of a line
 pub holds : (old new : Reader) (bytes : List ℕ) → has_lf bytes ≡ false → new.builder ≡ old.builder → new.failed ≡ old.failed →
-    new.held ≡ old.held ++ bytes → (HasRoom old.held old.room → HasRoom new.held new.room) →
+    new.held ≡ old.held ++ bytes → (MayGrowBy old.held old.room → MayGrowBy new.held new.room) →
     (s : List ℕ) → HasRead old s → HasRead new (s ++ bytes)
 holds old new bytes none builder failed held room s read =
     let rest : new.held ≡ (cut (s ++ bytes)).rest = held ∙ ap (λ h. h ++ bytes) read.held ∙ ap (λ (p : Pieces). p.rest) (sym (cut-held s bytes none)) in
     let same : ended_lines (s ++ bytes) ≡ ended_lines s = ended_lines-held s bytes none in
-    let has : HasRoom new.held new.room = room read.room in
+    let has : MayGrowBy new.held new.room = room read.room in
     record {
       works = failed ∙ read.works;
       taken = rw (builder, same) read.taken;
@@ -138,7 +138,7 @@ ended_fault s bytes line sound none is =
     ∙ ap (λ (l : List ℕ). first_fault (ended_lines s) (without_cr l ∷ [])) (sym is)
 
 -- an LF ends the line that these bytes are
-pub takes_line : (old new : Reader) (bytes line : List ℕ) → has_lf bytes ≡ false → new.held ≡ [] → (HasRoom old.held old.room → HasRoom new.held new.room) → new.failed ≡ old.failed →
+pub takes_line : (old new : Reader) (bytes line : List ℕ) → has_lf bytes ≡ false → new.held ≡ [] → (MayGrowBy old.held old.room → MayGrowBy new.held new.room) → new.failed ≡ old.failed →
     ((ls : List (List ℕ)) → HasBuilt old.builder ls → HasBuilt new.builder (ls ++ without_cr line ∷ [])) →
     (s : List ℕ) → line ≡ (cut s).rest ++ bytes → HasRead old s → HasRead new (s ++ (bytes ++ 10 ∷ []))
 takes_line old new bytes line none held room failed takes s is read =

@@ -11,7 +11,7 @@ use Rattle.nx_pyx.specs.declared.error.PyxFault.TheVariants.{TooDeep, TooMany}
 use Rattle.nx_pyx.specs.declared.error.ReadError.{ReadError}
 use Rattle.nx_pyx.specs.declared.error.ReadError.TheVariants.{Pyx, Memory}
 use Rattle.nx_pyx.specs.Event.{Event, Start, events}
-use Rattle.nx_pyx.specs.Fault.{Standing, standing, events_of, refusal, first_fault, fault_at}
+use Rattle.nx_pyx.specs.Fault.{Standing, standing, events_of, fault_at_standing, first_fault, fault_at}
 use Rattle.nx_pyx.specs.Names.{HoldsNames}
 
 -- the events before what is open innermost, the outermost level first
@@ -67,7 +67,7 @@ standing_of builder attributes = standing_at builder.levels.items builder.rooted
 
 -- The event has no fault there, and the new builder is the old one after it.
 pub record Makes (old new : Builder) (e : Event) : Type 0 where
-  pub fine : (attributes : Option (List (List ℕ))) → Knows old attributes → refusal (standing_of old attributes) e ≡ None
+  pub fine : (attributes : Option (List (List ℕ))) → Knows old attributes → fault_at_standing (standing_of old attributes) e ≡ None
   pub made : (es : List Event) (attributes : Option (List (List ℕ))) → Knows old attributes → IsMade old.levels.items old.children old.rooted old.nodes attributes es →
       (next : Option (List (List ℕ))) × Knows new next × IsMade new.levels.items new.children new.rooted new.nodes next (es ++ e ∷ [])
   pub lines : new.lines ≡ old.lines
@@ -78,8 +78,8 @@ Fails (Pyx error) found = found ≡ Some error
 Fails Memory found = Unit {0}
 
 -- this error comes where the event is refused at the builder
-abbrev pub Refuses : Builder → ℕ → Event → ReadError → Type 0
-Refuses builder n e error = (attributes : Option (List (List ℕ))) → Knows builder attributes → Fails error (option_map (fault_at n) (refusal (standing_of builder attributes) e))
+abbrev pub RefusesEvent : Builder → ℕ → Event → ReadError → Type 0
+RefusesEvent builder n e error = (attributes : Option (List (List ℕ))) → Knows builder attributes → Fails error (option_map (fault_at n) (fault_at_standing (standing_of builder attributes) e))
 
 -- The new builder is the old one with one node more among the children of the innermost element.
 pub record Pushes (old new : Builder) (node : Node) : Type 0 where

@@ -28,14 +28,14 @@ at_first = record { open_names = []; rooted = false; nodes = 1; attributes = Non
 abbrev pub attributes_after : Node → Option (List (List ℕ)) → Option (List (List ℕ))
 attributes_after node names = if is_attribute node.kind then option_map (λ ns. node.name ∷ ns) names else None
 
-abbrev pub after : Standing → Event → Standing
-after s (Start name) = record { open_names = name ∷ s.open_names; rooted = true; nodes = s.nodes + 1; attributes = Some [] }
-after s (End name) = record { open_names = drop 1 s.open_names; rooted = s.rooted; nodes = s.nodes; attributes = None }
-after s (Single node) = record { open_names = s.open_names; rooted = s.rooted; nodes = s.nodes + 1; attributes = attributes_after node s.attributes }
+abbrev pub standing_after : Standing → Event → Standing
+standing_after s (Start name) = record { open_names = name ∷ s.open_names; rooted = true; nodes = s.nodes + 1; attributes = Some [] }
+standing_after s (End name) = record { open_names = drop 1 s.open_names; rooted = s.rooted; nodes = s.nodes; attributes = None }
+standing_after s (Single node) = record { open_names = s.open_names; rooted = s.rooted; nodes = s.nodes + 1; attributes = attributes_after node s.attributes }
 
 -- what stands after these events
 abbrev pub standing : List Event → Standing
-standing es = fold after at_first es
+standing es = fold standing_after at_first es
 
 -- nothing is open
 abbrev pub is_outside : Standing → Bool
@@ -67,10 +67,10 @@ is_misnamed (End name) = false
 is_misnamed (Single node) = not (is_text node.kind) && not (is_name node.name)
 
 -- a start beside the root element, an end of no open element, or a text outside
-abbrev pub is_misplaced : Standing → Event → Bool
-is_misplaced s (Start name) = is_outside s && s.rooted
-is_misplaced s (End name) = not (is_innermost name s.open_names)
-is_misplaced s (Single node) = is_text node.kind && is_outside s
+abbrev pub is_misplaced_event : Standing → Event → Bool
+is_misplaced_event s (Start name) = is_outside s && s.rooted
+is_misplaced_event s (End name) = not (is_innermost name s.open_names)
+is_misplaced_event s (Single node) = is_text node.kind && is_outside s
 
 -- an attribute where none may come
 abbrev pub is_late : Standing → Event → Bool
@@ -82,9 +82,9 @@ abbrev pub is_among : List ℕ → List (List ℕ) → Bool
 is_among name names = list_any (bytes_eq name) names
 
 -- an attribute of a name that the element has
-abbrev pub is_repeated : Standing → Event → Bool
-is_repeated s (Single node) = is_attribute node.kind && is_among node.name (unwrap_or s.attributes [])
-is_repeated s _ = false
+abbrev pub is_repeated_event : Standing → Event → Bool
+is_repeated_event s (Single node) = is_attribute node.kind && is_among node.name (unwrap_or s.attributes [])
+is_repeated_event s _ = false
 
 -- it makes a node
 abbrev pub makes_node : Event → Bool
@@ -100,13 +100,13 @@ abbrev pub is_surplus : Standing → Event → Bool
 is_surplus s e = makes_node e && nat_le most_nodes s.nodes
 
 -- the fault of an event that comes where this stands: the first that applies
-abbrev pub refusal : Standing → Event → Option PyxFault
-refusal s e =
+abbrev pub fault_at_standing : Standing → Event → Option PyxFault
+fault_at_standing s e =
     if is_long e then Some LongLine
     else if is_misnamed e then Some BadName
-    else if is_misplaced s e then Some BadNesting
+    else if is_misplaced_event s e then Some BadNesting
     else if is_late s e then Some BadAttribute
-    else if is_repeated s e then Some Twice
+    else if is_repeated_event s e then Some Twice
     else if is_deep s e then Some TooDeep
     else if is_surplus s e then Some TooMany
     else None
@@ -117,7 +117,7 @@ events_of ls = filter_map event_of ls
 
 -- the fault of a line that comes after these lines
 abbrev pub line_fault : List (List ℕ) → List ℕ → Option PyxFault
-line_fault before line = option_map_or (refusal (standing (events_of before))) (event_of line) (Some BadCode)
+line_fault before line = option_map_or (fault_at_standing (standing (events_of before))) (event_of line) (Some BadCode)
 
 abbrev pub fault_at : ℕ → PyxFault → PyxError
 fault_at n fault = record { line = n; fault = fault }

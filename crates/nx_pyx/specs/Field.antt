@@ -10,8 +10,8 @@ abbrev pub field : List ℕ → List ℕ
 field bytes = before_first is_space bytes
 
 -- what stands behind the first space, where there is one
-abbrev pub behind : List ℕ → Option (List ℕ)
-behind bytes = if list_any is_space bytes then Some (after_first is_space bytes) else None
+abbrev pub behind_space : List ℕ → Option (List ℕ)
+behind_space bytes = if list_any is_space bytes then Some (after_first is_space bytes) else None
 
 abbrev pub begins_with : ℕ → List ℕ → Bool
 begins_with b [] = false

@@ -39,8 +39,8 @@ abbrev pub event_fault : Event → Option PyxFault
 event_fault e = if is_long e then Some LongLine else if is_misnamed e then Some BadName else if makes_node e then None else Some BadNesting
 
 -- the fault of a line that is to make a node and stands alone
-abbrev pub node_fault : List ℕ → Option PyxFault
-node_fault line = option_map_or event_fault (event_of line) (Some BadCode)
+abbrev pub node_line_fault : List ℕ → Option PyxFault
+node_line_fault line = option_map_or event_fault (event_of line) (Some BadCode)
 
 -- The error is that fault, of the first line, or want of memory.
 abbrev pub FailsAlone : Option PyxFault → ReadError → Type 0

@@ -6,7 +6,7 @@ ghost use Rattle.nx_pyx.specs.Lines.{without_cr};
 ghost use Rattle.nx_pyx.specs.Event.{Start, End, Single, event_of, events};
 ghost use Rattle.nx_pyx.specs.Fault.{is_long, fault_at, first_fault, fault_at_end};
 ghost use Rattle.nx_pyx.specs.Line.{node_in, event_in};
-ghost use Rattle.nx_pyx.specs.Builder.{HasBuilt, Makes, Refuses, Pushes, HasNoRoom, Fails};
+ghost use Rattle.nx_pyx.specs.Builder.{HasBuilt, Makes, RefusesEvent, Pushes, HasNoRoom, Fails};
 
 use crate::line::{self, Line};
 use crate::names::Names;
@@ -104,7 +104,7 @@ impl Builder {
     // Adds what a line says.
     fn add(&mut self, line: Line<'_>) -> Result<(), ReadError>
         ensures ok { OnOk result (Makes self.old self.new (event_in line.entry)) }
-        ensures err { IfErr result (Refuses self.old self.old.lines (event_in line.entry)) }
+        ensures err { IfErr result (RefusesEvent self.old self.old.lines (event_in line.entry)) }
     {
         if line.is_long() {
             return Err(self.fault(PyxFault::LongLine));
@@ -122,7 +122,7 @@ impl Builder {
     fn start(&mut self, name: &[u8]) -> Result<(), ReadError>
         requires { is_long (Start name.now) ≡ false }
         ensures ok { OnOk result (Makes self.old self.new (Start name.now)) }
-        ensures err { IfErr result (Refuses self.old self.old.lines (Start name.now)) }
+        ensures err { IfErr result (RefusesEvent self.old self.old.lines (Start name.now)) }
     {
         if !line::is_name(name) {
             return Err(self.fault(PyxFault::BadName));
@@ -145,7 +145,7 @@ impl Builder {
     fn end(&mut self, name: &[u8]) -> Result<(), ReadError>
         requires { is_long (End name.now) ≡ false }
         ensures ok { OnOk result (Makes self.old self.new (End name.now)) }
-        ensures err { IfErr result (Refuses self.old self.old.lines (End name.now)) }
+        ensures err { IfErr result (RefusesEvent self.old self.old.lines (End name.now)) }
     {
         let Some(level) = self.levels.pop() else {
             return Err(self.fault(PyxFault::BadNesting));
@@ -172,7 +172,7 @@ impl Builder {
     fn attribute(&mut self, name: &[u8], content: &[u8]) -> Result<(), ReadError>
         requires { is_long (Single (node_in kind.Attribute name.now content.now)) ≡ false }
         ensures ok { OnOk result (Makes self.old self.new (Single (node_in kind.Attribute name.now content.now))) }
-        ensures err { IfErr result (Refuses self.old self.old.lines (Single (node_in kind.Attribute name.now content.now))) }
+        ensures err { IfErr result (RefusesEvent self.old self.old.lines (Single (node_in kind.Attribute name.now content.now))) }
     {
         if !line::is_name(name) {
             return Err(self.fault(PyxFault::BadName));
@@ -191,7 +191,7 @@ impl Builder {
     fn text(&mut self, content: &[u8]) -> Result<(), ReadError>
         requires { is_long (Single (node_in kind.Text [] content.now)) ≡ false }
         ensures ok { OnOk result (Makes self.old self.new (Single (node_in kind.Text [] content.now))) }
-        ensures err { IfErr result (Refuses self.old self.old.lines (Single (node_in kind.Text [] content.now))) }
+        ensures err { IfErr result (RefusesEvent self.old self.old.lines (Single (node_in kind.Text [] content.now))) }
     {
         if self.is_outside() {
             return Err(self.fault(PyxFault::BadNesting));
@@ -205,7 +205,7 @@ impl Builder {
     fn instruction(&mut self, name: &[u8], content: &[u8]) -> Result<(), ReadError>
         requires { is_long (Single (node_in kind.Instruction name.now content.now)) ≡ false }
         ensures ok { OnOk result (Makes self.old self.new (Single (node_in kind.Instruction name.now content.now))) }
-        ensures err { IfErr result (Refuses self.old self.old.lines (Single (node_in kind.Instruction name.now content.now))) }
+        ensures err { IfErr result (RefusesEvent self.old self.old.lines (Single (node_in kind.Instruction name.now content.now))) }
     {
         if !line::is_name(name) {
             return Err(self.fault(PyxFault::BadName));

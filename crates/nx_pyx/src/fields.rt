@@ -2,7 +2,7 @@
 ghost use Rattle.std.specs.Prelude.{◌≡◌, ℕ, ◌+◌, ◌-◌, ◌*◌, ◌<◌, ◌≤◌, ◌&&◌, ◌++◌, true, false, None, Some, MatchOption, IfSome, OnOk, length, take, nat_le, decimal};
 ghost use Rattle.std.specs.List.{position};
 ghost use Rattle.nx_pyx.specs.Event.{is_space};
-ghost use Rattle.nx_pyx.specs.Field.{field, behind, is_digit, is_number, value_of, greatest_position};
+ghost use Rattle.nx_pyx.specs.Field.{field, behind_space, is_digit, is_number, value_of, greatest_position};
 
 use itoa::Buffer;
 use nx_tree::{Bytes, NoMemory};
@@ -11,7 +11,7 @@ use nx_tree::{Bytes, NoMemory};
 /// one.
 pub fn split_field(bytes: &[u8]) -> (&[u8], Option<&[u8]>)
     ensures field { result.0.now ≡ field bytes.now }
-    ensures behind { MatchOption result.1 (behind bytes.now ≡ None) (λ rest. behind bytes.now ≡ Some rest.now) }
+    ensures behind { MatchOption result.1 (behind_space bytes.now ≡ None) (λ rest. behind_space bytes.now ≡ Some rest.now) }
 {
     match first_space(bytes) {
         Some(end) => (&bytes[..end], Some(&bytes[end + 1..])),

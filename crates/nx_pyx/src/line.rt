@@ -5,7 +5,7 @@ ghost use Rattle.nx_tree.specs.Document.{is_name, is_name_byte};
 ghost use Rattle.nx_pyx.specs.Lines.{without_cr};
 ghost use Rattle.nx_pyx.specs.Event.{event_of, is_space, unescape, unescaped_byte};
 ghost use Rattle.nx_pyx.specs.Fault.{early_fault, event_size, is_long, is_misnamed};
-ghost use Rattle.nx_pyx.specs.Reader.{HasRoom};
+ghost use Rattle.nx_pyx.specs.Reader.{MayGrowBy};
 ghost use Rattle.nx_pyx.specs.Line.{event_in, is_backslash};
 
 use crate::PyxFault;
@@ -89,7 +89,7 @@ pub fn parse(line: &[u8]) -> Option<Line<'_>>
 // How many bytes may come behind these before their line could show a fault, or the fault that it
 // shows already.
 pub fn room(bytes: &[u8]) -> Result<usize, PyxFault>
-    ensures ok { IfOk result (HasRoom bytes.now) }
+    ensures ok { IfOk result (MayGrowBy bytes.now) }
     ensures fault { IfErr result (λ fault. early_fault bytes.now ≡ Some fault) }
 {
     if bytes.is_empty() {

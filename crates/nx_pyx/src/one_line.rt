@@ -2,7 +2,7 @@
 ghost use Rattle.std.specs.Prelude.{◌≡◌, None, Some, IfOk, IfErr};
 ghost use Rattle.nx_pyx.specs.Event.{Event, event_of};
 ghost use Rattle.nx_pyx.specs.Fault.{fault_at};
-ghost use Rattle.nx_pyx.specs.Line.{event_in, node_of, event_fault, node_fault, FailsAlone};
+ghost use Rattle.nx_pyx.specs.Line.{event_in, node_of, event_fault, node_line_fault, FailsAlone};
 
 use crate::line::{Line, parse, unescaped};
 use crate::{PyxError, PyxFault, ReadError};
@@ -14,8 +14,8 @@ use std::alloc::Global;
 /// Errors: `Pyx` for line 1, where the first of these applies: `BadCode`, `LongLine`, `BadName`, and
 /// `BadNesting` for an end; `Memory`.
 pub fn line_node(alloc: Global, line: &[u8]) -> Result<Node, ReadError>
-    ensures ok { IfOk result (λ node. (e : Event) × (event_of line.now ≡ Some e) × (node_fault line.now ≡ None) × (node ≡ node_of e)) }
-    ensures err { IfErr result (FailsAlone (node_fault line.now)) }
+    ensures ok { IfOk result (λ node. (e : Event) × (event_of line.now ≡ Some e) × (node_line_fault line.now ≡ None) × (node ≡ node_of e)) }
+    ensures err { IfErr result (FailsAlone (node_line_fault line.now)) }
 {
     let Some(found) = parse(line) else {
         return Err(error(PyxFault::BadCode));

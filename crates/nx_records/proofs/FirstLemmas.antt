@@ -14,7 +14,7 @@ use Rattle.nx_chain.specs.Chain.{chain_bytes}
 use Rattle.nx_wal.specs.declared.wal.Wal.{Wal}
 use Rattle.nx_wal.specs.declared.error.WalError.{WalError}
 use Rattle.nx_wal.specs.declared.error.WalError.TheVariants as error
-use Rattle.nx_wal.specs.Wal.{IsInStep, Follows, Refused, pending, next_group, has_ended as wal_ended}
+use Rattle.nx_wal.specs.Wal.{IsInStep, Follows, Refused, pending, next_group, wal_ended}
 use Rattle.nx_holdings.specs.declared.header.Header.{Header}
 use Rattle.nx_holdings.specs.declared.header.Settings.{Settings}
 use Rattle.nx_holdings.specs.Header.{header_bytes, IsInRange}

@@ -11,7 +11,7 @@ use Rattle.nx_host.proofs.DiskLemmas.{settled_still, written_alone_weaker}
 use Rattle.nx_replay.specs.Log.{Pages, Entry, over, entry_pages, replay, groups, HasGroup, HasSame, Stays}
 use Rattle.nx_replay.proofs.ReplayLemmas.{over-over, replay-more, replay-same}
 use Rattle.nx_wal.specs.declared.wal.Wal.{Wal}
-use Rattle.nx_wal.specs.Wal.{IsInStep, Follows, PutsRecord, current, pending, next_group, length_of, has_ended as wal_ended}
+use Rattle.nx_wal.specs.Wal.{IsInStep, Follows, PutsRecord, current, pending, next_group, length_of, wal_ended}
 use Rattle.nx_holdings.specs.declared.header.Header.{Header}
 use Rattle.nx_holdings.specs.Header.{header_bytes, IsInRange}
 use Rattle.nx_holdings.specs.Holdings.{with_page, Held, HoldsBehind, HoldsBy, Holds}

@@ -26,7 +26,7 @@ use Rattle.nx_records.specs.Records.{has_ended, has_free, next_number, KeepsLog,
 use Rattle.nx_records.specs.Changes.{WritesList, SetsCatalog}
 use Rattle.nx_records.specs.Refusals.{EndNow, NotChanged, NotStored}
 use Rattle.nx_records.specs.Pages.{SeesSo, StepsTo, IsPageTaken, NotTaken, numbered, released}
-use Rattle.nx_records.specs.Chains.{HasLink, NoLink, NotListed, MayLead, link_before, IsContentAt, IsWritten, IsLeft, ChainStepsTo, FreesTo, BesideSo, Nowhere, NotLed, NotGiven, with_catalog}
+use Rattle.nx_records.specs.Chains.{HasLink, NoLink, NotListed, MayLead, link_before, IsContentAt, IsWritten, IsChainLeft, ChainStepsTo, FreesTo, BesideSo, Nowhere, NotLed, NotGivenBack, with_catalog}
 use Rattle.nx_records.proofs.StandLemmas.{Stores, step_kept, saved_kept, keeps_then}
 use Rattle.nx_records.proofs.StepLemmas.{first_free, none_free}
 use Rattle.nx_records.proofs.RefusalLemmas.{keeps_self, runs_on, ends_later, ended_now}
@@ -203,10 +203,10 @@ module _ {D : Type 0} (d : Ghosts D) (r0 r1 : Records) (x0 x1 : D) (named : ℕ)
   pub led_memory : (Few : List Link → HeldBeside → Type 0) (e : StoreError) → e ≡ error.Memory → KeepsLog r0 r1 → NotLed d Starts Few named e r0 r1 x0 x1
   led_memory Few e same keeps = subst (λ (x : StoreError). NotLed d Starts Few named x r0 r1 x0 x1) (sym same) keeps
 
-  pub given_memory : (e : StoreError) → e ≡ error.Memory → KeepsLog r0 r1 → NotGiven d Starts named e r0 r1 x0 x1
+  pub given_memory : (e : StoreError) → e ≡ error.Memory → KeepsLog r0 r1 → NotGivenBack d Starts named e r0 r1 x0 x1
   given_memory e same keeps = (led_memory Nowhere e same keeps, λ full. memory_full (sym same ∙ full))
 
-  pub given_damaged : (e : StoreError) → e ≡ error.Damaged named → EndNow r0 r1 → BesideSo d r0 x0 Starts Nowhere → NotGiven d Starts named e r0 r1 x0 x1
+  pub given_damaged : (e : StoreError) → e ≡ error.Damaged named → EndNow r0 r1 → BesideSo d r0 x0 Starts Nowhere → NotGivenBack d Starts named e r0 r1 x0 x1
   given_damaged e same ends none =
       (subst (λ (x : StoreError). NotLed d Starts Nowhere named x r0 r1 x0 x1) (sym same) (refl, ends, none), λ full. no_full named (sym same ∙ full))
 
@@ -257,7 +257,7 @@ module _ {D : Type 0} (d : Ghosts D) (r0 r1 : Records) (x0 x1 : D) (named : ℕ)
   led_stored needs Few Lacks error.NotAStore runs still few refused = absurd refused
 
   pub given_changed : (Lacks : Held → Type 0) (e : StoreError) → has_ended r0 ≡ false → IsStill d x0 x1 → ((saved now : Held) → StandsFor d r0 x0 saved now → BesideSo d r0 x0 Starts Nowhere → Lacks now)
-      → NotGiven d Starts named e r0 r1 x0 x1 → NotChanged d Lacks named e r0 r1 x0 x1
+      → NotGivenBack d Starts named e r0 r1 x0 x1 → NotChanged d Lacks named e r0 r1 x0 x1
   given_changed Lacks error.Disk runs still lacks refused = refused.0
   given_changed Lacks (error.Damaged told) runs still lacks refused = record { page = refused.0.0; ends = refused.0.1; lacks = λ saved now stands. lacks saved now stands refused.0.2 }
   given_changed Lacks error.Memory runs still lacks refused = (runs_on runs refused.0, saved_kept refused.0 still)
@@ -269,7 +269,7 @@ module _ {D : Type 0} (d : Ghosts D) (r0 r1 : Records) (x0 x1 : D) (named : ℕ)
 module _ {D : Type 0} (d : Ghosts D) (r0 r1 : Records) (x0 x1 : D) (named : ℕ) where
   -- the first page of a chain wasn't read
   pub link_given : (page : ℕ) (e : StoreError) → page ≢ 0 → has_ended r0 ≡ false → NotListed d (NoLink r0.head.pages page) named e r0 r1 x0 x1
-      → NotGiven d (λ links. next_of links ≡ page) named e r0 r1 x0 x1
+      → NotGivenBack d (λ links. next_of links ≡ page) named e r0 r1 x0 x1
   link_given page error.Disk some runs refused = (refused, disk_full)
   link_given page (error.Damaged told) some runs refused = (
     (
@@ -410,8 +410,8 @@ written_few some starts comes keeps none =
     omega (arith, empty, count, free, none, some)
 
 -- the pages of a list that is given back
-pub left_ends : {page left len : ℕ} {links mid : List Link} (next : ℕ) (content : List ℕ) (more : List Link) → length content ≤ left → IsLeft page left len links mid
-    → (mid ≡ link_before page content more) × (next_of more ≡ next) → IsLeft next (left - length content) len links more
+pub left_ends : {page left len : ℕ} {links mid : List Link} (next : ℕ) (content : List ℕ) (more : List Link) → length content ≤ left → IsChainLeft page left len links mid
+    → (mid ≡ link_before page content more) × (next_of more ≡ next) → IsChainLeft next (left - length content) len links more
 left_ends next content more low comes goes =
     let whole = ap (λ (ls : List Link). length (content_of ls)) goes.0 in
     let both = length-append content (content_of more) in
@@ -419,7 +419,7 @@ left_ends next content more low comes goes =
     record { first = goes.1; count = omega (arith, whole, both, count, low) }
 
 -- where no byte is left, no page is
-pub left_none : {pages : Pages} {h : Header} {held : HeldBeside} {page left len : ℕ} {links : List Link} (mid : List Link) → HoldsBeside pages h mid held → next_of mid ≢ 0 → IsLeft page left len links mid → left ≡ 0
+pub left_none : {pages : Pages} {h : Header} {held : HeldBeside} {page left len : ℕ} {links : List Link} (mid : List Link) → HoldsBeside pages h mid held → next_of mid ≢ 0 → IsChainLeft page left len links mid → left ≡ 0
     → length (content_of links) ≡ len → ⊥
 left_none mid holds some comes none long =
     let first = has_first some (chain_from holds) in
@@ -429,7 +429,7 @@ left_none mid holds some comes none long =
     omega (arith, whole, here, count, none, long)
 
 -- a page that has more bytes than are left isn't one of a list of that length
-pub left_past : {page left len : ℕ} {links mid : List Link} (next : ℕ) (content : List ℕ) (more : List Link) → left < length content → IsLeft page left len links mid
+pub left_past : {page left len : ℕ} {links mid : List Link} (next : ℕ) (content : List ℕ) (more : List Link) → left < length content → IsChainLeft page left len links mid
     → (mid ≡ link_before page content more) × (next_of more ≡ next) → length (content_of links) ≡ len → ⊥
 left_past next content more past comes goes long =
     let whole = ap (λ (ls : List Link). length (content_of ls)) goes.0 in

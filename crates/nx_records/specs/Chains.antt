@@ -66,7 +66,7 @@ pub record IsWritten (next left : ℕ) (bytes : List ℕ) (more : List Link) : T
   pub count : length more + left ≡ chain_count (length bytes)
 
 -- Of a chain there is left what begins at the page. Where the whole has this length, that has so many bytes.
-pub record IsLeft (page left len : ℕ) (links more : List Link) : Type 0 where
+pub record IsChainLeft (page left len : ℕ) (links more : List Link) : Type 0 where
   pub first : next_of more ≡ page
   pub count : length (content_of links) + left ≡ len + length (content_of more)
 
@@ -108,8 +108,8 @@ NotLed d Starts Few named error.Exists old new before after = ⊥
 NotLed d Starts Few named error.NotAStore old new before after = ⊥
 
 -- Why pages of a chain that is so weren't given back. No page was wanting.
-abbrev pub NotGiven : {D : Type 0} → Ghosts D → (List Link → Type 0) → ℕ → StoreError → Records → Records → D → D → Type 0
-NotGiven d Starts named e old new before after = NotLed d Starts Nowhere named e old new before after × (e ≡ error.Full → ⊥)
+abbrev pub NotGivenBack : {D : Type 0} → Ghosts D → (List Link → Type 0) → ℕ → StoreError → Records → Records → D → D → Type 0
+NotGivenBack d Starts named e old new before after = NotLed d Starts Nowhere named e old new before after × (e ≡ error.Full → ⊥)
 
 -- the header with another catalog
 abbrev pub with_catalog : (first len : ℕ) → Header → Header

@@ -30,8 +30,8 @@ abbrev pub log_length_of : Records → ℕ
 log_length_of records = length_of records.wal
 
 -- how many groups the log of an image has
-abbrev pub group_count : Image → ℕ
-group_count image = length (groups image.log)
+abbrev pub image_group_count : Image → ℕ
+image_group_count image = length (groups image.log)
 
 -- ... and how many bytes they take
 abbrev pub log_end : Image → ℕ

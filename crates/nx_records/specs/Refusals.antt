@@ -102,11 +102,11 @@ NotCreated d error.NotAStore before after = ⊥
 NotCreated d error.Full before after = ⊥
 
 -- Why none was opened.
-abbrev pub NotOpened : {D : Type 0} → Ghosts D → StoreError → D → D → Type 0
-NotOpened d error.Disk before after = Rose (d.faults before) (d.faults after)
-NotOpened d error.NotAStore before after = (was : Image) → IsSettled d before was → HasHeader was → ⊥
-NotOpened d (error.Damaged page) before after = (page ≡ 0) × ((was : Image) → IsSettled d before was → HasHeader was × ((held : Held) → Holds (replay was) held → ⊥))
-NotOpened d error.Memory before after = Unit {0}
-NotOpened d error.Ended before after = ⊥
-NotOpened d error.Exists before after = ⊥
-NotOpened d error.Full before after = ⊥
+abbrev pub NoRecordsOpened : {D : Type 0} → Ghosts D → StoreError → D → D → Type 0
+NoRecordsOpened d error.Disk before after = Rose (d.faults before) (d.faults after)
+NoRecordsOpened d error.NotAStore before after = (was : Image) → IsSettled d before was → HasHeader was → ⊥
+NoRecordsOpened d (error.Damaged page) before after = (page ≡ 0) × ((was : Image) → IsSettled d before was → HasHeader was × ((held : Held) → Holds (replay was) held → ⊥))
+NoRecordsOpened d error.Memory before after = Unit {0}
+NoRecordsOpened d error.Ended before after = ⊥
+NoRecordsOpened d error.Exists before after = ⊥
+NoRecordsOpened d error.Full before after = ⊥

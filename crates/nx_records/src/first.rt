@@ -4,7 +4,7 @@ ghost use Rattle.std.proofs.Math.ListN.{replicate};
 ghost use Rattle.nx_chain.specs.Chain.{chain_bytes};
 ghost use Rattle.nx_holdings.specs.Header.{AreSettings, IsInRange, header_bytes};
 ghost use Rattle.nx_replay.specs.Log.{entry_pages};
-ghost use Rattle.nx_wal.specs.Wal.{Follows, pending, has_ended, length_of};
+ghost use Rattle.nx_wal.specs.Wal.{Follows, pending, wal_ended, length_of};
 ghost use Rattle.nx_records.specs.First.{first_head, first_pages};
 
 use crate::StoreError;
@@ -33,12 +33,12 @@ pub(crate) fn first_header(settings: Settings) -> Header
 // Makes the header wait for a commit, and a catalog without documents and rules.
 pub(crate) fn put_first(wal: &mut Wal, header: &Header) -> Result<(), StoreError>
     requires range { IsInRange header.now }
-    requires runs { has_ended wal.old ≡ false }
+    requires runs { wal_ended wal.old ≡ false }
     requires none { pending wal.old ≡ [] }
     ensures follows { (log : List ℕ) → Follows wal.old log → Follows wal.new log }
     ensures ok { OnOk result (entry_pages (pending wal.new) ≡ first_pages header.now) }
     ensures some { OnOk result (pending wal.new ≢ []) }
-    ensures stays { (length_of wal.new ≡ length_of wal.old) × (has_ended wal.new ≡ has_ended wal.old) }
+    ensures stays { (length_of wal.new ≡ length_of wal.old) × (wal_ended wal.new ≡ wal_ended wal.old) }
     ensures refused { IfErr result (λ e. e ≡ StoreError.Memory) }
 {
     let page = header_page(header);

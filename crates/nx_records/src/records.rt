@@ -4,8 +4,8 @@ ghost use Rattle.std.proofs.Props.{props};
 ghost use Rattle.nx_numbers.specs.Sizes.{entry_size, longest_record};
 ghost use Rattle.nx_host.specs.Disk.{Image};
 ghost use Rattle.nx_host.specs.Still.{IsStill, IsSettled, WritesAlone};
-ghost use Rattle.nx_replay.specs.Log.{entry_pages, groups, replay, size_of, Stays, HasSame, HasGroup};
-ghost use Rattle.nx_wal.specs.Wal.{pending, next_group, has_ended as wal_ended};
+ghost use Rattle.nx_replay.specs.Log.{entry_pages, groups, replay, group_size, Stays, HasSame, HasGroup};
+ghost use Rattle.nx_wal.specs.Wal.{pending, next_group, wal_ended};
 ghost use Rattle.nx_holdings.specs.Header.{AreSettings, IsInRange, header_bytes};
 ghost use Rattle.nx_holdings.specs.Holdings.{Held, Holds};
 ghost use Rattle.nx_records.specs.Numbering.{number_behind};
@@ -53,7 +53,7 @@ impl Records {
     ghost use Rattle.nx_records.specs.Records.{HasSaved, StandsFor, KeepsSaved, KeepsLog, LeavesRecords, FollowsOn, ComesTo, HasChanges, HasNoChanges, HasHeader, IsInStepWith, current_pages, has_ended, has_free, settings_of, log_length_of, last_number, next_number};
     ghost use Rattle.nx_records.specs.Changes.{nothing_held, AddsRecord, UpdatesRecord, RemovesRecord, update_needs};
     ghost use Rattle.nx_records.specs.Room.{FitsRoom, HasRoomFor, TakesNoPage};
-    ghost use Rattle.nx_records.specs.Refusals.{IsNewStore, NotRead, NotChanged, NotStored, NotWritten, NotCreated, NotOpened, RunsOn};
+    ghost use Rattle.nx_records.specs.Refusals.{IsNewStore, NotRead, NotChanged, NotStored, NotWritten, NotCreated, NoRecordsOpened, RunsOn};
 
     /// A store on a disk that has no pages, committed: with these settings, and without records,
     /// lists, and documents in its catalog. The settings are in range: K from 1 to 256, a target of at
@@ -106,7 +106,7 @@ impl Records {
         ensures step { IfOk result (λ records. (was : Image) → IsSettled D.Disk disk.old was → IsInStepWith D.Disk records disk.new was × HasHeader was) }
         ensures fresh { IfOk result (λ records. (has_ended records ≡ false) × HasNoChanges records) }
         ensures reads { IfSome (D.contents disk.old) (λ was. D.reads disk.new ≤ D.reads disk.old + (3 * (length was.log / entry_size + 1) + 2)) }
-        ensures refused { IfErr result (λ e. NotOpened D.Disk e disk.old disk.new) }
+        ensures refused { IfErr result (λ e. NoRecordsOpened D.Disk e disk.old disk.new) }
     {
         let mut wal = match Wal::open(disk, alloc) {
             Ok(wal) => wal,
@@ -300,7 +300,7 @@ impl Records {
         ensures step { OnOk result ((was now : Image) → IsInStepWith D.Disk self.old disk.old was → D.contents disk.new ≡ Some now → IsInStepWith D.Disk self.new disk.new now) }
         ensures none_left { OnOk result ((has_ended self.old ≡ false) × (has_ended self.new ≡ false) × HasNoChanges self.new) }
         ensures header { OnOk result ((self.new.saved ≡ self.old.head) × (self.new.head ≡ self.old.head) × (last_number self.new ≡ next_number self.old)) }
-        ensures length { OnOk result (log_length_of self.new ≡ log_length_of self.old + size_of (length (pending self.old.wal))) }
+        ensures length { OnOk result (log_length_of self.new ≡ log_length_of self.old + group_size (length (pending self.old.wal))) }
         ensures reads { D.reads disk.new ≡ D.reads disk.old }
         ensures refused { IfErr result (λ e. NotWritten D.Disk e self.old self.new disk.old disk.new) }
     {

@@ -36,7 +36,7 @@ impl Records {
     ghost use Rattle.nx_records.specs.Records.{has_ended, has_free, page_count_of, KeepsLog};
     ghost use Rattle.nx_records.specs.Pages.{SeesSo};
     ghost use Rattle.nx_records.specs.Changes.{HasListFrom};
-    ghost use Rattle.nx_records.specs.Chains.{HasLink, AddsNoLink, MayLead, ChainStepsTo, NotLed, NotGiven, link_before, with_catalog};
+    ghost use Rattle.nx_records.specs.Chains.{HasLink, AddsNoLink, MayLead, ChainStepsTo, NotLed, NotGivenBack, link_before, with_catalog};
 
     // Puts a page with these bytes, which was free, in front of a chain that begins at a page, 0 for none, and
     // answers its number.
@@ -109,7 +109,7 @@ impl Records {
         ensures fewer { IfOk result (λ link. (page_count_of self.new ≡ page_count_of self.old) × ((was : Image) → AddsNoLink (current self.old.wal was) (current self.new.wal was))) }
         ensures ok { IfOk result (λ link. ChainStepsTo D.Disk self.old self.new disk.old (λ links. next_of links ≡ page)
             (λ links more. (links ≡ link_before page link.content more) × (next_of more ≡ link.next))) }
-        ensures refused { IfErr result (λ e. NotGiven D.Disk (λ links. next_of links ≡ page) named e self.old self.new disk.old disk.new) }
+        ensures refused { IfErr result (λ e. NotGivenBack D.Disk (λ links. next_of links ≡ page) named e self.old self.new disk.old disk.new) }
     {
         let link = self.link(alloc, disk, page, named)?;
         self.release(page)?;
@@ -132,7 +132,7 @@ impl Records {
         ensures keeps { OnOk result (KeepsLog self.old self.new) }
         ensures list { OnOk result (SeesSo D.Disk self.old disk.old (λ pages. HasListFrom (page_count_of self.old) pages first len)) }
         ensures ok { OnOk result (ChainStepsTo D.Disk self.old self.new disk.old (λ links. next_of links ≡ first) (λ links more. (more ≡ []) × (length (content_of links) ≡ len))) }
-        ensures refused { IfErr result (λ e. NotGiven D.Disk (λ links. (next_of links ≡ first) × (length (content_of links) ≡ len)) named e self.old self.new disk.old disk.new) }
+        ensures refused { IfErr result (λ e. NotGivenBack D.Disk (λ links. (next_of links ≡ first) × (length (content_of links) ≡ len)) named e self.old self.new disk.old disk.new) }
     {
         if !self.may_have(len) {
             return Err(self.damaged(named));

@@ -7,7 +7,7 @@ use Rattle.std.specs.Prelude.{◌==◌, min}
 use Rattle.nx_host.proofs.TornLemmas.{written_torn}
 use Rattle.nx_host.specs.declared.disk.Area.TheVariants.{Log}
 use Rattle.nx_host.specs.Disk.{Image, Torn, Written, TearsIn, WritesTo}
-use Rattle.nx_replay.specs.Log.{Group, size_of, groups, end_of, group_bytes, IsWhole, IsAtEnd, HasGroup, HasSame}
+use Rattle.nx_replay.specs.Log.{Group, group_size, groups, end_of, group_bytes, IsWhole, IsLogEnd, HasGroup, HasSame}
 use Rattle.nx_replay.proofs.GroupLemmas.{length-group_bytes}
 use Rattle.nx_replay.proofs.StepLemmas.{IsStaged, written_behind, written_at_end, gate_written, end_then}
 
@@ -24,7 +24,7 @@ first_of_rest at b xs rest is = (
 )
 
 -- Step 1.
-pub shut_torn : (end : ℕ) (was i : Image) → IsAtEnd end false was.log → end < 2 ^ 63 → TearsIn Log end 1 was i → HasSame was i
+pub shut_torn : (end : ℕ) (was i : Image) → IsLogEnd end false was.log → end < 2 ^ 63 → TearsIn Log end 1 was i → HasSame was i
 shut_torn end was i at low tears = record {
   area = tears.there;
   log = written_at_end (2 ^ 63) was.log i.log (let h : end ≡ end_of (groups was.log) = at.here in omega (arith, low, h))
@@ -32,7 +32,7 @@ shut_torn end was i at low tears = record {
       (subst (λ (e : ℕ). Torn e 1 was.log i.log) at.here tears.here);
 }
 
-pub shut_written : (end : ℕ) (was now : Image) → IsAtEnd end false was.log → end < 2 ^ 63 → WritesTo Log end (0 ∷ []) was now → HasSame was now × IsAtEnd end true now.log
+pub shut_written : (end : ℕ) (was now : Image) → IsLogEnd end false was.log → end < 2 ^ 63 → WritesTo Log end (0 ∷ []) was now → HasSame was now × IsLogEnd end true now.log
 shut_written end was now at low writes =
     let same = shut_torn end was now at low (record { here = written_torn writes.here; there = writes.there }) in
     let first = first_of_rest end 0 now.log _ (at_written end (0 ∷ []) was.log now.log writes.here) in (
@@ -45,7 +45,7 @@ shut_written end was now at low writes =
     )
 
 -- Step 2.
-pub laid_torn : (end n : ℕ) (was i : Image) → IsAtEnd end true was.log → end < 2 ^ 63 → TearsIn Log (end + 1) n was i → HasSame was i
+pub laid_torn : (end n : ℕ) (was i : Image) → IsLogEnd end true was.log → end < 2 ^ 63 → TearsIn Log (end + 1) n was i → HasSame was i
 laid_torn end n was i at low tears =
     let gate = at.closed refl in
     record {
@@ -55,9 +55,9 @@ laid_torn end n was i at low tears =
           (subst (λ (e : ℕ). Torn (e + 1) n was.log i.log) at.here tears.here);
     }
 
-pub laid_written : (g : Group) (end : ℕ) (was now : Image) → IsWhole g → IsAtEnd end true was.log → end + size_of (length g.entries) < 2 ^ 63
+pub laid_written : (g : Group) (end : ℕ) (was now : Image) → IsWhole g → IsLogEnd end true was.log → end + group_size (length g.entries) < 2 ^ 63
     → WritesTo Log (end + 1) (group_bytes g ++ 0 ∷ []) was now
-    → HasSame was now × ((rest : List ℕ) × IsStaged (2 ^ 63) g now.log rest) × IsAtEnd end true now.log
+    → HasSame was now × ((rest : List ℕ) × IsStaged (2 ^ 63) g now.log rest) × IsLogEnd end true now.log
 laid_written g end was now whole at low writes =
     let bytes = group_bytes g ++ 0 ∷ [] in
     let low_end : end < 2 ^ 63 = omega (arith, low) in
@@ -81,14 +81,14 @@ laid_written g end was now whole at low writes =
           gate = get_or now.log end 0;
           bytes = subst (λ (e : ℕ). drop e now.log ≡ get_or now.log end 0 ∷ (group_bytes g ++ 0 ∷ rest)) here_now is;
           shut = rw byte gate.1;
-          low = subst (λ (e : ℕ). e + size_of (length g.entries) < 2 ^ 63) here_now low;
+          low = subst (λ (e : ℕ). e + group_size (length g.entries) < 2 ^ 63) here_now low;
         },
       ),
       record { here = here_now; closed = λ h. (long, rw byte gate.1); opened = λ h. absurd (false≢true (sym h)) },
     )
 
 -- Step 3.
-pub opened_torn : {was i : Image} (g : Group) (end : ℕ) (rest : List ℕ) → IsWhole g → IsAtEnd end true was.log → IsStaged (2 ^ 63) g was.log rest
+pub opened_torn : {was i : Image} (g : Group) (end : ℕ) (rest : List ℕ) → IsWhole g → IsLogEnd end true was.log → IsStaged (2 ^ 63) g was.log rest
     → TearsIn Log end 1 was i → HasSame was i ⊎ HasGroup g was i
 opened_torn {was = was} {i = i} g end rest whole at staged tears =
     elim (gate_written (2 ^ 63) g rest was.log i.log whole staged (subst (λ (e : ℕ). Torn e 1 was.log i.log) at.here tears.here)) [
@@ -96,8 +96,8 @@ opened_torn {was = was} {i = i} g end rest whole at staged tears =
       | inr more ↦ inr (record { area = tears.there; log = more })
     ]
 
-pub opened_written : {was now : Image} (g : Group) (end : ℕ) (rest : List ℕ) → IsWhole g → IsAtEnd end true was.log → IsStaged (2 ^ 63) g was.log rest
-    → WritesTo Log end (1 ∷ []) was now → HasGroup g was now × IsAtEnd (end + size_of (length g.entries)) true now.log
+pub opened_written : {was now : Image} (g : Group) (end : ℕ) (rest : List ℕ) → IsWhole g → IsLogEnd end true was.log → IsStaged (2 ^ 63) g was.log rest
+    → WritesTo Log end (1 ∷ []) was now → HasGroup g was now × IsLogEnd (end + group_size (length g.entries)) true now.log
 opened_written {was = was} {now = now} g end rest whole at staged writes =
     let w : Written end (1 ∷ []) was.log now.log = writes.here in
     let torn : Torn end 1 was.log now.log = written_torn w in
@@ -105,11 +105,11 @@ opened_written {was = was} {now = now} g end rest whole at staged writes =
     let is : drop end was.log ≡ staged.gate ∷ (group_bytes g ++ 0 ∷ rest) = subst (λ (e : ℕ). drop e was.log ≡ staged.gate ∷ (group_bytes g ++ 0 ∷ rest)) (sym at.here) staged.bytes in
     let size : length (group_bytes g) ≡ 12 + 8196 * length g.entries = length-group_bytes g whole in
     let behind : drop (end + 1) now.log ≡ group_bytes g ++ 0 ∷ rest = w.after ∙ sym (drop-drop 1 end was.log) ∙ ap (λ (x : List ℕ). drop 1 x) is in
-    let next : drop (end + size_of (length g.entries)) now.log ≡ 0 ∷ rest =
-    ap (λ (n : ℕ). drop n now.log) (let h : end + size_of (length g.entries) ≡ end + 1 + (12 + 8196 * length g.entries) = omega arith in h)
+    let next : drop (end + group_size (length g.entries)) now.log ≡ 0 ∷ rest =
+    ap (λ (n : ℕ). drop n now.log) (let h : end + group_size (length g.entries) ≡ end + 1 + (12 + 8196 * length g.entries) = omega arith in h)
     ∙ sym (drop-drop (12 + 8196 * length g.entries) (end + 1) now.log) ∙ ap (λ (x : List ℕ). drop (12 + 8196 * length g.entries) x) behind
     ∙ drop_at (group_bytes g) (0 ∷ rest) (12 + 8196 * length g.entries) size in
-    let gate = first_of_rest (end + size_of (length g.entries)) 0 now.log rest next in
+    let gate = first_of_rest (end + group_size (length g.entries)) 0 now.log rest next in
     let log : groups now.log ≡ groups was.log ++ g ∷ [] =
     elim (gate_written (2 ^ 63) g rest was.log now.log whole staged (subst (λ (e : ℕ). Torn e 1 was.log now.log) at.here torn)) [
       | inl none ↦ absurd (
@@ -121,7 +121,7 @@ opened_written {was = was} {now = now} g end rest whole at staged writes =
     ] in (
       record { area = writes.there; log = log },
       record {
-        here = ap (λ (e : ℕ). e + size_of (length g.entries)) at.here ∙ sym (end_then (2 ^ 63) g was.log now.log log);
+        here = ap (λ (e : ℕ). e + group_size (length g.entries)) at.here ∙ sym (end_then (2 ^ 63) g was.log now.log log);
         closed = λ h. (gate.1, rw gate.0 refl);
         opened = λ h. absurd (false≢true (sym h));
       },

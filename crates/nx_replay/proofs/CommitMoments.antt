@@ -5,8 +5,8 @@ use Rattle.nx_host.specs.declared.disk.Area.TheVariants.{Log}
 use Rattle.nx_host.specs.Disk.{Image, ComesTorn, WritesTo}
 use Rattle.nx_host.specs.declared.disk.Disk.{Ghosts}
 use Rattle.nx_host.specs.Still.{WritesAlone, IsSettled}
-use Rattle.nx_replay.specs.Log.{Group, size_of, groups, group_bytes, end_of, IsAtEnd, HasGroup, HasSame}
-use Rattle.nx_replay.specs.Commit.{IsOpened, IsBody, IsStaged, IsLaid}
+use Rattle.nx_replay.specs.Log.{Group, group_size, groups, group_bytes, end_of, IsLogEnd, HasGroup, HasSame}
+use Rattle.nx_replay.specs.Commit.{IsOpened, IsBody, IsStaged, IsGroupLaid}
 use Rattle.nx_host.proofs.DiskLemmas.{written_alone_then, written_alone_weaker}
 use Rattle.nx_replay.proofs.SettledLemmas.{some_of, is_some, from_settled}
 use Rattle.nx_replay.proofs.CommitLemmas.{shut_torn, shut_written, laid_torn, laid_written, opened_torn, opened_written}
@@ -21,31 +21,31 @@ same_then first second = record { area = second.area ∙ first.area; log = secon
 pub same_group : {g : Group} {a b c : Image} → HasSame a b → HasGroup g b c → HasGroup g a c
 same_group {g = g} first second = record { area = second.area ∙ first.area; log = second.log ∙ ap (λ (gs : List Group). gs ++ g ∷ []) first.log }
 
-at_end_of : (end : ℕ) (g : Group) (log : List ℕ) → IsAtEnd end true log → (s : IsStaged g end log) → steps.IsStaged (2 ^ 63) g log s.rest
+at_end_of : (end : ℕ) (g : Group) (log : List ℕ) → IsLogEnd end true log → (s : IsStaged g end log) → steps.IsStaged (2 ^ 63) g log s.rest
 at_end_of end g log at s = record {
   gate = s.gate;
   bytes = subst (λ (e : ℕ). drop e log ≡ s.gate ∷ (group_bytes g ++ 0 ∷ s.rest)) at.here s.bytes;
   shut = s.shut;
-  low = subst (λ (e : ℕ). e + size_of (length g.entries) < 2 ^ 63) at.here s.low;
+  low = subst (λ (e : ℕ). e + group_size (length g.entries) < 2 ^ 63) at.here s.low;
 }
 
 module _ {D : Type 0} {d : Ghosts D} {old new : D} (end : ℕ) where
   pub shut_goes : (shut : Bool) → shut ≡ false → WritesAlone d old new (ComesTorn Log end 1 (d.may_leave old))
       → WritesAlone d old new (λ i. (was : Image) → IsOpened d end shut old was → HasSame was i)
   shut_goes shut is goes = written_alone_weaker goes (λ told i torn was opened.
-      shut_torn end was i (subst (λ s. IsAtEnd end s was.log) is opened.at) opened.low (from_settled Log end 1 opened.settled torn))
+      shut_torn end was i (subst (λ s. IsLogEnd end s was.log) is opened.at) opened.low (from_settled Log end 1 opened.settled torn))
 
   pub shut_done : {was now : Image} (shut : Bool) → shut ≡ false → IsOpened d end shut old was → WritesTo Log end (0 ∷ []) was now → IsSettled d new now
       → HasSame was now × IsOpened d end true new now
   shut_done {was = was} {now = now} shut is opened writes settled =
-      let done = shut_written end was now (subst (λ s. IsAtEnd end s was.log) is opened.at) opened.low writes in
+      let done = shut_written end was now (subst (λ s. IsLogEnd end s was.log) is opened.at) opened.low writes in
       (done.0, record { settled = settled; at = done.1; low = opened.low })
 
   pub laid_goes : (n : ℕ) → WritesAlone d old new (ComesTorn Log (end + 1) n (d.may_leave old)) → WritesAlone d old new (λ i. (was : Image) → IsOpened d end true old was → HasSame was i)
   laid_goes n goes = written_alone_weaker goes (λ told i torn was opened. laid_torn end n was i opened.at opened.low (from_settled Log (end + 1) n opened.settled torn))
 
   pub laid_done : {was now : Image} (g : Group) (body : List ℕ) → IsOpened d end true old was → IsBody g end body → WritesTo Log (end + 1) body was now → IsSettled d new now
-      → HasSame was now × IsLaid d g end new now
+      → HasSame was now × IsGroupLaid d g end new now
   laid_done {was = was} {now = now} g body opened is writes settled =
       let done = laid_written g end was now is.whole opened.at is.low (subst (λ b. WritesTo Log (end + 1) b was now) is.bytes writes) in
       let staged = done.1.1 in
@@ -58,13 +58,13 @@ module _ {D : Type 0} {d : Ghosts D} {old new : D} (end : ℕ) where
         },
       )
 
-  pub opened_goes : WritesAlone d old new (ComesTorn Log end 1 (d.may_leave old)) → WritesAlone d old new (λ i. (was : Image) (g : Group) → IsLaid d g end old was → HasSame was i ⊎ HasGroup g was i)
+  pub opened_goes : WritesAlone d old new (ComesTorn Log end 1 (d.may_leave old)) → WritesAlone d old new (λ i. (was : Image) (g : Group) → IsGroupLaid d g end old was → HasSame was i ⊎ HasGroup g was i)
   opened_goes goes = written_alone_weaker goes (λ told i torn was g laid.
       let at = (laid.opened).at in
       opened_torn g end (laid.staged).rest laid.whole at (at_end_of end g was.log at laid.staged) (from_settled Log end 1 (laid.opened).settled torn))
 
-  pub opened_done : {was now : Image} (g : Group) → IsLaid d g end old was → WritesTo Log end (1 ∷ []) was now → IsSettled d new now
-      → HasGroup g was now × IsOpened d (end + size_of (length g.entries)) true new now
+  pub opened_done : {was now : Image} (g : Group) → IsGroupLaid d g end old was → WritesTo Log end (1 ∷ []) was now → IsSettled d new now
+      → HasGroup g was now × IsOpened d (end + group_size (length g.entries)) true new now
   opened_done {was = was} g laid writes settled =
       let at = (laid.opened).at in
       let done = opened_written g end (laid.staged).rest laid.whole at (at_end_of end g was.log at laid.staged) writes in
@@ -76,18 +76,18 @@ Shuts d end shut a b = (was now : Image) → IsOpened d end shut a was → d.con
 
 -- .. the group stands behind it ..
 abbrev pub LaysGroup : {D : Type 0} → Ghosts D → ℕ → List ℕ → D → D → Type 0
-LaysGroup d end body b c = (was now : Image) (g : Group) → IsOpened d end true b was → IsBody g end body → d.contents c ≡ Some now → HasSame was now × IsLaid d g end c now
+LaysGroup d end body b c = (was now : Image) (g : Group) → IsOpened d end true b was → IsBody g end body → d.contents c ≡ Some now → HasSame was now × IsGroupLaid d g end c now
 
 -- .. and its gate is open.
 abbrev pub OpensGate : {D : Type 0} → Ghosts D → ℕ → D → D → Type 0
-OpensGate d end c e = (was now : Image) (g : Group) → IsLaid d g end c was → d.contents e ≡ Some now → HasGroup g was now × IsOpened d (end + size_of (length g.entries)) true e now
+OpensGate d end c e = (was now : Image) (g : Group) → IsGroupLaid d g end c was → d.contents e ≡ Some now → HasGroup g was now × IsOpened d (end + group_size (length g.entries)) true e now
 
 -- all three, and the first two
 abbrev pub Commits : {D : Type 0} → Ghosts D → ℕ → Bool → List ℕ → D → D → Type 0
-Commits d end shut body a e = (was now : Image) (g : Group) → IsOpened d end shut a was → IsBody g end body → d.contents e ≡ Some now → HasGroup g was now × IsOpened d (end + size_of (length g.entries)) true e now
+Commits d end shut body a e = (was now : Image) (g : Group) → IsOpened d end shut a was → IsBody g end body → d.contents e ≡ Some now → HasGroup g was now × IsOpened d (end + group_size (length g.entries)) true e now
 
 abbrev Stages : {D : Type 0} → Ghosts D → ℕ → Bool → List ℕ → D → D → Type 0
-Stages d end shut body a c = (was : Image) (g : Group) → IsSome (d.contents c) → IsOpened d end shut a was → IsBody g end body → (now : Image) × HasSame was now × IsLaid d g end c now
+Stages d end shut body a c = (was : Image) (g : Group) → IsSome (d.contents c) → IsOpened d end shut a was → IsBody g end body → (now : Image) × HasSame was now × IsGroupLaid d g end c now
 
 -- an image that stands while a commit goes on
 abbrev pub MayStand : {D : Type 0} → Ghosts D → ℕ → Bool → List ℕ → D → Image → Type 0
@@ -115,7 +115,7 @@ module _ {D : Type 0} {d : Ghosts D} {a b : D} (end : ℕ) (shut : Bool) (body :
 
   pub three_steps : {c e : D} → WritesAlone d a b (λ i. (was : Image) → IsOpened d end shut a was → HasSame was i) → Shuts d end shut a b
       → WritesAlone d b c (λ i. (was : Image) → IsOpened d end true b was → HasSame was i) → LaysGroup d end body b c
-      → WritesAlone d c e (λ i. (was : Image) (g : Group) → IsLaid d g end c was → HasSame was i ⊎ HasGroup g was i) → WritesAlone d a e (MayStand d end shut body a)
+      → WritesAlone d c e (λ i. (was : Image) (g : Group) → IsGroupLaid d g end c was → HasSame was i ⊎ HasGroup g was i) → WritesAlone d a e (MayStand d end shut body a)
   three_steps first shuts second lays third = written_alone_then (two_steps first shuts second) third (λ told i outcome was g opened is.
       let laid = stage shuts second.told lays was g (third.told told) opened is in
       elim (outcome laid.0 g laid.2) [ inl same ↦ inl (same_then laid.1 same) | inr more ↦ inr (same_group laid.1 more) ])

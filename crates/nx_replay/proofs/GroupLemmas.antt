@@ -10,7 +10,7 @@ use Rattle.std.proofs.Math.Nat.{mod-eq_of_lt}
 use Rattle.std.proofs.lemmas.List.{drop_at, take_at}
 use Rattle.byteorder.specs.Endian.{big_number, big_bytes}
 use Rattle.byteorder.specs.Numbers.{big_from-take, big_from-bytes, length-bytes_high_first}
-use Rattle.nx_replay.specs.Log.{Entry, Group, entries_of, rise, count_of, size_of, group_of, is_group, groups_behind, end_of, entry_bytes, group_bytes, IsEntry, IsWhole}
+use Rattle.nx_replay.specs.Log.{Entry, Group, entries_in, rise, group_page_count, group_size, group_of, is_group, groups_behind, end_of, entry_bytes, group_bytes, IsEntry, IsWhole}
 
 -- to skip bytes is to drop them
 pub behind-drop : (n : ℕ) (bytes : List ℕ) → groups_behind n bytes ≡ groups_behind 0 (drop n bytes)
@@ -24,19 +24,19 @@ thirteen : (x : ℕ) → 13 + x ≡ suc (12 + x)
 thirteen x = omega arith
 
 -- the first group, and those behind it
-pub groups-first : (bytes : List ℕ) → is_group bytes ≡ true → groups_behind 0 bytes ≡ group_of bytes ∷ groups_behind 0 (drop (size_of (count_of bytes)) bytes)
+pub groups-first : (bytes : List ℕ) → is_group bytes ≡ true → groups_behind 0 bytes ≡ group_of bytes ∷ groups_behind 0 (drop (group_size (group_page_count bytes)) bytes)
 unfolding groups_behind
 groups-first [] is = absurd (false≢true is)
-groups-first (b ∷ bs) is = rw (is, thirteen (8196 * count_of (b ∷ bs)), behind-drop (12 + 8196 * count_of (b ∷ bs)) bs) refl
+groups-first (b ∷ bs) is = rw (is, thirteen (8196 * group_page_count (b ∷ bs)), behind-drop (12 + 8196 * group_page_count (b ∷ bs)) bs) refl
 
 pub groups-none : (bytes : List ℕ) → is_group bytes ≡ false → groups_behind 0 bytes ≡ []
 unfolding groups_behind
 groups-none [] is = refl
 groups-none (b ∷ bs) is = rw is refl
 
-pub length-entries_of : (n : ℕ) (bytes : List ℕ) → length (entries_of n bytes) ≡ n
-length-entries_of zero bytes = refl
-length-entries_of (suc n) bytes = ap suc (length-entries_of n (drop 8196 bytes))
+pub length-entries_in : (n : ℕ) (bytes : List ℕ) → length (entries_in n bytes) ≡ n
+length-entries_in zero bytes = refl
+length-entries_in (suc n) bytes = ap suc (length-entries_in n (drop 8196 bytes))
 
 -- a number reads only its bytes
 pub number-prefix : (n m : ℕ) (c l : List ℕ) → n ≤ m → take m c ≡ take m l → big_number n c ≡ big_number n l
@@ -50,7 +50,7 @@ prefix-drop n m c l same = sym (drop-take n m c) ∙ ap (λ (x : List ℕ). drop
 pub prefix-less : (n m : ℕ) (c l : List ℕ) → n ≤ m → take m c ≡ take m l → take n c ≡ take n l
 prefix-less n m c l less same = sym (take-take n m c less) ∙ ap (λ (x : List ℕ). take n x) same ∙ take-take n m l less
 
-pub entries-prefix : (n m : ℕ) (c l : List ℕ) → 8196 * n ≤ m → take m c ≡ take m l → entries_of n c ≡ entries_of n l
+pub entries-prefix : (n m : ℕ) (c l : List ℕ) → 8196 * n ≤ m → take m c ≡ take m l → entries_in n c ≡ entries_in n l
 entries-prefix zero m c l fits same = refl
 entries-prefix (suc n) m c l fits same =
     let more : 8196 + (m - 8196) ≡ m = omega (arith, fits) in
@@ -65,10 +65,10 @@ number-one c l same = sym (get_or-take 1 c 0 0 (omega arith)) ∙ ap (λ (x : Li
 -- an open group stands at the beginning
 pub record IsGroup (bytes : List ℕ) : Type 0 where
   pub gate : slice_index bytes 0 ≡ 1
-  pub some : 1 ≤ count_of bytes
-  pub few : count_of bytes ≤ 16777216
-  pub whole : size_of (count_of bytes) < length bytes
-  pub rises : rise 0 (entries_of (count_of bytes) (drop 13 bytes)) ≡ true
+  pub some : 1 ≤ group_page_count bytes
+  pub few : group_page_count bytes ≤ 16777216
+  pub whole : group_size (group_page_count bytes) < length bytes
+  pub rises : rise 0 (entries_in (group_page_count bytes) (drop 13 bytes)) ≡ true
 
 pub group_says : (bytes : List ℕ) → is_group bytes ≡ true → IsGroup bytes
 group_says bytes is =
@@ -83,18 +83,18 @@ says_group bytes is =
     let one : (slice_index bytes 0 == 1) ≡ true = rw is.gate refl in
     and_from _ _ one (and_from _ _ (le-leb _ _ is.some) (and_from _ _ (le-leb _ _ is.few) (and_from _ _ (lt-ltb _ _ is.whole) is.rises)))
 
-pub count-prefix : (c l : List ℕ) → take 13 c ≡ take 13 l → count_of c ≡ count_of l
-unfolding count_of
+pub count-prefix : (c l : List ℕ) → take 13 c ≡ take 13 l → group_page_count c ≡ group_page_count l
+unfolding group_page_count
 count-prefix c l same = number-prefix 4 4 (drop 9 c) (drop 9 l) (omega arith) (prefix-drop 9 4 c l same)
 
 -- whether a group stands at the beginning, and which, its bytes tell
-pub group-prefix : (c l : List ℕ) → IsGroup l → take (size_of (count_of l)) c ≡ take (size_of (count_of l)) l → size_of (count_of l) < length c
-    → IsGroup c × (group_of c ≡ group_of l) × (count_of c ≡ count_of l)
+pub group-prefix : (c l : List ℕ) → IsGroup l → take (group_size (group_page_count l)) c ≡ take (group_size (group_page_count l)) l → group_size (group_page_count l) < length c
+    → IsGroup c × (group_of c ≡ group_of l) × (group_page_count c ≡ group_page_count l)
 group-prefix c l is same long =
     let gate : slice_index c 0 ≡ slice_index l 0 = number-one c l (prefix-less 1 _ c l (omega arith) same) in
     let number = number-prefix 8 8 (drop 1 c) (drop 1 l) (omega arith) (prefix-drop 1 8 c l (prefix-less 9 _ c l (omega arith) same)) in
-    let count : count_of c ≡ count_of l = count-prefix c l (prefix-less 13 _ c l (omega arith) same) in
-    let entries = entries-prefix (count_of l) (8196 * count_of l) (drop 13 c) (drop 13 l) (omega arith) (prefix-drop 13 (8196 * count_of l) c l same) in (
+    let count : group_page_count c ≡ group_page_count l = count-prefix c l (prefix-less 13 _ c l (omega arith) same) in
+    let entries = entries-prefix (group_page_count l) (8196 * group_page_count l) (drop 13 c) (drop 13 l) (omega arith) (prefix-drop 13 (8196 * group_page_count l) c l same) in (
       record {
         gate = gate ∙ is.gate;
         some = rw count is.some;
@@ -119,8 +119,8 @@ pub record HasPrefix (c l : List ℕ) : Type 0 where
   pub same : take (end_of (groups_behind 0 l)) c ≡ take (end_of (groups_behind 0 l)) l
   pub long : 0 < end_of (groups_behind 0 l) → end_of (groups_behind 0 l) < length c
 
-end-first : (l : List ℕ) → is_group l ≡ true → end_of (groups_behind 0 l) ≡ size_of (count_of l) + end_of (groups_behind 0 (drop (size_of (count_of l)) l))
-end-first l is = rw (groups-first l is, length-entries_of (count_of l) (drop 13 l)) refl
+end-first : (l : List ℕ) → is_group l ≡ true → end_of (groups_behind 0 l) ≡ group_size (group_page_count l) + end_of (groups_behind 0 (drop (group_size (group_page_count l)) l))
+end-first l is = rw (groups-first l is, length-entries_in (group_page_count l) (drop 13 l)) refl
 
 -- what stands up to the end decides which groups come first
 pub groups-prefix : (fuel : ℕ) (c l : List ℕ) → length l ≤ fuel → HasPrefix c l → Continues c l
@@ -129,7 +129,7 @@ groups-prefix (suc fuel) c l fits prefix =
     elim (is_group l) as (λ b. is_group l ≡ b → Continues c l) [
       | false ↦ λ none. rw (groups-none l none) refl
       | true ↦ λ some.
-          let size = size_of (count_of l) in
+          let size = group_size (group_page_count l) in
           let is = group_says l some in
           let behind = groups_behind 0 (drop size l) in
           let ends : end_of (groups_behind 0 l) ≡ size + end_of behind = end-first l some in
@@ -158,7 +158,7 @@ groups-ended (suc fuel) l fits =
     elim (is_group l) as (λ b. is_group l ≡ b → groups_behind 0 (drop (end_of (groups_behind 0 l)) l) ≡ []) [
       | false ↦ λ none. rw (groups-none l none) (groups-none l none)
       | true ↦ λ some.
-          let size = size_of (count_of l) in
+          let size = group_size (group_page_count l) in
           let rest = groups-ended fuel (drop size l) (omega (arith, fits, length-drop size l, (group_says l some).whole)) in
           rw (end-first l some, sym (drop-drop (end_of (groups_behind 0 (drop size l))) size l)) rest
     ] refl
@@ -174,7 +174,7 @@ end-within (suc fuel) l fits h =
     elim (is_group l) as (λ b. is_group l ≡ b → end_of (groups_behind 0 l) < length l) [
       | false ↦ λ none. let nothing : end_of (groups_behind 0 l) ≡ 0 = rw (groups-none l none) refl in absurd (omega (arith, h, nothing))
       | true ↦ λ some.
-          let size = size_of (count_of l) in
+          let size = group_size (group_page_count l) in
           let is = group_says l some in
           let behind = groups_behind 0 (drop size l) in
           let ends : end_of (groups_behind 0 l) ≡ size + end_of behind = end-first l some in
@@ -199,7 +199,7 @@ length-entry_bytes (e ∷ es) are =
     omega (arith, rest, (are.0).long, length-append (big_bytes 4 e.page) (e.bytes ++ entry_bytes es), length-append e.bytes (entry_bytes es), length-bytes_high_first 4 e.page)
 
 entry-first : (n : ℕ) (prefix bytes tail : List ℕ) → length prefix ≡ 4 → length bytes ≡ 8192
-    → entries_of (suc n) (prefix ++ (bytes ++ tail)) ≡ record { page = big_number 4 (prefix ++ (bytes ++ tail)); bytes = bytes } ∷ entries_of n tail
+    → entries_in (suc n) (prefix ++ (bytes ++ tail)) ≡ record { page = big_number 4 (prefix ++ (bytes ++ tail)); bytes = bytes } ∷ entries_in n tail
 entry-first n prefix bytes tail four long =
     let behind : drop 4 (prefix ++ (bytes ++ tail)) ≡ bytes ++ tail = drop_at prefix (bytes ++ tail) 4 four in
     let here : take 8192 (bytes ++ tail) ≡ bytes = take_at bytes tail 8192 long in
@@ -211,7 +211,7 @@ entry-cons : (p q : ℕ) (bytes : List ℕ) (xs ys : List Entry) → p ≡ q →
 entry-cons p q bytes xs ys same rest = rw (same, rest) refl
 
 -- what is written of pages is read back
-pub entries-written : (es : List Entry) (rest : List ℕ) → AllByRecursion IsEntry es → entries_of (length es) (entry_bytes es ++ rest) ≡ es
+pub entries-written : (es : List Entry) (rest : List ℕ) → AllByRecursion IsEntry es → entries_in (length es) (entry_bytes es ++ rest) ≡ es
 entries-written [] rest are = refl
 entries-written (e ∷ es) rest are =
     let tail = entry_bytes es ++ rest in
@@ -220,20 +220,20 @@ entries-written (e ∷ es) rest are =
     append_assoc prefix (e.bytes ++ entry_bytes es) rest ∙ ap (λ (x : List ℕ). prefix ++ x) (append_assoc e.bytes (entry_bytes es) rest) in
     let low : e.page < 16777216 = (are.0).low in
     let page : big_number 4 (prefix ++ (e.bytes ++ tail)) ≡ e.page = number-written 4 e.page (e.bytes ++ tail) (omega (arith, low)) in
-    ap (λ (x : List ℕ). entries_of (suc (length es)) x) split
+    ap (λ (x : List ℕ). entries_in (suc (length es)) x) split
     ∙ entry-first (length es) prefix e.bytes tail (length-bytes_high_first 4 e.page) (are.0).long
     ∙ entry-cons _ e.page e.bytes _ es page (entries-written es rest are.1)
 
 -- what stands at the beginning of a gate and a group
 pub record Begins (g : Group) (bytes rest : List ℕ) : Type 0 where
   pub number : big_number 8 (drop 1 bytes) ≡ g.number
-  pub count : count_of bytes ≡ length g.entries
+  pub count : group_page_count bytes ≡ length g.entries
   pub entries : drop 13 bytes ≡ entry_bytes g.entries ++ rest
 
 parts-begin : {rest : List ℕ} (g : Group) (gate : ℕ) (a b : List ℕ) → length a ≡ 8 → length b ≡ 4
     → big_number 8 (a ++ (b ++ (entry_bytes g.entries ++ rest))) ≡ g.number → big_number 4 (b ++ (entry_bytes g.entries ++ rest)) ≡ length g.entries
     → Begins g (gate ∷ (a ++ (b ++ (entry_bytes g.entries ++ rest)))) rest
-unfolding count_of
+unfolding group_page_count
 parts-begin {rest = rest} g gate a b eight four number count =
     let tail = entry_bytes g.entries ++ rest in
     let behind : drop 8 (a ++ (b ++ tail)) ≡ b ++ tail = drop_at a (b ++ tail) 8 eight in
@@ -276,16 +276,16 @@ groups-written g gate rest whole =
     let bytes = 1 ∷ (group_bytes g ++ gate ∷ rest) in
     let begins = group-begins g 1 (gate ∷ rest) whole in
     let long = length-group_bytes g whole in
-    let entries : entries_of (count_of bytes) (drop 13 bytes) ≡ g.entries = rw (begins.count, begins.entries) (entries-written g.entries (gate ∷ rest) whole.entries) in
+    let entries : entries_in (group_page_count bytes) (drop 13 bytes) ≡ g.entries = rw (begins.count, begins.entries) (entries-written g.entries (gate ∷ rest) whole.entries) in
     let is : IsGroup bytes = record {
       gate = refl;
       some = rw begins.count whole.some;
       few = rw begins.count whole.few;
-      whole = let size : size_of (count_of bytes) ≡ 13 + 8196 * length g.entries = rw begins.count refl in
+      whole = let size : group_size (group_page_count bytes) ≡ 13 + 8196 * length g.entries = rw begins.count refl in
           omega (arith, size, long, length-append (group_bytes g) (gate ∷ rest));
       rises = rw entries whole.rises;
     } in
     let same : group_of bytes ≡ g = group-same (group_of bytes) g begins.number entries in
-    let size : length (1 ∷ group_bytes g) ≡ size_of (count_of bytes) = let c : count_of bytes ≡ length g.entries = begins.count in omega (arith, c, long) in
-    let behind : drop (size_of (count_of bytes)) bytes ≡ gate ∷ rest = drop_at (1 ∷ group_bytes g) (gate ∷ rest) (size_of (count_of bytes)) size in
+    let size : length (1 ∷ group_bytes g) ≡ group_size (group_page_count bytes) = let c : group_page_count bytes ≡ length g.entries = begins.count in omega (arith, c, long) in
+    let behind : drop (group_size (group_page_count bytes)) bytes ≡ gate ∷ rest = drop_at (1 ∷ group_bytes g) (gate ∷ rest) (group_size (group_page_count bytes)) size in
     groups-first bytes (says_group bytes is) ∙ rw (same, behind) refl

@@ -6,7 +6,7 @@ use Rattle.std.specs.Prelude.{Option, Some, None, ◌==◌, if◌then◌else◌}
 use Rattle.std.specs.List.{AllByRecursion}
 use Rattle.std.specs.Option.{option_or}
 use Rattle.nx_host.specs.Disk.{Image}
-use Rattle.nx_replay.specs.Log.{Entry, Group, IsEntry, entries_of, entry_pages, rise, count_of, size_of, group_of, is_group, groups_behind, groups, logged, pages_of, replay}
+use Rattle.nx_replay.specs.Log.{Entry, Group, IsEntry, entries_in, entry_pages, rise, group_page_count, group_size, group_of, is_group, groups_behind, groups, logged, pages_of, replay}
 use Rattle.nx_replay.proofs.GroupLemmas.{group_says, groups-first, groups-none}
 use Rattle.nx_replay.proofs.ReplayLemmas.{logged_none, logged_first, page-cases, page-there}
 
@@ -15,7 +15,7 @@ abbrev pub IsPage : ℕ → List ℕ → Type 0
 IsPage p bytes = IsEntry (record { page = p; bytes = bytes })
 
 -- a group's pages
-entries-known : (n least : ℕ) (bytes : List ℕ) → 8196 * n ≤ length bytes → rise least (entries_of n bytes) ≡ true → AllByRecursion IsEntry (entries_of n bytes)
+entries-known : (n least : ℕ) (bytes : List ℕ) → 8196 * n ≤ length bytes → rise least (entries_in n bytes) ≡ true → AllByRecursion IsEntry (entries_in n bytes)
 entries-known zero least bytes fits rises = tt
 entries-known (suc n) least bytes fits rises =
     let a = and_parts _ _ rises in
@@ -57,14 +57,14 @@ known_behind (suc fuel) l fits p bytes found =
       | inr fails ↦ nowhere l p bytes fails found
       | inl holds ↦
           let is = group_says l holds in
-          let rest = drop (size_of (count_of l)) l in
+          let rest = drop (group_size (group_page_count l)) l in
           let split : logged (groups_behind 0 l) p ≡ option_or (logged (groups_behind 0 rest) p) (entry_pages (group_of l).entries p) =
           ap (λ (gs : List Group). logged gs p) (groups-first l holds) ∙ logged_first (group_of l) (groups_behind 0 rest) p in
           elim (either (logged (groups_behind 0 rest) p) (entry_pages (group_of l).entries p) bytes (sym split ∙ found)) [
-            | inl later ↦ known_behind fuel rest (let w = is.whole in omega (arith, w, fits, length-drop (size_of (count_of l)) l)) p bytes later
+            | inl later ↦ known_behind fuel rest (let w = is.whole in omega (arith, w, fits, length-drop (group_size (group_page_count l)) l)) p bytes later
             | inr here ↦
                 known_entry (group_of l).entries p bytes
-                (entries-known (count_of l) 0 (drop 13 l) (let w = is.whole in omega (arith, w, length-drop 13 l)) is.rises) here
+                (entries-known (group_page_count l) 0 (drop 13 l) (let w = is.whole in omega (arith, w, length-drop 13 l)) is.rises) here
           ]
     ]
 

@@ -6,7 +6,7 @@ use Rattle.std.proofs.lemmas.Bool.{eqb-true, ltb-true, ltb-false}
 use Rattle.std.proofs.Math.Dec.{ltb}
 use Rattle.std.specs.Prelude.{◌==◌, min}
 use Rattle.nx_host.specs.Disk.{Torn}
-use Rattle.nx_replay.specs.Log.{Group, is_group, size_of, groups_behind, groups_to, end_of, group_bytes, IsWhole}
+use Rattle.nx_replay.specs.Log.{Group, is_group, group_size, groups_behind, groups_to, end_of, group_bytes, IsWhole}
 use Rattle.nx_replay.proofs.GroupLemmas.{zero_or_more, group_says, groups-none, groups-prefix, groups-ended, end-within, groups-written, prefix-less, length-group_bytes}
 
 -- where they end
@@ -106,7 +106,7 @@ module _ (limit : ℕ) where
     pub gate : ℕ
     pub bytes : drop (end_to limit l) l ≡ gate ∷ (group_bytes g ++ 0 ∷ rest)
     pub shut : (gate == 1) ≡ false
-    pub low : end_to limit l + size_of (length g.entries) < limit
+    pub low : end_to limit l + group_size (length g.entries) < limit
 
   -- Step 3: once its gate is written, the group is there whole or not at all.
   pub gate_written : (g : Group) (rest l c : List ℕ) → IsWhole g → IsStaged g l rest → Torn (end_to limit l) 1 l c
@@ -127,11 +127,11 @@ module _ (limit : ℕ) where
       ap (λ (n : ℕ). drop (e + 1) (take n c)) (sym room) ∙ drop-take (e + 1) (limit - (e + 1)) c ∙ ap (λ (x : List ℕ). take (limit - (e + 1)) x) rest_c in
       let left = limit - (e + 1) - length (group_bytes g) - 1 in
       let whole_taken : take (limit - (e + 1)) behind ≡ group_bytes g ++ 0 ∷ take left rest =
-      ap (λ (n : ℕ). take n behind) (let low : e + size_of (length g.entries) < limit = staged.low in (let m : limit - (e + 1) ≡ length (group_bytes g) + (1 + left) = omega (arith, low, size) in m))
+      ap (λ (n : ℕ). take n behind) (let low : e + group_size (length g.entries) < limit = staged.low in (let m : limit - (e + 1) ≡ length (group_bytes g) + (1 + left) = omega (arith, low, size) in m))
       ∙ take-append-more (group_bytes g) (0 ∷ rest) (1 + left) ∙ ap (λ (x : List ℕ). group_bytes g ++ x) (take-one-more left 0 rest) in
       let at_gate : drop e (take limit c) ≡ get_or c e 0 ∷ (group_bytes g ++ 0 ∷ take left rest) =
-      at_end c e (let low : e + size_of (length g.entries) < limit = staged.low in omega (arith, low)) (omega (arith, here, same_long)) ∙ ap (λ (x : List ℕ). get_or c e 0 ∷ x) (rest_taken ∙ whole_taken) in
-      let first = continues c l (let low : e + size_of (length g.entries) < limit = staged.low in omega (arith, low)) prefix (λ h. omega (arith, here, same_long)) in
+      at_end c e (let low : e + group_size (length g.entries) < limit = staged.low in omega (arith, low)) (omega (arith, here, same_long)) ∙ ap (λ (x : List ℕ). get_or c e 0 ∷ x) (rest_taken ∙ whole_taken) in
+      let first = continues c l (let low : e + group_size (length g.entries) < limit = staged.low in omega (arith, low)) prefix (λ h. omega (arith, here, same_long)) in
       elim (get_or c e 0 == 1) as (λ b. (get_or c e 0 == 1) ≡ b → (((get_or c e 0 == 1) ≡ false) × (groups_to limit c ≡ groups_to limit l)) ⊎ (groups_to limit c ≡ groups_to limit l ++ g ∷ [])) [
         | false ↦ λ shut. inl (
             let none : groups_behind 0 (drop e (take limit c)) ≡ [] = ap (λ (x : List ℕ). groups_behind 0 x) at_gate ∙ closed (get_or c e 0) (group_bytes g ++ 0 ∷ take left rest) shut in
@@ -155,11 +155,11 @@ drop_taken (suc n) zero xs = sym (ap (λ (k : ℕ). take k (drop (suc n) xs)) (l
 drop_taken (suc n) (suc m) [] = sym (nothing_taken (suc m - suc n))
 drop_taken (suc n) (suc m) (x ∷ xs) = drop_taken n m xs ∙ ap (λ (k : ℕ). take k (drop n xs)) (let h : m - n ≡ suc m - suc n = omega arith in h)
 
-pub end_more : (gs : List Group) (g : Group) → end_of (gs ++ g ∷ []) ≡ end_of gs + size_of (length g.entries)
+pub end_more : (gs : List Group) (g : Group) → end_of (gs ++ g ∷ []) ≡ end_of gs + group_size (length g.entries)
 end_more [] g = omega arith
 end_more (x ∷ gs) g = let ih = end_more gs g in omega (arith, ih)
 
 -- how the log goes on behind a group that stands at its end
 module _ (limit : ℕ) where
-  pub end_then : (g : Group) (l c : List ℕ) → groups_to limit c ≡ groups_to limit l ++ g ∷ [] → end_to limit c ≡ end_to limit l + size_of (length g.entries)
+  pub end_then : (g : Group) (l c : List ℕ) → groups_to limit c ≡ groups_to limit l ++ g ∷ [] → end_to limit c ≡ end_to limit l + group_size (length g.entries)
   end_then g l c more = ap end_of more ∙ end_more (groups_to limit l) g

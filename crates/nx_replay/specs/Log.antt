@@ -21,35 +21,35 @@ pub record Group : Type 0 where
   pub entries : List Entry
 
 -- so many pages of a group, from its bytes
-abbrev pub entries_of : ℕ → List ℕ → List Entry
-entries_of zero bytes = []
-entries_of (suc n) bytes = record { page = big_number 4 bytes; bytes = take page_size (drop 4 bytes) } ∷ entries_of n (drop entry_size bytes)
+abbrev pub entries_in : ℕ → List ℕ → List Entry
+entries_in zero bytes = []
+entries_in (suc n) bytes = record { page = big_number 4 bytes; bytes = take page_size (drop 4 bytes) } ∷ entries_in n (drop entry_size bytes)
 
 -- the numbers rise strictly, and none is below the least or a page too far
 abbrev pub rise : ℕ → List Entry → Bool
 rise least [] = true
 rise least (e ∷ es) = nat_le least e.page && nat_lt e.page most_pages && rise (e.page + 1) es
 
-unfoldable pub count_of : List ℕ → ℕ
-count_of bytes = big_number 4 (drop 9 bytes)
+unfoldable pub group_page_count : List ℕ → ℕ
+group_page_count bytes = big_number 4 (drop 9 bytes)
 
 -- the bytes from a gate up to the next one
-abbrev pub size_of : ℕ → ℕ
-size_of count = 13 + entry_size * count
+abbrev pub group_size : ℕ → ℕ
+group_size count = 13 + entry_size * count
 
 abbrev pub group_of : List ℕ → Group
-group_of bytes = record { number = big_number 8 (drop 1 bytes); entries = entries_of (count_of bytes) (drop 13 bytes) }
+group_of bytes = record { number = big_number 8 (drop 1 bytes); entries = entries_in (group_page_count bytes) (drop 13 bytes) }
 
 -- an open group stands at the beginning, with the next gate behind it
 abbrev pub is_group : List ℕ → Bool
 is_group bytes =
-    (slice_index bytes 0 == 1) && (nat_le 1 (count_of bytes) && (nat_le (count_of bytes) most_pages && (nat_lt (size_of (count_of bytes)) (length bytes) && rise 0 (group_of bytes).entries)))
+    (slice_index bytes 0 == 1) && (nat_le 1 (group_page_count bytes) && (nat_le (group_page_count bytes) most_pages && (nat_lt (group_size (group_page_count bytes)) (length bytes) && rise 0 (group_of bytes).entries)))
 
 -- the groups behind so many bytes, up to the first place with none
 unfoldable pub groups_behind : ℕ → List ℕ → List Group
 groups_behind skip [] = []
 groups_behind (suc n) (b ∷ bs) = groups_behind n bs
-groups_behind zero (b ∷ bs) = if is_group (b ∷ bs) then group_of (b ∷ bs) ∷ groups_behind (12 + entry_size * count_of (b ∷ bs)) bs else []
+groups_behind zero (b ∷ bs) = if is_group (b ∷ bs) then group_of (b ∷ bs) ∷ groups_behind (12 + entry_size * group_page_count (b ∷ bs)) bs else []
 
 -- the groups of a log below an offset
 abbrev pub groups_to : ℕ → List ℕ → List Group
@@ -62,7 +62,7 @@ groups log = groups_to (2 ^ 63) log
 -- where the log ends
 abbrev pub end_of : List Group → ℕ
 end_of [] = 0
-end_of (g ∷ gs) = size_of (length g.entries) + end_of gs
+end_of (g ∷ gs) = group_size (length g.entries) + end_of gs
 
 -- pages laid over others
 abbrev pub over : Pages → Pages → Pages
@@ -115,7 +115,7 @@ pub record IsWhole (g : Group) : Type 0 where
   pub entries : AllByRecursion IsEntry g.entries
 
 -- The log ends here. The byte there is closed, or it isn't there, or it is an open gate with no group behind it.
-pub record IsAtEnd (end : ℕ) (shut : Bool) (log : List ℕ) : Type 0 where
+pub record IsLogEnd (end : ℕ) (shut : Bool) (log : List ℕ) : Type 0 where
   pub here : end ≡ end_of (groups log)
   pub closed : shut ≡ true → (end < length log) × ((slice_index log end == 1) ≡ false)
   pub opened : shut ≡ false → end < length log → slice_index log end ≡ 1

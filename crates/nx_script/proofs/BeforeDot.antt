@@ -8,73 +8,73 @@ use Rattle.nx_pyx.specs.Fault.{fault_of}
 use Rattle.nx_pyx.proofs.ShownFaultLemmas.{onto, begun, cut-append, cut-rest, cut-begun, fault_shown}
 use Rattle.nx_pyx.proofs.StreamLemmas.{cut-held, cut-ended}
 use Rattle.nx_script.specs.Commands.{is_dot, has_dot}
-use Rattle.nx_script.specs.BeforeDot.{joined, before_in, after_in, before_dot, after_dot, shown_before_dot}
+use Rattle.nx_script.specs.BeforeDot.{joined_lines, before_in, after_in, before_dot, after_dot, shown_before_dot}
 use Rattle.nx_script.proofs.Prefixes.{dot_before}
 
 -- What is cut is joined again.
 
-joined-prepend : (b : ℕ) (pieces : List (List ℕ)) (rest : List ℕ) → joined (prepend_to b pieces rest).ended (prepend_to b pieces rest).rest ≡ b ∷ joined pieces rest
-joined-prepend b [] rest = refl
-joined-prepend b (piece ∷ pieces) rest = refl
+joined_lines-prepend : (b : ℕ) (pieces : List (List ℕ)) (rest : List ℕ) → joined_lines (prepend_to b pieces rest).ended (prepend_to b pieces rest).rest ≡ b ∷ joined_lines pieces rest
+joined_lines-prepend b [] rest = refl
+joined_lines-prepend b (piece ∷ pieces) rest = refl
 
-joined_more : (b : ℕ) (s : List ℕ) (p : Pieces) (t : Bool) → (b == 10) ≡ t → joined p.ended p.rest ≡ s →
-    joined (if b == 10 then (let q : Pieces = record { ended = [] ∷ p.ended; rest = p.rest } in q) else prepend b p).ended
+joined_more : (b : ℕ) (s : List ℕ) (p : Pieces) (t : Bool) → (b == 10) ≡ t → joined_lines p.ended p.rest ≡ s →
+    joined_lines (if b == 10 then (let q : Pieces = record { ended = [] ∷ p.ended; rest = p.rest } in q) else prepend b p).ended
     (if b == 10 then (let q : Pieces = record { ended = [] ∷ p.ended; rest = p.rest } in q) else prepend b p).rest ≡ b ∷ s
 joined_more b s p true is whole =
-    ap (λ (t : Bool). joined (if t then (let q : Pieces = record { ended = [] ∷ p.ended; rest = p.rest } in q) else prepend b p).ended
+    ap (λ (t : Bool). joined_lines (if t then (let q : Pieces = record { ended = [] ∷ p.ended; rest = p.rest } in q) else prepend b p).ended
     (if t then (let q : Pieces = record { ended = [] ∷ p.ended; rest = p.rest } in q) else prepend b p).rest) is
     ∙ ap (λ (l : List ℕ). 10 ∷ l) whole ∙ ap (λ (x : ℕ). x ∷ s) (sym (eqb-true b 10 is))
 joined_more b s p false is whole =
-    ap (λ (t : Bool). joined (if t then (let q : Pieces = record { ended = [] ∷ p.ended; rest = p.rest } in q) else prepend b p).ended
+    ap (λ (t : Bool). joined_lines (if t then (let q : Pieces = record { ended = [] ∷ p.ended; rest = p.rest } in q) else prepend b p).ended
     (if t then (let q : Pieces = record { ended = [] ∷ p.ended; rest = p.rest } in q) else prepend b p).rest) is
-    ∙ joined-prepend b p.ended p.rest ∙ ap (λ (l : List ℕ). b ∷ l) whole
+    ∙ joined_lines-prepend b p.ended p.rest ∙ ap (λ (l : List ℕ). b ∷ l) whole
 
-pub joined-cut : (s : List ℕ) → joined (cut s).ended (cut s).rest ≡ s
-joined-cut [] = refl
-joined-cut (b ∷ s) = joined_more b s (cut s) (b == 10) refl (joined-cut s)
+pub joined_lines-cut : (s : List ℕ) → joined_lines (cut s).ended (cut s).rest ≡ s
+joined_lines-cut [] = refl
+joined_lines-cut (b ∷ s) = joined_more b s (cut s) (b == 10) refl (joined_lines-cut s)
 
 -- the whole lines of a stream are its beginning before the last line
-pub joined-prefix : (prefix s : List ℕ) → s ≡ prefix ++ (cut s).rest → (cut prefix).rest ≡ [] → joined (cut s).ended [] ≡ prefix
-joined-prefix prefix s parts ended =
-    ap (λ (l : List ℕ). joined (cut l).ended []) parts
-    ∙ ap (λ (p : Pieces). joined p.ended []) (cut-held prefix (cut s).rest (cut-rest s))
-    ∙ ap (joined (cut prefix).ended) (sym ended)
-    ∙ joined-cut prefix
+pub joined_lines-prefix : (prefix s : List ℕ) → s ≡ prefix ++ (cut s).rest → (cut prefix).rest ≡ [] → joined_lines (cut s).ended [] ≡ prefix
+joined_lines-prefix prefix s parts ended =
+    ap (λ (l : List ℕ). joined_lines (cut l).ended []) parts
+    ∙ ap (λ (p : Pieces). joined_lines p.ended []) (cut-held prefix (cut s).rest (cut-rest s))
+    ∙ ap (joined_lines (cut prefix).ended) (sym ended)
+    ∙ joined_lines-cut prefix
 
 -- Where no line is a dot, or which is the first.
 
-pub before_in-none : (pieces : List (List ℕ)) (rest : List ℕ) → has_dot (map without_cr pieces) ≡ false → is_dot (without_cr rest) ≡ false → before_in pieces rest ≡ joined pieces rest
+pub before_in-none : (pieces : List (List ℕ)) (rest : List ℕ) → has_dot (map without_cr pieces) ≡ false → is_dot (without_cr rest) ≡ false → before_in pieces rest ≡ joined_lines pieces rest
 before_in-none [] rest none other = ap (λ (t : Bool). if t then [] else rest) other
 before_in-none (piece ∷ pieces) rest none other =
     let p = or_parts (is_dot (without_cr piece)) (has_dot (map without_cr pieces)) none in
     ap (λ (t : Bool). if t then [] else (piece ++ 10 ∷ before_in pieces rest)) p.0 ∙ ap (λ (l : List ℕ). piece ++ 10 ∷ l) (before_in-none pieces rest p.1 other)
 
-pub before_in-last : (pieces : List (List ℕ)) (rest : List ℕ) → has_dot (map without_cr pieces) ≡ false → is_dot (without_cr rest) ≡ true → before_in pieces rest ≡ joined pieces []
+pub before_in-last : (pieces : List (List ℕ)) (rest : List ℕ) → has_dot (map without_cr pieces) ≡ false → is_dot (without_cr rest) ≡ true → before_in pieces rest ≡ joined_lines pieces []
 before_in-last [] rest none dot = ap (λ (t : Bool). if t then [] else rest) dot
 before_in-last (piece ∷ pieces) rest none dot =
     let p = or_parts (is_dot (without_cr piece)) (has_dot (map without_cr pieces)) none in
     ap (λ (t : Bool). if t then [] else (piece ++ 10 ∷ before_in pieces rest)) p.0 ∙ ap (λ (l : List ℕ). piece ++ 10 ∷ l) (before_in-last pieces rest p.1 dot)
 
 before_in-dot : (pieces others : List (List ℕ)) (dot rest : List ℕ) → has_dot (map without_cr pieces) ≡ false → is_dot (without_cr dot) ≡ true →
-    before_in (pieces ++ dot ∷ others) rest ≡ joined pieces []
+    before_in (pieces ++ dot ∷ others) rest ≡ joined_lines pieces []
 before_in-dot [] others dot rest none is = ap (λ (t : Bool). if t then [] else (dot ++ 10 ∷ before_in others rest)) is
 before_in-dot (piece ∷ pieces) others dot rest none is =
     let p = or_parts (is_dot (without_cr piece)) (has_dot (map without_cr pieces)) none in
     ap (λ (t : Bool). if t then [] else (piece ++ 10 ∷ before_in (pieces ++ dot ∷ others) rest)) p.0 ∙ ap (λ (l : List ℕ). piece ++ 10 ∷ l) (before_in-dot pieces others dot rest p.1 is)
 
 after_in-dot : (pieces others : List (List ℕ)) (dot rest : List ℕ) → has_dot (map without_cr pieces) ≡ false → is_dot (without_cr dot) ≡ true →
-    after_in (pieces ++ dot ∷ others) rest ≡ joined others rest
-after_in-dot [] others dot rest none is = ap (λ (t : Bool). if t then joined others rest else after_in others rest) is
+    after_in (pieces ++ dot ∷ others) rest ≡ joined_lines others rest
+after_in-dot [] others dot rest none is = ap (λ (t : Bool). if t then joined_lines others rest else after_in others rest) is
 after_in-dot (piece ∷ pieces) others dot rest none is =
     let p = or_parts (is_dot (without_cr piece)) (has_dot (map without_cr pieces)) none in
-    ap (λ (t : Bool). if t then joined (pieces ++ dot ∷ others) rest else after_in (pieces ++ dot ∷ others) rest) p.0 ∙ after_in-dot pieces others dot rest p.1 is
+    ap (λ (t : Bool). if t then joined_lines (pieces ++ dot ∷ others) rest else after_in (pieces ++ dot ∷ others) rest) p.0 ∙ after_in-dot pieces others dot rest p.1 is
 
 -- nothing stands behind a dot that hasn't come
 pub after_in-none : (pieces : List (List ℕ)) (rest : List ℕ) → has_dot (map without_cr pieces) ≡ false → after_in pieces rest ≡ []
 after_in-none [] rest none = refl
 after_in-none (piece ∷ pieces) rest none =
     let p = or_parts (is_dot (without_cr piece)) (has_dot (map without_cr pieces)) none in
-    ap (λ (t : Bool). if t then joined pieces rest else after_in pieces rest) p.0 ∙ after_in-none pieces rest p.1
+    ap (λ (t : Bool). if t then joined_lines pieces rest else after_in pieces rest) p.0 ∙ after_in-none pieces rest p.1
 
 -- a stream with one line more, and others behind it
 cut-more : (s bytes more : List ℕ) → has_lf bytes ≡ false →
@@ -85,7 +85,7 @@ cut-more s bytes more unbroken =
     ∙ ap (λ (ls : List (List ℕ)). let p : Pieces = record { ended = ls; rest = (cut more).rest } in p) (append_assoc (cut s).ended (((cut s).rest ++ bytes) ∷ []) (cut more).ended)
 
 pub before_dot-ended : (s bytes more : List ℕ) → has_lf bytes ≡ false → has_dot (map without_cr (cut s).ended) ≡ false → is_dot (without_cr ((cut s).rest ++ bytes)) ≡ true →
-    before_dot ((s ++ (bytes ++ 10 ∷ [])) ++ more) ≡ joined (cut s).ended []
+    before_dot ((s ++ (bytes ++ 10 ∷ [])) ++ more) ≡ joined_lines (cut s).ended []
 before_dot-ended s bytes more unbroken none dot =
     ap (λ (p : Pieces). before_in p.ended p.rest) (cut-more s bytes more unbroken) ∙ before_in-dot (cut s).ended (cut more).ended ((cut s).rest ++ bytes) (cut more).rest none dot
 
@@ -93,7 +93,7 @@ pub after_dot-ended : (s bytes more : List ℕ) → has_lf bytes ≡ false → h
     after_dot ((s ++ (bytes ++ 10 ∷ [])) ++ more) ≡ more
 after_dot-ended s bytes more unbroken none dot =
     ap (λ (p : Pieces). after_in p.ended p.rest) (cut-more s bytes more unbroken)
-    ∙ after_in-dot (cut s).ended (cut more).ended ((cut s).rest ++ bytes) (cut more).rest none dot ∙ joined-cut more
+    ∙ after_in-dot (cut s).ended (cut more).ended ((cut s).rest ++ bytes) (cut more).rest none dot ∙ joined_lines-cut more
 
 -- As bytes come, what stands before the dot only grows.
 

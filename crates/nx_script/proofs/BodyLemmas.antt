@@ -4,7 +4,7 @@ use Rattle.std.specs.Option.{option_map, option_map_or}
 use Rattle.nx_tree.specs.declared.node.Node.{Node}
 use Rattle.nx_pyx.specs.Event.{Event, event_of}
 use Rattle.nx_pyx.specs.Fault.{fault_at}
-use Rattle.nx_pyx.specs.Line.{event_fault, node_of, node_fault}
+use Rattle.nx_pyx.specs.Line.{event_fault, node_of, node_line_fault}
 use Rattle.nx_pyx.specs.declared.error.PyxFault.{PyxFault}
 use Rattle.nx_pyx.specs.declared.error.PyxFault.TheVariants.{BadCode}
 use Rattle.nx_pyx.specs.declared.error.PyxError.{PyxError}
@@ -22,5 +22,5 @@ wrong_found None error h = let e : fault_at 1 BadCode ≡ error = cc in ap Wrong
 wrong_found (Some e) error h = wrong_event (event_fault e) (node_of e) error h
 
 -- a line that is no node
-pub wrong_line : (line : List ℕ) (error : PyxError) → option_map (fault_at 1) (node_fault line) ≡ Some error → Wrong error ≡ line_body line
+pub wrong_line : (line : List ℕ) (error : PyxError) → option_map (fault_at 1) (node_line_fault line) ≡ Some error → Wrong error ≡ line_body line
 wrong_line line error h = wrong_found (event_of line) error h

@@ -25,11 +25,11 @@ use Rattle.nx_script.specs.declared.command.Command.TheVariants.{Load, Discard, 
 use Rattle.nx_script.specs.declared.script.Script.{Script}
 use Rattle.nx_script.specs.Script.{HasGiven}
 use Rattle.nx_script.proofs.ScriptLemmas.{HasLooked, looked}
-use Rattle.nx_pyx.specs.Field.{field, behind}
+use Rattle.nx_pyx.specs.Field.{field, behind_space}
 use Rattle.nx_script.specs.Field.{is_document_name}
 use Rattle.nx_script.specs.Rule.{HasLabels, is_parent_label, is_child_label, entry_named, rule_by, rule_of}
-use Rattle.nx_script.specs.Line.{longest_line, line_body, place_of, ends_there, insert_at, retext_at, lone_command, command_by, command_of}
-use Rattle.nx_script.specs.Commands.{begins_load, has_dot, named, loaded_name, Loads, IsWhole, SplitsInto, cut_off, AreCommands, CanCome}
+use Rattle.nx_script.specs.Line.{longest_line, line_body, place_said, ends_there, insert_at, retext_at, lone_command, command_by, command_of}
+use Rattle.nx_script.specs.Commands.{begins_load, has_dot, as_document_name, loaded_name, IsLoadCommand, IsWholeCommand, SplitsInto, cut_off, AreCommands, CanCome}
 
 -- what holds of both ways holds of the one that is taken
 either_way : {X : Type 0} (P : X → Type 0) (b : Bool) {x y : X} → P x → P y → P (if b then x else y)
@@ -149,14 +149,14 @@ rule_by-labels parent child word = by_labels (is_parent_label parent) (is_child_
 
 rule_of-labels : (bytes : List ℕ) → AreLabels (rule_of bytes)
 rule_of-labels bytes =
-    any_option AreLabels (λ more. option_map_or (rule_by (field bytes) (field more)) (behind more) None) (behind bytes)
-    (λ more. any_option AreLabels (rule_by (field bytes) (field more)) (behind more) (λ word. rule_by-labels (field bytes) (field more) word) tt) tt
+    any_option AreLabels (λ more. option_map_or (rule_by (field bytes) (field more)) (behind_space more) None) (behind_space bytes)
+    (λ more. any_option AreLabels (rule_by (field bytes) (field more)) (behind_space more) (λ word. rule_by-labels (field bytes) (field more) word) tt) tt
 
 -- what a line says could be read
 pub command_can : (bytes : List ℕ) → CanCome (command_of bytes)
 command_can bytes =
     either_way CanCome (nat_lt longest_line (length bytes)) tt
-    (any_option CanCome (command_by (field bytes)) (behind bytes) (λ rest. by_word (field bytes) rest) (lone_can bytes))
+    (any_option CanCome (command_by (field bytes)) (behind_space bytes) (λ rest. by_word (field bytes) rest) (lone_can bytes))
   where
     lone_can : (word : List ℕ) → CanCome (lone_command word)
     lone_can word =
@@ -172,15 +172,15 @@ command_can bytes =
         either_way CanCome (bytes_eq word (codes "drop")) (either_way CanCome (is_document_name rest) tt tt)
         (either_way CanCome (bytes_eq word (codes "export")) (either_way CanCome (is_document_name rest) tt tt)
         (either_way CanCome (bytes_eq word (codes "insert"))
-        (any_option CanCome insert_at (place_of rest)
+        (any_option CanCome insert_at (place_said rest)
         (λ place. any_option CanCome (λ l. Insert place.name place.path (line_body l)) place.last (λ l. insert_can place.name place.path (line_body l) (line_can l)) tt) tt)
         (either_way CanCome (bytes_eq word (codes "delete"))
-        (any_option CanCome (ends_there Delete) (place_of rest) (λ place. either_way CanCome (is_none place.last) tt tt) tt)
+        (any_option CanCome (ends_there Delete) (place_said rest) (λ place. either_way CanCome (is_none place.last) tt tt) tt)
         (either_way CanCome (bytes_eq word (codes "retext"))
-        (any_option CanCome retext_at (place_of rest)
+        (any_option CanCome retext_at (place_said rest)
         (λ place. text_can place.name place.path (unwrap_or place.last []) (nat_lt longest_node (length (unescape (unwrap_or place.last [])))) refl) tt)
         (either_way CanCome (bytes_eq word (codes "get"))
-        (any_option CanCome (ends_there Get) (place_of rest) (λ place. either_way CanCome (is_none place.last) tt tt) tt)
+        (any_option CanCome (ends_there Get) (place_said rest) (λ place. either_way CanCome (is_none place.last) tt tt) tt)
         (either_way CanCome (bytes_eq word (codes "layout")) (either_way CanCome (is_document_name rest) tt tt)
         (either_way CanCome (bytes_eq word (codes "rule")) (rule_can (rule_of rest) (rule_of-labels rest))
         tt)))))))
@@ -193,15 +193,15 @@ loaded_name-valid head name = by_length (nat_lt longest_line (length head))
     by_test rest true is same = let e : rest ≡ name = cc in subst (λ (n : List ℕ). IsTrue (is_document_name n)) e is
     by_test rest false is same = cc same
 
-    by_rest : (o : Option (List ℕ)) → option_map_or named o None ≡ Some name → IsTrue (is_document_name name)
+    by_rest : (o : Option (List ℕ)) → option_map_or as_document_name o None ≡ Some name → IsTrue (is_document_name name)
     by_rest None is = cc is
     by_rest (Some rest) is = by_test rest (is_document_name rest) refl is
 
-    by_length : (b : Bool) → (if b then None else option_map_or named (behind head) None) ≡ Some name → IsTrue (is_document_name name)
+    by_length : (b : Bool) → (if b then None else option_map_or as_document_name (behind_space head) None) ≡ Some name → IsTrue (is_document_name name)
     by_length true is = cc is
-    by_length false is = by_rest (behind head) is
+    by_length false is = by_rest (behind_space head) is
 
-load_can : (head : List ℕ) (body : List (List ℕ)) (command : Command) → Loads head body command → CanCome command
+load_can : (head : List ℕ) (body : List (List ℕ)) (command : Command) → IsLoadCommand head body command → CanCome command
 load_can head body (Load name (load.Read tree)) loads = (loaded_name-valid head name loads.0, loads.1.0)
 load_can head body (Load name (load.Wrong error)) loads = (loaded_name-valid head name loads.0, tt)
 load_can head body Bad loads = tt
@@ -217,12 +217,12 @@ load_can head body (SetRule rule) loads = absurd loads
 load_can head body Rules loads = tt
 load_can head body Checkpoint loads = tt
 
-whole_can : (own : List (List ℕ)) (command : Command) → IsWhole own command → CanCome command
+whole_can : (own : List (List ℕ)) (command : Command) → IsWholeCommand own command → CanCome command
 whole_can [] command whole = absurd whole
 whole_can (head ∷ ls) command whole = by_head (begins_load head) whole
   where
     by_head : (b : Bool) →
-        MatchBool b ((body : List (List ℕ)) × (ls ≡ body ++ codes "." ∷ []) × (has_dot body ≡ false) × Loads head body command) ((ls ≡ []) × (command ≡ command_of head)) → CanCome command
+        MatchBool b ((body : List (List ℕ)) × (ls ≡ body ++ codes "." ∷ []) × (has_dot body ≡ false) × IsLoadCommand head body command) ((ls ≡ []) × (command ≡ command_of head)) → CanCome command
     by_head true (body, is, dotless, loads) = load_can head body command loads
     by_head false (none, is) = subst CanCome (sym is) (command_can head)
 

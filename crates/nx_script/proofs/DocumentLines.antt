@@ -31,7 +31,7 @@ use Rattle.nx_script.specs.Body.{HasReadOrFailed, HasReadLines, HasReadUpToDot, 
 use Rattle.nx_lists.proofs.CaseLemmas.{match_true, match_false}
 use Rattle.nx_script.proofs.Prefixes.{dot_prefix, dot_before, dot_short, undotted_prefix, undotted_line}
 use Rattle.nx_script.proofs.LinesLemmas.{rest-held, rest-ended, lines-whole}
-use Rattle.nx_script.proofs.BeforeDot.{joined-cut, joined-prefix, before_in-none, before_in-last, before_dot-ended, after_dot-ended}
+use Rattle.nx_script.proofs.BeforeDot.{joined_lines-cut, joined_lines-prefix, before_in-none, before_in-last, before_dot-ended, after_dot-ended}
 
 -- The lines before the first that begins with a dot.
 
@@ -307,7 +307,7 @@ module _ {old mid : Body} {bytes : List ℕ} (held_more : HoldsMore old mid byte
       subst (λ (b : Bool). AwaitsOrHasDot b new (s ++ (bytes ++ 10 ∷ []))) (sym dot)
       (record {
         prefix = f.prefix;
-        before = λ more. before_dot-ended s bytes more held_more.unbroken within.undotted last ∙ joined-prefix f.prefix s f.parts f.read.ended;
+        before = λ more. before_dot-ended s bytes more held_more.unbroken within.undotted last ∙ joined_lines-prefix f.prefix s f.parts f.read.ended;
         after = λ more. after_dot-ended s bytes more held_more.unbroken within.undotted last;
         lines_are = ended_lines-ended s bytes held_more.unbroken
             ∙ ap (λ (l : List ℕ). ended_lines s ++ l ∷ []) ((bytes_eq-Decides (without_cr ((cut s).rest ++ bytes)) (codes ".")).0 last)
@@ -326,9 +326,9 @@ read_before body s within = by_dot (is_dot (without_cr (cut s).rest)) refl
     by_dot : (t : Bool) → is_dot (without_cr (cut s).rest) ≡ t → HasReadOrFailed body.reader (before_dot s)
     by_dot true is =
         let f = read_prefix body.reader s [] (ap (λ (l : List ℕ). is_dot (without_cr l)) (append-nil (cut s).rest) ∙ is) within.read in
-        subst (HasReadOrFailed body.reader) (sym (before_in-last (cut s).ended (cut s).rest within.undotted is ∙ joined-prefix f.prefix s f.parts f.read.ended)) f.read.read
+        subst (HasReadOrFailed body.reader) (sym (before_in-last (cut s).ended (cut s).rest within.undotted is ∙ joined_lines-prefix f.prefix s f.parts f.read.ended)) f.read.read
     by_dot false other =
-        subst (HasReadOrFailed body.reader) (sym (before_in-none (cut s).ended (cut s).rest within.undotted other ∙ joined-cut s)) (from_none body.reader s other within.read)
+        subst (HasReadOrFailed body.reader) (sym (before_in-none (cut s).ended (cut s).rest within.undotted other ∙ joined_lines-cut s)) (from_none body.reader s other within.read)
 
 -- the fault that the reader has is told
 pub told : (reader : Reader) (s : List ℕ) → HasReadOrFailed reader s → fault_in reader.failed ≡ shown_fault s

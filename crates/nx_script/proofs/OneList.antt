@@ -21,7 +21,7 @@ use Rattle.nx_script.specs.declared.command.LoadBody.{LoadBody}
 use Rattle.nx_script.specs.declared.command.LoadBody.TheVariants.{Read, Wrong}
 use Rattle.nx_script.specs.declared.script.Script.{Script}
 use Rattle.nx_script.specs.Line.{command_of}
-use Rattle.nx_script.specs.Commands.{begins_load, is_dot, has_dot, loaded_name, SaysBody, Loads, IsWhole, SplitsInto, IsUnended, cut_off, AreWhole, AreCommands}
+use Rattle.nx_script.specs.Commands.{begins_load, is_dot, has_dot, loaded_name, SaysBody, IsLoadCommand, IsWholeCommand, SplitsInto, IsUnended, cut_off, AreWhole, AreCommands}
 use Rattle.nx_script.specs.Law.{HasOneList}
 use Rattle.nx_script.specs.Script.{unread, HasGivenIn}
 use Rattle.nx_script.proofs.SplitsIntoLemmas.{gives_longer, whole_line, whole_load}
@@ -60,15 +60,15 @@ one_body ls (Wrong e) (Wrong f) p q = let same : Some e ≡ Some f = sym p ∙ q
 -- A `load` line and its document's lines.
 
 -- they are a command
-some_load : (line : List ℕ) (body : List (List ℕ)) → (command : Command) × Loads line body command
+some_load : (line : List ℕ) (body : List (List ℕ)) → (command : Command) × IsLoadCommand line body command
 some_load line body = by_name (loaded_name line) refl
   where
-    by_name : (name : Option (List ℕ)) → loaded_name line ≡ name → (command : Command) × Loads line body command
+    by_name : (name : Option (List ℕ)) → loaded_name line ≡ name → (command : Command) × IsLoadCommand line body command
     by_name None is = (Bad, is)
     by_name (Some name) is = let (said, says) = some_body body in (Load name said, (is, says))
 
 -- they are one
-one_load : (line : List ℕ) (body : List (List ℕ)) (c d : Command) → Loads line body c → Loads line body d → c ≡ d
+one_load : (line : List ℕ) (body : List (List ℕ)) (c d : Command) → IsLoadCommand line body c → IsLoadCommand line body d → c ≡ d
 one_load line body (Load n said) (Load m other) p q =
     let names : n ≡ m = (let e : Some n ≡ Some m = sym p.0 ∙ q.0 in cc) in
     let bodies : said ≡ other = one_body body said other p.1 q.1 in
@@ -114,39 +114,39 @@ one_dot (line ∷ a) (other ∷ b) x y p q is =
     (ap (λ (l : List ℕ). l ∷ a) first ∙ ap (λ (l : List (List ℕ)). other ∷ l) prefix, behind)
 
 -- a group is no document that isn't ended
-unended_whole : (own others : List (List ℕ)) (command : Command) → IsWhole own command → IsUnended (own ++ others) → ⊥
+unended_whole : (own others : List (List ℕ)) (command : Command) → IsWholeCommand own command → IsUnended (own ++ others) → ⊥
 unended_whole [] others command whole unended = whole
 unended_whole (line ∷ ls) others command whole (begins, undotted) =
     let (body, is, none, loads) =
-    MatchBool-at_true ((body : List (List ℕ)) × (ls ≡ body ++ codes "." ∷ []) × (has_dot body ≡ false) × Loads line body command) ((ls ≡ []) × (command ≡ command_of line)) begins whole in
+    MatchBool-at_true ((body : List (List ℕ)) × (ls ≡ body ++ codes "." ∷ []) × (has_dot body ≡ false) × IsLoadCommand line body command) ((ls ≡ []) × (command ≡ command_of line)) begins whole in
     let no_dot : true ≡ false =
     sym (dot_among body others) ∙ ap has_dot (sym (append_assoc body (codes "." ∷ []) others) ∙ ap (λ (l : List (List ℕ)). l ++ others) (sym is)) ∙ undotted in
     absurd (cc)
 
 -- the first group is one, and its command
-one_group : (own other : List (List ℕ)) {more behind : List (List ℕ)} {c d : Command} → IsWhole own c → IsWhole other d → own ++ more ≡ other ++ behind → (more ≡ behind) × (c ≡ d)
+one_group : (own other : List (List ℕ)) {more behind : List (List ℕ)} {c d : Command} → IsWholeCommand own c → IsWholeCommand other d → own ++ more ≡ other ++ behind → (more ≡ behind) × (c ≡ d)
 one_group [] other {more = more} {behind = behind} {c = c} {d = d} p q is = absurd p
 one_group (line ∷ a) [] {more = more} {behind = behind} {c = c} {d = d} p q is = absurd q
 one_group (line ∷ a) (second ∷ b) {more = more} {behind = behind} {c = c} {d = d} p q is =
     let first : line ≡ second = cc in
     let rest : a ++ more ≡ b ++ behind = cc in
-    let again : IsWhole (line ∷ b) d = subst (λ (l : List ℕ). IsWhole (l ∷ b) d) (sym first) q in
+    let again : IsWholeCommand (line ∷ b) d = subst (λ (l : List ℕ). IsWholeCommand (l ∷ b) d) (sym first) q in
     ⊎_elim
     (λ (begins : begins_load line ≡ true).
     let (x, x_is, x_none, x_loads) =
-    MatchBool-at_true ((body : List (List ℕ)) × (a ≡ body ++ codes "." ∷ []) × (has_dot body ≡ false) × Loads line body c) ((a ≡ []) × (c ≡ command_of line)) begins p in
+    MatchBool-at_true ((body : List (List ℕ)) × (a ≡ body ++ codes "." ∷ []) × (has_dot body ≡ false) × IsLoadCommand line body c) ((a ≡ []) × (c ≡ command_of line)) begins p in
     let (y, y_is, y_none, y_loads) =
-    MatchBool-at_true ((body : List (List ℕ)) × (b ≡ body ++ codes "." ∷ []) × (has_dot body ≡ false) × Loads line body d) ((b ≡ []) × (d ≡ command_of line)) begins again in
+    MatchBool-at_true ((body : List (List ℕ)) × (b ≡ body ++ codes "." ∷ []) × (has_dot body ≡ false) × IsLoadCommand line body d) ((b ≡ []) × (d ≡ command_of line)) begins again in
     let both : x ++ codes "." ∷ more ≡ y ++ codes "." ∷ behind =
     sym (append_assoc x (codes "." ∷ []) more) ∙ ap (λ (l : List (List ℕ)). l ++ more) (sym x_is) ∙ rest
     ∙ ap (λ (l : List (List ℕ)). l ++ behind) y_is ∙ append_assoc y (codes "." ∷ []) behind in
     let (bodies, left) = one_dot x y more behind x_none y_none both in
-    (left, one_load line y c d (subst (λ (l : List (List ℕ)). Loads line l c) bodies x_loads) y_loads))
+    (left, one_load line y c d (subst (λ (l : List (List ℕ)). IsLoadCommand line l c) bodies x_loads) y_loads))
     (λ (other : begins_load line ≡ false).
     let x =
-    MatchBool-at_false ((body : List (List ℕ)) × (a ≡ body ++ codes "." ∷ []) × (has_dot body ≡ false) × Loads line body c) ((a ≡ []) × (c ≡ command_of line)) other p in
+    MatchBool-at_false ((body : List (List ℕ)) × (a ≡ body ++ codes "." ∷ []) × (has_dot body ≡ false) × IsLoadCommand line body c) ((a ≡ []) × (c ≡ command_of line)) other p in
     let y =
-    MatchBool-at_false ((body : List (List ℕ)) × (b ≡ body ++ codes "." ∷ []) × (has_dot body ≡ false) × Loads line body d) ((b ≡ []) × (d ≡ command_of line)) other again in
+    MatchBool-at_false ((body : List (List ℕ)) × (b ≡ body ++ codes "." ∷ []) × (has_dot body ≡ false) × IsLoadCommand line body d) ((b ≡ []) × (d ≡ command_of line)) other again in
     (ap (λ (l : List (List ℕ)). l ++ more) (sym x.0) ∙ rest ∙ ap (λ (l : List (List ℕ)). l ++ behind) y.0, x.1 ∙ sym y.1))
     (cases_Bool (begins_load line))
 

@@ -13,9 +13,9 @@ use Rattle.nx_script.specs.declared.command.Command.TheVariants.{Bad}
 use Rattle.nx_script.specs.declared.parser.Load.{Load}
 use Rattle.nx_script.specs.declared.parser.Parser.{Parser}
 use Rattle.nx_script.specs.Line.{command_of}
-use Rattle.nx_script.specs.Commands.{begins_load, is_dot, has_dot, loaded_name, Loads, IsWhole, SplitsInto, AreCommands}
+use Rattle.nx_script.specs.Commands.{begins_load, is_dot, has_dot, loaded_name, IsLoadCommand, IsWholeCommand, SplitsInto, AreCommands}
 use Rattle.nx_script.specs.Body.{HasReadLines, AwaitsDot, IsEndedBy}
-use Rattle.nx_script.specs.Parser.{most_held, with_command, IsLoading, HoldsRest, HasParsed, Adds, MeansSame}
+use Rattle.nx_script.specs.Parser.{most_held, with_command, IsLoading, HoldsRest, HasParsed, AddsLine, MeansSame}
 use Rattle.nx_script.proofs.Prefixes.{means_same, dot_prefix}
 use Rattle.nx_script.proofs.SplitsIntoLemmas.{gives_longer, gives_then, whole_line, whole_load}
 use Rattle.nx_script.proofs.LinesLemmas.{rest-held, rest-ended, rest-append, lines-whole}
@@ -52,7 +52,7 @@ holds_line {old = old} {new = new} {bytes = bytes} unbroken outside same holds s
 
 -- a line ends
 pub adds_line : {old new : Parser} {bytes line : List ℕ} (command : Option Command) → has_lf bytes ≡ false → (old.load ≡ None) × (new.held ≡ []) →
-    ((rest : List ℕ) → old.held ≡ take most_held rest → MeansSame line (without_cr (rest ++ bytes))) → Adds line new command →
+    ((rest : List ℕ) → old.held ≡ take most_held rest → MeansSame line (without_cr (rest ++ bytes))) → AddsLine line new command →
     (seen : List ℕ) (commands : List Command) → HasParsed old seen commands → HasParsed new (seen ++ (bytes ++ 10 ∷ [])) (with_command commands command)
 adds_line {old = old} {new = new} {bytes = bytes} {line = line} command unbroken (outside, none) means adds seen commands parsed =
     let (gives, held) = kept_outside old seen commands outside parsed in
@@ -61,7 +61,7 @@ adds_line {old = old} {new = new} {bytes = bytes} {line = line} command unbroken
     (subst (λ (ls : List (List ℕ)). SplitsInto ls commands (whole ∷ [])) (sym (ended_lines-ended seen bytes unbroken))
     (gives_longer (ended_lines seen) commands [] (whole ∷ []) gives))
   where
-    by_command : (c : Option Command) → MeansSame line (without_cr ((cut seen).rest ++ bytes)) → Adds line new c →
+    by_command : (c : Option Command) → MeansSame line (without_cr ((cut seen).rest ++ bytes)) → AddsLine line new c →
         SplitsInto (ended_lines (seen ++ (bytes ++ 10 ∷ []))) commands (without_cr ((cut seen).rest ++ bytes) ∷ []) →
         HasParsed new (seen ++ (bytes ++ 10 ∷ [])) (with_command commands c)
     by_command (Some c) same (begins, is, after) gives =
@@ -147,7 +147,7 @@ module _ (old : Parser) {new : Parser} {load : Load} {body : Body} {bytes : List
   -- a dot has come
   pub body_ends : (command : Command) → (new.load ≡ None) × (new.held ≡ old.held) →
       ((s : List ℕ) → AwaitsDot load.body s → IsEndedBy body (s ++ bytes)) →
-      ((line s : List ℕ) → load.name ≡ loaded_name line → HasReadLines body.reader s → Loads line (ended_lines s) command) →
+      ((line s : List ℕ) → load.name ≡ loaded_name line → HasReadLines body.reader s → IsLoadCommand line (ended_lines s) command) →
       (seen : List ℕ) (commands : List Command) → HasParsed (record old { load = Some load }) seen commands → HasParsed new (seen ++ bytes) (commands ++ command ∷ [])
   body_ends command (outside, same) ends loads seen commands parsed = by_rest parsed.rest parsed.gives parsed.keeps
     where
@@ -172,7 +172,7 @@ gives_lines : (seen : List ℕ) (commands : List Command) (rest : List (List ℕ
 gives_lines seen commands rest gives = gives_longer (ended_lines seen) commands rest (last_line (cut seen).rest) gives
 
 -- the whole script is one command more than what was whole
-one_more : (seen : List ℕ) (commands : List Command) (own : List (List ℕ)) (command : Command) → SplitsInto (lines seen) commands own → IsWhole own command →
+one_more : (seen : List ℕ) (commands : List Command) (own : List (List ℕ)) (command : Command) → SplitsInto (lines seen) commands own → IsWholeCommand own command →
     AreCommands seen (commands ++ command ∷ [])
 one_more seen commands own command gives whole = (
   commands ++ command ∷ [],
@@ -240,7 +240,7 @@ module _ (parser : Parser) (load : Load) (inside : parser.load ≡ Some load) (e
 
   -- a dot ends the document's lines at the end of all bytes
   pub last_ends : (command : Command) → ended ≡ true →
-      ((line s : List ℕ) → load.name ≡ loaded_name line → HasReadLines load.body.reader s → Loads line (ended_lines s) command) →
+      ((line s : List ℕ) → load.name ≡ loaded_name line → HasReadLines load.body.reader s → IsLoadCommand line (ended_lines s) command) →
       (seen : List ℕ) (commands : List Command) → HasParsed parser seen commands → AreCommands seen (commands ++ command ∷ [])
   last_ends command dot loads seen commands parsed = by_rest parsed.rest parsed.gives (kept_inside seen commands parsed)
     where

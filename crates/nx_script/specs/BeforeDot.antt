@@ -6,9 +6,9 @@ use Rattle.nx_pyx.specs.Fault.{shown_fault}
 use Rattle.nx_script.specs.Commands.{is_dot}
 
 -- pieces with their LFs, and what stands behind the last LF
-abbrev pub joined : List (List ℕ) → List ℕ → List ℕ
-joined [] rest = rest
-joined (piece ∷ pieces) rest = piece ++ 10 ∷ joined pieces rest
+abbrev pub joined_lines : List (List ℕ) → List ℕ → List ℕ
+joined_lines [] rest = rest
+joined_lines (piece ∷ pieces) rest = piece ++ 10 ∷ joined_lines pieces rest
 
 -- what stands before the first piece that is a dot as a line
 abbrev pub before_in : List (List ℕ) → List ℕ → List ℕ
@@ -18,7 +18,7 @@ before_in (piece ∷ pieces) rest = if is_dot (without_cr piece) then [] else (p
 -- what stands behind it
 abbrev pub after_in : List (List ℕ) → List ℕ → List ℕ
 after_in [] rest = []
-after_in (piece ∷ pieces) rest = if is_dot (without_cr piece) then joined pieces rest else after_in pieces rest
+after_in (piece ∷ pieces) rest = if is_dot (without_cr piece) then joined_lines pieces rest else after_in pieces rest
 
 -- the bytes of the lines before the first line that is a dot, or all where there is none
 abbrev pub before_dot : List ℕ → List ℕ

@@ -14,7 +14,7 @@ use Rattle.nx_script.specs.declared.command.LineBody.TheVariants as line
 use Rattle.nx_script.specs.declared.command.TextBody.TheVariants as content
 use Rattle.nx_script.specs.declared.command.Command.{Command}
 use Rattle.nx_script.specs.declared.command.Command.TheVariants.{Load, Insert, Retext, SetRule, Bad}
-use Rattle.nx_pyx.specs.Field.{behind}
+use Rattle.nx_pyx.specs.Field.{behind_space}
 use Rattle.nx_script.specs.Field.{is_document_name}
 use Rattle.nx_script.specs.Rule.{HasLabels}
 use Rattle.nx_script.specs.Line.{longest_line, command_of}
@@ -30,12 +30,12 @@ is_dot line = bytes_eq line (codes ".")
 abbrev pub has_dot : List (List ℕ) → Bool
 has_dot ls = list_any is_dot ls
 
-abbrev pub named : List ℕ → Option (List ℕ)
-named name = if is_document_name name then Some name else None
+abbrev pub as_document_name : List ℕ → Option (List ℕ)
+as_document_name name = if is_document_name name then Some name else None
 
 -- the name under which a `load` line has a document kept
 abbrev pub loaded_name : List ℕ → Option (List ℕ)
-loaded_name line = if nat_lt longest_line (length line) then None else option_map_or named (behind line) None
+loaded_name line = if nat_lt longest_line (length line) then None else option_map_or as_document_name (behind_space line) None
 
 -- these lines say this document, or have this fault
 abbrev pub SaysBody : List (List ℕ) → LoadBody → Type 0
@@ -43,24 +43,24 @@ SaysBody ls (Read tree) = IsDocument tree × (map event_of ls ≡ map (λ e. Som
 SaysBody ls (Wrong error) = option_map_or (λ e. Some e) (first_fault [] ls) (fault_at_end ls) ≡ Some error
 
 -- a `load` line with these lines behind it is this command
-abbrev pub Loads : List ℕ → List (List ℕ) → Command → Type 0
-Loads line body (Load name said) = (loaded_name line ≡ Some name) × SaysBody body said
-Loads line body Bad = loaded_name line ≡ None
-Loads line body _ = ⊥
+abbrev pub IsLoadCommand : List ℕ → List (List ℕ) → Command → Type 0
+IsLoadCommand line body (Load name said) = (loaded_name line ≡ Some name) × SaysBody body said
+IsLoadCommand line body Bad = loaded_name line ≡ None
+IsLoadCommand line body _ = ⊥
 
 -- these lines are one whole command
-abbrev pub IsWhole : List (List ℕ) → Command → Type 0
-IsWhole [] command = ⊥
-IsWhole (line ∷ ls) command =
+abbrev pub IsWholeCommand : List (List ℕ) → Command → Type 0
+IsWholeCommand [] command = ⊥
+IsWholeCommand (line ∷ ls) command =
     MatchBool (begins_load line)
-    ((body : List (List ℕ)) × (ls ≡ body ++ codes "." ∷ []) × (has_dot body ≡ false) × Loads line body command)
+    ((body : List (List ℕ)) × (ls ≡ body ++ codes "." ∷ []) × (has_dot body ≡ false) × IsLoadCommand line body command)
     ((ls ≡ []) × (command ≡ command_of line))
 
 -- the first of these lines are these whole commands, and these lines are left
 abbrev pub SplitsInto : List (List ℕ) → List Command → List (List ℕ) → Type 0
 SplitsInto ls [] rest = ls ≡ rest
 SplitsInto ls (command ∷ commands) rest =
-    (own : List (List ℕ)) × (others : List (List ℕ)) × (ls ≡ own ++ others) × IsWhole own command × SplitsInto others commands rest
+    (own : List (List ℕ)) × (others : List (List ℕ)) × (ls ≡ own ++ others) × IsWholeCommand own command × SplitsInto others commands rest
 
 -- no line, or a `load` whose document isn't ended
 abbrev pub IsUnended : List (List ℕ) → Type 0

@@ -14,7 +14,7 @@ use Rattle.nx_script.specs.declared.command.TextBody.TheVariants as in_text
 use Rattle.nx_script.specs.declared.command.Command.{Command}
 use Rattle.nx_script.specs.declared.command.Command.TheVariants.{Discard, Names, Export, Insert, Delete, Retext, Get, Layout, SetRule, Rules, Checkpoint, Bad}
 use Rattle.nx_script.specs.declared.line.Place as code
-use Rattle.nx_pyx.specs.Field.{field, behind, is_path, positions_of}
+use Rattle.nx_pyx.specs.Field.{field, behind_space, is_path, positions_of}
 use Rattle.nx_script.specs.Field.{is_document_name}
 use Rattle.nx_script.specs.Rule.{rule_of}
 
@@ -39,11 +39,11 @@ pub record Place : Type 0 where
   pub last : Option (List ℕ)
 
 -- the place that the fields behind a word say
-abbrev pub place_of : List ℕ → Option Place
-place_of bytes = option_map_or (λ more.
+abbrev pub place_said : List ℕ → Option Place
+place_said bytes = option_map_or (λ more.
     if is_document_name (field bytes) && is_path (field more)
-    then Some (record { name = field bytes; path = positions_of (field more); last = behind more })
-    else None) (behind bytes) None
+    then Some (record { name = field bytes; path = positions_of (field more); last = behind_space more })
+    else None) (behind_space bytes) None
 
 -- a place as the code has it
 abbrev pub place_in : code.Place → Place
@@ -64,10 +64,10 @@ abbrev pub command_by : List ℕ → List ℕ → Command
 command_by word rest =
     if bytes_eq word (codes "drop") then (if is_document_name rest then Discard rest else Bad)
     else if bytes_eq word (codes "export") then (if is_document_name rest then Export rest else Bad)
-    else if bytes_eq word (codes "insert") then option_map_or insert_at (place_of rest) Bad
-    else if bytes_eq word (codes "delete") then option_map_or (ends_there Delete) (place_of rest) Bad
-    else if bytes_eq word (codes "retext") then option_map_or retext_at (place_of rest) Bad
-    else if bytes_eq word (codes "get") then option_map_or (ends_there Get) (place_of rest) Bad
+    else if bytes_eq word (codes "insert") then option_map_or insert_at (place_said rest) Bad
+    else if bytes_eq word (codes "delete") then option_map_or (ends_there Delete) (place_said rest) Bad
+    else if bytes_eq word (codes "retext") then option_map_or retext_at (place_said rest) Bad
+    else if bytes_eq word (codes "get") then option_map_or (ends_there Get) (place_said rest) Bad
     else if bytes_eq word (codes "layout") then (if is_document_name rest then Layout rest else Bad)
     else if bytes_eq word (codes "rule") then option_map_or SetRule (rule_of rest) Bad
     else Bad
@@ -84,4 +84,4 @@ lone_command word =
 abbrev pub command_of : List ℕ → Command
 command_of line =
     if nat_lt longest_line (length line) then Bad
-    else option_map_or (command_by (field line)) (behind line) (lone_command line)
+    else option_map_or (command_by (field line)) (behind_space line) (lone_command line)

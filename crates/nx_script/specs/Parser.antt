@@ -39,9 +39,9 @@ pub record HasParsed (parser : Parser) (seen : List ℕ) (commands : List Comman
   pub keeps : HoldsRest parser.load parser.held seen rest
 
 -- what comes of a line outside a document: the command that it says, or a document that begins
-abbrev pub Adds : List ℕ → Parser → Option Command → Type 0
-Adds line parser (Some command) = (begins_load line ≡ false) × (command ≡ command_of line) × (parser.load ≡ None)
-Adds line parser None = (begins_load line ≡ true) × (load : Load) × (parser.load ≡ Some load) × (load.name ≡ loaded_name line) × AwaitsDot load.body []
+abbrev pub AddsLine : List ℕ → Parser → Option Command → Type 0
+AddsLine line parser (Some command) = (begins_load line ≡ false) × (command ≡ command_of line) × (parser.load ≡ None)
+AddsLine line parser None = (begins_load line ≡ true) × (load : Load) × (parser.load ≡ Some load) × (load.name ≡ loaded_name line) × AwaitsDot load.body []
 
 -- what is said of one line is said of the other
 pub record MeansSame (a b : List ℕ) : Type 0 where

@@ -40,8 +40,8 @@ interval_text Root = codes "root"
 interval_text (Run parent first last) = codes "run " ++ path_text parent ++ codes " " ++ decimal first ++ codes " " ++ decimal last
 
 -- the line of an interval with the weight of its part
-abbrev pub part_line : Interval × ℕ → List ℕ
-part_line part = interval_text part.0 ++ codes " " ++ decimal part.1 ++ codes "\n"
+abbrev pub interval_line : Interval × ℕ → List ℕ
+interval_line part = interval_text part.0 ++ codes " " ++ decimal part.1 ++ codes "\n"
 
 -- the line of a rule
 abbrev pub rule_line : Rule → List ℕ
@@ -54,6 +54,6 @@ reply_text (Loaded nodes intervals) = codes "ok " ++ decimal nodes ++ codes " " 
 reply_text (Shown node children) = codes "node " ++ decimal children ++ codes " " ++ node_line node.kind node.name node.content ++ codes "\n"
 reply_text (Names docs) = flat_map doc_line docs ++ codes ".\n"
 reply_text (Exported text) = text ++ codes ".\n"
-reply_text (Laid parts weights) = flat_map part_line (zip parts weights) ++ codes ".\n"
+reply_text (Laid parts weights) = flat_map interval_line (zip parts weights) ++ codes ".\n"
 reply_text (Rules rules) = flat_map rule_line rules ++ codes ".\n"
 reply_text (Refused error) = codes "error " ++ cause error ++ codes "\n"

@@ -3,7 +3,7 @@ use Rattle.std.specs.Prelude.{ℕ, Bool, false, IsTrue, ◌&&◌, ◌||◌, ◌=
 use Rattle.std.specs.Option.{option_map, option_map_or}
 use Rattle.std.specs.Str.{bytes_eq}
 use Rattle.nx_tree.specs.Document.{is_name}
-use Rattle.nx_pyx.specs.Field.{field, behind}
+use Rattle.nx_pyx.specs.Field.{field, behind_space}
 use Rattle.nx_matrix.specs.declared.rule.Entry.{Entry}
 use Rattle.nx_matrix.specs.declared.rule.Entry.TheVariants.{Standalone, Cluster, Free}
 use Rattle.nx_matrix.specs.declared.rule.Rule.{Rule}
@@ -48,4 +48,4 @@ rule_by parent child word =
 
 -- the rule that three fields say, where they say one
 abbrev pub rule_of : List ℕ → Option Rule
-rule_of bytes = option_map_or (λ more. option_map_or (rule_by (field bytes) (field more)) (behind more) None) (behind bytes) None
+rule_of bytes = option_map_or (λ more. option_map_or (rule_by (field bytes) (field more)) (behind_space more) None) (behind_space bytes) None

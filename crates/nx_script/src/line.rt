@@ -2,7 +2,7 @@
 ghost use Rattle.std.specs.Prelude.{◌≡◌, if◌then◌else◌, None, Some, MatchOption, IfOk};
 ghost use Rattle.std.specs.Option.{option_map_or};
 ghost use Rattle.nx_script.specs.Field.{is_document_name};
-ghost use Rattle.nx_script.specs.Line.{line_body, text_body, place_of, place_in, insert_at, retext_at, ends_there, lone_command, command_by, command_of};
+ghost use Rattle.nx_script.specs.Line.{line_body, text_body, place_said, place_in, insert_at, retext_at, ends_there, lone_command, command_by, command_of};
 ghost use Rattle.nx_script.specs.Rule.{rule_of};
 ghost use Rattle.nx_script.specs.Commands.{begins_load, is_dot, loaded_name};
 
@@ -127,7 +127,7 @@ fn export(alloc: Global, rest: &[u8]) -> Result<Command, NoMemory>
 }
 
 fn insert(alloc: Global, rest: &[u8]) -> Result<Command, NoMemory>
-    ensures { IfOk result (λ command. command ≡ option_map_or insert_at (place_of rest.now) Command.Bad) }
+    ensures { IfOk result (λ command. command ≡ option_map_or insert_at (place_said rest.now) Command.Bad) }
 {
     let Some(Place { name, path, last }) = place_at(alloc, rest)? else {
         return Ok(Command::Bad);
@@ -140,7 +140,7 @@ fn insert(alloc: Global, rest: &[u8]) -> Result<Command, NoMemory>
 }
 
 fn delete(alloc: Global, rest: &[u8]) -> Result<Command, NoMemory>
-    ensures { IfOk result (λ command. command ≡ option_map_or (ends_there Command.Delete) (place_of rest.now) Command.Bad) }
+    ensures { IfOk result (λ command. command ≡ option_map_or (ends_there Command.Delete) (place_said rest.now) Command.Bad) }
 {
     let Some(Place { name, path, last }) = place_at(alloc, rest)? else {
         return Ok(Command::Bad);
@@ -152,7 +152,7 @@ fn delete(alloc: Global, rest: &[u8]) -> Result<Command, NoMemory>
 }
 
 fn retext(alloc: Global, rest: &[u8]) -> Result<Command, NoMemory>
-    ensures { IfOk result (λ command. command ≡ option_map_or retext_at (place_of rest.now) Command.Bad) }
+    ensures { IfOk result (λ command. command ≡ option_map_or retext_at (place_said rest.now) Command.Bad) }
 {
     let Some(Place { name, path, last }) = place_at(alloc, rest)? else {
         return Ok(Command::Bad);
@@ -162,7 +162,7 @@ fn retext(alloc: Global, rest: &[u8]) -> Result<Command, NoMemory>
 }
 
 fn get(alloc: Global, rest: &[u8]) -> Result<Command, NoMemory>
-    ensures { IfOk result (λ command. command ≡ option_map_or (ends_there Command.Get) (place_of rest.now) Command.Bad) }
+    ensures { IfOk result (λ command. command ≡ option_map_or (ends_there Command.Get) (place_said rest.now) Command.Bad) }
 {
     let Some(Place { name, path, last }) = place_at(alloc, rest)? else {
         return Ok(Command::Bad);
@@ -194,7 +194,7 @@ fn set_rule(alloc: Global, rest: &[u8]) -> Result<Command, NoMemory>
 
 // The place that the fields behind a word say, if they say one.
 fn place_at(alloc: Global, bytes: &[u8]) -> Result<Option<Place<'_>>, NoMemory>
-    ensures { IfOk result (λ found. MatchOption found (place_of bytes.now ≡ None) (λ place. place_of bytes.now ≡ Some (place_in place))) }
+    ensures { IfOk result (λ found. MatchOption found (place_said bytes.now ≡ None) (λ place. place_said bytes.now ≡ Some (place_in place))) }
 {
     let (name, Some(more)) = split_field(bytes) else {
         return Ok(None);

@@ -2,10 +2,10 @@
 ghost use Rattle.std.specs.Prelude.{◌≡◌, ◌<◌, ◌≤◌, ℕ, false, List, [], ◌∷◌, ◌++◌, length, take, Some, None, IfOk, OnOk};
 ghost use Rattle.nx_pyx.specs.Lines.{ended_lines, has_lf};
 ghost use Rattle.nx_script.specs.declared.command.Command.{Command};
-ghost use Rattle.nx_script.specs.Commands.{loaded_name, Loads, AreCommands};
+ghost use Rattle.nx_script.specs.Commands.{loaded_name, IsLoadCommand, AreCommands};
 ghost use Rattle.nx_script.specs.Body.{HasReadLines};
 ghost use Rattle.nx_script.specs.declared.parser.Parser.{Parser};
-ghost use Rattle.nx_script.specs.Parser.{HasParsed, Adds, with_command, most_held};
+ghost use Rattle.nx_script.specs.Parser.{HasParsed, AddsLine, with_command, most_held};
 
 use crate::Command;
 use crate::body::Body;
@@ -150,7 +150,7 @@ impl Parser {
     // Takes a whole line.
     fn add(&mut self, line: &[u8]) -> Result<Option<Command>, NoMemory>
         requires { self.old.load ≡ None }
-        ensures added { IfOk result (Adds line.now self.new) }
+        ensures added { IfOk result (AddsLine line.now self.new) }
         ensures held { self.new.held ≡ self.old.held }
     {
         if !begins_load(line) {
@@ -191,7 +191,7 @@ fn last_load(load: Load) -> Result<Option<Command>, NoMemory>
 // The command of a document whose lines a dot has ended.
 fn loaded(load: Load) -> Result<Command, NoMemory>
     ensures { IfOk result (λ command. (line : List ℕ) (s : List ℕ) → load.name ≡ loaded_name line → HasReadLines load.body.reader s →
-        Loads line (ended_lines s) command) }
+        IsLoadCommand line (ended_lines s) command) }
 {
     let Load { name, body } = load;
     match name {

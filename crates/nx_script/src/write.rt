@@ -2,7 +2,7 @@
 ghost use Rattle.std.specs.Prelude.{◌≡◌, ℕ, List, ◌++◌, OnOk, OnErr, IfOk};
 ghost use Rattle.std.specs.Prelude.{codes};
 ghost use Rattle.std.specs.List.{flat_map, zip};
-ghost use Rattle.nx_script.specs.Reply.{cause, doc_line, interval_text, part_line, rule_line, reply_text};
+ghost use Rattle.nx_script.specs.Reply.{cause, doc_line, interval_text, interval_line, rule_line, reply_text};
 
 use crate::rule::entry_word;
 use crate::{DocLine, DocLines, Reply, ReplyError};
@@ -96,7 +96,7 @@ fn push_doc(block: &mut Bytes, line: &DocLine) -> Result<(), NoMemory>
 
 // Adds the lines of intervals with the weights of their parts, and a dot.
 fn push_parts(block: &mut Bytes, parts: &Partitioning, weights: &Weights) -> Result<(), NoMemory>
-    ensures ok { OnOk result (block.new ≡ block.old ++ (flat_map part_line (zip parts.now weights.now) ++ codes ".\n")) }
+    ensures ok { OnOk result (block.new ≡ block.old ++ (flat_map interval_line (zip parts.now weights.now) ++ codes ".\n")) }
     ensures prefix { (bytes : List ℕ) × (block.new ≡ block.old ++ bytes) }
 {
     for (interval, weight) in parts.as_slice().iter().zip(weights.as_slice()) {
@@ -107,7 +107,7 @@ fn push_parts(block: &mut Bytes, parts: &Partitioning, weights: &Weights) -> Res
 
 // Adds the line of an interval with the weight of its part.
 fn push_part(block: &mut Bytes, interval: &Interval, weight: u64) -> Result<(), NoMemory>
-    ensures ok { OnOk result (block.new ≡ block.old ++ part_line (interval.now, weight)) }
+    ensures ok { OnOk result (block.new ≡ block.old ++ interval_line (interval.now, weight)) }
     ensures prefix { (bytes : List ℕ) × (block.new ≡ block.old ++ bytes) }
 {
     push_interval(block, interval)?;

@@ -7,7 +7,7 @@ use Rattle.std.proofs.Math.Nat.{mul-le-mul}
 use Rattle.std.proofs.lemmas.List.Sums.{sum_by-cons, sum_by-append}
 use Rattle.nx_matrix.specs.declared.rule.Entry.{Entry}
 use Rattle.nx_sketch.specs.declared.spot.Spot.{Spot}
-use Rattle.nx_sketch.specs.Sketch.{Sketch, Empty, Plant, nodes, Placed, placed, placed_in, spots_of, total, AreRising, IsFlat}
+use Rattle.nx_sketch.specs.Sketch.{Sketch, Empty, Plant, spot_count, Placed, placed, placed_in, spots_of, sketch_weight, AreRising, IsFlat}
 use Rattle.nx_sketch.specs.Plan.{is_prefix}
 use Rattle.nx_sketch.specs.Separator.{is_before, weight_before, weight_within, is_marked, marks, point}
 use Rattle.nx_sketch.proofs.PathLemmas.{before_less, not_before_less, before_below, not_before_below, not_before_itself, prefix_other, prefix_below, not_prefix_below}
@@ -34,7 +34,7 @@ placed_from low path (Plant p w e b s) r = (
 abbrev pub weights : List Placed → ℕ
 weights nodes = sum_by (λ node. node.weight) nodes
 
-pub weights-placed : (path : List ℕ) (s : Sketch) → weights (placed_in path s) ≡ total s
+pub weights-placed : (path : List ℕ) (s : Sketch) → weights (placed_in path s) ≡ sketch_weight s
 weights-placed path Empty = refl
 weights-placed path (Plant p w e b s) =
     let node : Placed = record { path = path ++ p ∷ []; weight = w; entry = e } in
@@ -63,8 +63,8 @@ picked_none test (x ∷ nodes) a = omega (arith, sum_by-cons (λ (n : Placed). i
 abbrev pub IsWeighed : List Placed → ℕ → List ℕ → Sketch → Type 0
 IsWeighed all a path Empty = Unit {0}
 IsWeighed all a path (Plant p w e b s) =
-    (weight_before all (path ++ p ∷ []) ≡ a) × (weight_within all (path ++ p ∷ []) ≡ w + total b)
-    × IsWeighed all (a + w) (path ++ p ∷ []) b × IsWeighed all (a + w + total b) path s
+    (weight_before all (path ++ p ∷ []) ≡ a) × (weight_within all (path ++ p ∷ []) ≡ w + sketch_weight b)
+    × IsWeighed all (a + w) (path ++ p ∷ []) b × IsWeighed all (a + w + sketch_weight b) path s
 
 -- the nodes come before those that stand at later steps below the path, and none of these above them
 abbrev pub ComeBefore : ℕ → List ℕ → List Placed → Type 0
@@ -173,7 +173,7 @@ weighed all front back low path (Plant p w e b s) is r f g =
     ap (picked test_within) whole ∙ five (λ x. if test_within x then x.weight else 0) front node bs ss back in
     let tb = weights-placed here b in
     let one : weights (front ++ node ∷ []) ≡ weights front + w = omega (arith, sum_by-append (λ (n : Placed). n.weight) front (node ∷ []), sum_by-cons (λ (n : Placed). n.weight) node []) in
-    let more : weights (front ++ node ∷ bs) ≡ weights front + w + total b = omega (arith, sum_by-append (λ (n : Placed). n.weight) front (node ∷ bs), sum_by-cons (λ (n : Placed). n.weight) node bs, tb) in (
+    let more : weights (front ++ node ∷ bs) ≡ weights front + w + sketch_weight b = omega (arith, sum_by-append (λ (n : Placed). n.weight) front (node ∷ bs), sum_by-cons (λ (n : Placed). n.weight) node bs, tb) in (
       omega (arith, sum_b, fb, nb, bb, sb, kb),
       omega (arith, sum_w, fw, nw, bw, sw, kw, tb),
       subst (λ n. IsWeighed all n here b) one (weighed all (front ++ node ∷ []) (ss ++ back) 0 here b split r.1 (prefix_below_node path p w e b s low r front f) (back_below_node path p w e b s low r back g)),
@@ -189,20 +189,20 @@ marks_from t tolerance a [] = []
 marks_from t tolerance a (spot ∷ spots) = (nat_le a t && nat_lt t (a + spot.within) && nat_lt tolerance spot.within) ∷ marks_from t tolerance (a + spot.weight) spots
 
 pub marks-from : (t tolerance a : ℕ) (all : List Placed) (path : List ℕ) (s : Sketch) (rest : List Spot) → IsWeighed all a path s
-    → marks_from t tolerance a (spots_of s ++ rest) ≡ map (λ node. is_marked all t tolerance node.path) (placed_in path s) ++ marks_from t tolerance (a + total s) rest
+    → marks_from t tolerance a (spots_of s ++ rest) ≡ map (λ node. is_marked all t tolerance node.path) (placed_in path s) ++ marks_from t tolerance (a + sketch_weight s) rest
 marks-from t tolerance a all path Empty rest h = ap (λ n. marks_from t tolerance n rest) (let e : a ≡ a + 0 = omega arith in e)
 marks-from t tolerance a all path (Plant p w e b s) rest h =
     let here = path ++ p ∷ [] in
     let f = λ (node : Placed). is_marked all t tolerance node.path in
-    let own : (nat_le a t && nat_lt t (a + (w + total b)) && nat_lt tolerance (w + total b)) ≡ is_marked all t tolerance here =
+    let own : (nat_le a t && nat_lt t (a + (w + sketch_weight b)) && nat_lt tolerance (w + sketch_weight b)) ≡ is_marked all t tolerance here =
     (λ i. nat_le (sym h.0 i) t && nat_lt t (sym h.0 i + sym h.1 i) && nat_lt tolerance (sym h.1 i)) in
     let x = marks-from t tolerance (a + w) all here b (spots_of s ++ rest) h.2 in
-    let y = marks-from t tolerance (a + w + total b) all path s rest h.3 in
-    let end : a + w + total b + total s ≡ a + (w + total b + total s) = omega arith in
+    let y = marks-from t tolerance (a + w + sketch_weight b) all path s rest h.3 in
+    let end : a + w + sketch_weight b + sketch_weight s ≡ a + (w + sketch_weight b + sketch_weight s) = omega arith in
     (λ i. own i ∷ (ap (marks_from t tolerance (a + w)) (append_assoc (spots_of b) (spots_of s) rest)
     ∙ x ∙ ap (λ l. map f (placed_in here b) ++ l) (y ∙ ap (λ n. map f (placed_in path s) ++ marks_from t tolerance n rest) end)
-    ∙ sym (append_assoc (map f (placed_in here b)) (map f (placed_in path s)) (marks_from t tolerance (a + (w + total b + total s)) rest))
-    ∙ ap (λ l. l ++ marks_from t tolerance (a + (w + total b + total s)) rest) (sym (map-append f (placed_in here b) (placed_in path s)))) i)
+    ∙ sym (append_assoc (map f (placed_in here b)) (map f (placed_in path s)) (marks_from t tolerance (a + (w + sketch_weight b + sketch_weight s)) rest))
+    ∙ ap (λ l. l ++ marks_from t tolerance (a + (w + sketch_weight b + sketch_weight s)) rest) (sym (map-append f (placed_in here b) (placed_in path s)))) i)
 
 -- the marks of a sketch
 pub marks_all : (t tolerance : ℕ) (s : Sketch) (spots : List Spot) → spots ≡ spots_of s → AreRising 0 s → marks_from t tolerance 0 spots ≡ marks (placed s) t tolerance
@@ -210,14 +210,14 @@ marks_all t tolerance s spots is r =
     ap (marks_from t tolerance 0) (is ∙ sym (append-nil (spots_of s))) ∙ marks-from t tolerance 0 (placed s) [] s [] (all_weighed s r) ∙ append-nil (map (λ node. is_marked (placed s) t tolerance node.path) (placed s))
 
 -- what a list of nodes weighs
-pub weights-spots : (s : Sketch) → sum_by (λ spot. spot.weight) (spots_of s) ≡ total s
+pub weights-spots : (s : Sketch) → sum_by (λ spot. spot.weight) (spots_of s) ≡ sketch_weight s
 weights-spots Empty = refl
 weights-spots (Plant p w e b s) =
-    let spot : Spot = record { position = p; weight = w; within = w + total b; entry = e; below = nodes b } in
+    let spot : Spot = record { position = p; weight = w; within = w + sketch_weight b; entry = e; below = spot_count b } in
     omega (arith, sum_by-cons (λ (x : Spot). x.weight) spot (spots_of b ++ spots_of s), sum_by-append (λ (x : Spot). x.weight) (spots_of b) (spots_of s), weights-spots b, weights-spots s)
 
 -- no subtree weighs more than all
-pub within_most : (s : Sketch) → AllByRecursion (λ (x : Spot). x.within ≤ total s) (spots_of s)
+pub within_most : (s : Sketch) → AllByRecursion (λ (x : Spot). x.within ≤ sketch_weight s) (spots_of s)
 within_most Empty = tt
 within_most (Plant p w e b s) = (
   omega arith,
@@ -230,7 +230,7 @@ pub record MarkedSoFar (t tolerance : ℕ) (spots : List Spot) (index before : �
   pub left : before + sum_by (λ spot. spot.weight) (drop index spots) ≡ sum_by (λ spot. spot.weight) spots
 
 pub weight_small : (spots : List Spot) → IsFlat spots → sum_by (λ spot. spot.weight) spots < 2 ^ 24
-weight_small spots h = let w : sum_by (λ (x : Spot). x.weight) spots ≡ total h.sketch = ap (sum_by (λ (x : Spot). x.weight)) h.is ∙ weights-spots h.sketch in let small = h.small in omega arith
+weight_small spots h = let w : sum_by (λ (x : Spot). x.weight) spots ≡ sketch_weight h.sketch = ap (sum_by (λ (x : Spot). x.weight)) h.is ∙ weights-spots h.sketch in let small = h.small in omega arith
 
 -- where the part is divided, from the list of its nodes
 pub point_is : (s : Sketch) (spots : List Spot) (target : ℕ) → spots ≡ spots_of s → sum_by (λ spot. spot.weight) spots * target / 100 ≡ point (placed s) target

@@ -32,20 +32,20 @@ abbrev pub IsAlone : List Interval → List ℕ → ℕ → Type 0
 IsAlone parts parent position = Contains parts (Run parent position position)
 
 -- intervals that share no member; each root is in one, and each standalone node is one alone
-pub record IsPlan (placed : List Placed) (parts : List Interval) : Type 0 where
+pub record IsPlanOfPart (placed : List Placed) (parts : List Interval) : Type 0 where
   pub inside : All (IsInside placed) parts
   pub disjoint : AllPairs (λ a b. ¬ ShareMember a b) parts
   pub rooted : (position : ℕ) → IsPlaced placed (position ∷ []) → IsHeld parts (position ∷ [])
   pub alone : (parent : List ℕ) (position : ℕ) → HasEntry placed (parent ++ position ∷ []) Standalone → IsAlone parts parent position
 
 -- what the part of an interval weighs: all nodes that it owns
-abbrev pub part_weight : List Placed → List Interval → ℕ → ℕ
-part_weight placed parts index = sum_by (λ node. if owns parts index node.path then node.weight else 0) placed
+abbrev pub placed_part_weight : List Placed → List Interval → ℕ → ℕ
+placed_part_weight placed parts index = sum_by (λ node. if owns parts index node.path then node.weight else 0) placed
 
 -- a plan none of whose parts weighs more than k
 pub record IsFeasiblePlan (k : ℕ) (placed : List Placed) (parts : List Interval) : Type 0 where
-  pub plan : IsPlan placed parts
-  pub light : (index : ℕ) → index < length parts → part_weight placed parts index ≤ k
+  pub plan : IsPlanOfPart placed parts
+  pub light : (index : ℕ) → index < length parts → placed_part_weight placed parts index ≤ k
 
 -- no edge from a node to a cluster child is cut: the child is owned with its parent
 abbrev pub KeepsClusters : List Placed → List Interval → Type 0
@@ -81,8 +81,8 @@ abbrev pub component_weight : List Placed → List ℕ → ℕ
 component_weight placed top = sum_by (λ node. if is_joined placed top node.path then node.weight else 0) placed
 
 -- no cluster component weighs more than k
-abbrev pub AreLight : ℕ → List Placed → Type 0
-AreLight k placed = (node : Placed) → Contains placed node → ¬ (node.entry ≡ Cluster) → component_weight placed node.path ≤ k
+abbrev pub AreComponentsLight : ℕ → List Placed → Type 0
+AreComponentsLight k placed = (node : Placed) → Contains placed node → ¬ (node.entry ≡ Cluster) → component_weight placed node.path ≤ k
 
 -- no member of the interval is a standalone child
 abbrev pub IsOrdinary : List Placed → Interval → Type 0
@@ -92,4 +92,4 @@ IsOrdinary placed interval = (path : List ℕ) → IsTrue (has_member interval p
 abbrev pub AreNeighboursFull : ℕ → List Placed → List Interval → Type 0
 AreNeighboursFull k placed parts =
     (i j : ℕ) (parent : List ℕ) (first last end : ℕ) → slice_get parts i ≡ Some (Run parent first last) → slice_get parts j ≡ Some (Run parent (last + 1) end)
-    → IsOrdinary placed (Run parent first last) → IsOrdinary placed (Run parent (last + 1) end) → k < part_weight placed parts i + part_weight placed parts j
+    → IsOrdinary placed (Run parent first last) → IsOrdinary placed (Run parent (last + 1) end) → k < placed_part_weight placed parts i + placed_part_weight placed parts j

@@ -10,20 +10,20 @@ pub data Sketch : Type 0 where
   Plant : (position weight : ℕ) (entry : Entry) (below beside : Sketch) → Sketch
 
 -- how many nodes there are
-abbrev pub nodes : Sketch → ℕ
-nodes Empty = 0
-nodes (Plant position weight entry below beside) = 1 + nodes below + nodes beside
+abbrev pub spot_count : Sketch → ℕ
+spot_count Empty = 0
+spot_count (Plant position weight entry below beside) = 1 + spot_count below + spot_count beside
 
 -- what all nodes weigh
-abbrev pub total : Sketch → ℕ
-total Empty = 0
-total (Plant position weight entry below beside) = weight + total below + total beside
+abbrev pub sketch_weight : Sketch → ℕ
+sketch_weight Empty = 0
+sketch_weight (Plant position weight entry below beside) = weight + sketch_weight below + sketch_weight beside
 
 -- the nodes in document order, each with what it weighs with those below it, and how many those are
 abbrev pub spots_of : Sketch → List Spot
 spots_of Empty = []
 spots_of (Plant position weight entry below beside) =
-    record { position = position; weight = weight; within = weight + total below; entry = entry; below = nodes below } ∷ spots_of below ++ spots_of beside
+    record { position = position; weight = weight; within = weight + sketch_weight below; entry = entry; below = spot_count below } ∷ spots_of below ++ spots_of beside
 
 -- a node with its path, its weight and its entry
 pub record Placed : Type 0 where
@@ -52,9 +52,9 @@ AreUnclustered Empty = Unit {0}
 AreUnclustered (Plant position weight entry below beside) = (entry ≢ Cluster) × AreUnclustered beside
 
 -- each node weighs something, and none more than k
-abbrev pub AreAtMost : ℕ → Sketch → Type 0
-AreAtMost k Empty = Unit {0}
-AreAtMost k (Plant position weight entry below beside) = (1 ≤ weight) × (weight ≤ k) × AreAtMost k below × AreAtMost k beside
+abbrev pub AreSpotsAtMost : ℕ → Sketch → Type 0
+AreSpotsAtMost k Empty = Unit {0}
+AreSpotsAtMost k (Plant position weight entry below beside) = (1 ≤ weight) × (weight ≤ k) × AreSpotsAtMost k below × AreSpotsAtMost k beside
 
 -- a sketch that can be split: its positions rise, and no root is asked to stay with its parent
 pub record IsSketch (sketch : Sketch) : Type 0 where
@@ -65,4 +65,4 @@ pub record IsSketch (sketch : Sketch) : Type 0 where
 pub record IsFlat (spots : List Spot) : Type 0 where
   pub sketch : Sketch
   pub is : spots ≡ spots_of sketch
-  pub small : total sketch < 2 ^ 24
+  pub small : sketch_weight sketch < 2 ^ 24

@@ -3,7 +3,7 @@ use Rattle.std.specs.Prelude.{ℕ, List, ◌⊎◌}
 use Rattle.nx_parts.specs.declared.interval.Interval.{Interval}
 use Rattle.nx_parts.specs.Order.{AreInOrder}
 use Rattle.nx_sketch.specs.Sketch.{Placed}
-use Rattle.nx_sketch.specs.Plan.{IsFeasiblePlan, KeepsClusters, AreLight, AreNeighboursFull}
+use Rattle.nx_sketch.specs.Plan.{IsFeasiblePlan, KeepsClusters, AreComponentsLight, AreNeighboursFull}
 use Rattle.nx_sketch.specs.Separator.{IsSeparatorPlan, point}
 
 -- the separator's plan, which is feasible
@@ -18,7 +18,7 @@ pub record IsOtherSplit (k : ℕ) (placed : List Placed) (t tolerance : ℕ) (pa
   pub heavy : ¬ IsFeasiblePlan k placed separator
   pub feasible : IsFeasiblePlan k placed parts
   pub full : AreNeighboursFull k placed parts
-  pub clusters : AreLight k placed → KeepsClusters placed parts
+  pub clusters : AreComponentsLight k placed → KeepsClusters placed parts
 
 -- the intervals that replace a part, in document order of their first members; no root of the list is a cluster child, since one counts as free there
 pub record IsSplit (k : ℕ) (placed : List Placed) (target tolerance : ℕ) (parts : List Interval) : Type 0 where

@@ -1,5 +1,5 @@
 // Putting a record into a new slot of a page, where it has room below the others.
-ghost use Rattle.nx_slots.specs.Packing.{edited, CanStand};
+ghost use Rattle.nx_slots.specs.Packing.{edited, CanBePacked};
 ghost use Rattle.nx_slots.specs.Rooms.{HasRoom};
 ghost use Rattle.nx_slots.specs.Slots.{at_of, count_of, size_of, slots_of, IsSlotted};
 ghost use Rattle.std.specs.Prelude.{◌≡◌, ◌+◌, ◌*◌, ◌<◌, ◌≤◌, ℕ, length};
@@ -57,7 +57,7 @@ pub(crate) fn fill(page: &mut [u8], room: Room, bytes: &[u8], count: usize)
     requires room { HasRoom page.old room }
     requires some { 1 ≤ length bytes.now }
     requires there { (i : ℕ) → i < count → (i ≡ room.slot → ⊥) → i < count_of page.old }
-    requires stands { CanStand (edited page.old room.slot bytes.now count) }
+    requires stands { CanBePacked (edited page.old room.slot bytes.now count) }
     ensures slotted { IsSlotted page.new }
     ensures slots { slots_of page.new ≡ edited page.old room.slot bytes.now count }
 {

@@ -9,10 +9,10 @@ use Rattle.nx_matrix.specs.declared.rule.Rule.{Rule}
 use Rattle.nx_piece.specs.declared.piece.Proxy.{Proxy}
 use Rattle.nx_piece.specs.Gapped.{Gapped, GappedTree, End, Grow, Gap, gapped_weight, proxies_in}
 use Rattle.nx_sketch.specs.declared.spot.Spot.{Spot}
-use Rattle.nx_sketch.specs.Sketch.{nodes, total, spots_of}
+use Rattle.nx_sketch.specs.Sketch.{spot_count, sketch_weight, spots_of}
 use Rattle.nx_division.proofs.SpotLemmas.{length-spots}
 use Rattle.nx_split.specs.Piece.{asked, positions, sketch_in, tree_sketch}
-use Rattle.nx_split.proofs.SketchLemmas.{sketch-total}
+use Rattle.nx_split.proofs.SketchLemmas.{sketch_weight-sketch}
 
 -- the nodes so far, with those of the trees and gaps that are left, are all of them
 pub record IsListed (rules : List Rule) (proxies : List Proxy) (asks : Node → Entry) (before next : ℕ) (rest : Gapped) (now all : List Spot) : Type 0 where
@@ -27,7 +27,7 @@ pub tree_listed : {rules : List Rule} {proxies : List Proxy} {asks : Node → En
 tree_listed {rules} {proxies} {asks} {before} {next} {rest} {beside} {now} {all} t more h e is =
     let inner = sketch_in rules proxies (asked rules t.node) before 0 t.below in
     let others = spots_of (sketch_in rules proxies asks (before + proxies_in t.below) (next + 1) beside) in
-    let own : Spot = record { position = next; weight = weight t.node; within = weight t.node + total inner; entry = asks t.node; below = nodes inner } in
+    let own : Spot = record { position = next; weight = weight t.node; within = weight t.node + sketch_weight inner; entry = asks t.node; below = spot_count inner } in
     record {
       same = ap (λ l. l ++ others) is
           ∙ append_assoc now (own ∷ spots_of inner ++ []) others
@@ -46,7 +46,7 @@ all_listed {rules} {proxies} {asks} {before} {next} {rest} {now} {all} h e =
     sym (append-nil now) ∙ sym (ap (λ f. now ++ spots_of (sketch_in rules proxies asks before next f)) e) ∙ h.same
 
 -- there are no more nodes than they weigh
-nodes_most : (rules : List Rule) (proxies : List Proxy) (asks : Node → Entry) (first position : ℕ) (f : Gapped) → nodes (sketch_in rules proxies asks first position f) ≤ gapped_weight f
+nodes_most : (rules : List Rule) (proxies : List Proxy) (asks : Node → Entry) (first position : ℕ) (f : Gapped) → spot_count (sketch_in rules proxies asks first position f) ≤ gapped_weight f
 nodes_most rules proxies asks first position End = omega arith
 nodes_most rules proxies asks first position (Grow n b s) =
     omega (arith, nodes_most rules proxies (asked rules n) first 0 b, nodes_most rules proxies asks (first + proxies_in b) (position + 1) s)
@@ -61,7 +61,7 @@ pub are_listed : {rules : List Rule} {proxies : List Proxy} {first before next :
 are_listed {rules} {proxies} {first} {before} {next} {t} {rest} {old} {start} {now} {own} is h e =
     record { same = all_listed h e ∙ ap (λ l. l ++ spots_of (sketch_in rules proxies (asked rules t.node) first 0 t.below)) is }
 
-listed_length : {rules : List Rule} {proxies : List Proxy} {first : ℕ} {old now : List Spot} {own : Spot} (t : GappedTree) → AreListed rules proxies first t old own now → length now ≡ length old + 1 + nodes (sketch_in rules proxies (asked rules t.node) first 0 t.below)
+listed_length : {rules : List Rule} {proxies : List Proxy} {first : ℕ} {old now : List Spot} {own : Spot} (t : GappedTree) → AreListed rules proxies first t old own now → length now ≡ length old + 1 + spot_count (sketch_in rules proxies (asked rules t.node) first 0 t.below)
 listed_length {rules} {proxies} {first} {old} {now} {own} t h =
     let inner = sketch_in rules proxies (asked rules t.node) first 0 t.below in
     omega (arith, ap length h.same, length-append (old ++ own ∷ []) (spots_of inner), length-append old (own ∷ []), length-spots inner)
@@ -87,8 +87,8 @@ told {rules} {proxies} {first} {old} {now} {own} t place root h at is =
     let l = listed_length t h in
     let b = is.below_is in
     let w = is.within_is in
-    let below_is : root.below ≡ nodes inner = omega arith in
-    let within_is : root.within ≡ weight t.node + total inner = omega (arith, sketch-total rules proxies (asked rules t.node) first 0 t.below) in
+    let below_is : root.below ≡ spot_count inner = omega arith in
+    let within_is : root.within ≡ weight t.node + sketch_weight inner = omega (arith, sketch_weight-sketch rules proxies (asked rules t.node) first 0 t.below) in
     ap (λ n. slice_set now n root) at
     ∙ ap (λ xs. slice_set xs (length old) root) (h.same ∙ append_assoc old (own ∷ []) (spots_of inner))
     ∙ set-append_seam old own (spots_of inner) root

@@ -9,16 +9,16 @@ use Rattle.nx_piece.specs.declared.piece.Proxy.{Proxy}
 use Rattle.nx_piece.specs.Gapped.{Gapped, End, Grow, Gap, gapped_weight, proxies_in}
 use Rattle.nx_piece.specs.Valid.{IsPiece}
 use Rattle.nx_sketch.specs.declared.spot.Spot.{Spot}
-use Rattle.nx_sketch.specs.Sketch.{total, spots_of, AreRising, AreUnclustered, IsSketch, IsFlat}
-use Rattle.nx_sketch.specs.Sketch.{AreAtMost as AreLight}
+use Rattle.nx_sketch.specs.Sketch.{sketch_weight, spots_of, AreRising, AreUnclustered, IsSketch, IsFlat}
+use Rattle.nx_sketch.specs.Sketch.{AreSpotsAtMost as AreLight}
 use Rattle.nx_division.specs.Divided.{IsSplittable}
-use Rattle.nx_split.specs.Piece.{asked, freed, asked_of_root, positions, sketch_in, sketch_of, AreAtMost}
+use Rattle.nx_split.specs.Piece.{asked, freed, asked_of_root, positions, sketch_in, sketch_of, AreGappedAtMost}
 
-pub sketch-total : (rules : List Rule) (proxies : List Proxy) (asks : Node → Entry) (first position : ℕ) (f : Gapped) → total (sketch_in rules proxies asks first position f) ≡ gapped_weight f
-sketch-total rules proxies asks first position End = refl
-sketch-total rules proxies asks first position (Grow n b s) =
-    omega (arith, sketch-total rules proxies (asked rules n) first 0 b, sketch-total rules proxies asks (first + proxies_in b) (position + 1) s)
-sketch-total rules proxies asks first position (Gap c s) = sketch-total rules proxies asks (first + c) (position + positions proxies first c) s
+pub sketch_weight-sketch : (rules : List Rule) (proxies : List Proxy) (asks : Node → Entry) (first position : ℕ) (f : Gapped) → sketch_weight (sketch_in rules proxies asks first position f) ≡ gapped_weight f
+sketch_weight-sketch rules proxies asks first position End = refl
+sketch_weight-sketch rules proxies asks first position (Grow n b s) =
+    omega (arith, sketch_weight-sketch rules proxies (asked rules n) first 0 b, sketch_weight-sketch rules proxies asks (first + proxies_in b) (position + 1) s)
+sketch_weight-sketch rules proxies asks first position (Gap c s) = sketch_weight-sketch rules proxies asks (first + c) (position + positions proxies first c) s
 
 rises : (rules : List Rule) (proxies : List Proxy) (asks : Node → Entry) (first position low : ℕ) (f : Gapped) → low ≤ position → AreRising low (sketch_in rules proxies asks first position f)
 rises rules proxies asks first position low End h = tt
@@ -31,7 +31,7 @@ unclustered rules proxies asks first position End h = tt
 unclustered rules proxies asks first position (Grow n b s) h = (h n, unclustered rules proxies asks (first + proxies_in b) (position + 1) s h)
 unclustered rules proxies asks first position (Gap c s) h = unclustered rules proxies asks (first + c) (position + positions proxies first c) s h
 
-light : (k : ℕ) (rules : List Rule) (proxies : List Proxy) (asks : Node → Entry) (first position : ℕ) (f : Gapped) → AreAtMost k f → AreLight k (sketch_in rules proxies asks first position f)
+light : (k : ℕ) (rules : List Rule) (proxies : List Proxy) (asks : Node → Entry) (first position : ℕ) (f : Gapped) → AreGappedAtMost k f → AreLight k (sketch_in rules proxies asks first position f)
 light k rules proxies asks first position End h = tt
 light k rules proxies asks first position (Grow n b s) h =
     (omega arith, h.0, light k rules proxies (asked rules n) first 0 b h.1, light k rules proxies asks (first + proxies_in b) (position + 1) s h.2)
@@ -52,17 +52,17 @@ piece_is_sketch rules above piece = record {
   unclustered = unclustered rules piece.proxies (asked_of_root rules above) 0 0 piece.body.roots (root_unclustered rules above);
 }
 
-pub piece_is_light : (k : ℕ) (rules : List Rule) (above : Option Node) (piece : Piece) → AreAtMost k piece.body.roots → AreLight k (sketch_of rules above piece)
+pub piece_is_light : (k : ℕ) (rules : List Rule) (above : Option Node) (piece : Piece) → AreGappedAtMost k piece.body.roots → AreLight k (sketch_of rules above piece)
 piece_is_light k rules above piece h = light k rules piece.proxies (asked_of_root rules above) 0 0 piece.body.roots h
 
-piece_is_small : (rules : List Rule) (above : Option Node) (piece : Piece) → IsPiece piece → total (sketch_of rules above piece) < 2 ^ 24
+piece_is_small : (rules : List Rule) (above : Option Node) (piece : Piece) → IsPiece piece → sketch_weight (sketch_of rules above piece) < 2 ^ 24
 piece_is_small rules above piece h =
     let light : gapped_weight piece.body.roots ≤ 512 = h.body.light in
-    omega (arith, sketch-total rules piece.proxies (asked_of_root rules above) 0 0 piece.body.roots)
+    omega (arith, sketch_weight-sketch rules piece.proxies (asked_of_root rules above) 0 0 piece.body.roots)
 
 pub piece_is_flat : (rules : List Rule) (above : Option Node) (piece : Piece) (spots : List Spot) → IsPiece piece → spots ≡ spots_of (sketch_of rules above piece) → IsFlat spots
 piece_is_flat rules above piece spots h is = record { sketch = sketch_of rules above piece; is = is; small = piece_is_small rules above piece h }
 
-pub piece_is_splittable : (k : ℕ) (rules : List Rule) (above : Option Node) (piece : Piece) (spots : List Spot) → IsPiece piece → AreAtMost k piece.body.roots → spots ≡ spots_of (sketch_of rules above piece) → IsSplittable k spots
+pub piece_is_splittable : (k : ℕ) (rules : List Rule) (above : Option Node) (piece : Piece) (spots : List Spot) → IsPiece piece → AreGappedAtMost k piece.body.roots → spots ≡ spots_of (sketch_of rules above piece) → IsSplittable k spots
 piece_is_splittable k rules above piece spots h nodes is =
     record { sketch = sketch_of rules above piece; is = is; small = piece_is_small rules above piece h; light = piece_is_light k rules above piece nodes }

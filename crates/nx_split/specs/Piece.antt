@@ -54,7 +54,7 @@ abbrev pub placed_of : List Rule → Option Node → Piece → List Placed
 placed_of rules above piece = placed (sketch_of rules above piece)
 
 -- none of the nodes weighs more than k
-abbrev pub AreAtMost : ℕ → Gapped → Type 0
-AreAtMost k End = Unit {0}
-AreAtMost k (Grow node below beside) = (weight node ≤ k) × AreAtMost k below × AreAtMost k beside
-AreAtMost k (Gap count beside) = AreAtMost k beside
+abbrev pub AreGappedAtMost : ℕ → Gapped → Type 0
+AreGappedAtMost k End = Unit {0}
+AreGappedAtMost k (Grow node below beside) = (weight node ≤ k) × AreGappedAtMost k below × AreGappedAtMost k beside
+AreGappedAtMost k (Gap count beside) = AreGappedAtMost k beside

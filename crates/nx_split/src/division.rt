@@ -7,7 +7,7 @@ ghost use Rattle.nx_piece.specs.Gapped.{gapped_weight};
 ghost use Rattle.nx_piece.specs.Valid.{IsPiece};
 ghost use Rattle.nx_sketch.specs.Separator.{marks, point};
 ghost use Rattle.nx_sketch.specs.Split.{IsSplit};
-ghost use Rattle.nx_split.specs.Piece.{AreAtMost, placed_of};
+ghost use Rattle.nx_split.specs.Piece.{AreGappedAtMost, placed_of};
 
 use crate::listing::list_nodes;
 use nx_lists::NoMemory;
@@ -66,7 +66,7 @@ pub fn split(
 ) -> Result<Partitioning, NoMemory>
     requires piece { IsPiece piece.now }
     requires heavy { k < gapped_weight piece.now.body.roots }
-    requires nodes { AreAtMost k piece.now.body.roots }
+    requires nodes { AreGappedAtMost k piece.now.body.roots }
     ensures { IfOk result (λ parts. IsSplit k (placed_of matrix.now (option_copied above.entry) piece.now) target tolerance parts) }
 {
     let spots = list_nodes(alloc, piece, above, matrix)?;

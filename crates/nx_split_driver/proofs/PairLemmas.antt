@@ -4,10 +4,10 @@ use Rattle.nx_piece.specs.declared.piece.Piece.{Piece}
 use Rattle.nx_piece.specs.declared.piece.Proxy.{Proxy}
 use Rattle.nx_piece.specs.Gapped.{Gapped, GappedTree, End, Grow, Gap, gapped_weight, grown_of, proxies_in}
 use Rattle.nx_piece.specs.Valid.{AreApart, IsPiece, IsValidInline}
-use Rattle.nx_split.specs.Piece.{AreAtMost}
+use Rattle.nx_split.specs.Piece.{AreGappedAtMost}
 use Rattle.nx_split_driver.specs.Half.{IsHalf}
 
-light_all : (f : Gapped) → gapped_weight f ≤ 256 → AreAtMost 256 f
+light_all : (f : Gapped) → gapped_weight f ≤ 256 → AreGappedAtMost 256 f
 light_all End h = tt
 light_all (Grow n b s) h = (omega arith, light_all b (omega arith), light_all s (omega arith))
 light_all (Gap c s) h = light_all s h
@@ -27,11 +27,11 @@ pair_is_piece a b piece h k is none =
       ranged = tt;
     })
 
-pub pair_is_light : (a b : GappedTree) (roots : Gapped) → IsHalf a → IsHalf b → roots ≡ pair a b → AreAtMost 256 roots
+pub pair_is_light : (a b : GappedTree) (roots : Gapped) → IsHalf a → IsHalf b → roots ≡ pair a b → AreGappedAtMost 256 roots
 pair_is_light a b roots h k is =
     let x = h.light in
     let y = k.light in
-    subst (AreAtMost 256) (sym is) (omega arith, light_all a.below (omega arith), (omega arith, light_all b.below (omega arith), tt))
+    subst (AreGappedAtMost 256) (sym is) (omega arith, light_all a.below (omega arith), (omega arith, light_all b.below (omega arith), tt))
 
 pub root_is_half : (roots : Gapped) (proxies : List Proxy) (t : GappedTree) → IsValidInline roots proxies → length proxies ≡ 0 → roots ≡ Grow t.node t.below End → IsHalf t
 root_is_half roots proxies t valid none all =

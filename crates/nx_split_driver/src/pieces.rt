@@ -2,7 +2,7 @@
 ghost use Rattle.std.specs.Prelude.{◌≡◌, ◌<◌, IfOk, IfSome};
 ghost use Rattle.nx_piece.specs.Gapped.{End, Grow, gapped_weight};
 ghost use Rattle.nx_piece.specs.Valid.{IsPiece, IsValid};
-ghost use Rattle.nx_split.specs.Piece.{AreAtMost};
+ghost use Rattle.nx_split.specs.Piece.{AreGappedAtMost};
 ghost use Rattle.nx_split_driver.specs.Half.{IsHalf};
 
 use nx_lists::NoMemory;
@@ -17,7 +17,7 @@ pub(crate) const K: u32 = 256;
 pub(crate) fn read_pair(alloc: Global, bytes: &[u8]) -> Result<Option<Piece>, NoMemory>
     ensures piece { IfOk result (λ found. IfSome found (λ piece. IsPiece piece)) }
     ensures heavy { IfOk result (λ found. IfSome found (λ piece. 256 < gapped_weight piece.body.roots)) }
-    ensures nodes { IfOk result (λ found. IfSome found (λ piece. AreAtMost 256 piece.body.roots)) }
+    ensures nodes { IfOk result (λ found. IfSome found (λ piece. AreGappedAtMost 256 piece.body.roots)) }
 {
     let Some(first) = read_root(alloc, bytes)? else {
         return Ok(None);
@@ -37,7 +37,7 @@ fn pair(alloc: Global, first: PieceTree, second: PieceTree) -> Result<Piece, NoM
     requires first { IsHalf first }
     requires second { IsHalf second }
     ensures piece { IfOk result (λ piece. IsPiece piece) }
-    ensures nodes { IfOk result (λ piece. AreAtMost 256 piece.body.roots) }
+    ensures nodes { IfOk result (λ piece. AreGappedAtMost 256 piece.body.roots) }
 {
     let mut roots = PieceTrees::new(alloc);
     roots.push(first)?;

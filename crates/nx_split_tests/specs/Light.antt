@@ -2,7 +2,7 @@
 use Rattle.std.specs.Prelude.{ℕ, ◌≤◌}
 use Rattle.nx_weights.specs.Weight.{weight}
 use Rattle.nx_piece.specs.Gapped.{GappedTree}
-use Rattle.nx_split.specs.Piece.{AreAtMost}
+use Rattle.nx_split.specs.Piece.{AreGappedAtMost}
 
 abbrev pub IsTreeAtMost : ℕ → GappedTree → Type 0
-IsTreeAtMost k tree = (weight tree.node ≤ k) × AreAtMost k tree.below
+IsTreeAtMost k tree = (weight tree.node ≤ k) × AreGappedAtMost k tree.below

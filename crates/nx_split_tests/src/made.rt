@@ -4,7 +4,7 @@ ghost use Rattle.nx_piece.specs.Gapped.{grown_of};
 ghost use Rattle.nx_piece.specs.Valid.{IsValidInline};
 ghost use Rattle.nx_piece.specs.Weight.{HasShortNodes, HaveShortNodes};
 ghost use Rattle.nx_matrix.specs.Rules.{IsLabel};
-ghost use Rattle.nx_split.specs.Piece.{AreAtMost};
+ghost use Rattle.nx_split.specs.Piece.{AreGappedAtMost};
 ghost use Rattle.nx_split_tests.specs.Light.{IsTreeAtMost};
 
 use nx_lists::NoMemory;
@@ -132,7 +132,7 @@ fn split_piece(
 // Whether no node of these trees weighs more than k.
 fn are_light(k: u32, trees: &[PieceTree]) -> bool
     requires { HaveShortNodes (grown_of trees.now) }
-    ensures { IsTrue result → AreAtMost k (grown_of trees.now) }
+    ensures { IsTrue result → AreGappedAtMost k (grown_of trees.now) }
 {
     for tree in trees {
         if !is_light(k, tree) {

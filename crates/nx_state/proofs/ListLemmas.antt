@@ -31,7 +31,7 @@ slots_few (Gap c s) h =
     (omega (arith, beside), λ gap. absurd gap)
 
 -- no gap stands behind the last root
-root_slots : (f : Gapped) → AreApart f → AreTrees f → 1 ≤ gapped.width f → slots_in f + 1 ≤ 3 * gapped_weight f
+root_slots : (f : Gapped) → AreApart f → AreTrees f → 1 ≤ gapped.gapped_width f → slots_in f + 1 ≤ 3 * gapped_weight f
 root_slots End h trees some = absurd (omega (arith, some))
 root_slots (Grow n b End) h trees some = let below : slots_in b ≤ 3 * gapped_weight b + 1 = (slots_few b h.0).0 in omega (arith, below)
 root_slots (Grow n b (Grow m d s)) h trees some =

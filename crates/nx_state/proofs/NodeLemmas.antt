@@ -10,7 +10,7 @@ use Rattle.nx_piece.specs.declared.piece.Piece.{Piece}
 use Rattle.nx_cuts.specs.Cut.{Bare, Grown, Kept, joined, forest, width, AreFree, AreParts}
 use Rattle.nx_layouts.specs.Layout.{RecordPlace, Layout, without_places, places_of, whole}
 use Rattle.nx_hold.specs.Changes.{place_of}
-use Rattle.nx_state.specs.State.{size_of}
+use Rattle.nx_state.specs.State.{document_size}
 use Rattle.nx_state.specs.Stands.{StoredDocument, IsStoredIn, record_places, all_places}
 
 nodes-joined : (f g : Forest) → nodes (joined f g) ≡ nodes f + nodes g
@@ -39,33 +39,33 @@ forest-without_places Bare = refl
 forest-without_places (Grown node below beside) = let one = forest-without_places below in let other = forest-without_places beside in cc
 forest-without_places (Kept place members beside) = let one = forest-without_places members in let other = forest-without_places beside in cc
 
-records_few : (k : ℕ) (pieces : RecordPlace → Option Piece) (s : StoredDocument) → IsStoredIn k pieces s → length (record_places s) ≤ size_of s.document
+records_few : (k : ℕ) (pieces : RecordPlace → Option Piece) (s : StoredDocument) → IsStoredIn k pieces s → length (record_places s) ≤ document_size s.document
 records_few k pieces s h =
     let few = (places_few k (whole (place_of s.entry.root) s.document.node s.layout) (h.laid).light).0 in
     let same : nodes (forest s.document.below) ≡ nodes (forest s.layout) = ap (λ below. nodes (forest below)) (sym (h.laid).same) ∙ ap nodes (forest-without_places s.layout) in
     omega (arith, few, same)
 
-pub all_few : (k : ℕ) (pieces : RecordPlace → Option Piece) (stored : List StoredDocument) → All (IsStoredIn k pieces) stored → length (all_places stored) ≤ sum (map (λ s. size_of s.document) stored)
+pub all_few : (k : ℕ) (pieces : RecordPlace → Option Piece) (stored : List StoredDocument) → All (IsStoredIn k pieces) stored → length (all_places stored) ≤ sum (map (λ s. document_size s.document) stored)
 all_few k pieces [] each = omega arith
 all_few k pieces (s ∷ stored) each =
     let one = records_few k pieces s (All-head (IsStoredIn k pieces) s stored each) in
     let rest = all_few k pieces stored (All-tail (IsStoredIn k pieces) s stored each) in
     let places = length-append (record_places s) (all_places stored) in
-    let sums = sum_by-cons (λ (n : ℕ). n) (size_of s.document) (map (λ (x : StoredDocument). size_of x.document) stored) in
+    let sums = sum_by-cons (λ (n : ℕ). n) (document_size s.document) (map (λ (x : StoredDocument). document_size x.document) stored) in
     omega (arith, one, rest, places, sums)
 
 -- a document has a root, and an element below it
-two_nodes : (k : ℕ) (pieces : RecordPlace → Option Piece) (s : StoredDocument) → IsStoredIn k pieces s → 2 ≤ size_of s.document
+two_nodes : (k : ℕ) (pieces : RecordPlace → Option Piece) (s : StoredDocument) → IsStoredIn k pieces s → 2 ≤ document_size s.document
 two_nodes k pieces s h = some (forest s.document.below) ((h.laid).is_document).one
   where
     some : (f : Forest) → element_count f ≡ 1 → 2 ≤ 1 + nodes f
     some Empty e = absurd (omega (arith, e))
     some (Plant node below beside) e = omega arith
 
-pub all_two : (k : ℕ) (pieces : RecordPlace → Option Piece) (stored : List StoredDocument) → All (IsStoredIn k pieces) stored → 2 * length stored ≤ sum (map (λ s. size_of s.document) stored)
+pub all_two : (k : ℕ) (pieces : RecordPlace → Option Piece) (stored : List StoredDocument) → All (IsStoredIn k pieces) stored → 2 * length stored ≤ sum (map (λ s. document_size s.document) stored)
 all_two k pieces [] each = omega arith
 all_two k pieces (s ∷ stored) each =
     let one = two_nodes k pieces s (All-head (IsStoredIn k pieces) s stored each) in
     let rest = all_two k pieces stored (All-tail (IsStoredIn k pieces) s stored each) in
-    let sums = sum_by-cons (λ (n : ℕ). n) (size_of s.document) (map (λ (x : StoredDocument). size_of x.document) stored) in
+    let sums = sum_by-cons (λ (n : ℕ). n) (document_size s.document) (map (λ (x : StoredDocument). document_size x.document) stored) in
     omega (arith, one, rest, sums)

@@ -7,7 +7,7 @@ use Rattle.nx_records.specs.Changes.{SetsCatalog, nothing_held}
 use Rattle.nx_layouts.specs.Layout.{ArePlacedOnce}
 use Rattle.nx_hold.specs.Pieces.{IsTidy, PieceMap}
 use Rattle.nx_hold.specs.Documents.{MovesRecords, AddsRecords}
-use Rattle.nx_state.specs.State.{State, new_state, size_of}
+use Rattle.nx_state.specs.State.{State, new_state, document_size}
 use Rattle.nx_state.specs.Stands.{StoredDocument, IsStoredIn, HoldsDocuments, HoldsState, Recovers, record_places, all_places}
 
 -- An image recovers to one state at most.
@@ -43,9 +43,9 @@ CatalogComes = (bytes : List ℕ) (was now : Held) (stored : List StoredDocument
 pub record LeavesFree (held : Held) (stored : List StoredDocument) : Type 0 where
   pub records : ℕ
   pub chains : ℕ
-  pub few_records : records ≤ sum (map (λ s. size_of s.document) stored)
+  pub few_records : records ≤ sum (map (λ s. document_size s.document) stored)
   pub few_chains : 254 * chains ≤ records
-  pub few_documents : 2 * length stored ≤ sum (map (λ s. size_of s.document) stored)
+  pub few_documents : 2 * length stored ≤ sum (map (λ s. document_size s.document) stored)
   pub free : (held.settings).limit ≤ held.free + (1 + records + chains + chain_count (length held.catalog))
 
 abbrev pub DocumentsLeaveFree : Type 0

@@ -10,7 +10,7 @@ use Rattle.nx_hold.specs.declared.entry.DocEntry.{DocEntry}
 use Rattle.nx_hold.specs.Changes.{place_of}
 use Rattle.nx_hold.specs.Pieces.{record_at, NamesList, IsTidy, PieceMap}
 use Rattle.nx_catalog.specs.Catalog.{Contents, IsCatalog}
-use Rattle.nx_state.specs.State.{State, size_of}
+use Rattle.nx_state.specs.State.{State, document_size}
 
 -- A document of a store: its name, its entry in the catalog, its tree with the intervals drawn in, and the layout of what is below its root in records.
 pub record StoredDocument : Type 0 where
@@ -31,7 +31,7 @@ all_places (s ∷ stored) = record_places s ++ all_places stored
 -- The records hold the document in its layout, and its entry has its number of nodes.
 pub record IsStoredIn (k : ℕ) (pieces : RecordPlace → Option Piece) (s : StoredDocument) : Type 0 where
   pub laid : IsLaidOutAs k pieces (place_of s.entry.root) s.document s.layout
-  pub counted : s.entry.nodes ≡ size_of s.document
+  pub counted : s.entry.nodes ≡ document_size s.document
 
 -- Records and lists are those of these documents: each document is laid out in records of its own, and there is no other record, and no list but those that
 -- a record names, each once.

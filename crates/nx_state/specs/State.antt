@@ -19,9 +19,9 @@ abbrev pub new_state : Settings → State
 new_state settings = record { settings = settings; rules = []; documents = empty }
 
 -- how many nodes a document has, its root counted
-abbrev pub size_of : CutTree → ℕ
-size_of document = 1 + nodes (forest document.below)
+abbrev pub document_size : CutTree → ℕ
+document_size document = 1 + nodes (forest document.below)
 
 -- how many nodes all documents have
 abbrev pub all_nodes : State → ℕ
-all_nodes state = sum (map size_of (values state.documents))
+all_nodes state = sum (map document_size (values state.documents))

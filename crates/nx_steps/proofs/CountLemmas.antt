@@ -11,9 +11,9 @@ use Rattle.nx_script.specs.declared.command.LineBody.TheVariants as line
 use Rattle.nx_script.specs.declared.command.TextBody.TheVariants as content
 use Rattle.nx_script.specs.declared.command.Command.TheVariants.{Load, Discard, Names, Export, Insert, Delete, Retext, Get, Layout, SetRule, Rules, Checkpoint, Bad}
 use Rattle.nx_script.specs.declared.reply.ReplyError.{ReplyError}
-use Rattle.nx_engine.specs.Step.{edited, insert_fault, delete_fault, retext_fault}
+use Rattle.nx_engine.specs.Step.{documents_edited, insert_fault, delete_fault, retext_fault}
 use Rattle.nx_engine.proofs.EditedLemmas.{edited_at}
-use Rattle.nx_state.specs.State.{State, size_of, all_nodes}
+use Rattle.nx_state.specs.State.{State, document_size, all_nodes}
 use Rattle.nx_steps.specs.Refusal.{document_fault, load_fault, inserted_fault, retexted_fault}
 use Rattle.nx_steps.specs.Step.{trees, nodes_of, nodes_after}
 use Rattle.nx_steps.specs.Laws.{RoomIsCounted}
@@ -32,10 +32,10 @@ load_nodes state name tree new =
 
 -- an edit that isn't refused
 edit_counted : (state : State) (name : List ℕ) (fault : OrderedTree → Option ReplyError) (change : OrderedTree → OrderedTree) (old : CutTree) → get state.documents name ≡ Some old
-    → document_fault state name fault ≡ None → nodes_of (edited (trees state) name fault change) + size_of old ≡ all_nodes state + (1 + nodes (change (tree_of old)).below)
+    → document_fault state name fault ≡ None → nodes_of (documents_edited (trees state) name fault change) + document_size old ≡ all_nodes state + (1 + nodes (change (tree_of old)).below)
 edit_counted state name fault change old there none =
     let found : get (trees state) name ≡ Some (tree_of old) = get-trees state name ∙ ap (option_map tree_of) there in
-    let e : nodes_of (edited (trees state) name fault change) ≡ nodes_of (insert (trees state) name (change (tree_of old))) =
+    let e : nodes_of (documents_edited (trees state) name fault change) ≡ nodes_of (insert (trees state) name (change (tree_of old))) =
     ap nodes_of (edited_at (trees state) name (tree_of old) fault change None found (none_of state name old fault there none)) in
     let n = nodes-other (trees state) name (tree_of old) (change (tree_of old)) found in
     let t = nodes-trees state in

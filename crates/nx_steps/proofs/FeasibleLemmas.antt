@@ -17,7 +17,7 @@ use Rattle.nx_script.specs.declared.reply.Reply.{Reply}
 use Rattle.nx_script.specs.declared.reply.ReplyError.{ReplyError}
 use Rattle.nx_state.specs.State.{State}
 use Rattle.nx_drawn.specs.Edits.{inserted, deleted, retexted}
-use Rattle.nx_drawn.specs.Splits.{Splits, whole}
+use Rattle.nx_drawn.specs.Splits.{Splits, whole_document}
 use Rattle.nx_drawn.proofs.EditLaws.{edits_stay_light}
 use Rattle.nx_steps.specs.Answers.{Refuses, with_document}
 use Rattle.nx_steps.specs.Step.{Edits, Effect, FindsNoRoom}
@@ -47,16 +47,16 @@ each_without P state name each = λ q document there.
 
 -- one document is another
 edited_feasible : (state next : State) (name : List ℕ) (Becomes : CutTree → CutTree → Type 0) → AreFeasible state
-    → ((old new : CutTree) → get state.documents name ≡ Some old → Becomes old new → AreParts (state.settings).k (whole new)) → Edits state name Becomes next → AreFeasible next
+    → ((old new : CutTree) → get state.documents name ≡ Some old → Becomes old new → AreParts (state.settings).k (whole_document new)) → Edits state name Becomes next → AreFeasible next
 edited_feasible state next name Becomes feasible light e =
-    subst AreFeasible (sym e.next_is) (each_with (λ q document. AreParts (state.settings).k (whole document)) state name e.new feasible (light e.old e.new e.there e.becomes))
+    subst AreFeasible (sym e.next_is) (each_with (λ q document. AreParts (state.settings).k (whole_document document)) state name e.new feasible (light e.old e.new e.there e.becomes))
 
 effect_feasible : (state : State) (command : Command) (r : Reply) (next : State) → AreFeasible state → Effect state command r next → AreFeasible next
 effect_feasible state (Load name (load.Wrong error)) r next feasible effect = absurd effect
 effect_feasible state (Load name (load.Read tree)) r next feasible effect =
-    subst AreFeasible (sym effect.next_is) (each_with (λ q document. AreParts (state.settings).k (whole document)) state name effect.document feasible effect.drawn)
+    subst AreFeasible (sym effect.next_is) (each_with (λ q document. AreParts (state.settings).k (whole_document document)) state name effect.document feasible effect.drawn)
 effect_feasible state (Discard name) r next feasible effect =
-    subst AreFeasible (sym effect.1) (each_without (λ q document. AreParts (state.settings).k (whole document)) state name feasible)
+    subst AreFeasible (sym effect.1) (each_without (λ q document. AreParts (state.settings).k (whole_document document)) state name feasible)
 effect_feasible state Names r next feasible effect = subst AreFeasible (sym effect.1) feasible
 effect_feasible state (Export name) r next feasible effect = subst AreFeasible (sym effect.1) feasible
 effect_feasible state (Insert name path (line.Wrong error)) r next feasible effect = absurd effect
@@ -65,7 +65,7 @@ effect_feasible state (Insert name path (line.Read node)) r next feasible effect
     (λ old new there splits. (edits_stay_light state.settings old (feasible name old there)).insert state.rules node path new splits) effect.1
 effect_feasible state (Delete name path) r next feasible effect =
     edited_feasible state next name (λ old new. new ≡ deleted path old) feasible
-    (λ old new there is. subst (λ (d : CutTree). AreParts (state.settings).k (whole d)) (sym is) ((edits_stay_light state.settings old (feasible name old there)).delete path)) effect.1
+    (λ old new there is. subst (λ (d : CutTree). AreParts (state.settings).k (whole_document d)) (sym is) ((edits_stay_light state.settings old (feasible name old there)).delete path)) effect.1
 effect_feasible state (Retext name path (content.Wrong error)) r next feasible effect = absurd effect
 effect_feasible state (Retext name path (content.Read bytes)) r next feasible effect =
     edited_feasible state next name (λ old. Splits state.settings state.rules (retexted bytes path old)) feasible
@@ -88,7 +88,7 @@ step_feasible state command r next feasible step =
     by_step state command r next AreFeasible feasible (λ none effect. effect_feasible state command r next feasible effect) (refusal state command) refl step
 
 -- parts that are drawn light enough are a feasible partitioning
-drawn_partitioned : (k : ℕ) (document : CutTree) → AreParts k (whole document) → IsFeasible k (tree_of document) (parts_of document)
+drawn_partitioned : (k : ℕ) (document : CutTree) → AreParts k (whole_document document) → IsFeasible k (tree_of document) (parts_of document)
 drawn_partitioned k document h = drawn_feasible k document (let x = h.2 in omega arith) h.3.0
 
 pub step_partitioned : StepsStayPartitioned

@@ -24,10 +24,10 @@ use Rattle.nx_script.specs.declared.reply.ReplyError.{ReplyError}
 use Rattle.nx_script.specs.declared.reply.ReplyError.TheVariants.{Syntax, NoDocument, Exists, Pyx, NoNode, TooHeavy}
 use Rattle.nx_engine.specs.Documents.{Documents}
 use Rattle.nx_engine.specs.Step as plain
-use Rattle.nx_engine.specs.Step.{done_unless, loaded, shown, reply_to, after, insert_fault, delete_fault, retext_fault}
+use Rattle.nx_engine.specs.Step.{done_unless, loaded, shown, reply_to, documents_after, insert_fault, delete_fault, retext_fault}
 use Rattle.nx_engine.proofs.StepLemmas.{refused_after}
 use Rattle.nx_state.specs.State.{State}
-use Rattle.nx_steps.specs.Answers.{Refuses, listed, heavy_fault}
+use Rattle.nx_steps.specs.Answers.{Refuses, cut_document_line, heavy_fault}
 use Rattle.nx_steps.specs.Refusal.{refusal, document_fault, load_fault, weight_fault, inserted_fault, retexted_fault, node_fault}
 use Rattle.nx_steps.specs.Step.{trees, Effect, FindsNoRoom}
 use Rattle.nx_steps.specs.Plain.{is_plain, plain_reply, is_limit, IsPlainStep}
@@ -129,7 +129,7 @@ refused_reply state Checkpoint error p e = cc
 refused_reply state Bad error p e = inl (ap reply.Refused (same_error Syntax error e))
 
 -- what is refused so leaves the trees
-after_left : (documents : Documents) (command : Command) (error : ReplyError) → (is_plain command ≡ true → reply_to documents command ≡ reply.Refused error) → after documents command ≡ documents
+after_left : (documents : Documents) (command : Command) (error : ReplyError) → (is_plain command ≡ true → reply_to documents command ≡ reply.Refused error) → documents_after documents command ≡ documents
 after_left documents (Load name body) error h = refused_after documents (Load name body) error (h refl)
 after_left documents (Discard name) error h = refused_after documents (Discard name) error (h refl)
 after_left documents Names error h = refl
@@ -167,9 +167,9 @@ shown_plain : (o : Option OrderedTree) → plain_reply (option_map_or shown o (r
 shown_plain None = refl
 shown_plain (Some t) = refl
 
-listed_bare : (es : List (List ℕ × CutTree)) → map listed es ≡ map plain.listed (map bare es)
+listed_bare : (es : List (List ℕ × CutTree)) → map cut_document_line es ≡ map plain.document_line (map bare es)
 listed_bare [] = refl
-listed_bare (e ∷ es) = ap (λ xs. listed e ∷ xs) (listed_bare es)
+listed_bare (e ∷ es) = ap (λ xs. cut_document_line e ∷ xs) (listed_bare es)
 
 effect_reply : (state : State) (command : Command) (r : Reply) (next : State) → is_plain command ≡ true → refusal state command ≡ None → Effect state command r next → plain_reply r ≡ reply_to (trees state) command
 effect_reply state (Load name (load.Wrong error)) r next p none effect = absurd effect
@@ -177,7 +177,7 @@ effect_reply state (Load name (load.Read tree)) r next p none effect =
     ap plain_reply effect.answered
     ∙ ap (λ b. if b then reply.Refused Exists else loaded (load.Read tree)) (sym (contains-trees state name ∙ new_name (contains_key state.documents name) (load_fault (state.settings).k (load.Read tree)) none))
 effect_reply state (Discard name) r next p none effect = ap plain_reply effect.0 ∙ by_none state name (λ tree. None) (λ tree. reply.Done) reply.Done (λ tree f. refl) none
-effect_reply state Names r next p none effect = ap plain_reply effect.0 ∙ ap reply.Names (listed_bare (entries state.documents) ∙ ap (map plain.listed) (sym (entries-trees state)))
+effect_reply state Names r next p none effect = ap plain_reply effect.0 ∙ ap reply.Names (listed_bare (entries state.documents) ∙ ap (map plain.document_line) (sym (entries-trees state)))
 effect_reply state (Export name) r next p none effect = ap plain_reply effect.0 ∙ answered state name (λ tree. reply.Exported (text tree)) (λ tree. refl)
 effect_reply state (Insert name path (line.Wrong error)) r next p none effect = absurd effect
 effect_reply state (Insert name path (line.Read node)) r next p none effect =

@@ -14,7 +14,7 @@ use Rattle.nx_steps.specs.Step.{trees, Effect, may_change, RunsTo}
 use Rattle.nx_steps.specs.Refusal.{refusal}
 use Rattle.nx_steps.specs.Sound.{AreFeasible, IsSound}
 use Rattle.nx_steps.specs.Plain.{is_plain, plain_reply, is_limit, IsPlainStep, taken, plain_replies}
-use Rattle.nx_steps.specs.Laws.{OthersStay, RunsEditTrees, RunsReplyPlainly, RunsKeepSound}
+use Rattle.nx_steps.specs.Laws.{StateStays, RunsEditTrees, RunsReplyPlainly, RunsKeepSound}
 use Rattle.nx_steps.proofs.FeasibleLemmas.{by_step, step_feasible}
 use Rattle.nx_steps.proofs.PlainLemmas.{step_plain}
 use Rattle.nx_steps.proofs.SoundLemmas.{step_sound}
@@ -35,7 +35,7 @@ effect_stays state Rules r next still effect = effect.1
 effect_stays state Checkpoint r next still effect = effect.1
 effect_stays state Bad r next still effect = absurd effect
 
-pub others_stay : OthersStay
+pub others_stay : StateStays
 others_stay state command r next still step = by_step state command r next (λ s. s ≡ state) refl (λ none effect. effect_stays state command r next still effect) (refusal state command) refl step
 
 pub runs_edit_trees : RunsEditTrees

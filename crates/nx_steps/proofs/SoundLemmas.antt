@@ -17,7 +17,7 @@ use Rattle.nx_tree.proofs.KeptLemmas.{document_retext, document_cut}
 use Rattle.nx_tree.proofs.PutLemmas.{document_put}
 use Rattle.nx_matrix.specs.declared.rule.Entry.TheVariants.{Free}
 use Rattle.nx_matrix.specs.declared.rule.Rule.{Rule}
-use Rattle.nx_matrix.specs.Rules.{pair_of, is_for, entry_of, AreRules, SetsEntry, IsAt}
+use Rattle.nx_matrix.specs.Rules.{pair_of, is_for, entry_of, AreRules, SetsEntry, IsRuleAt}
 use Rattle.nx_matrix.proofs.EntryLemmas.{is_for_pair, entry_at, at_before}
 use Rattle.nx_cuts.specs.Cut.{CutTree, tree_of}
 use Rattle.nx_drawn.specs.Edits.{inserted, deleted, retexted}
@@ -201,7 +201,7 @@ same_default (r ∷ rules) (suc k) d e lt = same_default rules k d e (omega arit
 rules_labelled : (old new : List Rule) (rule : Rule) → AreRules new → SetsEntry old new rule.parent rule.child rule.entry → HasLabels rule → AllByRecursion HasLabels old → All HasLabels new
 rules_labelled old new rule are sets labels all = λ k d lt.
     let x = get_or new k d in
-    let is_at : IsAt new (x.parent, x.child) k = record { within = lt; same = λ e. ap pair_of (same_default new k e d lt) } in
+    let is_at : IsRuleAt new (x.parent, x.child) k = record { within = lt; same = λ e. ap pair_of (same_default new k e d lt) } in
     let said = entry_at new x.parent x.child k d is_at (at_before new (x.parent, x.child) k are is_at) in
     set_labelled old rule x.parent x.child labels all (λ free. are.bound k d lt (sym said ∙ sets x.parent x.child ∙ free))
 

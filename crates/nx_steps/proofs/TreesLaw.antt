@@ -14,7 +14,7 @@ use Rattle.nx_script.specs.declared.command.Command.{Command}
 use Rattle.nx_script.specs.declared.reply.Reply.{Reply}
 use Rattle.nx_script.specs.declared.reply.ReplyError.{ReplyError}
 use Rattle.nx_script.specs.declared.reply.ReplyError.TheVariants.{NoDocument, Exists}
-use Rattle.nx_engine.specs.Step.{after, edited, insert_fault, delete_fault, retext_fault}
+use Rattle.nx_engine.specs.Step.{documents_after, documents_edited, insert_fault, delete_fault, retext_fault}
 use Rattle.nx_engine.proofs.EditedLemmas.{edited_at}
 use Rattle.nx_state.specs.State.{State}
 use Rattle.nx_drawn.specs.Edits.{inserted, deleted, retexted}
@@ -48,12 +48,12 @@ new_name false o e = refl
 -- an edited document
 edited_trees : (state next : State) (name : List ℕ) (Becomes : CutTree → CutTree → Type 0) (fault : OrderedTree → Option ReplyError) (change : OrderedTree → OrderedTree)
     → document_fault state name fault ≡ None → ((old new : CutTree) → get state.documents name ≡ Some old → Becomes old new → tree_of new ≡ change (tree_of old))
-    → Edits state name Becomes next → trees next ≡ edited (trees state) name fault change
+    → Edits state name Becomes next → trees next ≡ documents_edited (trees state) name fault change
 edited_trees state next name Becomes fault change none same e =
     ap trees e.next_is ∙ trees-with_document state name e.new ∙ ap (insert (trees state) name) (same e.old e.new e.there e.becomes)
     ∙ sym (edited_at (trees state) name (tree_of e.old) fault change None (get-trees state name ∙ ap (option_map tree_of) e.there) (none_of state name e.old fault e.there none))
 
-pub effect_trees : (state : State) (command : Command) (r : Reply) (next : State) → AreFeasible state → refusal state command ≡ None → Effect state command r next → trees next ≡ after (trees state) command
+pub effect_trees : (state : State) (command : Command) (r : Reply) (next : State) → AreFeasible state → refusal state command ≡ None → Effect state command r next → trees next ≡ documents_after (trees state) command
 effect_trees state (Load name (load.Wrong error)) r next feasible none effect = absurd effect
 effect_trees state (Load name (load.Read tree)) r next feasible none effect =
     let new = contains-trees state name ∙ new_name (contains_key state.documents name) (load_fault (state.settings).k (load.Read tree)) none in

@@ -12,7 +12,7 @@ use Rattle.nx_tree.specs.Forest.{OrderedTree, nodes}
 use Rattle.nx_cuts.specs.Cut.{CutTree, tree_of}
 use Rattle.nx_script.specs.Field.{name_order}
 use Rattle.nx_engine.specs.Documents.{Documents}
-use Rattle.nx_state.specs.State.{State, size_of, all_nodes}
+use Rattle.nx_state.specs.State.{State, document_size, all_nodes}
 use Rattle.nx_steps.specs.Answers.{with_document}
 use Rattle.nx_steps.specs.Step.{trees, nodes_of}
 
@@ -84,11 +84,11 @@ nodes_in es = sum (map (λ (tree : OrderedTree). 1 + nodes tree.below) (map (λ 
 nodes_more : (e : List ℕ × OrderedTree) (es : List (List ℕ × OrderedTree)) → nodes_in (e ∷ es) ≡ (1 + nodes e.1.below) + nodes_in es
 nodes_more e es = sum_by-cons (λ (n : ℕ). n) (1 + nodes e.1.below) (map (λ (tree : OrderedTree). 1 + nodes tree.below) (map (λ (x : List ℕ × OrderedTree). x.1) es))
 
-nodes_bare : (es : List (List ℕ × CutTree)) → nodes_in (map bare es) ≡ sum (map size_of (map (λ (e : List ℕ × CutTree). e.1) es))
+nodes_bare : (es : List (List ℕ × CutTree)) → nodes_in (map bare es) ≡ sum (map document_size (map (λ (e : List ℕ × CutTree). e.1) es))
 nodes_bare [] = refl
 nodes_bare (e ∷ es) =
-    nodes_more (bare e) (map bare es) ∙ ap (λ n. size_of e.1 + n) (nodes_bare es)
-    ∙ sym (sum_by-cons (λ (n : ℕ). n) (size_of e.1) (map size_of (map (λ (x : List ℕ × CutTree). x.1) es)))
+    nodes_more (bare e) (map bare es) ∙ ap (λ n. document_size e.1 + n) (nodes_bare es)
+    ∙ sym (sum_by-cons (λ (n : ℕ). n) (document_size e.1) (map document_size (map (λ (x : List ℕ × CutTree). x.1) es)))
 
 pub nodes-trees : (state : State) → nodes_of (trees state) ≡ all_nodes state
 nodes-trees state = ap nodes_in (entries-trees state) ∙ nodes_bare (entries state.documents)

@@ -7,13 +7,13 @@ use Rattle.nx_weights.specs.Weight.{first_heavy, weighed}
 use Rattle.nx_parts.specs.Partitioning.{part_weights}
 use Rattle.nx_parts.specs.Minima.{IsLeanOptimal}
 use Rattle.nx_cuts.specs.Cut.{CutTree, AreParts, tree_of, parts_of}
-use Rattle.nx_drawn.specs.Splits.{whole}
+use Rattle.nx_drawn.specs.Splits.{whole_document}
 use Rattle.nx_script.specs.declared.reply.DocLine.{DocLine}
 use Rattle.nx_script.specs.declared.reply.Reply.{Reply}
 use Rattle.nx_script.specs.declared.reply.Reply.TheVariants as reply
 use Rattle.nx_script.specs.declared.reply.ReplyError.{ReplyError}
 use Rattle.nx_script.specs.declared.reply.ReplyError.TheVariants.{NoDocument, TooHeavy}
-use Rattle.nx_state.specs.State.{State, size_of, all_nodes}
+use Rattle.nx_state.specs.State.{State, document_size, all_nodes}
 
 -- the command is answered so, and changes nothing
 abbrev pub Answers : State → Reply → Reply → State → Type 0
@@ -24,12 +24,12 @@ abbrev pub Refuses : State → ReplyError → Reply → State → Type 0
 Refuses state error r next = Answers state (reply.Refused error) r next
 
 -- the answer of the document of that name, where there is one
-abbrev pub by_document : State → List ℕ → (CutTree → Reply) → Reply
-by_document state name answer_of = option_map_or answer_of (get state.documents name) (reply.Refused NoDocument)
+abbrev pub by_stored_document : State → List ℕ → (CutTree → Reply) → Reply
+by_stored_document state name answer_of = option_map_or answer_of (get state.documents name) (reply.Refused NoDocument)
 
 -- a document's name and its number of nodes
-abbrev pub listed : List ℕ × CutTree → DocLine
-listed entry = record { name = entry.0; nodes = size_of entry.1 }
+abbrev pub cut_document_line : List ℕ × CutTree → DocLine
+cut_document_line entry = record { name = entry.0; nodes = document_size entry.1 }
 
 -- its intervals, with the weights of their parts
 abbrev pub laid : CutTree → Reply
@@ -43,7 +43,7 @@ with_document state name document = record state { documents = insert state.docu
 pub record Loads (state : State) (name : List ℕ) (tree : OrderedTree) (r : Reply) (next : State) : Type 0 where
   pub document : CutTree
   pub tree_is : tree_of document ≡ tree
-  pub drawn : AreParts (state.settings).k (whole document)
+  pub drawn : AreParts (state.settings).k (whole_document document)
   pub lean : IsLeanOptimal (state.settings).k tree (parts_of document)
   pub answered : r ≡ reply.Loaded (1 + nodes tree.below) (length (parts_of document))
   pub next_is : next ≡ with_document state name document

@@ -18,7 +18,7 @@ use Rattle.nx_script.specs.declared.reply.Reply.TheVariants.{Refused}
 use Rattle.nx_script.specs.declared.reply.ReplyError.TheVariants.{Full}
 use Rattle.nx_script.specs.Commands.{CanCome}
 use Rattle.nx_engine.specs.Step.{after_all, replies as replies_to}
-use Rattle.nx_state.specs.State.{State, size_of, all_nodes}
+use Rattle.nx_state.specs.State.{State, document_size, all_nodes}
 use Rattle.nx_steps.specs.Refusal.{refusal}
 use Rattle.nx_steps.specs.Step.{trees, nodes_after, Effect, may_change, Step, RunsTo}
 use Rattle.nx_steps.specs.Sound.{OfEachDocument, AreFeasible, IsSound}
@@ -65,8 +65,8 @@ StepsAgree =
     → r ≢ Refused Full → other_r ≢ Refused Full → AreAlike r other_r next other
 
 -- A command that may not change what is stored leaves the state.
-abbrev pub OthersStay : Type 0
-OthersStay = (state : State) (command : Command) (r : Reply) (next : State) → may_change command ≡ false → Step state command r next → next ≡ state
+abbrev pub StateStays : Type 0
+StateStays = (state : State) (command : Command) (r : Reply) (next : State) → may_change command ≡ false → Step state command r next → next ≡ state
 
 -- A command that has its effect leaves as many nodes as the bound of room counts.
 abbrev pub EffectsLeaveNodes : Type 0
@@ -75,7 +75,7 @@ EffectsLeaveNodes = (state : State) (command : Command) (r : Reply) (next : Stat
 -- the document of that name counts with its changed tree in place of the one that it has
 abbrev pub CountsChanged : State → Command → List ℕ → (OrderedTree → OrderedTree) → Type 0
 CountsChanged state command name change =
-    (old : CutTree) → get state.documents name ≡ Some old → nodes_after state command + size_of old ≡ all_nodes state + (1 + nodes (change (tree_of old)).below)
+    (old : CutTree) → get state.documents name ≡ Some old → nodes_after state command + document_size old ≡ all_nodes state + (1 + nodes (change (tree_of old)).below)
 
 -- how many nodes the bound of room counts behind a command that may need room
 abbrev pub IsCounted : State → Command → Type 0

@@ -6,7 +6,7 @@ use Rattle.nx_script.specs.declared.reply.Reply.{Reply}
 use Rattle.nx_script.specs.declared.reply.Reply.TheVariants.{Refused, Loaded}
 use Rattle.nx_script.specs.declared.reply.ReplyError.TheVariants.{TooHeavy, Full}
 use Rattle.nx_engine.specs.Documents.{Documents}
-use Rattle.nx_engine.specs.Step.{reply_to, after}
+use Rattle.nx_engine.specs.Step.{reply_to, documents_after}
 use Rattle.nx_state.specs.State.{State}
 use Rattle.nx_steps.specs.Step.{trees}
 
@@ -32,7 +32,7 @@ is_limit _ = false
 -- The command is answered as over trees in memory, where these carry it out, and leaves the same trees.
 pub record IsPlainStep (documents : Documents) (command : Command) (r : Reply) (next : State) : Type 0 where
   pub reply_is : is_plain command ≡ true → plain_reply r ≡ reply_to documents command
-  pub trees_are : trees next ≡ after documents command
+  pub trees_are : trees next ≡ documents_after documents command
 
 -- the commands that weren't refused for such a limit
 abbrev pub taken : List Command → List Reply → List Command

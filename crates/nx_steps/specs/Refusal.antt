@@ -1,5 +1,5 @@
 -- Why a command is refused, want of room aside.
-use Rattle.std.specs.Prelude.{ℕ, Bool, false, true, not, ◌&&◌, ◌==◌, nat_lt, if◌then◌else◌, List, length, Option, None, Some, is_some}
+use Rattle.std.specs.Prelude.{ℕ, not, ◌&&◌, ◌==◌, nat_lt, if◌then◌else◌, List, length, Option, None, Some, is_some}
 use Rattle.std.specs.Option.{option_map_or, option_or}
 use Rattle.std.specs.FinMap.{get, contains_key}
 use Rattle.nx_tree.specs.declared.node.Node.{Node}
@@ -7,10 +7,8 @@ use Rattle.nx_tree.specs.Forest.{OrderedTree}
 use Rattle.nx_tree.specs.Edit.{at}
 use Rattle.nx_weights.specs.Weight.{weight}
 use Rattle.nx_cuts.specs.Cut.{tree_of}
-use Rattle.nx_matrix.specs.declared.rule.Entry.{Entry}
-use Rattle.nx_matrix.specs.declared.rule.Entry.TheVariants.{Standalone, Cluster, Free}
 use Rattle.nx_matrix.specs.declared.rule.Rule.{Rule}
-use Rattle.nx_matrix.specs.Rules.{has_rule, most_rules}
+use Rattle.nx_matrix.specs.Rules.{has_rule, most_rules, is_free}
 use Rattle.nx_script.specs.declared.command.LoadBody.{LoadBody}
 use Rattle.nx_script.specs.declared.command.LoadBody.TheVariants as load
 use Rattle.nx_script.specs.declared.command.LineBody.{LineBody}
@@ -51,12 +49,6 @@ retexted_fault k path (content.Read bytes) tree = option_map_or (λ t. weight_fa
 -- no node stands at the path
 abbrev pub node_fault : List ℕ → OrderedTree → Option ReplyError
 node_fault path tree = if is_some (at tree path) then None else Some NoNode
-
--- the entry asks for nothing
-abbrev pub is_free : Entry → Bool
-is_free Standalone = false
-is_free Cluster = false
-is_free Free = true
 
 -- the pair has no rule, it is to get one, and no more fit
 abbrev pub rule_fault : List Rule → Rule → Option ReplyError

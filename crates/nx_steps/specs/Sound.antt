@@ -6,7 +6,7 @@ use Rattle.nx_cuts.specs.Cut.{CutTree, AreParts, tree_of}
 use Rattle.nx_matrix.specs.Rules.{AreRules}
 use Rattle.nx_script.specs.Field.{is_document_name}
 use Rattle.nx_script.specs.Rule.{HasLabels}
-use Rattle.nx_drawn.specs.Splits.{whole}
+use Rattle.nx_drawn.specs.Splits.{whole_document}
 use Rattle.nx_state.specs.State.{State}
 
 -- this holds of each document and its name
@@ -15,7 +15,7 @@ OfEachDocument P state = (name : List ℕ) (document : CutTree) → get state.do
 
 -- each document is cut into parts none of which weighs more than k, each interval with members of its own
 abbrev pub AreFeasible : State → Type 0
-AreFeasible state = OfEachDocument (λ name document. AreParts (state.settings).k (whole document)) state
+AreFeasible state = OfEachDocument (λ name document. AreParts (state.settings).k (whole_document document)) state
 
 -- Its documents have names that they may have, satisfy the rules of documents and are cut into parts that aren't too heavy. Its rules are in the order of
 -- their labels, none is free, and their labels are some that nodes have. (Documents are in the order of their names by their map.)

@@ -18,9 +18,9 @@ use Rattle.nx_script.specs.declared.reply.Reply.{Reply}
 use Rattle.nx_script.specs.declared.reply.Reply.TheVariants as reply
 use Rattle.nx_script.specs.declared.reply.ReplyError.TheVariants.{NoNode, Full}
 use Rattle.nx_engine.specs.Documents.{Documents}
-use Rattle.nx_engine.specs.Step.{shown, after}
+use Rattle.nx_engine.specs.Step.{shown, documents_after}
 use Rattle.nx_state.specs.State.{State}
-use Rattle.nx_steps.specs.Answers.{Answers, Refuses, by_document, listed, laid, with_document, Loads, MayBeFull}
+use Rattle.nx_steps.specs.Answers.{Answers, Refuses, by_stored_document, cut_document_line, laid, with_document, Loads, MayBeFull}
 use Rattle.nx_drawn.specs.Edits.{inserted, deleted, retexted}
 use Rattle.nx_drawn.specs.Splits.{Splits}
 use Rattle.nx_steps.specs.Refusal.{refusal}
@@ -35,7 +35,7 @@ nodes_of documents = sum (map (λ tree. 1 + nodes tree.below) (values documents)
 
 -- how many nodes all documents have after the command, as if it had its effect
 abbrev pub nodes_after : State → Command → ℕ
-nodes_after state command = nodes_of (after (trees state) command)
+nodes_after state command = nodes_of (documents_after (trees state) command)
 
 -- The document of that name becomes one that `Becomes` allows.
 pub record Edits (state : State) (name : List ℕ) (Becomes : CutTree → CutTree → Type 0) (next : State) : Type 0 where
@@ -56,13 +56,13 @@ pub record Sets (state : State) (rule : Rule) (next : State) : Type 0 where
 abbrev pub Effect : State → Command → Reply → State → Type 0
 Effect state (Load name (load.Read tree)) r next = Loads state name tree r next
 Effect state (Discard name) r next = (r ≡ reply.Done) × (next ≡ record state { documents = remove state.documents name })
-Effect state Names r next = Answers state (reply.Names (map listed (entries state.documents))) r next
-Effect state (Export name) r next = Answers state (by_document state name (λ document. reply.Exported (text (tree_of document)))) r next
+Effect state Names r next = Answers state (reply.Names (map cut_document_line (entries state.documents))) r next
+Effect state (Export name) r next = Answers state (by_stored_document state name (λ document. reply.Exported (text (tree_of document)))) r next
 Effect state (Insert name path (line.Read node)) r next = (r ≡ reply.Done) × Edits state name (λ old. Splits state.settings state.rules (inserted state.rules node path old)) next
 Effect state (Delete name path) r next = (r ≡ reply.Done) × Edits state name (λ old new. new ≡ deleted path old) next
 Effect state (Retext name path (content.Read bytes)) r next = (r ≡ reply.Done) × Edits state name (λ old. Splits state.settings state.rules (retexted bytes path old)) next
-Effect state (Get name path) r next = Answers state (by_document state name (λ document. option_map_or shown (at (tree_of document) path) (reply.Refused NoNode))) r next
-Effect state (Layout name) r next = Answers state (by_document state name laid) r next
+Effect state (Get name path) r next = Answers state (by_stored_document state name (λ document. option_map_or shown (at (tree_of document) path) (reply.Refused NoNode))) r next
+Effect state (Layout name) r next = Answers state (by_stored_document state name laid) r next
 Effect state (SetRule rule) r next = (r ≡ reply.Done) × Sets state rule next
 Effect state Rules r next = Answers state (reply.Rules state.rules) r next
 Effect state Checkpoint r next = Answers state reply.Done r next

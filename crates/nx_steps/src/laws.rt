@@ -1,5 +1,5 @@
 //! What holds of steps, and of runs of them.
-ghost use Rattle.nx_steps.specs.Laws.{EffectsLeaveNodes, OthersStay, RoomIsCounted, RunsEditTrees, RunsKeepSound, RunsReplyPlainly, StepsAgree, StepsArePlain, StepsKeepSound, StepsStayFeasible, StepsStayPartitioned, StoredIsSound};
+ghost use Rattle.nx_steps.specs.Laws.{EffectsLeaveNodes, StateStays, RoomIsCounted, RunsEditTrees, RunsKeepSound, RunsReplyPlainly, StepsAgree, StepsArePlain, StepsKeepSound, StepsStayFeasible, StepsStayPartitioned, StoredIsSound};
 
 /// Each state that pages stand for is sound: its documents are such, cut into parts that aren't too heavy,
 /// and its rules are those of a matrix.
@@ -43,7 +43,7 @@ pub fn steps_agree()
 
 /// A command that may not change what is stored leaves the state.
 pub fn others_stay()
-    ensures { OthersStay }
+    ensures { StateStays }
 {}
 
 /// A command that has its effect leaves as many nodes as the bound of room counts.

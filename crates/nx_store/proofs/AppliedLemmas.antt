@@ -17,7 +17,7 @@ use Rattle.nx_script.specs.declared.reply.Reply.TheVariants as reply
 use Rattle.nx_script.specs.declared.reply.ReplyError.TheVariants.{Full}
 use Rattle.nx_state.specs.State.{State}
 use Rattle.nx_store.specs.Store.{is_ended, GoesOn, IsAt, IsOf, IsApplied, NotApplied}
-use Rattle.nx_store.specs.Loading.{IsNew, IsChosen, IsLeft, HasNoRoom, NotKept, reply_of, HasText, IsToldOrNot, IsRefusal}
+use Rattle.nx_store.specs.Loading.{IsNew, IsChosen, IsStoreLeft, HasNoRoomForDocument, NotKept, reply_of, HasReplyText, IsToldOrNot, IsRefusal}
 use Rattle.nx_store.specs.declared.store.Store.{Store}
 use Rattle.nx_store.specs.declared.error.EngineError.{EngineError}
 use Rattle.nx_store.specs.declared.error.EngineError.TheVariants as error
@@ -29,7 +29,7 @@ use Rattle.nx_store.proofs.StepLemmas.{full_answers}
 
 module _ {D : Type 0} (d : Ghosts D) where
   -- what was brought was dropped, so the store is where it was
-  module _ (s0 s1 s2 : Store) (x0 x1 : D) (left : IsLeft d s0 s1 x0 x1) (follows : FollowsOn s1.records s2.records) (none : HasNoChanges s2.records)
+  module _ (s0 s1 s2 : Store) (x0 x1 : D) (left : IsStoreLeft d s0 s1 x0 x1) (follows : FollowsOn s1.records s2.records) (none : HasNoChanges s2.records)
       (heads : ((s2.records).saved ≡ (s1.records).saved) × ((s2.records).head ≡ (s1.records).saved)) (ended : has_ended s2.records ≡ has_ended s1.records) (catalog : s2.catalog ≡ s1.catalog) where
     pub left_at : (state : State) → IsAt d s0 x0 state → IsAt d s2 x1 state
     left_at state at = abandoned_at d s0 s1 s2 x0 x1 state follows none heads ended left.saved (catalog ∙ left.catalog) at
@@ -38,7 +38,7 @@ module _ {D : Type 0} (d : Ghosts D) where
     left_runs = ended ∙ (left.runs).after
 
     -- no page was free
-    pub full_applied : (name : List ℕ) (tree : OrderedTree) (parts : List Interval) → IsNew s0 name → IsChosen s0 tree parts → HasNoRoom d s0 x0 tree → IsStill d x0 x1 → (state : State) → IsAt d s0 x0 state
+    pub full_applied : (name : List ℕ) (tree : OrderedTree) (parts : List Interval) → IsNew s0 name → IsChosen s0 tree parts → HasNoRoomForDocument d s0 x0 tree → IsStill d x0 x1 → (state : State) → IsAt d s0 x0 state
         → IsApplied d (Ok (reply.Refused Full)) state (Load name (Read tree)) s2 x0 x1
     full_applied name tree parts new chosen room still state at = (
       state,
@@ -53,11 +53,11 @@ module _ {D : Type 0} (d : Ghosts D) where
       (heads : ((s2.records).saved ≡ (s1.records).saved) × ((s2.records).head ≡ (s1.records).saved)) (ended : has_ended s2.records ≡ has_ended s1.records) (catalog : s2.catalog ≡ s1.catalog)
       (name : List ℕ) (tree : OrderedTree) (parts : List Interval) (new : IsNew s0 name) (chosen : IsChosen s0 tree parts) (still : IsStill d x0 x1) where
     -- the store runs on
-    stays_on : IsLeft d s0 s1 x0 x1 → GoesOn s0 s2
+    stays_on : IsStoreLeft d s0 s1 x0 x1 → GoesOn s0 s2
     stays_on left = ((left.runs).before, left_runs s0 s1 s2 x0 x1 left follows none heads ended catalog)
 
     -- there was no memory, for the document or the text
-    memory_applied : IsLeft d s0 s1 x0 x1 → (state : State) → IsAt d s0 x0 state → IsApplied d (Err error.Memory) state (Load name (Read tree)) s2 x0 x1
+    memory_applied : IsStoreLeft d s0 s1 x0 x1 → (state : State) → IsAt d s0 x0 state → IsApplied d (Err error.Memory) state (Load name (Read tree)) s2 x0 x1
     memory_applied left state at = (left_at s0 s1 s2 x0 x1 left follows none heads ended catalog state at, shows_still still at)
 
     full_told : (r : Result (Reply × List ℕ) EngineError) → IsToldOrNot (reply.Refused Full) r → NotKept d tree below.Full s0 s1 x0 x1 → (state : State) → IsAt d s0 x0 state → IsApplied d (reply_of r) state (Load name (Read tree)) s2 x0 x1
@@ -74,20 +74,20 @@ module _ {D : Type 0} (d : Ghosts D) where
     refusal_applied below.Exists r is refused state at = absurd refused
     refusal_applied below.NotAStore r is refused state at = absurd refused
 
-    full_ok : (r : Result (Reply × List ℕ) EngineError) → IsToldOrNot (reply.Refused Full) r → IsLeft d s0 s1 x0 x1 → IfOk r (λ answer. GoesOn s0 s2 × HasText answer)
-    full_ok (Ok answer) is left = (stays_on left, subst (λ (a : Reply × List ℕ). HasText a) (sym is) refl)
+    full_ok : (r : Result (Reply × List ℕ) EngineError) → IsToldOrNot (reply.Refused Full) r → IsStoreLeft d s0 s1 x0 x1 → IfOk r (λ answer. GoesOn s0 s2 × HasReplyText answer)
+    full_ok (Ok answer) is left = (stays_on left, subst (λ (a : Reply × List ℕ). HasReplyText a) (sym is) refl)
     full_ok (Err e) is left = tt
 
-    pub refusal_ok : (e : StoreError) (r : Result (Reply × List ℕ) EngineError) → IsRefusal e r → NotKept d tree e s0 s1 x0 x1 → IfOk r (λ answer. GoesOn s0 s2 × HasText answer)
+    pub refusal_ok : (e : StoreError) (r : Result (Reply × List ℕ) EngineError) → IsRefusal e r → NotKept d tree e s0 s1 x0 x1 → IfOk r (λ answer. GoesOn s0 s2 × HasReplyText answer)
     refusal_ok below.Full r is refused = full_ok r is refused.0
-    refusal_ok below.Memory r is refused = subst (λ x. IfOk x (λ answer. GoesOn s0 s2 × HasText answer)) (sym is) tt
-    refusal_ok below.Disk r is refused = subst (λ x. IfOk x (λ answer. GoesOn s0 s2 × HasText answer)) (sym is) tt
-    refusal_ok (below.Damaged page) r is refused = subst (λ x. IfOk x (λ answer. GoesOn s0 s2 × HasText answer)) (sym is) tt
+    refusal_ok below.Memory r is refused = subst (λ x. IfOk x (λ answer. GoesOn s0 s2 × HasReplyText answer)) (sym is) tt
+    refusal_ok below.Disk r is refused = subst (λ x. IfOk x (λ answer. GoesOn s0 s2 × HasReplyText answer)) (sym is) tt
+    refusal_ok (below.Damaged page) r is refused = subst (λ x. IfOk x (λ answer. GoesOn s0 s2 × HasReplyText answer)) (sym is) tt
     refusal_ok below.Ended r is refused = absurd refused
     refusal_ok below.Exists r is refused = absurd refused
     refusal_ok below.NotAStore r is refused = absurd refused
 
-    full_refused : (r : Result (Reply × List ℕ) EngineError) → IsToldOrNot (reply.Refused Full) r → IsLeft d s0 s1 x0 x1 → IfErr r (λ e. NotApplied d e s0 s2 x0 x1)
+    full_refused : (r : Result (Reply × List ℕ) EngineError) → IsToldOrNot (reply.Refused Full) r → IsStoreLeft d s0 s1 x0 x1 → IfErr r (λ e. NotApplied d e s0 s2 x0 x1)
     full_refused (Ok answer) is left = tt
     full_refused (Err e) is left = subst (λ (x : EngineError). NotApplied d x s0 s2 x0 x1) (sym is) (stays_on left)
 

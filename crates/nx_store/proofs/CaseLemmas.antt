@@ -19,7 +19,7 @@ use Rattle.nx_script.specs.declared.reply.ReplyError.{ReplyError}
 use Rattle.nx_script.specs.declared.reply.ReplyError.TheVariants.{Syntax, NoDocument, Exists, Pyx, NoNode, Full}
 use Rattle.nx_engine.specs.Step.{shown}
 use Rattle.nx_state.specs.State.{State, all_nodes}
-use Rattle.nx_steps.specs.Answers.{Answers, Refuses, by_document, laid, Loads, MayBeFull, heavy_fault}
+use Rattle.nx_steps.specs.Answers.{Answers, Refuses, by_stored_document, laid, Loads, MayBeFull, heavy_fault}
 use Rattle.nx_steps.specs.Refusal.{load_fault, node_fault}
 use Rattle.nx_steps.specs.Step.{Effect, FindsNoRoom, may_change, Step}
 use Rattle.nx_steps.proofs.CountLemmas.{load_nodes}
@@ -85,24 +85,24 @@ load_case state name body r next step = (load_step state name body r next (conta
 
 -- What is answered of a document, and stays.
 module _ (state : State) (name : List ℕ) (r : Reply) (next : State) where
-  export_same : Answers state (by_document state name (λ document. reply.Exported (text (tree_of document)))) r next ↔ Step state (Export name) r next
+  export_same : Answers state (by_stored_document state name (λ document. reply.Exported (text (tree_of document)))) r next ↔ Step state (Export name) r next
   export_same = document_asked state (Export name) r next (λ tree. None) (λ document. reply.Exported (text (tree_of document))) (get state.documents name) (λ f. false≢true f.needs) (λ document error e. cc)
 
-  get_same : (path : List ℕ) → Answers state (by_document state name (λ document. option_map_or shown (at (tree_of document) path) (reply.Refused NoNode))) r next ↔ Step state (Get name path) r next
+  get_same : (path : List ℕ) → Answers state (by_stored_document state name (λ document. option_map_or shown (at (tree_of document) path) (reply.Refused NoNode))) r next ↔ Step state (Get name path) r next
   get_same path =
       document_asked state (Get name path) r next (node_fault path) (λ document. option_map_or shown (at (tree_of document) path) (reply.Refused NoNode)) (get state.documents name) (λ f. false≢true f.needs)
       (λ document error e. none_there path (tree_of document) error e)
 
-  layout_same : Answers state (by_document state name laid) r next ↔ Step state (Layout name) r next
+  layout_same : Answers state (by_stored_document state name laid) r next ↔ Step state (Layout name) r next
   layout_same = document_asked state (Layout name) r next (λ tree. None) laid (get state.documents name) (λ f. false≢true f.needs) (λ document error e. cc)
 
-pub export_case : (state : State) (name : List ℕ) (r : Reply) (next : State) → Answers state (by_document state name (λ document. reply.Exported (text (tree_of document)))) r next → Step state (Export name) r next
+pub export_case : (state : State) (name : List ℕ) (r : Reply) (next : State) → Answers state (by_stored_document state name (λ document. reply.Exported (text (tree_of document)))) r next → Step state (Export name) r next
 export_case state name r next a = (export_same state name r next).0 a
 
-pub get_case : (state : State) (name path : List ℕ) (r : Reply) (next : State) → Answers state (by_document state name (λ document. option_map_or shown (at (tree_of document) path) (reply.Refused NoNode))) r next → Step state (Get name path) r next
+pub get_case : (state : State) (name path : List ℕ) (r : Reply) (next : State) → Answers state (by_stored_document state name (λ document. option_map_or shown (at (tree_of document) path) (reply.Refused NoNode))) r next → Step state (Get name path) r next
 get_case state name path r next a = (get_same state name r next path).0 a
 
-pub layout_case : (state : State) (name : List ℕ) (r : Reply) (next : State) → Answers state (by_document state name laid) r next → Step state (Layout name) r next
+pub layout_case : (state : State) (name : List ℕ) (r : Reply) (next : State) → Answers state (by_stored_document state name laid) r next → Step state (Layout name) r next
 layout_case state name r next a = (layout_same state name r next).0 a
 
 -- a command that may not change the state leaves it

@@ -21,7 +21,7 @@ use Rattle.nx_catalog.specs.declared.saving.RuleError.{RuleError}
 use Rattle.nx_catalog.specs.declared.saving.RuleError.TheVariants as rule
 use Rattle.nx_store.specs.Carried.{StoreStep}
 use Rattle.nx_store.specs.Store.{longest_log, GoesOn, IsAt, IsOfEither, Shows, ShowsBegun, IsApplied, NotApplied}
-use Rattle.nx_store.specs.Loading.{IsLeft, reply_of, HasText, IsToldOrNot, IsRefusal}
+use Rattle.nx_store.specs.Loading.{IsStoreLeft, reply_of, HasReplyText, IsToldOrNot, IsRefusal}
 use Rattle.nx_store.specs.Changing.{Prepares, StepsRefused, NotPrepared, RuleNotPrepared, IsRuleRefusal}
 use Rattle.nx_store.specs.declared.store.Store.{Store}
 use Rattle.nx_store.specs.declared.error.EngineError.{EngineError}
@@ -67,13 +67,13 @@ module _ {D : Type 0} (d : Ghosts D) (command : Command) (other : command ≢ Ch
   -- what the command is answered that wasn't prepared
   module _ (s0 s1 s2 : Store) (x0 x1 : D) (follows : FollowsOn s1.records s2.records) (none : HasNoChanges s2.records)
       (heads : ((s2.records).saved ≡ (s1.records).saved) × ((s2.records).head ≡ (s1.records).saved)) (ended : has_ended s2.records ≡ has_ended s1.records) (catalog : s2.catalog ≡ s1.catalog) (still : IsStill d x0 x1) where
-    stays_on : IsLeft d s0 s1 x0 x1 → GoesOn s0 s2
+    stays_on : IsStoreLeft d s0 s1 x0 x1 → GoesOn s0 s2
     stays_on left = ((left.runs).before, left_runs d s0 s1 s2 x0 x1 left follows none heads ended catalog)
 
-    memory_left : IsLeft d s0 s1 x0 x1 → (state : State) → IsAt d s0 x0 state → IsApplied d (Err error.Memory) state command s2 x0 x1
+    memory_left : IsStoreLeft d s0 s1 x0 x1 → (state : State) → IsAt d s0 x0 state → IsApplied d (Err error.Memory) state command s2 x0 x1
     memory_left left state at = (left_at d s0 s1 s2 x0 x1 left follows none heads ended catalog state at, shows_still still at)
 
-    refused_left : (e : ReplyError) (r : Result (Reply × List ℕ) EngineError) → IsToldOrNot (reply.Refused e) r → IsLeft d s0 s1 x0 x1 → StepsRefused d command e s0 x0 → (state : State) → IsAt d s0 x0 state → IsApplied d (reply_of r) state command s2 x0 x1
+    refused_left : (e : ReplyError) (r : Result (Reply × List ℕ) EngineError) → IsToldOrNot (reply.Refused e) r → IsStoreLeft d s0 s1 x0 x1 → StepsRefused d command e s0 x0 → (state : State) → IsAt d s0 x0 state → IsApplied d (reply_of r) state command s2 x0 x1
     refused_left e (Ok answer) is left steps state at =
         subst (λ (a : Reply × List ℕ). IsApplied d (Ok a.0) state command s2 x0 x1) (sym is)
         (state, steps state at, left_at d s0 s1 s2 x0 x1 left follows none heads ended catalog state at, shows_weaker d (λ i of. inl of) (shows_still still at), log_stays d command state x0 x1 other)
@@ -98,20 +98,20 @@ module _ {D : Type 0} (d : Ghosts D) (command : Command) (other : command ≢ Ch
     rule_applied (rule.Store below.Exists) r is why state at = absurd why
     rule_applied (rule.Store below.NotAStore) r is why state at = absurd why
 
-    told_ok : (e : ReplyError) (r : Result (Reply × List ℕ) EngineError) → IsToldOrNot (reply.Refused e) r → IsLeft d s0 s1 x0 x1 → IfOk r (λ answer. GoesOn s0 s2 × HasText answer)
-    told_ok e (Ok answer) is left = (stays_on left, subst (λ (a : Reply × List ℕ). HasText a) (sym is) refl)
+    told_ok : (e : ReplyError) (r : Result (Reply × List ℕ) EngineError) → IsToldOrNot (reply.Refused e) r → IsStoreLeft d s0 s1 x0 x1 → IfOk r (λ answer. GoesOn s0 s2 × HasReplyText answer)
+    told_ok e (Ok answer) is left = (stays_on left, subst (λ (a : Reply × List ℕ). HasReplyText a) (sym is) refl)
     told_ok e (Err x) is left = tt
 
-    pub refusal_ok : (e : StoreError) (r : Result (Reply × List ℕ) EngineError) → IsRefusal e r → NotPrepared d e s0 s1 x0 x1 → IfOk r (λ answer. GoesOn s0 s2 × HasText answer)
-    refusal_ok below.Memory r is why = subst (λ x. IfOk x (λ answer. GoesOn s0 s2 × HasText answer)) (sym is) tt
-    refusal_ok below.Disk r is why = subst (λ x. IfOk x (λ answer. GoesOn s0 s2 × HasText answer)) (sym is) tt
-    refusal_ok (below.Damaged page) r is why = subst (λ x. IfOk x (λ answer. GoesOn s0 s2 × HasText answer)) (sym is) tt
+    pub refusal_ok : (e : StoreError) (r : Result (Reply × List ℕ) EngineError) → IsRefusal e r → NotPrepared d e s0 s1 x0 x1 → IfOk r (λ answer. GoesOn s0 s2 × HasReplyText answer)
+    refusal_ok below.Memory r is why = subst (λ x. IfOk x (λ answer. GoesOn s0 s2 × HasReplyText answer)) (sym is) tt
+    refusal_ok below.Disk r is why = subst (λ x. IfOk x (λ answer. GoesOn s0 s2 × HasReplyText answer)) (sym is) tt
+    refusal_ok (below.Damaged page) r is why = subst (λ x. IfOk x (λ answer. GoesOn s0 s2 × HasReplyText answer)) (sym is) tt
     refusal_ok below.Full r is why = absurd why
     refusal_ok below.Ended r is why = absurd why
     refusal_ok below.Exists r is why = absurd why
     refusal_ok below.NotAStore r is why = absurd why
 
-    pub rule_ok : (e : RuleError) (r : Result (Reply × List ℕ) EngineError) → IsRuleRefusal e r → RuleNotPrepared d command e s0 s1 x0 x1 → IfOk r (λ answer. GoesOn s0 s2 × HasText answer)
+    pub rule_ok : (e : RuleError) (r : Result (Reply × List ℕ) EngineError) → IsRuleRefusal e r → RuleNotPrepared d command e s0 s1 x0 x1 → IfOk r (λ answer. GoesOn s0 s2 × HasReplyText answer)
     rule_ok rule.TooManyRules r is why = told_ok refused.TooManyRules r is why.0
     rule_ok (rule.Store below.Full) r is why = told_ok refused.Full r is why.0
     rule_ok (rule.Store below.Memory) r is why = refusal_ok below.Memory r is why
@@ -121,7 +121,7 @@ module _ {D : Type 0} (d : Ghosts D) (command : Command) (other : command ≢ Ch
     rule_ok (rule.Store below.Exists) r is why = absurd why
     rule_ok (rule.Store below.NotAStore) r is why = absurd why
 
-    told_refused : (e : ReplyError) (r : Result (Reply × List ℕ) EngineError) → IsToldOrNot (reply.Refused e) r → IsLeft d s0 s1 x0 x1 → IfErr r (λ y. NotApplied d y s0 s2 x0 x1)
+    told_refused : (e : ReplyError) (r : Result (Reply × List ℕ) EngineError) → IsToldOrNot (reply.Refused e) r → IsStoreLeft d s0 s1 x0 x1 → IfErr r (λ y. NotApplied d y s0 s2 x0 x1)
     told_refused e (Ok answer) is left = tt
     told_refused e (Err x) is left = subst (λ (y : EngineError). NotApplied d y s0 s2 x0 x1) (sym is) (stays_on left)
 

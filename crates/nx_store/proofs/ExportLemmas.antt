@@ -18,7 +18,7 @@ use Rattle.nx_hold.specs.Changes.{place_of}
 use Rattle.nx_catalog.specs.Catalog.{Contents, IsCatalog}
 use Rattle.nx_nav.specs.declared.error.NavError.{NavError}
 use Rattle.nx_nav.specs.declared.error.NavError.TheVariants as nav
-use Rattle.nx_nav.specs.Given.{AsksAndGives, GivesBut, GivesWithin}
+use Rattle.nx_nav.specs.Given.{AsksAndGives, AppendsBut, GivesWithin}
 use Rattle.nx_nav.specs.GivenLaws.{within_more}
 use Rattle.nx_nav.specs.Refusals.{OfEach, OfEachWith, HoldsNoneWith, IsRefused}
 use Rattle.nx_nav.proofs.PartLemmas.{stands_kept}
@@ -27,7 +27,7 @@ use Rattle.nx_script.specs.declared.reply.Reply.TheVariants as reply
 use Rattle.nx_script.specs.declared.reply.ReplyError.TheVariants.{NoDocument}
 use Rattle.nx_script.specs.Reply.{reply_text}
 use Rattle.nx_state.specs.State.{State}
-use Rattle.nx_steps.specs.Answers.{by_document}
+use Rattle.nx_steps.specs.Answers.{by_stored_document}
 use Rattle.nx_store.specs.Told.{told_by}
 use Rattle.nx_store.specs.Store.{is_ended, IsAt, IsGiven, IsExported, ShowsGiven, NotAnswered}
 use Rattle.nx_store.specs.declared.store.Store.{Store}
@@ -57,7 +57,7 @@ module _ {D : Type 0} (d : Ghosts D) where
   gives_within s x0 x1 state bytes at within = elapsed_weaker within (λ m h. (h.0, at_image at h.1))
 
   module _ (s0 s1 : Store) (x0 x1 : D) (state : State) (name block left : List ℕ) (at : IsAt d s0 x0 state) where
-    exported : (result : Result (Unit {0}) EngineError) (r : Reply) → r ≡ by_document state name (λ document. reply.Exported (text (tree_of document))) → GivesWithin d (block ++ reply_text r) x0 x1
+    exported : (result : Result (Unit {0}) EngineError) (r : Reply) → r ≡ by_stored_document state name (λ document. reply.Exported (text (tree_of document))) → GivesWithin d (block ++ reply_text r) x0 x1
         → IsGiven d result (block ++ reply_text r) left state s1 x0 x1 → IsExported d result state name block left s1 x0 x1
     exported result r is within given = record { reply = r; step = export_case state name r state (is, refl); given = given; time = gives_within s0 x0 x1 state (block ++ reply_text r) at within }
 
@@ -73,7 +73,7 @@ module _ {D : Type 0} (d : Ghosts D) where
           (subst (λ w. GivesWithin d w x0 x1) (append_assoc block said last_line) (within_more d (block ++ said) last_line x0 x1 (within found.document found.has))) given
 
       -- the last part is in the block
-      pub given_exported : (mid : List ℕ) → OfEachWith d s0.records x0 (place_of entry.root) entry.nodes (λ document. GivesBut (block ++ text (tree_of document)) mid (d.beside x0).output (d.beside x1).output)
+      pub given_exported : (mid : List ℕ) → OfEachWith d s0.records x0 (place_of entry.root) entry.nodes (λ document. AppendsBut (block ++ text (tree_of document)) mid (d.beside x0).output (d.beside x1).output)
           → left ≡ mid ++ last_line → IsAt d s1 x1 state → IsExported d (Ok tt) state name block left s1 x0 x1
       given_exported mid gives ends later =
           let said = text (tree_of found.document) in

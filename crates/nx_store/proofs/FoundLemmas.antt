@@ -14,9 +14,9 @@ use Rattle.nx_hold.specs.declared.entry.DocEntry.{DocEntry}
 use Rattle.nx_hold.specs.Changes.{place_of}
 use Rattle.nx_hold.specs.Documents.{HasDocument}
 use Rattle.nx_catalog.specs.Catalog.{Contents}
-use Rattle.nx_state.specs.State.{State, size_of}
+use Rattle.nx_state.specs.State.{State, document_size}
 use Rattle.nx_state.specs.Stands.{StoredDocument, IsStoredIn}
-use Rattle.nx_steps.specs.Answers.{listed}
+use Rattle.nx_steps.specs.Answers.{cut_document_line}
 use Rattle.nx_store.specs.Told.{line_of}
 use Rattle.nx_store.specs.Store.{IsAt}
 use Rattle.nx_store.specs.declared.store.Store.{Store}
@@ -61,12 +61,12 @@ pub found_has : (P : StoredDocument → Type 0) (name : List ℕ) (stored : List
 found_has P name [] all x e = untold x e
 found_has P name (s ∷ stored) all x e = of_one P (eq_by_cmp name_order name s.name) s x (found name stored) all.0 (found_has P name stored all.1 x) e
 
-same_lines : (stored : List StoredDocument) → AllByRecursion (λ (s : StoredDocument). s.entry.nodes ≡ size_of s.document) stored
-    → map line_of (map (λ (s : StoredDocument). (s.name, s.entry)) stored) ≡ map listed (map (λ (s : StoredDocument). (s.name, s.document)) stored)
+same_lines : (stored : List StoredDocument) → AllByRecursion (λ (s : StoredDocument). s.entry.nodes ≡ document_size s.document) stored
+    → map line_of (map (λ (s : StoredDocument). (s.name, s.entry)) stored) ≡ map cut_document_line (map (λ (s : StoredDocument). (s.name, s.document)) stored)
 same_lines [] all = refl
 same_lines (s ∷ stored) all =
     ap (λ (n : ℕ). record { name = s.name; nodes = n } ∷ map line_of (map (λ (x : StoredDocument). (x.name, x.entry)) stored)) all.0
-    ∙ ap (λ ls. listed (s.name, s.document) ∷ ls) (same_lines stored all.1)
+    ∙ ap (λ ls. cut_document_line (s.name, s.document) ∷ ls) (same_lines stored all.1)
 
 -- of all their sizes
 counted_all : (P Q : StoredDocument → Type 0) (stored : List StoredDocument) → ((s : StoredDocument) → P s → Q s) → AllByRecursion P stored → AllByRecursion Q stored
@@ -78,7 +78,7 @@ pub record IsFound {D : Type 0} (d : Ghosts D) (store : Store) (disk : D) (state
   pub document : CutTree
   pub there : get state.documents name ≡ Some document
   pub has : HasDocument d store.records disk (place_of entry.root) document
-  pub counted : entry.nodes ≡ size_of document
+  pub counted : entry.nodes ≡ document_size document
 
 module _ {D : Type 0} {d : Ghosts D} where
   -- the catalog in memory has an entry for each document
@@ -117,10 +117,10 @@ module _ {D : Type 0} {d : Ghosts D} where
       }
 
   -- the lines of the catalog are those of the documents
-  pub at_lines : {store : Store} {x : D} {state : State} → IsAt d store x state → map line_of (entries (store.catalog).documents) ≡ map listed (entries state.documents)
+  pub at_lines : {store : Store} {x : D} {state : State} → IsAt d store x state → map line_of (entries (store.catalog).documents) ≡ map cut_document_line (entries state.documents)
   at_lines {store = store} {state = state} at =
       let stored = (at.state_is).stored in
       let holds = (at.state_is).holds in
       ap (map line_of) (at_entries at)
-      ∙ same_lines stored (counted_all (IsStoredIn ((at.held).settings).k (holds.pieces).piece_at) (λ (s : StoredDocument). s.entry.nodes ≡ size_of s.document) stored (λ s one. one.counted) (recursion_from_All _ stored holds.each))
-      ∙ ap (map listed) (sym (at.state_is).documents)
+      ∙ same_lines stored (counted_all (IsStoredIn ((at.held).settings).k (holds.pieces).piece_at) (λ (s : StoredDocument). s.entry.nodes ≡ document_size s.document) stored (λ s one. one.counted) (recursion_from_All _ stored holds.each))
+      ∙ ap (map cut_document_line) (sym (at.state_is).documents)

@@ -28,7 +28,7 @@ use Rattle.nx_catalog.specs.Catalog.{Contents, Entries, IsCatalog, catalog_bytes
 use Rattle.nx_state.specs.State.{State}
 use Rattle.nx_build.specs.Storing.{StoresDocument}
 use Rattle.nx_store.specs.Store.{IsAt}
-use Rattle.nx_store.specs.Loading.{IsNew, IsKept, IsLeft, NotKept}
+use Rattle.nx_store.specs.Loading.{IsNew, IsKept, IsStoreLeft, NotKept}
 use Rattle.nx_store.specs.declared.store.Store.{Store}
 use Rattle.nx_store.proofs.NameLemmas.{taken_back}
 use Rattle.nx_store.proofs.LoadLemmas.{IsBrought, brought, set_state, save_full, store_full, many_full}
@@ -121,7 +121,7 @@ module _ {D : Type 0} (d : Ghosts D) where
   pub put_refused : (s0 s1 : Store) (x0 x1 : D) (tree : OrderedTree) (name : List ℕ) (e : StoreError) → IsNew s0 name → s1.catalog ≡ s0.catalog → RunsOn s0.records s1.records → KeepsSaved d s0.records s1.records x0 x1
       → ((e ≡ error.Memory) ⊎ ((e ≡ error.Full) × (4294967295 ≤ length (entries (s0.catalog).documents)))) → NotKept d tree e s0 s1 x0 x1
   put_refused s0 s1 x0 x1 tree name e new same runs keeps cause =
-      let left : IsLeft d s0 s1 x0 x1 = record { runs = runs; saved = keeps; catalog = same } in
+      let left : IsStoreLeft d s0 s1 x0 x1 = record { runs = runs; saved = keeps; catalog = same } in
       elim cause [
         | inl is ↦ subst (λ (x : StoreError). NotKept d tree x s0 s1 x0 x1) (sym is) left
         | inr is ↦ subst (λ (x : StoreError). NotKept d tree x s0 s1 x0 x1) (sym is.0) (

@@ -19,7 +19,7 @@ use Rattle.nx_hold.proofs.MapLemmas.{piece_map}
 use Rattle.nx_catalog.specs.Catalog.{Contents, IsCatalog, catalog_bytes}
 use Rattle.nx_catalog.proofs.CatalogLemmas.{one_contents}
 use Rattle.nx_catalog.proofs.LengthLemmas.{most_bytes}
-use Rattle.nx_state.specs.State.{State, size_of, all_nodes}
+use Rattle.nx_state.specs.State.{State, document_size, all_nodes}
 use Rattle.nx_state.specs.Stands.{StoredDocument, HoldsDocuments, HoldsState}
 use Rattle.nx_build.specs.Storing.{StoresDocument}
 use Rattle.nx_steps.specs.Answers.{with_document, MayBeFull}
@@ -95,7 +95,7 @@ pub record IsBrought (saved now : Held) (state : State) (contents : Contents) (a
   pub names : entries (insert contents.documents name entry) ≡ map (λ (s : StoredDocument). (s.name, s.entry)) stored
   pub documents : entries (insert state.documents name document) ≡ map (λ (s : StoredDocument). (s.name, s.document)) stored
   pub number : length stored ≡ length at.stored + 1
-  pub sizes : sum (map (λ (s : StoredDocument). size_of s.document) stored) ≡ all_nodes state + (1 + nodes tree.below)
+  pub sizes : sum (map (λ (s : StoredDocument). document_size s.document) stored) ≡ all_nodes state + (1 + nodes tree.below)
 
 module _ (saved now : Held) (state : State) (contents : Contents) (at : HoldsState saved state) (catalog : IsCatalog saved.catalog contents) (name : List ℕ) (none : get contents.documents name ≡ None) (tree : OrderedTree) (parts : List Interval)
     (page slot count k : ℕ) (stores : StoresDocument k tree parts (record { page = page; slot = slot }) saved now) where
@@ -106,7 +106,7 @@ module _ (saved now : Held) (state : State) (contents : Contents) (at : HoldsSta
       → IsBrought saved now state contents at name tree parts (record { root = record { page = page; slot = slot }; nodes = count })
   brought k_is tidy counted in_order =
       let laid = stores.laid (piece_map now) in
-      let size : size_of stores.document ≡ 1 + nodes tree.below = ap (λ (t : OrderedTree). 1 + nodes t.below) stores.tree_is in
+      let size : document_size stores.document ≡ 1 + nodes tree.below = ap (λ (t : OrderedTree). 1 + nodes t.below) stores.tree_is in
       let k_now : k ≡ (now.settings).k = k_is ∙ sym (ap (λ (t : Settings). t.k) (stores.adds).settings) in
       let front = before saved state contents at catalog name none in
       let rest = after saved state contents at catalog name none in
@@ -129,7 +129,7 @@ module _ (saved now : Held) (state : State) (contents : Contents) (at : HoldsSta
         number = length_between front new_document rest ∙ ap (λ (l : List StoredDocument). length l + 1) (all_are saved state contents at catalog name none);
         sizes =
             let between = sum_between front new_document rest in
-            let all = ap (λ (l : List StoredDocument). sum (map (λ (s : StoredDocument). size_of s.document) l)) (all_are saved state contents at catalog name none) in
+            let all = ap (λ (l : List StoredDocument). sum (map (λ (s : StoredDocument). document_size s.document) l)) (all_are saved state contents at catalog name none) in
             let whole = nodes_stored state at.stored at.documents in
             omega (arith, between, all, whole, size);
       }

@@ -11,7 +11,7 @@ use Rattle.nx_host.proofs.DiskLemmas.{settled_still, written_alone_weaker}
 use Rattle.nx_replay.specs.Log.{Group, groups, replay, HasGroup}
 use Rattle.nx_holdings.specs.Holdings.{Held, Holds}
 use Rattle.nx_records.specs.declared.records.Records.{Records}
-use Rattle.nx_records.specs.Records.{has_ended, log_length_of, group_count, log_end, HasSaved, IsInStepWith, StandsFor, HasNoChanges, FollowsOn}
+use Rattle.nx_records.specs.Records.{has_ended, log_length_of, image_group_count, log_end, HasSaved, IsInStepWith, StandsFor, HasNoChanges, FollowsOn}
 use Rattle.nx_records.proofs.GroupLemmas.{ends_there, one_more, none_counted, ends_at_none}
 use Rattle.nx_records.proofs.StandLemmas.{abandon_stands}
 use Rattle.nx_catalog.specs.Catalog.{Contents, IsCatalog}
@@ -51,7 +51,7 @@ module _ {D : Type 0} {d : Ghosts D} (s0 : Store) (r1 : Records) (x0 : D) (follo
 
   -- without a group in its log
   pub emptied_log : (x1 : D) → ((was now : Image) → IsInStepWith d r1 x0 was → d.contents x1 ≡ Some now → groups now.log ≡ [])
-      → (state : State) (now : Image) → IsAt d s0 x0 state → IsSettled d x1 now → group_count now ≡ 0
+      → (state : State) (now : Image) → IsAt d s0 x0 state → IsSettled d x1 now → image_group_count now ≡ 0
   emptied_log x1 none_there state now at settled = let keeps = (dropped state at).keeps in none_counted now (none_there keeps.image now keeps.step settled.here)
 
 -- a command that may change a store is no checkpoint
@@ -71,7 +71,7 @@ module _ {D : Type 0} (d : Ghosts D) where
 
   -- a long log became empty
   pub long_shortened : (s : Store) (x0 x1 : D) (state : State) (was now : Image) → longest_log < log_length_of s.records → IsAt d s x0 state → IsSettled d x0 was → IsSettled d x1 now
-      → group_count now ≡ 0 → IsShortened was now
+      → image_group_count now ≡ 0 → IsShortened was now
   long_shortened s x0 x1 state was now long at before after none = let ends = log_at s x0 state was at before in inl (omega (arith, long, ends), none)
 
   -- a short one stays
@@ -83,11 +83,11 @@ module _ {D : Type 0} (d : Ghosts D) where
   log_stays command state before after other = record { emptied = λ is. absurd (other is); grown = λ changed. absurd (changed refl) }
 
   -- ... and so does a checkpoint, which empties it
-  pub log_emptied : (s : Store) (state : State) (before after : D) → ((now : Image) → IsSettled d after now → group_count now ≡ 0) → IsAt d s after state → LeavesLog d Checkpoint state state before after
+  pub log_emptied : (s : Store) (state : State) (before after : D) → ((now : Image) → IsSettled d after now → image_group_count now ≡ 0) → IsAt d s after state → LeavesLog d Checkpoint state state before after
   log_emptied s state before after none at =
       let keeps = (at.stands).keeps in
       let settled = (keeps.step).settled in record {
-        emptied = λ is image may. subst (λ (i : Image). group_count i ≡ 0) (sym (settled.only image may)) (none keeps.image settled);
+        emptied = λ is image may. subst (λ (i : Image). image_group_count i ≡ 0) (sym (settled.only image may)) (none keeps.image settled);
         grown = λ changed. absurd (changed refl);
       }
 
@@ -101,9 +101,9 @@ module _ {D : Type 0} (d : Ghosts D) where
         let now = some_value (d.contents x2) told in
         let ends = log_at s0 x0 state was at before in
         let same : mid ≡ was = one_image x1 was mid (settled_still still before) step.settled in
-        let counted : group_count now.0 ≡ group_count was + 1 = one_more g mid now.0 (more mid now.0 step now.1) ∙ ap (λ (i : Image). group_count i + 1) same in
-        subst (λ (i : Image). group_count i ≡ (if nat_lt longest_log (log_end was) then 1 else group_count was + 1)) (sym (((after mid now.0 step now.1).settled).only image may))
-        (counted ∙ ap (λ b. if b then 1 else group_count was + 1) (sym (le-ltb longest_log (log_end was) (omega (arith, short, ends)))));
+        let counted : image_group_count now.0 ≡ image_group_count was + 1 = one_more g mid now.0 (more mid now.0 step now.1) ∙ ap (λ (i : Image). image_group_count i + 1) same in
+        subst (λ (i : Image). image_group_count i ≡ (if nat_lt longest_log (log_end was) then 1 else image_group_count was + 1)) (sym (((after mid now.0 step now.1).settled).only image may))
+        (counted ∙ ap (λ b. if b then 1 else image_group_count was + 1) (sym (le-ltb longest_log (log_end was) (omega (arith, short, ends)))));
   }
 
   -- ... behind one that was shortened
@@ -113,9 +113,9 @@ module _ {D : Type 0} (d : Ghosts D) where
     grown = λ changed was image before may. counted was image (shortened was before) (leaves.grown changed mid image settled may);
   }
     where
-      counted : (was image : Image) → IsShortened was mid → group_count image ≡ (if nat_lt longest_log (log_end mid) then 1 else group_count mid + 1)
-          → group_count image ≡ (if nat_lt longest_log (log_end was) then 1 else group_count was + 1)
+      counted : (was image : Image) → IsShortened was mid → image_group_count image ≡ (if nat_lt longest_log (log_end mid) then 1 else image_group_count mid + 1)
+          → image_group_count image ≡ (if nat_lt longest_log (log_end was) then 1 else image_group_count was + 1)
       counted was image (inl long) is =
-          is ∙ ap (λ b. if b then 1 else group_count mid + 1) (le-ltb longest_log (log_end mid) (let none = ends_at_none mid long.1 in omega (arith, none)))
-          ∙ ap (λ n. n + 1) long.1 ∙ ap (λ b. if b then 1 else group_count was + 1) (sym (lt-ltb longest_log (log_end was) long.0))
-      counted was image (inr short) is = subst (λ (i : Image). group_count image ≡ (if nat_lt longest_log (log_end i) then 1 else group_count i + 1)) short.1 is
+          is ∙ ap (λ b. if b then 1 else image_group_count mid + 1) (le-ltb longest_log (log_end mid) (let none = ends_at_none mid long.1 in omega (arith, none)))
+          ∙ ap (λ n. n + 1) long.1 ∙ ap (λ b. if b then 1 else image_group_count was + 1) (sym (lt-ltb longest_log (log_end was) long.0))
+      counted was image (inr short) is = subst (λ (i : Image). image_group_count image ≡ (if nat_lt longest_log (log_end i) then 1 else image_group_count i + 1)) short.1 is

@@ -10,7 +10,7 @@ use Rattle.nx_tree.specs.declared.node.Node.{Node}
 use Rattle.nx_cuts.specs.Cut.{CutTree}
 use Rattle.nx_hold.specs.declared.entry.DocEntry.{DocEntry}
 use Rattle.nx_hold.specs.Changes.{place_of}
-use Rattle.nx_nav.specs.Refusals.{OfEach, OfEachWith, HoldsNone, HoldsNoneWith}
+use Rattle.nx_nav.specs.Refusals.{OfEach, OfEachWith, HoldsNoDocument, HoldsNoneWith}
 use Rattle.nx_nav.specs.Shows.{ShowsNode}
 use Rattle.nx_nav.specs.declared.finding.Shown.{Shown}
 use Rattle.nx_script.specs.declared.command.Command.TheVariants.{Names, Rules}
@@ -21,38 +21,38 @@ use Rattle.nx_catalog.specs.Catalog.{Contents}
 use Rattle.nx_catalog.proofs.CatalogLemmas.{one_contents}
 use Rattle.nx_state.specs.State.{State}
 use Rattle.nx_engine.specs.Step.{shown}
-use Rattle.nx_steps.specs.Answers.{by_document}
+use Rattle.nx_steps.specs.Answers.{by_stored_document}
 use Rattle.nx_steps.specs.Step.{Step}
 use Rattle.nx_store.specs.Told.{line_of}
 use Rattle.nx_store.specs.Store.{IsAt, IsNowhere}
 use Rattle.nx_store.specs.declared.store.Store.{Store}
 use Rattle.nx_store.proofs.FoundLemmas.{at_none, at_found, at_lines}
 
-by_found : (state : State) (name : List ℕ) (answer : CutTree → Reply) (document : CutTree) → get state.documents name ≡ Some document → answer document ≡ by_document state name answer
+by_found : (state : State) (name : List ℕ) (answer : CutTree → Reply) (document : CutTree) → get state.documents name ≡ Some document → answer document ≡ by_stored_document state name answer
 by_found state name answer document is = ap (λ o. option_map_or answer o (reply.Refused NoDocument)) (sym is)
 
-by_absent : (state : State) (name : List ℕ) (answer : CutTree → Reply) → get state.documents name ≡ None → reply.Refused NoDocument ≡ by_document state name answer
+by_absent : (state : State) (name : List ℕ) (answer : CutTree → Reply) → get state.documents name ≡ None → reply.Refused NoDocument ≡ by_stored_document state name answer
 by_absent state name answer none = ap (λ o. option_map_or answer o (reply.Refused NoDocument)) (sym none)
 
 module _ {D : Type 0} {d : Ghosts D} where
   -- where the catalog lacks the name, there is no document
   pub absent_answer : {store : Store} {x : D} {state : State} (name : List ℕ) (answer : CutTree → Reply) → get (store.catalog).documents name ≡ None → IsAt d store x state
-      → reply.Refused NoDocument ≡ by_document state name answer
+      → reply.Refused NoDocument ≡ by_stored_document state name answer
   absent_answer {state = state} name answer none at = by_absent state name answer (at_none name at none)
 
   -- what is said of each document that the records hold is said of the one of that name
   pub found_answer : {store : Store} {x : D} {state : State} (name : List ℕ) (entry : DocEntry) (answer : CutTree → Reply) (r : Reply) → get (store.catalog).documents name ≡ Some entry
-      → OfEach d store.records x (place_of entry.root) (λ document. r ≡ answer document) → IsAt d store x state → r ≡ by_document state name answer
+      → OfEach d store.records x (place_of entry.root) (λ document. r ≡ answer document) → IsAt d store x state → r ≡ by_stored_document state name answer
   found_answer {state = state} name entry answer r is each at =
       let found = at_found name entry at is in each found.document found.has ∙ by_found state name answer found.document found.there
 
   pub found_answer_with : {store : Store} {x : D} {state : State} (name : List ℕ) (entry : DocEntry) (answer : CutTree → Reply) (r : Reply) → get (store.catalog).documents name ≡ Some entry
-      → OfEachWith d store.records x (place_of entry.root) entry.nodes (λ document. r ≡ answer document) → IsAt d store x state → r ≡ by_document state name answer
+      → OfEachWith d store.records x (place_of entry.root) entry.nodes (λ document. r ≡ answer document) → IsAt d store x state → r ≡ by_stored_document state name answer
   found_answer_with {state = state} name entry answer r is each at =
       let found = at_found name entry at is in each found.document found.has (sym found.counted) ∙ by_found state name answer found.document found.there
 
   -- a store whose catalog names a document that isn't held is at no state
-  pub lacks_nowhere : {store : Store} {x : D} (name : List ℕ) (entry : DocEntry) → get (store.catalog).documents name ≡ Some entry → HoldsNone d store.records x (place_of entry.root) → IsNowhere d store x
+  pub lacks_nowhere : {store : Store} {x : D} (name : List ℕ) (entry : DocEntry) → get (store.catalog).documents name ≡ Some entry → HoldsNoDocument d store.records x (place_of entry.root) → IsNowhere d store x
   lacks_nowhere name entry is none state at = let found = at_found name entry at is in none found.document found.has
 
   pub lacks_nowhere_with : {store : Store} {x : D} (name : List ℕ) (entry : DocEntry) → get (store.catalog).documents name ≡ Some entry

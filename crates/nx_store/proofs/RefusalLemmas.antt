@@ -17,7 +17,7 @@ use Rattle.nx_catalog.specs.Catalog.{Contents, IsCatalog}
 use Rattle.nx_nav.specs.declared.error.NavError.{NavError}
 use Rattle.nx_nav.specs.declared.error.NavError.TheVariants as nav
 use Rattle.nx_nav.specs.Refusals.{IsRefused}
-use Rattle.nx_store.specs.Told.{told_of, told_by}
+use Rattle.nx_store.specs.Told.{told_error, told_by}
 use Rattle.nx_store.specs.Store.{IsNowhere, NotApplied, NotOpened}
 use Rattle.nx_store.specs.declared.store.Store.{Store}
 use Rattle.nx_store.specs.declared.error.EngineError.{EngineError}
@@ -31,7 +31,7 @@ pub rose_later : (n m k : ℕ) → n ≤ m → Rose m k → Rose n k
 rose_later n m k le rose = omega (arith, le, rose)
 
 module _ {D : Type 0} (d : Ghosts D) where
-  pub open_refused : (x0 x1 : D) (e : StoreError) → records.NotOpened d e x0 x1 → NotOpened d (told_of e) x0 x1
+  pub open_refused : (x0 x1 : D) (e : StoreError) → records.NoRecordsOpened d e x0 x1 → NotOpened d (told_error e) x0 x1
   open_refused x0 x1 below.Disk h = h
   open_refused x0 x1 below.NotAStore h = h
   open_refused x0 x1 (below.Damaged page) h = λ was settled. ((h.1 was settled).0, λ state recovers. (h.1 was settled).1 recovers.0 recovers.1)
@@ -43,7 +43,7 @@ module _ {D : Type 0} (d : Ghosts D) where
   pub catalog_refused : (r1 r2 : Records) (x0 x1 x2 : D) (e : StoreError) → IsStill d x0 x1 → has_ended r1 ≡ false
       → ((was : Image) (held : Held) → IsSettled d x0 was → Holds (replay was) held → StandsFor d r1 x1 held held)
       → ((was : Image) → IsSettled d x0 was → IsInStepWith d r1 x1 was × HasHeader was)
-      → NotRead d (λ now. (contents : Contents) → IsCatalog now.catalog contents → ⊥) 0 e r1 r2 x1 x2 → NotOpened d (told_of e) x0 x2
+      → NotRead d (λ now. (contents : Contents) → IsCatalog now.catalog contents → ⊥) 0 e r1 r2 x1 x2 → NotOpened d (told_error e) x0 x2
   catalog_refused r1 r2 x0 x1 x2 below.Disk still runs stands step h = rose_later (d.faults x0) (d.faults x1) (d.faults x2) still.faults_later h.0
   catalog_refused r1 r2 x0 x1 x2 (below.Damaged page) still runs stands step h =
       λ was settled. ((step was settled).1, λ state recovers. h.lacks recovers.0 recovers.0 (stands was recovers.0 settled recovers.1) (recovers.2).contents (recovers.2).catalog)

@@ -12,7 +12,7 @@ use Rattle.nx_holdings.specs.Holdings.{chain_count}
 use Rattle.nx_piece.specs.declared.piece.Piece.{Piece}
 use Rattle.nx_cuts.specs.Cut.{CutTree, forest}
 use Rattle.nx_layouts.specs.Layout.{RecordPlace}
-use Rattle.nx_state.specs.State.{State, size_of, all_nodes}
+use Rattle.nx_state.specs.State.{State, document_size, all_nodes}
 use Rattle.nx_state.specs.Stands.{StoredDocument, IsStoredIn}
 
 -- so many bytes fill so many chain pages, the last one aside
@@ -44,29 +44,29 @@ pub count_room : (nodes more documents rules limit : ℕ) → limit ≤ 16777216
 count_room nodes more documents rules limit low two many = omega (arith, low, two, many)
 
 -- a document has a root, and an element below it
-two_nodes : (k : ℕ) (pieces : RecordPlace → Option Piece) (s : StoredDocument) → IsStoredIn k pieces s → 2 ≤ size_of s.document
+two_nodes : (k : ℕ) (pieces : RecordPlace → Option Piece) (s : StoredDocument) → IsStoredIn k pieces s → 2 ≤ document_size s.document
 two_nodes k pieces s h = some (forest s.document.below) ((h.laid).is_document).one
   where
     some : (f : Forest) → element_count f ≡ 1 → 2 ≤ 1 + nodes f
     some Empty e = absurd (omega (arith, e))
     some (Plant node below beside) e = omega arith
 
-pub all_two : (k : ℕ) (pieces : RecordPlace → Option Piece) (stored : List StoredDocument) → All (IsStoredIn k pieces) stored → 2 * length stored ≤ sum (map (λ (s : StoredDocument). size_of s.document) stored)
+pub all_two : (k : ℕ) (pieces : RecordPlace → Option Piece) (stored : List StoredDocument) → All (IsStoredIn k pieces) stored → 2 * length stored ≤ sum (map (λ (s : StoredDocument). document_size s.document) stored)
 all_two k pieces [] each = omega arith
 all_two k pieces (s ∷ stored) each =
     let one = two_nodes k pieces s (All-head (IsStoredIn k pieces) s stored each) in
     let rest = all_two k pieces stored (All-tail (IsStoredIn k pieces) s stored each) in
-    let sums = sum_by-cons (λ (n : ℕ). n) (size_of s.document) (map (λ (x : StoredDocument). size_of x.document) stored) in
+    let sums = sum_by-cons (λ (n : ℕ). n) (document_size s.document) (map (λ (x : StoredDocument). document_size x.document) stored) in
     omega (arith, one, rest, sums)
 
 -- how many nodes one document more brings
 pub sum_between : (before : List StoredDocument) (s : StoredDocument) (after : List StoredDocument) →
-    sum (map (λ (x : StoredDocument). size_of x.document) (before ++ s ∷ after)) ≡ sum (map (λ (x : StoredDocument). size_of x.document) (before ++ after)) + size_of s.document
-sum_between [] s after = let sums = sum_by-cons (λ (n : ℕ). n) (size_of s.document) (map (λ (x : StoredDocument). size_of x.document) after) in omega (arith, sums)
+    sum (map (λ (x : StoredDocument). document_size x.document) (before ++ s ∷ after)) ≡ sum (map (λ (x : StoredDocument). document_size x.document) (before ++ after)) + document_size s.document
+sum_between [] s after = let sums = sum_by-cons (λ (n : ℕ). n) (document_size s.document) (map (λ (x : StoredDocument). document_size x.document) after) in omega (arith, sums)
 sum_between (b ∷ before) s after =
     let rest = sum_between before s after in
-    let one = sum_by-cons (λ (n : ℕ). n) (size_of b.document) (map (λ (x : StoredDocument). size_of x.document) (before ++ s ∷ after)) in
-    let other = sum_by-cons (λ (n : ℕ). n) (size_of b.document) (map (λ (x : StoredDocument). size_of x.document) (before ++ after)) in
+    let one = sum_by-cons (λ (n : ℕ). n) (document_size b.document) (map (λ (x : StoredDocument). document_size x.document) (before ++ s ∷ after)) in
+    let other = sum_by-cons (λ (n : ℕ). n) (document_size b.document) (map (λ (x : StoredDocument). document_size x.document) (before ++ after)) in
     omega (arith, rest, one, other)
 
 pub length_between : (before : List StoredDocument) (s : StoredDocument) (after : List StoredDocument) → length (before ++ s ∷ after) ≡ length (before ++ after) + 1
@@ -75,10 +75,10 @@ length_between before s after =
     let other = length-append before after in
     omega (arith, one, other)
 
-same_sizes : (stored : List StoredDocument) → map size_of (map (λ (e : List ℕ × CutTree). e.1) (map (λ (s : StoredDocument). (s.name, s.document)) stored)) ≡ map (λ (s : StoredDocument). size_of s.document) stored
+same_sizes : (stored : List StoredDocument) → map document_size (map (λ (e : List ℕ × CutTree). e.1) (map (λ (s : StoredDocument). (s.name, s.document)) stored)) ≡ map (λ (s : StoredDocument). document_size s.document) stored
 same_sizes [] = refl
-same_sizes (s ∷ stored) = ap (λ l. size_of s.document ∷ l) (same_sizes stored)
+same_sizes (s ∷ stored) = ap (λ l. document_size s.document ∷ l) (same_sizes stored)
 
 -- all nodes of a state are those of its documents
-pub nodes_stored : (state : State) (stored : List StoredDocument) → entries state.documents ≡ map (λ (s : StoredDocument). (s.name, s.document)) stored → all_nodes state ≡ sum (map (λ (s : StoredDocument). size_of s.document) stored)
-nodes_stored state stored are = ap (λ (es : List (List ℕ × CutTree)). sum (map size_of (map (λ (e : List ℕ × CutTree). e.1) es))) are ∙ ap sum (same_sizes stored)
+pub nodes_stored : (state : State) (stored : List StoredDocument) → entries state.documents ≡ map (λ (s : StoredDocument). (s.name, s.document)) stored → all_nodes state ≡ sum (map (λ (s : StoredDocument). document_size s.document) stored)
+nodes_stored state stored are = ap (λ (es : List (List ℕ × CutTree)). sum (map document_size (map (λ (e : List ℕ × CutTree). e.1) es))) are ∙ ap sum (same_sizes stored)

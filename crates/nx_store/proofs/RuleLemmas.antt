@@ -17,7 +17,7 @@ use Rattle.nx_matrix.specs.declared.rule.Entry.{Entry}
 use Rattle.nx_matrix.specs.declared.rule.Entry.TheVariants.{Standalone, Cluster, Free}
 use Rattle.nx_matrix.specs.declared.rule.Rule.{Rule}
 use Rattle.nx_matrix.specs.declared.error.MatrixError.TheVariants as matrix
-use Rattle.nx_matrix.specs.Rules.{AreRules, IsRefused, has_rule, most_rules}
+use Rattle.nx_matrix.specs.Rules.{AreRules, IsRuleRefused, has_rule, most_rules, is_free}
 use Rattle.nx_script.specs.Rule.{HasLabels}
 use Rattle.nx_script.specs.declared.command.Command.TheVariants.{SetRule}
 use Rattle.nx_script.specs.declared.reply.Reply.TheVariants as reply
@@ -35,7 +35,7 @@ use Rattle.nx_state.specs.Stands.{StoredDocument}
 use Rattle.nx_state.proofs.ChangeLemmas.{catalog_comes}
 use Rattle.nx_state.proofs.FreeLemmas.{documents_leave_free}
 use Rattle.nx_steps.specs.Answers.{MayBeFull}
-use Rattle.nx_steps.specs.Refusal.{rule_fault, is_free}
+use Rattle.nx_steps.specs.Refusal.{rule_fault}
 use Rattle.nx_steps.specs.Step.{nodes_after, Step}
 use Rattle.nx_steps.proofs.CountLemmas.{room_counted}
 use Rattle.nx_store.specs.Store.{IsAt}
@@ -68,7 +68,7 @@ faultless false false true never = absurd (never refl refl refl)
 faultless false false false never = refl
 
 -- no more rules fit
-pub rule_refused : (old : List Rule) (rule : Rule) → IsRefused old rule.parent rule.child rule.entry matrix.TooManyRules → rule_fault old rule ≡ Some TooManyRules
+pub rule_refused : (old : List Rule) (rule : Rule) → IsRuleRefused old rule.parent rule.child rule.entry matrix.TooManyRules → rule_fault old rule ≡ Some TooManyRules
 rule_refused old rule refused =
     ap (λ (b : Bool). if b then Some TooManyRules else None)
     (faulty (is_free rule.entry) (has_rule old rule.parent rule.child) (length old == most_rules) (bound_not_free rule.entry (refused.0).0) (refused.0).1 (ap (λ n. n == most_rules) refused.1))
@@ -135,8 +135,8 @@ module _ {D : Type 0} (d : Ghosts D) (s0 : Store) (x0 : D) (state : State) (at :
         };
       }
 
-  pub rule_many : (rule : Rule) → IsRefused (s0.catalog).rules rule.parent rule.child rule.entry matrix.TooManyRules → Step state (SetRule rule) (reply.Refused TooManyRules) state
-  rule_many rule refused = refused_step state (SetRule rule) TooManyRules (rule_refused state.rules rule (subst (λ (rs : List Rule). IsRefused rs rule.parent rule.child rule.entry matrix.TooManyRules) rules_at refused))
+  pub rule_many : (rule : Rule) → IsRuleRefused (s0.catalog).rules rule.parent rule.child rule.entry matrix.TooManyRules → Step state (SetRule rule) (reply.Refused TooManyRules) state
+  rule_many rule refused = refused_step state (SetRule rule) TooManyRules (rule_refused state.rules rule (subst (λ (rs : List Rule). IsRuleRefused rs rule.parent rule.child rule.entry matrix.TooManyRules) rules_at refused))
 
   pub rule_full : (s1 : Store) (x1 : D) (rule : Rule) → HasLabels rule → FindsNoPage d s0.catalog rule s0.records s1.records x0 x1 → Step state (SetRule rule) (reply.Refused Full) state
   rule_full s1 x1 rule labels finds =

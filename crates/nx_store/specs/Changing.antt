@@ -18,7 +18,7 @@ use Rattle.nx_state.specs.State.{State}
 use Rattle.nx_state.specs.Stands.{HoldsState}
 use Rattle.nx_store.specs.Carried.{StoreStep}
 use Rattle.nx_store.specs.Store.{IsAt, IsNowhere, EndsNow}
-use Rattle.nx_store.specs.Loading.{IsLeft, IsToldOrNot, IsRefusal}
+use Rattle.nx_store.specs.Loading.{IsStoreLeft, IsToldOrNot, IsRefusal}
 use Rattle.nx_store.specs.declared.store.Store.{Store}
 use Rattle.nx_store.specs.declared.error.EngineError.{EngineError}
 
@@ -45,7 +45,7 @@ StepsRefused d command error store disk = (state : State) → IsAt d store disk 
 abbrev pub NotPrepared : {D : Type 0} → Ghosts D → StoreError → Store → Store → D → D → Type 0
 NotPrepared d below.Disk old new before after = Rose (d.faults before) (d.faults after) × EndsNow old new
 NotPrepared d (below.Damaged page) old new before after = EndsNow old new × IsNowhere d old before
-NotPrepared d below.Memory old new before after = IsLeft d old new before after
+NotPrepared d below.Memory old new before after = IsStoreLeft d old new before after
 NotPrepared d below.Full old new before after = ⊥
 NotPrepared d below.Ended old new before after = ⊥
 NotPrepared d below.Exists old new before after = ⊥
@@ -53,8 +53,8 @@ NotPrepared d below.NotAStore old new before after = ⊥
 
 -- why a rule wasn't prepared
 abbrev pub RuleNotPrepared : {D : Type 0} → Ghosts D → Command → RuleError → Store → Store → D → D → Type 0
-RuleNotPrepared d command rule.TooManyRules old new before after = IsLeft d old new before after × StepsRefused d command refused.TooManyRules old before
-RuleNotPrepared d command (rule.Store below.Full) old new before after = IsLeft d old new before after × StepsRefused d command refused.Full old before
+RuleNotPrepared d command rule.TooManyRules old new before after = IsStoreLeft d old new before after × StepsRefused d command refused.TooManyRules old before
+RuleNotPrepared d command (rule.Store below.Full) old new before after = IsStoreLeft d old new before after × StepsRefused d command refused.Full old before
 RuleNotPrepared d command (rule.Store error) old new before after = NotPrepared d error old new before after
 
 -- what a `rule` is answered that wasn't prepared

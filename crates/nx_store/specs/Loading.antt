@@ -47,11 +47,11 @@ pub record IsKept {D : Type 0} (d : Ghosts D) (store : Store) (disk : D) (state 
   pub catalog : IsCatalog now.catalog store.catalog
 
 -- whatever state the store was at, there may not be room for one document more with so many nodes
-abbrev pub HasNoRoom : {D : Type 0} → Ghosts D → Store → D → OrderedTree → Type 0
-HasNoRoom d store disk tree = (state : State) → IsAt d store disk state → MayBeFull state (all_nodes state + (1 + nodes tree.below))
+abbrev pub HasNoRoomForDocument : {D : Type 0} → Ghosts D → Store → D → OrderedTree → Type 0
+HasNoRoomForDocument d store disk tree = (state : State) → IsAt d store disk state → MayBeFull state (all_nodes state + (1 + nodes tree.below))
 
 -- What is left of the store where a document wasn't kept: its catalog and its last commit.
-pub record IsLeft {D : Type 0} (d : Ghosts D) (old new : Store) (before after : D) : Type 0 where
+pub record IsStoreLeft {D : Type 0} (d : Ghosts D) (old new : Store) (before after : D) : Type 0 where
   pub runs : RunsOn old.records new.records
   pub saved : KeepsSaved d old.records new.records before after
   pub catalog : new.catalog ≡ old.catalog
@@ -60,8 +60,8 @@ pub record IsLeft {D : Type 0} (d : Ghosts D) (old new : Store) (before after : 
 abbrev pub NotKept : {D : Type 0} → Ghosts D → OrderedTree → StoreError → Store → Store → D → D → Type 0
 NotKept d tree error.Disk old new before after = Rose (d.faults before) (d.faults after) × EndsNow old new
 NotKept d tree (error.Damaged page) old new before after = EndsNow old new × IsNowhere d old before
-NotKept d tree error.Full old new before after = IsLeft d old new before after × HasNoRoom d old before tree
-NotKept d tree error.Memory old new before after = IsLeft d old new before after
+NotKept d tree error.Full old new before after = IsStoreLeft d old new before after × HasNoRoomForDocument d old before tree
+NotKept d tree error.Memory old new before after = IsStoreLeft d old new before after
 NotKept d tree error.Ended old new before after = ⊥
 NotKept d tree error.Exists old new before after = ⊥
 NotKept d tree error.NotAStore old new before after = ⊥
@@ -72,8 +72,8 @@ reply_of (Ok answer) = Ok answer.0
 reply_of (Err e) = Err e
 
 -- the text beside a reply is its own
-abbrev pub HasText : Reply × List ℕ → Type 0
-HasText answer = answer.1 ≡ reply_text answer.0
+abbrev pub HasReplyText : Reply × List ℕ → Type 0
+HasReplyText answer = answer.1 ≡ reply_text answer.0
 
 -- the reply with its text, or there was no memory for it
 abbrev pub IsToldOrNot : Reply → Result (Reply × List ℕ) EngineError → Type 0
@@ -91,6 +91,6 @@ IsRefusal error.Exists result = result ≡ Err told.Exists
 IsRefusal error.NotAStore result = result ≡ Err told.NotAStore
 
 -- How a command ended whose reply's text was made, where the store is then, and what stood meanwhile.
-abbrev pub IsWritten : {D : Type 0} → Ghosts D → Result (List ℕ) EngineError → State → Command → Store → D → D → Type 0
-IsWritten d (Ok text) state command store before after = (reply : Reply) × (text ≡ reply_text reply) × IsApplied d (Ok reply) state command store before after
-IsWritten d (Err e) state command store before after = IsApplied d (Err e) state command store before after
+abbrev pub IsAppliedWithText : {D : Type 0} → Ghosts D → Result (List ℕ) EngineError → State → Command → Store → D → D → Type 0
+IsAppliedWithText d (Ok text) state command store before after = (reply : Reply) × (text ≡ reply_text reply) × IsApplied d (Ok reply) state command store before after
+IsAppliedWithText d (Err e) state command store before after = IsApplied d (Err e) state command store before after

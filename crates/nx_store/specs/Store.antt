@@ -6,9 +6,9 @@ use Rattle.nx_host.specs.Host.{Appends, AppendsPrefix}
 use Rattle.nx_host.specs.Time.{Stood, Elapses}
 use Rattle.nx_host.specs.Still.{IsSettled, IsStill}
 use Rattle.nx_records.specs.Words.{replay, Held}
-use Rattle.nx_records.specs.Records.{StandsFor, LeavesRecords, HasNoChanges, HasHeader, has_ended, group_count, log_end}
+use Rattle.nx_records.specs.Records.{StandsFor, LeavesRecords, HasNoChanges, HasHeader, has_ended, image_group_count, log_end}
 use Rattle.nx_catalog.specs.Catalog.{IsCatalog}
-use Rattle.nx_nav.specs.Given.{GivesBut}
+use Rattle.nx_nav.specs.Given.{AppendsBut}
 use Rattle.nx_script.specs.declared.command.Command.{Command}
 use Rattle.nx_script.specs.declared.command.Command.TheVariants.{Export, Checkpoint}
 use Rattle.nx_script.specs.declared.reply.Reply.{Reply}
@@ -33,7 +33,7 @@ pub record IsAt {D : Type 0} (d : Ghosts D) (store : Store) (disk : D) (state : 
   pub catalog : IsCatalog held.catalog store.catalog
 
 -- What a command is answered that comes in a state, and the state that it leaves.
-pub record Turn (state : State) (command : Command) : Type 0 where
+pub record StoreTurn (state : State) (command : Command) : Type 0 where
   pub reply : Reply
   pub next : State
   pub step : StoreStep state command reply next
@@ -44,14 +44,14 @@ longest_log = 67108864
 
 -- a log that is longer became empty, and another one stays
 abbrev pub IsShortened : Image → Image → Type 0
-IsShortened was now = ((longest_log < log_end was) × (group_count now ≡ 0)) ⊎ ((log_end was ≤ longest_log) × (now ≡ was))
+IsShortened was now = ((longest_log < log_end was) × (image_group_count now ≡ 0)) ⊎ ((log_end was ≤ longest_log) × (now ≡ was))
 
 -- What a command leaves of the log in each image that a crash may leave: no group after a `checkpoint`; where the state is another, one more than there were, and
 -- that one alone where the log was long.
 pub record LeavesLog {D : Type 0} (d : Ghosts D) (command : Command) (state next : State) (before after : D) : Type 0 where
-  pub emptied : command ≡ Checkpoint → (image : Image) → d.may_leave after image → group_count image ≡ 0
+  pub emptied : command ≡ Checkpoint → (image : Image) → d.may_leave after image → image_group_count image ≡ 0
   pub grown : next ≢ state → (was image : Image) → IsSettled d before was → d.may_leave after image
-      → group_count image ≡ (if nat_lt longest_log (log_end was) then 1 else group_count was + 1)
+      → image_group_count image ≡ (if nat_lt longest_log (log_end was) then 1 else image_group_count was + 1)
 
 -- it is an image of this state
 abbrev pub IsOf : State → Image → Type 0
@@ -67,7 +67,7 @@ Shows d P before after = Elapses d.moment d.stood_since before after (λ s. Keep
 
 -- Nothing came of the command: each image was of the state before it. Or it was begun: each was of that state, or of the one after it.
 abbrev pub ShowsBegun : {D : Type 0} → Ghosts D → State → Command → D → D → Type 0
-ShowsBegun d state command before after = Shows d (IsOf state) before after ⊎ ((turn : Turn state command) × Shows d (IsOfEither state turn.next) before after)
+ShowsBegun d state command before after = Shows d (IsOf state) before after ⊎ ((turn : StoreTurn state command) × Shows d (IsOfEither state turn.next) before after)
 
 -- How a command ended that came in this state, where the store is then, and what stood meanwhile.
 abbrev pub IsApplied : {D : Type 0} → Ghosts D → Result Reply EngineError → State → Command → Store → D → D → Type 0
@@ -82,15 +82,15 @@ abbrev pub ShowsAnswer : Option (List ℕ) → State → List ℕ → State → 
 ShowsAnswer output state text next s = (Keeps output s.output × IsOfEither state next s.image) ⊎ (AppendsPrefix text output s.output × IsOf next s.image)
 
 -- the moments of a turn whose reply was given
-abbrev pub ShowsTurn : {D : Type 0} {state : State} {command : Command} → Ghosts D → Turn state command → D → D → Type 0
+abbrev pub ShowsTurn : {D : Type 0} {state : State} {command : Command} → Ghosts D → StoreTurn state command → D → D → Type 0
 ShowsTurn {state = state} d turn before after = Elapses d.moment d.stood_since before after (ShowsAnswer (d.beside before).output state (reply_text turn.reply) turn.next)
 
 -- How a command ended that came in this state and whose reply was to be given, where the store is then, and what stood meanwhile.
 abbrev pub IsAnswered : {D : Type 0} → Ghosts D → Result (Unit {0}) EngineError → State → Command → Store → D → D → Type 0
 IsAnswered d (Ok _) state command store before after =
-    (turn : Turn state command) × IsAt d store after turn.next × Appends (reply_text turn.reply) (d.beside before).output (d.beside after).output × ShowsTurn d turn before after
+    (turn : StoreTurn state command) × IsAt d store after turn.next × Appends (reply_text turn.reply) (d.beside before).output (d.beside after).output × ShowsTurn d turn before after
     × LeavesLog d command state turn.next before after
-IsAnswered d (Err error.Write) state command store before after = (turn : Turn state command) × IsAt d store after turn.next × ShowsTurn d turn before after
+IsAnswered d (Err error.Write) state command store before after = (turn : StoreTurn state command) × IsAt d store after turn.next × ShowsTurn d turn before after
 IsAnswered d (Err error.Memory) state command store before after = IsAt d store after state × Shows d (IsOf state) before after
 IsAnswered d (Err error.Disk) state command store before after = ShowsBegun d state command before after
 IsAnswered d (Err _) state command store before after = ⊥
@@ -101,7 +101,7 @@ ShowsGiven d bytes state before after = Elapses d.moment d.stood_since before af
 
 -- how the giving of bytes ended that were to be given but for a last part, and where the store is then
 abbrev pub IsGiven : {D : Type 0} → Ghosts D → Result (Unit {0}) EngineError → List ℕ → List ℕ → State → Store → D → D → Type 0
-IsGiven d (Ok _) bytes left state store before after = IsAt d store after state × GivesBut bytes left (d.beside before).output (d.beside after).output
+IsGiven d (Ok _) bytes left state store before after = IsAt d store after state × AppendsBut bytes left (d.beside before).output (d.beside after).output
 IsGiven d (Err error.Write) bytes left state store before after = IsAt d store after state
 IsGiven d (Err error.Memory) bytes left state store before after = IsAt d store after state
 IsGiven d (Err error.Disk) bytes left state store before after = Unit {0}

@@ -10,14 +10,14 @@ use Rattle.nx_store.specs.declared.error.EngineError.{EngineError}
 use Rattle.nx_store.specs.declared.error.EngineError.TheVariants as error
 
 -- why a call of the store gives up whose call of records gave up so, where these don't answer that no page is free
-abbrev pub told_of : StoreError → EngineError
-told_of below.Disk = error.Disk
-told_of below.Exists = error.Exists
-told_of below.NotAStore = error.NotAStore
-told_of below.Full = error.Memory
-told_of (below.Damaged page) = error.Damaged page
-told_of below.Ended = error.Ended
-told_of below.Memory = error.Memory
+abbrev pub told_error : StoreError → EngineError
+told_error below.Disk = error.Disk
+told_error below.Exists = error.Exists
+told_error below.NotAStore = error.NotAStore
+told_error below.Full = error.Memory
+told_error (below.Damaged page) = error.Damaged page
+told_error below.Ended = error.Ended
+told_error below.Memory = error.Memory
 
 -- ... and whose look at a document gave up so, where it doesn't answer that there is no node
 abbrev pub told_by : NavError → EngineError

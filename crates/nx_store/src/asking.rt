@@ -3,7 +3,7 @@ ghost use Rattle.std.specs.Prelude.{◌≡◌, false, map, IsSome, IfOk, IfErr, 
 ghost use Rattle.std.specs.FinMap.{entries};
 ghost use Rattle.nx_host.specs.Disk.{Image, Rose};
 ghost use Rattle.nx_host.specs.Still.{IsStill, IsSettled, WritesAlone};
-ghost use Rattle.nx_records.specs.Records.{log_length_of, group_count};
+ghost use Rattle.nx_records.specs.Records.{log_length_of, image_group_count};
 ghost use Rattle.nx_script.specs.declared.command.Command.TheVariants as command;
 ghost use Rattle.nx_store.specs.Told.{line_of};
 ghost use Rattle.nx_state.specs.State.{State};
@@ -144,7 +144,7 @@ impl Store {
         ensures goes { WritesAlone D.Disk disk.old disk.new (λ i. (state : State) → IsAt D.Disk self.old disk.old state → IsOf state i) }
         ensures ok { OnOk result ((is_ended self.new ≡ false) × (log_length_of self.new.records ≡ 0)
             × ((state : State) → IsAt D.Disk self.old disk.old state → IsSome (D.contents disk.new) → IsAt D.Disk self.new disk.new state)) }
-        ensures log { OnOk result ((state : State) (now : Image) → IsAt D.Disk self.old disk.old state → IsSettled D.Disk disk.new now → group_count now ≡ 0) }
+        ensures log { OnOk result ((state : State) (now : Image) → IsAt D.Disk self.old disk.old state → IsSettled D.Disk disk.new now → image_group_count now ≡ 0) }
         ensures catalog { self.new.catalog ≡ self.old.catalog }
         ensures refused { IfErr result (λ e. (e ≡ EngineError.Disk) × Rose (D.faults disk.old) (D.faults disk.new) × EndsNow self.old self.new) }
     {

@@ -8,7 +8,7 @@ ghost use Rattle.nx_script.specs.Rule.{HasLabels};
 ghost use Rattle.nx_script.specs.declared.command.Command.TheVariants as command;
 ghost use Rattle.nx_state.specs.State.{State};
 ghost use Rattle.nx_store.specs.Store.{is_ended, longest_log, GoesOn, IsAt, IsApplied, NotApplied};
-ghost use Rattle.nx_store.specs.Loading.{reply_of, HasText};
+ghost use Rattle.nx_store.specs.Loading.{reply_of, HasReplyText};
 ghost use Rattle.nx_store.specs.Changing.{Prepares, NotPrepared, RuleNotPrepared, IsRuleRefusal};
 
 use crate::loading::{refused, told};
@@ -33,7 +33,7 @@ impl Store {
         requires runs { is_ended self.old ≡ false }
         requires labels { HasLabels rule.now }
         ensures applies { (state : State) → IsAt D.Disk self.old disk.old state → IsSome (D.contents disk.new) → IsApplied D.Disk (reply_of result) state (command.SetRule rule.now) self.new disk.old disk.new }
-        ensures ok { IfOk result (λ answer. GoesOn self.old self.new × HasText answer) }
+        ensures ok { IfOk result (λ answer. GoesOn self.old self.new × HasReplyText answer) }
         ensures refused { IfErr result (λ e. NotApplied D.Disk e self.old self.new disk.old disk.new) }
         ensures areas { WritesAlone D.Disk disk.old disk.new (λ _. Unit {0}) }
     {
@@ -51,7 +51,7 @@ impl Store {
         requires short { log_length_of self.old.records ≤ longest_log }
         requires labels { HasLabels rule.now }
         ensures applies { (state : State) → IsAt D.Disk self.old disk.old state → IsSome (D.contents disk.new) → IsApplied D.Disk (reply_of result) state (command.SetRule rule.now) self.new disk.old disk.new }
-        ensures ok { IfOk result (λ answer. GoesOn self.old self.new × HasText answer) }
+        ensures ok { IfOk result (λ answer. GoesOn self.old self.new × HasReplyText answer) }
         ensures refused { IfErr result (λ e. NotApplied D.Disk e self.old self.new disk.old disk.new) }
         ensures areas { WritesAlone D.Disk disk.old disk.new (λ _. Unit {0}) }
     {
@@ -90,7 +90,7 @@ impl Store {
     ) -> Result<(Reply, Bytes), EngineError>
         requires runs { is_ended self.old ≡ false }
         ensures applies { (state : State) → IsAt D.Disk self.old disk.old state → IsSome (D.contents disk.new) → IsApplied D.Disk (reply_of result) state (command.Discard name.now) self.new disk.old disk.new }
-        ensures ok { IfOk result (λ answer. GoesOn self.old self.new × HasText answer) }
+        ensures ok { IfOk result (λ answer. GoesOn self.old self.new × HasReplyText answer) }
         ensures refused { IfErr result (λ e. NotApplied D.Disk e self.old self.new disk.old disk.new) }
         ensures areas { WritesAlone D.Disk disk.old disk.new (λ _. Unit {0}) }
     {
@@ -112,7 +112,7 @@ impl Store {
         requires short { log_length_of self.old.records ≤ longest_log }
         requires found { get (self.old.catalog).documents name.now ≡ Some entry }
         ensures applies { (state : State) → IsAt D.Disk self.old disk.old state → IsSome (D.contents disk.new) → IsApplied D.Disk (reply_of result) state (command.Discard name.now) self.new disk.old disk.new }
-        ensures ok { IfOk result (λ answer. GoesOn self.old self.new × HasText answer) }
+        ensures ok { IfOk result (λ answer. GoesOn self.old self.new × HasReplyText answer) }
         ensures refused { IfErr result (λ e. NotApplied D.Disk e self.old self.new disk.old disk.new) }
         ensures areas { WritesAlone D.Disk disk.old disk.new (λ _. Unit {0}) }
     {

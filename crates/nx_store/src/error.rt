@@ -1,7 +1,7 @@
 // Why a call of a store gives up.
 ghost use Rattle.std.specs.Prelude.{◌≡◌};
 ghost use Rattle.nx_store.specs.declared.error.EngineError.TheVariants.{Memory};
-ghost use Rattle.nx_store.specs.Told.{told_of, told_by};
+ghost use Rattle.nx_store.specs.Told.{told_error, told_by};
 
 use nx_nav::NavError;
 use nx_records::StoreError;
@@ -46,7 +46,7 @@ impl From<NoMemory> for EngineError {
 }
 
 impl From<StoreError> for EngineError {
-    ghost from_gives = { λ below error. error ≡ told_of below };
+    ghost from_gives = { λ below error. error ≡ told_error below };
 
     fn from(error: StoreError) -> EngineError {
         match error {

@@ -15,7 +15,7 @@ ghost use Rattle.nx_script.specs.Rule.{HasLabels};
 ghost use Rattle.nx_catalog.specs.Catalog.{IsCatalog, catalog_bytes};
 ghost use Rattle.nx_state.specs.State.{State};
 ghost use Rattle.nx_store.specs.Store.{is_ended, longest_log, EndsNow, GoesOn, IsAt, IsOf, IsShortened, IsApplied, NotApplied};
-ghost use Rattle.nx_store.specs.Loading.{IsNew, IsChosen, IsKept, NotKept, reply_of, HasText, IsToldOrNot, IsRefusal};
+ghost use Rattle.nx_store.specs.Loading.{IsNew, IsChosen, IsKept, NotKept, reply_of, HasReplyText, IsToldOrNot, IsRefusal};
 
 use crate::{EngineError, Store};
 use nx_build::store;
@@ -42,7 +42,7 @@ impl Store {
     ) -> Result<(Reply, Bytes), EngineError>
         requires { CanCome (Load name body) }
         ensures loads { (state : State) → IsAt D.Disk self.old disk.old state → IsSome (D.contents disk.new) → IsApplied D.Disk (reply_of result) state (Load name body) self.new disk.old disk.new }
-        ensures ok { IfOk result (λ answer. GoesOn self.old self.new × HasText answer) }
+        ensures ok { IfOk result (λ answer. GoesOn self.old self.new × HasReplyText answer) }
         ensures refused { IfErr result (λ e. NotApplied D.Disk e self.old self.new disk.old disk.new) }
         ensures areas { WritesAlone D.Disk disk.old disk.new (λ _. Unit {0}) }
     {
@@ -71,7 +71,7 @@ impl Store {
         requires document { IsDocument tree }
         ensures loads { (state : State) → IsAt D.Disk self.old disk.old state → IsSome (D.contents disk.new) →
             IsApplied D.Disk (reply_of result) state (Load name.now (Read tree)) self.new disk.old disk.new }
-        ensures ok { IfOk result (λ answer. GoesOn self.old self.new × HasText answer) }
+        ensures ok { IfOk result (λ answer. GoesOn self.old self.new × HasReplyText answer) }
         ensures refused { IfErr result (λ e. NotApplied D.Disk e self.old self.new disk.old disk.new) }
         ensures areas { WritesAlone D.Disk disk.old disk.new (λ _. Unit {0}) }
     {
@@ -109,7 +109,7 @@ impl Store {
         requires document { IsDocument tree }
         ensures loads { (state : State) → IsAt D.Disk self.old disk.old state → IsSome (D.contents disk.new) →
             IsApplied D.Disk (reply_of result) state (Load name.now (Read tree)) self.new disk.old disk.new }
-        ensures ok { IfOk result (λ answer. GoesOn self.old self.new × HasText answer) }
+        ensures ok { IfOk result (λ answer. GoesOn self.old self.new × HasReplyText answer) }
         ensures refused { IfErr result (λ e. NotApplied D.Disk e self.old self.new disk.old disk.new) }
         ensures areas { WritesAlone D.Disk disk.old disk.new (λ _. Unit {0}) }
     {
@@ -140,7 +140,7 @@ impl Store {
         requires chosen { IsChosen self.old tree parts.now }
         ensures loads { (state : State) → IsAt D.Disk self.old disk.old state → IsSome (D.contents disk.new) →
             IsApplied D.Disk (reply_of result) state (Load name.now (Read tree)) self.new disk.old disk.new }
-        ensures ok { IfOk result (λ answer. GoesOn self.old self.new × HasText answer) }
+        ensures ok { IfOk result (λ answer. GoesOn self.old self.new × HasReplyText answer) }
         ensures refused { IfErr result (λ e. NotApplied D.Disk e self.old self.new disk.old disk.new) }
         ensures areas { WritesAlone D.Disk disk.old disk.new (λ _. Unit {0}) }
     {

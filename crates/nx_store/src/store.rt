@@ -32,7 +32,7 @@ pub struct Store {
 impl Store {
     ghost use Rattle.nx_host.specs.declared.disk.Disk.{Ghosts};
     ghost use Rattle.nx_script.specs.declared.reply.Reply.{Reply};
-    ghost use Rattle.nx_store.specs.Loading.{reply_of, HasText, IsWritten};
+    ghost use Rattle.nx_store.specs.Loading.{reply_of, HasReplyText, IsAppliedWithText};
     ghost use Rattle.nx_store.specs.Store.{is_ended, IsAt, IsApplied, IsAnswered, IsExported, GoesOn, TakesNone, NotApplied, NotAnswered, NotMade, NotOpened};
 
     /// A store on a disk that has no pages, committed: with these settings, and without documents and
@@ -126,7 +126,7 @@ impl Store {
         requires come { CanCome command }
         requires may { may_change command ≡ true }
         ensures applies { (state : State) → IsAt D.Disk self.old disk.old state → IsSome (D.contents disk.new) → IsApplied D.Disk (reply_of result) state command self.new disk.old disk.new }
-        ensures ok { IfOk result (λ answer. GoesOn self.old self.new × HasText answer) }
+        ensures ok { IfOk result (λ answer. GoesOn self.old self.new × HasReplyText answer) }
         ensures refused { IfErr result (λ e. NotApplied D.Disk e self.old self.new disk.old disk.new) }
         ensures areas { WritesAlone D.Disk disk.old disk.new (λ _. Unit {0}) }
     {
@@ -233,7 +233,7 @@ impl Store {
     // Carries a command out as `apply` does, and gives the text of its reply, whose memory is taken before the commit.
     fn text_for<D: Disk>(&mut self, disk: &mut D, command: Command) -> Result<Bytes, EngineError>
         requires { CanCome command }
-        ensures writes { (state : State) → IsAt D.Disk self.old disk.old state → IsSome (D.contents disk.new) → IsWritten D.Disk result state command self.new disk.old disk.new }
+        ensures writes { (state : State) → IsAt D.Disk self.old disk.old state → IsSome (D.contents disk.new) → IsAppliedWithText D.Disk result state command self.new disk.old disk.new }
         ensures ok { OnOk result (GoesOn self.old self.new) }
         ensures refused { IfErr result (λ e. NotApplied D.Disk e self.old self.new disk.old disk.new) }
         ensures areas { WritesAlone D.Disk disk.old disk.new (λ _. Unit {0}) }
@@ -252,7 +252,7 @@ impl Store {
     fn text_behind<D: Disk>(&mut self, disk: &mut D, command: Command) -> Result<Bytes, EngineError>
         requires runs { is_ended self.old ≡ false }
         requires quiet { may_change command ≡ false }
-        ensures writes { (state : State) → IsAt D.Disk self.old disk.old state → IsSome (D.contents disk.new) → IsWritten D.Disk result state command self.new disk.old disk.new }
+        ensures writes { (state : State) → IsAt D.Disk self.old disk.old state → IsSome (D.contents disk.new) → IsAppliedWithText D.Disk result state command self.new disk.old disk.new }
         ensures ok { OnOk result (GoesOn self.old self.new) }
         ensures refused { IfErr result (λ e. NotApplied D.Disk e self.old self.new disk.old disk.new) }
         ensures areas { WritesAlone D.Disk disk.old disk.new (λ _. Unit {0}) }

@@ -6,14 +6,14 @@ use Rattle.std.specs.Option.{option_or}
 use Rattle.std.specs.BTreeMap.{get}
 use Rattle.std.specs.Ordering.{nat_cmp}
 use Rattle.nx_host.specs.Disk.{Image}
-use Rattle.nx_replay.specs.Log.{Entry, Group, entries_of, entry_pages, rise, group_of, groups, logged, pages_of, replay, count_of, end_of, IsAtEnd}
-use Rattle.nx_replay.proofs.GroupLemmas.{says_group, groups-first, groups-none, length-entries_of}
+use Rattle.nx_replay.specs.Log.{Entry, Group, entries_in, entry_pages, rise, group_of, groups, logged, pages_of, replay, group_page_count, end_of, IsLogEnd}
+use Rattle.nx_replay.proofs.GroupLemmas.{says_group, groups-first, groups-none, length-entries_in}
 use Rattle.nx_replay.proofs.StepLemmas.{less_or_not}
 use Rattle.nx_replay.proofs.ReplayLemmas.{logged_none, logged_first, option_or-left, option_or-right, page-there, page-cases}
 use Rattle.nx_replay.proofs.KnownLemmas.{logged-known}
 use Rattle.nx_replay.proofs.SettledLemmas.{is_some}
 use Rattle.nx_wal.specs.Reading.{usable, IsHead, IsHeadOf}
-use Rattle.nx_wal.specs.Places.{Places, place_in, LeadsTo}
+use Rattle.nx_wal.specs.Places.{Places, page_at_place, LeadsTo}
 use Rattle.nx_wal.specs.Wal.{IsPageCount}
 use Rattle.nx_wal.specs.declared.reading.Head.{Head}
 use Rattle.nx_wal.proofs.ReadingLemmas.{group_there, no_rise, no_place}
@@ -29,13 +29,13 @@ first_page (e ∷ es) some = (
 )
 
 -- a group at the log's beginning has a page
-pub group_page : (count : ℕ) (was : Image) → IsHeadOf count (drop 0 (usable was.log)) → 13 + 8196 * count < 2 ^ 63 → 0 < count → rise 0 (entries_of count (drop 13 was.log)) ≡ true
+pub group_page : (count : ℕ) (was : Image) → IsHeadOf count (drop 0 (usable was.log)) → 13 + 8196 * count < 2 ^ 63 → 0 < count → rise 0 (entries_in count (drop 13 was.log)) ≡ true
     → (p : ℕ) × IsSome (replay was p)
 group_page count was head low some rises =
     let there = group_there 0 count was.log head low some (sym rises) in
     let first : groups was.log ≡ group_of (usable was.log) ∷ _ = groups-first (usable was.log) (says_group (usable was.log) there) in
-    let counted : count_of (usable was.log) ≡ count = head.counted in
-    let long : length (group_of (usable was.log)).entries ≡ count = length-entries_of (count_of (usable was.log)) (drop 13 (usable was.log)) ∙ counted in
+    let counted : group_page_count (usable was.log) ≡ count = head.counted in
+    let long : length (group_of (usable was.log)).entries ≡ count = length-entries_in (group_page_count (usable was.log)) (drop 13 (usable was.log)) ∙ counted in
     let page = first_page (group_of (usable was.log)).entries (omega (arith, some, long)) in
     let held : IsSome (logged (groups was.log) page.0) =
     subst IsSome (sym (ap (λ (gs : List Group). logged gs page.0) first ∙ logged_first (group_of (usable was.log)) _ page.0)) (option_or-right (logged _ page.0) (entry_pages (group_of (usable was.log)).entries page.0) page.1) in
@@ -46,7 +46,7 @@ pub area_page : (was : Image) (p : ℕ) → p < 16777216 → 8192 * p + 8192 ≤
 area_page was p low fits = option_or-right (logged (groups was.log) p) (pages_of was.pages p) (is_some (pages_of was.pages p) (page-there was.pages p low fits))
 
 -- no group stands at the log's beginning
-pub none_there : (head : Head) (was : Image) → IsHead 0 head was.log → (0 < head.count → 13 + 8196 * head.count < 2 ^ 63) → (0 < head.count → rise 0 (entries_of head.count (drop 13 was.log)) ≡ false)
+pub none_there : (head : Head) (was : Image) → IsHead 0 head was.log → (0 < head.count → 13 + 8196 * head.count < 2 ^ 63) → (0 < head.count → rise 0 (entries_in head.count (drop 13 was.log)) ≡ false)
     → groups was.log ≡ []
 none_there head was is low falls =
     elim (less_or_not 0 head.count) [
@@ -66,7 +66,7 @@ module _ (was : Image) (places : Places) (area log : ℕ) (leads : LeadsTo (grou
     (last : 0 < log → (p : ℕ) × (at : ℕ) × (get nat_cmp places p ≡ Some (Some at)) × (log ≡ min (p + 1) 4294967295)) where
   held : (p at : ℕ) → get nat_cmp places p ≡ Some (Some at) → (p < 16777216) × IsSome (logged (groups was.log) p)
   held p at is =
-      let found : logged (groups was.log) p ≡ Some (take 8192 (drop at was.log)) = leads p ∙ ap (λ (o : Option (Option ℕ)). place_in o was.log) is in
+      let found : logged (groups was.log) p ≡ Some (take 8192 (drop at was.log)) = leads p ∙ ap (λ (o : Option (Option ℕ)). page_at_place o was.log) is in
       let known = logged-known was.log p (take 8192 (drop at was.log)) found in
       (known.low, is_some (logged (groups was.log) p) found)
 
@@ -105,5 +105,5 @@ no_area long count none counted =
     ]
 
 -- a log with no group ends at its beginning
-pub prefix_end : (head : Head) (was : Image) → groups was.log ≡ [] → IsHead 0 head was.log → IsAtEnd 0 head.shut was.log
+pub prefix_end : (head : Head) (was : Image) → groups was.log ≡ [] → IsHead 0 head was.log → IsLogEnd 0 head.shut was.log
 prefix_end head was none is = record { here = sym (ap end_of none); closed = is.closed; opened = is.opened }

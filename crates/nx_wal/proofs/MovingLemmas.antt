@@ -15,7 +15,7 @@ use Rattle.nx_host.specs.declared.disk.Area.TheVariants.{Pages, Log}
 use Rattle.nx_host.specs.Disk.{Image, Torn, Written, TearsIn, WritesTo, ComesTorn}
 use Rattle.nx_host.specs.declared.disk.Disk.{Ghosts}
 use Rattle.nx_host.specs.Still.{WritesAlone, IsSettled}
-use Rattle.nx_replay.specs.Log.{is_group, end_of, groups, logged, replay, IsAtEnd, Stays, IsPartlyMoved}
+use Rattle.nx_replay.specs.Log.{is_group, end_of, groups, logged, replay, IsLogEnd, Stays, IsPartlyMoved}
 use Rattle.nx_replay.proofs.GroupLemmas.{group_says, groups-none}
 use Rattle.nx_replay.proofs.CommitLemmas.{at_written, first_of_rest}
 use Rattle.nx_wal.proofs.WritingLemmas.{image_same}
@@ -23,13 +23,13 @@ use Rattle.nx_host.proofs.DiskLemmas.{written_alone_then, written_alone_weaker, 
 use Rattle.nx_replay.proofs.SettledLemmas.{some_of, is_some, from_settled}
 use Rattle.nx_replay.proofs.StepLemmas.{less_or_not}
 use Rattle.nx_replay.proofs.ReplayLemmas.{torn_apart, moved_more, moved_stays, page-there, closed_torn, IsMoved}
-use Rattle.nx_wal.specs.Reading.{Gives}
-use Rattle.nx_wal.specs.Places.{Places, place_in, LeadsTo}
-use Rattle.nx_wal.specs.Moving.{WritesPage, IsLed, Moves, IsThere, HasMoved}
+use Rattle.nx_wal.specs.Reading.{FillsPrefix}
+use Rattle.nx_wal.specs.Places.{Places, page_at_place, LeadsTo}
+use Rattle.nx_wal.specs.Moving.{WritesPage, IsLed, Moves, IsInArea, HasMoved}
 use Rattle.nx_wal.proofs.ReadingLemmas.{some_same, at_number}
 
 -- a whole page was given
-pub page_given : (n at : ℕ) (into log : List ℕ) → Gives n 8192 into (drop at log) → length into ≡ 8192 → at + 8192 ≤ length log → into ≡ take 8192 (drop at log)
+pub page_given : (n at : ℕ) (into log : List ℕ) → FillsPrefix n 8192 into (drop at log) → length into ≡ 8192 → at + 8192 ≤ length log → into ≡ take 8192 (drop at log)
 page_given n at into log gives long fits =
     let count : n ≡ length (take 8192 (drop at log)) = gives.count in
     let whole : n ≡ length into = omega (arith, count, long, fits, length-take 8192 (drop at log), length-drop at log) in
@@ -53,7 +53,7 @@ all_found P (e ∷ es) p o all found =
     ]
 
 -- one page more was written, which leaves the others
-there_more : {bytes old new : List ℕ} (log : List ℕ) (page : ℕ) → Written (8192 * page) bytes old new → length bytes ≡ 8192 → logged (groups log) page ≡ Some bytes → (q : ℕ) → (page ≡ q → ⊥) → IsThere log old q → IsThere log new q
+there_more : {bytes old new : List ℕ} (log : List ℕ) (page : ℕ) → Written (8192 * page) bytes old new → length bytes ≡ 8192 → logged (groups log) page ≡ Some bytes → (q : ℕ) → (page ≡ q → ⊥) → IsInArea log old q → IsInArea log new q
 there_more {bytes = bytes} {old = old} {new = new} log page written long held q other before some =
     let was = before some in
     let w : length new ≡ max (length old) (8192 * page + length bytes) = written.long in
@@ -67,23 +67,23 @@ there_more {bytes = bytes} {old = old} {new = new} log page written long held q 
       was.1 ∙ ap (λ (x : List ℕ). Some x) (sym (torn_apart (8192 * q) 8192 torn was.0 apart)),
     )
 
-there_here : {bytes old new : List ℕ} (log : List ℕ) (page : ℕ) → Written (8192 * page) bytes old new → length bytes ≡ 8192 → logged (groups log) page ≡ Some bytes → IsThere log new page
+there_here : {bytes old new : List ℕ} (log : List ℕ) (page : ℕ) → Written (8192 * page) bytes old new → length bytes ≡ 8192 → logged (groups log) page ≡ Some bytes → IsInArea log new page
 there_here {bytes = bytes} {old = old} {new = new} log page written long held some =
     let w : length new ≡ max (length old) (8192 * page + length bytes) = written.long in (
       omega (arith, w, long),
       held ∙ ap (λ (x : List ℕ). Some x) (sym (subst (λ (n : ℕ). take n (drop (8192 * page) new) ≡ bytes) long written.here)),
     )
 
-there_either : {bytes old new : List ℕ} (log : List ℕ) (page : ℕ) → Written (8192 * page) bytes old new → length bytes ≡ 8192 → logged (groups log) page ≡ Some bytes → (q : ℕ) → IsThere log old q → IsThere log new q
+there_either : {bytes old new : List ℕ} (log : List ℕ) (page : ℕ) → Written (8192 * page) bytes old new → length bytes ≡ 8192 → logged (groups log) page ≡ Some bytes → (q : ℕ) → IsInArea log old q → IsInArea log new q
 there_either {new = new} log page written long held q before =
     elim (cases_Bool (page == q)) [
-      | inl holds ↦ subst (λ (n : ℕ). IsThere log new n) (eqb-true page q holds) (there_here log page written long held)
+      | inl holds ↦ subst (λ (n : ℕ). IsInArea log new n) (eqb-true page q holds) (there_here log page written long held)
       | inr fails ↦ there_more log page written long held q (eqb-false page q fails) before
     ]
 
 -- These pages of the log stand in the area, where the contents are told.
 abbrev Stand : {D : Type 0} → Ghosts D → Places → List (ℕ × Option ℕ) → D → D → Type 0
-Stand d places es a c = (was now : Image) → IsLed d places a was → d.contents c ≡ Some now → (now.log ≡ was.log) × AllByRecursion (λ (e : ℕ × Option ℕ). IsThere was.log now.pages e.0) es
+Stand d places es a c = (was now : Image) → IsLed d places a was → d.contents c ≡ Some now → (now.log ≡ was.log) × AllByRecursion (λ (e : ℕ × Option ℕ). IsInArea was.log now.pages e.0) es
 
 -- what one write of a page did
 abbrev MovesTo : {D : Type 0} → Ghosts D → ℕ → Option ℕ → D → D → Type 0
@@ -104,7 +104,7 @@ module _ {D : Type 0} {d : Ghosts D} {places : Places} where
 
   held : {place : Option ℕ} {a : D} (page : ℕ) → get nat_cmp places page ≡ Some place → (at : ℕ) (was : Image) → place ≡ Some at → IsLed d places a was
       → logged (groups was.log) page ≡ Some (take 8192 (drop at was.log))
-  held page here at was is led = led.leads page ∙ ap (λ (o : Option (Option ℕ)). place_in o was.log) (here ∙ ap (λ (o : Option ℕ). Some o) is)
+  held page here at was is led = led.leads page ∙ ap (λ (o : Option (Option ℕ)). page_at_place o was.log) (here ∙ ap (λ (o : Option ℕ). Some o) is)
 
   low : {place : Option ℕ} {a : D} (page : ℕ) → get nat_cmp places page ≡ Some place → (at : ℕ) (was : Image) → place ≡ Some at → IsLed d places a was → at + 8192 ≤ length was.log
   low page here at was is led = led.within page at (here ∙ ap (λ (o : Option ℕ). Some o) is)
@@ -141,8 +141,8 @@ module _ {D : Type 0} {d : Ghosts D} {places : Places} where
       let long : length (take 8192 (drop at was.log)) ≡ 8192 = omega (arith, fits, length-take 8192 (drop at was.log), length-drop at was.log) in
       let holds = held page here at was is led in (
         w.there ∙ same,
-        all_push (λ (e : ℕ × Option ℕ). IsThere was.log now.pages e.0) es (page, place)
-            (all_weaker (λ (e : ℕ × Option ℕ). IsThere was.log (mid.0).pages e.0) (λ (e : ℕ × Option ℕ). IsThere was.log now.pages e.0) es
+        all_push (λ (e : ℕ × Option ℕ). IsInArea was.log now.pages e.0) es (page, place)
+            (all_weaker (λ (e : ℕ × Option ℕ). IsInArea was.log (mid.0).pages e.0) (λ (e : ℕ × Option ℕ). IsInArea was.log now.pages e.0) es
             (λ e before. there_either was.log page w.here long holds e.0 before) (done.there was mid.0 led mid.1))
             (there_here was.log page w.here long holds),
       )
@@ -152,9 +152,9 @@ module _ {D : Type 0} {d : Ghosts D} {places : Places} where
   moved_nothing {es = es} {place = place} page here none done is was now led told =
       let told_b : d.contents _ ≡ Some now = subst (λ (x : D). d.contents x ≡ Some now) (none is) told in (
         done.log was now led told_b,
-        all_push (λ (e : ℕ × Option ℕ). IsThere was.log now.pages e.0) es (page, place) (done.there was now led told_b)
+        all_push (λ (e : ℕ × Option ℕ). IsInArea was.log now.pages e.0) es (page, place) (done.there was now led told_b)
             (λ some. absurd (
-            let lacks : logged (groups was.log) page ≡ None = led.leads page ∙ ap (λ (o : Option (Option ℕ)). place_in o was.log) (here ∙ ap (λ (o : Option ℕ). Some o) is) in
+            let lacks : logged (groups was.log) page ≡ None = led.leads page ∙ ap (λ (o : Option (Option ℕ)). page_at_place o was.log) (here ∙ ap (λ (o : Option ℕ). Some o) is) in
             false≢true (subst IsSome lacks some)
             )),
       )
@@ -192,13 +192,13 @@ opens log some =
       | inr fails ↦ absurd (let none : end_of (groups log) ≡ 0 = ap end_of (groups-none (take (2 ^ 63) log) fails) in omega (arith, some, none))
     ]
 
-place_some : (o : Option (Option ℕ)) (log : List ℕ) → IsSome (place_in o log) → (place : Option ℕ) × (o ≡ Some place)
+place_some : (o : Option (Option ℕ)) (log : List ℕ) → IsSome (page_at_place o log) → (place : Option ℕ) × (o ≡ Some place)
 place_some None log some = absurd (false≢true some)
 place_some (Some place) log some = (place, refl)
 
 -- the area has every page of the log
 pub all_moved : (places : Places) (was now : Image) → LeadsTo (groups was.log) places was.log → now.log ≡ was.log → 0 < end_of (groups was.log)
-    → AllByRecursion (λ (e : ℕ × Option ℕ). IsThere was.log now.pages e.0) places.entries → IsMoved now
+    → AllByRecursion (λ (e : ℕ × Option ℕ). IsInArea was.log now.pages e.0) places.entries → IsMoved now
 all_moved places was now leads same some all =
     let begins = opens now.log (subst (λ (l : List ℕ). 0 < end_of (groups l)) (sym same) some) in
     record {
@@ -207,7 +207,7 @@ all_moved places was now leads same some all =
       in_area = λ p held.
           let held_was : IsSome (logged (groups was.log) p) = subst (λ (l : List ℕ). IsSome (logged (groups l) p)) same held in
           let place = place_some (get nat_cmp places p) was.log (subst IsSome (leads p) held_was) in
-          let there = all_found (IsThere was.log now.pages) places.entries p place.0 all place.1 held_was in
+          let there = all_found (IsInArea was.log now.pages) places.entries p place.0 all place.1 held_was in
           page-there now.pages p (let found = some_of (logged (groups was.log) p) held_was in (logged-known was.log p found.0 found.1).low) there.0 ∙ sym there.1 ∙ ap (λ (l : List ℕ). logged (groups l) p) (sym same);
     }
 
@@ -247,7 +247,7 @@ module _ {D : Type 0} {d : Ghosts D} {places : Places} where
 
   pub emptied : {a c e : D} {was now : Image} → Settles d places a c → (IsSome (d.contents e) → IsSome (d.contents c)) → IsLed d places a was → 0 < end_of (groups was.log) → d.contents e ≡ Some now
       → ((was : Image) → IsSettled d c was → 0 ≤ length was.log → (now : Image) → d.contents e ≡ Some now → WritesTo Log 0 (0 ∷ []) was now × IsSettled d e now)
-      → IsSettled d e now × Stays (replay was) (replay now) × IsAtEnd 0 true now.log
+      → IsSettled d e now × Stays (replay was) (replay now) × IsLogEnd 0 true now.log
   emptied {c = c} {e = e} {was = was} {now = now} settles gate_told led some told written =
       let mid = some_of (d.contents c) (gate_told (is_some (d.contents e) told)) in
       let done = settles was mid.0 led some mid.1 in

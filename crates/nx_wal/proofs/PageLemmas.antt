@@ -14,19 +14,19 @@ use Rattle.std.specs.Option.{option_or, option_map, option_copied}
 use Rattle.nx_replay.specs.Log.{entry_pages, groups, logged, pages_of, replay}
 use Rattle.nx_replay.proofs.ReplayLemmas.{page-there, page-cases}
 use Rattle.nx_slots.specs.declared.page.PageBytes.{PageBytes}
-use Rattle.nx_wal.specs.Reading.{Gives, page_found}
-use Rattle.nx_wal.specs.Places.{Kept, Places, place_in, LeadsTo}
+use Rattle.nx_wal.specs.Reading.{FillsPrefix, page_found}
+use Rattle.nx_wal.specs.Places.{Kept, Places, page_at_place, LeadsTo}
 use Rattle.nx_wal.specs.Writing.{entries_of}
 use Rattle.nx_wal.proofs.ReadingLemmas.{at_number, no_place, some_same}
 
-pub whole_given : (n at : ℕ) (into bytes : List ℕ) → Gives n 8192 into (drop at bytes) → length into ≡ 8192 → 8192 ≤ n → (at + 8192 ≤ length bytes) × (into ≡ take 8192 (drop at bytes))
+pub whole_given : (n at : ℕ) (into bytes : List ℕ) → FillsPrefix n 8192 into (drop at bytes) → length into ≡ 8192 → 8192 ≤ n → (at + 8192 ≤ length bytes) × (into ≡ take 8192 (drop at bytes))
 whole_given n at into bytes gives long whole =
     let count : n ≡ length (take 8192 (drop at bytes)) = gives.count in (
       omega (arith, count, whole, length-take 8192 (drop at bytes), length-drop at bytes),
       sym (take_all n into (omega (arith, long, whole))) ∙ gives.same,
     )
 
-pub none_given : (n at : ℕ) (into bytes : List ℕ) → Gives n 8192 into (drop at bytes) → n < 8192 → at + 8192 ≤ length bytes → ⊥
+pub none_given : (n at : ℕ) (into bytes : List ℕ) → FillsPrefix n 8192 into (drop at bytes) → n < 8192 → at + 8192 ≤ length bytes → ⊥
 none_given n at into bytes gives short fits =
     let count : n ≡ length (take 8192 (drop at bytes)) = gives.count in
     omega (arith, count, short, fits, length-take 8192 (drop at bytes), length-drop at bytes)
@@ -43,7 +43,7 @@ page_as false bytes area at o there lost reads = lost (reads.1 refl)
 -- a page that has a place, and one that has none
 pub page_held : (was : Image) (places : Places) (page at : ℕ) → LeadsTo (groups was.log) places was.log → get nat_cmp places page ≡ Some (Some at)
     → logged (groups was.log) page ≡ Some (take 8192 (drop at was.log))
-page_held was places page at leads place = leads page ∙ ap (λ (o : Option (Option ℕ)). place_in o was.log) place
+page_held was places page at leads place = leads page ∙ ap (λ (o : Option (Option ℕ)). page_at_place o was.log) place
 
 pub page_lacking : (was : Image) (places : Places) (page : ℕ) → LeadsTo (groups was.log) places was.log → ((at : ℕ) → get nat_cmp places page ≡ Some (Some at) → ⊥) → logged (groups was.log) page ≡ None
 page_lacking was places page leads none = leads page ∙ no_place (get nat_cmp places page) was.log none

@@ -18,7 +18,7 @@ use Rattle.nx_host.specs.Disk.{Image}
 use Rattle.nx_replay.specs.Log.{Entry, IsEntry, IsWhole, entry_bytes, entry_pages, rise}
 use Rattle.nx_replay.proofs.GroupLemmas.{prefix-drop, prefix-less}
 use Rattle.nx_replay.proofs.KnownLemmas.{rise_few, rise_apart}
-use Rattle.nx_wal.specs.Places.{Kept, Places, place_in, Notes, IsWholePage}
+use Rattle.nx_wal.specs.Places.{Kept, Places, page_at_place, Notes, IsWholePage}
 use Rattle.nx_wal.specs.Writing.{StandsBehind, entries_of, group_with, body_of, head_of}
 use Rattle.nx_wal.proofs.ReadingLemmas.{at_number}
 use Rattle.nx_wal.proofs.ListLemmas.{all_prefix, all_middle, all_keys, all_values}
@@ -103,7 +103,7 @@ module _ (at : ℕ) (gone es : List (ℕ × Kept)) (item : ℕ × Kept) (log res
         let all : entry_pages (entries_of (gone ++ item ∷ [])) p ≡ option_or (entry_pages (entries_of gone) p) (entry_pages (entry_with item ∷ []) p) =
         ap (λ (es : List Entry). entry_pages es p) last ∙ entry_pages-append (entries_of gone) (entry_with item ∷ []) p in
         let chosen = λ (b : Bool). (if b then Some item.1.value.bytes else None) in
-        let base = place_in (get nat_cmp old p) log in
+        let base = page_at_place (get nat_cmp old p) log in
         elim (cases_Bool (p == item.0)) [
           | inl holds ↦
               let none : entry_pages (entries_of gone) p ≡ None =
@@ -111,12 +111,12 @@ module _ (at : ℕ) (gone es : List (ℕ × Kept)) (item : ℕ × Kept) (log res
               (rise_apart (entries_of gone) (entries_of es) (entry_with item) 0 (sym (ap (λ (es : List Entry). rise 0 es) parted) ∙ rises)).1 in
               let found : entry_pages (entries_of (gone ++ item ∷ [])) p ≡ Some item.1.value.bytes =
               all ∙ ap (λ (o : Option (List ℕ)). option_or o (entry_pages (entry_with item ∷ []) p)) none ∙ ap chosen holds in
-              ap (λ (o : Option (Option ℕ)). place_in o log) (updates p ∙ ap (λ (b : Bool). cond b (Some (Some place)) (get nat_cmp mid p)) (at_number item.0 p ∙ holds))
+              ap (λ (o : Option (Option ℕ)). page_at_place o log) (updates p ∙ ap (λ (b : Bool). cond b (Some (Some place)) (get nat_cmp mid p)) (at_number item.0 p ∙ holds))
               ∙ ap (λ (x : List ℕ). Some x) stands ∙ sym (ap (λ (o : Option (List ℕ)). option_or o base) found)
           | inr fails ↦
               let found : entry_pages (entries_of (gone ++ item ∷ [])) p ≡ option_or (entry_pages (entries_of gone) p) None =
               all ∙ ap (λ (b : Bool). option_or (entry_pages (entries_of gone) p) (chosen b)) fails in
-              ap (λ (o : Option (Option ℕ)). place_in o log) (updates p ∙ ap (λ (b : Bool). cond b (Some (Some place)) (get nat_cmp mid p)) (at_number item.0 p ∙ fails)) ∙ so_far p
+              ap (λ (o : Option (Option ℕ)). page_at_place o log) (updates p ∙ ap (λ (b : Bool). cond b (Some (Some place)) (get nat_cmp mid p)) (at_number item.0 p ∙ fails)) ∙ so_far p
               ∙ sym (ap (λ (o : Option (List ℕ)). option_or o base) (found ∙ or_none (entry_pages (entries_of gone) p)))
         ]
       where
@@ -150,7 +150,7 @@ entries_stand end number es was now behind =
     )
 
 -- a page below the log's old end stands as it did
-pub place_same : (o : Option (Option ℕ)) (end : ℕ) (was now : List ℕ) → ((at : ℕ) → o ≡ Some (Some at) → at + 8192 ≤ end) → take end now ≡ take end was → place_in o was ≡ place_in o now
+pub place_same : (o : Option (Option ℕ)) (end : ℕ) (was now : List ℕ) → ((at : ℕ) → o ≡ Some (Some at) → at + 8192 ≤ end) → take end now ≡ take end was → page_at_place o was ≡ page_at_place o now
 place_same (Some (Some at)) end was now within prefix = ap (λ (x : List ℕ). Some x) (sym (prefix-drop at 8192 now was (prefix-less (at + 8192) end now was (within at refl) prefix)))
 place_same (Some None) end was now within prefix = refl
 place_same None end was now within prefix = refl

@@ -15,7 +15,7 @@ use Rattle.nx_host.specs.declared.disk.Disk.{Ghosts}
 use Rattle.nx_host.specs.Still.{WritesAlone}
 use Rattle.nx_host.proofs.DiskLemmas.{written_alone_weaker}
 use Rattle.std.specs.Option.{option_or, option_map}
-use Rattle.nx_replay.specs.Log.{Group, entry_pages, replay, groups, group_of, is_group, logged, end_of, Stays, IsAtEnd, HasSame, HasGroup, HasMark}
+use Rattle.nx_replay.specs.Log.{Group, entry_pages, replay, groups, group_of, is_group, logged, end_of, Stays, IsLogEnd, HasSame, HasGroup, HasMark}
 use Rattle.nx_replay.specs.Commit.{IsOpened, IsBody}
 use Rattle.nx_replay.proofs.ReplayLemmas.{logged-more}
 use Rattle.nx_wal.specs.declared.wal.Wal.{Wal}
@@ -23,16 +23,16 @@ use Rattle.nx_wal.specs.declared.error.WalError.{WalError}
 use Rattle.nx_wal.specs.declared.error.WalError.TheVariants.{Disk, Exists, NotAStore, Ended, Memory}
 use Rattle.nx_wal.specs.declared.reading.End.{End}
 use Rattle.nx_wal.specs.Reading.{IsRead, IsNotOpened, StandsAt, usable}
-use Rattle.nx_wal.specs.Places.{Kept, Places, place_in, AreWithin, LeadsTo, Notes, starts_from}
+use Rattle.nx_wal.specs.Places.{Kept, Places, page_at_place, AreWithin, LeadsTo, Notes, starts_from}
 use Rattle.nx_wal.specs.Writing.{entries_of, body_of}
-use Rattle.nx_wal.specs.Wal.{Follows, IsInStep, NotOpened, pending, next_group}
+use Rattle.nx_wal.specs.Wal.{Follows, IsInStep, NoLogOpened, pending, next_group}
 use Rattle.nx_wal.proofs.WaitingLemmas.{waiting_few, waiting_group, place_same}
 use Rattle.nx_wal.specs.Moving.{IsLed}
 use Rattle.nx_wal.proofs.ReadingLemmas.{leads_none, none_within, some_same, at_number, starts_count, indexed}
 use Rattle.nx_wal.proofs.WritingLemmas.{end_fits}
 
 pub not_opened : {D : Type 0} (d : Ghosts D) (e : WalError) (old new : D) → IsNotOpened e (d.faults old) (d.faults new) ((was : Image) → d.contents old ≡ Some was → HasMark (replay was) → ⊥)
-    → NotOpened d e old new
+    → NoLogOpened d e old new
 not_opened d Disk old new h = h
 not_opened d Exists old new h = h
 not_opened d NotAStore old new h = λ was settled has. h was settled.here has
@@ -68,7 +68,7 @@ pub stays_self : (i : Image) → Stays (replay i) (replay i)
 stays_self i = record { each = λ p some. refl; dense = λ all. refl }
 
 -- an empty log is followed with no places
-pub follows_none : (wal : Wal) (log : List ℕ) → wal.places.entries ≡ [] → wal.starts.items ≡ [] → wal.end ≡ 0 → IsAtEnd 0 wal.shut log → Follows wal log
+pub follows_none : (wal : Wal) (log : List ℕ) → wal.places.entries ≡ [] → wal.starts.items ≡ [] → wal.end ≡ 0 → IsLogEnd 0 wal.shut log → Follows wal log
 follows_none wal log none none_begun at ends =
     let gs : groups log ≡ [] = ended_none (groups log) (sym ends.here) in
     record {
@@ -96,7 +96,7 @@ checkpoint_none d wal a was now none step told =
 -- A put.
 
 pub follows_same : (old new : Wal) (log : List ℕ) → new.end ≡ old.end → new.shut ≡ old.shut → new.starts.items ≡ old.starts.items
-    → ((q : ℕ) (l : List ℕ) → place_in (get nat_cmp new.places q) l ≡ place_in (get nat_cmp old.places q) l)
+    → ((q : ℕ) (l : List ℕ) → page_at_place (get nat_cmp new.places q) l ≡ page_at_place (get nat_cmp old.places q) l)
     → ((limit : ℕ) → AreWithin limit old.places → AreWithin limit new.places) → Follows old log → Follows new log
 follows_same old new log ends shut starts leads within follows = record {
   starts = starts ∙ follows.starts;

@@ -17,10 +17,10 @@ use Rattle.std.proofs.lemmas.List.{map-append, append-nil, length-map}
 use Rattle.std.specs.List.{AllByRecursion}
 use Rattle.byteorder.specs.Endian.{big_bytes}
 use Rattle.byteorder.specs.Numbers.{length-bytes_high_first}
-use Rattle.nx_replay.specs.Log.{Entry, entry_bytes, group_bytes, groups, end_of, IsAtEnd}
+use Rattle.nx_replay.specs.Log.{Entry, entry_bytes, group_bytes, groups, end_of, IsLogEnd}
 use Rattle.nx_replay.proofs.GroupLemmas.{end-within, zero_or_more, prefix-less}
 use Rattle.nx_replay.specs.Log.{Group}
-use Rattle.nx_replay.specs.Commit.{IsOpened, IsBody, IsLaid}
+use Rattle.nx_replay.specs.Commit.{IsOpened, IsBody, IsGroupLaid}
 use Rattle.nx_wal.specs.Places.{Kept}
 use Rattle.nx_wal.specs.Writing.{Writes, Lays, StandsBehind, entries_of, body_of, head_of}
 use Rattle.nx_wal.proofs.ReadingLemmas.{some_same}
@@ -191,7 +191,7 @@ synced {at = at} {n = n} {bytes = bytes} {was = was} {now = now} writes lays ima
     )
 
 -- the log ends within its bytes
-pub end_fits : (end : ℕ) (shut : Bool) (log : List ℕ) → IsAtEnd end shut log → end ≤ length log
+pub end_fits : (end : ℕ) (shut : Bool) (log : List ℕ) → IsLogEnd end shut log → end ≤ length log
 end_fits end shut log at =
     let here : end ≡ end_of (groups log) = at.here in
     elim (zero_or_more (end_of (groups log))) [
@@ -236,7 +236,7 @@ abbrev pub LaysBody : {D : Type 0} → Ghosts D → ℕ → List ℕ → D → D
 LaysBody d end body b c = (was now : Image) → IsOpened d end true b was → d.contents c ≡ Some now → StandsBehind end body was now
 
 abbrev pub KeepsRest : {D : Type 0} → Ghosts D → ℕ → D → D → Type 0
-KeepsRest d end c e = (was now : Image) (g : Group) → IsLaid d g end c was → d.contents e ≡ Some now → (take end now.log ≡ take end was.log) × (drop (end + 1) now.log ≡ drop (end + 1) was.log)
+KeepsRest d end c e = (was now : Image) (g : Group) → IsGroupLaid d g end c was → d.contents e ≡ Some now → (take end now.log ≡ take end was.log) × (drop (end + 1) now.log ≡ drop (end + 1) was.log)
 
 abbrev pub GroupStands : {D : Type 0} → Ghosts D → ℕ → Bool → List ℕ → D → D → Type 0
 GroupStands d end shut body a e = (was now : Image) (g : Group) → IsOpened d end shut a was → IsBody g end body → d.contents e ≡ Some now → StandsBehind end body was now

@@ -13,9 +13,9 @@ pub record Gathers {D : Type 0} (d : Ghosts D) (start : ℕ) (bytes : List ℕ) 
   pub lays : Lays d start laid first now
 
 -- Whatever was gathered before, it is gathered with these bytes behind it.
-abbrev pub Adds : {D : Type 0} → Ghosts D → List ℕ → Block → Block → D → D → Type 0
-Adds {D} d bytes before after old new = (start : ℕ) (so_far : List ℕ) (first : D) → Gathers d start so_far before first old → Gathers d start (so_far ++ bytes) after first new
+abbrev pub AddsBytes : {D : Type 0} → Ghosts D → List ℕ → Block → Block → D → D → Type 0
+AddsBytes {D} d bytes before after old new = (start : ℕ) (so_far : List ℕ) (first : D) → Gathers d start so_far before first old → Gathers d start (so_far ++ bytes) after first new
 
 -- Whatever was gathered before, no more was written than that and so many bytes behind it.
-abbrev pub Reaches : {D : Type 0} → Ghosts D → ℕ → Block → D → D → Type 0
-Reaches {D} d n before old new = (start : ℕ) (so_far : List ℕ) (first : D) → Gathers d start so_far before first old → Writes d start (length so_far + n) first new
+abbrev pub WritesNoFurther : {D : Type 0} → Ghosts D → ℕ → Block → D → D → Type 0
+WritesNoFurther {D} d n before old new = (start : ℕ) (so_far : List ℕ) (first : D) → Gathers d start so_far before first old → Writes d start (length so_far + n) first new

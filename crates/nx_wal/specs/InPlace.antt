@@ -22,7 +22,7 @@ pub record WaitsWith (pages : BTreeMap ℕ Kept) (page : ℕ) (room : Room) (byt
   pub fits : needed_for (slots_of kept.value.bytes) bytes ≤ free_in (slots_of kept.value.bytes)
 
 -- Of the pages that wait this one alone changed, by a record that went into a slot.
-pub record ChangesOne (old new : BTreeMap ℕ Kept) (page : ℕ) (bytes : List ℕ) (slot : ℕ) : Type 0 where
+pub record ChangesOnePage (old new : BTreeMap ℕ Kept) (page : ℕ) (bytes : List ℕ) (slot : ℕ) : Type 0 where
   pub was : Kept
   pub now : Kept
   pub there : get nat_cmp old page ≡ Some was

@@ -26,10 +26,10 @@ pub record Moves {D : Type 0} (d : Ghosts D) (places : Places) (old new : D) : T
   pub images : (i : Image) → d.may_leave new i → (was : Image) → IsLed d places old was → IsPartlyMoved was i
 
 -- where the log has this page, the area has it so
-abbrev pub IsThere : List ℕ → List ℕ → ℕ → Type 0
-IsThere log area q = IsSome (logged (groups log) q) → (page_size * q + page_size ≤ length area) × (logged (groups log) q ≡ Some (take page_size (drop (page_size * q) area)))
+abbrev pub IsInArea : List ℕ → List ℕ → ℕ → Type 0
+IsInArea log area q = IsSome (logged (groups log) q) → (page_size * q + page_size ≤ length area) × (logged (groups log) q ≡ Some (take page_size (drop (page_size * q) area)))
 
 -- These pages of the log stand in the area.
 pub record HasMoved {D : Type 0} (d : Ghosts D) (places : Places) (es : List (ℕ × Option ℕ)) (old new : D) : Type 0 where
   pub log : (was now : Image) → IsLed d places old was → d.contents new ≡ Some now → now.log ≡ was.log
-  pub there : (was now : Image) → IsLed d places old was → d.contents new ≡ Some now → AllByRecursion (λ (e : ℕ × Option ℕ). IsThere was.log now.pages e.0) es
+  pub there : (was now : Image) → IsLed d places old was → d.contents new ≡ Some now → AllByRecursion (λ (e : ℕ × Option ℕ). IsInArea was.log now.pages e.0) es

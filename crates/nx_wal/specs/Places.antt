@@ -6,30 +6,30 @@ use Rattle.std.specs.Ordering.{nat_cmp}
 use Rattle.std.specs.declared.alloc.Global.{Global}
 use Rattle.nx_numbers.specs.Sizes.{page_size, most_pages}
 use Rattle.nx_slots.specs.declared.page.PageBytes.{PageBytes}
-use Rattle.nx_replay.specs.Log.{Entry, Group, size_of, entry_pages, logged}
+use Rattle.nx_replay.specs.Log.{Entry, Group, group_size, entry_pages, logged}
 
 -- where the log has a page, or none where it is only pending
 abbrev pub Places : Type 0
 Places = BTreeMap ℕ (Option ℕ)
 
 -- the page that stands there
-abbrev pub place_in : Option (Option ℕ) → List ℕ → Option (List ℕ)
-place_in (Some (Some at)) log = Some (take page_size (drop at log))
-place_in (Some None) log = None
-place_in None log = None
+abbrev pub page_at_place : Option (Option ℕ) → List ℕ → Option (List ℕ)
+page_at_place (Some (Some at)) log = Some (take page_size (drop at log))
+page_at_place (Some None) log = None
+page_at_place None log = None
 
 -- The places lead to the pages of these groups.
 abbrev pub LeadsTo : List Group → Places → List ℕ → Type 0
-LeadsTo gs places log = (p : ℕ) → logged gs p ≡ place_in (get nat_cmp places p) log
+LeadsTo gs places log = (p : ℕ) → logged gs p ≡ page_at_place (get nat_cmp places p) log
 
 -- where groups begin, the first at an offset
 abbrev pub starts_from : ℕ → List Group → List ℕ
 starts_from at [] = []
-starts_from at (g ∷ gs) = at ∷ starts_from (at + size_of (length g.entries)) gs
+starts_from at (g ∷ gs) = at ∷ starts_from (at + group_size (length g.entries)) gs
 
 -- These pages of a group were noted.
 abbrev pub Notes : List Entry → List ℕ → Places → Places → Type 0
-Notes es log old new = (p : ℕ) → place_in (get nat_cmp new p) log ≡ option_or (entry_pages es p) (place_in (get nat_cmp old p) log)
+Notes es log old new = (p : ℕ) → page_at_place (get nat_cmp new p) log ≡ option_or (entry_pages es p) (page_at_place (get nat_cmp old p) log)
 
 -- Each place has a page's bytes below the limit.
 abbrev pub AreWithin : ℕ → Places → Type 0

@@ -3,7 +3,7 @@ use Rattle.std.specs.Prelude.{ℕ, ◌^◌, ◌≡◌, ◌<◌, ◌≤◌, ◌==
 use Rattle.byteorder.specs.Endian.{big_number}
 use Rattle.nx_numbers.specs.Sizes.{page_size, most_pages}
 use Rattle.nx_host.specs.Disk.{Rose}
-use Rattle.nx_replay.specs.Log.{Entry, Group, groups, groups_behind, end_of, count_of, size_of, is_group, IsAtEnd}
+use Rattle.nx_replay.specs.Log.{Entry, Group, groups, groups_behind, end_of, group_page_count, group_size, is_group, IsLogEnd}
 use Rattle.nx_wal.specs.declared.reading.Head.{Head}
 use Rattle.nx_wal.specs.declared.reading.End.{End}
 use Rattle.nx_wal.specs.declared.error.WalError.{WalError}
@@ -11,24 +11,24 @@ use Rattle.nx_wal.specs.declared.error.WalError.TheVariants as error
 use Rattle.nx_wal.specs.Places.{Places, LeadsTo, AreWithin, starts_from}
 
 -- the numbers of pages
-abbrev pub numbers_of : List Entry → List ℕ
-numbers_of es = map (λ e. e.page) es
+abbrev pub page_numbers : List Entry → List ℕ
+page_numbers es = map (λ e. e.page) es
 
 -- the bytes of a log that groups may use
 abbrev pub usable : List ℕ → List ℕ
 usable log = take (2 ^ 63) log
 
 -- the prefix has so many bytes of these, and they are all where the prefix had room for more
-pub record Gives (n room : ℕ) (prefix bytes : List ℕ) : Type 0 where
+pub record FillsPrefix (n room : ℕ) (prefix bytes : List ℕ) : Type 0 where
   pub count : n ≡ length (take room bytes)
   pub same : take n prefix ≡ take room bytes
 
 -- a group's gate, open, and its count, and there is room for so many pages and a gate
 pub record IsHeadOf (count : ℕ) (bytes : List ℕ) : Type 0 where
   pub gate : slice_index bytes 0 ≡ 1
-  pub counted : count_of bytes ≡ count
+  pub counted : group_page_count bytes ≡ count
   pub few : count ≤ most_pages
-  pub whole : size_of count < length bytes
+  pub whole : group_size count < length bytes
 
 -- what the head says of a log at the offset
 pub record IsHead (at : ℕ) (head : Head) (log : List ℕ) : Type 0 where
@@ -42,7 +42,7 @@ abbrev pub page_at : List ℕ → Entry
 page_at bytes = record { page = big_number 4 bytes; bytes = take page_size (drop 4 bytes) }
 
 -- The log was read up to an offset.
-pub record IsReadTo (places : Places) (starts : List ℕ) (at : ℕ) (log : List ℕ) : Type 0 where
+pub record IsLogReadTo (places : Places) (starts : List ℕ) (at : ℕ) (log : List ℕ) : Type 0 where
   pub prefix : List Group
   pub split : groups log ≡ prefix ++ groups_behind 0 (drop at (usable log))
   pub here : at ≡ end_of prefix
@@ -51,7 +51,7 @@ pub record IsReadTo (places : Places) (starts : List ℕ) (at : ℕ) (log : List
 
 -- The log was read whole.
 pub record IsRead (places : Places) (starts : List ℕ) (end : End) (log : List ℕ) : Type 0 where
-  pub at : IsAtEnd end.at end.shut log
+  pub at : IsLogEnd end.at end.shut log
   pub leads : LeadsTo (groups log) places log
   pub within : AreWithin end.at places
   pub begun : starts ≡ starts_from 0 (groups log)

@@ -5,7 +5,7 @@ use Rattle.nx_host.specs.declared.disk.Disk.{Ghosts}
 use Rattle.nx_host.specs.Still.{IsSettled}
 use Rattle.nx_slots.specs.Edits.{free_in, needed_for}
 use Rattle.nx_slots.specs.Slots.{slots_of, IsSlotted}
-use Rattle.nx_replay.specs.Log.{Pages, Entry, Group, over, replay, groups, entry_pages, IsAtEnd, HasMark}
+use Rattle.nx_replay.specs.Log.{Pages, Entry, Group, over, replay, groups, entry_pages, IsLogEnd, HasMark}
 use Rattle.nx_wal.specs.Places.{LeadsTo, AreWithin, starts_from}
 use Rattle.nx_wal.specs.Writing.{entries_of, group_with}
 use Rattle.nx_wal.specs.InPlace.{PutsInto}
@@ -14,8 +14,8 @@ use Rattle.nx_wal.specs.declared.error.WalError.{WalError}
 use Rattle.nx_wal.specs.declared.error.WalError.TheVariants as error
 
 -- an earlier call failed
-abbrev pub has_ended : Wal → Bool
-has_ended wal = wal.ended
+abbrev pub wal_ended : Wal → Bool
+wal_ended wal = wal.ended
 
 -- where the log ends
 abbrev pub length_of : Wal → ℕ
@@ -35,7 +35,7 @@ next_group number wal = group_with number wal.waiting.pages.entries
 
 -- The object follows this log: it knows where the log ends, and where each of its pages stands.
 pub record Follows (wal : Wal) (log : List ℕ) : Type 0 where
-  pub at : IsAtEnd wal.end wal.shut log
+  pub at : IsLogEnd wal.end wal.shut log
   pub leads : LeadsTo (groups log) wal.places log
   pub within : AreWithin wal.end wal.places
   pub starts : wal.starts.items ≡ starts_from 0 (groups log)
@@ -55,15 +55,15 @@ pub record IsPageCount (count : ℕ) (pages : Pages) : Type 0 where
   pub none_from : (p : ℕ) → count ≤ p → pages p ≡ None
 
 -- The object ended in this call. What waits stays, and so does the log's length.
-pub record Ends (old new : Wal) : Type 0 where
-  pub before : has_ended old ≡ false
-  pub after : has_ended new ≡ true
+pub record EndsWal (old new : Wal) : Type 0 where
+  pub before : wal_ended old ≡ false
+  pub after : wal_ended new ≡ true
   pub length_stays : length_of new ≡ length_of old
   pub pending_stays : pending new ≡ pending old
 
 -- The page waits, and a record went into a slot of it.
 pub record PutsRecord (page : ℕ) (bytes : List ℕ) (slot : ℕ) (old new : Wal) : Type 0 where
-  pub runs : has_ended old ≡ false
+  pub runs : wal_ended old ≡ false
   pub was : List ℕ
   pub now : List ℕ
   pub waited : entry_pages (pending old) page ≡ Some was
@@ -71,37 +71,37 @@ pub record PutsRecord (page : ℕ) (bytes : List ℕ) (slot : ℕ) (old new : Wa
   pub waits : entry_pages (pending new) ≡ over (entry_pages (record { page = page; bytes = now } ∷ [])) (entry_pages (pending old))
 
 -- What waits under a number is no slotted page with room for the bytes.
-abbrev pub TakesNone : Option (List ℕ) → List ℕ → Type 0
-TakesNone waiting bytes = (page : List ℕ) → waiting ≡ Some page → IsSlotted page → free_in (slots_of page) < needed_for (slots_of page) bytes
+abbrev pub HasNoPageFor : Option (List ℕ) → List ℕ → Type 0
+HasNoPageFor waiting bytes = (page : List ℕ) → waiting ≡ Some page → IsSlotted page → free_in (slots_of page) < needed_for (slots_of page) bytes
 
 -- Why a call that goes to the disk gave up.
 abbrev pub Refused : {D : Type 0} → Ghosts D → WalError → Wal → Wal → D → D → Type 0
-Refused d error.Disk old new before after = Rose (d.faults before) (d.faults after) × Ends old new
-Refused d error.Ended old new before after = (has_ended old ≡ true) × (new ≡ old) × (after ≡ before)
+Refused d error.Disk old new before after = Rose (d.faults before) (d.faults after) × EndsWal old new
+Refused d error.Ended old new before after = (wal_ended old ≡ true) × (new ≡ old) × (after ≡ before)
 Refused d error.Exists old new before after = ⊥
 Refused d error.NotAStore old new before after = ⊥
 Refused d error.Memory old new before after = ⊥
 
 -- Why no group was read.
-abbrev pub NotGiven : {D : Type 0} → Ghosts D → WalError → Wal → Wal → D → D → Type 0
-NotGiven d error.Disk old new before after = Rose (d.faults before) (d.faults after) × Ends old new
-NotGiven d error.Ended old new before after = (has_ended old ≡ true) × (new ≡ old) × (after ≡ before)
-NotGiven d error.Memory old new before after = (has_ended old ≡ false) × (new ≡ old)
-NotGiven d error.Exists old new before after = ⊥
-NotGiven d error.NotAStore old new before after = ⊥
+abbrev pub NoGroupRead : {D : Type 0} → Ghosts D → WalError → Wal → Wal → D → D → Type 0
+NoGroupRead d error.Disk old new before after = Rose (d.faults before) (d.faults after) × EndsWal old new
+NoGroupRead d error.Ended old new before after = (wal_ended old ≡ true) × (new ≡ old) × (after ≡ before)
+NoGroupRead d error.Memory old new before after = (wal_ended old ≡ false) × (new ≡ old)
+NoGroupRead d error.Exists old new before after = ⊥
+NoGroupRead d error.NotAStore old new before after = ⊥
 
 -- Why no log was created.
-abbrev pub NotCreated : {D : Type 0} → Ghosts D → WalError → D → D → Type 0
-NotCreated d error.Disk before after = Rose (d.faults before) (d.faults after)
-NotCreated d error.Exists before after = (was : Image) → IsSettled d before was → (p : ℕ) × IsSome (replay was p)
-NotCreated d error.NotAStore before after = ⊥
-NotCreated d error.Ended before after = ⊥
-NotCreated d error.Memory before after = Unit {0}
+abbrev pub NoLogCreated : {D : Type 0} → Ghosts D → WalError → D → D → Type 0
+NoLogCreated d error.Disk before after = Rose (d.faults before) (d.faults after)
+NoLogCreated d error.Exists before after = (was : Image) → IsSettled d before was → (p : ℕ) × IsSome (replay was p)
+NoLogCreated d error.NotAStore before after = ⊥
+NoLogCreated d error.Ended before after = ⊥
+NoLogCreated d error.Memory before after = Unit {0}
 
 -- Why none was opened.
-abbrev pub NotOpened : {D : Type 0} → Ghosts D → WalError → D → D → Type 0
-NotOpened d error.Disk before after = Rose (d.faults before) (d.faults after)
-NotOpened d error.Exists before after = ⊥
-NotOpened d error.NotAStore before after = (was : Image) → IsSettled d before was → HasMark (replay was) → ⊥
-NotOpened d error.Ended before after = ⊥
-NotOpened d error.Memory before after = Unit {0}
+abbrev pub NoLogOpened : {D : Type 0} → Ghosts D → WalError → D → D → Type 0
+NoLogOpened d error.Disk before after = Rose (d.faults before) (d.faults after)
+NoLogOpened d error.Exists before after = ⊥
+NoLogOpened d error.NotAStore before after = (was : Image) → IsSettled d before was → HasMark (replay was) → ⊥
+NoLogOpened d error.Ended before after = ⊥
+NoLogOpened d error.Memory before after = Unit {0}

@@ -4,7 +4,7 @@ ghost use Rattle.std.specs.BTreeMap.{get, keys, values, btree_map_len};
 ghost use Rattle.std.specs.Ordering.{nat_cmp};
 ghost use Rattle.nx_numbers.specs.Sizes.{entry_size};
 ghost use Rattle.nx_replay.specs.Log.{entry_bytes};
-ghost use Rattle.nx_wal.specs.Places.{place_in, Notes, AreWithin, MayWait, IsWholePage};
+ghost use Rattle.nx_wal.specs.Places.{page_at_place, Notes, AreWithin, MayWait, IsWholePage};
 ghost use Rattle.nx_wal.specs.Writing.{entries_of};
 
 use crate::PageBytes;
@@ -24,7 +24,7 @@ pub(crate) fn place_of(places: &BTreeMap<u32, Option<u64>>, page: u32) -> Option
 
 // Makes an entry for a page that is to wait, where it has none.
 pub(crate) fn make_place(places: &mut BTreeMap<u32, Option<u64>>, page: u32) -> bool
-    ensures leads { (q : ℕ) (log : List ℕ) → place_in (get nat_cmp places.new q) log ≡ place_in (get nat_cmp places.old q) log }
+    ensures leads { (q : ℕ) (log : List ℕ) → page_at_place (get nat_cmp places.new q) log ≡ page_at_place (get nat_cmp places.old q) log }
     ensures within { (limit : ℕ) → AreWithin limit places.old → AreWithin limit places.new }
     ensures made { result ≡ true → IsSome (get nat_cmp places.new page) }
     ensures keeps { (q : ℕ) → IsSome (get nat_cmp places.old q) → IsSome (get nat_cmp places.new q) }

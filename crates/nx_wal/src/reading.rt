@@ -2,10 +2,10 @@
 ghost use Rattle.std.specs.Prelude.{◌≡◌, [], Bool, ℕ, List, ◌+◌, ◌*◌, ◌/◌, ◌^◌, ◌<◌, ◌≤◌, ◌==◌, min, length, take, drop, slice_index, true, false, Some, None, IsSome, IfOk, IfErr, IfSome, IfNone, OnOk, OnErr, ◌↔◌};
 ghost use Rattle.nx_host.specs.Disk.{Image, area_of, Rose, given_at};
 ghost use Rattle.nx_host.specs.Still.{IsStill};
-ghost use Rattle.nx_replay.specs.Log.{groups, replay, rise, entries_of, group_of, IsAtEnd, HasMark, mark};
+ghost use Rattle.nx_replay.specs.Log.{groups, replay, rise, entries_in, group_of, IsLogEnd, HasMark, mark};
 ghost use Rattle.nx_groups.specs.Groups.{entry, entries, logged_as};
 ghost use Rattle.byteorder.specs.Endian.{big_number};
-ghost use Rattle.nx_wal.specs.Reading.{Gives, IsHead, IsRead, FailsBy, IsNotOpened, numbers_of, page_at, StandsAt, usable};
+ghost use Rattle.nx_wal.specs.Reading.{FillsPrefix, IsHead, IsRead, FailsBy, IsNotOpened, page_numbers, page_at, StandsAt, usable};
 ghost use Rattle.nx_wal.specs.Places.{Notes, AreWithin};
 ghost use Rattle.std.specs.BTreeMap.{IsEmpty, get};
 ghost use Rattle.std.specs.Ordering.{nat_cmp};
@@ -46,7 +46,7 @@ pub(crate) fn read_from<D: Disk>(
     ensures still { IsStill D.Disk disk.old disk.new }
     ensures reads { D.reads disk.new ≤ D.reads disk.old + 1 }
     ensures room { IfOk result (λ n. n ≤ length into.old) }
-    ensures gives { IfOk result (λ n. (was : Image) → D.contents disk.old ≡ Some was → Gives n (length into.old) into.new (drop at (area_of area was))) }
+    ensures gives { IfOk result (λ n. (was : Image) → D.contents disk.old ≡ Some was → FillsPrefix n (length into.old) into.new (drop at (area_of area was))) }
     ensures cause { OnErr result (Rose (D.faults disk.old) (D.faults disk.new)) }
 {
     disk.read(area, at, into)
@@ -121,10 +121,10 @@ fn read_numbers<D: Disk>(
     requires { at + entry_size * count ≤ 2 ^ 63 }
     ensures still { IsStill D.Disk disk.old disk.new }
     ensures reads { D.reads disk.new ≤ D.reads disk.old + count }
-    ensures rise { IfOk result (λ rises. (was : Image) → D.contents disk.old ≡ Some was → at + entry_size * count ≤ length was.log → rises ≡ rise 0 (entries_of count (drop at was.log))) }
+    ensures rise { IfOk result (λ rises. (was : Image) → D.contents disk.old ≡ Some was → at + entry_size * count ≤ length was.log → rises ≡ rise 0 (entries_in count (drop at was.log))) }
     ensures long { IfOk result (λ rises. rises ≡ true → length numbers.new.items ≡ count) }
     ensures numbers { IfOk result (λ rises. rises ≡ true → (was : Image) → D.contents disk.old ≡ Some was → at + entry_size * count ≤ length was.log
-        → numbers.new.items ≡ numbers_of (entries_of count (drop at was.log))) }
+        → numbers.new.items ≡ page_numbers (entries_in count (drop at was.log))) }
     ensures refused { IfErr result (λ e. FailsBy e (D.faults disk.old) (D.faults disk.new)) }
 {
     numbers.clear();
@@ -154,8 +154,8 @@ fn note_pages(
     numbers: &[u32],
 ) -> Result<(), WalError>
     requires { at + entry_size * length numbers.now ≤ 2 ^ 63 }
-    ensures notes { OnOk result ((log : List ℕ) → numbers.now ≡ numbers_of (entries_of (length numbers.now) (drop at log))
-        → Notes (entries_of (length numbers.now) (drop at log)) log places.old places.new) }
+    ensures notes { OnOk result ((log : List ℕ) → numbers.now ≡ page_numbers (entries_in (length numbers.now) (drop at log))
+        → Notes (entries_in (length numbers.now) (drop at log)) log places.old places.new) }
     ensures within { OnOk result ((limit : ℕ) → at + entry_size * length numbers.now ≤ limit → AreWithin limit places.old → AreWithin limit places.new) }
     ensures refused { IfErr result (λ e. e ≡ WalError.Memory) }
 {
@@ -242,7 +242,7 @@ fn read_pages<D: Disk>(
     requires { at ≤ 2 ^ 63 }
     ensures still { IsStill D.Disk disk.old disk.new }
     ensures reads { D.reads disk.new ≤ D.reads disk.old + count }
-    ensures pages { IfOk result (λ pages. (was : Image) → D.contents disk.old ≡ Some was → at + entry_size * count ≤ length was.log → entries pages ≡ entries_of count (drop at was.log)) }
+    ensures pages { IfOk result (λ pages. (was : Image) → D.contents disk.old ≡ Some was → at + entry_size * count ≤ length was.log → entries pages ≡ entries_in count (drop at was.log)) }
     ensures refused { IfErr result (λ e. FailsBy e (D.faults disk.old) (D.faults disk.new)) }
 {
     let mut pages = GroupPages::new(alloc);
@@ -341,9 +341,9 @@ pub(crate) fn open_log<D: Disk>(disk: &mut D, alloc: Global) -> Result<Opened, W
 fn has_group<D: Disk>(disk: &mut D, head: Head, alloc: Global) -> Result<bool, WalError>
     ensures still { IsStill D.Disk disk.old disk.new }
     ensures some { IfOk result (λ has. has ≡ true → (0 < head.count) × ((was : Image) → D.contents disk.old ≡ Some was → 13 + entry_size * head.count ≤ length was.log
-        → rise 0 (entries_of head.count (drop 13 was.log)) ≡ true)) }
+        → rise 0 (entries_in head.count (drop 13 was.log)) ≡ true)) }
     ensures none { IfOk result (λ has. has ≡ false → 0 < head.count → (was : Image) → D.contents disk.old ≡ Some was → 13 + entry_size * head.count ≤ length was.log
-        → rise 0 (entries_of head.count (drop 13 was.log)) ≡ false) }
+        → rise 0 (entries_in head.count (drop 13 was.log)) ≡ false) }
     ensures refused { IfErr result (λ e. FailsBy e (D.faults disk.old) (D.faults disk.new)) }
 {
     if head.count == 0 {
@@ -356,7 +356,7 @@ fn has_group<D: Disk>(disk: &mut D, head: Head, alloc: Global) -> Result<bool, W
 // Where the disk has no page, whether a closed byte stands at the log's beginning.
 pub(crate) fn shut_of_none<D: Disk>(disk: &mut D, alloc: Global) -> Result<Option<bool>, WalError>
     ensures still { IsStill D.Disk disk.old disk.new }
-    ensures some { IfOk result (λ found. (shut : Bool) → found ≡ Some shut → (was : Image) → D.contents disk.old ≡ Some was → IsAtEnd 0 shut was.log × ((p : ℕ) → replay was p ≡ None)) }
+    ensures some { IfOk result (λ found. (shut : Bool) → found ≡ Some shut → (was : Image) → D.contents disk.old ≡ Some was → IsLogEnd 0 shut was.log × ((p : ℕ) → replay was p ≡ None)) }
     ensures none { IfOk result (λ found. found ≡ None → (was : Image) → D.contents disk.old ≡ Some was → (p : ℕ) × IsSome (replay was p)) }
     ensures refused { IfErr result (λ e. FailsBy e (D.faults disk.old) (D.faults disk.new)) }
 {

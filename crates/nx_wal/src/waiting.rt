@@ -9,7 +9,7 @@ ghost use Rattle.nx_numbers.specs.Sizes.{page_size, longest_record};
 ghost use Rattle.nx_slots.specs.Rooms.{HasRoom};
 ghost use Rattle.nx_slots.specs.Slots.{IsSlotted};
 ghost use Rattle.nx_wal.specs.Places.{Kept, IsWholePage};
-ghost use Rattle.nx_wal.specs.InPlace.{ChangesOne, WaitsWith};
+ghost use Rattle.nx_wal.specs.InPlace.{ChangesOnePage, WaitsWith};
 
 use crate::PageBytes;
 use nx_slots::{Room, put_at, room_in};
@@ -101,7 +101,7 @@ impl Waiting {
         requires some { 1 ≤ length bytes.now }
         requires few { length bytes.now ≤ longest_record }
         requires waits { WaitsWith self.old.pages page room bytes.now }
-        ensures { ChangesOne self.old.pages self.new.pages page bytes.now result }
+        ensures { ChangesOnePage self.old.pages self.new.pages page bytes.now result }
     {
         let Some(kept) = self.pages.get_mut(&page) else {
             unreachable!();

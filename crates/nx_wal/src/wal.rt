@@ -7,7 +7,7 @@ ghost use Rattle.std.proofs.Props.{props};
 ghost use Rattle.nx_numbers.specs.Sizes.{entry_size, longest_record, most_pages};
 ghost use Rattle.nx_host.specs.Disk.{Image};
 ghost use Rattle.nx_host.specs.Still.{IsStill, IsSettled, WritesAlone};
-ghost use Rattle.nx_replay.specs.Log.{replay, over, groups, size_of, entry_pages, Stays, HasSame, HasGroup, HasMark};
+ghost use Rattle.nx_replay.specs.Log.{replay, over, groups, group_size, entry_pages, Stays, HasSame, HasGroup, HasMark};
 ghost use Rattle.nx_replay.specs.Log.{Group as LogGroup};
 ghost use Rattle.nx_groups.specs.Groups.{logged_as};
 ghost use Rattle.nx_wal.specs.Places.{MayWait};
@@ -49,7 +49,7 @@ pub struct Wal {
 }
 
 impl Wal {
-    ghost use Rattle.nx_wal.specs.Wal.{Follows, IsInStep, IsPageCount, Ends, group_count, NotGiven, pending, current, next_group, has_ended, length_of, PutsRecord, TakesNone, Refused, NotCreated, NotOpened};
+    ghost use Rattle.nx_wal.specs.Wal.{Follows, IsInStep, IsPageCount, EndsWal, group_count, NoGroupRead, pending, current, next_group, wal_ended, length_of, PutsRecord, HasNoPageFor, Refused, NoLogCreated, NoLogOpened};
     ghost use Rattle.nx_wal.specs.Reading.{page_found};
 
     /// A log over a disk that has no pages. Nothing is written.
@@ -59,8 +59,8 @@ impl Wal {
     pub fn create<D: Disk>(disk: &mut D, alloc: Global) -> Result<Wal, WalError>
         ensures still { IsStill D.Disk disk.old disk.new }
         ensures ok { IfOk result (λ wal. (was : Image) → IsSettled D.Disk disk.old was → IsInStep D.Disk wal disk.new was × ((p : ℕ) → replay was p ≡ None)) }
-        ensures fresh { IfOk result (λ wal. (has_ended wal ≡ false) × (length_of wal ≡ 0) × (pending wal ≡ [])) }
-        ensures refused { IfErr result (λ e. NotCreated D.Disk e disk.old disk.new) }
+        ensures fresh { IfOk result (λ wal. (wal_ended wal ≡ false) × (length_of wal ≡ 0) × (pending wal ≡ [])) }
+        ensures refused { IfErr result (λ e. NoLogCreated D.Disk e disk.old disk.new) }
     {
         let found = match shut_of_none(disk, alloc) {
             Ok(found) => found,
@@ -90,9 +90,9 @@ impl Wal {
     pub fn open<D: Disk>(disk: &mut D, alloc: Global) -> Result<Wal, WalError>
         ensures still { IsStill D.Disk disk.old disk.new }
         ensures ok { IfOk result (λ wal. (was : Image) → IsSettled D.Disk disk.old was → IsInStep D.Disk wal disk.new was × HasMark (replay was)) }
-        ensures fresh { IfOk result (λ wal. (has_ended wal ≡ false) × (pending wal ≡ [])) }
+        ensures fresh { IfOk result (λ wal. (wal_ended wal ≡ false) × (pending wal ≡ [])) }
         ensures reads { IfSome (D.contents disk.old) (λ was. D.reads disk.new ≤ D.reads disk.old + (3 * (length was.log / entry_size + 1) + 1)) }
-        ensures refused { IfErr result (λ e. NotOpened D.Disk e disk.old disk.new) }
+        ensures refused { IfErr result (λ e. NoLogOpened D.Disk e disk.old disk.new) }
     {
         let opened = match open_log(disk, alloc) {
             Ok(opened) => opened,
@@ -127,7 +127,7 @@ impl Wal {
         ensures still { IsStill D.Disk disk.old disk.new }
         ensures reads { D.reads disk.new ≤ D.reads disk.old + 1 }
         ensures waits { IsSome (entry_pages (pending self.old) page) → disk.new ≡ disk.old }
-        ensures ok { IfOk result (λ found. (self.new ≡ self.old) × (has_ended self.old ≡ false) × ((was : Image) → IsInStep D.Disk self.old disk.old was →
+        ensures ok { IfOk result (λ found. (self.new ≡ self.old) × (wal_ended self.old ≡ false) × ((was : Image) → IsInStep D.Disk self.old disk.old was →
             current self.old was page ≡ page_found found into.new.bytes)) }
         ensures refused { IfErr result (λ e. Refused D.Disk e self.old self.new disk.old disk.new) }
     {
@@ -157,7 +157,7 @@ impl Wal {
     ) -> Result<bool, WalError>
         ensures still { IsStill D.Disk disk.old disk.new }
         ensures reads { D.reads disk.new ≤ D.reads disk.old + 1 }
-        ensures ok { IfOk result (λ found. (self.new ≡ self.old) × (has_ended self.old ≡ false) × ((was : Image) → IsInStep D.Disk self.old disk.old was →
+        ensures ok { IfOk result (λ found. (self.new ≡ self.old) × (wal_ended self.old ≡ false) × ((was : Image) → IsInStep D.Disk self.old disk.old was →
             current self.old was page ≡ page_found found into.new.bytes)) }
         ensures untouched { IfOk result (λ found. found ≡ false → into.new ≡ into.old) }
         ensures refused { IfErr result (λ e. Refused D.Disk e self.old self.new disk.old disk.new) }
@@ -191,9 +191,9 @@ impl Wal {
         ensures pending { OnOk result (entry_pages (pending self.new) ≡ over (entry_pages (record { page = page; bytes = bytes.now.bytes } ∷ [])) (entry_pages (pending self.old))) }
         ensures some { OnOk result (pending self.new ≢ []) }
         ensures count { OnOk result (length (pending self.new) ≡ length (pending self.old) + (if is_some (entry_pages (pending self.old) page) then 0 else 1)) }
-        ensures stays { (length_of self.new ≡ length_of self.old) × (has_ended self.new ≡ has_ended self.old) }
-        ensures open { OnOk result (has_ended self.old ≡ false) }
-        ensures refused { IfErr result (λ e. (e ≡ WalError.Memory ⊎ (e ≡ WalError.Ended) × (has_ended self.old ≡ true)) × (pending self.new ≡ pending self.old)) }
+        ensures stays { (length_of self.new ≡ length_of self.old) × (wal_ended self.new ≡ wal_ended self.old) }
+        ensures open { OnOk result (wal_ended self.old ≡ false) }
+        ensures refused { IfErr result (λ e. (e ≡ WalError.Memory ⊎ (e ≡ WalError.Ended) × (wal_ended self.old ≡ true)) × (pending self.new ≡ pending self.old)) }
     {
         if self.ended {
             return Err(WalError::Ended);
@@ -220,9 +220,9 @@ impl Wal {
         requires few { length bytes.now ≤ longest_record }
         ensures follows { (log : List ℕ) → Follows self.old log → Follows self.new log }
         ensures put { IfSome result (λ slot. PutsRecord page bytes.now slot self.old self.new) }
-        ensures none { IfNone result ((self.new ≡ self.old) × (has_ended self.old ≡ false → TakesNone (entry_pages (pending self.old) page) bytes.now)) }
+        ensures none { IfNone result ((self.new ≡ self.old) × (wal_ended self.old ≡ false → HasNoPageFor (entry_pages (pending self.old) page) bytes.now)) }
         ensures count { length (pending self.new) ≡ length (pending self.old) }
-        ensures stays { (length_of self.new ≡ length_of self.old) × (has_ended self.new ≡ has_ended self.old) }
+        ensures stays { (length_of self.new ≡ length_of self.old) × (wal_ended self.new ≡ wal_ended self.old) }
     {
         if self.ended {
             return None;
@@ -249,8 +249,8 @@ impl Wal {
         ensures goes { WritesAlone D.Disk disk.old disk.new (λ i. (was : Image) → IsInStep D.Disk self.old disk.old was → HasSame was i ⊎ HasGroup (next_group number self.old) was i) }
         ensures ok { OnOk result ((was now : Image) → IsInStep D.Disk self.old disk.old was → D.contents disk.new ≡ Some now →
             IsInStep D.Disk self.new disk.new now × HasGroup (next_group number self.old) was now) }
-        ensures none_left { OnOk result ((pending self.new ≡ []) × (has_ended self.old ≡ false) × (has_ended self.new ≡ false)) }
-        ensures length { OnOk result (length_of self.new ≡ length_of self.old + size_of (length (pending self.old))) }
+        ensures none_left { OnOk result ((pending self.new ≡ []) × (wal_ended self.old ≡ false) × (wal_ended self.new ≡ false)) }
+        ensures length { OnOk result (length_of self.new ≡ length_of self.old + group_size (length (pending self.old))) }
         ensures reads { D.reads disk.new ≡ D.reads disk.old }
         ensures refused { IfErr result (λ e. Refused D.Disk e self.old self.new disk.old disk.new) }
     {
@@ -283,7 +283,7 @@ impl Wal {
     pub fn abandon(&mut self)
         ensures follows { (log : List ℕ) → Follows self.old log → Follows self.new log }
         ensures none_left { pending self.new ≡ [] }
-        ensures stays { (length_of self.new ≡ length_of self.old) × (has_ended self.new ≡ has_ended self.old) }
+        ensures stays { (length_of self.new ≡ length_of self.old) × (wal_ended self.new ≡ wal_ended self.old) }
     {
         self.waiting.clear();
     }
@@ -300,7 +300,7 @@ impl Wal {
         ensures goes { WritesAlone D.Disk disk.old disk.new (λ i. (was : Image) → IsInStep D.Disk self.old disk.old was → Stays (replay was) (replay i)) }
         ensures ok { OnOk result ((was now : Image) → IsInStep D.Disk self.old disk.old was → D.contents disk.new ≡ Some now →
             IsInStep D.Disk self.new disk.new now × Stays (replay was) (replay now) × (groups now.log ≡ [])) }
-        ensures empty { OnOk result ((length_of self.new ≡ 0) × (pending self.new ≡ []) × (has_ended self.old ≡ false) × (has_ended self.new ≡ false)) }
+        ensures empty { OnOk result ((length_of self.new ≡ 0) × (pending self.new ≡ []) × (wal_ended self.old ≡ false) × (wal_ended self.new ≡ false)) }
         ensures nothing { length_of self.old ≡ 0 → (self.new ≡ self.old) × (disk.new ≡ disk.old) }
         ensures refused { IfErr result (λ e. Refused D.Disk e self.old self.new disk.old disk.new) }
     {
@@ -338,9 +338,9 @@ impl Wal {
         requires { index < group_count self.old }
         ensures still { IsStill D.Disk disk.old disk.new }
         ensures reads { (was : Image) → IsInStep D.Disk self.old disk.old was → (g : LogGroup) → slice_get (groups was.log) index ≡ Some g → D.reads disk.new ≤ D.reads disk.old + 1 + length g.entries }
-        ensures ok { IfOk result (λ group. (self.new ≡ self.old) × (has_ended self.old ≡ false) × ((was : Image) → IsInStep D.Disk self.old disk.old was →
+        ensures ok { IfOk result (λ group. (self.new ≡ self.old) × (wal_ended self.old ≡ false) × ((was : Image) → IsInStep D.Disk self.old disk.old was →
             slice_get (groups was.log) index ≡ Some (logged_as group))) }
-        ensures refused { IfErr result (λ e. NotGiven D.Disk e self.old self.new disk.old disk.new) }
+        ensures refused { IfErr result (λ e. NoGroupRead D.Disk e self.old self.new disk.old disk.new) }
     {
         if self.ended {
             return Err(WalError::Ended);
@@ -372,7 +372,7 @@ impl Wal {
     pub fn page_count<D: Disk>(&mut self, disk: &mut D) -> Result<u32, WalError>
         ensures still { IsStill D.Disk disk.old disk.new }
         ensures reads { D.reads disk.new ≡ D.reads disk.old }
-        ensures ok { IfOk result (λ count. (self.new ≡ self.old) × (has_ended self.old ≡ false)
+        ensures ok { IfOk result (λ count. (self.new ≡ self.old) × (wal_ended self.old ≡ false)
             × ((was : Image) → IsInStep D.Disk self.old disk.old was → IsPageCount count (replay was))) }
         ensures refused { IfErr result (λ e. Refused D.Disk e self.old self.new disk.old disk.new) }
     {

@@ -4,11 +4,11 @@ ghost use Rattle.std.specs.BTreeMap.{btree_map_len};
 ghost use Rattle.nx_host.specs.Disk.{Image, Rose, ComesTorn, WritesTo, TearsIn, Keeps, IsDurable};
 ghost use Rattle.nx_host.specs.declared.disk.Area.TheVariants.{Log};
 ghost use Rattle.nx_host.specs.Still.{WritesAlone, IsSettled};
-ghost use Rattle.nx_replay.specs.Log.{Group, size_of, entry_bytes, HasGroup, HasSame};
-ghost use Rattle.nx_replay.specs.Commit.{IsOpened, IsBody, IsLaid};
+ghost use Rattle.nx_replay.specs.Log.{Group, group_size, entry_bytes, HasGroup, HasSame};
+ghost use Rattle.nx_replay.specs.Commit.{IsOpened, IsBody, IsGroupLaid};
 ghost use Rattle.byteorder.specs.Endian.{big_bytes};
 ghost use Rattle.nx_numbers.specs.Sizes.{page_size, entry_size};
-ghost use Rattle.nx_wal.specs.Gathering.{Adds, Reaches};
+ghost use Rattle.nx_wal.specs.Gathering.{AddsBytes, WritesNoFurther};
 ghost use Rattle.nx_wal.specs.Writing.{Lays, Writes, StandsBehind, body_of, head_of, entries_of};
 
 use crate::PageBytes;
@@ -30,9 +30,9 @@ fn write_log<D: Disk>(disk: &mut D, at: u64, bytes: &[u8]) -> Result<(), Failed>
 // Writes what waits in the block.
 fn flush<D: Disk>(disk: &mut D, block: &mut Block) -> Result<(), Failed>
     requires { block.old.at + length block.old.bytes.items ≤ 2 ^ 63 }
-    ensures adds { OnOk result (Adds D.Disk [] block.old block.new disk.old disk.new) }
+    ensures adds { OnOk result (AddsBytes D.Disk [] block.old block.new disk.old disk.new) }
     ensures empty { OnOk result ((block.new.bytes.items ≡ []) × (block.new.at ≡ block.old.at + length block.old.bytes.items)) }
-    ensures reaches { Reaches D.Disk 0 block.old disk.old disk.new }
+    ensures reaches { WritesNoFurther D.Disk 0 block.old disk.old disk.new }
     ensures faults { D.faults disk.old ≤ D.faults disk.new }
     ensures cause { OnErr result (Rose (D.faults disk.old) (D.faults disk.new)) }
 {
@@ -46,10 +46,10 @@ fn flush<D: Disk>(disk: &mut D, block: &mut Block) -> Result<(), Failed>
 fn make_room<D: Disk>(disk: &mut D, block: &mut Block, count: usize) -> Result<(), Failed>
     requires low { block.old.at + length block.old.bytes.items ≤ 2 ^ 63 }
     requires few { count ≤ page_size }
-    ensures adds { OnOk result (Adds D.Disk [] block.old block.new disk.old disk.new) }
+    ensures adds { OnOk result (AddsBytes D.Disk [] block.old block.new disk.old disk.new) }
     ensures room { OnOk result (length block.new.bytes.items + count ≤ 262285) }
     ensures ends { OnOk result (block.new.at + length block.new.bytes.items ≡ block.old.at + length block.old.bytes.items) }
-    ensures reaches { Reaches D.Disk 0 block.old disk.old disk.new }
+    ensures reaches { WritesNoFurther D.Disk 0 block.old disk.old disk.new }
     ensures faults { D.faults disk.old ≤ D.faults disk.new }
     ensures cause { OnErr result (Rose (D.faults disk.old) (D.faults disk.new)) }
 {
@@ -74,9 +74,9 @@ fn fill(block: &mut Block, bytes: &[u8])
 fn add<D: Disk>(disk: &mut D, block: &mut Block, bytes: &[u8]) -> Result<(), Failed>
     requires low { block.old.at + length block.old.bytes.items ≤ 2 ^ 63 }
     requires few { length bytes.now ≤ page_size }
-    ensures adds { OnOk result (Adds D.Disk bytes.now block.old block.new disk.old disk.new) }
+    ensures adds { OnOk result (AddsBytes D.Disk bytes.now block.old block.new disk.old disk.new) }
     ensures ends { OnOk result (block.new.at + length block.new.bytes.items ≡ block.old.at + length block.old.bytes.items + length bytes.now) }
-    ensures reaches { Reaches D.Disk (length bytes.now) block.old disk.old disk.new }
+    ensures reaches { WritesNoFurther D.Disk (length bytes.now) block.old disk.old disk.new }
     ensures faults { D.faults disk.old ≤ D.faults disk.new }
     ensures cause { OnErr result (Rose (D.faults disk.old) (D.faults disk.new)) }
 {
@@ -88,9 +88,9 @@ fn add<D: Disk>(disk: &mut D, block: &mut Block, bytes: &[u8]) -> Result<(), Fai
 // Gathers the number of a group.
 fn add_long<D: Disk>(disk: &mut D, block: &mut Block, number: u64) -> Result<(), Failed>
     requires { block.old.at + length block.old.bytes.items ≤ 2 ^ 63 }
-    ensures adds { OnOk result (Adds D.Disk (big_bytes 8 number) block.old block.new disk.old disk.new) }
+    ensures adds { OnOk result (AddsBytes D.Disk (big_bytes 8 number) block.old block.new disk.old disk.new) }
     ensures ends { OnOk result (block.new.at + length block.new.bytes.items ≡ block.old.at + length block.old.bytes.items + 8) }
-    ensures reaches { Reaches D.Disk 8 block.old disk.old disk.new }
+    ensures reaches { WritesNoFurther D.Disk 8 block.old disk.old disk.new }
     ensures faults { D.faults disk.old ≤ D.faults disk.new }
     ensures cause { OnErr result (Rose (D.faults disk.old) (D.faults disk.new)) }
 {
@@ -102,9 +102,9 @@ fn add_long<D: Disk>(disk: &mut D, block: &mut Block, number: u64) -> Result<(),
 // Gathers the number of a page, or a count of pages.
 fn add_number<D: Disk>(disk: &mut D, block: &mut Block, number: u32) -> Result<(), Failed>
     requires { block.old.at + length block.old.bytes.items ≤ 2 ^ 63 }
-    ensures adds { OnOk result (Adds D.Disk (big_bytes 4 number) block.old block.new disk.old disk.new) }
+    ensures adds { OnOk result (AddsBytes D.Disk (big_bytes 4 number) block.old block.new disk.old disk.new) }
     ensures ends { OnOk result (block.new.at + length block.new.bytes.items ≡ block.old.at + length block.old.bytes.items + 4) }
-    ensures reaches { Reaches D.Disk 4 block.old disk.old disk.new }
+    ensures reaches { WritesNoFurther D.Disk 4 block.old disk.old disk.new }
     ensures faults { D.faults disk.old ≤ D.faults disk.new }
     ensures cause { OnErr result (Rose (D.faults disk.old) (D.faults disk.new)) }
 {
@@ -116,9 +116,9 @@ fn add_number<D: Disk>(disk: &mut D, block: &mut Block, number: u32) -> Result<(
 // Gathers the number of a group and the count of its pages.
 fn add_head<D: Disk>(disk: &mut D, block: &mut Block, number: u64, count: u32) -> Result<(), Failed>
     requires { block.old.at + length block.old.bytes.items + 12 ≤ 2 ^ 63 }
-    ensures adds { OnOk result (Adds D.Disk (head_of number count) block.old block.new disk.old disk.new) }
+    ensures adds { OnOk result (AddsBytes D.Disk (head_of number count) block.old block.new disk.old disk.new) }
     ensures ends { OnOk result (block.new.at + length block.new.bytes.items ≡ block.old.at + length block.old.bytes.items + 12) }
-    ensures reaches { Reaches D.Disk 12 block.old disk.old disk.new }
+    ensures reaches { WritesNoFurther D.Disk 12 block.old disk.old disk.new }
     ensures faults { D.faults disk.old ≤ D.faults disk.new }
     ensures cause { OnErr result (Rose (D.faults disk.old) (D.faults disk.new)) }
 {
@@ -142,10 +142,10 @@ fn add_page<D: Disk>(
     bytes: &PageBytes,
 ) -> Result<(), Failed>
     requires { block.old.at + length block.old.bytes.items + entry_size ≤ 2 ^ 63 }
-    ensures adds { OnOk result (Adds D.Disk (big_bytes 4 page ++ bytes.now.bytes) block.old block.new disk.old disk.new) }
+    ensures adds { OnOk result (AddsBytes D.Disk (big_bytes 4 page ++ bytes.now.bytes) block.old block.new disk.old disk.new) }
     ensures ends { OnOk result (block.new.at + length block.new.bytes.items ≡ block.old.at + length block.old.bytes.items + entry_size) }
     ensures long { OnOk result (length bytes.now.bytes ≡ page_size) }
-    ensures reaches { Reaches D.Disk entry_size block.old disk.old disk.new }
+    ensures reaches { WritesNoFurther D.Disk entry_size block.old disk.old disk.new }
     ensures faults { D.faults disk.old ≤ D.faults disk.new }
     ensures cause { OnErr result (Rose (D.faults disk.old) (D.faults disk.new)) }
 {
@@ -160,10 +160,10 @@ fn add_pages<D: Disk>(
     waiting: &BTreeMap<u32, Box<PageBytes>>,
 ) -> Result<(), Failed>
     requires { block.old.at + length block.old.bytes.items + entry_size * btree_map_len waiting.now ≤ 2 ^ 63 }
-    ensures adds { OnOk result (Adds D.Disk (entry_bytes (entries_of waiting.now.entries)) block.old block.new disk.old disk.new) }
+    ensures adds { OnOk result (AddsBytes D.Disk (entry_bytes (entries_of waiting.now.entries)) block.old block.new disk.old disk.new) }
     ensures ends { OnOk result (block.new.at + length block.new.bytes.items ≡ block.old.at + length block.old.bytes.items + entry_size * btree_map_len waiting.now) }
     ensures long { OnOk result (length (entry_bytes (entries_of waiting.now.entries)) ≡ entry_size * btree_map_len waiting.now) }
-    ensures reaches { Reaches D.Disk (entry_size * btree_map_len waiting.now) block.old disk.old disk.new }
+    ensures reaches { WritesNoFurther D.Disk (entry_size * btree_map_len waiting.now) block.old disk.old disk.new }
     ensures faults { D.faults disk.old ≤ D.faults disk.new }
     ensures cause { OnErr result (Rose (D.faults disk.old) (D.faults disk.new)) }
 {
@@ -253,7 +253,7 @@ fn lay_waiting<D: Disk>(
     requires few { btree_map_len waiting.now < 2 ^ 32 }
     ensures goes { WritesAlone D.Disk disk.old disk.new (λ i. (was : Image) → IsOpened D.Disk end true disk.old was → HasSame was i) }
     ensures ok { OnOk result ((was now : Image) (g : Group) → IsOpened D.Disk end true disk.old was → IsBody g end (body_of number waiting.now.entries) → D.contents disk.new ≡ Some now
-        → HasSame was now × IsLaid D.Disk g end disk.new now) }
+        → HasSame was now × IsGroupLaid D.Disk g end disk.new now) }
     ensures prefix { OnOk result ((was now : Image) → IsOpened D.Disk end true disk.old was → D.contents disk.new ≡ Some now → StandsBehind end (body_of number waiting.now.entries) was now) }
     ensures reads { D.reads disk.new ≡ D.reads disk.old }
     ensures cause { OnErr result (Rose (D.faults disk.old) (D.faults disk.new)) }
@@ -265,10 +265,10 @@ fn lay_waiting<D: Disk>(
 // Opens the gate of a group that stands behind it.
 fn open_gate<D: Disk>(disk: &mut D, end: u64) -> Result<(), Failed>
     requires { end + 1 ≤ 2 ^ 63 }
-    ensures goes { WritesAlone D.Disk disk.old disk.new (λ i. (was : Image) (g : Group) → IsLaid D.Disk g end disk.old was → HasSame was i ⊎ HasGroup g was i) }
-    ensures ok { OnOk result ((was now : Image) (g : Group) → IsLaid D.Disk g end disk.old was → D.contents disk.new ≡ Some now
-        → HasGroup g was now × IsOpened D.Disk (end + size_of (length g.entries)) true disk.new now) }
-    ensures prefix { OnOk result ((was now : Image) (g : Group) → IsLaid D.Disk g end disk.old was → D.contents disk.new ≡ Some now
+    ensures goes { WritesAlone D.Disk disk.old disk.new (λ i. (was : Image) (g : Group) → IsGroupLaid D.Disk g end disk.old was → HasSame was i ⊎ HasGroup g was i) }
+    ensures ok { OnOk result ((was now : Image) (g : Group) → IsGroupLaid D.Disk g end disk.old was → D.contents disk.new ≡ Some now
+        → HasGroup g was now × IsOpened D.Disk (end + group_size (length g.entries)) true disk.new now) }
+    ensures prefix { OnOk result ((was now : Image) (g : Group) → IsGroupLaid D.Disk g end disk.old was → D.contents disk.new ≡ Some now
         → (take end now.log ≡ take end was.log) × (drop (end + 1) now.log ≡ drop (end + 1) was.log)) }
     ensures reads { D.reads disk.new ≡ D.reads disk.old }
     ensures cause { OnErr result (Rose (D.faults disk.old) (D.faults disk.new)) }
@@ -289,7 +289,7 @@ pub(crate) fn write_group<D: Disk>(
     requires few { btree_map_len waiting.now < 2 ^ 32 }
     ensures goes { WritesAlone D.Disk disk.old disk.new (λ i. (was : Image) (g : Group) → IsOpened D.Disk end shut disk.old was → IsBody g end (body_of number waiting.now.entries) → HasSame was i ⊎ HasGroup g was i) }
     ensures ok { OnOk result ((was now : Image) (g : Group) → IsOpened D.Disk end shut disk.old was → IsBody g end (body_of number waiting.now.entries) → D.contents disk.new ≡ Some now
-        → HasGroup g was now × IsOpened D.Disk (end + size_of (length g.entries)) true disk.new now) }
+        → HasGroup g was now × IsOpened D.Disk (end + group_size (length g.entries)) true disk.new now) }
     ensures prefix { OnOk result ((was now : Image) (g : Group) → IsOpened D.Disk end shut disk.old was → IsBody g end (body_of number waiting.now.entries) → D.contents disk.new ≡ Some now
         → StandsBehind end (body_of number waiting.now.entries) was now) }
     ensures reads { D.reads disk.new ≡ D.reads disk.old }

@@ -12,7 +12,7 @@ use Rattle.nx_replay.proofs.ReplayLemmas.{replay-more}
 use Rattle.nx_replay.proofs.SettledLemmas.{some_of, is_some}
 use Rattle.nx_wal.specs.Wal.{Follows, IsInStep, next_group, pending}
 use Rattle.nx_wal.specs.declared.wal.Wal.{Wal}
-use Rattle.nx_wal_driver.specs.Group.{page_at, AreThere}
+use Rattle.nx_wal_driver.specs.Group.{page_on_ring, AreThere}
 use Rattle.nx_wal_driver.specs.declared.commands.Filling.{Filling}
 
 abbrev inside : {T : Type 0} → T → Option T → T
@@ -26,7 +26,7 @@ same_inside {x = x} same = ap (inside x) same
 laid : (filling : Filling) (group count many : ℕ) (es : List Entry) (base now : Pages) → now ≡ over (entry_pages es) base
     → AreThere filling group count many (entry_pages es) → AreThere filling group count many now
 laid filling group count many es base now is there i below =
-    let p = page_at filling.seed group count i in
+    let p = page_on_ring filling.seed group count i in
     ap (λ (f : Pages). f p) is ∙ ap (λ (o : Option (List ℕ)). option_or o (base p)) (there i below)
 
 module _ {D : Type 0} {d : Ghosts D} where

@@ -8,12 +8,12 @@ use Rattle.nx_wal_driver.specs.declared.faults.Fault.{Fault}
 use Rattle.nx_wal_driver.specs.declared.faults.Fault.TheVariants as fault
 
 -- what a refusal of the log is told as
-abbrev pub fault_of : WalError → Fault
-fault_of error.Disk = fault.Disk
-fault_of error.Ended = fault.Disk
-fault_of error.Exists = fault.Exists
-fault_of error.NotAStore = fault.NotAStore
-fault_of error.Memory = fault.Memory
+abbrev pub told_fault : WalError → Fault
+told_fault error.Disk = fault.Disk
+told_fault error.Ended = fault.Disk
+told_fault error.Exists = fault.Exists
+told_fault error.NotAStore = fault.NotAStore
+told_fault error.Memory = fault.Memory
 
 -- A fault of the disk or of the output comes only where that count rose.
 abbrev pub HasCause : {D : Type 0} → Ghosts D → Fault → D → D → Type 0
@@ -26,6 +26,6 @@ HasCause d fault.Memory before after = Unit {0}
 HasCause d fault.NotAStore before after = Unit {0}
 
 -- Neither count fell.
-pub record CountsGrow {D : Type 0} (d : Ghosts D) (before after : D) : Type 0 where
+pub record FaultCountsGrow {D : Type 0} (d : Ghosts D) (before after : D) : Type 0 where
   pub faults : d.faults before ≤ d.faults after
   pub out_faults : (d.beside before).out_faults ≤ (d.beside after).out_faults

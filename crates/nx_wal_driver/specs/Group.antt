@@ -6,12 +6,12 @@ use Rattle.nx_wal_driver.specs.declared.commands.Filling.{Filling}
 use Rattle.nx_wal_driver.specs.declared.stamps.Stamp.{Stamp}
 
 -- which page of so many the i-th of a group is: page 0, and then others behind each other, as on a ring
-unfoldable pub page_at : ℕ → ℕ → ℕ → ℕ → ℕ
-page_at seed group count i = if i == 0 then 0 else 1 + ((group * 7919 % 2 ^ 64 + seed) % 2 ^ 64 % (count - 1) + i) % (count - 1)
+unfoldable pub page_on_ring : ℕ → ℕ → ℕ → ℕ → ℕ
+page_on_ring seed group count i = if i == 0 then 0 else 1 + ((group * 7919 % 2 ^ 64 + seed) % 2 ^ 64 % (count - 1) + i) % (count - 1)
 
 -- the stamp of the i-th page of a group, in a store of so many pages
 abbrev pub stamp_at : Filling → ℕ → ℕ → ℕ → Stamp
-stamp_at filling group count i = record { seed = filling.seed; group = group; page = page_at filling.seed group count i }
+stamp_at filling group count i = record { seed = filling.seed; group = group; page = page_on_ring filling.seed group count i }
 
 -- The page of this stamp is one of these pages.
 abbrev pub IsThere : Stamp → Pages → Type 0

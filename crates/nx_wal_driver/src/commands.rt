@@ -1,6 +1,6 @@
 // The words of a command.
 ghost use Rattle.std.specs.Prelude.{◌≤◌, IfSome};
-ghost use Rattle.nx_wal_driver.specs.Command.{IsLimited};
+ghost use Rattle.nx_wal_driver.specs.Command.{HasAllowedPages};
 
 // How a store is made: with so many pages, one at least, that have this seed.
 #[derive(Clone, Copy)]
@@ -33,7 +33,7 @@ pub enum Command {
 
 // The command that the words behind that of the store are.
 pub fn command_of(words: &[String]) -> Option<Command>
-    ensures { IfSome result IsLimited }
+    ensures { IfSome result HasAllowedPages }
 {
     let (name, rest) = words.split_first()?;
     let name = name.as_str();
@@ -56,7 +56,7 @@ pub fn command_of(words: &[String]) -> Option<Command>
 }
 
 fn creation_of(words: &[String]) -> Option<Command>
-    ensures { IfSome result IsLimited }
+    ensures { IfSome result HasAllowedPages }
 {
     if words.len() > 2 {
         return None;
@@ -67,7 +67,7 @@ fn creation_of(words: &[String]) -> Option<Command>
 }
 
 fn filling_of(words: &[String]) -> Option<Command>
-    ensures { IfSome result IsLimited }
+    ensures { IfSome result HasAllowedPages }
 {
     if words.is_empty() || words.len() > 4 {
         return None;

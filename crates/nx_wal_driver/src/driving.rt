@@ -4,10 +4,10 @@ ghost use Rattle.nx_host.specs.Disk.{Image, Keeps};
 ghost use Rattle.nx_host.specs.Still.{WritesAlone};
 ghost use Rattle.nx_host.specs.Time.{Elapses};
 ghost use Rattle.nx_replay.specs.Log.{entry_pages, replay};
-ghost use Rattle.nx_wal.specs.Wal.{Follows, IsInStep, has_ended, length_of, pending};
-ghost use Rattle.nx_wal_driver.specs.Group.{page_at, AreThere, IsThere};
+ghost use Rattle.nx_wal.specs.Wal.{Follows, IsInStep, wal_ended, length_of, pending};
+ghost use Rattle.nx_wal_driver.specs.Group.{page_on_ring, AreThere, IsThere};
 ghost use Rattle.nx_wal_driver.specs.Drive.{IsReady};
-ghost use Rattle.nx_wal_driver.specs.Fault.{CountsGrow, HasCause};
+ghost use Rattle.nx_wal_driver.specs.Fault.{FaultCountsGrow, HasCause};
 ghost use Rattle.nx_wal_driver.specs.declared.faults.Fault.TheVariants.{Memory};
 
 use crate::commands::{Creation, Filling};
@@ -40,7 +40,7 @@ fn put_all(wal: &mut Wal, creation: Creation) -> Result<(), Fault>
     requires some { 1 ≤ creation.pages }
     requires few { creation.pages ≤ 16777216 }
     ensures some { OnOk result (pending wal.new ≢ []) }
-    ensures goes_on { has_ended wal.new ≡ false }
+    ensures goes_on { wal_ended wal.new ≡ false }
     ensures length { length_of wal.new ≡ length_of wal.old }
     ensures fault { IfErr result (λ fault. fault ≡ Memory) }
 {
@@ -82,7 +82,7 @@ pub fn fill<H: Host>(alloc: Global, host: &mut H, filling: Filling) -> Result<()
 fn last_group<H: Host>(host: &mut H, wal: &mut Wal) -> Result<u64, Fault>
     requires ready { IsReady wal.old }
     ensures ready { OnOk result (IsReady wal.new) }
-    ensures grow { CountsGrow ⟦<H as Disk>⟧ host.old host.new }
+    ensures grow { FaultCountsGrow ⟦<H as Disk>⟧ host.old host.new }
     ensures cause { IfErr result (λ fault. HasCause ⟦<H as Disk>⟧ fault host.old host.new) }
 {
     let mut page = PageBytes { bytes: [0; 8192] };
@@ -112,7 +112,7 @@ fn commit<H: Host>(
     ensures told { (was : Image) → IsInStep ⟦<H as Disk>⟧ wal.old host.old was → Elapses H.moment H.stood_since host.old host.new
         (λ s. Keeps (H.beside host.old).output s.output ⊎ (IsSome (H.contents host.new) → AreThere filling group count filling.pages (replay s.image))) }
     ensures ready { OnOk result (IsReady wal.new) }
-    ensures grow { CountsGrow ⟦<H as Disk>⟧ host.old host.new }
+    ensures grow { FaultCountsGrow ⟦<H as Disk>⟧ host.old host.new }
     ensures cause { IfErr result (λ fault. HasCause ⟦<H as Disk>⟧ fault host.old host.new) }
 {
     commit_pages(host, wal, filling, group, count)?;
@@ -163,7 +163,7 @@ fn make_room<H: Host>(host: &mut H, wal: &mut Wal) -> Result<(), Fault>
 fn checkpoint<H: Host>(alloc: Global, host: &mut H, wal: &mut Wal, group: u64) -> Result<(), Fault>
     requires ready { IsReady wal.old }
     ensures ready { OnOk result (IsReady wal.new) }
-    ensures grow { CountsGrow ⟦<H as Disk>⟧ host.old host.new }
+    ensures grow { FaultCountsGrow ⟦<H as Disk>⟧ host.old host.new }
     ensures cause { IfErr result (λ fault. HasCause ⟦<H as Disk>⟧ fault host.old host.new) }
 {
     wal.checkpoint(host)?;
@@ -179,7 +179,7 @@ fn put_pages(wal: &mut Wal, filling: Filling, group: u64, count: u32) -> Result<
     ensures there { OnOk result (AreThere filling group count filling.pages (entry_pages (pending wal.new))) }
     ensures follows { OnOk result ((log : List ℕ) → Follows wal.old log → Follows wal.new log) }
     ensures some { OnOk result (pending wal.new ≢ []) }
-    ensures goes_on { has_ended wal.new ≡ false }
+    ensures goes_on { wal_ended wal.new ≡ false }
     ensures length { length_of wal.new ≡ length_of wal.old }
     ensures fault { IfErr result (λ fault. fault ≡ Memory) }
 {
@@ -200,7 +200,7 @@ fn put_pages(wal: &mut Wal, filling: Filling, group: u64, count: u32) -> Result<
 // Which page of so many the i-th of a group is: page 0, and then others behind each other, as on a ring.
 fn page_of(seed: u64, group: u64, i: u32, count: u32) -> u32
     requires { i < count }
-    ensures place { result ≡ page_at seed group count i }
+    ensures place { result ≡ page_on_ring seed group count i }
     ensures low { result < count }
 {
     if i == 0 {
@@ -214,12 +214,12 @@ fn page_of(seed: u64, group: u64, i: u32, count: u32) -> u32
 // Makes the page with this stamp wait.
 fn put(wal: &mut Wal, stamp: Stamp) -> Result<(), Fault>
     requires page { stamp.page < 16777216 }
-    requires goes_on { has_ended wal.old ≡ false }
+    requires goes_on { wal_ended wal.old ≡ false }
     ensures there { OnOk result (IsThere stamp (entry_pages (pending wal.new))) }
     ensures others { OnOk result ((p : ℕ) → p ≢ stamp.page → entry_pages (pending wal.new) p ≡ entry_pages (pending wal.old) p) }
     ensures follows { (log : List ℕ) → Follows wal.old log → Follows wal.new log }
     ensures some { OnOk result (pending wal.new ≢ []) }
-    ensures goes_on { has_ended wal.new ≡ false }
+    ensures goes_on { wal_ended wal.new ≡ false }
     ensures length { length_of wal.new ≡ length_of wal.old }
     ensures fault { IfErr result (λ fault. fault ≡ Memory) }
 {
@@ -250,7 +250,7 @@ pub fn open<H: Host>(alloc: Global, host: &mut H) -> Result<(), Fault>
 }
 
 fn give_lengths<H: Host>(alloc: Global, host: &mut H, wal: &Wal, count: u32) -> Result<(), Fault>
-    ensures grow { CountsGrow ⟦<H as Disk>⟧ host.old host.new }
+    ensures grow { FaultCountsGrow ⟦<H as Disk>⟧ host.old host.new }
     ensures cause { IfErr result (λ fault. HasCause ⟦<H as Disk>⟧ fault host.old host.new) }
 {
     let length = wal.log_length();
@@ -261,7 +261,7 @@ fn give_lengths<H: Host>(alloc: Global, host: &mut H, wal: &Wal, count: u32) -> 
 fn give_page<H: Host>(alloc: Global, host: &mut H, wal: &mut Wal, page: u32) -> Result<(), Fault>
     requires ready { IsReady wal.old }
     ensures ready { OnOk result (IsReady wal.new) }
-    ensures grow { CountsGrow ⟦<H as Disk>⟧ host.old host.new }
+    ensures grow { FaultCountsGrow ⟦<H as Disk>⟧ host.old host.new }
     ensures cause { IfErr result (λ fault. HasCause ⟦<H as Disk>⟧ fault host.old host.new) }
 {
     let mut bytes = PageBytes { bytes: [0; 8192] };

@@ -1,6 +1,6 @@
 // Why a command ended early.
 ghost use Rattle.std.specs.Prelude.{◌≡◌};
-ghost use Rattle.nx_wal_driver.specs.Fault.{fault_of};
+ghost use Rattle.nx_wal_driver.specs.Fault.{told_fault};
 ghost use Rattle.nx_wal_driver.specs.declared.faults.Fault.TheVariants.{Memory};
 
 use nx_lists::NoMemory;
@@ -26,7 +26,7 @@ pub enum Fault {
 }
 
 impl From<WalError> for Fault {
-    ghost from_gives = { λ error fault. fault ≡ fault_of error };
+    ghost from_gives = { λ error fault. fault ≡ told_fault error };
 
     fn from(error: WalError) -> Fault {
         match error {

@@ -11,9 +11,9 @@ ghost use Rattle.std.specs.Prelude.{◌≡◌, drop, map, string_bytes, IfErr, I
 ghost use Rattle.std.specs.Option.{option_copied};
 ghost use Rattle.std.specs.Process.{exit_status};
 ghost use Rattle.std.specs.Vec.Iter.{into_iter_items};
-ghost use Rattle.nx_wal_driver.specs.Command.{IsLimited};
+ghost use Rattle.nx_wal_driver.specs.Command.{HasAllowedPages};
 ghost use Rattle.nx_wal_driver.specs.Fault.{HasCause};
-ghost use Rattle.nx_wal_driver.specs.Exit.{exit_number, error_line};
+ghost use Rattle.nx_wal_driver.specs.Exit.{fault_exit_number, fault_error_line};
 ghost use Rattle.nx_wal_driver.specs.declared.faults.Fault.TheVariants.{Memory};
 
 use commands::{Command, command_of};
@@ -66,7 +66,7 @@ fn words(alloc: Global, mut arguments: Args) -> Result<List<String>, Fault>
 }
 
 fn run<H: Host>(alloc: Global, host: &mut H, command: Command) -> Result<(), Fault>
-    requires { IsLimited command }
+    requires { HasAllowedPages command }
     ensures cause { IfErr result (λ fault. HasCause ⟦<H as Disk>⟧ fault host.old host.new) }
 {
     match command {
@@ -79,7 +79,7 @@ fn run<H: Host>(alloc: Global, host: &mut H, command: Command) -> Result<(), Fau
 
 // Says on standard error what went wrong, and gives the code to exit with.
 fn end<P: Eprint>(process: &P, fault: Option<Fault>) -> ExitCode
-    ensures { exit_status result ≡ exit_number fault }
+    ensures { exit_status result ≡ fault_exit_number fault }
 {
     if let Some(line) = message(fault) {
         // With standard error gone there is nowhere left to say so.
@@ -89,7 +89,7 @@ fn end<P: Eprint>(process: &P, fault: Option<Fault>) -> ExitCode
 }
 
 fn message(fault: Option<Fault>) -> Option<&'static str>
-    ensures { option_copied result ≡ error_line fault }
+    ensures { option_copied result ≡ fault_error_line fault }
 {
     match fault? {
         Fault::Usage => Some(
@@ -105,7 +105,7 @@ fn message(fault: Option<Fault>) -> Option<&'static str>
 }
 
 fn exit_code(fault: Option<Fault>) -> ExitCode
-    ensures { exit_status result ≡ exit_number fault }
+    ensures { exit_status result ≡ fault_exit_number fault }
 {
     ExitCode::from(match fault {
         None => 0,

@@ -2,7 +2,7 @@
 ghost use Rattle.std.specs.Prelude.{◌≡◌, ◌<◌, ◌&&◌, ℕ, List, [], ◌∷◌, ◌++◌, false, true, None, Some, is_some, MatchOption, MatchResult, IfOk, IfErr, Ok, length};
 ghost use Rattle.nx_parts.specs.declared.plan.Plan.{Plan};
 ghost use Rattle.nx_pyx.specs.Lines.{lines};
-ghost use Rattle.nx_pyx.specs.Field.{field, behind, is_position, value_of};
+ghost use Rattle.nx_pyx.specs.Field.{field, behind_space, is_position, value_of};
 ghost use Rattle.nx_bounds.specs.PlanText.{fields, three_numbers, root_line, run_line, bound_line, plan_line, ReadsAs, IsNoPlan, IsWritable, Say, goes_on};
 
 use super::PlanLine;
@@ -176,8 +176,8 @@ fn three_numbers(others: &[u8]) -> Option<Three>
 
 // The number that the first field is, if it is one, and the fields behind it, if there are any.
 fn number_before(others: &[u8]) -> Option<(u32, &[u8])>
-    ensures { MatchOption result ((is_some (behind others.now) && is_position (field others.now)) ≡ false) (λ found.
-        (behind others.now ≡ Some found.1.now) × (is_position (field others.now) ≡ true) × (found.0 ≡ value_of (field others.now))) }
+    ensures { MatchOption result ((is_some (behind_space others.now) && is_position (field others.now)) ≡ false) (λ found.
+        (behind_space others.now ≡ Some found.1.now) × (is_position (field others.now) ≡ true) × (found.0 ≡ value_of (field others.now))) }
 {
     let (digits, more) = split_field(others);
     let more = more?;

@@ -3,7 +3,7 @@ ghost use Rattle.std.specs.Prelude.{◌≡◌, ◌≤◌, ◌++◌, ◌∷◌, [
 ghost use Rattle.std.specs.List.{join_with_byte};
 ghost use Rattle.nx_pyx.specs.Field.{greatest_position};
 ghost use Rattle.nx_bounds.specs.declared.text.PlanLine.TheVariants.{Part, Claim};
-ghost use Rattle.nx_bounds.specs.PlanWriter.{HasGrown};
+ghost use Rattle.nx_bounds.specs.PlanWriter.{HasMoreBytes};
 ghost use Rattle.nx_bounds.specs.PlanText.{IsWritable, ReadsAs, Fits, IntervalFits, interval_fields, line_text, plan_text};
 
 use nx_parts::{Bound, Interval, Plan};
@@ -37,7 +37,7 @@ pub fn write_plan(alloc: Global, plan: &Plan) -> Result<Bytes, NoMemory>
 // Adds the line of an interval. Each number that it says fits its field, if the weight does.
 pub fn push_part(text: &mut Bytes, interval: &Interval, weight: u64) -> Result<(), NoMemory>
     ensures text { OnOk result (text.new ≡ text.old ++ line_text (Part interval.now weight) ++ 10 ∷ []) }
-    ensures begun { HasGrown text.old text.new }
+    ensures begun { HasMoreBytes text.old text.new }
     ensures fits { OnOk result (weight ≤ greatest_position → Fits (Part interval.now weight)) }
 {
     push_interval(text, interval)?;
@@ -48,7 +48,7 @@ pub fn push_part(text: &mut Bytes, interval: &Interval, weight: u64) -> Result<(
 // Adds the fields of an interval. Each number that they say fits its field.
 fn push_interval(text: &mut Bytes, interval: &Interval) -> Result<(), NoMemory>
     ensures text { OnOk result (text.new ≡ text.old ++ join_with_byte 32 (interval_fields interval.now)) }
-    ensures begun { HasGrown text.old text.new }
+    ensures begun { HasMoreBytes text.old text.new }
     ensures fits { OnOk result (IntervalFits interval.now) }
 {
     match interval {
@@ -64,7 +64,7 @@ fn push_interval(text: &mut Bytes, interval: &Interval) -> Result<(), NoMemory>
 // Adds the fields of an interval of these children. Each number that they say fits its field.
 fn push_run(text: &mut Bytes, parent: &[u32], first: u32, last: u32) -> Result<(), NoMemory>
     ensures text { OnOk result (text.new ≡ text.old ++ join_with_byte 32 (interval_fields (Interval.Run parent.now first last))) }
-    ensures begun { HasGrown text.old text.new }
+    ensures begun { HasMoreBytes text.old text.new }
     ensures fits { OnOk result (IntervalFits (Interval.Run parent.now first last)) }
 {
     text.extend_from_slice(b"run ")?;
@@ -76,7 +76,7 @@ fn push_run(text: &mut Bytes, parent: &[u32], first: u32, last: u32) -> Result<(
 // Adds the line of a node's bound. Each number that it says fits its field, if the node's does.
 pub fn push_claim(text: &mut Bytes, node: u64, bound: &Bound) -> Result<(), NoMemory>
     ensures text { OnOk result (text.new ≡ text.old ++ line_text (Claim node bound.now) ++ 10 ∷ []) }
-    ensures begun { HasGrown text.old text.new }
+    ensures begun { HasMoreBytes text.old text.new }
     ensures fits { OnOk result (node ≤ greatest_position → Fits (Claim node bound.now)) }
 {
     let Bound {

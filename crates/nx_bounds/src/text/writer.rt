@@ -25,13 +25,13 @@ impl<'a> Model for PlanWriter<'a> {
 
     ghost Value = { List ℕ };
 
-    ghost use Rattle.nx_bounds.specs.PlanWriter.{text_left};
+    ghost use Rattle.nx_bounds.specs.PlanWriter.{plan_text_left};
 
-    ghost view = { text_left };
+    ghost view = { plan_text_left };
 }
 
 impl<'a> PlanWriter<'a> {
-    ghost use Rattle.nx_bounds.specs.PlanWriter.{HasGrown};
+    ghost use Rattle.nx_bounds.specs.PlanWriter.{HasMoreBytes};
 
     /// A writer of the whole text. It takes no memory.
     pub fn new(plan: &'a Plan) -> PlanWriter<'a>
@@ -66,7 +66,7 @@ impl<'a> PlanWriter<'a> {
     // Adds the next line, if there is one. Want of memory leaves the block and the writer as they were.
     fn step(&mut self, block: &mut Bytes) -> Result<bool, NoMemory>
         ensures text { block.new ++ self.new ≡ block.old ++ self.old }
-        ensures begun { HasGrown block.old block.new }
+        ensures begun { HasMoreBytes block.old block.new }
         ensures more { result ≡ Ok true → length block.old < length block.new }
         ensures end { result ≡ Ok false → self.new ≡ [] }
     {
@@ -82,7 +82,7 @@ impl<'a> PlanWriter<'a> {
     fn write_line(&mut self, block: &mut Bytes) -> Result<bool, NoMemory>
         ensures ok { OnOk result (block.new ++ self.new ≡ block.old ++ self.old) }
         ensures err { OnErr result (self.new ≡ self.old) }
-        ensures begun { HasGrown block.old block.new }
+        ensures begun { HasMoreBytes block.old block.new }
         ensures more { result ≡ Ok true → length block.old < length block.new }
         ensures end { result ≡ Ok false → self.new ≡ [] }
     {

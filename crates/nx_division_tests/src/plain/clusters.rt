@@ -2,7 +2,7 @@
 ghost use Rattle.std.specs.Prelude.{◌≡◌, ◌↔◌, ◌<◌, ◌≤◌, ◌^◌, ◌&&◌, IsTrue, length, take, drop};
 ghost use Rattle.std.specs.List.{list_all};
 ghost use Rattle.std.specs.Str.{bytes_eq};
-ghost use Rattle.nx_sketch.specs.Plan.{AreLight, KeepsClusters, clusters_down, component_weight, is_cluster, is_cluster_at, is_joined};
+ghost use Rattle.nx_sketch.specs.Plan.{AreComponentsLight, KeepsClusters, clusters_down, component_weight, is_cluster, is_cluster_at, is_joined};
 ghost use Rattle.nx_division_tests.specs.Tests.{kept_test, light_test, same_place};
 
 use super::entries::is_cluster;
@@ -106,7 +106,7 @@ fn are_all_light(k: u32, nodes: &[Node]) -> bool
 // Whether no cluster component weighs more than `k`.
 pub(crate) fn are_light(k: u32, nodes: &[Node]) -> bool
     requires { length nodes.now < 2 ^ 20 }
-    ensures { IsTrue result ↔ AreLight k nodes.now }
+    ensures { IsTrue result ↔ AreComponentsLight k nodes.now }
 {
     are_all_light(k, nodes)
 }

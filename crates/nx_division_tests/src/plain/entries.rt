@@ -1,7 +1,8 @@
 // What is asked of nodes.
 ghost use Rattle.std.specs.Prelude.{◌≡◌};
 ghost use Rattle.nx_sketch.specs.Plan.{is_cluster};
-ghost use Rattle.nx_division_tests.specs.Tests.{is_free, is_standalone};
+ghost use Rattle.nx_division_tests.specs.Tests.{is_standalone};
+ghost use Rattle.nx_matrix.specs.Rules.{is_free};
 
 use nx_matrix::Entry;
 

@@ -2,7 +2,7 @@
 ghost use Rattle.std.specs.Prelude.{◌≡◌, ◌-◌, ◌∷◌, ◌++◌, [], ◌↔◌, ◌<◌, ◌^◌, IsTrue, length, nat_le};
 ghost use Rattle.std.specs.List.{list_all, list_any, range_with_len};
 ghost use Rattle.nx_parts.specs.Partitioning.{has_member};
-ghost use Rattle.nx_sketch.specs.Plan.{IsFeasiblePlan, part_weight};
+ghost use Rattle.nx_sketch.specs.Plan.{IsFeasiblePlan, placed_part_weight};
 ghost use Rattle.nx_division_tests.specs.Tests.{alone_member, alone_test, apart_test, feasible_test, inside_test, pairs_test, placed_test, plan_test, rooted_test};
 
 use super::entries::is_standalone;
@@ -133,7 +133,7 @@ fn is_plan(nodes: &[Node], parts: &[Interval]) -> bool
 // Whether no part weighs more than `k`.
 fn are_parts_light(k: u32, nodes: &[Node], parts: &[Interval]) -> bool
     requires { length nodes.now < 2 ^ 20 }
-    ensures { result ≡ list_all (λ index. nat_le (part_weight nodes.now parts.now index) k) (range_with_len 0 (length parts.now)) }
+    ensures { result ≡ list_all (λ index. nat_le (placed_part_weight nodes.now parts.now index) k) (range_with_len 0 (length parts.now)) }
 {
     (0..parts.len()).all(|index| part_weight(nodes, parts, index) <= u64::from(k))
 }

@@ -3,7 +3,7 @@ ghost use Rattle.std.specs.Prelude.{◌≡◌, ◌↔◌, ◌<◌, ◌^◌, IfOk
 ghost use Rattle.std.specs.Cmp.Lexicographic.{pointwise};
 ghost use Rattle.std.specs.List.{AllPairs};
 ghost use Rattle.nx_parts.specs.Order.{AreInOrder};
-ghost use Rattle.nx_sketch.specs.Plan.{AreLight, AreNeighboursFull, IsFeasiblePlan, KeepsClusters};
+ghost use Rattle.nx_sketch.specs.Plan.{AreComponentsLight, AreNeighboursFull, IsFeasiblePlan, KeepsClusters};
 ghost use Rattle.nx_sketch.specs.Separator.{IsSeparatorPlan, is_before, point};
 ghost use Rattle.nx_sketch.specs.Split.{IsSplit};
 ghost use Rattle.nx_division_tests.specs.Tests.{same_interval};
@@ -59,7 +59,7 @@ fn are_same(one: &[Interval], other: &[Interval]) -> bool
 // Whether no cluster edge is cut, where that is asked for.
 fn keeps_light_clusters(k: u32, nodes: &[Node], parts: &[Interval]) -> bool
     requires { length nodes.now < 2 ^ 20 }
-    ensures { IsTrue result ↔ (AreLight k nodes.now → KeepsClusters nodes.now parts.now) }
+    ensures { IsTrue result ↔ (AreComponentsLight k nodes.now → KeepsClusters nodes.now parts.now) }
 {
     if are_light(k, nodes) {
         keeps_clusters(nodes, parts)
@@ -70,7 +70,7 @@ fn keeps_light_clusters(k: u32, nodes: &[Node], parts: &[Interval]) -> bool
 
 fn is_full_and_keeps_clusters(k: u32, nodes: &[Node], parts: &[Interval]) -> bool
     requires { length nodes.now < 2 ^ 20 }
-    ensures { IsTrue result ↔ (AreNeighboursFull k nodes.now parts.now × (AreLight k nodes.now → KeepsClusters nodes.now parts.now)) }
+    ensures { IsTrue result ↔ (AreNeighboursFull k nodes.now parts.now × (AreComponentsLight k nodes.now → KeepsClusters nodes.now parts.now)) }
 {
     are_neighbours_full(k, nodes, parts) && keeps_light_clusters(k, nodes, parts)
 }
@@ -78,7 +78,7 @@ fn is_full_and_keeps_clusters(k: u32, nodes: &[Node], parts: &[Interval]) -> boo
 // Whether the intervals are what they have to be where the separator's plan is too heavy.
 fn is_other(k: u32, nodes: &[Node], parts: &[Interval]) -> bool
     requires { length nodes.now < 2 ^ 20 }
-    ensures { IsTrue result ↔ (IsFeasiblePlan k nodes.now parts.now × (AreNeighboursFull k nodes.now parts.now × (AreLight k nodes.now → KeepsClusters nodes.now parts.now))) }
+    ensures { IsTrue result ↔ (IsFeasiblePlan k nodes.now parts.now × (AreNeighboursFull k nodes.now parts.now × (AreComponentsLight k nodes.now → KeepsClusters nodes.now parts.now))) }
 {
     is_feasible_plan(k, nodes, parts) && is_full_and_keeps_clusters(k, nodes, parts)
 }

@@ -1,7 +1,7 @@
 // What nodes weigh together. They are few enough that the sums fit.
 ghost use Rattle.std.specs.Prelude.{◌≡◌, ◌<◌, ◌^◌, length};
 ghost use Rattle.std.specs.List.{sum_by};
-ghost use Rattle.nx_sketch.specs.Plan.{part_weight};
+ghost use Rattle.nx_sketch.specs.Plan.{placed_part_weight};
 ghost use Rattle.nx_sketch.specs.Separator.{is_left, is_marked, point, weight_before, weight_within};
 
 use super::paths::{is_before, is_prefix, owns};
@@ -11,7 +11,7 @@ use nx_parts::Interval;
 // What the part of an interval weighs.
 pub(crate) fn part_weight(nodes: &[Node], parts: &[Interval], index: usize) -> u64
     requires { length nodes.now < 2 ^ 20 }
-    ensures { result ≡ part_weight nodes.now parts.now index }
+    ensures { result ≡ placed_part_weight nodes.now parts.now index }
 {
     nodes
         .iter()

@@ -3,8 +3,8 @@ use Rattle.std.specs.Prelude.{All, is_some}
 use Rattle.std.specs.Option.{option_copied_mut}
 use Rattle.std.proofs.lemmas.Bool.{false≢true}
 use Rattle.std.proofs.lemmas.List.Elements.{recursion_from_All, All-from_recursion}
-use Rattle.nx_catalog.specs.NameMap.{by_bytes}
-use Rattle.nx_catalog.specs.Catalog.{IsKept}
+use Rattle.nx_script.specs.Field.{by_bytes}
+use Rattle.nx_catalog.specs.Catalog.{CanBeKept}
 use Rattle.nx_catalog.proofs.NameMap.{map_in-insert, get-map_in}
 use Rattle.nx_catalog.proofs.InsideLemmas.{set_documents}
 use Rattle.nx_catalog.proofs.saving.put_at.Goals as goal

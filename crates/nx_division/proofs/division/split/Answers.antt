@@ -3,7 +3,7 @@ use Rattle.nx_sketch.specs.Sketch.{placed}
 use Rattle.nx_sketch.specs.Separator.{point}
 use Rattle.nx_sketch.specs.Split.{IsSplit}
 use Rattle.nx_division.specs.declared.cut.Cut.{Cut}
-use Rattle.nx_division.specs.Drawn.{drawn, intervals}
+use Rattle.nx_division.specs.Drawn.{drawn, drawn_intervals}
 use Rattle.nx_division.specs.Divided.{IsDivided}
 use Rattle.nx_division.proofs.SpotLemmas.{bare-drawn, take-front}
 use Rattle.nx_division.proofs.SplitLemmas.{divided_split, flat_of}
@@ -20,5 +20,5 @@ returns c = λ s is sketch light.
     let t_is : t ≡ point (placed s) c.args.target = c.point-t.ensures s is in
     let divided : IsDivided c.args.k (point (placed s) c.args.target) c.args.tolerance s (drawn s cuts) =
     subst (λ n. IsDivided c.args.k n c.args.tolerance s (drawn s cuts)) t_is (subst (λ (q : List Cut). IsDivided c.args.k t c.args.tolerance s (drawn s q)) (sym same) (c.in_ok-draw.ensures s is sketch light)) in
-    let found : c.write.new.found ≡ intervals [] (drawn s cuts) = c.in_ok-write.ensures.found s is ∙ (λ i. c.new-parts.ensures i ++ intervals (c.new-path.ensures.items i) (drawn s cuts)) in
+    let found : c.write.new.found ≡ drawn_intervals [] (drawn s cuts) = c.in_ok-write.ensures.found s is ∙ (λ i. c.new-parts.ensures i ++ drawn_intervals (c.new-path.ensures.items i) (drawn s cuts)) in
     subst (IsSplit c.args.k (placed s) c.args.target c.args.tolerance) (sym found) (divided_split c.args.k c.args.target c.args.tolerance s (drawn s cuts) sketch (bare-drawn s cuts) divided)

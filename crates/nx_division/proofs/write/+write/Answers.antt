@@ -1,6 +1,6 @@
 use Rattle.std.proofs.Common.{◌≡◌, ◌+◌, ◌≤◌, ◌++◌, length, get_or, vec_len, ap, ◌∙◌, arith}
 use Rattle.nx_division.specs.declared.cut.Cut.TheVariants.{Stays}
-use Rattle.nx_division.specs.Drawn.{drawn, intervals, run_of}
+use Rattle.nx_division.specs.Drawn.{drawn, drawn_intervals, run_of}
 use Rattle.nx_division.proofs.SpotLemmas.{below_flat, beside_flat, mid_len, rest_len}
 use Rattle.nx_division.proofs.DrawnLemmas.{cut_apart, cuts_below, cuts_beside, write_none, write_parts, pop_path}
 use Rattle.nx_division.proofs.write.+write.Goals as goal
@@ -50,6 +50,6 @@ returns-clause-found t c = λ s is.
     write_parts c.in-Some.spot.now c.in-Some.below.now c.in-Some.beside.now c.args.cuts.now (get_or c.args.cuts.now 0 Stays) (cuts_below c.args.cuts.now c.in-Some.below.now) (cuts_beside c.args.cuts.now c.in-Some.below.now) apart
     old c.args.found.now c.push_run.new.found c.write.new.found c.write-2.new.found
     (λ u e. c.in_ok-push_run.ensures u e ∙ ap (λ q. c.args.found.now ++ run_of q c.in-Some.spot.now.position (get_or c.args.cuts.now 0 Stays) (drawn u (cuts_beside c.args.cuts.now c.in-Some.below.now))) c.deref.ensures.value)
-    (λ u e. c.in_ok-write.ensures.found u e ∙ ap (λ q. c.push_run.new.found ++ intervals q (drawn u (cuts_below c.args.cuts.now c.in-Some.below.now))) pushed)
-    (λ u e. c.in_ok-write-2.ensures.found u e ∙ ap (λ q. c.write.new.found ++ intervals q (drawn u (cuts_beside c.args.cuts.now c.in-Some.below.now))) popped)
+    (λ u e. c.in_ok-write.ensures.found u e ∙ ap (λ q. c.push_run.new.found ++ drawn_intervals q (drawn u (cuts_below c.args.cuts.now c.in-Some.below.now))) pushed)
+    (λ u e. c.in_ok-write-2.ensures.found u e ∙ ap (λ q. c.write.new.found ++ drawn_intervals q (drawn u (cuts_beside c.args.cuts.now c.in-Some.below.now))) popped)
     s (c.in-Some.ensures.cases s is)

@@ -3,7 +3,7 @@ use Rattle.std.proofs.lemmas.Bool.{MatchBool-at_true, MatchBool-at_false}
 use Rattle.std.proofs.lemmas.Result.{err_from_is_err_and}
 use Rattle.nx_host.specs.Host.{IsAtEnd}
 use Rattle.nx_host.specs.Input.{most_input}
-use Rattle.nx_filters.specs.Planned.{HasLines, HasDot, HasDocument}
+use Rattle.nx_filters.specs.Planned.{HasLines, HasDot, HasDocumentBeforeDot}
 use Rattle.nx_filters.specs.Verify.{verify}
 use Rattle.nx_filters.proofs.ConsumerLemmas.{came_few, fed_stops, fed_whole}
 use Rattle.nx_filters.proofs.PlannedLemmas.{lines_none, planned_stops, document_planned}
@@ -88,7 +88,7 @@ returns-clause-ok g c =
     (HasDot c.feed.new.consumer.body c.feed.new.consumer.behind taken) c.if-ended.false ends
     in
     let (more, all, last) = c.in_ok-feed.ensures.ok taken start had (c.in_ok-planned.ensures.dotted taken dot) in
-    let (whole, document) = fed_whole (HasDocument c.feed-2.new.consumer.tree c.feed-2.new.consumer.plan) c.in_ok-feed.field-0 all last in
+    let (whole, document) = fed_whole (HasDocumentBeforeDot c.feed-2.new.consumer.tree c.feed-2.new.consumer.plan) c.in_ok-feed.field-0 all last in
     (taken ++ more, whole, document_planned c.feed-2.new.consumer.tree c.feed-2.new.consumer.plan (taken ++ more) document)
 
 pub returns-clause-bounded : goal.returns-clause-bounded

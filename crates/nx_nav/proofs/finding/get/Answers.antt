@@ -7,7 +7,7 @@ use Rattle.nx_tree.specs.Edit.{at}
 use Rattle.nx_piece.specs.Viewing.{seen_tree}
 use Rattle.nx_cuts.specs.Cut.{tree_of}
 use Rattle.nx_hold.specs.Changes.{place_of, place_named}
-use Rattle.nx_nav.specs.Refusals.{OfEach, HoldsNone}
+use Rattle.nx_nav.specs.Refusals.{OfEach, HoldsNoDocument}
 use Rattle.nx_nav.proofs.NodeLemmas.{too_deep}
 use Rattle.nx_nav.proofs.RefusalLemmas.{is_damaged}
 use Rattle.nx_nav.proofs.SeekLemmas.{part_left, seek_begins, shows_found, shows_none, finds_none, seek_goes_on, seek_falls, seek_refused, seek_reads, IsSeeking}
@@ -33,7 +33,7 @@ returns-in-Here-clause-ok g c = (
 pub returns-then-not-is_shown-clause-refused : goal.returns-then-not-is_shown-clause-refused
 returns-then-not-is_shown-clause-refused g c =
     is_damaged g.D.Disk (OfEach g.D.Disk c.args.records.now c.args.disk.now (place_of c.args.root) (λ document. at (tree_of document) c.args.path.now ≡ None)) ⊥
-    (HoldsNone g.D.Disk c.args.records.now c.args.disk.now (place_of c.args.root)) {r0 = c.args.records.now} {r1 = c.piece_at.new.records} {r2 = c.damaged.new.records} c.args.disk.now c.piece_at.new.disk c.damaged.result c.damaged.ensures.result
+    (HoldsNoDocument g.D.Disk c.args.records.now c.args.disk.now (place_of c.args.root)) {r0 = c.args.records.now} {r1 = c.piece_at.new.records} {r2 = c.damaged.new.records} c.args.disk.now c.piece_at.new.disk c.damaged.result c.damaged.ensures.result
     (sym (c.loop-bytes.invariant.stays).ended_stays ∙ c.in_ok-piece.ensures.stays.0) (leaves_add_up c.loop-bytes.invariant.stays c.in_ok-piece.ensures.stays.1) c.damaged.ensures.ends
     (shows_none c.loop-bytes.invariant c.in_ok-piece.piece c.in_ok-piece.ensures.ok (seen_tree c.in-Here.tree) c.in-Here.first c.in_ok-shown-in-Here.shown c.in-Here.ensures.0 c.in_ok-shown-in-Here.ensures.0 c.in_ok-shown-in-Here.ensures.1
     (λ can. absurd (let yes = c.is_shown.ensures.1 can in let no = c.if-not-is_shown.true in cc)))

@@ -3,7 +3,7 @@ use Rattle.nx_piece.specs.declared.piece.Piece.{Piece}
 use Rattle.nx_holdings.specs.declared.header.Settings.{Settings}
 use Rattle.nx_holdings.specs.declared.header.Header.{Header}
 use Rattle.nx_records.specs.Records.{LeavesRecords, settings_of}
-use Rattle.nx_piece.specs.Gapped.{width, gapped_weight}
+use Rattle.nx_piece.specs.Gapped.{gapped_width, gapped_weight}
 use Rattle.nx_hold.specs.Changes.{place_of}
 use Rattle.nx_nav.specs.Parts.{HasNoInterval}
 use Rattle.nx_nav.proofs.RefusalLemmas.{is_damaged}
@@ -21,7 +21,7 @@ pub returns-then-root_count-roots-clause-refused : goal.returns-then-root_count-
 returns-then-root_count-roots-clause-refused g c =
     is_damaged g.D.Disk ⊥ ⊥ (HasNoInterval g.D.Disk c.args.records.now c.args.disk.now (place_of c.args.rid) c.args.roots) {r0 = c.args.records.now} {r1 = c.view_piece.new.records} {r2 = c.damaged.new.records} c.args.disk.now c.view_piece.new.disk
     c.damaged.result c.damaged.ensures.result c.in-Ok.ensures.ok.0 c.in-Ok.ensures.ok.1 c.damaged.ensures.ends
-    (no_interval c.args.roots c.in-Ok.piece c.in-Ok.ensures.ok.2 (λ same. c.if-root_count-roots.true (c.root_count.ensures ∙ ap (λ (p : Piece). width p.body.roots) c.piece.view_is ∙ same)))
+    (no_interval c.args.roots c.in-Ok.piece c.in-Ok.ensures.ok.2 (λ same. c.if-root_count-roots.true (c.root_count.ensures ∙ ap (λ (p : Piece). gapped_width p.body.roots) c.piece.view_is ∙ same)))
 
 pub returns-clause-ok : goal.returns-clause-ok
 returns-clause-ok g c = λ members h as_many. interval_piece h c.in-Ok.piece c.in-Ok.ensures.ok.2

@@ -1,7 +1,7 @@
 use Rattle.std.proofs.Common.{false, [], ◌∷◌, ◌++◌, ap, ◌∙◌, subst}
 use Rattle.nx_weights.proofs.LimitLemmas.{document_within}
 use Rattle.nx_parts.specs.declared.interval.Interval.TheVariants.{Root}
-use Rattle.nx_partition.specs.Planning.{first_bound, IsPlanned}
+use Rattle.nx_partition.specs.Planning.{first_bound, AddsDrawing}
 use Rattle.nx_partition.proofs.WholeLemmas.{whole_plan}
 use Rattle.nx_partition.proofs.planning.parts_from.Goals as goal
 
@@ -12,12 +12,12 @@ pub returns-clause-ok : goal.returns-clause-ok
 returns-clause-ok c =
     let old = c.in_ok-push.ensures.ok ∙ ap (λ l. l ++ Root ∷ []) c.new-planner.ensures.parts in
     let whole = whole_plan c.args.k c.args.tree.now c.args.minima.now c.requires.minima c.new-planner.ensures.path old
-    (subst (λ bs. IsPlanned c.args.k c.args.tree.now false (first_bound bs) c.new-planner.result.path.items c.push.new.self c.plan_tree.new.self.parts) c.as_slice.ensures c.in_ok-plan_tree.ensures.parts) in
+    (subst (λ bs. AddsDrawing c.args.k c.args.tree.now false (first_bound bs) c.new-planner.result.path.items c.push.new.self c.plan_tree.new.self.parts) c.as_slice.ensures c.in_ok-plan_tree.ensures.parts) in
     whole.partitioning
 
 pub returns-clause-few : goal.returns-clause-few
 returns-clause-few c =
     let old = c.in_ok-push.ensures.ok ∙ ap (λ l. l ++ Root ∷ []) c.new-planner.ensures.parts in
     let whole = whole_plan c.args.k c.args.tree.now c.args.minima.now c.requires.minima c.new-planner.ensures.path old
-    (subst (λ bs. IsPlanned c.args.k c.args.tree.now false (first_bound bs) c.new-planner.result.path.items c.push.new.self c.plan_tree.new.self.parts) c.as_slice.ensures c.in_ok-plan_tree.ensures.parts) in
+    (subst (λ bs. AddsDrawing c.args.k c.args.tree.now false (first_bound bs) c.new-planner.result.path.items c.push.new.self c.plan_tree.new.self.parts) c.as_slice.ensures c.in_ok-plan_tree.ensures.parts) in
     whole.few

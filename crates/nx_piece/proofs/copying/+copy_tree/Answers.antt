@@ -1,6 +1,6 @@
 use Rattle.std.proofs.Common.{rules, arith, ap, ◌≡◌, ◌∙◌, ◌≤◌, suc, sym}
 use Rattle.nx_tree.specs.declared.node.Node.{Node}
-use Rattle.nx_piece.specs.Gapped.{Gapped, item_count, width}
+use Rattle.nx_piece.specs.Gapped.{Gapped, item_count, gapped_width}
 use Rattle.nx_piece.specs.Items.{gapped_of}
 use Rattle.nx_piece.specs.Viewing.{seen_items, seen_tree}
 use Rattle.nx_piece.proofs.ApartLemmas.{row_end, row}
@@ -16,7 +16,7 @@ copy_tree-requires t c =
 pub loop-item-preserved-in_ok-copy_tree-in-Tree : goal.loop-item-preserved-in_ok-copy_tree-in-Tree
 loop-item-preserved-in_ok-copy_tree-in-Tree t c =
     let next = rw c.in-Tree.is at c.in-Some.ensures in
-    let wide = ap width next in let room = c.loop-item.invariant.room in
+    let wide = ap gapped_width next in let room = c.loop-item.invariant.room in
     let long = c.push_reserved.ensures.len in let capacity = c.push_reserved.ensures.capacity in
     record {
       same = tree_copied {t = seen_tree c.in-Tree.child} c.loop-item.children.items c.loop-item.invariant.same next c.in_ok-copy_tree-in-Tree.ensures c.push_reserved.ensures.items;
@@ -26,7 +26,7 @@ loop-item-preserved-in_ok-copy_tree-in-Tree t c =
 pub loop-item-preserved : goal.loop-item-preserved
 loop-item-preserved t c =
     let next = rw c.in-Run.is at c.in-Some.ensures in
-    let wide = ap width next in let room = c.loop-item.invariant.room in
+    let wide = ap gapped_width next in let room = c.loop-item.invariant.room in
     let long = c.push_reserved-in-Run.ensures.len in let capacity = c.push_reserved-in-Run.ensures.capacity in
     record {
       same = run_copied c.loop-item.children.items c.loop-item.invariant.same next c.push_reserved-in-Run.ensures.items;

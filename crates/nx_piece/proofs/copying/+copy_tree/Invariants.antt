@@ -1,6 +1,6 @@
 use Rattle.std.proofs.Common.{◌≡◌, ◌+◌, ◌≤◌}
 use Rattle.std.specs.Vec.{vec_len, vec_capacity}
-use Rattle.nx_piece.specs.Gapped.{item_count, width}
+use Rattle.nx_piece.specs.Gapped.{item_count, gapped_width}
 use Rattle.nx_piece.specs.Items.{gapped_of}
 use Rattle.nx_piece.specs.Viewing.{seen_items}
 use Rattle.nx_piece.proofs.ApartLemmas.{row}
@@ -15,5 +15,5 @@ decreases-loop-item l = item_count (seen_items l.rest)
 abbrev pub invariant-loop-item : goal.invariant-loop-item
 invariant-loop-item l = record {
   same : row (gapped_of l.children.items) (seen_items l.rest) ≡ seen_items l.tree.children;
-  room : vec_len l.children + width (seen_items l.rest) ≤ vec_capacity l.children;
+  room : vec_len l.children + gapped_width (seen_items l.rest) ≤ vec_capacity l.children;
 }

@@ -1,6 +1,6 @@
 use Rattle.std.proofs.Common.{◌≡◌, ◌+◌, ◌≤◌}
 use Rattle.std.specs.Vec.{vec_len, vec_capacity}
-use Rattle.nx_piece.specs.Gapped.{grown_of, item_count, width}
+use Rattle.nx_piece.specs.Gapped.{grown_of, item_count, gapped_width}
 use Rattle.nx_piece.specs.Valid.{AreTrees}
 use Rattle.nx_piece.specs.Viewing.{seen_items}
 use Rattle.nx_piece.proofs.ApartLemmas.{row}
@@ -13,5 +13,5 @@ abbrev pub invariant-loop-item : goal.invariant-loop-item
 invariant-loop-item l = record {
   same : row (grown_of l.trees.items) (seen_items l.rest) ≡ l.body.roots;
   trees : AreTrees (seen_items l.rest);
-  room : vec_len l.trees + width (seen_items l.rest) ≤ vec_capacity l.trees;
+  room : vec_len l.trees + gapped_width (seen_items l.rest) ≤ vec_capacity l.trees;
 }

@@ -1,6 +1,6 @@
 use Rattle.std.proofs.Common.{rules, arith, ap, ◌∙◌, ◌≤◌, ◌++◌, suc}
 use Rattle.std.proofs.lemmas.List.{drop_all}
-use Rattle.nx_piece.specs.Gapped.{GappedTree, item_count, width}
+use Rattle.nx_piece.specs.Gapped.{GappedTree, item_count, gapped_width}
 use Rattle.nx_piece.specs.Items.{gapped_of}
 use Rattle.nx_piece.specs.Encoding.{node_bytes}
 use Rattle.nx_piece.proofs.WalkLemmas.{next_tree, next_run, next_falls, next_small, first_small, width_items, small_width, written_start, written_tree, written_gap, written_end}
@@ -19,7 +19,7 @@ loop-item-init t c =
     written_start _ c.args.out.now _ c.args.tree.now
     (c.in_ok-push_node.ensures
     ∙ ap (λ w. c.args.out.now ++ node_bytes c.tree.inside.node w) (width_items c.args.tree.now.below c.as_slice-items.result.now below)
-    ∙ ap (λ (x : GappedTree). c.args.out.now ++ node_bytes x.node (width c.args.tree.now.below)) c.tree.view_is)
+    ∙ ap (λ (x : GappedTree). c.args.out.now ++ node_bytes x.node (gapped_width c.args.tree.now.below)) c.tree.view_is)
     below c.requires
 
 pub push_tree-requires : goal.push_tree-requires

@@ -1,12 +1,12 @@
 use Rattle.std.proofs.Common.{arith, ap, ◌∙◌, ◌≤◌}
-use Rattle.nx_piece.specs.Gapped.{item_count, width}
+use Rattle.nx_piece.specs.Gapped.{item_count, gapped_width}
 use Rattle.nx_piece.proofs.WalkLemmas.{width_trees, whole_body}
 use Rattle.nx_piece.proofs.writing.encode_body.Goals as goal
 
 pub overflow_cast-roots : goal.overflow_cast-roots
 overflow_cast-roots c =
     let w = width_trees c.args.body.now.roots c.as_slice-roots.result.now c.as_slice-roots.ensures in
-    let f : width c.args.body.now.roots ≤ 256 = c.requires.valid.few in
+    let f : gapped_width c.args.body.now.roots ≤ 256 = c.requires.valid.few in
     omega arith
 
 pub returns : goal.returns

@@ -1,5 +1,5 @@
 use Rattle.std.proofs.Common.{sym, ap, ◌∙◌, subst}
-use Rattle.nx_pyx.specs.Reader.{HasRoom}
+use Rattle.nx_pyx.specs.Reader.{MayGrowBy}
 use Rattle.nx_pyx.specs.Event.{event_of}
 use Rattle.nx_pyx.specs.Line.{event_in}
 use Rattle.nx_pyx.proofs.HasRoomLemmas.{room_few, room_left, too_long}
@@ -11,7 +11,7 @@ returns-then-bytes-le-LONGEST_NODE-clause-ok c =
 
 pub returns-in-Some-left-clause-ok : goal.returns-in-Some-left-clause-ok
 returns-in-Some-left-clause-ok c =
-    subst (HasRoom c.args.bytes.now) (sym c.saturating_sub.ensures)
+    subst (MayGrowBy c.args.bytes.now) (sym c.saturating_sub.ensures)
     (room_left c.args.bytes.now (event_in c.in-Some.line) c.in-Some-left.left (ap event_of (sym c.without_cr.ensures) ∙ c.in-Some.ensures) c.in-Some-left.ensures)
 
 pub returns-in-None-clause-fault : goal.returns-in-None-clause-fault

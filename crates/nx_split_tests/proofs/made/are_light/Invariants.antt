@@ -1,11 +1,11 @@
 use Rattle.std.proofs.Common.{drop}
 use Rattle.nx_piece.specs.Gapped.{grown_of}
 use Rattle.nx_piece.specs.Weight.{HaveShortNodes}
-use Rattle.nx_split.specs.Piece.{AreAtMost}
+use Rattle.nx_split.specs.Piece.{AreGappedAtMost}
 use Rattle.nx_split_tests.proofs.made.are_light.Given as goal
 
 abbrev pub invariant-loop-tree : goal.invariant-loop-tree
 invariant-loop-tree l = record {
   short : HaveShortNodes (grown_of (drop l.tree-index l.trees));
-  light : AreAtMost l.k (grown_of (drop l.tree-index l.trees)) → AreAtMost l.k (grown_of l.trees);
+  light : AreGappedAtMost l.k (grown_of (drop l.tree-index l.trees)) → AreGappedAtMost l.k (grown_of l.trees);
 }

@@ -1,6 +1,6 @@
 use Rattle.std.proofs.Common.{◌≡◌, ℕ, ◌+◌, ◌*◌, ◌^◌, ◌<◌, ◌≤◌, length, drop, arith, sym, ap, subst, ◌∙◌}
-use Rattle.nx_replay.specs.Log.{entries_of}
-use Rattle.nx_wal.specs.Reading.{numbers_of}
+use Rattle.nx_replay.specs.Log.{entries_in}
+use Rattle.nx_wal.specs.Reading.{page_numbers}
 use Rattle.nx_wal.specs.Places.{Notes}
 use Rattle.nx_host.proofs.DiskLemmas.{none_still, still_then}
 use Rattle.nx_replay.proofs.SettledLemmas.{told_still}
@@ -62,10 +62,10 @@ loop-head-preserved g c =
           let fits : c.loop-head.at + 13 + 8196 * count ≤ length was.log = omega (arith, room, limit_is) in
           let rises = c.in_ok-rises.ensures.rise was told_head fits in
           let bytes = drop (c.loop-head.at + 13) was.log in
-          let same : numbers ≡ numbers_of (entries_of count bytes) = c.deref.ensures.value ∙ c.in_ok-rises.ensures.numbers c.if-not-rises.false was told_head fits in
-          let notes = c.in_ok-note_pages.ensures.notes was.log (same ∙ ap (λ (n : ℕ). numbers_of (entries_of n bytes)) (sym long)) in
+          let same : numbers ≡ page_numbers (entries_in count bytes) = c.deref.ensures.value ∙ c.in_ok-rises.ensures.numbers c.if-not-rises.false was told_head fits in
+          let notes = c.in_ok-note_pages.ensures.notes was.log (same ∙ ap (λ (n : ℕ). page_numbers (entries_in n bytes)) (sym long)) in
           let low : c.loop-head.at + 13 + 8196 * count < 2 ^ 63 = omega (arith, room, c.requires.limit) in
           read_more c.loop-head.at count was.log (head.some some) low (group_there c.loop-head.at count was.log (head.some some) low some (sym c.if-not-rises.false ∙ rises))
-          (so_far.so_far was told limit_is) (subst (λ (n : ℕ). Notes (entries_of n bytes) was.log c.loop-head.places c.note_pages.new.places) long notes) c.in-Ok-push.ensures.items;
+          (so_far.so_far was told limit_is) (subst (λ (n : ℕ). Notes (entries_in n bytes) was.log c.loop-head.places c.note_pages.new.places) long notes) c.in-Ok-push.ensures.items;
       within = c.in_ok-note_pages.ensures.within (c.loop-head.at + (13 + 8196 * count)) (omega (arith, long)) (λ p at is. let low = so_far.within p at is in omega (arith, low));
     }

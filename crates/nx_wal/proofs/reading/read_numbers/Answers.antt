@@ -1,9 +1,9 @@
 use Rattle.std.proofs.Common.{◌≡◌, ◌⊎◌, ◌+◌, ◌-◌, ◌*◌, ◌<◌, ◌≤◌, ◌++◌, ◌∷◌, [], arith, sym, ap, ◌∙◌, inl, inr, drop, length, length-append, List, ℕ}
 use Rattle.byteorder.specs.Endian.{big_number}
-use Rattle.nx_replay.specs.Log.{entries_of}
+use Rattle.nx_replay.specs.Log.{entries_in}
 use Rattle.nx_host.proofs.DiskLemmas.{still_then}
 use Rattle.nx_replay.proofs.SettledLemmas.{told_still}
-use Rattle.nx_wal.specs.Reading.{numbers_of}
+use Rattle.nx_wal.specs.Reading.{page_numbers}
 use Rattle.nx_wal.proofs.ReadingLemmas.{rise_more, rise_ends, numbers_more, some_same}
 use Rattle.nx_wal.proofs.reading.read_numbers.Goals as goal
 use Rattle.nx_wal.proofs.reading.read_numbers.Goals.{then-number-least-via-then-number-least, then-number-least-via-else-number-least+then-number-ge-MOST_PAGES}
@@ -36,5 +36,5 @@ loop-i-preserved g c =
           let number : c.in-Some.number ≡ big_number 4 (drop (c.args.at + 8196 * c.loop-i.i) was.log) =
           some_same (sym c.in-Some.is ∙ c.in-Ok.ensures.number was (told_still was so_far.still told) (omega (arith, more, fits))) in
           so_far.numbers was told fits ∙ numbers_more c.args.at c.args.count c.loop-i.i c.in-Some.number was.log c.loop-i.numbers.items more number
-          ∙ ap (λ (xs : List ℕ). xs ++ numbers_of (entries_of (c.args.count - (c.loop-i.i + 1)) (drop (c.args.at + 8196 * (c.loop-i.i + 1)) was.log))) (sym pushed);
+          ∙ ap (λ (xs : List ℕ). xs ++ page_numbers (entries_in (c.args.count - (c.loop-i.i + 1)) (drop (c.args.at + 8196 * (c.loop-i.i + 1)) was.log))) (sym pushed);
     }

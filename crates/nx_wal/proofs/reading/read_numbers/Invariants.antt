@@ -2,8 +2,8 @@ use Rattle.std.proofs.Common.{◌≡◌, ◌+◌, ◌-◌, ◌*◌, ◌≤◌, �
 use Rattle.std.specs.Prelude.{Some}
 use Rattle.nx_host.specs.Disk.{Image}
 use Rattle.nx_host.specs.Still.{IsStill}
-use Rattle.nx_replay.specs.Log.{rise, entries_of}
-use Rattle.nx_wal.specs.Reading.{numbers_of}
+use Rattle.nx_replay.specs.Log.{rise, entries_in}
+use Rattle.nx_wal.specs.Reading.{page_numbers}
 use Rattle.nx_wal.proofs.reading.read_numbers.Given as goal
 
 abbrev pub invariant-loop-i : goal.invariant-loop-i
@@ -13,7 +13,7 @@ invariant-loop-i g l = record {
   low : l.least ≤ 16777216;
   long : length l.numbers.items ≡ l.i;
   rest : (was : Image) → g.D.Disk.contents l.initial.disk ≡ Some was → l.at + 8196 * l.count ≤ length was.log
-      → rise 0 (entries_of l.count (drop l.at was.log)) ≡ rise l.least (entries_of (l.count - l.i) (drop (l.at + 8196 * l.i) was.log));
+      → rise 0 (entries_in l.count (drop l.at was.log)) ≡ rise l.least (entries_in (l.count - l.i) (drop (l.at + 8196 * l.i) was.log));
   numbers : (was : Image) → g.D.Disk.contents l.initial.disk ≡ Some was → l.at + 8196 * l.count ≤ length was.log
-      → numbers_of (entries_of l.count (drop l.at was.log)) ≡ l.numbers.items ++ numbers_of (entries_of (l.count - l.i) (drop (l.at + 8196 * l.i) was.log));
+      → page_numbers (entries_in l.count (drop l.at was.log)) ≡ l.numbers.items ++ page_numbers (entries_in (l.count - l.i) (drop (l.at + 8196 * l.i) was.log));
 }

@@ -1,5 +1,5 @@
 use Rattle.std.proofs.Common.{◌+◌, ◌*◌, ◌<◌, arith, length, subst, Bool}
-use Rattle.nx_replay.specs.Log.{IsAtEnd}
+use Rattle.nx_replay.specs.Log.{IsLogEnd}
 use Rattle.nx_replay.proofs.SettledLemmas.{told_still}
 use Rattle.nx_wal.proofs.ReadingLemmas.{some_same}
 use Rattle.nx_wal.proofs.CountLemmas.{group_page, area_page, none_there, no_page, no_area, prefix_end}
@@ -37,6 +37,6 @@ returns-clause-some g c shut is was told =
     (λ some. let room : 0 + 13 + 8196 * count < c.in-Ok.limit = c.in-Ok-read_head.ensures.room some in
     c.in_ok-has_group.ensures.none c.if-branch.false some was told_head (omega (arith, room, limit_is))) in
     let counted = c.in-Ok-area_count.ensures.count was told_group 0 in (
-      subst (λ (s : Bool). IsAtEnd 0 s was.log) (some_same is) (prefix_end c.in-Ok-read_head.head was none head),
+      subst (λ (s : Bool). IsLogEnd 0 s was.log) (some_same is) (prefix_end c.in-Ok-read_head.head was none head),
       no_page was none (no_area (length was.pages) c.in-Ok-area_count.count c.if-count-gt0.false counted.1),
     )

@@ -2,7 +2,7 @@ use Rattle.std.proofs.Common.{◌≡◌, arith, ap, ◌∙◌, length, subst, Li
 use Rattle.byteorder.specs.Endian.{big_bytes}
 use Rattle.byteorder.specs.Numbers.{length-bytes_high_first}
 use Rattle.nx_replay.proofs.SettledLemmas.{on_ok}
-use Rattle.nx_wal.specs.Gathering.{Adds}
+use Rattle.nx_wal.specs.Gathering.{AddsBytes}
 use Rattle.nx_wal.proofs.GatherLemmas.{adds_then, reaches_then, reaches_wider}
 use Rattle.nx_wal.proofs.writing.add_page.Goals as goal
 
@@ -11,7 +11,7 @@ returns-in_err-add_number-clause-reaches g c = reaches_wider 4 8196 c.args.block
 
 pub returns-clause-adds : goal.returns-clause-adds
 returns-clause-adds g c = on_ok c.add.result c.add.ensures.adds (λ adds.
-    adds_then c.in_ok-add_number.ensures.adds (subst (λ (x : List ℕ). Adds g.D.Disk x c.add_number.new.block c.add.new.block c.add_number.new.disk c.add.new.disk) c.bytes_of.ensures.value adds))
+    adds_then c.in_ok-add_number.ensures.adds (subst (λ (x : List ℕ). AddsBytes g.D.Disk x c.add_number.new.block c.add.new.block c.add_number.new.disk c.add.new.disk) c.bytes_of.ensures.value adds))
 
 pub returns-clause-reaches : goal.returns-clause-reaches
 returns-clause-reaches g c =

@@ -6,7 +6,7 @@ use Rattle.nx_replay.specs.Log.{entry_bytes}
 use Rattle.nx_slots.specs.declared.page.PageBytes.{PageBytes}
 use Rattle.nx_wal.specs.Places.{Kept}
 use Rattle.nx_wal.specs.Writing.{entries_of}
-use Rattle.nx_wal.specs.Gathering.{Adds}
+use Rattle.nx_wal.specs.Gathering.{AddsBytes}
 use Rattle.nx_wal.proofs.WritingLemmas.{page_more}
 use Rattle.nx_wal.proofs.ListLemmas.{all_gone}
 use Rattle.nx_wal.proofs.GatherLemmas.{adds_then, reaches_then, reaches_wider, kept_adds, kept_reaches}
@@ -53,7 +53,7 @@ loop-page-preserved g c =
       gone = so_far.gone ++ item ∷ [];
       split = append_assoc so_far.gone (item ∷ []) c.next.new.self ∙ ap (λ (es : List (ℕ × Kept)). so_far.gone ++ es) (sym more) ∙ so_far.split;
       ends = omega (arith, so_far.ends, longer, c.in_ok-add_page.ensures.ends);
-      adds = subst (λ (x : List ℕ). Adds g.D.Disk x c.args.block.now c.add_page.new.block c.args.disk.now c.add_page.new.disk) (sym bytes) (adds_then so_far.adds c.in_ok-add_page.ensures.adds);
+      adds = subst (λ (x : List ℕ). AddsBytes g.D.Disk x c.args.block.now c.add_page.new.block c.args.disk.now c.add_page.new.disk) (sym bytes) (adds_then so_far.adds c.in_ok-add_page.ensures.adds);
       long = omega (arith, so_far.long, longer, page_long, ap length bytes, length-append (entry_bytes (entries_of so_far.gone)) (big_bytes 4 item.0 ++ page.bytes));
       faults = omega (arith, so_far.faults, c.add_page.ensures.faults);
     }

@@ -1,10 +1,10 @@
 use Rattle.nx_wal_driver.specs.Drive.{IsReady}
-use Rattle.nx_wal_driver.specs.Fault.{CountsGrow}
+use Rattle.nx_wal_driver.specs.Fault.{FaultCountsGrow}
 use Rattle.nx_wal_driver.proofs.driving.dump.Given as goal
 
 -- the log can be read, and no count has fallen
 abbrev pub invariant-loop-page : goal.invariant-loop-page
 invariant-loop-page g l = record {
   ready : IsReady l.wal;
-  grow : CountsGrow g.H.Disk l.fn.host l.host;
+  grow : FaultCountsGrow g.H.Disk l.fn.host l.host;
 }

@@ -5,7 +5,7 @@ use Rattle.std.proofs.lemmas.Result.{on_ok_weaker}
 use Rattle.nx_tree.specs.Edit.{insert_refusal, put}
 use Rattle.nx_script.specs.declared.command.LineBody.TheVariants.{Read}
 use Rattle.nx_script.specs.declared.command.Command.TheVariants.{Insert}
-use Rattle.nx_engine.specs.Step.{worded, done_unless, insert_fault, after}
+use Rattle.nx_engine.specs.Step.{worded, done_unless, insert_fault, documents_after}
 use Rattle.nx_engine.specs.Plain.{documents_in}
 use Rattle.nx_engine.proofs.MapLemmas.{get_shown}
 use Rattle.nx_engine.proofs.StepLemmas.{by_absent, by_found, worded-refusal_in}
@@ -32,7 +32,7 @@ returns-in-Wrong-clause-reply c = sym (by_found _ _ c.in-Some.tree.now _ (lent_f
 pub returns-in-Wrong-clause-ok : goal.returns-in-Wrong-clause-ok
 returns-in-Wrong-clause-ok c =
     unwritten (lent_wrong c) (c.get_mut.follows.lender c.in-Some.tree.now) c.in-Some.tree.now (c.get_mut.follows.holds c.in-Some.tree.now) refl
-    ∙ sym (ap (λ said. after c.args.self.now (Insert c.args.name.now c.args.path.now said)) c.in-Wrong.is)
+    ∙ sym (ap (λ said. documents_after c.args.self.now (Insert c.args.name.now c.args.path.now said)) c.in-Wrong.is)
 
 lent : (c : goal.After-done) → Lent c.args.self.now c.self.inside.documents c.args.name.now c.as_slice.result.now c.in-Some.tree.now
 lent c = record { shows = record { view = c.self.view_is; are = c.self.invariant }; same = c.as_slice.ensures; found = sym c.in-Some.ensures.value }

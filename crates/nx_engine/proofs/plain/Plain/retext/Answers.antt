@@ -9,7 +9,7 @@ use Rattle.nx_script.specs.declared.command.Command.TheVariants.{Retext}
 use Rattle.nx_pyx.specs.declared.error.PyxFault.TheVariants.{LongLine}
 use Rattle.nx_pyx.specs.Fault.{fault_at}
 use Rattle.nx_script.specs.declared.reply.ReplyError.TheVariants.{Pyx}
-use Rattle.nx_engine.specs.Step.{worded, done_unless, name_at, retext_fault, after}
+use Rattle.nx_engine.specs.Step.{worded, done_unless, name_at, retext_fault, documents_after}
 use Rattle.nx_engine.specs.Plain.{documents_in}
 use Rattle.nx_engine.proofs.MapLemmas.{get_shown}
 use Rattle.nx_engine.proofs.StepLemmas.{by_absent, by_found, long_refused, short_refused}
@@ -36,7 +36,7 @@ returns-in-Wrong-clause-reply c = sym (by_found _ _ c.in-Some.tree.now _ (lent_f
 pub returns-in-Wrong-clause-ok : goal.returns-in-Wrong-clause-ok
 returns-in-Wrong-clause-ok c =
     unwritten (lent_wrong c) (c.get_mut.follows.lender c.in-Some.tree.now) c.in-Some.tree.now (c.get_mut.follows.holds c.in-Some.tree.now) refl
-    ∙ sym (ap (λ said. after c.args.self.now (Retext c.args.name.now c.args.path.now said)) c.in-Wrong.is)
+    ∙ sym (ap (λ said. documents_after c.args.self.now (Retext c.args.name.now c.args.path.now said)) c.in-Wrong.is)
 
 lent_long : (c : goal.After-drop-content-inside) → Lent c.args.self.now c.self.inside.documents c.args.name.now c.as_slice.result.now c.in-Some.tree.now
 lent_long c = record { shows = record { view = c.self.view_is; are = c.self.invariant }; same = c.as_slice.ensures; found = sym c.in-Some.ensures.value }
@@ -57,7 +57,7 @@ returns-then-is_long-clause-reply c =
 pub returns-then-is_long-clause-ok : goal.returns-then-is_long-clause-ok
 returns-then-is_long-clause-ok c =
     unwritten (lent_long c) (c.get_mut.follows.lender c.in-Some.tree.now) c.in-Some.tree.now (c.get_mut.follows.holds c.in-Some.tree.now) refl
-    ∙ sym (ap (λ said. after c.args.self.now (Retext c.args.name.now c.args.path.now said)) c.in-Read.is
+    ∙ sym (ap (λ said. documents_after c.args.self.now (Retext c.args.name.now c.args.path.now said)) c.in-Read.is
     ∙ edited_at _ _ c.in-Some.tree.now _ _ (Some (Pyx (fault_at 1 LongLine))) (lent_found (lent_long c)) (long c))
 
 lent : (c : goal.After-done) → Lent c.args.self.now c.self.inside.documents c.args.name.now c.as_slice.result.now c.in-Some.tree.now

@@ -1,12 +1,12 @@
 use Rattle.std.proofs.Common.{◌+◌, ◌-◌, ◌/◌, ◌<◌, length, subst, arith}
-use Rattle.nx_matrix.specs.Label.{marked}
+use Rattle.nx_matrix.specs.Label.{behind_mark}
 use Rattle.nx_matrix.specs.Rules.{AreRules}
 use Rattle.nx_matrix.proofs.OrderLemmas.{Pair, compared, lowered, pair_same, raised}
 use Rattle.nx_matrix.proofs.matrix.Matrix.search.Goals as goal
 
 pub loop-low-preserved-in-Less : goal.loop-low-preserved-in-Less
 loop-low-preserved-in-Less c =
-    let pair : Pair = (marked c.args.parent_mark c.args.parent.now, marked c.args.child_mark c.args.child.now) in
+    let pair : Pair = (behind_mark c.args.parent_mark c.args.parent.now, behind_mark c.args.child_mark c.args.child.now) in
     let rules = c.args.self.now in
     let are : AreRules rules = subst AreRules c.self.view_is c.self.invariant in
     let lies = c.loop-low.invariant in
@@ -18,7 +18,7 @@ loop-low-preserved-in-Less c =
 
 pub returns-in-Equal-clause-found : goal.returns-in-Equal-clause-found
 returns-in-Equal-clause-found c =
-    let pair : Pair = (marked c.args.parent_mark c.args.parent.now, marked c.args.child_mark c.args.child.now) in
+    let pair : Pair = (behind_mark c.args.parent_mark c.args.parent.now, behind_mark c.args.child_mark c.args.child.now) in
     let rules = c.args.self.now in
     let lies = c.loop-low.invariant in
     let middle = c.loop-low.low + (c.loop-low.high - c.loop-low.low) / 2 in
@@ -32,7 +32,7 @@ returns-in-Equal-clause-found c =
 
 pub loop-low-preserved : goal.loop-low-preserved
 loop-low-preserved c =
-    let pair : Pair = (marked c.args.parent_mark c.args.parent.now, marked c.args.child_mark c.args.child.now) in
+    let pair : Pair = (behind_mark c.args.parent_mark c.args.parent.now, behind_mark c.args.child_mark c.args.child.now) in
     let rules = c.args.self.now in
     let are : AreRules rules = subst AreRules c.self.view_is c.self.invariant in
     let lies = c.loop-low.invariant in

@@ -4,7 +4,7 @@ use Rattle.std.proofs.lemmas.Result.{IfOk-weaker}
 use Rattle.std.specs.BTreeMap.{get}
 use Rattle.nx_hold.specs.Changes.{place_of}
 use Rattle.nx_nav.specs.declared.visited.Visited.{Visited}
-use Rattle.nx_nav.specs.Visited.{Sets}
+use Rattle.nx_nav.specs.Visited.{SetsFlag}
 use Rattle.nx_nav.proofs.VisitLemmas.{visited_or_new}
 use Rattle.nx_nav.proofs.visited.Visited.visit.Goals as goal
 
@@ -21,7 +21,7 @@ returns-in-Some c =
     IfOk-weaker c.set.result _ _
     (λ added sets. λ places was.
     visited_or_new c.args.self.now new (place_of c.args.rid) places was flags written.0 added
-    (subst (λ (old : List Bool). Sets c.args.rid.slot added old flags.items) (ap flags_in found) sets))
+    (subst (λ (old : List Bool). SetsFlag c.args.rid.slot added old flags.items) (ap flags_in found) sets))
     c.set.ensures
 
 pub returns : goal.returns
@@ -32,4 +32,4 @@ returns c = λ places was.
     visited_or_new c.args.self.now new (place_of c.args.rid) places was flags
     (subst (λ (pages : BTreeMap ℕ (Vec Bool Global)). (page : ℕ) → get nat_cmp c.insert.new.self page ≡ cond (is_eq (nat_cmp c.args.rid.page page)) (Some flags) (get nat_cmp pages page)) c.get_mut.follows.holds-at-none c.in_ok-insert.ensures.updates.0)
     added
-    (subst (λ (old : List Bool). Sets c.args.rid.slot added old flags.items) (c.new-flags.ensures.items ∙ ap flags_in c.in_default.ensures.value) c.in_ok-new.ensures)
+    (subst (λ (old : List Bool). SetsFlag c.args.rid.slot added old flags.items) (c.new-flags.ensures.items ∙ ap flags_in c.in_default.ensures.value) c.in_ok-new.ensures)

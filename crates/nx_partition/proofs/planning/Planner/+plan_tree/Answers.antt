@@ -8,7 +8,7 @@ use Rattle.nx_weights.proofs.LimitLemmas.{item_within, position_most, length_nod
 use Rattle.nx_parts.specs.declared.bounds.Bound.{Bound}
 use Rattle.nx_parts.specs.Minima.{AreMinimaIn}
 use Rattle.nx_minima.specs.Seen.{tops}
-use Rattle.nx_partition.specs.Planning.{first_bound, behind_first, IsPlanned}
+use Rattle.nx_partition.specs.Planning.{first_bound, behind_first, AddsDrawing}
 use Rattle.nx_partition.proofs.BoundsLemmas.{own_minima, below_minima, first_is, behind_is}
 use Rattle.nx_partition.proofs.StandLemmas.{stands_many, choice_inside, next_of}
 use Rattle.nx_partition.proofs.WalkLemmas.{uncut, walked_to_start, walked_to_next, walked_to_more, walked_end, popped}
@@ -20,7 +20,7 @@ returns-then-bounds-eq1-clause-parts t c =
     let first = c.if-not-second.true in
     let flag : c.args.second ≡ false = grind (arith, first) in
     let one = ap (λ (b : Bound). b.least) (first_is c.args.bounds.now) ∙ c.if-bounds-eq1.true in
-    subst (λ b. IsPlanned c.args.k c.args.tree.now b (first_bound c.args.bounds.now) c.args.self.now.path.items c.args.self.now.parts c.args.self.now.parts) (sym flag)
+    subst (λ b. AddsDrawing c.args.k c.args.tree.now b (first_bound c.args.bounds.now) c.args.self.now.path.items c.args.self.now.parts c.args.self.now.parts) (sym flag)
     (uncut c.args.k c.args.tree.now (first_bound c.args.bounds.now) c.args.self.now.path.items c.args.self.now.parts m one)
 
 pub loop-position-init : goal.loop-position-init
@@ -104,8 +104,8 @@ loop-position-preserved t c =
     let rest = take_rest c.args.bounds.now c.loop-position.next in
     walked_to_more c.child-item.result c.index-stand.result.now c.loop-position.invariant (next_left _ _ _ within c.child-item.is, stand, c.count.ensures)
     c.in_ok-open.ensures.parts pushed
-    (subst (λ b. IsPlanned c.args.k c.child-item.result b (first_bound (drop c.loop-position.next c.args.bounds.now)) c.push.new.self.items c.open.new.self.parts c.plan_tree.new.self.parts) c.takes_second.ensures
-    (subst (λ bs. IsPlanned c.args.k c.child-item.result c.takes_second.result (first_bound bs) c.push.new.self.items c.open.new.self.parts c.plan_tree.new.self.parts) rest c.in_ok-plan_tree.ensures.parts))
+    (subst (λ b. AddsDrawing c.args.k c.child-item.result b (first_bound (drop c.loop-position.next c.args.bounds.now)) c.push.new.self.items c.open.new.self.parts c.plan_tree.new.self.parts) c.takes_second.ensures
+    (subst (λ bs. AddsDrawing c.args.k c.child-item.result c.takes_second.result (first_bound bs) c.push.new.self.items c.open.new.self.parts c.plan_tree.new.self.parts) rest c.in_ok-plan_tree.ensures.parts))
     (popped c.loop-position.position (vec_len path) (c.in_ok-plan_tree.ensures.path ∙ pushed) len c.pop.ensures.rest)
 
 pub returns-clause-parts : goal.returns-clause-parts

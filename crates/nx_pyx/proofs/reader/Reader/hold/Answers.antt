@@ -1,5 +1,5 @@
 use Rattle.std.proofs.Common.{refl, ◌∙◌, subst, arith}
-use Rattle.nx_pyx.specs.Reader.{HasRoom}
+use Rattle.nx_pyx.specs.Reader.{MayGrowBy}
 use Rattle.nx_pyx.proofs.StreamLemmas.{holds, shows}
 use Rattle.nx_pyx.proofs.HasRoomLemmas.{room_less}
 use Rattle.nx_pyx.proofs.reader.Reader.hold.Goals as goal
@@ -12,7 +12,7 @@ returns-then-bytes-self-clause-ok c =
 pub returns-in-Ok-clause-ok : goal.returns-in-Ok-clause-ok
 returns-in-Ok-clause-ok c =
     holds c.args.self.now _ c.args.bytes.now c.requires refl refl c.in_ok-extend_from_slice.ensures.ok
-    (λ _. subst (λ held. HasRoom held c.in-Ok.room) c.as_slice.ensures c.in-Ok.ensures.ok)
+    (λ _. subst (λ held. MayGrowBy held c.in-Ok.room) c.as_slice.ensures c.in-Ok.ensures.ok)
 
 pub returns-in-Err-clause-err : goal.returns-in-Err-clause-err
 returns-in-Err-clause-err c =

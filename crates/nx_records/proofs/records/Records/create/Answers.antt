@@ -3,7 +3,7 @@ use Rattle.std.proofs.lemmas.Result.{err_from_is_err_and}
 use Rattle.std.specs.Prelude.{Some}
 use Rattle.nx_replay.specs.Log.{Pages, entry_pages}
 use Rattle.nx_wal.specs.declared.error.WalError.{WalError}
-use Rattle.nx_wal.specs.Wal.{pending, NotCreated as NotBegun}
+use Rattle.nx_wal.specs.Wal.{pending, NoLogCreated as NotBegun}
 use Rattle.nx_holdings.specs.declared.header.Header.{Header}
 use Rattle.nx_holdings.specs.Header.{header_bytes, IsInRange}
 use Rattle.nx_records.specs.declared.error.StoreError.{StoreError}

@@ -7,7 +7,7 @@ use Rattle.nx_links.specs.Lists.{IsReadTo}
 use Rattle.nx_links.proofs.ListLemmas.{read_none, read_whole}
 use Rattle.nx_links.proofs.BesideLemmas.{chain_from, no_first}
 use Rattle.nx_records.specs.declared.error.StoreError.{StoreError}
-use Rattle.nx_records.specs.Chains.{IsLeft, Nowhere, NotGiven, link_before}
+use Rattle.nx_records.specs.Chains.{IsChainLeft, Nowhere, NotGivenBack, link_before}
 use Rattle.nx_records.proofs.StandLemmas.{keeps_then, step_kept}
 use Rattle.nx_records.proofs.RefusalLemmas.{err_passed, ended_now, keeps_self}
 use Rattle.nx_records.proofs.ChainLemmas.{reads_within, no_list_past, read_link, few_pages}
@@ -24,7 +24,7 @@ loop-page-init g c = record {
   reads = omega arith;
   fewer = (refl, λ was page next content has. has);
   read = λ was step. ([], omega arith, read_none c.args.self.now.head.pages (current c.args.self.now.wal was) c.args.first);
-  steps = steps_none c.args.self.now (λ (links : List Link). next_of links ≡ c.args.first) (λ (links more : List Link). IsLeft c.args.first c.args.len c.args.len links more) (λ links starts. record { first = starts; count = omega arith });
+  steps = steps_none c.args.self.now (λ (links : List Link). next_of links ≡ c.args.first) (λ (links more : List Link). IsChainLeft c.args.first c.args.len c.args.len links more) (λ links starts. record { first = starts; count = omega arith });
 }
 
 pub returns-then-not-may_have-clause-refused : goal.returns-then-not-may_have-clause-refused
@@ -47,10 +47,10 @@ returns-then-left-eq0-clause-refused g c =
 pub returns-in_err-link-clause-refused : goal.returns-in_err-link-clause-refused
 returns-in_err-link-clause-refused g c =
     let one = c.loop-page.invariant in
-    err_passed c.from_residual.result (λ (e : StoreError). NotGiven g.D.Disk (λ links. (next_of links ≡ c.args.first) × (length (content_of links) ≡ c.args.len)) c.args.named e c.args.self.now c.give_link.new.self c.args.disk.now c.give_link.new.disk)
+    err_passed c.from_residual.result (λ (e : StoreError). NotGivenBack g.D.Disk (λ links. (next_of links ≡ c.args.first) × (length (content_of links) ≡ c.args.len)) c.args.named e c.args.self.now c.give_link.new.self c.args.disk.now c.give_link.new.disk)
     c.in_err-link.field-0.0 (err_from_is_err_and c.from_residual.result c.from_residual.ensures.1) (
       led_later g.D.Disk c.args.self.now c.loop-page.self c.give_link.new.self c.args.disk.now c.loop-page.disk c.give_link.new.disk c.args.named (λ (links : List Link). (next_of links ≡ c.args.first) × (length (content_of links) ≡ c.args.len))
-          (λ (links more : List Link). IsLeft c.loop-page.page c.loop-page.left c.args.len links more) (λ (links : List Link). next_of links ≡ c.loop-page.page) Nowhere Nowhere c.in_err-link.field-0.0
+          (λ (links more : List Link). IsChainLeft c.loop-page.page c.loop-page.left c.args.len links more) (λ (links : List Link). next_of links ≡ c.loop-page.page) Nowhere Nowhere c.in_err-link.field-0.0
           c.requires (one.keeps, one.still, λ was links held step holds starts. one.steps was links held step holds starts.0)
           (λ links mid starts comes. comes.first, λ links mid held next starts comes keeps none. none) c.in_err-link.ensures.refused.0,
       c.in_err-link.ensures.refused.1,
@@ -87,12 +87,12 @@ loop-page-preserved g c =
                 (one.fewer.1 was c.loop-page.page c.in_ok-link.link.next c.in_ok-link.link.content (here.1 was (step_kept {r0 = c.args.self.now} {r1 = c.loop-page.self} one.keeps one.still step))),
           );
       steps = steps_on g.D.Disk c.args.self.now c.loop-page.self c.give_link.new.self c.args.disk.now c.loop-page.disk (λ (links : List Link). next_of links ≡ c.args.first)
-          (λ (links more : List Link). IsLeft c.loop-page.page c.loop-page.left c.args.len links more) (λ (links : List Link). next_of links ≡ c.loop-page.page)
+          (λ (links more : List Link). IsChainLeft c.loop-page.page c.loop-page.left c.args.len links more) (λ (links : List Link). next_of links ≡ c.loop-page.page)
           (λ (links more : List Link). (links ≡ link_before c.loop-page.page c.in_ok-link.link.content more) × (next_of more ≡ c.in_ok-link.link.next))
-          (λ (links more : List Link). IsLeft c.in_ok-link.link.next (c.loop-page.left - c.len-taken.result) c.args.len links more)
+          (λ (links more : List Link). IsChainLeft c.in_ok-link.link.next (c.loop-page.left - c.len-taken.result) c.args.len links more)
           one.keeps one.still one.steps c.in_ok-link.ensures.ok (λ links mid comes. comes.first)
           (λ links mid more comes goes.
-          subst (λ (n : ℕ). IsLeft c.in_ok-link.link.next (c.loop-page.left - n) c.args.len links more) (sym taken)
+          subst (λ (n : ℕ). IsChainLeft c.in_ok-link.link.next (c.loop-page.left - n) c.args.len links more) (sym taken)
           (left_ends c.in_ok-link.link.next c.in_ok-link.link.content more low comes goes));
     }
 
@@ -126,7 +126,7 @@ returns-then-left-ne0-clause-refused g c =
 
 pub returns-clause-ok : goal.returns-clause-ok
 returns-clause-ok g c =
-    steps_weaker c.args.self.now c.loop-page.self (λ (links : List Link). next_of links ≡ c.args.first) (λ (links more : List Link). IsLeft c.loop-page.page c.loop-page.left c.args.len links more)
+    steps_weaker c.args.self.now c.loop-page.self (λ (links : List Link). next_of links ≡ c.args.first) (λ (links more : List Link). IsChainLeft c.loop-page.page c.loop-page.left c.args.len links more)
     (λ (links more : List Link). (more ≡ []) × (length (content_of links) ≡ c.args.len)) c.loop-page.invariant.steps
     (λ pages next links more holds starts comes.
     let none = no_first more holds (comes.first ∙ c.loop-page-test.false) in

@@ -6,7 +6,7 @@ use Rattle.nx_holdings.specs.Holdings.{next_of, chain_count}
 use Rattle.nx_links.specs.Lists.{IsReadTo}
 use Rattle.nx_records.specs.Records.{page_count_of, KeepsLog}
 use Rattle.nx_records.specs.Pages.{SeesSo}
-use Rattle.nx_records.specs.Chains.{AddsNoLink, ChainStepsTo, IsLeft}
+use Rattle.nx_records.specs.Chains.{AddsNoLink, ChainStepsTo, IsChainLeft}
 use Rattle.nx_records.proofs.records.Records.give_chain.Given as goal
 
 -- what is left of the chain begins at the page; what was read and given back, by a read for each page, stood there before
@@ -19,7 +19,7 @@ invariant-loop-page g l = record {
   reads : g.D.Disk.reads l.disk ≤ g.D.Disk.reads l.initial.disk + chain_count l.len;
   fewer : (page_count_of l.self ≡ page_count_of l.initial.self) × ((was : Image) → AddsNoLink (current l.initial.self.wal was) (current l.self.wal was));
   read : SeesSo g.D.Disk l.initial.self l.initial.disk (λ pages. (bytes : List ℕ) × (length bytes + l.left ≡ l.len) × IsReadTo (page_count_of l.initial.self) pages l.first bytes l.page);
-  steps : ChainStepsTo g.D.Disk l.initial.self l.self l.initial.disk (λ links. next_of links ≡ l.first) (λ links more. IsLeft l.page l.left l.len links more);
+  steps : ChainStepsTo g.D.Disk l.initial.self l.self l.initial.disk (λ links. next_of links ≡ l.first) (λ links more. IsChainLeft l.page l.left l.len links more);
 }
 
 abbrev pub decreases-loop-page : goal.decreases-loop-page

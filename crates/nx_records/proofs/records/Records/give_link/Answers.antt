@@ -2,7 +2,7 @@ use Rattle.std.proofs.Common.{◌≡◌, ◌∙◌, sym, ap, subst}
 use Rattle.std.proofs.lemmas.Result.{err_from_is_err_and}
 use Rattle.nx_holdings.specs.Holdings.{next_of}
 use Rattle.nx_records.specs.declared.error.StoreError.{StoreError}
-use Rattle.nx_records.specs.Chains.{NotGiven}
+use Rattle.nx_records.specs.Chains.{NotGivenBack}
 use Rattle.nx_records.proofs.RefusalLemmas.{err_passed}
 use Rattle.nx_records.proofs.WritingLemmas.{give_steps, link_given}
 use Rattle.nx_records.proofs.FreedLemmas.{freed_no_link}
@@ -16,7 +16,7 @@ use Rattle.nx_records.proofs.records.Records.give_link.Goals as goal
 
 pub returns-in_err-link-clause-refused : goal.returns-in_err-link-clause-refused
 returns-in_err-link-clause-refused g c =
-    err_passed c.from_residual.result (λ (e : StoreError). NotGiven g.D.Disk (λ links. next_of links ≡ c.args.page) c.args.named e c.args.self.now c.link.new.self c.args.disk.now c.link.new.disk)
+    err_passed c.from_residual.result (λ (e : StoreError). NotGivenBack g.D.Disk (λ links. next_of links ≡ c.args.page) c.args.named e c.args.self.now c.link.new.self c.args.disk.now c.link.new.disk)
     c.in_err-link.field-0.0 (err_from_is_err_and c.from_residual.result c.from_residual.ensures.1)
     (link_given g.D.Disk c.args.self.now c.link.new.self c.args.disk.now c.link.new.disk c.args.named c.args.page c.in_err-link.field-0.0 c.requires.some c.requires.runs c.in_err-link.ensures.refused)
 

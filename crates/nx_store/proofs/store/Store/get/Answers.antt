@@ -5,7 +5,7 @@ use Rattle.std.specs.FinMap.{get}
 use Rattle.nx_tree.specs.Edit.{at as at_path}
 use Rattle.nx_cuts.specs.Cut.{CutTree, tree_of}
 use Rattle.nx_hold.specs.Changes.{place_of}
-use Rattle.nx_nav.specs.Refusals.{OfEach, HoldsNone}
+use Rattle.nx_nav.specs.Refusals.{OfEach, HoldsNoDocument}
 use Rattle.nx_nav.specs.Shows.{ShowsNode}
 use Rattle.nx_script.specs.declared.reply.Reply.{Reply}
 use Rattle.nx_script.specs.declared.reply.Reply.TheVariants.{Shown, Refused}
@@ -47,7 +47,7 @@ returns-in-Ok-clause-ok g c =
 pub returns-in-Err-NoNode-clause-ok : goal.returns-in-Err-NoNode-clause-ok
 returns-in-Err-NoNode-clause-ok g c =
     let nowhere = is_nowhere g.D.Disk (OfEach g.D.Disk c.args.self.now.records c.args.disk.now (place_of c.in-Some.entry.root) (λ document. at_path (tree_of document) c.as_slice-2.result.now ≡ None)) ⊥
-    (HoldsNone g.D.Disk c.args.self.now.records c.args.disk.now (place_of c.in-Some.entry.root)) c.args.self.now.records c.get.new.records c.args.disk.now c.get.new.disk c.in-Err-NoNode.field-0
+    (HoldsNoDocument g.D.Disk c.args.self.now.records c.args.disk.now (place_of c.in-Some.entry.root)) c.args.self.now.records c.get.new.records c.args.disk.now c.get.new.disk c.in-Err-NoNode.field-0
     c.in-Err-NoNode.field-0-is c.in-Err-NoNode.ensures.refused in
     let after : Store = record c.args.self.now { records = c.get.new.records } in
     let is : get (c.args.self.now.catalog).documents c.args.name.now ≡ Some c.in-Some.entry = ap (get (c.args.self.now.catalog).documents) (sym c.as_slice.ensures) ∙ sym c.in-Some.ensures in (
@@ -70,13 +70,13 @@ returns-in-Err-clause-refused g c =
 pub returns-in-Err-NoNode-clause-same : goal.returns-in-Err-NoNode-clause-same
 returns-in-Err-NoNode-clause-same g c runs = record {
   records = look_same g.D.Disk (OfEach g.D.Disk c.args.self.now.records c.args.disk.now (place_of c.in-Some.entry.root) (λ document. at_path (tree_of document) c.as_slice-2.result.now ≡ None))
-      (HoldsNone g.D.Disk c.args.self.now.records c.args.disk.now (place_of c.in-Some.entry.root)) c.args.self.now.records c.get.new.records c.args.disk.now c.get.new.disk c.in-Err-NoNode.field-0 c.in-Err-NoNode.ensures.refused runs;
+      (HoldsNoDocument g.D.Disk c.args.self.now.records c.args.disk.now (place_of c.in-Some.entry.root)) c.args.self.now.records c.get.new.records c.args.disk.now c.get.new.disk c.in-Err-NoNode.field-0 c.in-Err-NoNode.ensures.refused runs;
   catalog = refl;
 }
 
 pub returns-in-Err-clause-same : goal.returns-in-Err-clause-same
 returns-in-Err-clause-same g c runs = record {
   records = look_same g.D.Disk (OfEach g.D.Disk c.args.self.now.records c.args.disk.now (place_of c.in-Some.entry.root) (λ document. at_path (tree_of document) c.as_slice-2.result.now ≡ None))
-      (HoldsNone g.D.Disk c.args.self.now.records c.args.disk.now (place_of c.in-Some.entry.root)) c.args.self.now.records c.get.new.records c.args.disk.now c.get.new.disk c.in-Err.error c.in-Err.ensures.refused runs;
+      (HoldsNoDocument g.D.Disk c.args.self.now.records c.args.disk.now (place_of c.in-Some.entry.root)) c.args.self.now.records c.get.new.records c.args.disk.now c.get.new.disk c.in-Err.error c.in-Err.ensures.refused runs;
   catalog = refl;
 }

@@ -1,6 +1,6 @@
 use Rattle.std.proofs.Common.{ℕ, ap, ◌∙◌, subst}
 use Rattle.nx_holdings.specs.declared.header.Settings.{Settings}
-use Rattle.nx_partition.specs.Bounding.{IsRefused}
+use Rattle.nx_partition.specs.Bounding.{IsPlanRefused}
 use Rattle.nx_partition.specs.declared.error.PlanError.{PlanError}
 use Rattle.nx_partition.specs.declared.error.PlanError.TheVariants.{TooHeavy}
 use Rattle.nx_script.specs.declared.command.LoadBody.TheVariants.{Read}
@@ -15,5 +15,5 @@ pub returns-in-Err-TooHeavy-clause-loads : goal.returns-in-Err-TooHeavy-clause-l
 returns-in-Err-TooHeavy-clause-loads g c state at told =
     told_applied g.D.Disk c.args.self.now c.args.disk.now state (Load c.args.name.now (Read c.args.tree)) (Refused (reason.TooHeavy c.in-Err-TooHeavy.path c.in-Err-TooHeavy.weight)) c.told.result (λ is. cc) c.told.ensures at
     (heavy_answers c.args.self.now c.args.disk.now c.args.name.now c.args.tree state c.in-Err-TooHeavy.path c.in-Err-TooHeavy.weight c.requires.new
-    (subst (λ (k : ℕ). IsRefused k c.args.tree (TooHeavy c.in-Err-TooHeavy.path c.in-Err-TooHeavy.weight)) (c.from-k.ensures ∙ ap (λ (t : Settings). t.k) c.settings.ensures)
-    (subst (λ (e : PlanError). IsRefused c.from-k.result c.args.tree e) c.in-Err-TooHeavy.field-0-is c.in-Err-TooHeavy.ensures.err)) at)
+    (subst (λ (k : ℕ). IsPlanRefused k c.args.tree (TooHeavy c.in-Err-TooHeavy.path c.in-Err-TooHeavy.weight)) (c.from-k.ensures ∙ ap (λ (t : Settings). t.k) c.settings.ensures)
+    (subst (λ (e : PlanError). IsPlanRefused c.from-k.result c.args.tree e) c.in-Err-TooHeavy.field-0-is c.in-Err-TooHeavy.ensures.err)) at)

@@ -1,7 +1,7 @@
 use Rattle.std.proofs.Common.{◌∙◌}
 use Rattle.std.proofs.lemmas.Result.{err_from_is_err_and}
 use Rattle.nx_records.specs.Records.{StandsFor}
-use Rattle.nx_store.specs.Told.{told_of}
+use Rattle.nx_store.specs.Told.{told_error}
 use Rattle.nx_store.specs.Store.{NotOpened}
 use Rattle.nx_store.specs.declared.error.EngineError.{EngineError}
 use Rattle.nx_records.proofs.LeaveLemmas.{leaves_stand}
@@ -10,12 +10,12 @@ use Rattle.nx_store.proofs.store.Store.open.Goals as goal
 
 pub returns-in_err-records-clause-refused : goal.returns-in_err-records-clause-refused
 returns-in_err-records-clause-refused g c =
-    told_passed c.from_residual.result (λ (e : EngineError). NotOpened g.D.Disk e c.args.disk.now c.open.new.disk) (told_of c.in_err-records.field-0.0)
+    told_passed c.from_residual.result (λ (e : EngineError). NotOpened g.D.Disk e c.args.disk.now c.open.new.disk) (told_error c.in_err-records.field-0.0)
     (err_from_is_err_and c.from_residual.result c.from_residual.ensures.1) (open_refused g.D.Disk c.args.disk.now c.open.new.disk c.in_err-records.field-0.0 c.in_err-records.ensures.refused)
 
 pub returns-in_err-catalog-clause-refused : goal.returns-in_err-catalog-clause-refused
 returns-in_err-catalog-clause-refused g c =
-    told_passed c.from_residual-in_err-catalog.result (λ (e : EngineError). NotOpened g.D.Disk e c.args.disk.now c.load_catalog.new.disk) (told_of c.in_err-catalog.field-0.0)
+    told_passed c.from_residual-in_err-catalog.result (λ (e : EngineError). NotOpened g.D.Disk e c.args.disk.now c.load_catalog.new.disk) (told_error c.in_err-catalog.field-0.0)
     (err_from_is_err_and c.from_residual-in_err-catalog.result c.from_residual-in_err-catalog.ensures.1)
     (catalog_refused g.D.Disk c.in_ok-records.records c.load_catalog.new.records c.args.disk.now c.open.new.disk c.load_catalog.new.disk c.in_err-catalog.field-0.0 c.open.ensures.still c.in_ok-records.ensures.fresh.0 c.in_ok-records.ensures.ok c.in_ok-records.ensures.step c.in_err-catalog.ensures.refused)
 

@@ -1,7 +1,7 @@
 use Rattle.std.proofs.Common.{ℕ, List}
 use Rattle.std.specs.Prelude.{Result}
 use Rattle.std.proofs.lemmas.Result.{err_from_is_err_and}
-use Rattle.nx_store.specs.Loading.{IsWritten}
+use Rattle.nx_store.specs.Loading.{IsAppliedWithText}
 use Rattle.nx_store.specs.declared.error.EngineError.{EngineError}
 use Rattle.nx_store.specs.declared.error.EngineError.TheVariants.{Memory}
 use Rattle.nx_store.proofs.ShowLemmas.{handed}
@@ -11,7 +11,7 @@ use Rattle.nx_store.proofs.store.Store.text_behind.Goals as goal
 
 pub returns-in_err-text-clause-writes : goal.returns-in_err-text-clause-writes
 returns-in_err-text-clause-writes g c state at told =
-    handed c.from_residual-in_err-text.result (λ (r : Result (List ℕ) EngineError). IsWritten g.D.Disk r state c.args.command c.look.new.self c.args.disk.now c.look.new.disk) Memory
+    handed c.from_residual-in_err-text.result (λ (r : Result (List ℕ) EngineError). IsAppliedWithText g.D.Disk r state c.args.command c.look.new.self c.args.disk.now c.look.new.disk) Memory
     (err_from_is_err_and c.from_residual-in_err-text.result c.from_residual-in_err-text.ensures.1)
     (untold_applied g.D.Disk c.look.new.self c.args.disk.now c.look.new.disk state c.args.command c.in_ok-reply.reply (quiet_leaves c.args.command c.requires.quiet) (c.in_ok-reply.ensures.applies state at told))
 

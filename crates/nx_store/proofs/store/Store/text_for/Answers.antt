@@ -1,7 +1,7 @@
 use Rattle.std.proofs.Common.{ℕ, List}
 use Rattle.std.specs.Prelude.{Result}
 use Rattle.std.proofs.lemmas.Result.{err_from_is_err_and}
-use Rattle.nx_store.specs.Loading.{IsWritten}
+use Rattle.nx_store.specs.Loading.{IsAppliedWithText}
 use Rattle.nx_store.specs.declared.error.EngineError.{EngineError}
 use Rattle.nx_store.proofs.ShowLemmas.{handed}
 use Rattle.nx_store.proofs.store.Store.text_for.Goals as goal
@@ -11,5 +11,5 @@ returns-then-may_change-clause-writes g c state at told = (c.in_ok-text.field-0-
 
 pub returns-in_err-text-clause-writes : goal.returns-in_err-text-clause-writes
 returns-in_err-text-clause-writes g c state at told =
-    handed c.from_residual.result (λ (r : Result (List ℕ) EngineError). IsWritten g.D.Disk r state c.args.command c.change.new.self c.args.disk.now c.change.new.disk)
+    handed c.from_residual.result (λ (r : Result (List ℕ) EngineError). IsAppliedWithText g.D.Disk r state c.args.command c.change.new.self c.args.disk.now c.change.new.disk)
     c.in_err-text.field-0.0 (err_from_is_err_and c.from_residual.result c.from_residual.ensures.1) (c.in_err-text.ensures.applies state at told)

@@ -1,7 +1,7 @@
 use Rattle.std.proofs.Common.{◌≡◌, ℕ, ◌+◌, ◌*◌, arith, subst, length, ap, sym, ◌∙◌, List, [], ◌∷◌, ◌++◌}
 use Rattle.std.proofs.lemmas.List.{length-map}
 use Rattle.std.specs.Prelude.{true}
-use Rattle.nx_replay.specs.Log.{Group, groups, end_of, size_of, IsAtEnd}
+use Rattle.nx_replay.specs.Log.{Group, groups, end_of, group_size, IsLogEnd}
 use Rattle.nx_wal.specs.Places.{starts_from}
 use Rattle.nx_wal.specs.Writing.{entries_of}
 use Rattle.nx_wal.proofs.ReadingLemmas.{starts_more}
@@ -49,11 +49,11 @@ returns-clause-ok g c was now step told =
     let stand = entries_stand wal.end c.args.number es was now behind in
     let mapped : length (entries_of es) ≡ length es = simp length-map in
     let count : c.len-count.result ≡ length es = c.len-count.ensures.len in
-    let ends : wal.end + size_of (length (entries_of es)) ≡ wal.end + (13 + 8196 * c.len-count.result) = omega (arith, mapped, count) in (
+    let ends : wal.end + group_size (length (entries_of es)) ≡ wal.end + (13 + 8196 * c.len-count.result) = omega (arith, mapped, count) in (
       record {
         settled = (done.1).settled;
         follows = record {
-          at = subst (λ (e : ℕ). IsAtEnd e true now.log) ends (done.1).at;
+          at = subst (λ (e : ℕ). IsLogEnd e true now.log) ends (done.1).at;
           leads = leads_more c.args.number c.set_places.new.places step.follows done.0 behind.prefix (c.set_places.ensures.notes now.log stand.0 stand.1);
           starts = c.in-Ok-push.ensures.items ∙ ap (λ (ns : List ℕ). ns ++ wal.end ∷ []) (step.follows).starts
               ∙ ap (λ (n : ℕ). starts_from 0 (groups was.log) ++ n ∷ []) (let here = ((step.follows).at).here in let e : wal.end ≡ 0 + end_of (groups was.log) = omega (arith, here) in e)
