@@ -1,1 +1,10 @@
 pub mod RemoveLemmas
+pub mod CountLemmas
+pub mod ThroughLemmas
+pub mod CutLemmas
+pub mod OffLemmas
+pub mod FillLemmas
+pub mod OwnLemmas
+pub mod AwayLemmas
+pub mod RowCalls
+pub mod DeleteLemmas

@@ -1,11 +1,10 @@
--- The records of a document, taken away one after the other.
-use Rattle.std.proofs.Common.{◌≡◌, ℕ, ◌+◌, ◌<◌, ◌≤◌, List, [], ◌∷◌, ◌++◌, length, map, Option, Some, inl, inr, refl, sym, ap, ap₂, ◌∙◌, subst, arith, append-nil, append_assoc, length-append}
+-- The records of a row of intervals, taken away one after the other.
+use Rattle.std.proofs.Common.{◌≡◌, ℕ, ◌+◌, ◌-◌, ◌<◌, ◌≤◌, List, [], ◌∷◌, ◌++◌, length, map, Option, Some, inl, inr, refl, sym, ap, ap₂, ◌∙◌, subst, arith, append-nil, append_assoc}
 use Rattle.std.specs.Prelude.{◌⊎◌, ◌==◌, true, false, IsSome, Contains}
 use Rattle.std.proofs.lemmas.Bool.{false≢true}
 use Rattle.std.proofs.lemmas.Bool.Decides.{eqb_tells}
 use Rattle.std.proofs.lemmas.List.{map-append}
-use Rattle.std.proofs.lemmas.List.Elements.{All-nil, All-cons, Contains-append_left, Contains-append_right, Contains-append_cases}
-use Rattle.std.proofs.lemmas.List.Sums.{sum_by-cons}
+use Rattle.std.proofs.lemmas.List.Elements.{Contains-append_left, Contains-append_right, Contains-append_cases}
 use Rattle.nx_host.specs.Disk.{Rose}
 use Rattle.nx_host.specs.declared.disk.Disk.{Ghosts}
 use Rattle.nx_host.specs.Still.{IsStill}
@@ -18,10 +17,13 @@ use Rattle.nx_records.specs.Records.{has_ended, KeepsSaved, HasChanges}
 use Rattle.nx_records.specs.Refusals.{RunsOn, EndNow, NotChanged}
 use Rattle.nx_piece.specs.declared.piece.Piece.{Piece}
 use Rattle.nx_piece.specs.declared.piece.Proxy.{Proxy}
-use Rattle.nx_cuts.specs.Cut.{CutTree, Bare, Grown, Kept}
-use Rattle.nx_layouts.specs.Layout.{RecordPlace, Layout, AreHeld, places_of, proxies_of, piece_of, ArePlacedOnce, IsLaidOutAs}
+use Rattle.nx_piece.specs.Gapped.{Gapped, End, Grow, Gap, gapped_width, gapped_nodes}
+use Rattle.nx_piece.specs.Valid.{AreTrees}
+use Rattle.nx_cuts.specs.Cut.{CutTree, CutForest, Bare, Grown, Kept, forest}
+use Rattle.nx_tree.specs.Forest.{nodes}
+use Rattle.nx_layouts.specs.Layout.{RecordPlace, Layout, AreHeld, gap_more, piece_body, places_of, proxies_of, proxy_of, piece_of, ArePlacedOnce, IsLaidOutAs, whole}
 use Rattle.nx_layouts.proofs.PlaceLemmas.{no_place, one_place, first_among, later_among, AreDisjoint, between_cases, among_between, out_of_between, once-around, once-apart}
-use Rattle.nx_layouts.proofs.HeldLemmas.{HaveThere, held_there, laid_there}
+use Rattle.nx_layouts.proofs.HeldLemmas.{HaveThere, held_there, held_along}
 use Rattle.nx_hold.specs.declared.entry.DocEntry.{DocEntry}
 use Rattle.nx_hold.specs.Changes.{place_of, place_named, RemovesPiece, ComesTidy}
 use Rattle.nx_hold.specs.Pieces.{record_at, HoldsPiece, HoldsNone, IsTidy, PieceMap}
@@ -31,10 +33,10 @@ use Rattle.nx_hold.proofs.MoveLemmas.{moves_none, moves_beside, moves_add_up, re
 use Rattle.nx_hold.proofs.RecordsLemmas.{record_there}
 use Rattle.nx_hold.proofs.RefusalLemmas.{runs_then, saved_then}
 use Rattle.nx_state.specs.State.{document_size}
-use Rattle.nx_state.specs.Stands.{StoredDocument, IsStoredIn}
-use Rattle.nx_state.proofs.NodeLemmas.{all_few}
 use Rattle.nx_state.proofs.StayLemmas.{one_map}
-use Rattle.nx_edit.specs.Removing.{document_places, RemovesDocument, HasNone, NotRemoved}
+use Rattle.nx_nav.proofs.PartLemmas.{forest-without_places}
+use Rattle.nx_nav.proofs.SplitLemmas.{nodes-joined}
+use Rattle.nx_edit.specs.Removing.{kept_nodes, IsRow, RemovesRow, OfRow, NotRemovedRow, RemovesDocument, NotRemoved}
 
 -- a record that is still there: its place, and the members of its interval
 pub record Left : Type 0 where
@@ -87,6 +89,37 @@ left_last : (pieces : RecordPlace → Option Piece) (a b : List Left) → AreLef
 left_last pieces [] b h = h
 left_last pieces (l ∷ a) b h = left_last pieces a b h.2
 
+-- how many nodes are in them and below them
+abbrev pub left_nodes : List Left → ℕ
+left_nodes [] = 0
+left_nodes (l ∷ ls) = nodes (forest l.members) + left_nodes ls
+
+left_nodes-append : (a b : List Left) → left_nodes (a ++ b) ≡ left_nodes a + left_nodes b
+left_nodes-append [] b = omega arith
+left_nodes-append (l ∷ a) b = omega (arith, left_nodes-append a b)
+
+nodes-lefts : (a : Layout) → left_nodes (lefts_of a) ≡ kept_nodes a
+nodes-lefts Bare = refl
+nodes-lefts (Grown node below beside) = omega (arith, left_nodes-append (lefts_of below) (lefts_of beside), nodes-lefts below, nodes-lefts beside)
+nodes-lefts (Kept place members beside) = omega (arith, nodes-lefts beside)
+
+nodes_more : (x : Gapped) → gapped_nodes (gap_more x) ≡ gapped_nodes x
+nodes_more End = refl
+nodes_more (Grow n b s) = refl
+nodes_more (Gap c s) = refl
+
+-- a piece with roots has nodes
+pub some_nodes : (g : Gapped) → AreTrees g → 1 ≤ gapped_width g → 1 ≤ gapped_nodes g
+some_nodes End trees some = absurd (omega (arith, some))
+some_nodes (Grow n b s) trees some = omega arith
+some_nodes (Gap c s) trees some = absurd trees
+
+-- the nodes of a row are those of its piece, and those in intervals
+pub own_and_kept : (a : Layout) → gapped_nodes (piece_body a) + kept_nodes a ≡ nodes (forest a)
+own_and_kept Bare = refl
+own_and_kept (Grown node below beside) = omega (arith, own_and_kept below, own_and_kept beside)
+own_and_kept (Kept place members beside) = omega (arith, nodes_more (piece_body beside), own_and_kept beside, nodes-joined (forest members) (forest beside))
+
 held-lefts : (pieces : RecordPlace → Option Piece) (a : Layout) → AreHeld pieces a → AreLeft pieces (lefts_of a)
 held-lefts pieces Bare h = tt
 held-lefts pieces (Grown node below beside) h = left_joined pieces (lefts_of below) (lefts_of beside) (held-lefts pieces below h.0) (held-lefts pieces beside h.1)
@@ -100,8 +133,8 @@ left_there one other (l ∷ ls) all h = (
   left_there one other ls (λ place piece among. all place piece (Contains-append_right (l.place ∷ places_of l.members) (left_places ls) place among)) h.2,
 )
 
--- So many records of a document went, and the others are still there; these proxies name the ones on top of them.
-pub record IsRemoving (places : List RecordPlace) (stack : List Proxy) (count : ℕ) (was now : Held) : Type 0 where
+-- Some records at these places went, with so many nodes, and the others are still there; these proxies name the ones on top of them.
+pub record IsRemoving (places : List RecordPlace) (total : ℕ) (stack : List Proxy) (went : ℕ) (was now : Held) : Type 0 where
   pub gone : List RecordPlace
   pub lefts : List Left
   pub tops : map place_left lefts ≡ map place_named stack
@@ -111,32 +144,27 @@ pub record IsRemoving (places : List RecordPlace) (stack : List Proxy) (count : 
   pub all : (place : RecordPlace) → Contains places place → Contains gone place ⊎ Contains (left_places lefts) place
   pub gone_among : (place : RecordPlace) → Contains gone place → Contains places place
   pub left_among : (place : RecordPlace) → Contains (left_places lefts) place → Contains places place
-  pub number : length gone + length (left_places lefts) ≡ length places
-  pub counted : length gone ≡ count
+  pub counted : went + left_nodes lefts ≡ total
   pub moves : MovesRecords gone [] 0 was now
 
--- the same document in the same records, by another map of their pieces
-laid_by : (k : ℕ) (held : Held) (pieces other : PieceMap held) (root : RecordPlace) (document : CutTree) (layout : Layout) → IsLaidOutAs k pieces.piece_at root document layout → IsLaidOutAs k other.piece_at root document layout
-laid_by k held pieces other root document layout laid = laid_there k pieces.piece_at other.piece_at root document layout (λ place piece among e. sym (one_map held pieces other place) ∙ e) laid
+-- what one map of the pieces holds the other does
+pub held_by : (held : Held) (pieces other : PieceMap held) (a : Layout) → AreHeld pieces.piece_at a → AreHeld other.piece_at a
+held_by held pieces other a h = held_along pieces.piece_at other.piece_at a (λ place piece e. sym (one_map held pieces other place) ∙ e) h
 
-pub begun : (k : ℕ) (was : Held) (pieces : PieceMap was) (entry : DocEntry) (document : CutTree) (layout : Layout) (proxy : Proxy) → place_named proxy ≡ place_of entry.root → IsLaidOutAs k pieces.piece_at (place_of entry.root) document layout
-    → IsRemoving (document_places entry document layout) (proxy ∷ []) 0 was was
-begun k was pieces entry document layout proxy is laid =
-    let by = laid_by k was pieces (piece_map was) (place_of entry.root) document layout laid in
-    record {
-      gone = [];
-      lefts = record { place = place_of entry.root; members = Grown document.node layout Bare } ∷ [];
-      tops = ap (λ (p : RecordPlace). p ∷ []) (sym is);
-      held = ((by.held).0, (by.held).1, tt);
-      once = laid.once;
-      apart = λ place one other. no_place place one;
-      all = λ place among. inr among;
-      gone_among = λ place among. absurd (no_place place among);
-      left_among = λ place among. among;
-      number = omega arith;
-      counted = refl;
-      moves = moves_none was;
-    }
+pub begun : (was : Held) (pieces : PieceMap was) (proxies : List Proxy) (limit : ℕ) (row : Layout) → IsRow was pieces proxies limit row → IsRemoving (places_of row) (kept_nodes row) proxies 0 was was
+begun was pieces proxies limit row is = record {
+  gone = [];
+  lefts = lefts_of row;
+  tops = tops-lefts row ∙ ap (λ (ps : List Proxy). map place_named ps) (sym is.proxies_are);
+  held = held-lefts (piece_map was).piece_at row (held_by was pieces (piece_map was) row is.held);
+  once = subst ArePlacedOnce (sym (places-lefts row)) is.once;
+  apart = λ place one other. no_place place one;
+  all = λ place among. inr (subst (λ (ps : List RecordPlace). Contains ps place) (sym (places-lefts row)) among);
+  gone_among = λ place among. absurd (no_place place among);
+  left_among = λ place among. subst (λ (ps : List RecordPlace). Contains ps place) (places-lefts row) among;
+  counted = omega (arith, nodes-lefts row);
+  moves = moves_none was;
+}
 
 -- One record more went:
 
@@ -170,13 +198,14 @@ split_last (l ∷ ls) (x ∷ xs) y e =
     (l ∷ rest.0, rest.1, ap (λ (m : List Left). l ∷ m) rest.2, ap₂ (λ (p : RecordPlace) (ps : List RecordPlace). p ∷ ps) (ap (head_of l.place) e) rest.3, rest.4)
 
 -- what is on top
-pub record IsNext (places : List RecordPlace) (stack : List Proxy) (proxy : Proxy) (count : ℕ) (was now : Held) : Type 0 where
+pub record IsNext (places : List RecordPlace) (total : ℕ) (stack : List Proxy) (proxy : Proxy) (went : ℕ) (was now : Held) : Type 0 where
   pub members : Layout
   pub holds : HoldsPiece now (place_named proxy) (piece_of members)
-  pub then : (next : Held) → RemovesPiece (place_named proxy) now next → IsRemoving places (stack ++ proxies_of members) (count + 1) was next
+  pub room : went + gapped_nodes (piece_body members) ≤ total
+  pub then : (next : Held) → RemovesPiece (place_named proxy) now next → IsRemoving places total (stack ++ proxies_of members) (went + gapped_nodes (piece_body members)) was next
 
-pub next_one : (places : List RecordPlace) (stack : List Proxy) (proxy : Proxy) (count : ℕ) (was now : Held) → IsTidy now → IsRemoving places (stack ++ (proxy ∷ [])) count was now → IsNext places stack proxy count was now
-next_one places stack proxy count was now tidy r =
+pub next_one : (places : List RecordPlace) (total : ℕ) (stack : List Proxy) (proxy : Proxy) (went : ℕ) (was now : Held) → IsTidy now → IsRemoving places total (stack ++ (proxy ∷ [])) went was now → IsNext places total stack proxy went was now
+next_one places total stack proxy went was now tidy r =
     let split = split_last r.lefts (map place_named stack) (place_named proxy) (r.tops ∙ map-append place_named stack (proxy ∷ [])) in
     let before : List Left = split.0 in
     let l : Left = split.1 in
@@ -193,8 +222,12 @@ next_one places stack proxy count was now tidy r =
     let gone_apart : Contains r.gone l.place → ⊥ =
     λ gone. r.apart l.place gone (subst (λ (ps : List RecordPlace). Contains ps l.place) (sym lefts_are) (among_between a (l.place ∷ []) b l.place (first_among l.place []))) in
     let apart : AreDisjoint (l.place ∷ []) (a ++ b) = once-apart a (l.place ∷ []) b once in
+    let c : went + left_nodes r.lefts ≡ total = r.counted in
+    let were : left_nodes r.lefts ≡ left_nodes before + (nodes (forest l.members) + 0) = ap left_nodes split.2 ∙ left_nodes-append before (l ∷ []) in
+    let own = own_and_kept l.members in
     record {
       members = l.members;
+      room = omega (arith, c, were, own);
       holds = subst (λ (p : RecordPlace). HoldsPiece now p (piece_of l.members)) place holds;
       then = λ next removes.
           let removes_top : RemovesPiece l.place now next = subst (λ (p : RecordPlace). RemovesPiece p now next) (sym place) removes in
@@ -227,14 +260,10 @@ next_one places stack proxy count was now tidy r =
               | inr later ↦ r.gone_among q later
             ];
             left_among = λ q among. r.left_among q (subst (λ (ps : List RecordPlace). Contains ps q) (sym lefts_are) (between_cases a (l.place ∷ []) b q (subst (λ (ps : List RecordPlace). Contains ps q) new_are among)));
-            number =
-                let was_many = ap (λ (ps : List RecordPlace). length ps) lefts_are in
-                let now_many = ap (λ (ps : List RecordPlace). length ps) new_are in
-                let one = length-append a (l.place ∷ b) in
-                let two = length-append a b in
-                let n = r.number in
-                omega (arith, was_many, now_many, one, two, n);
-            counted = let n = r.counted in omega (arith, n);
+            counted =
+                let are = left_nodes-append before (lefts_of l.members) in
+                let below = nodes-lefts l.members in
+                omega (arith, c, were, own, are, below);
             moves = moves_then r.gone l.place (piece_of l.members) was now next r.moves removes_top gone_apart holds;
           };
     }
@@ -245,11 +274,14 @@ none_left : (ls : List Left) → map place_left ls ≡ [] → ls ≡ []
 none_left [] e = refl
 none_left (l ∷ ls) e = absurd (cc)
 
-pub all_gone : (places : List RecordPlace) (count : ℕ) (was now : Held) → IsRemoving places [] count was now → MovesRecords places [] 0 was now
-all_gone places count was now r =
+pub all_gone : (places : List RecordPlace) (total went : ℕ) (was now : Held) → IsRemoving places total [] went was now → MovesRecords places [] 0 was now × (went ≡ total)
+all_gone places total went was now r =
     let none = none_left r.lefts r.tops in
     let goes : (place : RecordPlace) → Contains places place → Contains r.gone place =
     λ place among. elim (r.all place among) [ inl gone ↦ gone | inr left ↦ absurd (no_place place (subst (λ (ls : List Left). Contains (left_places ls) place) none left)) ] in
+    let c : went + left_nodes r.lefts ≡ total = r.counted in
+    let nothing : left_nodes r.lefts ≡ 0 = ap left_nodes none in
+    let moved : MovesRecords places [] 0 was now =
     record {
       fresh = λ place among apart. absurd (no_place place among);
       came = λ place among. absurd (no_place place among);
@@ -262,145 +294,26 @@ all_gone places count was now r =
       settings = (r.moves).settings;
       catalog = (r.moves).catalog;
       free = (r.moves).free;
-    }
+    } in
+    (moved, omega (arith, c, nothing))
 
--- a document has no more records than nodes
-few_places : (k : ℕ) (pieces : RecordPlace → Option Piece) (entry : DocEntry) (document : CutTree) (layout : Layout) → IsLaidOutAs k pieces (place_of entry.root) document layout → entry.nodes ≡ document_size document → length (document_places entry document layout) ≤ entry.nodes
-few_places k pieces entry document layout laid counted =
-    let s : StoredDocument = record { name = []; entry = entry; document = document; layout = layout } in
-    let few = all_few k pieces (s ∷ []) (All-cons (IsStoredIn k pieces) s [] (record { laid = laid; counted = counted }) (All-nil (IsStoredIn k pieces))) in
-    let same = ap (λ (ps : List RecordPlace). length ps) (append-nil (document_places entry document layout)) in
-    let sums = sum_by-cons (λ (n : ℕ). n) (document_size document) [] in
-    omega (arith, few, same, sums, counted)
-
--- so none is left once as many went as there are nodes
-pub enough : (k : ℕ) (pieces : RecordPlace → Option Piece) (entry : DocEntry) (document : CutTree) (layout : Layout) (stack : List Proxy) (was now : Held) → IsLaidOutAs k pieces (place_of entry.root) document layout → entry.nodes ≡ document_size document
-    → IsRemoving (document_places entry document layout) stack entry.nodes was now → length stack ≡ 0
-enough k pieces entry document layout stack was now laid counted r =
-    let few = few_places k pieces entry document layout laid counted in
-    let n = r.number in
-    let c = r.counted in
-    let none : length (left_places r.lefts) ≡ 0 = omega (arith, few, n, c) in
-    by_lefts r.lefts none r.tops
-  where
-    by_lefts : (ls : List Left) → length (left_places ls) ≡ 0 → map place_left ls ≡ map place_named stack → length stack ≡ 0
-    by_lefts [] e tops = by_stack stack (sym tops)
-      where
-        by_stack : (ps : List Proxy) → map place_named ps ≡ [] → length ps ≡ 0
-        by_stack [] e = refl
-        by_stack (p ∷ ps) e = absurd (cc)
-    by_lefts (l ∷ ls) e tops = absurd (omega (arith, e))
-
--- of each document of the entry so many records went
-abbrev pub RemovesSome : DocEntry → List Proxy → ℕ → Held → Held → Type 0
-RemovesSome entry stack count was now =
-    (pieces : PieceMap was) (document : CutTree) (layout : Layout) → IsLaidOutAs (was.settings).k pieces.piece_at (place_of entry.root) document layout → entry.nodes ≡ document_size document → IsRemoving (document_places entry document layout) stack count was now
+-- of each such row so much went
+abbrev pub RemovesSome : List Proxy → (limit : ℕ) → List Proxy → ℕ → Held → Held → Type 0
+RemovesSome proxies limit stack went was now =
+    (pieces : PieceMap was) (row : Layout) → IsRow was pieces proxies limit row → IsRemoving (places_of row) (kept_nodes row) stack went was now
 
 -- How far the loop has come.
-pub record IsGoing {D : Type 0} (d : Ghosts D) (entry : DocEntry) (stack : List Proxy) (count : ℕ) (old new : Records) (before after : D) : Type 0 where
+pub record IsGoing {D : Type 0} (d : Ghosts D) (proxies : List Proxy) (limit : ℕ) (stack : List Proxy) (went : ℕ) (old new : Records) (before after : D) : Type 0 where
   pub runs : RunsOn old new
   pub keeps : KeepsSaved d old new before after
   pub still : IsStill d before after
-  pub comes : ComesTidy d old new before after (RemovesSome entry stack count)
-  pub fresh : count ≡ 0 → length stack ≡ 1
-  pub changed : 0 < count → HasChanges new
+  pub comes : ComesTidy d old new before after (RemovesSome proxies limit stack went)
+  pub few : went ≤ limit
+  pub fresh : went ≡ 0 → stack ≡ proxies
+  pub changed : 0 < went → HasChanges new
 
 pub later_rose : (n m k : ℕ) → n ≤ m → Rose m k → Rose n k
 later_rose n m k later rose = omega (arith, rose, later)
-
-module _ {D : Type 0} {d : Ghosts D} {entry : DocEntry} {r0 : Records} {x0 : D} where
-  pub going_first : (proxy : Proxy) → place_named proxy ≡ place_of entry.root → has_ended r0 ≡ false → IsGoing d entry (proxy ∷ []) 0 r0 r0 x0 x0
-  going_first proxy is runs = record {
-    runs = record { before = runs; after = runs; length_stays = refl; settings_stay = refl };
-    keeps = λ saved has. has;
-    still = none_still;
-    comes = λ saved now stands tidy. (now, stands, tidy, λ pieces document layout laid counted. begun (now.settings).k now pieces entry document layout proxy is laid);
-    fresh = λ none. refl;
-    changed = λ some. absurd (omega (arith, some));
-  }
-
-module _ {D : Type 0} {d : Ghosts D} {entry : DocEntry} {r0 r1 : Records} {x0 x1 : D} where
-  pub going_then : {r2 : Records} {x2 : D} (stack after : List Proxy) (proxy : Proxy) (count : ℕ) → IsGoing d entry (stack ++ (proxy ∷ [])) count r0 r1 x0 x1 → RunsOn r1 r2 → KeepsSaved d r1 r2 x1 x2 → HasChanges r2 → IsStill d x1 x2
-      → ComesTidy d r1 r2 x1 x2 (λ was now. RemovesPiece (place_named proxy) was now × ((members : Layout) → HoldsPiece was (place_named proxy) (piece_of members) → after ≡ stack ++ proxies_of members)) → IsGoing d entry after (count + 1) r0 r2 x0 x2
-  going_then {r2} {x2} stack after proxy count g runs keeps changed still removes = record {
-    runs = runs_then {r0 = r0} {r1 = r1} {r2 = r2} g.runs runs;
-    keeps = saved_then {d = d} {r0 = r0} {r1 = r1} {r2 = r2} {x0 = x0} {x1 = x1} {x2 = x2} g.keeps keeps;
-    still = still_then g.still still;
-    comes = λ saved was stands tidy.
-        let mid = g.comes saved was stands tidy in
-        let now = removes saved mid.0 mid.1 mid.2 in (
-          now.0,
-          now.1,
-          now.2,
-          λ pieces document layout laid counted.
-              let one = next_one (document_places entry document layout) stack proxy count was mid.0 mid.2 (mid.3 pieces document layout laid counted) in
-              subst (λ (ps : List Proxy). IsRemoving (document_places entry document layout) ps (count + 1) was now.0) (sym ((now.3).1 one.members one.holds)) (one.then now.0 (now.3).0),
-        );
-    fresh = λ none. absurd (omega (arith, none));
-    changed = λ some. changed;
-  }
-
-  -- nothing is left
-  pub going_done : (stack : List Proxy) (count : ℕ) → stack ≡ [] → IsGoing d entry stack count r0 r1 x0 x1 → ComesTidy d r0 r1 x0 x1 (RemovesDocument entry)
-  going_done stack count none g saved was stands tidy =
-      let now = g.comes saved was stands tidy in (
-        now.0,
-        now.1,
-        now.2,
-        λ pieces document layout laid counted. all_gone (document_places entry document layout) count was now.0 (subst (λ (ps : List Proxy). IsRemoving (document_places entry document layout) ps count was now.0) none (now.3 pieces document layout laid counted)),
-      )
-
-  pub going_changed : (stack : List Proxy) (count : ℕ) → length stack ≡ 0 → IsGoing d entry stack count r0 r1 x0 x1 → HasChanges r1
-  going_changed stack count none g = by_count count refl
-    where
-      by_count : (n : ℕ) → count ≡ n → HasChanges r1
-      by_count n is = elim (eqb_tells n 0) [
-        | inl zero ↦ let one = g.fresh (is ∙ zero.1) in absurd (omega (arith, one, none))
-        | inr some ↦ g.changed (let not = some.1 in positive n count is not)
-      ]
-        where
-          positive : (n count : ℕ) → count ≡ n → (n ≡ 0 → ⊥) → 0 < count
-          positive n count is not = omega (arith, is, not)
-
-  -- something is left of more records than a document of the entry has nodes
-  pub going_damaged : (stack : List Proxy) → (length stack ≡ 0 → ⊥) → IsGoing d entry stack entry.nodes r0 r1 x0 x1 → HasNone d r0 x0 entry
-  going_damaged stack some g document has tidy counted =
-      let now = g.comes has.saved has.now has.stands tidy in
-      let laid = (has.laid).laid in
-      some (enough ((has.now).settings).k (has.pieces).piece_at entry document (has.laid).layout stack has.now now.0 laid counted (now.3 has.pieces document (has.laid).layout laid counted))
-
-  -- why the next record wasn't taken away
-  pub going_refused : (r2 : Records) (x2 : D) (stack : List Proxy) (proxy : Proxy) (count : ℕ) (e : StoreError) → IsGoing d entry (stack ++ (proxy ∷ [])) count r0 r1 x0 x1 → NotChanged d (λ was. HoldsNone was (place_named proxy)) proxy.page e r1 r2 x1 x2
-      → NotRemoved d entry e r0 r2 x0 x2
-  going_refused r2 x2 stack proxy count store.Disk g refused = (
-    later_rose (d.faults x0) (d.faults x1) (d.faults x2) (g.still).faults_later refused.0,
-    record {
-      before = (g.runs).before;
-      after = (refused.1).after;
-      length_stays = (refused.1).length_stays ∙ (g.runs).length_stays;
-      settings_stay = (refused.1).settings_stay ∙ (g.runs).settings_stay;
-    },
-  )
-  going_refused r2 x2 stack proxy count (store.Damaged page) g refused = (
-    record {
-      before = (g.runs).before;
-      after = (refused.ends).after;
-      length_stays = (refused.ends).length_stays ∙ (g.runs).length_stays;
-      settings_stay = (refused.ends).settings_stay ∙ (g.runs).settings_stay;
-    },
-    λ document has tidy counted.
-        let now = g.comes has.saved has.now has.stands tidy in
-        let one = next_one (document_places entry document (has.laid).layout) stack proxy count has.now now.0 now.2 (now.3 has.pieces document (has.laid).layout (has.laid).laid counted) in
-        refused.lacks has.saved now.0 now.1 (piece_of one.members) one.holds,
-  )
-  going_refused r2 x2 stack proxy count store.Ended g refused = absurd (false≢true (sym (g.runs).after ∙ refused.0))
-  going_refused r2 x2 stack proxy count store.Memory g refused = (
-    runs_then {r0 = r0} {r1 = r1} {r2 = r2} g.runs refused.0,
-    saved_then {d = d} {r0 = r0} {r1 = r1} {r2 = r2} {x0 = x0} {x1 = x1} {x2 = x2} g.keeps refused.1,
-  )
-  going_refused r2 x2 stack proxy count store.Exists g refused = absurd refused
-  going_refused r2 x2 stack proxy count store.NotAStore g refused = absurd refused
-  going_refused r2 x2 stack proxy count store.Full g refused = absurd refused
 
 pub ends_behind : {r0 r1 r2 : Records} → RunsOn r0 r1 → EndNow r1 r2 → EndNow r0 r2
 ends_behind one two = record {
@@ -409,6 +322,127 @@ ends_behind one two = record {
   length_stays = two.length_stays ∙ one.length_stays;
   settings_stay = two.settings_stay ∙ one.settings_stay;
 }
+
+module _ {D : Type 0} {d : Ghosts D} {proxies : List Proxy} {limit : ℕ} {r0 : Records} {x0 : D} where
+  pub going_first : has_ended r0 ≡ false → IsGoing d proxies limit proxies 0 r0 r0 x0 x0
+  going_first runs = record {
+    runs = record { before = runs; after = runs; length_stays = refl; settings_stay = refl };
+    keeps = λ saved has. has;
+    still = none_still;
+    comes = λ saved now stands tidy. (now, stands, tidy, λ pieces row is. begun now pieces proxies limit row is);
+    few = omega arith;
+    fresh = λ none. refl;
+    changed = λ some. absurd (omega (arith, some));
+  }
+
+module _ {D : Type 0} {d : Ghosts D} {proxies : List Proxy} {limit : ℕ} {r0 r1 : Records} {x0 x1 : D} (stack : List Proxy) (proxy : Proxy) (went : ℕ) (g : IsGoing d proxies limit (stack ++ (proxy ∷ [])) went r0 r1 x0 x1)
+    (r2 : Records) (x2 : D) where
+  module _ (after : List Proxy) (own : ℕ) (runs : RunsOn r1 r2) (keeps : KeepsSaved d r1 r2 x1 x2)
+      (removes : ComesTidy d r1 r2 x1 x2 (λ was now. RemovesPiece (place_named proxy) was now
+      × ((members : Layout) → HoldsPiece was (place_named proxy) (piece_of members) → (after ≡ stack ++ proxies_of members) × (own ≡ gapped_nodes (piece_body members))))) where
+    pub going_then : HasChanges r2 → IsStill d x1 x2 → 1 ≤ own → own ≤ limit - went → IsGoing d proxies limit after (went + own) r0 r2 x0 x2
+    going_then changed still some most = record {
+      runs = runs_then {r0 = r0} {r1 = r1} {r2 = r2} g.runs runs;
+      keeps = saved_then {d = d} {r0 = r0} {r1 = r1} {r2 = r2} {x0 = x0} {x1 = x1} {x2 = x2} g.keeps keeps;
+      still = still_then g.still still;
+      comes = λ saved was stands tidy.
+          let mid = g.comes saved was stands tidy in
+          let now = removes saved mid.0 mid.1 mid.2 in (
+            now.0,
+            now.1,
+            now.2,
+            λ pieces row is.
+                let one = next_one (places_of row) (kept_nodes row) stack proxy went was mid.0 mid.2 (mid.3 pieces row is) in
+                let told = (now.3).1 one.members one.holds in
+                subst (λ (ps : List Proxy). IsRemoving (places_of row) (kept_nodes row) ps (went + own) was now.0) (sym told.0)
+                (subst (λ (n : ℕ). IsRemoving (places_of row) (kept_nodes row) (stack ++ proxies_of one.members) (went + n) was now.0) (sym told.1) (one.then now.0 (now.3).0)),
+          );
+      few = let f : went ≤ limit = g.few in omega (arith, most, f);
+      fresh = λ none. absurd (omega (arith, none, some));
+      changed = λ more. changed;
+    }
+
+    -- more nodes went than there may be
+    pub going_many : {r3 : Records} → limit - went < own → EndNow r2 r3 → EndNow r0 r3 × OfRow d r0 x0 proxies limit (λ now row. ⊥)
+    going_many {r3} more ends = (
+      ends_behind {r0 = r0} {r1 = r2} {r2 = r3} (runs_then {r0 = r0} {r1 = r1} {r2 = r2} g.runs runs) ends,
+      λ saved was pieces row stands tidy is.
+          let mid = g.comes saved was stands tidy in
+          let now = removes saved mid.0 mid.1 mid.2 in
+          let one = next_one (places_of row) (kept_nodes row) stack proxy went was mid.0 mid.2 (mid.3 pieces row is) in
+          let told = ((now.3).1 one.members one.holds).1 in
+          let room = one.room in
+          let few = is.few in
+          let f : went ≤ limit = g.few in
+          absurd (omega (arith, more, told, room, few, f)),
+    )
+
+  -- why the next record wasn't taken away
+  pub going_refused : (e : StoreError) → NotChanged d (λ was. HoldsNone was (place_named proxy)) proxy.page e r1 r2 x1 x2 → NotRemovedRow d proxies limit e r0 r2 x0 x2
+  going_refused store.Disk refused = (later_rose (d.faults x0) (d.faults x1) (d.faults x2) (g.still).faults_later refused.0, ends_behind {r0 = r0} {r1 = r1} {r2 = r2} g.runs refused.1)
+  going_refused (store.Damaged page) refused = (
+    ends_behind {r0 = r0} {r1 = r1} {r2 = r2} g.runs refused.ends,
+    λ saved was pieces row stands tidy is.
+        let mid = g.comes saved was stands tidy in
+        let one = next_one (places_of row) (kept_nodes row) stack proxy went was mid.0 mid.2 (mid.3 pieces row is) in
+        refused.lacks saved mid.0 mid.1 (piece_of one.members) one.holds,
+  )
+  going_refused store.Ended refused = absurd (false≢true (sym (g.runs).after ∙ refused.0))
+  going_refused store.Memory refused = (
+    runs_then {r0 = r0} {r1 = r1} {r2 = r2} g.runs refused.0,
+    saved_then {d = d} {r0 = r0} {r1 = r1} {r2 = r2} {x0 = x0} {x1 = x1} {x2 = x2} g.keeps refused.1,
+  )
+  going_refused store.Exists refused = absurd refused
+  going_refused store.NotAStore refused = absurd refused
+  going_refused store.Full refused = absurd refused
+
+module _ {D : Type 0} {d : Ghosts D} {proxies : List Proxy} {limit : ℕ} {r0 r1 : Records} {x0 x1 : D} (stack : List Proxy) (went : ℕ) (none : stack ≡ []) (g : IsGoing d proxies limit stack went r0 r1 x0 x1) where
+  -- nothing is left
+  pub going_done : ComesTidy d r0 r1 x0 x1 (RemovesRow proxies limit went)
+  going_done saved was stands tidy =
+      let now = g.comes saved was stands tidy in (
+        now.0,
+        now.1,
+        now.2,
+        λ pieces row is. all_gone (places_of row) (kept_nodes row) went was now.0 (subst (λ (ps : List Proxy). IsRemoving (places_of row) (kept_nodes row) ps went was now.0) none (now.3 pieces row is)),
+      )
+
+  pub going_changed : (length proxies ≡ 0 → ⊥) → HasChanges r1
+  going_changed some = elim (eqb_tells went 0) [
+    | inl zero ↦ absurd (some (ap (λ (ps : List Proxy). length ps) (sym (g.fresh zero.1) ∙ none)))
+    | inr more ↦ g.changed (let not = more.1 in omega (arith, not))
+  ]
+
+-- A document, as the row of its root:
+
+module _ (was : Held) (pieces : PieceMap was) (entry : DocEntry) (document : CutTree) (layout : Layout) (proxy : Proxy) (is : proxy ≡ proxy_of (place_of entry.root) 1)
+    (laid : IsLaidOutAs (was.settings).k pieces.piece_at (place_of entry.root) document layout) (counted : entry.nodes ≡ document_size document) where
+  pub document_row : IsRow was pieces (proxy ∷ []) entry.nodes (whole (place_of entry.root) document.node layout)
+  document_row = record {
+    proxies_are = ap (λ (p : Proxy). p ∷ []) is;
+    held = laid.held;
+    once = laid.once;
+    few = let same = ap (λ (c : CutForest). nodes (forest c)) laid.same in let bare = ap nodes (forest-without_places layout) in omega (arith, counted, same, bare);
+  }
+
+module _ {D : Type 0} (d : Ghosts D) (entry : DocEntry) (proxy : Proxy) (is : proxy ≡ proxy_of (place_of entry.root) 1) (r0 r1 : Records) (x0 x1 : D) where
+  pub document_gone : (gone : ℕ) → ComesTidy d r0 r1 x0 x1 (RemovesRow (proxy ∷ []) entry.nodes gone) → ComesTidy d r0 r1 x0 x1 (RemovesDocument entry)
+  document_gone gone comes saved was stands tidy =
+      let now = comes saved was stands tidy in
+      (now.0, now.1, now.2, λ pieces document layout laid counted. (now.3 pieces (whole (place_of entry.root) document.node layout) (document_row was pieces entry document layout proxy is laid counted)).0)
+
+  pub document_refused : (e : StoreError) → NotRemovedRow d (proxy ∷ []) entry.nodes e r0 r1 x0 x1 → NotRemoved d entry e r0 r1 x0 x1
+  document_refused store.Disk refused = refused
+  document_refused (store.Damaged page) refused = (
+    refused.0,
+    λ document has tidy counted.
+        refused.1 has.saved has.now has.pieces (whole (place_of entry.root) document.node (has.laid).layout) has.stands tidy (document_row has.now has.pieces entry document (has.laid).layout proxy is (has.laid).laid counted),
+  )
+  document_refused store.Ended refused = absurd refused
+  document_refused store.Memory refused = refused
+  document_refused store.Exists refused = absurd refused
+  document_refused store.NotAStore refused = absurd refused
+  document_refused store.Full refused = absurd refused
 
 pub tested_none : (n : ℕ) → (n == 0) ≡ true → n ≡ 0
 tested_none n e = elim (eqb_tells n 0) [ inl s ↦ s.1 | inr a ↦ absurd (false≢true (sym a.0 ∙ e)) ]

@@ -1,1 +1,5 @@
 pub mod Removing
+pub mod Refusals
+pub mod Editing
+pub mod Rows
+pub mod Cutting

@@ -1,15 +1,17 @@
--- What is left of a document that is taken away, and why one wasn't.
-use Rattle.std.specs.Prelude.{◌≡◌, List, []}
+-- What is left of rows of intervals and of a document that are taken away, and why one wasn't.
+use Rattle.std.specs.Prelude.{◌≡◌, ℕ, ◌+◌, ◌≤◌, List, []}
 use Rattle.nx_host.specs.Disk.{Rose}
 use Rattle.nx_host.specs.declared.disk.Disk.{Ghosts}
 use Rattle.nx_records.specs.Words.{Held}
-use Rattle.nx_records.specs.Records.{KeepsSaved}
+use Rattle.nx_records.specs.Records.{KeepsSaved, StandsFor}
 use Rattle.nx_records.specs.Refusals.{EndNow, RunsOn, HadEnded}
 use Rattle.nx_records.specs.declared.records.Records.{Records}
 use Rattle.nx_records.specs.declared.error.StoreError.{StoreError}
 use Rattle.nx_records.specs.declared.error.StoreError.TheVariants as error
-use Rattle.nx_cuts.specs.Cut.{CutTree}
-use Rattle.nx_layouts.specs.Layout.{RecordPlace, Layout, places_of, whole, IsLaidOutAs}
+use Rattle.nx_tree.specs.Forest.{nodes}
+use Rattle.nx_piece.specs.declared.piece.Proxy.{Proxy}
+use Rattle.nx_cuts.specs.Cut.{CutTree, Bare, Grown, Kept, forest}
+use Rattle.nx_layouts.specs.Layout.{RecordPlace, Layout, AreHeld, ArePlacedOnce, places_of, proxies_of, whole, IsLaidOutAs}
 use Rattle.nx_hold.specs.declared.entry.DocEntry.{DocEntry}
 use Rattle.nx_hold.specs.Pieces.{IsTidy, PieceMap}
 use Rattle.nx_hold.specs.Changes.{place_of}
@@ -19,6 +21,39 @@ use Rattle.nx_state.specs.State.{document_size}
 -- the places of the records of a document
 abbrev pub document_places : DocEntry → CutTree → Layout → List RecordPlace
 document_places entry document layout = places_of (whole (place_of entry.root) document.node layout)
+
+-- how many nodes of a row stand in intervals
+abbrev pub kept_nodes : Layout → ℕ
+kept_nodes Bare = 0
+kept_nodes (Grown node below beside) = kept_nodes below + kept_nodes beside
+kept_nodes (Kept place members beside) = nodes (forest members) + kept_nodes beside
+
+-- The proxies are those of a row whose intervals the records hold, each record once, with at most so many nodes.
+pub record IsRow (now : Held) (pieces : PieceMap now) (proxies : List Proxy) (limit : ℕ) (row : Layout) : Type 0 where
+  pub proxies_are : proxies ≡ proxies_of row
+  pub held : AreHeld pieces.piece_at row
+  pub once : ArePlacedOnce (places_of row)
+  pub few : kept_nodes row ≤ limit
+
+-- The intervals of such a row went, with all below them, and so many nodes in them; no page fewer is free.
+abbrev pub RemovesRow : (proxies : List Proxy) (limit gone : ℕ) (was now : Held) → Type 0
+RemovesRow proxies limit gone was now =
+    (pieces : PieceMap was) (row : Layout) → IsRow was pieces proxies limit row → MovesRecords (places_of row) [] 0 was now × (gone ≡ kept_nodes row)
+
+-- of each such row, where the lists that records name are in order
+abbrev pub OfRow : {D : Type 0} → Ghosts D → Records → D → List Proxy → (limit : ℕ) → (Held → Layout → Type 0) → Type 0
+OfRow d records disk proxies limit P =
+    (saved now : Held) (pieces : PieceMap now) (row : Layout) → StandsFor d records disk saved now → IsTidy now → IsRow now pieces proxies limit row → P now row
+
+-- Why a row wasn't taken away, and what that leaves.
+abbrev pub NotRemovedRow : {D : Type 0} → Ghosts D → List Proxy → (limit : ℕ) → StoreError → Records → Records → D → D → Type 0
+NotRemovedRow d proxies limit error.Disk old new before after = Rose (d.faults before) (d.faults after) × EndNow old new
+NotRemovedRow d proxies limit (error.Damaged page) old new before after = EndNow old new × OfRow d old before proxies limit (λ now row. ⊥)
+NotRemovedRow d proxies limit error.Ended old new before after = ⊥
+NotRemovedRow d proxies limit error.Memory old new before after = RunsOn old new × KeepsSaved d old new before after
+NotRemovedRow d proxies limit error.Full old new before after = ⊥
+NotRemovedRow d proxies limit error.Exists old new before after = ⊥
+NotRemovedRow d proxies limit error.NotAStore old new before after = ⊥
 
 -- The document of an entry went, with all of its records and the lists that they name, and no page fewer is free.
 abbrev pub RemovesDocument : (entry : DocEntry) (was now : Held) → Type 0

@@ -1,16 +1,17 @@
-// A document that is taken away.
-ghost use Rattle.std.specs.Prelude.{◌≡◌, ◌++◌, false, IfErr, OnOk};
+// Records that are taken away: those of a row of intervals, and a document's.
+ghost use Rattle.std.specs.Prelude.{◌≡◌, ◌≢◌, ◌++◌, ◌≤◌, false, length, IfOk, IfErr, OnOk};
 ghost use Rattle.nx_host.specs.Still.{IsStill};
 ghost use Rattle.nx_records.specs.Records.{KeepsSaved, HasChanges, has_ended};
 ghost use Rattle.nx_records.specs.Refusals.{RunsOn, EndNow, NotChanged};
-ghost use Rattle.nx_layouts.specs.Layout.{Layout, piece_of, proxies_of};
+ghost use Rattle.nx_piece.specs.Gapped.{gapped_weight, gapped_nodes};
+ghost use Rattle.nx_layouts.specs.Layout.{Layout, piece_body, piece_of, proxies_of};
 ghost use Rattle.nx_hold.specs.Pieces.{HoldsPiece, HoldsNone};
 ghost use Rattle.nx_hold.specs.Changes.{ComesTidy, RemovesPiece, place_named};
-ghost use Rattle.nx_edit.specs.Removing.{RemovesDocument, NotRemoved};
+ghost use Rattle.nx_edit.specs.Removing.{RemovesRow, NotRemovedRow, RemovesDocument, NotRemoved};
 
 use nx_hold::{DocEntry, read_piece, remove_piece};
 use nx_host::Disk;
-use nx_piece::Proxy;
+use nx_piece::{Body, Proxy, count_nodes};
 use nx_records::{Records, Rid, StoreError};
 use std::alloc::Global;
 
@@ -34,38 +35,59 @@ pub fn remove_document<D: Disk>(
     if records.is_ended() {
         return Err(StoreError::Ended);
     }
-    let mut stack = Vec::new(alloc);
     let root = Proxy {
         page: entry.root.page,
         slot: entry.root.slot,
         roots: 1,
     };
-    let Ok(()) = stack.push(root) else {
-        return Err(StoreError::Memory);
-    };
-    for gone in 0..entry.nodes {
-        let Some(proxy) = stack.pop() else {
-            return Ok(());
-        };
-        remove_record(alloc, records, disk, proxy, &mut stack)?;
-    }
-    if !stack.is_empty() {
-        return Err(damaged(records, entry.root.page));
-    }
+    remove_rows(alloc, records, disk, &[root], entry.nodes)?;
     Ok(())
 }
 
-// Takes the record of a proxy away, and adds the proxies of its piece.
+// Takes the records that the proxies name away, and all below them, and answers how many nodes they had. It speaks of
+// rows of at most so many nodes.
+pub(crate) fn remove_rows<D: Disk>(
+    alloc: Global,
+    records: &mut Records,
+    disk: &mut D,
+    proxies: &[Proxy],
+    limit: u32,
+) -> Result<u32, StoreError>
+    requires { has_ended records.old ≡ false }
+    ensures still { IsStill D.Disk disk.old disk.new }
+    ensures few { IfOk result (λ gone. gone ≤ limit) }
+    ensures ok { IfOk result (λ gone. ComesTidy D.Disk records.old records.new disk.old disk.new (RemovesRow proxies.now limit gone)) }
+    ensures keeps { OnOk result (RunsOn records.old records.new × KeepsSaved D.Disk records.old records.new disk.old disk.new × (length proxies.now ≢ 0 → HasChanges records.new)) }
+    ensures refused { IfErr result (λ e. NotRemovedRow D.Disk proxies.now limit e records.old records.new disk.old disk.new) }
+{
+    let mut stack = Vec::new(alloc);
+    let Ok(()) = stack.extend_from_slice(proxies) else {
+        return Err(StoreError::Memory);
+    };
+    let mut gone = 0;
+    while let Some(proxy) = stack.pop() {
+        let own = remove_record(alloc, records, disk, proxy, &mut stack)?;
+        let room = limit - gone;
+        if room < own {
+            return Err(damaged(records, proxy.page));
+        }
+        gone += own;
+    }
+    Ok(gone)
+}
+
+// Takes the record of a proxy away, adds the proxies of its piece, and answers how many nodes the piece had.
 fn remove_record<D: Disk>(
     alloc: Global,
     records: &mut Records,
     disk: &mut D,
     proxy: Proxy,
     stack: &mut Vec<Proxy>,
-) -> Result<(), StoreError>
+) -> Result<u32, StoreError>
     ensures still { IsStill D.Disk disk.old disk.new }
-    ensures ok { OnOk result (ComesTidy D.Disk records.old records.new disk.old disk.new (λ was now. RemovesPiece (place_named proxy) was now
-        × ((members : Layout) → HoldsPiece was (place_named proxy) (piece_of members) → stack.new.items ≡ stack.old.items ++ proxies_of members))) }
+    ensures some { IfOk result (λ own. 1 ≤ own) }
+    ensures ok { IfOk result (λ own. ComesTidy D.Disk records.old records.new disk.old disk.new (λ was now. RemovesPiece (place_named proxy) was now
+        × ((members : Layout) → HoldsPiece was (place_named proxy) (piece_of members) → (stack.new.items ≡ stack.old.items ++ proxies_of members) × (own ≡ gapped_nodes (piece_body members))))) }
     ensures keeps { OnOk result (RunsOn records.old records.new × KeepsSaved D.Disk records.old records.new disk.old disk.new × HasChanges records.new) }
     ensures refused { IfErr result (λ e. NotChanged D.Disk (λ was. HoldsNone was (place_named proxy)) proxy.page e records.old records.new disk.old disk.new) }
 {
@@ -78,11 +100,24 @@ fn remove_record<D: Disk>(
     let Ok(()) = stack.extend_from_slice(piece.proxies.as_slice()) else {
         return Err(StoreError::Memory);
     };
-    Ok(())
+    Ok(nodes_in(&piece.body))
+}
+
+// How many nodes a piece has.
+#[tactic(auto, using(nx_piece::proofs::LeftLemmas::nodes_most))]
+fn nodes_in(body: &Body) -> u32
+    requires { gapped_weight body.now.roots ≤ 256 }
+    ensures { result ≡ gapped_nodes body.now.roots }
+{
+    let mut nodes = 0;
+    for root in body.roots.as_slice() {
+        nodes += count_nodes(root);
+    }
+    nodes
 }
 
 // Ends the records, and answers that a page is damaged.
-fn damaged(records: &mut Records, page: u32) -> StoreError
+pub(crate) fn damaged(records: &mut Records, page: u32) -> StoreError
     ensures result { result ≡ StoreError.Damaged page }
     ensures ends { has_ended records.old ≡ false → EndNow records.old records.new }
 {

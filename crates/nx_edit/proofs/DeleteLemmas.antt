@@ -1,0 +1,315 @@
+-- A tree taken out of a document, by the row of its root's interval.
+use Rattle.std.proofs.Common.{◌≡◌, ℕ, ◌+◌, ◌-◌, ◌*◌, ◌<◌, List, [], ◌∷◌, ◌++◌, length, Option, None, Some, refl, sym, ap, ap₂, ◌∙◌, subst, arith, append-nil}
+use Rattle.std.specs.Prelude.{◌==◌, ◌&&◌, true, false, Bool, if◌then◌else◌, IsSome, is_some, option_and_then, Result, Err, IfErr}
+use Rattle.std.specs.Option.{option_map_or, option_or}
+use Rattle.std.proofs.lemmas.List.Elements.{Contains-append_left}
+use Rattle.nx_host.specs.declared.disk.Disk.{Ghosts}
+use Rattle.nx_host.specs.Still.{IsStill}
+use Rattle.nx_tree.specs.declared.node.Node.{Node}
+use Rattle.nx_tree.specs.declared.error.TreeError.{TreeError}
+use Rattle.nx_tree.specs.declared.error.TreeError.TheVariants as tree
+use Rattle.nx_tree.specs.Forest.{OrderedTree, nodes}
+use Rattle.nx_tree.specs.Document.{IsDocument, is_element}
+use Rattle.nx_tree.specs.Edit.{at, cut_at, delete_refusal}
+use Rattle.nx_tree.proofs.KeptLemmas.{document_cut}
+use Rattle.nx_holdings.specs.Holdings.{Held}
+use Rattle.nx_holdings.specs.declared.header.Settings.{Settings}
+use Rattle.nx_records.specs.declared.records.Records.{Records}
+use Rattle.nx_records.specs.declared.error.StoreError.{StoreError}
+use Rattle.nx_records.specs.declared.error.StoreError.TheVariants as store
+use Rattle.nx_records.specs.Records.{has_ended, KeepsSaved, LeavesRecords}
+use Rattle.nx_records.proofs.LeaveLemmas.{leaves_runs, leaves_saved, leaves_stand}
+use Rattle.nx_records.specs.Refusals.{RunsOn}
+use Rattle.nx_piece.specs.declared.piece.Proxy.{Proxy}
+use Rattle.nx_cuts.specs.Cut.{CutForest, CutTree, Bare, Grown, Kept, forest, tree_of, AreParts}
+use Rattle.nx_layouts.specs.Layout.{RecordPlace, Layout, AreHeld, ArePlacedOnce, places_of, proxies_of, proxy_of, without_places, whole, IsLaidOutAs}
+use Rattle.nx_hold.specs.declared.entry.DocEntry.{DocEntry}
+use Rattle.nx_hold.specs.Changes.{place_of, place_named, ComesTidy}
+use Rattle.nx_hold.specs.Pieces.{PieceMap}
+use Rattle.nx_hold.specs.Documents.{HasDocument, MovesRecords}
+use Rattle.nx_hold.proofs.RefusalLemmas.{runs_then, saved_then}
+use Rattle.nx_nav.specs.declared.error.NavError.{NavError}
+use Rattle.nx_nav.specs.declared.error.NavError.TheVariants as nav
+use Rattle.nx_nav.specs.declared.finding.Shown.{Shown}
+use Rattle.nx_nav.specs.Refusals.{OfEach, HoldsNoDocument, IsRefused}
+use Rattle.nx_nav.specs.Shows.{ShowsNode}
+use Rattle.nx_state.specs.State.{document_size}
+use Rattle.nx_drawn.specs.Edits.{deleted}
+use Rattle.nx_drawn.specs.Splits.{whole_document as whole_row}
+use Rattle.nx_drawn.proofs.EditLemmas.{tree-deleted}
+use Rattle.nx_drawn.proofs.BareLemmas.{parts_bare}
+use Rattle.nx_edit.specs.declared.error.EditError.{EditError}
+use Rattle.nx_edit.specs.declared.error.EditError.TheVariants as error
+use Rattle.nx_edit.specs.Removing.{document_places, OfEntry, HasNone}
+use Rattle.nx_edit.specs.Editing.{places_off, IsEdited, EditsDocument}
+use Rattle.nx_edit.specs.Refusals.{refused_by, deletion_fault, is_of_path, edit_needs, edit_error, seen_error, LeavesLastCommit, NotEdited}
+use Rattle.nx_edit.specs.Rows.{row_nodes, deleted_row, IsHeldInterval, IsReplaced, left_of, left_needs, IsLeftOf, DeletesIn, NotDeletedIn}
+use Rattle.nx_edit.proofs.RemoveLemmas.{later_rose, ends_behind}
+
+-- the error that a `?` hands on
+pub handed_on : {T E : Type 0} (r : Result T E) (P : E → Type 0) (e : E) → (y : E) × (r ≡ Err y) × (y ≡ e) → P e → IfErr r P
+handed_on r P e p h = subst (λ x. IfErr x P) (sym p.1) (subst P (sym p.2) h)
+
+-- What goes from a document goes from the row of its root's interval.
+deleted_is_row : (path : List ℕ) (document : CutTree) → (path ≡ [] → ⊥) → deleted_row (0 ∷ path) (whole_row document) ≡ whole_row (deleted path document)
+deleted_is_row [] document some = absurd (some refl)
+deleted_is_row (position ∷ path) document some = refl
+
+-- Why the tree at a path can't go:
+
+pub fault_nowhere : (path : List ℕ) (t : OrderedTree) → (path ≡ [] → ⊥) → at t path ≡ None → deletion_fault path t ≡ Some error.NoNode
+fault_nowhere [] t some none = absurd (some refl)
+fault_nowhere (p ∷ path) t some none =
+    subst (λ (o : Option OrderedTree). option_and_then refused_by (option_or (if is_some o then None else Some tree.NoNode) (if (length (p ∷ path) == 1) && option_map_or (λ x. is_element x.node.kind) o false then Some tree.BadPlace else None)) ≡ Some error.NoNode)
+    (sym none) refl
+
+-- a test of the node there says whether it can
+pub refusal_there : (path : List ℕ) (t x : OrderedTree) → (path ≡ [] → ⊥) → at t path ≡ Some x → delete_refusal path t ≡ (if (length path == 1) && is_element x.node.kind then Some tree.BadPlace else None)
+refusal_there [] t x some there = absurd (some refl)
+refusal_there (p ∷ path) t x some there =
+    subst (λ (o : Option OrderedTree). option_or (if is_some o then None else Some tree.NoNode) (if (length (p ∷ path) == 1) && option_map_or (λ y. is_element y.node.kind) o false then Some tree.BadPlace else None)
+    ≡ (if (length (p ∷ path) == 1) && is_element x.node.kind then Some tree.BadPlace else None))
+    (sym there) refl
+
+pub chosen : (b : Bool) (e : Option TreeError) → b ≡ true → (if b then e else None) ≡ e
+chosen b e is = subst (λ (c : Bool). (if c then e else None) ≡ e) (sym is) refl
+
+pub not_chosen : (b : Bool) (e : Option TreeError) → b ≡ false → (if b then e else None) ≡ None
+not_chosen b e is = subst (λ (c : Bool). (if c then e else None) ≡ None) (sym is) refl
+
+-- Whole documents as rows:
+
+abbrev first_of : Proxy → List Proxy → Proxy
+first_of other [] = other
+first_of other (p ∷ ps) = p
+
+head_same : (a b : Proxy) → a ∷ [] ≡ b ∷ [] → a ≡ b
+head_same a b e = ap (first_of a) e
+
+-- The layout of a row that is a whole document's.
+pub record IsWhole (row : Layout) (document : CutTree) : Type 0 where
+  pub place : RecordPlace
+  pub below : Layout
+  pub is : row ≡ whole place document.node below
+  pub same : without_places below ≡ document.below
+
+abbrev kept_members : CutForest → CutForest
+kept_members Bare = Bare
+kept_members (Grown node below beside) = Bare
+kept_members (Kept mark members beside) = members
+
+abbrev kept_beside : CutForest → CutForest
+kept_beside Bare = Bare
+kept_beside (Grown node below beside) = Bare
+kept_beside (Kept mark members beside) = beside
+
+abbrev grown_below : CutForest → CutForest
+grown_below Bare = Bare
+grown_below (Grown node below beside) = below
+grown_below (Kept mark members beside) = Bare
+
+abbrev grown_beside : CutForest → CutForest
+grown_beside Bare = Bare
+grown_beside (Grown node below beside) = beside
+grown_beside (Kept mark members beside) = Bare
+
+abbrev grown_node : Node → CutForest → Node
+grown_node other Bare = other
+grown_node other (Grown node below beside) = node
+grown_node other (Kept mark members beside) = other
+
+bare_without : (a : Layout) → without_places a ≡ Bare → a ≡ Bare
+bare_without Bare e = refl
+bare_without (Grown node below beside) e = absurd (cc)
+bare_without (Kept place members beside) e = absurd (cc)
+
+grown_without : (a : Layout) (node : Node) (below : CutForest) → without_places a ≡ Grown node below Bare → (b : Layout) × (a ≡ Grown node b Bare) × (without_places b ≡ below)
+grown_without Bare node below e = absurd (cc)
+grown_without (Grown n b s) node below e =
+    let bare : s ≡ Bare = bare_without s (ap grown_beside e) in
+    (b, ap₂ (λ (m : Node) (r : Layout). Grown m b r) (ap (grown_node node) e) bare, ap grown_below e)
+grown_without (Kept p m s) node below e = absurd (cc)
+
+pub is_whole : (row : Layout) (document : CutTree) → without_places row ≡ whole_row document → IsWhole row document
+is_whole Bare document e = absurd (cc)
+is_whole (Grown n b s) document e = absurd (cc)
+is_whole (Kept p m s) document e =
+    let inner = grown_without m document.node document.below (ap kept_members e) in
+    record {
+      place = p;
+      below = inner.0;
+      is = ap₂ (λ (a b : Layout). Kept p a b) inner.1 (bare_without s (ap kept_beside e));
+      same = inner.2;
+    }
+
+-- a document laid out in records, with a path that leads somewhere
+module _ (was : Held) (pieces : PieceMap was) (entry : DocEntry) (path : List ℕ) (document : CutTree) (layout : Layout) (laid : IsLaidOutAs (was.settings).k pieces.piece_at (place_of entry.root) document layout) (counted : entry.nodes ≡ document_size document) where
+  abbrev root_row : Layout
+  root_row = Grown document.node layout Bare
+
+  root_nodes : row_nodes (without_places root_row) ≡ document_size document
+  root_nodes =
+      let e : nodes (forest (without_places layout)) ≡ nodes (forest document.below) = ap (λ (c : CutForest). nodes (forest c)) laid.same in
+      omega (arith, e)
+
+  pub root_interval : (x : OrderedTree) → at (tree_of document) path ≡ Some x → IsHeldInterval was pieces None (place_of entry.root) 0 path entry.nodes root_row
+  root_interval x there = record {
+    is = tt;
+    held = laid.held;
+    once = laid.once;
+    light = laid.light;
+    leads = subst (λ (c : CutForest). IsSome (at (record { node = document.node; below = forest c }) path)) (sym laid.same) (subst IsSome (sym there) refl);
+    few = omega (arith, root_nodes, counted);
+  }
+
+  parts_below : AreParts (was.settings).k document.below
+  parts_below = subst (AreParts (was.settings).k) laid.same (parts_bare (was.settings).k layout laid.light.3.0)
+
+  tree_left : tree_of (deleted path document) ≡ cut_at path (tree_of document)
+  tree_left = tree-deleted (was.settings).k path document parts_below
+
+  row_left : (path ≡ [] → ⊥) → left_of 0 path root_row ≡ whole_row (deleted path document)
+  row_left some =
+      subst (λ (c : CutForest). deleted_row (0 ∷ path) (Kept tt (Grown document.node c Bare) Bare) ≡ whole_row (deleted path document)) (sym laid.same) (deleted_is_row path document some)
+
+  whole_nodes : (t : CutTree) → row_nodes (whole_row t) ≡ document_size t
+  whole_nodes t = omega arith
+
+  pub root_needs : (path ≡ [] → ⊥) → left_needs 0 path root_row ≡ edit_needs (cut_at path) document
+  root_needs some =
+      let left : row_nodes (left_of 0 path root_row) ≡ document_size (deleted path document) = ap row_nodes (row_left some) ∙ whole_nodes (deleted path document) in
+      let cut : nodes (forest (deleted path document).below) ≡ nodes (cut_at path (tree_of document)).below = ap (λ (t : OrderedTree). nodes t.below) tree_left in
+      omega (arith, left, cut, root_nodes)
+
+  module _ (some : path ≡ [] → ⊥) (free : delete_refusal path (tree_of document) ≡ None) (gone : ℕ) (proxies : List Proxy) (now : Held)
+      (r : IsReplaced (was.settings).k (IsLeftOf 0 path gone root_row) (place_of entry.root) root_row (places_off false (0 ∷ path) root_row) proxies was now) where
+    pub row_whole : IsWhole r.row (deleted path document)
+    row_whole = is_whole r.row (deleted path document) ((r.becomes).0 ∙ row_left some)
+
+    proxies_whole : proxies ≡ proxy_of row_whole.place 1 ∷ []
+    proxies_whole = r.proxies_are ∙ ap (λ (l : Layout). proxies_of l) row_whole.is
+
+    pub not_none : proxies ≡ [] → ⊥
+    not_none none = let e : proxy_of row_whole.place 1 ∷ [] ≡ [] = sym proxies_whole ∙ none in absurd (cc)
+
+    pub edited_to : (proxy : Proxy) (new : DocEntry) → proxies ≡ proxy ∷ [] → place_of new.root ≡ place_named proxy → new.nodes ≡ entry.nodes - gone → IsEdited (λ edited. edited ≡ deleted path document) (document_size document) (document_places entry document layout) (places_off false path layout) new was now
+    edited_to proxy new one place count =
+        let top : proxy ≡ proxy_of row_whole.place 1 = head_same proxy (proxy_of row_whole.place 1) (sym one ∙ proxies_whole) in
+        let at_root : row_whole.place ≡ place_of new.root = sym (place ∙ ap place_named top) in
+        let is : r.row ≡ whole (place_of new.root) (deleted path document).node row_whole.below =
+        row_whole.is ∙ ap (λ (p : RecordPlace). whole p (deleted path document).node row_whole.below) at_root in
+        let nodes_left : row_nodes (without_places r.row) ≡ document_size (deleted path document) = ap row_nodes ((r.becomes).0 ∙ row_left some) ∙ whole_nodes (deleted path document) in
+        let needs : row_nodes (without_places root_row) + 2 * row_nodes (without_places r.row) ≡ document_size document + 2 * document_size (deleted path document) = omega (arith, nodes_left, root_nodes) in
+        let moves = r.moves in
+        record {
+          document = deleted path document;
+          becomes = refl;
+          layout = row_whole.below;
+          laid = λ after. record {
+            same = row_whole.same;
+            held = subst (λ (l : Layout). AreHeld after.piece_at l) is (r.held after);
+            once = subst (λ (l : Layout). ArePlacedOnce (places_of l)) is r.once;
+            light = subst (λ (s : Settings). AreParts s.k (whole (place_of new.root) (deleted path document).node row_whole.below)) (sym moves.settings) (subst (AreParts (was.settings).k) is r.light);
+            is_document = subst IsDocument (sym tree_left) (document_cut path (tree_of document) laid.is_document free);
+          };
+          counted = omega (arith, count, (r.becomes).1, nodes_left, root_nodes, counted);
+          moves =
+              subst (λ (n : ℕ). MovesRecords (document_places entry document layout) (document_places new (deleted path document) row_whole.below) n was now) needs
+              (subst (λ (l : Layout). MovesRecords (document_places entry document layout) (places_of l) (row_nodes (without_places root_row) + 2 * row_nodes (without_places r.row)) was now) is
+              (subst (λ (ps : List RecordPlace). MovesRecords (place_of entry.root ∷ ps) (places_of r.row) (row_nodes (without_places root_row) + 2 * row_nodes (without_places r.row)) was now) (sym (append-nil (places_of layout ++ []))) moves));
+          records_stay = λ other among. r.records_stay other (Contains-append_left (places_off false path layout) [] other among);
+          lists_stay = λ other count chain among. r.lists_stay other count chain (Contains-append_left (places_off false path layout) [] other among);
+        }
+
+-- the call of delete, behind the look at the document
+module _ {D : Type 0} (d : Ghosts D) (entry : DocEntry) (path : List ℕ) (some : path ≡ [] → ⊥) (r0 r1 : Records) (x0 x1 : D) (still : IsStill d x0 x1) where
+  abbrev pub NotDeleted : EditError → Records → D → Type 0
+  NotDeleted e r x = NotEdited d is_of_path (deletion_fault path) (edit_needs (cut_at path)) entry e r0 r x0 x
+
+  left_same : has_ended r0 ≡ false → LeavesRecords r0 r1 → LeavesLastCommit d r0 r1 x0 x1
+  left_same runs leaves = (leaves_runs {r0 = r0} {r1 = r1} runs leaves, leaves_saved {d = d} {r0 = r0} {r1 = r1} leaves still)
+
+  pub look_refused : (e : NavError) → IsRefused d (OfEach d r0 x0 (place_of entry.root) (λ document. at (tree_of document) path ≡ None)) ⊥ (HoldsNoDocument d r0 x0 (place_of entry.root)) e r0 r1 x0 x1
+      → NotDeleted (seen_error e) r1 x1
+  look_refused nav.NoNode refused = (refl, left_same refused.1 refused.2, λ document has tidy counted. fault_nowhere path (tree_of document) some (refused.0 document has))
+  look_refused nav.Disk refused = refused
+  look_refused nav.Write refused = absurd refused.0
+  look_refused (nav.Damaged page) refused = (refused.1, λ document has tidy counted. refused.0 document has)
+  look_refused nav.Ended refused = refused
+  look_refused nav.Memory refused = left_same refused.0 refused.1
+
+  module _ (runs : has_ended r0 ≡ false) (leaves : LeavesRecords r0 r1) (shown : Shown) (shows : OfEach d r0 x0 (place_of entry.root) (λ document. ShowsNode (tree_of document) path shown)) where
+    refusal_shown : (document : CutTree) → HasDocument d r0 x0 (place_of entry.root) document → delete_refusal path (tree_of document) ≡ (if (length path == 1) && is_element shown.node.kind then Some tree.BadPlace else None)
+    refusal_shown document has =
+        let there = shows document has in
+        refusal_there path (tree_of document) there.0 some there.1
+        ∙ ap (λ (n : Node). if (length path == 1) && is_element n.kind then Some tree.BadPlace else None) (sym there.2)
+
+    pub root_refused : ((length path == 1) && is_element shown.node.kind) ≡ true → NotDeleted error.BadPlace r1 x1
+    root_refused is = (refl, left_same runs leaves, λ document has tidy counted. ap (option_and_then refused_by) (refusal_shown document has ∙ chosen _ (Some tree.BadPlace) is))
+
+    module _ (not : ((length path == 1) && is_element shown.node.kind) ≡ false) where
+      refusal_none : (document : CutTree) → HasDocument d r0 x0 (place_of entry.root) document → delete_refusal path (tree_of document) ≡ None
+      refusal_none document has = refusal_shown document has ∙ not_chosen _ (Some tree.BadPlace) not
+
+      pub delete_allowed : OfEntry d r0 x0 entry (λ now document. deletion_fault path (tree_of document) ≡ None)
+      delete_allowed document has tidy counted = ap (option_and_then refused_by) (refusal_none document has)
+
+      interval_of : (document : CutTree) (has : HasDocument d r0 x0 (place_of entry.root) document) → entry.nodes ≡ document_size document
+          → IsHeldInterval has.now has.pieces None (place_of entry.root) 0 path entry.nodes (Grown document.node (has.laid).layout Bare)
+      interval_of document has counted =
+          let there = shows document has in
+          root_interval has.now has.pieces entry path document (has.laid).layout (has.laid).laid counted there.0 there.1
+
+      module _ (r2 : Records) (x2 : D) where
+        pub in_refused : (e : StoreError) → NotDeletedIn d None (place_of entry.root) 0 path entry.nodes e r1 r2 x1 x2 → NotDeleted (edit_error e) r2 x2
+        in_refused store.Disk refused = (later_rose (d.faults x0) (d.faults x1) (d.faults x2) still.faults_later refused.0, ends_behind {r0 = r0} {r1 = r1} {r2 = r2} (left_same runs leaves).0 refused.1)
+        in_refused store.Full refused = record {
+          runs = runs_then {r0 = r0} {r1 = r1} {r2 = r2} (left_same runs leaves).0 refused.runs;
+          keeps = saved_then {d = d} {r0 = r0} {r1 = r1} {r2 = r2} {x0 = x0} {x1 = x1} {x2 = x2} (left_same runs leaves).1 refused.keeps;
+          none_free = refused.none_free;
+          few = λ document has tidy counted. (
+            delete_allowed document has tidy counted,
+            subst (λ (n : ℕ). (has.now).free < n) (root_needs has.now has.pieces entry path document (has.laid).layout (has.laid).laid counted some)
+                (refused.few has.saved has.now has.pieces (Grown document.node (has.laid).layout Bare) (leaves_stand {d = d} {r0 = r0} {r1 = r1} leaves still has.stands) tidy (interval_of document has counted)),
+          );
+        }
+        in_refused (store.Damaged page) refused = (
+          ends_behind {r0 = r0} {r1 = r1} {r2 = r2} (left_same runs leaves).0 refused.0,
+          λ document has tidy counted.
+              refused.1 has.saved has.now has.pieces (Grown document.node (has.laid).layout Bare) (leaves_stand {d = d} {r0 = r0} {r1 = r1} leaves still has.stands) tidy (interval_of document has counted),
+        )
+        in_refused store.Memory refused = (
+          runs_then {r0 = r0} {r1 = r1} {r2 = r2} (left_same runs leaves).0 refused.0,
+          saved_then {d = d} {r0 = r0} {r1 = r1} {r2 = r2} {x0 = x0} {x1 = x1} {x2 = x2} (left_same runs leaves).1 refused.1,
+        )
+        in_refused store.Ended refused = absurd refused
+        in_refused store.Exists refused = absurd refused
+        in_refused store.NotAStore refused = absurd refused
+
+        module _ (gone : ℕ) (proxies : List Proxy) (comes : ComesTidy d r1 r2 x1 x2 (DeletesIn None (place_of entry.root) 0 path entry.nodes gone proxies)) where
+          -- nothing is left of no document of the entry
+          pub in_none : proxies ≡ [] → HasNone d r0 x0 entry
+          in_none none document has tidy counted =
+              let next = comes has.saved has.now (leaves_stand {d = d} {r0 = r0} {r1 = r1} leaves still has.stands) tidy in
+              not_none has.now has.pieces entry path document (has.laid).layout (has.laid).laid counted some (refusal_none document has) gone proxies next.0
+              (next.3 has.pieces (Grown document.node (has.laid).layout Bare) (interval_of document has counted)) none
+
+          pub in_done : (proxy : Proxy) (new : DocEntry) → proxies ≡ proxy ∷ [] → place_of new.root ≡ place_named proxy → new.nodes ≡ entry.nodes - gone
+              → ComesTidy d r0 r2 x0 x2 (EditsDocument (λ document edited. edited ≡ deleted path document) false path entry new)
+          in_done proxy new one place count saved now stands tidy =
+              let next = comes saved now (leaves_stand {d = d} {r0 = r0} {r1 = r1} leaves still stands) tidy in (
+                next.0,
+                next.1,
+                next.2,
+                λ pieces document layout laid counted.
+                    let has : HasDocument d r0 x0 (place_of entry.root) document = record { saved = saved; now = now; stands = stands; pieces = pieces; laid = record { layout = layout; laid = laid } } in
+                    edited_to now pieces entry path document layout laid counted some (refusal_none document has) gone proxies next.0
+                    (next.3 pieces (Grown document.node layout Bare) (interval_of document has counted)) proxy new one place count,
+              )
+
+          pub in_keeps : RunsOn r1 r2 → KeepsSaved d r1 r2 x1 x2 → RunsOn r0 r2 × KeepsSaved d r0 r2 x0 x2
+          in_keeps on keeps = (
+            runs_then {r0 = r0} {r1 = r1} {r2 = r2} (left_same runs leaves).0 on,
+            saved_then {d = d} {r0 = r0} {r1 = r1} {r2 = r2} {x0 = x0} {x1 = x1} {x2 = x2} (left_same runs leaves).1 keeps,
+          )

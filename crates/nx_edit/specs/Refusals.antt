@@ -1,0 +1,88 @@
+-- Why an edit of a document is refused, and what it leaves.
+use Rattle.std.specs.Prelude.{◌≡◌, ◌<◌, ℕ, ◌+◌, ◌*◌, Bool, true, false, List, Option, None, Some, option_and_then}
+use Rattle.nx_host.specs.Disk.{Rose}
+use Rattle.nx_host.specs.declared.disk.Disk.{Ghosts}
+use Rattle.nx_tree.specs.declared.error.TreeError.{TreeError}
+use Rattle.nx_tree.specs.declared.error.TreeError.TheVariants as tree
+use Rattle.nx_tree.specs.Forest.{OrderedTree, nodes}
+use Rattle.nx_tree.specs.Edit.{delete_refusal}
+use Rattle.nx_records.specs.Records.{has_free, KeepsSaved}
+use Rattle.nx_records.specs.Refusals.{EndNow, RunsOn, HadEnded}
+use Rattle.nx_records.specs.declared.records.Records.{Records}
+use Rattle.nx_records.specs.declared.error.StoreError.{StoreError}
+use Rattle.nx_records.specs.declared.error.StoreError.TheVariants as store
+use Rattle.nx_cuts.specs.Cut.{CutTree, tree_of}
+use Rattle.nx_hold.specs.declared.entry.DocEntry.{DocEntry}
+use Rattle.nx_state.specs.State.{document_size}
+use Rattle.nx_nav.specs.declared.error.NavError.{NavError}
+use Rattle.nx_nav.specs.declared.error.NavError.TheVariants as nav
+use Rattle.nx_edit.specs.declared.error.EditError.{EditError}
+use Rattle.nx_edit.specs.declared.error.EditError.TheVariants as error
+use Rattle.nx_edit.specs.Removing.{OfEntry, HasNone}
+
+-- a refusal of an edit of a tree; want of memory is none
+abbrev pub refused_by : TreeError → Option EditError
+refused_by tree.NoNode = Some error.NoNode
+refused_by tree.BadPlace = Some error.BadPlace
+refused_by tree.Twice = Some error.Twice
+refused_by tree.NoContent = Some error.NoContent
+refused_by tree.TooDeep = Some error.TooDeep
+refused_by tree.TooMany = Some error.TooMany
+refused_by tree.Memory = None
+
+-- why the tree at the path of a document can't be taken away, the first reason that applies
+abbrev pub deletion_fault : List ℕ → OrderedTree → Option EditError
+deletion_fault path t = option_and_then refused_by (delete_refusal path t)
+
+-- whether `delete` refuses a path for this reason
+abbrev pub is_of_path : EditError → Bool
+is_of_path error.NoNode = true
+is_of_path error.BadPlace = true
+is_of_path _ = false
+
+-- how many pages an edit may need that changes the tree so: one for each node before it, and two for each behind it
+abbrev pub edit_needs : (OrderedTree → OrderedTree) → CutTree → ℕ
+edit_needs change document = document_size document + 2 * (1 + nodes (change (tree_of document)).below)
+
+-- No page is free now; of a document of the entry nothing else forbids the edit, and fewer pages were free than it may need.
+pub record FindsFew {D : Type 0} (d : Ghosts D) (fault : OrderedTree → Option EditError) (needs : CutTree → ℕ) (entry : DocEntry) (old new : Records) (before after : D) : Type 0 where
+  pub runs : RunsOn old new
+  pub keeps : KeepsSaved d old new before after
+  pub none_free : has_free new ≡ false
+  pub few : OfEntry d old before entry (λ now document. (fault (tree_of document) ≡ None) × (now.free < needs document))
+
+-- what the last commit holds is left
+abbrev pub LeavesLastCommit : {D : Type 0} → Ghosts D → Records → Records → D → D → Type 0
+LeavesLastCommit d old new before after = RunsOn old new × KeepsSaved d old new before after
+
+-- each document of the entry has this fault
+abbrev pub IsAtFault : {D : Type 0} → Ghosts D → (OrderedTree → Option EditError) → DocEntry → EditError → Records → D → Type 0
+IsAtFault d fault entry e records disk = OfEntry d records disk entry (λ now document. fault (tree_of document) ≡ Some e)
+
+-- Why an edit wasn't made, and what it leaves: a refusal of the path, one of those that can come, comes only where this is the document's fault.
+abbrev pub NotEdited : {D : Type 0} → Ghosts D → (can : EditError → Bool) → (fault : OrderedTree → Option EditError) → (needs : CutTree → ℕ) → DocEntry → EditError → Records → Records → D → D → Type 0
+NotEdited d can fault needs entry error.Disk old new before after = Rose (d.faults before) (d.faults after) × EndNow old new
+NotEdited d can fault needs entry error.Full old new before after = FindsFew d fault needs entry old new before after
+NotEdited d can fault needs entry (error.Damaged page) old new before after = EndNow old new × HasNone d old before entry
+NotEdited d can fault needs entry error.Ended old new before after = HadEnded old new before after
+NotEdited d can fault needs entry error.Memory old new before after = LeavesLastCommit d old new before after
+NotEdited d can fault needs entry e old new before after = (can e ≡ true) × LeavesLastCommit d old new before after × IsAtFault d fault entry e old before
+
+-- the refusal of a call on one record
+abbrev pub edit_error : StoreError → EditError
+edit_error store.Disk = error.Disk
+edit_error store.Full = error.Full
+edit_error (store.Damaged page) = error.Damaged page
+edit_error store.Ended = error.Ended
+edit_error store.Memory = error.Memory
+edit_error store.Exists = error.Memory
+edit_error store.NotAStore = error.Memory
+
+-- the refusal of a look at the document
+abbrev pub seen_error : NavError → EditError
+seen_error nav.NoNode = error.NoNode
+seen_error nav.Disk = error.Disk
+seen_error nav.Write = error.Memory
+seen_error (nav.Damaged page) = error.Damaged page
+seen_error nav.Ended = error.Ended
+seen_error nav.Memory = error.Memory

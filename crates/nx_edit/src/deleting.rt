@@ -1,0 +1,82 @@
+// A tree of a document that is taken away.
+ghost use Rattle.std.specs.Prelude.{◌≡◌, ◌==◌, ◌&&◌, false, length, None, IfOk, IfErr, OnOk};
+ghost use Rattle.nx_host.specs.Still.{IsStill};
+ghost use Rattle.nx_tree.specs.Document.{is_element};
+ghost use Rattle.nx_tree.specs.Edit.{cut_at};
+ghost use Rattle.nx_records.specs.Records.{KeepsSaved, HasChanges, has_ended};
+ghost use Rattle.nx_records.specs.Refusals.{RunsOn, EndNow};
+ghost use Rattle.nx_cuts.specs.Cut.{tree_of};
+ghost use Rattle.nx_hold.specs.Changes.{ComesTidy};
+ghost use Rattle.nx_drawn.specs.Edits.{deleted};
+ghost use Rattle.nx_edit.specs.Removing.{OfEntry};
+ghost use Rattle.nx_edit.specs.Editing.{EditsDocument};
+ghost use Rattle.nx_edit.specs.Refusals.{NotEdited, deletion_fault, is_of_path, edit_needs};
+
+use crate::EditError;
+use crate::rows::delete_in;
+use nx_hold::DocEntry;
+use nx_host::Disk;
+use nx_nav::get;
+use nx_records::{Records, Rid};
+use nx_tree::Kind;
+use std::alloc::Global;
+
+/// Takes the tree at the path of the document away, and answers the document's new entry. An interval that loses its
+/// last member goes. Each record of the document stays, with its list, that holds neither a node on the way along the
+/// path nor one of that tree.
+///
+/// Errors: those of `delete_at` of `nx_tree`, in their order; `Full`, over sound pages that hold a document of the
+/// entry only where fewer pages were free than one for each node before, and two for each node behind; `Damaged`, only
+/// where the records hold no document of the entry, or lists that records name are missing or named twice; `Disk`, only
+/// where `faults` rose; `Ended` exactly where the records had ended; `Memory`. After each the caller calls `abandon`.
+pub fn delete<D: Disk>(
+    alloc: Global,
+    records: &mut Records,
+    disk: &mut D,
+    entry: DocEntry,
+    path: &[u32],
+) -> Result<DocEntry, EditError>
+    ensures still { IsStill D.Disk disk.old disk.new }
+    ensures allowed { OnOk result (OfEntry D.Disk records.old disk.old entry (λ now document. deletion_fault path.now (tree_of document) ≡ None)) }
+    ensures ok { IfOk result (λ new. ComesTidy D.Disk records.old records.new disk.old disk.new (EditsDocument (λ document edited. edited ≡ deleted path.now document) false path.now entry new)) }
+    ensures keeps { OnOk result (RunsOn records.old records.new × KeepsSaved D.Disk records.old records.new disk.old disk.new × HasChanges records.new) }
+    ensures refused { IfErr result (λ e. NotEdited D.Disk is_of_path (deletion_fault path.now) (edit_needs (cut_at path.now)) entry e records.old records.new disk.old disk.new) }
+{
+    if records.is_ended() {
+        return Err(EditError::Ended);
+    }
+    if path.is_empty() {
+        return Err(EditError::BadPlace);
+    }
+    let shown = get(alloc, records, disk, entry.root, path)?;
+    if is_root_element(path, shown.node.kind) {
+        return Err(EditError::BadPlace);
+    }
+    let taken = delete_in(alloc, records, disk, entry.root, 0, path, entry.nodes)?;
+    match taken.left {
+        None => Err(no_document(records, entry.root.page)),
+        Some(proxy) => Ok(DocEntry {
+            root: Rid {
+                page: proxy.page,
+                slot: proxy.slot,
+            },
+            nodes: entry.nodes - taken.gone,
+        }),
+    }
+}
+
+// Ends the records, and answers that a page is damaged.
+fn no_document(records: &mut Records, page: u32) -> EditError
+    ensures result { result ≡ EditError.Damaged page }
+    ensures ends { has_ended records.old ≡ false → EndNow records.old records.new }
+{
+    records.end();
+    EditError::Damaged { page }
+}
+
+// A node of this kind at the end of the path is the element below the root.
+fn is_root_element(path: &[u32], kind: Kind) -> bool
+    ensures { result ≡ ((length path.now == 1) && is_element kind) }
+{
+    path.len() == 1 && matches!(kind, Kind::Element)
+}
