@@ -19,10 +19,13 @@ use Rattle.nx_records.specs.declared.error.StoreError.{StoreError}
 use Rattle.nx_records.specs.declared.error.StoreError.TheVariants as below
 use Rattle.nx_catalog.specs.declared.saving.RuleError.{RuleError}
 use Rattle.nx_catalog.specs.declared.saving.RuleError.TheVariants as rule
+use Rattle.nx_edit.specs.declared.error.EditError.{EditError}
+use Rattle.nx_edit.specs.declared.error.EditError.TheVariants as edit
 use Rattle.nx_store.specs.Carried.{StoreStep}
 use Rattle.nx_store.specs.Store.{longest_log, GoesOn, IsAt, IsOfEither, Shows, ShowsBegun, IsApplied, NotApplied}
 use Rattle.nx_store.specs.Loading.{IsStoreLeft, reply_of, HasReplyText, IsToldOrNot, IsRefusal}
 use Rattle.nx_store.specs.Changing.{Prepares, StepsRefused, NotPrepared, RuleNotPrepared, IsRuleRefusal}
+use Rattle.nx_store.specs.Editing.{edit_reply, EditNotPrepared, IsEditRefusal}
 use Rattle.nx_store.specs.declared.store.Store.{Store}
 use Rattle.nx_store.specs.declared.error.EngineError.{EngineError}
 use Rattle.nx_store.specs.declared.error.EngineError.TheVariants as error
@@ -98,6 +101,20 @@ module _ {D : Type 0} (d : Ghosts D) (command : Command) (other : command ≢ Ch
     rule_applied (rule.Store below.Exists) r is why state at = absurd why
     rule_applied (rule.Store below.NotAStore) r is why state at = absurd why
 
+    pub edit_applied : (path : List ℕ) (e : EditError) (r : Result (Reply × List ℕ) EngineError) → IsEditRefusal path e r → EditNotPrepared d command path e s0 s1 x0 x1 → (state : State) → IsAt d s0 x0 state → IsApplied d (reply_of r) state command s2 x0 x1
+    edit_applied path edit.Memory r is why state at = refusal_applied below.Memory r is why state at
+    edit_applied path edit.Disk r is why state at = refusal_applied below.Disk r is why state at
+    edit_applied path (edit.Damaged page) r is why state at = refusal_applied (below.Damaged page) r is why state at
+    edit_applied path edit.Ended r is why state at = absurd why
+    edit_applied path edit.NoNode r is why state at = refused_left (edit_reply path edit.NoNode) r is why.0 why.1 state at
+    edit_applied path edit.BadPlace r is why state at = refused_left (edit_reply path edit.BadPlace) r is why.0 why.1 state at
+    edit_applied path edit.Twice r is why state at = refused_left (edit_reply path edit.Twice) r is why.0 why.1 state at
+    edit_applied path edit.NoContent r is why state at = refused_left (edit_reply path edit.NoContent) r is why.0 why.1 state at
+    edit_applied path edit.TooDeep r is why state at = refused_left (edit_reply path edit.TooDeep) r is why.0 why.1 state at
+    edit_applied path edit.TooMany r is why state at = refused_left (edit_reply path edit.TooMany) r is why.0 why.1 state at
+    edit_applied path (edit.TooHeavy weight) r is why state at = refused_left (edit_reply path (edit.TooHeavy weight)) r is why.0 why.1 state at
+    edit_applied path edit.Full r is why state at = refused_left (edit_reply path edit.Full) r is why.0 why.1 state at
+
     told_ok : (e : ReplyError) (r : Result (Reply × List ℕ) EngineError) → IsToldOrNot (reply.Refused e) r → IsStoreLeft d s0 s1 x0 x1 → IfOk r (λ answer. GoesOn s0 s2 × HasReplyText answer)
     told_ok e (Ok answer) is left = (stays_on left, subst (λ (a : Reply × List ℕ). HasReplyText a) (sym is) refl)
     told_ok e (Err x) is left = tt
@@ -121,6 +138,20 @@ module _ {D : Type 0} (d : Ghosts D) (command : Command) (other : command ≢ Ch
     rule_ok (rule.Store below.Exists) r is why = absurd why
     rule_ok (rule.Store below.NotAStore) r is why = absurd why
 
+    pub edit_ok : (path : List ℕ) (e : EditError) (r : Result (Reply × List ℕ) EngineError) → IsEditRefusal path e r → EditNotPrepared d command path e s0 s1 x0 x1 → IfOk r (λ answer. GoesOn s0 s2 × HasReplyText answer)
+    edit_ok path edit.Memory r is why = refusal_ok below.Memory r is why
+    edit_ok path edit.Disk r is why = refusal_ok below.Disk r is why
+    edit_ok path (edit.Damaged page) r is why = refusal_ok (below.Damaged page) r is why
+    edit_ok path edit.Ended r is why = absurd why
+    edit_ok path edit.NoNode r is why = told_ok (edit_reply path edit.NoNode) r is why.0
+    edit_ok path edit.BadPlace r is why = told_ok (edit_reply path edit.BadPlace) r is why.0
+    edit_ok path edit.Twice r is why = told_ok (edit_reply path edit.Twice) r is why.0
+    edit_ok path edit.NoContent r is why = told_ok (edit_reply path edit.NoContent) r is why.0
+    edit_ok path edit.TooDeep r is why = told_ok (edit_reply path edit.TooDeep) r is why.0
+    edit_ok path edit.TooMany r is why = told_ok (edit_reply path edit.TooMany) r is why.0
+    edit_ok path (edit.TooHeavy weight) r is why = told_ok (edit_reply path (edit.TooHeavy weight)) r is why.0
+    edit_ok path edit.Full r is why = told_ok (edit_reply path edit.Full) r is why.0
+
     told_refused : (e : ReplyError) (r : Result (Reply × List ℕ) EngineError) → IsToldOrNot (reply.Refused e) r → IsStoreLeft d s0 s1 x0 x1 → IfErr r (λ y. NotApplied d y s0 s2 x0 x1)
     told_refused e (Ok answer) is left = tt
     told_refused e (Err x) is left = subst (λ (y : EngineError). NotApplied d y s0 s2 x0 x1) (sym is) (stays_on left)
@@ -143,3 +174,17 @@ module _ {D : Type 0} (d : Ghosts D) (command : Command) (other : command ≢ Ch
     rule_refused (rule.Store below.Ended) r is why = absurd why
     rule_refused (rule.Store below.Exists) r is why = absurd why
     rule_refused (rule.Store below.NotAStore) r is why = absurd why
+
+    pub edit_refused : (path : List ℕ) (e : EditError) (r : Result (Reply × List ℕ) EngineError) → IsEditRefusal path e r → EditNotPrepared d command path e s0 s1 x0 x1 → IfErr r (λ y. NotApplied d y s0 s2 x0 x1)
+    edit_refused path edit.Memory r is why = refusal_refused below.Memory r is why
+    edit_refused path edit.Disk r is why = refusal_refused below.Disk r is why
+    edit_refused path (edit.Damaged page) r is why = refusal_refused (below.Damaged page) r is why
+    edit_refused path edit.Ended r is why = absurd why
+    edit_refused path edit.NoNode r is why = told_refused (edit_reply path edit.NoNode) r is why.0
+    edit_refused path edit.BadPlace r is why = told_refused (edit_reply path edit.BadPlace) r is why.0
+    edit_refused path edit.Twice r is why = told_refused (edit_reply path edit.Twice) r is why.0
+    edit_refused path edit.NoContent r is why = told_refused (edit_reply path edit.NoContent) r is why.0
+    edit_refused path edit.TooDeep r is why = told_refused (edit_reply path edit.TooDeep) r is why.0
+    edit_refused path edit.TooMany r is why = told_refused (edit_reply path edit.TooMany) r is why.0
+    edit_refused path (edit.TooHeavy weight) r is why = told_refused (edit_reply path (edit.TooHeavy weight)) r is why.0
+    edit_refused path edit.Full r is why = told_refused (edit_reply path edit.Full) r is why.0

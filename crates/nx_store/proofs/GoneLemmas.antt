@@ -66,7 +66,7 @@ one_of P [] s after h = All-head P s after h
 one_of P (t ∷ before) s after h = one_of P before s after (All-tail P t (before ++ s ∷ after) h)
 
 -- a catalog that is no longer needs no page
-none_needed : (mid : Held) (bytes : List ℕ) → length bytes ≤ length mid.catalog → mid.free < catalog_needs bytes mid → ⊥
+pub none_needed : (mid : Held) (bytes : List ℕ) → length bytes ≤ length mid.catalog → mid.free < catalog_needs bytes mid → ⊥
 none_needed mid bytes short few = let less = fewer (length bytes) (length mid.catalog) short in omega (arith, few, less)
   where
     fewer : (m n : ℕ) → m ≤ n → chain_count m ≤ chain_count n
@@ -94,31 +94,31 @@ record IsGone (saved mid : Held) (state : State) (contents : Contents) (name : L
   pub settings : mid.settings ≡ saved.settings
 
 module _ {D : Type 0} (d : Ghosts D) (s0 : Store) (x0 : D) (state : State) (at : IsAt d s0 x0 state) (name : List ℕ) (entry : DocEntry) (there : get (s0.catalog).documents name ≡ Some entry) where
-  contents_at : (at.state_is).contents ≡ s0.catalog
+  pub contents_at : (at.state_is).contents ≡ s0.catalog
   contents_at = one_contents (at.held).catalog (at.state_is).contents s0.catalog (at.state_is).catalog at.catalog
 
-  entries_at : entries (s0.catalog).documents ≡ map (λ (s : StoredDocument). (s.name, s.entry)) (at.state_is).stored
+  pub entries_at : entries (s0.catalog).documents ≡ map (λ (s : StoredDocument). (s.name, s.entry)) (at.state_is).stored
   entries_at = ap (λ (c : Contents). entries c.documents) (sym contents_at) ∙ (at.state_is).names
 
-  the_one : (s : StoredDocument) × (found name (at.state_is).stored ≡ Some s) × (s.entry ≡ entry)
+  pub the_one : (s : StoredDocument) × (found name (at.state_is).stored ≡ Some s) × (s.entry ≡ entry)
   the_one = map_some (λ (s : StoredDocument). s.entry) (found name (at.state_is).stored) entry (sym (get_found (s0.catalog).documents (λ (s : StoredDocument). s.entry) name (at.state_is).stored entries_at) ∙ there)
 
-  place : IsAmong name (at.state_is).stored the_one.0
+  pub place : IsAmong name (at.state_is).stored the_one.0
   place = among name (at.state_is).stored the_one.0 the_one.1
 
-  shown_there : get state.documents name ≡ Some (the_one.0).document
+  pub shown_there : get state.documents name ≡ Some (the_one.0).document
   shown_there = get_found state.documents (λ (s : StoredDocument). s.document) name (at.state_is).stored (at.state_is).documents ∙ ap (option_map (λ (s : StoredDocument). s.document)) the_one.1
 
-  holds_between : HoldsDocuments at.held (place.before ++ the_one.0 ∷ place.after)
+  pub holds_between : HoldsDocuments at.held (place.before ++ the_one.0 ∷ place.after)
   holds_between = subst (HoldsDocuments at.held) place.are (at.state_is).holds
 
-  stored_one : IsStoredIn ((at.held).settings).k (holds_between.pieces).piece_at the_one.0
+  pub stored_one : IsStoredIn ((at.held).settings).k (holds_between.pieces).piece_at the_one.0
   stored_one = one_of (IsStoredIn ((at.held).settings).k (holds_between.pieces).piece_at) place.before the_one.0 place.after holds_between.each
 
-  -- there is a document of the entry
-  none_lacking : OfEntry d s0.records x0 entry (λ now document. ⊥) → ⊥
-  none_lacking each =
-      subst (λ (e : DocEntry). OfEntry d s0.records x0 e (λ now document. ⊥)) (sym the_one.2) each (the_one.0).document
+  -- what is said of each document of the entry is said of that one
+  pub told_entry : (P : Held → CutTree → Type 0) → OfEntry d s0.records x0 entry P → P at.held (the_one.0).document
+  told_entry P each =
+      subst (λ (e : DocEntry). OfEntry d s0.records x0 e P) (sym the_one.2) each (the_one.0).document
       (record { saved = at.held; now = at.held; stands = at.stands; pieces = holds_between.pieces; laid = record { layout = (the_one.0).layout; laid = stored_one.laid } }) holds_between.tidy stored_one.counted
 
   gone : (r1 : Records) (x1 : D) → ComesTidy d s0.records r1 x0 x1 (RemovesDocument entry) → (mid : Held) × StandsFor d r1 x1 at.held mid × IsGone at.held mid state s0.catalog name
@@ -187,7 +187,7 @@ module _ {D : Type 0} (d : Ghosts D) (s0 : Store) (x0 : D) (state : State) (at :
 module _ {D : Type 0} (d : Ghosts D) (s0 s1 : Store) (x0 x1 : D) (name : List ℕ) (entry : DocEntry) (runs : has_ended s0.records ≡ false) (there : get (s0.catalog).documents name ≡ Some entry) where
   pub stays_there : s1.catalog ≡ s0.catalog → (e : StoreError) → NotRemoved d entry e s0.records s1.records x0 x1 → NotPrepared d e s0 s1 x0 x1
   stays_there catalog below.Disk refused = (refused.0, ((refused.1).before, (refused.1).after))
-  stays_there catalog (below.Damaged page) refused = (((refused.0).before, (refused.0).after), λ state at. none_lacking d s0 x0 state at name entry there refused.1)
+  stays_there catalog (below.Damaged page) refused = (((refused.0).before, (refused.0).after), λ state at. told_entry d s0 x0 state at name entry there (λ now document. ⊥) refused.1)
   stays_there catalog below.Memory refused = record { runs = refused.0; saved = refused.1; catalog = catalog }
   stays_there catalog below.Ended refused = absurd (no_end s0.records runs refused.0)
   stays_there catalog below.Full refused = absurd refused

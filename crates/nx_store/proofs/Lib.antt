@@ -13,6 +13,7 @@ pub mod PlanLemmas
 pub mod NameLemmas
 pub mod OrderedLemmas
 pub mod GoneLemmas
+pub mod EditLemmas
 pub mod RoomLemmas
 pub mod LoadLemmas
 pub mod KeepLemmas

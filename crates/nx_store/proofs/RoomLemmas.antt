@@ -39,6 +39,16 @@ pub save_room : (nodes more records chains documents bytes was rules free limit 
 save_room nodes more records chains documents bytes was rules free limit whole few chained two short none =
     save_counts nodes more records chains documents bytes (chain_count bytes) (chain_count was) rules free limit whole few chained two (fills bytes) short none
 
+edit_counts : (all behind old new records chains documents bytes pages rules free limit : ℕ) → limit ≤ free + (1 + records + chains + pages) → records ≤ all → 254 * chains ≤ records → 2 * documents ≤ all
+    → 8184 * pages ≤ bytes + 8183 → bytes ≤ 8 + 267 * documents + 2053 * rules → old ≤ all → behind + old ≡ all + new → free < old + 2 * new → limit ≤ 3 * (all + behind) + rules + 8
+edit_counts all behind old new records chains documents bytes pages rules free limit whole few chained two filled short one counted none = omega (arith, whole, few, chained, two, filled, short, one, counted, none)
+
+-- ... or for an edit of a document
+pub edit_room : (all behind old new records chains documents bytes rules free limit : ℕ) → limit ≤ free + (1 + records + chains + chain_count bytes) → records ≤ all → 254 * chains ≤ records → 2 * documents ≤ all
+    → bytes ≤ 8 + 267 * documents + 2053 * rules → old ≤ all → behind + old ≡ all + new → free < old + 2 * new → limit ≤ 3 * (all + behind) + rules + 8
+edit_room all behind old new records chains documents bytes rules free limit whole few chained two short one counted none =
+    edit_counts all behind old new records chains documents bytes (chain_count bytes) rules free limit whole few chained two (fills bytes) short one counted none
+
 -- there are as many documents as a catalog can have
 pub count_room : (nodes more documents rules limit : ℕ) → limit ≤ 16777216 → 2 * documents ≤ nodes → 4294967295 ≤ documents → limit ≤ 3 * (nodes + (nodes + more)) + rules + 8
 count_room nodes more documents rules limit low two many = omega (arith, low, two, many)

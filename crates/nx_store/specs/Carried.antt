@@ -2,7 +2,7 @@
 use Rattle.std.specs.Prelude.{Bool, true, false}
 use Rattle.std.specs.Bool.{MatchBool}
 use Rattle.nx_script.specs.declared.command.Command.{Command}
-use Rattle.nx_script.specs.declared.command.Command.TheVariants.{Insert, Delete, Retext}
+use Rattle.nx_script.specs.declared.command.Command.TheVariants.{Insert, Retext}
 use Rattle.nx_script.specs.declared.reply.Reply.{Reply}
 use Rattle.nx_script.specs.declared.reply.ReplyError.TheVariants.{Syntax}
 use Rattle.nx_state.specs.State.{State}
@@ -12,7 +12,6 @@ use Rattle.nx_steps.specs.Step.{Step}
 -- a store carries the command out; one that it doesn't is answered as a line that is no command
 abbrev pub is_carried_out : Command → Bool
 is_carried_out (Insert name path said) = false
-is_carried_out (Delete name path) = false
 is_carried_out (Retext name path said) = false
 is_carried_out _ = true
 

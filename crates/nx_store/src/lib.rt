@@ -6,6 +6,7 @@
 
 mod asking;
 mod changing;
+mod editing;
 mod error;
 mod loading;
 mod store;

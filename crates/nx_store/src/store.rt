@@ -134,7 +134,8 @@ impl Store {
             Command::Load { name, body } => self.load(disk, name, body),
             Command::SetRule { rule } => self.set_rule(disk, &rule),
             Command::Discard { name } => self.discard(disk, &name),
-            Command::Insert { .. } | Command::Delete { .. } | Command::Retext { .. } => {
+            Command::Delete { name, path } => self.delete(disk, &name, path),
+            Command::Insert { .. } | Command::Retext { .. } => {
                 told(self.alloc, Reply::Refused(ReplyError::Syntax))
             }
             Command::Names

@@ -26,13 +26,14 @@ pub returns-in-Discard-clause-applies : goal.returns-in-Discard-clause-applies
 returns-in-Discard-clause-applies g c state at told =
     subst (λ (k : Command). IsApplied g.D.Disk (reply_of c.discard.result) state k c.discard.new.self c.args.disk.now c.discard.new.disk) (sym c.in-Discard.is) (c.discard.ensures.applies state at told)
 
+pub returns-in-Delete-clause-applies : goal.returns-in-Delete-clause-applies
+returns-in-Delete-clause-applies g c state at told =
+    subst (λ (k : Command). IsApplied g.D.Disk (reply_of c.delete.result) state k c.delete.new.self c.args.disk.now c.delete.new.disk) (sym c.in-Delete.is) (c.delete.ensures.applies state at told)
+
 pub returns-in-Insert-clause-applies : goal.returns-in-Insert-clause-applies
 returns-in-Insert-clause-applies g c state at told =
     let step : StoreStep state c.args.command (Refused Syntax) state = elim c.in-Insert.is [
       | inl q ↦ none_yet state c.args.command _ q.3 (refl, refl)
-      | inr q ↦ elim q [
-        | inl r ↦ none_yet state c.args.command _ r.2 (refl, refl)
-        | inr r ↦ none_yet state c.args.command _ r.3 (refl, refl)
-      ]
+      | inr q ↦ none_yet state c.args.command _ q.3 (refl, refl)
     ] in
     told_applied g.D.Disk c.args.self.now c.args.disk.now state c.args.command (Refused Syntax) c.told.result (changes_other c.args.command c.requires.may) c.told.ensures at step
