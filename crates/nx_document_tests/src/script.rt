@@ -110,6 +110,9 @@ fn command(alloc: Global, line: &[u8]) -> Result<Command, NoMemory> {
 
 // The command that these bytes begin with.
 fn first_command(alloc: Global, bytes: &[u8]) -> Result<Option<Command>, NoMemory> {
+    if bytes.is_empty() {
+        return Ok(None);
+    }
     let (_, command) = Parser::new(alloc).take(bytes)?;
     Ok(command)
 }

@@ -94,6 +94,6 @@ pub fn sync(host: &mut DisklessHost, area: Area) -> Result<(), Failed> {
     host.sync(area)
 }
 
-pub fn write_at(host: &mut DisklessHost, area: Area, bytes: &[u8]) -> Result<(), Failed> {
-    host.write_at(area, 0, bytes)
+pub fn write_some(host: &mut DisklessHost, area: Area) -> Result<(), Failed> {
+    host.write_at(area, 0, b"page")
 }

@@ -1,7 +1,7 @@
 // Runs of `tidy`, words that are no command, and the hosts themselves.
 use crate::driven::{
     check_failing, check_run, emit, endless_status, host_of, length, read, read_in, status_of,
-    sync, words_of, write_at,
+    sync, words_of, write_some,
 };
 use crate::endless::EndlessHost;
 use crate::host::{Counts, DisklessHost};
@@ -222,7 +222,7 @@ fn a_host_has_no_room(rt: HostRuntime) -> Result<(), Fail> {
     assert_eq!(rt; length(&mut host, Area::Pages), Ok(0));
     assert_eq!(rt; read(&mut host, Area::Log, &mut [0u8; 4]), Ok(0));
     assert_eq!(rt; sync(&mut host, Area::Log), Ok(()));
-    assert_eq!(rt; write_at(&mut host, Area::Pages, b"page"), Err(Failed));
+    assert_eq!(rt; write_some(&mut host, Area::Pages), Err(Failed));
     let expected = Counts {
         faults: 1,
         reads: 1,
@@ -240,7 +240,7 @@ fn check_calls(rt: &impl Abort, host: &mut DisklessHost, number: u64) {
     assert_eq!(rt; length(host, Area::Log).is_err(), number == 3);
     assert_eq!(rt; read(host, Area::Log, &mut room).is_err(), number == 4);
     assert_eq!(rt; sync(host, Area::Pages).is_err(), number == 5);
-    assert!(rt; write_at(host, Area::Pages, b"page").is_err());
+    assert!(rt; write_some(host, Area::Pages).is_err());
 }
 
 // What was counted and given by them.

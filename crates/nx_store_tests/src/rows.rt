@@ -196,22 +196,75 @@ fn rules_stay(rt: HostRuntime) -> Result<(), Fail> {
     Ok(())
 }
 
-const EDITS: [&[u8]; 5] = [
+const EDITS: [&[u8]; 4] = [
     b"load e\n(a\nAx 1\n-hi\n)a\n.\n",
     b"insert e /0/1 -x\n",
-    b"delete e /0/1\n",
     b"retext e /0/1 x\n",
     b"export e\n",
 ];
 
-const NOT_EDITED: &[u8] =
-    b"ok 4 1\nerror syntax\nerror syntax\nerror syntax\n(a\nAx 1\n-hi\n)a\n.\n";
+const NOT_EDITED: &[u8] = b"ok 4 1\nerror syntax\nerror syntax\n(a\nAx 1\n-hi\n)a\n.\n";
 
 // What isn't carried out yet is answered as a line that is no command, whatever it
 // says, and leaves the store.
 #[test]
 fn not_carried_out_yet(rt: HostRuntime) -> Result<(), Fail> {
     check_light(&rt, rt.alloc(), &EDITS, NOT_EDITED)
+}
+
+const DELETES: [&[u8]; 12] = [
+    b"delete e /0\n",
+    b"load e\n(a\nAx 1\n-hi\n(b\n-no\n)b\n)a\n.\n",
+    b"delete e /\n",
+    b"delete e /1\n",
+    b"delete e /0/3\n",
+    b"delete e /0\n",
+    b"delete e /0/2\n",
+    b"export e\n",
+    b"delete e /0/0\n",
+    b"export e\n",
+    b"delete e /0/1\n",
+    b"names\n",
+];
+
+const DELETED: &[u8] =
+    b"error no-document\nok 6 1\nerror bad-place\nerror no-node\nerror no-node\nerror bad-place\nok\n(a\nAx 1\n-hi\n)a\n.\nok\n(a\n-hi\n)a\n.\nerror no-node\ndoc e 3\n.\n";
+
+// A tree goes out of a document, and what is refused leaves it.
+#[test]
+fn trees_go(rt: HostRuntime) -> Result<(), Fail> {
+    check_light(&rt, rt.alloc(), &DELETES, DELETED)
+}
+
+const CUT_DEEP: &[u8] =
+    b"load t\n(a\n(b\n(c\n-one\n)c\n(c\n-two\n)c\n)b\n(b\n(c\n-three\n)c\n)b\n)a\n.\ndelete t /0/0/1/0\ndelete t /0/1/0\n";
+
+const CUT_LEFT: &[u8] = b"(a\n(b\n(c\n-one\n)c\n(c\n)c\n)b\n(b\n)b\n)a\n.\n";
+
+// It isn't there either when the store is opened again.
+#[test]
+fn trees_stay_away(rt: HostRuntime) -> Result<(), Fail> {
+    let empty = new_store(rt.alloc(), LIGHT)?;
+    let image = stored(&rt, rt.alloc(), &empty, CUT_DEEP)?;
+    let found = answers(&rt, rt.alloc(), &image, b"export t\n")?;
+    assert_eq!(rt; found.as_slice(), CUT_LEFT);
+    Ok(())
+}
+
+// Each text has a record for itself, and its page comes back with it.
+#[test]
+fn texts_go(rt: HostRuntime) -> Result<(), Fail> {
+    let settings = Settings { limit: 64, ..HEAVY };
+    let large = load_wide(rt.alloc(), b"d", 100, 2_040)?;
+    let left = wide(rt.alloc(), 98, 2_040)?;
+    let commands: [&[u8]; 4] = [
+        large.as_slice(),
+        b"delete d /0/99\n",
+        b"delete d /0/0\n",
+        b"export d\n",
+    ];
+    let output = [b"ok 102 101\nok\nok\n", left.as_slice(), b".\n"].concat(rt.alloc())?;
+    check(&rt, rt.alloc(), settings, &commands, output.as_slice())
 }
 
 const DROPS: [&[u8]; 8] = [
