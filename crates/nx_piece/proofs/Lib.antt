@@ -9,8 +9,5 @@ pub mod PushLemmas
 pub mod CopyLemmas
 pub mod Laws
 pub mod LocateLemmas
+pub mod FoundLemmas
 pub mod StoredOf
-pub mod TakeLemmas
-pub mod RootLemmas
-pub mod LeftLemmas
-pub mod ShortLemmas

@@ -6,7 +6,7 @@ use Rattle.nx_weights.specs.Weight.{weight}
 use Rattle.nx_piece.specs.declared.piece.Item.{Item}
 use Rattle.nx_piece.specs.declared.piece.Item.TheVariants.{Tree, Run}
 use Rattle.nx_piece.specs.declared.piece.Proxy.{Proxy}
-use Rattle.nx_piece.specs.Gapped.{Gapped, GappedTree, End, Grow, Gap, item_count, grown_of, gapped_width, gapped_weight, slots_in}
+use Rattle.nx_piece.specs.Gapped.{Gapped, GappedTree, End, Grow, Gap, item_count, grown_of, gapped_width, gapped_weight, gapped_nodes, slots_in}
 use Rattle.nx_piece.specs.Items.{gapped_of}
 use Rattle.nx_piece.specs.Encoding.{node_bytes, run_bytes, tree_bytes, items_bytes, proxy_bytes, proxies_bytes, head_bytes, body_bytes}
 use Rattle.nx_piece.specs.Valid.{HaveNumbers, AreApart, BeginsNoGap, IsSmall, IsSmallTree}
@@ -40,6 +40,12 @@ pub slots_in_most : (f : Gapped) → slots_in f ≤ gapped_weight f + item_count
 slots_in_most End = omega arith
 slots_in_most (Grow n b s) = omega (arith, slots_in_most b, slots_in_most s)
 slots_in_most (Gap c s) = omega (arith, slots_in_most s)
+
+-- each node weighs something
+pub nodes_most : (f : Gapped) → gapped_nodes f ≤ gapped_weight f
+nodes_most End = omega arith
+nodes_most (Grow n b s) = omega (arith, nodes_most b, nodes_most s)
+nodes_most (Gap c s) = nodes_most s
 
 -- what is left of a list has no more slots than all of it
 pub item_count_drop : (i : ℕ) (items : List Item) → item_count (gapped_of (drop i items)) ≤ item_count (gapped_of items)

@@ -10,9 +10,6 @@ pub mod Reading
 pub mod Decoded
 pub mod Locate
 pub mod Find
-pub mod Cutting
 pub mod Found
 pub mod FoundView
 pub mod Weight
-pub mod Taking
-pub mod Shortening

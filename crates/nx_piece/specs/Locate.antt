@@ -1,12 +1,16 @@
 -- The children of a node of a piece, those that its proxies stand for among them, and where a path leads.
 use Rattle.std.specs.Prelude.{◌≡◌, ℕ, zero, suc, ◌+◌, ◌≤◌, List, [], ◌∷◌, ◌++◌, length, take, drop, Option, None, Some}
-use Rattle.std.specs.List.{slice_get}
+use Rattle.std.specs.List.{slice_get, sum_by}
 use Rattle.nx_weights.specs.Weight.{weight}
 use Rattle.nx_piece.specs.declared.piece.Piece.{Piece}
 use Rattle.nx_piece.specs.declared.piece.Proxy.{Proxy}
 use Rattle.nx_piece.specs.declared.locating.Located.{Located}
 use Rattle.nx_piece.specs.declared.locating.Located.TheVariants.{Here, Away, Nowhere}
 use Rattle.nx_piece.specs.Gapped.{Gapped, GappedTree, End, Grow, Gap, gapped_weight, proxies_in}
+
+-- how many trees these proxies stand for
+abbrev pub roots_of : List Proxy → ℕ
+roots_of proxies = sum_by (λ proxy. proxy.roots) proxies
 
 -- a child of a node: a tree of this piece, before whose own items so many proxies stand; or a root of the record of a proxy
 pub data PieceChild : Type 0 where

@@ -135,9 +135,11 @@ fn child_at<'a>(
     None
 }
 
-// The proxy, by its index, and the root of it at a position among all roots of these proxies, of which the
-// first has the index `first`; or how many positions are left behind them.
-pub(crate) fn member_at(proxies: &[Proxy], first: u32, position: u32) -> Result<(u32, u16), u32>
+/// The proxy, by its index, and the root of it at a position among all roots of these proxies, of which the first has the
+/// index `first`. It takes no memory.
+///
+/// Errors: how many positions are left behind them, where they have no more roots.
+pub fn member_at(proxies: &[Proxy], first: u32, position: u32) -> Result<(u32, u16), u32>
     requires { first + length proxies.now ≤ 4294967295 }
     ensures found { IfOk result (λ found. slice_get (kept_from first proxies.now) position ≡ Some (Kept found.0 found.1)) }
     ensures behind { IfErr result (λ left. position ≡ length (kept_from first proxies.now) + left) }

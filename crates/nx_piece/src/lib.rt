@@ -8,23 +8,19 @@
 #![tactic(auto)]
 
 mod copying;
-mod cutting;
 mod finding;
 mod locating;
 mod piece;
 mod reading;
-mod shortening;
 mod viewing;
 mod weighing;
 mod writing;
 
 pub use copying::decode;
-pub use cutting::{Removed, remove_tree};
-pub use finding::{LocatedView, count_children, find};
-pub use locating::{Located, children, locate};
+pub use finding::{LocatedView, count_children, find, member_at};
+pub use locating::{FoundChild, Located, child_at, children, locate, proxies_below, root_at};
 pub use piece::{Body, Item, Items, Piece, PieceTree, PieceTrees, Proxies, Proxy, Stored};
 pub use reading::{decode_proxies, view};
-pub use shortening::{remove_proxy, replace_proxy};
 pub use viewing::{BodyView, ItemView, ItemsView, NodeView, PieceView, StoredView, TreeView};
 pub use weighing::{count_nodes, weight};
 pub use writing::{encode, encode_chained, encode_inline, encode_proxies, fits_inline};

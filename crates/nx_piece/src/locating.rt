@@ -30,11 +30,12 @@ pub enum Located<'a> {
     Nowhere,
 }
 
-// A child of a node, as `Located` has it.
+/// A child of a node.
 #[derive(Clone, Copy)]
-pub(crate) enum Found<'a> {
-    // With the number of proxies before its own, and its index among the items.
+pub enum FoundChild<'a> {
+    /// A tree, with the number of proxies that stand in runs before its own items, and its index among the node's items.
     Tree(&'a PieceTree, u32, usize),
+    /// A root of the record of a proxy: the proxy's index, and the root's among those of the record.
     Root(u32, u16),
 }
 
@@ -51,11 +52,11 @@ pub fn locate<'a>(piece: &'a Piece, member: u16, path: &[u32]) -> Located<'a>
     for (used, position) in path.iter().enumerate() {
         match child_at(tree.children.as_slice(), proxies, first, *position) {
             None => return Located::Nowhere,
-            Some(Found::Tree(child, before, _)) => {
+            Some(FoundChild::Tree(child, before, _)) => {
                 tree = child;
                 first = before;
             }
-            Some(Found::Root(index, member)) => {
+            Some(FoundChild::Root(index, member)) => {
                 return Located::Away {
                     proxy: proxies[index as usize],
                     index,
@@ -94,8 +95,9 @@ pub fn children(piece: &Piece, at: &PieceTree, first: u32) -> u32
     children
 }
 
-// The root with this index, and how many proxies stand before its own items.
-pub(crate) fn root_at(roots: &[PieceTree], member: u16) -> Option<(&PieceTree, u32)>
+/// The root with this index, and how many proxies stand in runs before its own items; none where there are no more
+/// roots. It takes no memory.
+pub fn root_at(roots: &[PieceTree], member: u16) -> Option<(&PieceTree, u32)>
     requires { proxies_in (grown_of roots.now) ≤ 524288 }
     ensures { MatchOption result ((proxies : List Proxy) → slice_get (children_of proxies 0 (grown_of roots.now)) member ≡ None) (λ found. (proxies : List Proxy) → slice_get (children_of proxies 0 (grown_of roots.now)) member ≡ Some (Own found.0.now found.1)) }
 {
@@ -111,13 +113,14 @@ pub(crate) fn root_at(roots: &[PieceTree], member: u16) -> Option<(&PieceTree, u
     None
 }
 
-// The child at a position among items that have so many proxies before them.
-pub(crate) fn child_at<'a>(
+/// The child at a position among the items of a node, before which `first` of the proxies stand; none where the items stand
+/// for no more children. A proxy counts as as many children as it has roots. It takes no memory.
+pub fn child_at<'a>(
     items: &'a [Item],
     proxies: &[Proxy],
     first: u32,
     position: u32,
-) -> Option<Found<'a>>
+) -> Option<FoundChild<'a>>
     requires fits { first + proxies_in (gapped_of items.now) ≤ length proxies.now }
     requires few { length proxies.now ≤ 524288 }
     ensures found { IsFound (children_of proxies.now first (gapped_of items.now)) position result }
@@ -129,7 +132,7 @@ pub(crate) fn child_at<'a>(
         match item {
             Item::Tree(tree) => {
                 if left == 0 {
-                    return Some(Found::Tree(tree, before, index));
+                    return Some(FoundChild::Tree(tree, before, index));
                 }
                 left -= 1;
                 before += proxies_below(tree);
@@ -137,7 +140,7 @@ pub(crate) fn child_at<'a>(
             Item::Run { count } => {
                 let behind = before + *count;
                 match member_at(&proxies[before as usize..behind as usize], before, left) {
-                    Ok((index, member)) => return Some(Found::Root(index, member)),
+                    Ok((index, member)) => return Some(FoundChild::Root(index, member)),
                     Err(rest) => left = rest,
                 }
                 before = behind;
@@ -147,8 +150,8 @@ pub(crate) fn child_at<'a>(
     None
 }
 
-// How many proxies stand in the runs below a node.
-pub(crate) fn proxies_below(tree: &PieceTree) -> u32
+/// How many proxies stand in the runs below the node, at every depth. It takes no memory.
+pub fn proxies_below(tree: &PieceTree) -> u32
     requires { proxies_in tree.now.below ≤ 524288 }
     ensures { result ≡ proxies_in tree.now.below }
 {

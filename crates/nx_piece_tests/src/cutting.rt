@@ -1,7 +1,8 @@
 // Trees and proxies taken out of all small pieces, as they are taken out of a row of marks: brackets around what is
 // below a node, and for a run how many proxies it has.
 use nx_lists::NoMemory;
-use nx_piece::{Item, Piece, PieceTree, Stored, decode, remove_proxy, remove_tree, replace_proxy};
+use nx_piece::{Item, Piece, PieceTree, Stored, decode};
+use nx_piece_edits::{remove_proxy, remove_tree, replace_proxy};
 use std::alloc::Global;
 use std::process::Abort;
 use std::test::Fail;

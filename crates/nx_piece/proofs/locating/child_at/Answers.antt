@@ -6,7 +6,7 @@ use Rattle.nx_piece.specs.declared.piece.Item.{Item}
 use Rattle.nx_piece.specs.declared.piece.Item.TheVariants.{Run}
 use Rattle.nx_piece.proofs.WalkLemmas.{next_tree, next_left}
 use Rattle.nx_piece.proofs.LocateLemmas.{is_kept, tree_passed, gap_passed}
-use Rattle.nx_piece.proofs.TakeLemmas.{tree_passing, run_passing}
+use Rattle.nx_piece.proofs.FoundLemmas.{tree_passing, run_passing}
 use Rattle.nx_piece.proofs.locating.child_at.Goals as goal
 use Rattle.nx_piece.proofs.locating.child_at.Goals.{in-Tree+else-left-eq0, in-Run+in-Err}
 

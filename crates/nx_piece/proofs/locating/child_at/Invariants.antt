@@ -1,7 +1,7 @@
 use Rattle.std.proofs.Common.{drop}
 use Rattle.nx_piece.specs.Items.{gapped_of}
 use Rattle.nx_piece.proofs.LocateLemmas.{IsReached}
-use Rattle.nx_piece.proofs.TakeLemmas.{IsPassing}
+use Rattle.nx_piece.proofs.FoundLemmas.{IsPassing}
 use Rattle.nx_piece.proofs.locating.child_at.Given as goal
 
 abbrev pub invariant-loop-index : goal.invariant-loop-index

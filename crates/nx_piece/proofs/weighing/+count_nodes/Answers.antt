@@ -3,8 +3,7 @@ use Rattle.nx_piece.specs.declared.piece.Item.{Item}
 use Rattle.nx_weights.specs.Weight.{weight}
 use Rattle.nx_piece.specs.Gapped.{GappedTree, item_count, gapped_weight, gapped_nodes}
 use Rattle.nx_piece.specs.Items.{gapped_of}
-use Rattle.nx_piece.proofs.WalkLemmas.{next_tree, next_falls}
-use Rattle.nx_piece.proofs.LeftLemmas.{nodes_most}
+use Rattle.nx_piece.proofs.WalkLemmas.{next_tree, next_falls, nodes_most}
 use Rattle.nx_piece.proofs.weighing.+count_nodes.Goals as goal
 
 pub count_nodes-nodes-requires : goal.count_nodes-nodes-requires

@@ -1,5 +1,0 @@
-use Rattle.nx_piece.proofs.ShortLemmas.{IsOnItems}
-use Rattle.nx_piece.proofs.shortening.item_of.Given as goal
-
-abbrev pub invariant-loop-place : goal.invariant-loop-place
-invariant-loop-place l = IsOnItems l.items l.index l.left l.place

@@ -1,0 +1,11 @@
+pub mod TakeLemmas
+pub mod RootLemmas
+pub mod LeftLemmas
+pub mod ShortLemmas
+pub mod SetLemmas
+pub mod WiderLemmas
+pub mod PassedLemmas
+pub mod SpotLemmas
+pub mod PlantLemmas
+pub mod FallLemmas
+pub mod DivideLemmas

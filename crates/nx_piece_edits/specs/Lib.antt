@@ -1,0 +1,7 @@
+pub mod Cutting
+pub mod Taking
+pub mod Shortening
+pub mod Setting
+pub mod Planting
+pub mod Dividing
+pub mod Editing
