@@ -8,4 +8,11 @@ pub mod RunLemmas
 pub mod FillLemmas
 pub mod StandLemmas
 pub mod PathLemmas
+pub mod AboveLemmas
 pub mod CountLemmas
+pub mod ChangeLemmas
+pub mod SettingLemmas
+pub mod PlantLemmas
+pub mod FallLemmas
+pub mod ChildLemmas
+pub mod DivideLemmas

@@ -7,15 +7,15 @@ use Rattle.nx_tree.specs.Forest.{Forest, Empty, Plant}
 use Rattle.nx_tree.specs.Edit.{child, at}
 use Rattle.nx_piece.specs.declared.piece.Proxy.{Proxy}
 use Rattle.nx_piece.specs.Gapped.{Gapped, GappedTree, End, Grow, Gap, proxies_in}
-use Rattle.nx_piece.specs.Locate.{PieceChild, Kept as Away, Reached, Inside, Outside, Missing, roots_from, kept_from, children_of, reached}
-use Rattle.nx_piece.specs.Cutting.{without_tree}
-use Rattle.nx_piece.specs.Taking.{led}
+use Rattle.nx_piece.specs.Locate.{PieceChild, Kept as Away, Reached, Inside, Outside, Missing, roots_from, kept_from, children_of, reached, reached_in}
+use Rattle.nx_piece_edits.specs.Cutting.{without_tree}
+use Rattle.nx_piece_edits.specs.Taking.{led}
 use Rattle.nx_piece.proofs.LocateLemmas.{get_in_front, get_behind, roots_length, root_there}
-use Rattle.nx_piece.proofs.TakeLemmas.{led_nowhere}
-use Rattle.nx_piece.proofs.LeftLemmas.{tree_reached, first_reached}
+use Rattle.nx_piece_edits.proofs.TakeLemmas.{led_nowhere}
+use Rattle.nx_piece_edits.proofs.LeftLemmas.{tree_reached, first_reached}
 use Rattle.nx_cuts.specs.Cut.{Bare, Grown, Kept, joined, forest, width}
 use Rattle.nx_cuts.proofs.FeasibleLemmas.{trees, trees-joined, le_or}
-use Rattle.nx_layouts.specs.Layout.{RecordPlace, Layout, gap_more, piece_body, proxy_of, proxies_of}
+use Rattle.nx_layouts.specs.Layout.{RecordPlace, Layout, gap_more, piece_body, piece_of, proxy_of, proxies_of}
 use Rattle.nx_layouts.specs.Cutting.{layout_at, StaysIn, LeadsInto, member_tree, PathStays, PathLeadsOn, PathIsMissing}
 use Rattle.nx_layouts.proofs.LayoutLemmas.{proxies_counted}
 use Rattle.nx_layouts.proofs.WithoutLemmas.{stays_parts, body_without}
@@ -67,13 +67,13 @@ pub record StandBehind (all : List Proxy) (first : ℕ) (row : Layout) : Type 0 
   pub is : all ≡ front ++ (proxies_of row ++ back)
   pub long : length front ≡ first
 
-all_behind : (row : Layout) → StandBehind (proxies_of row) 0 row
+pub all_behind : (row : Layout) → StandBehind (proxies_of row) 0 row
 all_behind row = record { front = []; back = []; is = sym (append-nil (proxies_of row)); long = refl }
 
-below_behind : {all : List Proxy} {first : ℕ} (b s : Layout) (back front : List Proxy) → all ≡ front ++ ((proxies_of b ++ proxies_of s) ++ back) → length front ≡ first → StandBehind all first b
+pub below_behind : {all : List Proxy} {first : ℕ} (b s : Layout) (back front : List Proxy) → all ≡ front ++ ((proxies_of b ++ proxies_of s) ++ back) → length front ≡ first → StandBehind all first b
 below_behind b s back front e l = record { front = front; back = proxies_of s ++ back; is = e ∙ ap (λ xs. front ++ xs) (append_assoc (proxies_of b) (proxies_of s) back); long = l }
 
-beside_behind : {all : List Proxy} {first : ℕ} (b s : Layout) (back front : List Proxy) → all ≡ front ++ ((proxies_of b ++ proxies_of s) ++ back) → length front ≡ first → StandBehind all (first + proxies_in (piece_body b)) s
+pub beside_behind : {all : List Proxy} {first : ℕ} (b s : Layout) (back front : List Proxy) → all ≡ front ++ ((proxies_of b ++ proxies_of s) ++ back) → length front ≡ first → StandBehind all (first + proxies_in (piece_body b)) s
 beside_behind b s back front e l = record {
   front = front ++ proxies_of b;
   back = back;
@@ -81,7 +81,7 @@ beside_behind b s back front e l = record {
   long = omega (arith, length-append front (proxies_of b), proxies_counted b, l);
 }
 
-behind_one : {all : List Proxy} {first : ℕ} (proxy : Proxy) (s : Layout) (back front : List Proxy) → all ≡ front ++ (proxy ∷ proxies_of s ++ back) → length front ≡ first → StandBehind all (first + 1) s
+pub behind_one : {all : List Proxy} {first : ℕ} (proxy : Proxy) (s : Layout) (back front : List Proxy) → all ≡ front ++ (proxy ∷ proxies_of s ++ back) → length front ≡ first → StandBehind all (first + 1) s
 behind_one proxy s back front e l = record {
   front = front ++ proxy ∷ [];
   back = back;
@@ -90,31 +90,40 @@ behind_one proxy s back front e l = record {
 }
 
 -- the children of an interval and of what stands beside it
-children_kept : {all : List Proxy} {first : ℕ} (p : RecordPlace) (m s : Layout) → StandBehind all first (Kept p m s) → children_of all first (piece_body (Kept p m s)) ≡ roots_from first 0 (width m) ++ children_of all (first + 1) (piece_body s)
+pub children_kept : {all : List Proxy} {first : ℕ} (p : RecordPlace) (m s : Layout) → StandBehind all first (Kept p m s) → children_of all first (piece_body (Kept p m s)) ≡ roots_from first 0 (width m) ++ children_of all (first + 1) (piece_body s)
 children_kept {all} {first} p m s h =
     children-gap_more all first (proxy_of p (width m)) (piece_body s) (drop_front h.front (proxy_of p (width m)) (proxies_of s ++ h.back) all first h.is h.long)
 
--- where the path leads from the members, and from behind them
-led_member : {all : List Proxy} {first : ℕ} (used position : ℕ) (path : List ℕ) (p : RecordPlace) (m s : Layout) → StandBehind all first (Kept p m s) → position < width m
-    → led all first (piece_body (Kept p m s)) used position path ≡ reached all used path (Some (Away first position))
-led_member {all} {first} used position path p m s h less =
+-- the child at a position among the members of the first interval, and behind them
+pub child_here : {all : List Proxy} {first : ℕ} (p : RecordPlace) (m s : Layout) (position : ℕ) → StandBehind all first (Kept p m s) → position < width m
+    → slice_get (children_of all first (piece_body (Kept p m s))) position ≡ Some (Away first position)
+child_here {all} {first} p m s position h less =
     let there : slice_get (roots_from first 0 (width m)) position ≡ Some (Away first position) =
     root_there first 0 (width m) position less ∙ ap (λ (n : ℕ). Some (Away first n)) (let q : 0 + position ≡ position = omega arith in q) in
-    ap (λ xs. reached all used path (slice_get xs position)) (children_kept p m s h)
-    ∙ ap (reached all used path) (get_in_front (roots_from first 0 (width m)) (children_of all (first + 1) (piece_body s)) position (Away first position) there)
+    ap (λ xs. slice_get xs position) (children_kept p m s h)
+    ∙ get_in_front (roots_from first 0 (width m)) (children_of all (first + 1) (piece_body s)) position (Away first position) there
 
-led_behind : {all : List Proxy} {first : ℕ} (used position : ℕ) (path : List ℕ) (p : RecordPlace) (m s : Layout) → StandBehind all first (Kept p m s) → width m ≤ position
-    → led all first (piece_body (Kept p m s)) used position path ≡ led all (first + 1) (piece_body s) used (position - width m) path
-led_behind {all} {first} used position path p m s h most =
+pub child_later : {all : List Proxy} {first : ℕ} (p : RecordPlace) (m s : Layout) (position : ℕ) → StandBehind all first (Kept p m s) → width m ≤ position
+    → slice_get (children_of all first (piece_body (Kept p m s))) position ≡ slice_get (children_of all (first + 1) (piece_body s)) (position - width m)
+child_later {all} {first} p m s position h most =
     let roots : List PieceChild = roots_from first 0 (width m) in
     let rest : List PieceChild = children_of all (first + 1) (piece_body s) in
     let long : length roots ≡ width m = roots_length first 0 (width m) in
     let place : position ≡ length roots + (position - width m) = omega (arith, long, most) in
-    ap (λ xs. reached all used path (slice_get xs position)) (children_kept p m s h)
-    ∙ ap (λ (i : ℕ). reached all used path (slice_get (roots ++ rest) i)) place
-    ∙ ap (reached all used path) (get_behind roots rest (position - width m))
+    ap (λ xs. slice_get xs position) (children_kept p m s h)
+    ∙ ap (λ (i : ℕ). slice_get (roots ++ rest) i) place
+    ∙ get_behind roots rest (position - width m)
 
-member_behind : (p : RecordPlace) (m s : Layout) (position : ℕ) (path : List ℕ) → width m ≤ position → member_tree (forest (Kept p m s)) position path ≡ member_tree (forest s) (position - width m) path
+-- where the path leads from the members, and from behind them
+led_member : {all : List Proxy} {first : ℕ} (used position : ℕ) (path : List ℕ) (p : RecordPlace) (m s : Layout) → StandBehind all first (Kept p m s) → position < width m
+    → led all first (piece_body (Kept p m s)) used position path ≡ reached all used path (Some (Away first position))
+led_member {all} {first} used position path p m s h less = ap (reached all used path) (child_here p m s position h less)
+
+pub led_behind : {all : List Proxy} {first : ℕ} (used position : ℕ) (path : List ℕ) (p : RecordPlace) (m s : Layout) → StandBehind all first (Kept p m s) → width m ≤ position
+    → led all first (piece_body (Kept p m s)) used position path ≡ led all (first + 1) (piece_body s) used (position - width m) path
+led_behind {all} {first} used position path p m s h most = ap (reached all used path) (child_later p m s position h most)
+
+pub member_behind : (p : RecordPlace) (m s : Layout) (position : ℕ) (path : List ℕ) → width m ≤ position → member_tree (forest (Kept p m s)) position path ≡ member_tree (forest s) (position - width m) path
 member_behind p m s position path most =
     let place : position ≡ trees (forest m) + (position - width m) = omega (arith, trees-forest m, most) in
     ap (λ o. option_and_then (λ t. at t path) o) (ap (child (joined (forest m) (forest s))) place ∙ child_behind (forest m) (forest s) (position - width m))
@@ -129,10 +138,10 @@ led_none all used (q ∷ path) = refl
 
 -- Trees of the piece:
 
-record IsLedTo (first before position : ℕ) (path : List ℕ) (row : Layout) (t : GappedTree) : Type 0 where
-  stays : StaysIn position path row
-  first_is : before ≡ first + length ((stays_parts position path row stays).front)
-  tree_is : piece_body (layout_at position path row) ≡ Grow t.node t.below End
+pub record IsLedTo (first before position : ℕ) (path : List ℕ) (row : Layout) (t : GappedTree) : Type 0 where
+  pub stays : StaysIn position path row
+  pub first_is : before ≡ first + length ((stays_parts position path row stays).front)
+  pub tree_is : piece_body (layout_at position path row) ≡ Grow t.node t.below End
 
 led_to : (all : List Proxy) (first used before position : ℕ) (path : List ℕ) (row : Layout) (t : GappedTree) → StandBehind all first row → led all first (piece_body row) used position path ≡ Inside t before → IsLedTo first before position path row t
 led_to all first used before position path Bare t h e = absurd (led_nowhere all used path t before e)
@@ -167,9 +176,12 @@ led_to all first used before position path (Kept p m s) t h e = elim (le_or posi
     no_tree : Outside first position used ≡ Inside t before → ⊥
     no_tree x = absurd (cc)
 
+pub tree_led : (members : Layout) (member : ℕ) (path : List ℕ) (tree : GappedTree) (first : ℕ) → reached_in (piece_of members) member path ≡ Inside tree first → IsLedTo 0 first member path members tree
+tree_led members member path tree first e = led_to (proxies_of members) 0 0 first member path members tree (all_behind members) e
+
 pub path_stays : PathStays
 path_stays members member path tree first e =
-    let r = led_to (proxies_of members) 0 0 first member path members tree (all_behind members) e in
+    let r = tree_led members member path tree first e in
     let parts = stays_parts member path members r.stays in
     let at : Layout = layout_at member path members in
     let long : length parts.front ≡ first = let f = r.first_is in omega (arith, f) in

@@ -42,7 +42,7 @@ held_filled pieces index left (Grown n b s) h e =
 held_filled pieces zero left (Kept p m s) h e = held-joined_layout pieces left s e h
 held_filled pieces (suc index) left (Kept p m s) h e = (h.0, h.1, held_filled pieces index left s h.2 e)
 
-held_hole : (pieces : RecordPlace → Option Piece) (index : ℕ) (row : Layout) → AreHeld pieces row → AreHeld pieces (replaced_at index Bare row)
+pub held_hole : (pieces : RecordPlace → Option Piece) (index : ℕ) (row : Layout) → AreHeld pieces row → AreHeld pieces (replaced_at index Bare row)
 held_hole pieces index Bare h = tt
 held_hole pieces index (Grown n b s) h =
     elim (nat_lt index (length (proxies_of b))) as (λ t. AreHeld pieces (if t then Grown n (replaced_at index Bare b) s else Grown n b (replaced_at (index - length (proxies_of b)) Bare s))) [
@@ -57,7 +57,7 @@ light_joined k Bare b h g = g
 light_joined k (Grown n d s) b h g = (h.0, light_joined k s b h.1 g)
 light_joined k (Kept p m s) b h g = (h.0, h.1, h.2, h.3, light_joined k s b h.4 g)
 
-light_filled : (k index : ℕ) (left row : Layout) → AreParts k row → AreParts k left → AreParts k (replaced_at index left row)
+pub light_filled : (k index : ℕ) (left row : Layout) → AreParts k row → AreParts k left → AreParts k (replaced_at index left row)
 light_filled k index left Bare h e = tt
 light_filled k index left (Grown n b s) h e =
     elim (nat_lt index (length (proxies_of b))) as (λ t. AreParts k (if t then Grown n (replaced_at index left b) s else Grown n b (replaced_at (index - length (proxies_of b)) left s))) [
@@ -67,7 +67,7 @@ light_filled k index left (Grown n b s) h e =
 light_filled k zero left (Kept p m s) h e = light_joined k left s e h.4
 light_filled k (suc index) left (Kept p m s) h e = (h.0, h.1, h.2, h.3, light_filled k index left s h.4 e)
 
-free_filled : (index : ℕ) (left row : Layout) → AreFree row → AreFree (replaced_at index left row)
+pub free_filled : (index : ℕ) (left row : Layout) → AreFree row → AreFree (replaced_at index left row)
 free_filled index left Bare f = tt
 free_filled index left (Grown n b s) f =
     elim (nat_lt index (length (proxies_of b))) as (λ t. AreFree (if t then Grown n (replaced_at index left b) s else Grown n b (replaced_at (index - length (proxies_of b)) left s))) [
@@ -76,7 +76,7 @@ free_filled index left (Grown n b s) f =
     ]
 free_filled index left (Kept p m s) f = absurd f
 
-wide_filled : (index : ℕ) (left row : Layout) → AreFree row → width (replaced_at index left row) ≡ width row
+pub wide_filled : (index : ℕ) (left row : Layout) → AreFree row → width (replaced_at index left row) ≡ width row
 wide_filled index left Bare f = refl
 wide_filled index left (Grown n b s) f =
     elim (nat_lt index (length (proxies_of b))) as (λ t. width (if t then Grown n (replaced_at index left b) s else Grown n b (replaced_at (index - length (proxies_of b)) left s)) ≡ 1 + width s) [
@@ -90,7 +90,7 @@ weight_joined Bare b = omega arith
 weight_joined (Grown n d s) b = let e = weight_joined s b in omega (arith, e)
 weight_joined (Kept p m s) b = weight_joined s b
 
-heavy_filled : (index : ℕ) (left row : Layout) → part_weight left ≡ 0 → part_weight (replaced_at index left row) ≡ part_weight row
+pub heavy_filled : (index : ℕ) (left row : Layout) → part_weight left ≡ 0 → part_weight (replaced_at index left row) ≡ part_weight row
 heavy_filled index left Bare e = refl
 heavy_filled index left (Grown n b s) e =
     elim (nat_lt index (length (proxies_of b))) as (λ t. part_weight (if t then Grown n (replaced_at index left b) s else Grown n b (replaced_at (index - length (proxies_of b)) left s)) ≡ weight n + part_weight b + part_weight s) [

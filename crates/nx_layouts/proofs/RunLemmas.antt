@@ -1,16 +1,16 @@
--- Runs of proxies of which one changes or goes.
+-- Runs of proxies of which one changes or goes, or in whose place several come.
 use Rattle.std.proofs.Common.{◌≡◌, ℕ, zero, suc, ◌+◌, ◌-◌, ◌<◌, ◌≤◌, nat_lt, if◌then◌else◌, true, false, length, refl, sym, ap, ◌∙◌, subst, arith, length-append, inl, inr}
 use Rattle.std.proofs.lemmas.Bool.{cases_lt}
 use Rattle.nx_tree.specs.declared.node.Node.{Node}
-use Rattle.nx_piece.specs.Gapped.{Gapped, End, Grow, Gap, proxies_in}
+use Rattle.nx_piece.specs.Gapped.{Gapped, End, Grow, Gap, proxies_in, with_gap}
 use Rattle.nx_piece.specs.Valid.{AreApart, BeginsNoGap}
-use Rattle.nx_piece.specs.Cutting.{smaller_gap, without_proxy}
-use Rattle.nx_piece.proofs.LeftLemmas.{less_is, not_less}
+use Rattle.nx_piece_edits.specs.Cutting.{smaller_gap, without_proxy, with_row}
+use Rattle.nx_piece_edits.proofs.LeftLemmas.{less_is, not_less}
 use Rattle.nx_cuts.specs.Cut.{Bare, Grown, Kept}
 use Rattle.nx_layouts.specs.Layout.{RecordPlace, Layout, gap_more, piece_body, proxies_of}
-use Rattle.nx_layouts.specs.Replace.{replaced_at}
+use Rattle.nx_layouts.specs.Replace.{joined_layout, replaced_at}
 use Rattle.nx_layouts.specs.Cutting.{RunsAfter}
-use Rattle.nx_layouts.proofs.LayoutLemmas.{proxies_counted}
+use Rattle.nx_layouts.proofs.LayoutLemmas.{proxies_counted, no_bare}
 use Rattle.nx_layouts.proofs.ValidLemmas.{body_apart}
 
 first_more : (x : Gapped) → BeginsNoGap x → gap_more x ≡ Gap 1 x
@@ -90,5 +90,103 @@ none_stays (suc index) (Kept p m s) less =
     let there : index < length (proxies_of s) = omega (arith, less) in
     ap gap_more (none_stays index s there) ∙ less_later index (piece_body s) (body_apart s) (subst (λ (k : ℕ). index < k) (proxies_counted s) there)
 
+-- Intervals beside each other in the place of one:
+
+nothing_joined : (a s : Layout) → piece_body a ≡ End → piece_body (joined_layout a s) ≡ piece_body s
+nothing_joined Bare s e = refl
+nothing_joined (Grown n b t) s e = absurd (cc)
+nothing_joined (Kept p m t) s e = absurd (no_bare (piece_body t) e)
+
+one_gap : (x : Gapped) → gap_more x ≡ with_gap 1 x
+one_gap End = refl
+one_gap (Grow n b s) = refl
+one_gap (Gap c s) = ap (λ (d : ℕ). Gap d s) (let e : c + 1 ≡ 1 + c = omega arith in e)
+
+gap_one : (count : ℕ) (x : Gapped) → gap_more (with_gap count x) ≡ with_gap (count + 1) x
+gap_one count End = refl
+gap_one count (Grow n b s) = refl
+gap_one count (Gap c s) = ap (λ (d : ℕ). Gap d s) (let e : count + c + 1 ≡ count + 1 + c = omega arith in e)
+
+-- how many proxies the gap in front stands for, and what is behind it
+abbrev gap_count : Gapped → ℕ
+gap_count End = 0
+gap_count (Grow n b s) = 0
+gap_count (Gap c s) = c
+
+abbrev gap_beside : Gapped → Gapped
+gap_beside End = End
+gap_beside (Grow n b s) = End
+gap_beside (Gap c s) = s
+
+more_joined : (count : ℕ) (a s : Layout) (x : Gapped) → piece_body a ≡ x → gap_more x ≡ Gap count End → ((less : ℕ) → piece_body a ≡ Gap less End → piece_body (joined_layout a s) ≡ with_gap less (piece_body s))
+    → gap_more (piece_body (joined_layout a s)) ≡ with_gap count (piece_body s)
+more_joined count a s End is e before =
+    ap gap_more (nothing_joined a s is) ∙ one_gap (piece_body s) ∙ ap (λ (c : ℕ). with_gap c (piece_body s)) (ap gap_count e)
+more_joined count a s (Grow n b t) is e before = absurd (let f : Grow n b t ≡ End = ap gap_beside e in cc)
+more_joined count a s (Gap c t) is e before =
+    ap gap_more (before c (is ∙ ap (λ (x : Gapped). Gap c x) (ap gap_beside e))) ∙ gap_one c (piece_body s) ∙ ap (λ (d : ℕ). with_gap d (piece_body s)) (ap gap_count e)
+
+gap_joined : (count : ℕ) (a s : Layout) → piece_body a ≡ Gap count End → piece_body (joined_layout a s) ≡ with_gap count (piece_body s)
+gap_joined count Bare s e = absurd (cc)
+gap_joined count (Grown n b t) s e = absurd (cc)
+gap_joined count (Kept p m t) s e = more_joined count t s (piece_body t) refl e (λ less f. gap_joined less t s f)
+
+-- as many come in the place of the first proxy
+row_first : (count : ℕ) (x : Gapped) → with_row 0 count (gap_more x) ≡ with_gap count x
+row_first count End = ap (λ (c : ℕ). Gap c End) (let e : 1 - 1 + count ≡ count = omega arith in e)
+row_first count (Grow n b s) = ap (λ (c : ℕ). Gap c (Grow n b s)) (let e : 1 - 1 + count ≡ count = omega arith in e)
+row_first count (Gap c s) =
+    less_is 0 (c + 1) (Gap (c + 1 - 1 + count) s) (Gap (c + 1) (with_row (0 - (c + 1)) count s)) (omega arith) ∙ ap (λ (d : ℕ). Gap d s) (let e : c + 1 - 1 + count ≡ count + c = omega arith in e)
+
+-- they come in the place of one behind it
+row_later : (index count : ℕ) (x : Gapped) → index < proxies_in x → gap_more (with_row index count x) ≡ with_row (suc index) count (gap_more x)
+row_later index count End less = absurd (omega (arith, less))
+row_later index count (Grow n b s) less =
+    let back : suc index - 1 ≡ index = omega arith in
+    more_grown index ∙ ap (λ (i : ℕ). Gap 1 (with_row i count (Grow n b s))) (sym back)
+    ∙ sym (not_less (suc index) 1 (Gap (1 - 1 + count) (Grow n b s)) (Gap 1 (with_row (suc index - 1) count (Grow n b s))) (omega arith))
+  where
+    more_grown : (index : ℕ) → gap_more (with_row index count (Grow n b s)) ≡ Gap 1 (with_row index count (Grow n b s))
+    more_grown index =
+        elim (nat_lt index (proxies_in b)) as (λ t. gap_more (if t then Grow n (with_row index count b) s else Grow n b (with_row (index - proxies_in b) count s)) ≡ Gap 1 (if t then Grow n (with_row index count b) s else Grow n b (with_row (index - proxies_in b) count s))) [
+          | true ↦ refl
+          | false ↦ refl
+        ]
+row_later index count (Gap c s) less = elim (cases_lt index c) [
+  | inl here ↦
+      ap gap_more (less_is index c (Gap (c - 1 + count) s) (Gap c (with_row (index - c) count s)) here)
+      ∙ ap (λ (d : ℕ). Gap d s) (let e : c - 1 + count + 1 ≡ c + 1 - 1 + count = omega (arith, here) in e)
+      ∙ sym (less_is (suc index) (c + 1) (Gap (c + 1 - 1 + count) s) (Gap (c + 1) (with_row (suc index - (c + 1)) count s)) (omega (arith, here)))
+  | inr behind ↦
+      let back : index - c ≡ suc index - (c + 1) = omega arith in
+      ap gap_more (not_less index c (Gap (c - 1 + count) s) (Gap c (with_row (index - c) count s)) behind)
+      ∙ ap (λ (i : ℕ). Gap (c + 1) (with_row i count s)) back
+      ∙ sym (not_less (suc index) (c + 1) (Gap (c + 1 - 1 + count) s) (Gap (c + 1) (with_row (suc index - (c + 1)) count s)) (omega (arith, behind)))
+]
+
+many_come : (index count : ℕ) (new row : Layout) → piece_body new ≡ Gap count End → index < length (proxies_of row) → piece_body (replaced_at index new row) ≡ with_row index count (piece_body row)
+many_come index count new Bare is less = refl
+many_come index count new (Grown n b s) is less =
+    let l = length-append (proxies_of b) (proxies_of s) in
+    subst (λ (k : ℕ). piece_body (replaced_at index new (Grown n b s)) ≡ (if nat_lt index k then Grow n (with_row index count (piece_body b)) (piece_body s) else Grow n (piece_body b) (with_row (index - k) count (piece_body s)))) (proxies_counted b)
+    (elim (cases_lt index (length (proxies_of b))) [
+      | inl here ↦
+          ap piece_body (less_is index (length (proxies_of b)) (Grown n (replaced_at index new b) s) (Grown n b (replaced_at (index - length (proxies_of b)) new s)) here)
+          ∙ ap (λ (x : Gapped). Grow n x (piece_body s)) (many_come index count new b is here)
+          ∙ sym (less_is index (length (proxies_of b)) (Grow n (with_row index count (piece_body b)) (piece_body s)) (Grow n (piece_body b) (with_row (index - length (proxies_of b)) count (piece_body s))) here)
+      | inr behind ↦
+          ap piece_body (not_less index (length (proxies_of b)) (Grown n (replaced_at index new b) s) (Grown n b (replaced_at (index - length (proxies_of b)) new s)) behind)
+          ∙ ap (λ (x : Gapped). Grow n (piece_body b) x) (many_come (index - length (proxies_of b)) count new s is (omega (arith, l, less, behind)))
+          ∙ sym (not_less index (length (proxies_of b)) (Grow n (with_row index count (piece_body b)) (piece_body s)) (Grow n (piece_body b) (with_row (index - length (proxies_of b)) count (piece_body s))) behind)
+    ])
+many_come zero count new (Kept p m s) is less = gap_joined count new s is ∙ sym (row_first count (piece_body s))
+many_come (suc index) count new (Kept p m s) is less =
+    let there : index < length (proxies_of s) = omega (arith, less) in
+    ap gap_more (many_come index count new s is there) ∙ row_later index count (piece_body s) (subst (λ (k : ℕ). index < k) (proxies_counted s) there)
+
 pub runs_after : RunsAfter
-runs_after index row less = record { one = λ place members. one_stays index place members row; none = none_stays index row less }
+runs_after index row less = record {
+  one = λ place members. one_stays index place members row;
+  none = none_stays index row less;
+  many = λ new is some. many_come index (length (proxies_of new)) new row is less;
+}

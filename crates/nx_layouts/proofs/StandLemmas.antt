@@ -2,21 +2,18 @@
 use Rattle.std.proofs.Common.{◌≡◌, ℕ, zero, suc, ◌+◌, ◌-◌, ◌<◌, List, [], ◌∷◌, ◌++◌, length, refl, sym, ap, ◌∙◌, subst, arith, append_assoc, length-append}
 use Rattle.nx_tree.specs.Forest.{nodes}
 use Rattle.nx_piece.specs.declared.piece.Proxy.{Proxy}
-use Rattle.nx_piece.proofs.LeftLemmas.{less_is, not_less}
+use Rattle.nx_piece_edits.proofs.LeftLemmas.{less_is, not_less}
 use Rattle.nx_cuts.specs.Cut.{Bare, Grown, Kept, forest, width}
 use Rattle.nx_layouts.specs.Layout.{RecordPlace, Layout, proxies_of, proxy_of, places_of}
 use Rattle.nx_layouts.specs.Replace.{joined_layout, replaced_at, kept_at}
 use Rattle.nx_layouts.specs.Cutting.{StandsIn, IntervalStandsIn}
 use Rattle.nx_layouts.proofs.ReplaceLemmas.{forest-joined_layout}
-use Rattle.nx_layouts.proofs.WithoutLemmas.{nodes_joined}
+use Rattle.nx_layouts.proofs.WithoutLemmas.{nodes_joined, shift_in}
 
 places_joined : (a b : Layout) → places_of (joined_layout a b) ≡ places_of a ++ places_of b
 places_joined Bare b = refl
 places_joined (Grown n d s) b = ap (λ (ps : List RecordPlace). places_of d ++ ps) (places_joined s b) ∙ sym (append_assoc (places_of d) (places_of s) (places_of b))
 places_joined (Kept p m s) b = ap (λ (ps : List RecordPlace). p ∷ (places_of m ++ ps)) (places_joined s b) ∙ ap (λ (ps : List RecordPlace). p ∷ ps) (sym (append_assoc (places_of m) (places_of s) (places_of b)))
-
-shift_in : {A : Type 0} (a b c d : List A) → (a ++ (b ++ c)) ++ d ≡ a ++ (b ++ (c ++ d))
-shift_in a b c d = append_assoc a (b ++ c) d ∙ ap (λ x. a ++ x) (append_assoc b c d)
 
 -- the interval at the head of a row
 here : (k position : ℕ) (p : RecordPlace) (m s : Layout) → position < width m → StandsIn k zero m (Kept p m s)

@@ -6,7 +6,8 @@ use Rattle.nx_tree.specs.Forest.{Forest, Empty, Plant, nodes}
 use Rattle.nx_piece.specs.declared.piece.Piece.{Piece}
 use Rattle.nx_piece.specs.declared.piece.Proxy.{Proxy}
 use Rattle.nx_piece.specs.Gapped.{Gapped, End, Grow, Gap, proxies_in, with_gap}
-use Rattle.nx_piece.specs.Cutting.{roots_of, without_tree}
+use Rattle.nx_piece.specs.Locate.{roots_of}
+use Rattle.nx_piece_edits.specs.Cutting.{without_tree}
 use Rattle.nx_cuts.specs.Cut.{Bare, Grown, Kept, forest, joined, width, part_weight, AreFree, AreParts}
 use Rattle.nx_layouts.specs.Layout.{RecordPlace, Layout, gap_more, piece_body, proxies_of, proxy_of, places_of, AreHeld}
 use Rattle.nx_layouts.specs.Cutting.{layout_without, layout_at, StaysIn, IsOutOf, TreeGoesOut}
@@ -14,28 +15,33 @@ use Rattle.nx_layouts.proofs.LayoutLemmas.{proxies_counted}
 
 -- Gaps:
 
-gap_more_is : (x : Gapped) → gap_more x ≡ with_gap 1 x
+pub gap_more_is : (x : Gapped) → gap_more x ≡ with_gap 1 x
 gap_more_is End = refl
 gap_more_is (Grow n b s) = refl
 gap_more_is (Gap count s) = ap (λ (c : ℕ). Gap c s) (let e : count + 1 ≡ 1 + count = omega arith in e)
 
-gap_more_with : (count : ℕ) (x : Gapped) → with_gap (count + 1) x ≡ gap_more (with_gap count x)
+pub gap_more_with : (count : ℕ) (x : Gapped) → with_gap (count + 1) x ≡ gap_more (with_gap count x)
 gap_more_with count End = refl
 gap_more_with count (Grow n b s) = refl
 gap_more_with count (Gap more s) = ap (λ (c : ℕ). Gap c s) (let e : count + 1 + more ≡ count + more + 1 = omega arith in e)
 
-minus_both : (a b c : ℕ) → a - (b + c) ≡ a - b - c
+pub minus_both : (a b c : ℕ) → a - (b + c) ≡ a - b - c
 minus_both a b c = omega arith
 
 -- one proxy more
-roots_more : (proxy : Proxy) (proxies : List Proxy) → roots_of (proxy ∷ proxies) ≡ proxy.roots + roots_of proxies
+pub roots_more : (proxy : Proxy) (proxies : List Proxy) → roots_of (proxy ∷ proxies) ≡ proxy.roots + roots_of proxies
 roots_more proxy proxies = sum_by-cons (λ (p : Proxy). p.roots) proxy proxies
 
-take_more : (count : ℕ) (proxy : Proxy) (proxies : List Proxy) → take (count + 1) (proxy ∷ proxies) ≡ proxy ∷ take count proxies
+pub take_more : (count : ℕ) (proxy : Proxy) (proxies : List Proxy) → take (count + 1) (proxy ∷ proxies) ≡ proxy ∷ take count proxies
 take_more count proxy proxies = let e : count + 1 ≡ suc count = omega arith in ap (λ (n : ℕ). take n (proxy ∷ proxies)) e
 
-drop_more : (count : ℕ) (proxy : Proxy) (proxies : List Proxy) → drop (count + 1) (proxy ∷ proxies) ≡ drop count proxies
+pub drop_more : (count : ℕ) (proxy : Proxy) (proxies : List Proxy) → drop (count + 1) (proxy ∷ proxies) ≡ drop count proxies
 drop_more count proxy proxies = let e : count + 1 ≡ suc count = omega arith in ap (λ (n : ℕ). drop n (proxy ∷ proxies)) e
+
+-- the proxies that stand beside those below a node
+pub drop_below : (b s : Layout) (more : List Proxy) → drop (proxies_in (piece_body b)) ((proxies_of b ++ proxies_of s) ++ more) ≡ proxies_of s ++ more
+drop_below b s more =
+    ap₂ (λ (n : ℕ) (ps : List Proxy). drop n ps) (sym (proxies_counted b)) (append_assoc (proxies_of b) (proxies_of s) more) ∙ drop-append_seam (proxies_of b) (proxies_of s ++ more)
 
 -- one proxy more in front of the with_gap
 cut_behind : (position : ℕ) (path : List ℕ) (x : Gapped) (proxy : Proxy) (proxies : List Proxy) → without_tree position path (gap_more x) (proxy ∷ proxies) ≡ gap_more (without_tree (position - proxy.roots) path x proxies)
@@ -57,15 +63,14 @@ body_without zero (q ∷ path) (Grown n b s) more h =
     (body_without q path b (proxies_of s ++ more) h ∙ ap (λ (ps : List Proxy). without_tree q path (piece_body b) ps) (sym (append_assoc (proxies_of b) (proxies_of s) more)))
 body_without (suc position) path (Grown n b s) more h =
     ap (λ (c : Gapped). Grow n (piece_body b) c)
-    (body_without position path s more h ∙ ap (λ (ps : List Proxy). without_tree position path (piece_body s) ps) (sym (dropped b s more)))
-  where
-    dropped : (b s : Layout) (more : List Proxy) → drop (proxies_in (piece_body b)) ((proxies_of b ++ proxies_of s) ++ more) ≡ proxies_of s ++ more
-    dropped b s more =
-        ap₂ (λ (n : ℕ) (ps : List Proxy). drop n ps) (sym (proxies_counted b)) (append_assoc (proxies_of b) (proxies_of s) more) ∙ drop-append_seam (proxies_of b) (proxies_of s ++ more)
+    (body_without position path s more h ∙ ap (λ (ps : List Proxy). without_tree position path (piece_body s) ps) (sym (drop_below b s more)))
 body_without position path (Kept p m s) more h =
     ap gap_more (body_without (position - width m) path s more h.1) ∙ sym (cut_behind position path (piece_body s) (proxy_of p (width m)) (proxies_of s ++ more))
 
 -- What goes and what is left:
+
+pub shift_in : {A : Type 0} (a b c d : List A) → (a ++ (b ++ c)) ++ d ≡ a ++ (b ++ (c ++ d))
+shift_in a b c d = append_assoc a (b ++ c) d ∙ ap (λ x. a ++ x) (append_assoc b c d)
 
 abbrev pub stays_parts : (position : ℕ) (path : List ℕ) (row : Layout) → StaysIn position path row → IsOutOf row (layout_without position path row) (layout_at position path row)
 stays_parts position path Bare h = absurd h

@@ -1,16 +1,17 @@
 -- A tree taken out of what one record has, and an interval below it that is replaced.
 use Rattle.std.specs.Prelude.{◌≡◌, ℕ, zero, suc, ◌+◌, ◌-◌, ◌<◌, ◌≤◌, Option, None, Some, List, [], ◌∷◌, ◌++◌, length, take, drop, option_and_then}
+use Rattle.nx_tree.specs.declared.node.Node.{Node}
 use Rattle.nx_tree.specs.Forest.{Forest, OrderedTree, nodes}
 use Rattle.nx_tree.specs.Edit.{child, at}
 use Rattle.nx_piece.specs.declared.piece.Piece.{Piece}
 use Rattle.nx_piece.specs.declared.piece.Proxy.{Proxy}
 use Rattle.std.specs.List.{sum_by}
-use Rattle.nx_piece.specs.Gapped.{GappedTree, End, Grow, gapped_nodes, proxies_in}
+use Rattle.nx_piece.specs.Gapped.{GappedTree, End, Grow, Gap, gapped_nodes, proxies_in}
 use Rattle.nx_piece.specs.Locate.{Inside, Outside, Missing, reached_in}
-use Rattle.nx_piece.specs.Cutting.{without_tree, without_proxy}
+use Rattle.nx_piece_edits.specs.Cutting.{without_tree, without_proxy, with_row}
 use Rattle.nx_cuts.specs.Cut.{Bare, Grown, Kept, forest, width, part_weight, AreFree, AreParts}
 use Rattle.nx_layouts.specs.Layout.{RecordPlace, Layout, piece_body, piece_of, proxies_of, proxy_of, places_of, AreHeld}
-use Rattle.nx_layouts.specs.Replace.{replaced_at, kept_at}
+use Rattle.nx_layouts.specs.Replace.{replaced_at, kept_at, above_at}
 
 -- a row without the tree at a path, all of whose positions lead to trees of the record
 abbrev pub layout_without : ℕ → List ℕ → Layout → Layout
@@ -76,10 +77,11 @@ pub record GoesWithTree (k position : ℕ) (path : List ℕ) (row : Layout) : Ty
 abbrev pub TreeGoesOut : Type 0
 TreeGoesOut = (k position : ℕ) (path : List ℕ) (row : Layout) → StaysIn position path row → GoesWithTree k position path row
 
--- Where one interval stands in the place of another, the record has the same nodes and gaps; where none does, it has one proxy less.
+-- Where one interval stands in the place of another, the record has the same nodes and gaps; where none does, it has one proxy less. Where some come that stand beside each other, with no tree between them, it has as many proxies in the place of the one.
 pub record RunsStay (index : ℕ) (row : Layout) : Type 0 where
   pub one : (place : RecordPlace) (members : Layout) → piece_body (replaced_at index (Kept place members Bare) row) ≡ piece_body row
   pub none : piece_body (replaced_at index Bare row) ≡ without_proxy index (piece_body row)
+  pub many : (new : Layout) → piece_body new ≡ Gap (length (proxies_of new)) End → 1 ≤ length (proxies_of new) → piece_body (replaced_at index new row) ≡ with_row index (length (proxies_of new)) (piece_body row)
 
 abbrev pub RunsAfter : Type 0
 RunsAfter = (index : ℕ) (row : Layout) → index < length (proxies_of row) → RunsStay index row
@@ -103,11 +105,12 @@ pub record StandsIn (k index : ℕ) (inside row : Layout) : Type 0 where
 abbrev pub IntervalStandsIn : Type 0
 IntervalStandsIn = (k index member : ℕ) (rest : List ℕ) (inside : Layout) (position : ℕ) (path : List ℕ) (row : Layout) → LeadsInto index member rest inside position path row → StandsIn k index inside row
 
--- A row in which an interval is replaced: what is held and light without it and of what comes is so together. A free row stays free, as wide and as heavy.
+-- A row in which an interval is replaced: what is held and light without it and of what comes is so together, and what was held and light is so without it. A free row stays free, as wide and as heavy.
 pub record IsFilled (k index : ℕ) (left row : Layout) : Type 0 where
   pub held : (pieces : RecordPlace → Option Piece) → AreHeld pieces (replaced_at index Bare row) → AreHeld pieces left → AreHeld pieces (replaced_at index left row)
   pub hole : (pieces : RecordPlace → Option Piece) → AreHeld pieces row → AreHeld pieces (replaced_at index Bare row)
-  pub light : AreParts k row → AreParts k left → AreParts k (replaced_at index left row)
+  pub light : AreParts k (replaced_at index Bare row) → AreParts k left → AreParts k (replaced_at index left row)
+  pub hole_light : AreParts k row → AreParts k (replaced_at index Bare row)
   pub free : AreFree row → AreFree (replaced_at index left row)
   pub wide : AreFree row → width (replaced_at index left row) ≡ width row
   pub heavy : part_weight left ≡ 0 → part_weight (replaced_at index left row) ≡ part_weight row
@@ -145,6 +148,20 @@ pub record LeadsOn (members : Layout) (member : ℕ) (path : List ℕ) (index in
 
 abbrev pub PathLeadsOn : Type 0
 PathLeadsOn = (members : Layout) (member : ℕ) (path : List ℕ) (index inner used : ℕ) → reached_in (piece_of members) member path ≡ Outside index inner used → LeadsOn members member path index inner used
+
+-- The path leads on from a tree of the piece: one position fewer leads to it, and its node is the one above the interval of the proxy at the index.
+pub record LeadsFromTree (members : Layout) (member : ℕ) (path : List ℕ) (index used : ℕ) : Type 0 where
+  pub some : 1 ≤ used
+  pub within : used ≤ length path
+  pub tree : GappedTree
+  pub first : ℕ
+  pub there : reached_in (piece_of members) member (take (used - 1) path) ≡ Inside tree first
+  pub above : (top : Option Node) → above_at index top members ≡ Some tree.node
+
+-- The members of an interval are trees, so a path that leads into an interval below them leads on from a tree.
+abbrev pub AboveStands : Type 0
+AboveStands =
+    (members : Layout) (member : ℕ) (path : List ℕ) (index inner used : ℕ) → AreFree members → reached_in (piece_of members) member path ≡ Outside index inner used → LeadsFromTree members member path index used
 
 -- where the path leads to nothing in the piece, it does so in the document
 abbrev pub PathIsMissing : Type 0

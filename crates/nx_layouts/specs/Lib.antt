@@ -2,3 +2,5 @@ pub mod Layout
 pub mod Replace
 pub mod Valid
 pub mod Cutting
+pub mod Setting
+pub mod Planting

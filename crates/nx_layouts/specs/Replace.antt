@@ -1,5 +1,6 @@
 -- One interval replaced by several.
 use Rattle.std.specs.Prelude.{◌≡◌, ℕ, zero, suc, ◌+◌, ◌-◌, ◌<◌, nat_lt, if◌then◌else◌, ◌++◌, length, take, drop, Option, None, Some}
+use Rattle.nx_tree.specs.declared.node.Node.{Node}
 use Rattle.nx_piece.specs.declared.piece.Piece.{Piece}
 use Rattle.nx_cuts.specs.Cut.{Bare, Grown, Kept, forest, width, part_weight, AreFree, AreParts}
 use Rattle.nx_layouts.specs.Layout.{RecordPlace, Layout, proxies_of, AreHeld}
@@ -26,6 +27,14 @@ kept_at index (Grown node below beside) =
     if nat_lt index (length (proxies_of below)) then kept_at index below else kept_at (index - length (proxies_of below)) beside
 kept_at zero (Kept place members beside) = Some members
 kept_at (suc index) (Kept place members beside) = kept_at index beside
+
+-- the node above the interval of the proxy at that index, where `above` is the node above the whole row
+abbrev pub above_at : ℕ → Option Node → Layout → Option Node
+above_at index above Bare = None
+above_at index above (Grown node below beside) =
+    if nat_lt index (length (proxies_of below)) then above_at index (Some node) below else above_at (index - length (proxies_of below)) above beside
+above_at zero above (Kept place members beside) = above
+above_at (suc index) above (Kept place members beside) = above_at index above beside
 
 -- What a record has after one of its proxies was replaced by several, where these hold the same trees. What is held but that interval, with what is held of the
 -- others, is held so, and so is what is light. Where no tree stands outside of the intervals, the row is as wide, and as heavy where none does in the new ones.

@@ -1,7 +1,9 @@
 //! What holds of records and the documents that are laid out in them.
-ghost use Rattle.nx_layouts.specs.Cutting.{IntervalIsLight, IntervalStandsIn, NodesOfRecords, PathIsMissing, PathLeadsOn, PathStays, RowIsFilled, RunsAfter, TreeGoesOut};
+ghost use Rattle.nx_layouts.specs.Cutting.{AboveStands, IntervalIsLight, IntervalStandsIn, NodesOfRecords, PathIsMissing, PathLeadsOn, PathStays, RowIsFilled, RunsAfter, TreeGoesOut};
 ghost use Rattle.nx_layouts.specs.Replace.{OneForSeveral};
 ghost use Rattle.nx_layouts.specs.Layout.{OneDocument};
+ghost use Rattle.nx_layouts.specs.Planting.{ChildrenAreChanged, FallIsThere, IntervalIsPlanted, NodeIsPlanted, RootIsPlanted, RootsAreDivided};
+ghost use Rattle.nx_layouts.specs.Setting.{ContentIsSet};
 ghost use Rattle.nx_layouts.specs.Valid.{PieceIsValid};
 
 /// From one record on the records hold one document at most, with one partitioning.
@@ -28,7 +30,7 @@ pub fn tree_goes_out()
     ensures { TreeGoesOut }
 {}
 
-/// What becomes of the runs of a record where one of its proxies changes or goes.
+/// What becomes of the runs of a record where one of its proxies changes or goes, or several come in its place.
 pub fn runs_after()
     ensures { RunsAfter }
 {}
@@ -58,6 +60,12 @@ pub fn path_leads_on()
     ensures { PathLeadsOn }
 {}
 
+/// Where a path leads from the piece of an interval into the record of a proxy, one position fewer leads to the node
+/// above the interval of that proxy.
+pub fn above_stands()
+    ensures { AboveStands }
+{}
+
 /// Where a path leads to nothing in a piece, no tree of the document is there.
 pub fn path_is_missing()
     ensures { PathIsMissing }
@@ -66,4 +74,39 @@ pub fn path_is_missing()
 /// The nodes of a row, record by record.
 pub fn nodes_of_records()
     ensures { NodesOfRecords }
+{}
+
+/// Where a path leads to a tree of a piece, its node may get another content in each row of members whose piece that is.
+pub fn content_is_set()
+    ensures { ContentIsSet }
+{}
+
+/// Where a position falls between trees of a row, what a record has, holds and weighs with a node put in there.
+pub fn node_is_planted()
+    ensures { NodeIsPlanted }
+{}
+
+/// Where a position falls between trees of a row, what a record has, holds and weighs with an interval put in there.
+pub fn interval_is_planted()
+    ensures { IntervalIsPlanted }
+{}
+
+/// How a position among the children of a piece falls in the row that they are of.
+pub fn fall_is_there()
+    ensures { FallIsThere }
+{}
+
+/// Where a path leads to a tree of a piece, its children may be changed in each row of members whose piece that is.
+pub fn children_are_changed()
+    ensures { ChildrenAreChanged }
+{}
+
+/// What a record has with a new root among its free ones.
+pub fn root_is_planted()
+    ensures { RootIsPlanted }
+{}
+
+/// What becomes of the free roots of a record where those up to a position go apart from those behind it.
+pub fn roots_are_divided()
+    ensures { RootsAreDivided }
 {}
