@@ -18,10 +18,11 @@ use Rattle.nx_piece.specs.declared.piece.Piece.{Piece}
 use Rattle.nx_piece.specs.declared.piece.Proxy.{Proxy}
 use Rattle.nx_piece.specs.Gapped.{gapped_weight}
 use Rattle.nx_layouts.specs.Layout.{RecordPlace, Layout, without_places, piece_of, proxies_of, places_of, AreHeld}
-use Rattle.nx_layouts.specs.Replace.{replaced_at, kept_at}
+use Rattle.nx_layouts.specs.Replace.{replaced_at, kept_at, above_at}
 use Rattle.nx_layouts.proofs.PlaceLemmas.{one_place}
 use Rattle.nx_layouts.proofs.HeldLemmas.{held_along, held_there}
 use Rattle.nx_layouts.proofs.ReplaceLemmas.{replaces, held_filled}
+use Rattle.nx_layouts.proofs.FillLemmas.{parts_filled}
 use Rattle.nx_hold.specs.Pieces.{HoldsNone, IsTidy, PieceMap}
 use Rattle.nx_hold.specs.Changes.{RemovesPiece, ComesTidy}
 use Rattle.nx_hold.proofs.MapLemmas.{piece_map, held_at, told_some}
@@ -29,11 +30,10 @@ use Rattle.nx_hold.proofs.MoveLemmas.{remove_moves, one_went_several_came, piece
 use Rattle.nx_hold.proofs.RefusalLemmas.{runs_then, saved_then, ends_then, no_end, rose_later}
 use Rattle.nx_drawn.specs.Splits.{Divides, SplitsInterval}
 use Rattle.nx_drafts.specs.Draft.{layout_after, came, draft_needs}
-use Rattle.nx_drafts.specs.Rows.{above_at}
 use Rattle.nx_drawn.proofs.BareLemmas.{weight_bare}
 use Rattle.nx_drafts.proofs.RowLemmas.{one_is_split}
-use Rattle.nx_drafts.proofs.FillLemmas.{parts_filled, weight-piece}
-use Rattle.nx_divide.specs.Dividing.{DividesMembers, NeedsRoom, StandApart, NotSplitAt, SplitsAt}
+use Rattle.nx_drafts.proofs.FillLemmas.{weight-piece}
+use Rattle.nx_divide.specs.Dividing.{AddsSome, DividesMembers, NeedsRoom, PutsSome, StandApart, NotSplitAt, SplitsAt}
 
 -- a part that is too heavy is divided
 divided_interval : (settings : Settings) (rules : List Rule) (above : Option Node) (m now : CutForest) (t : Bool) → t ≡ true → Divides settings rules above m now → MatchBool t (Divides settings rules above m now) (now ≡ Kept tt m Bare)
@@ -67,6 +67,7 @@ module _ {D : Type 0} (d : Ghosts D) (settings : Settings) (rules : List Rule) (
         (subst (λ (o : Option Node). SplitsInterval settings rules o (without_places members) (without_places (layout_after made.draft))) (sym node)
         (divided_interval settings rules above (without_places members) (without_places (layout_after made.draft)) (nat_lt settings.k (part_weight (without_places members))) (heavy_part piece members settings.k is heavy) made.divides));
     light = parts_filled settings.k index (layout_after made.draft) whole hole made.light;
+    gap = made.gap;
     proxies = subst (λ (l : List Proxy). proxies_of (replaced_at index (layout_after made.draft) whole) ≡ take index (proxies_of whole) ++ l ++ drop (index + 1) (proxies_of whole)) (sym made.row_is)
         (replaces index whole (layout_after made.draft) low).proxies_are;
     comes = λ saved was stands tidy.
@@ -78,6 +79,7 @@ module _ {D : Type 0} (d : Ghosts D) (settings : Settings) (rules : List Rule) (
           now.2,
           (
             one_went_several_came place (came made.draft) (draft_needs made.draft) was mid.0 now.0 mid.3 puts.adds,
+            puts.once,
             λ before after beside_apart below_apart beside below.
                 let stays = pieces_stay_beside (came made.draft) (draft_needs made.draft) mid.0 now.0 (piece_map mid.0) after puts.adds in
                 held_filled after.piece_at index (layout_after made.draft) whole
@@ -94,6 +96,15 @@ module _ {D : Type 0} (d : Ghosts D) (settings : Settings) (rules : List Rule) (
       → index < length (proxies_of whole) → SplitsAt d settings rules top index place r0 r2 x0 x2 whole members row)
   splits_ok heavy (Ok row) made = λ top index whole members kept is node hole light low. split_at top index whole members row kept is heavy node hole light low (made members is light)
   splits_ok heavy (Err e) made = tt
+
+  -- whatever stands there, one record went and some came
+  pub comes_ok : (r : Result (List Proxy) StoreError) → IfOk r (λ row. ComesTidy d r1 r2 x1 x2 AddsSome) → IfOk r (λ row. ComesTidy d r0 r2 x0 x2 (PutsSome place))
+  comes_ok (Ok row) adds = λ saved was stands tidy.
+      let mid = removes saved was stands tidy in
+      let now = adds saved mid.0 mid.1 mid.2 in
+      let some = now.3 in
+      (now.0, now.1, now.2, (some.0, some.1, one_went_several_came place some.0 some.1 was mid.0 now.0 mid.3 some.2))
+  comes_ok (Err e) adds = tt
 
   pub keeps_ok : RunsOn r0 r1 → KeepsSaved d r0 r1 x0 x1 → (r : Result (List Proxy) StoreError) → IfOk r (λ row. RunsOn r1 r2 × KeepsSaved d r1 r2 x1 x2) → IfOk r (λ row. HasChanges r2)
       → IfOk r (λ row. RunsOn r0 r2 × KeepsSaved d r0 r2 x0 x2 × HasChanges r2)

@@ -40,7 +40,8 @@ use Rattle.nx_drafts.proofs.SomeLemmas.{piece_has_members}
 use Rattle.nx_divide.specs.Marked.{IsMarkedDraft, many}
 use Rattle.nx_divide.proofs.MarkedLemmas.{marked_same}
 use Rattle.nx_divide.specs.Putting.{PutsRow}
-use Rattle.nx_divide.specs.Dividing.{DividesMembers, NeedsRoom, IsSplitOf}
+use Rattle.nx_divide.specs.Dividing.{AddsSome, DividesMembers, NeedsRoom, IsSplitOf}
+use Rattle.nx_hold.specs.Changes.{ComesTidy}
 use Rattle.nx_divide.proofs.RowLemmas.{drawn_forest-unmarked, layout_before-unmarked, many-gap_more, many-joined}
 use Rattle.nx_divide.proofs.AgreeLemmas.{plan_agrees}
 
@@ -249,3 +250,8 @@ module _ {D : Type 0} (d : Ghosts D) (settings : Settings) (most : settings.k �
   parts_wait body row p =
       let m = some_draft settings most piece parts split valid in
       ((p.put).waits).some (one_comes p.draft m.draft p.same m.held piece.body.roots (ap piece_body m.stands ∙ ap (λ (q : Piece). q.body.roots) (piece_has_members piece valid).is) valid.body.trees valid.body.some)
+
+  pub parts_come : (body : Gapped) (row : List Proxy) → PutsRow d r0 r1 x0 x1 (some_draft settings most piece parts split valid).draft body [] row → ComesTidy d r0 r1 x0 x1 AddsSome
+  parts_come body row p saved was stands tidy =
+      let now = (p.put).puts saved was stands tidy in
+      (now.0, now.1, now.2, (came p.draft, draft_needs p.draft, (now.3).adds))

@@ -17,11 +17,11 @@ use Rattle.nx_split.specs.Piece.{placed_of}
 use Rattle.nx_piece.specs.declared.piece.Piece.{Piece}
 use Rattle.nx_piece.specs.declared.piece.Proxy.{Proxy}
 use Rattle.nx_piece.specs.Gapped.{Gap, End}
-use Rattle.nx_layouts.specs.Layout.{RecordPlace, Layout, piece_of, piece_body, proxies_of, places_of, without_places, AreHeld}
+use Rattle.nx_layouts.specs.Layout.{RecordPlace, Layout, piece_of, piece_body, proxies_of, places_of, without_places, AreHeld, ArePlacedOnce}
 use Rattle.nx_layouts.specs.Replace.{replaced_at}
 use Rattle.nx_hold.specs.Pieces.{HoldsNone, IsTidy, PieceMap}
 use Rattle.nx_hold.specs.Changes.{ComesTidy}
-use Rattle.nx_hold.specs.Documents.{MovesRecords}
+use Rattle.nx_hold.specs.Documents.{AddsRecords, MovesRecords}
 use Rattle.nx_drawn.specs.Splits.{Divides, SplitsRow}
 use Rattle.nx_drafts.specs.Draft.{Draft, drawn_forest, layout_before, layout_after, came, draft_needs}
 use Rattle.nx_divide.specs.Putting.{ArePut}
@@ -60,19 +60,28 @@ NeedsRoom d settings rules above piece (error.Damaged page) old new before after
 NeedsRoom d settings rules above piece error.Ended old new before after = Unit {0}
 NeedsRoom d settings rules above piece error.Memory old new before after = Unit {0}
 
+-- records came at some places, which were free
+abbrev pub AddsSome : Held → Held → Type 0
+AddsSome was now = (places : List RecordPlace) × (needs : ℕ) × AddsRecords places needs was now
+
+-- the record at a place went, and records came at some places, which were free or that one's
+abbrev pub PutsSome : RecordPlace → Held → Held → Type 0
+PutsSome place was now = (places : List RecordPlace) × (needs : ℕ) × MovesRecords (place ∷ []) places needs was now
+
 -- no record of this layout stands at the place
 abbrev pub StandApart : RecordPlace → Layout → Type 0
 StandApart place layout = Contains (places_of layout) place → ⊥
 
--- The interval of the proxy at an index of a row is replaced by others, with these proxies, and its record at this place went: the row is split, and where all else was held, what stands below the
--- part too, in records of other places, all is held.
+-- The interval of the proxy at an index of a row is replaced by others, which hold all its trees, with these proxies. Its record at this place went, and those that came stand once each. The row is split, and where all else was
+-- held, what stands below the part too, in records of other places, all is held.
 pub record SplitsAt {D : Type 0} (d : Ghosts D) (settings : Settings) (rules : List Rule) (top : Option Node) (index : ℕ) (place : RecordPlace) (old new : Records) (before after : D) (whole members : Layout) (row : List Proxy) : Type 0 where
   pub draft : Draft RecordPlace
   pub stands : layout_before draft ≡ members
   pub splits : SplitsRow settings rules top (without_places whole) (without_places (replaced_at index (layout_after draft) whole))
   pub light : AreParts settings.k (replaced_at index (layout_after draft) whole)
+  pub gap : piece_body (layout_after draft) ≡ Gap (length row) End
   pub proxies : proxies_of (replaced_at index (layout_after draft) whole) ≡ take index (proxies_of whole) ++ row ++ drop (index + 1) (proxies_of whole)
-  pub comes : ComesTidy d old new before after (λ was now. MovesRecords (place ∷ []) (came draft) (draft_needs draft) was now
+  pub comes : ComesTidy d old new before after (λ was now. MovesRecords (place ∷ []) (came draft) (draft_needs draft) was now × ArePlacedOnce (came draft)
       × ((before : PieceMap was) (after : PieceMap now) → StandApart place (replaced_at index Bare whole) → StandApart place members → AreHeld before.piece_at (replaced_at index Bare whole) → AreHeld before.piece_at members
       → AreHeld after.piece_at (replaced_at index (layout_after draft) whole)))
 

@@ -7,18 +7,17 @@ ghost use Rattle.nx_cuts.specs.Cut.{Bare, AreParts};
 ghost use Rattle.nx_parts.specs.Partitioning.{holder};
 ghost use Rattle.nx_records.specs.Records.{HasChanges, KeepsSaved, has_ended, settings_of};
 ghost use Rattle.nx_records.specs.Refusals.{NotStored, RunsOn};
-ghost use Rattle.nx_hold.specs.Changes.{place_of};
+ghost use Rattle.nx_hold.specs.Changes.{ComesTidy, place_of};
 ghost use Rattle.nx_piece.specs.Gapped.{Gapped, gapped_weight, grown_of};
 ghost use Rattle.nx_piece.specs.Items.{gapped_of};
 ghost use Rattle.nx_piece.specs.Valid.{IsPiece};
 ghost use Rattle.nx_layouts.specs.Layout.{Layout, piece_of, proxies_of};
-ghost use Rattle.nx_layouts.specs.Replace.{kept_at, replaced_at};
+ghost use Rattle.nx_layouts.specs.Replace.{above_at, kept_at, replaced_at};
 ghost use Rattle.nx_split.specs.Piece.{AreGappedAtMost};
 ghost use Rattle.nx_drafts.specs.Draft.{Draft, draft_needs};
-ghost use Rattle.nx_drafts.specs.Rows.{above_at};
 ghost use Rattle.nx_divide.specs.Marked.{IsMarkedDraft, many};
 ghost use Rattle.nx_divide.specs.Putting.{PutsRow};
-ghost use Rattle.nx_divide.specs.Dividing.{DividesMembers, NeedsRoom, NotSplitAt, SplitsAt, IsSplitOf};
+ghost use Rattle.nx_divide.specs.Dividing.{AddsSome, DividesMembers, NeedsRoom, NotSplitAt, PutsSome, SplitsAt, IsSplitOf};
 
 use crate::row::next_root;
 use crate::walk::items_of;
@@ -35,8 +34,9 @@ use std::alloc::Global;
 
 /// Divides a piece that became too heavy for its record: each interval of a split of it is put as a record of its
 /// own, and the proxies of those that hold the roots are answered, in order. `above` is the node above the piece,
-/// `None` where it holds the document's `Doc` node. Records that the piece's proxies name stay as they are. The
-/// record that the piece stood in is the caller's matter, who removes it before.
+/// `None` where it holds the document's `Doc` node. Records that the piece's proxies name stay as they are, and so do
+/// all others, whatever interval has the piece. The record that the piece stood in is the caller's matter, who removes
+/// it before.
 ///
 /// The piece has to be one that may be stored, but it may weigh up to 512 and have up to 257 roots; it has to weigh
 /// more than the K of these records, and none of its nodes may. It has 524,288 nodes and proxies at most.
@@ -59,6 +59,7 @@ pub fn divide<D: Disk>(
     ensures still { IsStill D.Disk disk.old disk.new }
     ensures ok { IfOk result (λ row. (members : Layout) → piece_of members ≡ piece → AreParts (settings_of records.old).k members →
         DividesMembers D.Disk (settings_of records.old) matrix.now (option_copied above.entry) records.old records.new disk.old disk.new members row) }
+    ensures comes { IfOk result (λ row. ComesTidy D.Disk records.old records.new disk.old disk.new AddsSome) }
     ensures keeps { IfOk result (λ row. RunsOn records.old records.new × KeepsSaved D.Disk records.old records.new disk.old disk.new) }
     ensures waits { IfOk result (λ row. HasChanges records.new) }
     ensures full { IfErr result (λ e. NeedsRoom D.Disk (settings_of records.old) matrix.now (option_copied above.entry) piece e records.old records.new disk.old disk.new) }
@@ -97,6 +98,7 @@ fn put_parts<D: Disk>(
     ensures still { IsStill D.Disk disk.old disk.new }
     ensures ok { IfOk result (λ row. (drawn : Draft (Unit {0})) → IsMarkedDraft None (holder parts.now) 0 piece.body.roots piece.proxies drawn →
         (body : Gapped) × PutsRow D.Disk records.old records.new disk.old disk.new drawn body [] row) }
+    ensures comes { IfOk result (λ row. ComesTidy D.Disk records.old records.new disk.old disk.new AddsSome) }
     ensures keeps { IfOk result (λ row. RunsOn records.old records.new × KeepsSaved D.Disk records.old records.new disk.old disk.new) }
     ensures waits { IfOk result (λ row. HasChanges records.new) }
     ensures cause { IfErr result (λ e. (needs : ℕ) × NotStored D.Disk (λ was. needs) (λ was. ⊥) 0 e records.old records.new disk.old disk.new) }
@@ -164,6 +166,7 @@ pub fn divide_at<D: Disk>(
     ensures splits { IfOk result (λ row. (top : Option AnyNode) (index : ℕ) (whole members : Layout) → kept_at index whole ≡ Some members → piece_of members ≡ piece → above_at index top whole ≡ option_copied above.entry →
         AreParts (settings_of records.old).k (replaced_at index Bare whole) → AreParts (settings_of records.old).k members → index < length (proxies_of whole) →
         SplitsAt D.Disk (settings_of records.old) matrix.now top index (place_of rid) records.old records.new disk.old disk.new whole members row) }
+    ensures comes { IfOk result (λ row. ComesTidy D.Disk records.old records.new disk.old disk.new (PutsSome (place_of rid))) }
     ensures keeps { IfOk result (λ row. RunsOn records.old records.new × KeepsSaved D.Disk records.old records.new disk.old disk.new × HasChanges records.new) }
     ensures refused { IfErr result (λ e. NotSplitAt D.Disk (settings_of records.old) matrix.now (option_copied above.entry) (place_of rid) piece e records.old records.new disk.old disk.new) }
 {

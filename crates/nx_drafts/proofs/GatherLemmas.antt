@@ -33,7 +33,7 @@ width-layout_before (Grows n b s) = omega (arith, width-layout_before s)
 width-layout_before (Stands r m s) = omega (arith, width-layout_before s, width_bare m)
 width-layout_before (Comes u m s) = omega (arith, width-joined (layout_before m) (layout_before s), width-layout_before m, width-layout_before s)
 
-pub forest-layout_before : (c : Plan) → forest (layout_before c) ≡ forest (drawn_forest c)
+pub forest-layout_before : {P : Type 0} (c : Draft P) → forest (layout_before c) ≡ forest (drawn_forest c)
 forest-layout_before Ends = refl
 forest-layout_before (Grows n b s) = ap (λ (f : Forest). Plant n f (forest (layout_before s))) (forest-layout_before b) ∙ ap (Plant n (forest (drawn_forest b))) (forest-layout_before s)
 forest-layout_before (Stands r m s) = ap (λ (f : Forest). joined f (forest (layout_before s))) (sym (forest_bare m)) ∙ ap (joined (forest (without_places m))) (forest-layout_before s)

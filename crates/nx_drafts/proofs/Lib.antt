@@ -7,3 +7,4 @@ pub mod FillLemmas
 pub mod PlacesLemmas
 pub mod SomeLemmas
 pub mod OnceLemmas
+pub mod NeedsLemmas

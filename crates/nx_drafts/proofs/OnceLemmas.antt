@@ -1,12 +1,12 @@
 -- The one part of a layout that weighs more than k, by its index.
-use Rattle.std.proofs.Common.{◌≡◌, ℕ, zero, suc, ◌+◌, ◌-◌, ◌<◌, ◌≤◌, nat_lt, if◌then◌else◌, Bool, true, false, length, Option, Some, inl, inr, refl, sym, subst, arith}
+use Rattle.std.proofs.Common.{◌≡◌, ℕ, zero, suc, ◌-◌, ◌<◌, ◌≤◌, nat_lt, if◌then◌else◌, true, false, length, Some, inl, inr, subst, arith}
 use Rattle.std.specs.Prelude.{◌⊎◌}
 use Rattle.nx_cuts.specs.Cut.{Bare, Grown, Kept, width, part_weight, AreParts}
 use Rattle.nx_layouts.specs.Layout.{Layout, without_places, proxies_of}
 use Rattle.nx_layouts.specs.Replace.{replaced_at, kept_at}
 use Rattle.nx_drawn.specs.Growth.{PartIsAtMost, MayBeHeavy, IsHeavyOnce}
 use Rattle.nx_drawn.proofs.BareLemmas.{width_bare, weight_bare, free_with, parts_with}
-use Rattle.nx_drafts.specs.Once.{FindsHeavy, HeavyIsThere, HeavyIsLaid}
+use Rattle.nx_drafts.specs.Once.{HeavyIsThere, HeavyIsLaid}
 
 -- an interval of a row in which no part is too heavy
 light_kept : (k index : ℕ) (row members : Layout) → AreParts k row → kept_at index row ≡ Some members → (part_weight members ≤ k) × AreParts k members

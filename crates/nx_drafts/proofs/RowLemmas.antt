@@ -1,5 +1,5 @@
 -- One interval of a row that is replaced by a split of it.
-use Rattle.std.proofs.Common.{◌≡◌, ℕ, zero, suc, ◌-◌, ◌<◌, ◌≤◌, nat_lt, if◌then◌else◌, Bool, true, false, length, List, Option, None, Some, refl, sym, ap, subst, arith}
+use Rattle.std.proofs.Common.{◌≡◌, ℕ, zero, suc, ◌-◌, ◌<◌, ◌≤◌, nat_lt, if◌then◌else◌, Bool, true, false, length, List, Option, None, Some, refl, sym, ap, ◌∙◌, subst, arith}
 use Rattle.std.specs.Bool.{MatchBool}
 use Rattle.std.proofs.lemmas.Bool.Decides.{nat_tests}
 use Rattle.nx_tree.specs.declared.node.Node.{Node}
@@ -7,10 +7,11 @@ use Rattle.nx_cuts.specs.Cut.{CutForest, Bare, Grown, Kept, part_weight, ArePart
 use Rattle.nx_matrix.specs.declared.rule.Rule.{Rule}
 use Rattle.nx_holdings.specs.declared.header.Settings.{Settings}
 use Rattle.nx_layouts.specs.Layout.{RecordPlace, Layout, without_places, proxies_of}
-use Rattle.nx_layouts.specs.Replace.{joined_layout, replaced_at, kept_at}
+use Rattle.nx_layouts.specs.Replace.{joined_layout, replaced_at, kept_at, above_at}
 use Rattle.nx_cuts.specs.Rows.{joined_row}
+use Rattle.nx_cuts.proofs.RowLemmas.{joined_row-none}
 use Rattle.nx_drawn.specs.Splits.{Divides, SplitsInterval, SplitsRow, whole_document}
-use Rattle.nx_drafts.specs.Rows.{above_at, OneIsSplit, SplitStaysAbove, RootIsSplit}
+use Rattle.nx_drafts.specs.Rows.{OneIsSplit, SplitStaysAbove, RowSplitsAbove, LightRowStays, RootIsSplit}
 use Rattle.nx_drawn.proofs.BareLemmas.{weight_bare, parts_bare}
 
 pub bare-joined : (a b : Layout) → without_places (joined_layout a b) ≡ joined_row (without_places a) (without_places b)
@@ -109,6 +110,60 @@ module _ (settings : Settings) (rules : List Rule) where
         refl,
       )
 
+  row_above : (above : Option Node) (index : ℕ) (old members row : Layout) → kept_at index old ≡ Some members → AreParts settings.k (replaced_at index Bare old)
+      → SplitsRow settings rules (above_at index above old) (Kept tt (without_places members) Bare) (without_places row) → SplitsRow settings rules above (without_places old) (without_places (replaced_at index row old))
+  row_above above index Bare members row e a splits = cc
+  row_above above index (Grown n b s) members row e a splits =
+      (elim (nat_lt index (length (proxies_of b))) as (λ t.
+      (if t then kept_at index b else kept_at (index - length (proxies_of b)) s) ≡ Some members
+      → AreParts settings.k (if t then Grown n (replaced_at index Bare b) s else Grown n b (replaced_at (index - length (proxies_of b)) Bare s))
+      → SplitsRow settings rules (if t then above_at index (Some n) b else above_at (index - length (proxies_of b)) above s) (Kept tt (without_places members) Bare) (without_places row)
+      → SplitsRow settings rules above (Grown n (without_places b) (without_places s)) (without_places (if t then Grown n (replaced_at index row b) s else Grown n b (replaced_at (index - length (proxies_of b)) row s)))) [
+        | true ↦ λ f h w. (without_places (replaced_at index row b), without_places s, row_above (Some n) index b members row f h.0 w, row_stays above (without_places s) (parts_bare settings.k s h.1), refl)
+        | false ↦ λ f h w. (
+          without_places b,
+          without_places (replaced_at (index - length (proxies_of b)) row s),
+          row_stays (Some n) (without_places b) (parts_bare settings.k b h.0),
+          row_above above (index - length (proxies_of b)) s members row f h.1 w,
+          refl,
+        )
+      ]) e a splits
+  row_above above zero (Kept r m s) members row e a splits =
+      let same : m ≡ members = cc in
+      let is : without_places row ≡ splits.1 = splits.6 ∙ ap (joined_row splits.1) splits.5 ∙ joined_row-none splits.1 in (
+        splits.0,
+        splits.1,
+        without_places s,
+        subst (λ (l : Layout). SplitsRow settings rules above (without_places l) splits.0) (sym same) splits.3,
+        splits.4,
+        row_stays above (without_places s) (parts_bare settings.k s a),
+        bare-joined row s ∙ ap (λ (c : CutForest). joined_row c (without_places s)) is,
+      )
+  row_above above (suc index) (Kept r m s) members row e a splits =
+      let h = parts_bare settings.k (Kept r m (replaced_at index Bare s)) a in (
+        without_places m,
+        Kept tt (without_places m) Bare,
+        without_places (replaced_at index row s),
+        row_stays above (without_places m) h.3,
+        stays_interval (without_places m) above (nat_lt settings.k (part_weight (without_places m))) refl h.2,
+        row_above above index s members row e a.4 splits,
+        refl,
+      )
+
+  interval_above : (above : Option Node) (index : ℕ) (old members row : Layout) → kept_at index old ≡ Some members → AreParts settings.k (replaced_at index Bare old) → part_weight (replaced_at index row old) ≤ settings.k
+      → SplitsRow settings rules (above_at index above old) (Kept tt (without_places members) Bare) (without_places row)
+      → SplitsRow settings rules above (Kept tt (without_places old) Bare) (Kept tt (without_places (replaced_at index row old)) Bare)
+  interval_above above index old members row e a light splits =
+      let now : CutForest = without_places (replaced_at index row old) in (
+        now,
+        Kept tt now Bare,
+        Bare,
+        row_above above index old members row e a splits,
+        stays_interval now above (nat_lt settings.k (part_weight now)) refl (omega (arith, light, weight_bare (replaced_at index row old))),
+        refl,
+        refl,
+      )
+
 pub one_is_split : OneIsSplit
 one_is_split settings rules above index old members row e a parts splits = one_split settings rules above index old members row e a parts splits
 
@@ -119,3 +174,9 @@ pub root_is_split : RootIsSplit
 root_is_split settings rules root place old new before after one other splits =
     subst (λ (b : CutForest). SplitsRow settings rules None (Kept tt (Grown old.node b Bare) Bare) (whole_document new)) one
     (subst (λ (b : CutForest). SplitsRow settings rules None (Kept tt (Grown old.node (without_places before) Bare) Bare) (Kept tt (Grown new.node b Bare) Bare)) other splits)
+
+pub row_splits_above : RowSplitsAbove
+row_splits_above settings rules above index old members row e a light splits = interval_above settings rules above index old members row e a light splits
+
+pub light_row_stays : LightRowStays
+light_row_stays settings rules above row a = row_stays settings rules above row a

@@ -1,16 +1,17 @@
 -- What holds of splits in documents that are drawn, and of their drafts.
-use Rattle.std.specs.Prelude.{◌≡◌, ℕ, ◌≤◌, List, [], ◌++◌, Option, IsPermutation}
+use Rattle.std.specs.Prelude.{◌≡◌, ℕ, ◌*◌, ◌≤◌, List, [], ◌++◌, Option, IsPermutation}
 use Rattle.nx_tree.specs.declared.node.Node.{Node}
+use Rattle.nx_tree.specs.Forest.{nodes}
 use Rattle.nx_parts.specs.declared.interval.Interval.{Interval}
 use Rattle.nx_matrix.specs.declared.rule.Rule.{Rule}
-use Rattle.nx_cuts.specs.Cut.{intervals, AreParts}
+use Rattle.nx_cuts.specs.Cut.{forest, intervals, AreParts}
 use Rattle.nx_holdings.specs.declared.header.Settings.{Settings}
 use Rattle.nx_piece.specs.declared.piece.Piece.{Piece}
 use Rattle.nx_piece.specs.Valid.{IsPiece}
 use Rattle.nx_layouts.specs.Layout.{RecordPlace, Layout, piece_of, places_of, without_places}
 use Rattle.nx_sketch.specs.Split.{IsSplit}
 use Rattle.nx_drawn.specs.Splits.{part_nodes}
-use Rattle.nx_drafts.specs.Draft.{Draft, drawn_forest, layout_before, layout_after, came, AreHeldAll}
+use Rattle.nx_drafts.specs.Draft.{Draft, drawn_forest, layout_before, layout_after, came, draft_needs, AreHeldAll}
 
 -- These intervals are drawn into a layout, in which all others stand as they did.
 pub record IsDrafted (k : ℕ) (members : Layout) (parts : List Interval) : Type 0 where
@@ -29,6 +30,10 @@ SplitIsDrafted =
 -- Of a draft whose records have all come, the places are those that came and those that stood.
 abbrev pub PlacesAreBoth : Type 0
 PlacesAreBoth = (draft : Draft RecordPlace) → IsPermutation (places_of (layout_after draft)) (came draft ++ places_of (layout_before draft))
+
+-- The records that come may take two pages for each node at most: one for each interval, and one at most for each proxy.
+abbrev pub NeedsAreFew : Type 0
+NeedsAreFew = (k : ℕ) (draft : Draft (Unit {0})) → AreParts k (drawn_forest draft) → draft_needs draft ≤ 2 * nodes (forest (layout_before draft))
 
 -- Some layout has this piece, and no part below its part weighs more than 256.
 pub record HasMembers (piece : Piece) : Type 0 where

@@ -1,7 +1,7 @@
 //! What holds of splits in documents that are drawn, and of drafts.
-ghost use Rattle.nx_drafts.specs.Laws.{PieceHasMembers, PlacesAreBoth, SplitIsDrafted};
+ghost use Rattle.nx_drafts.specs.Laws.{NeedsAreFew, PieceHasMembers, PlacesAreBoth, SplitIsDrafted};
 ghost use Rattle.nx_drafts.specs.Once.{HeavyIsLaid, HeavyIsThere};
-ghost use Rattle.nx_drafts.specs.Rows.{OneIsSplit, RootIsSplit, SplitStaysAbove};
+ghost use Rattle.nx_drafts.specs.Rows.{LightRowStays, OneIsSplit, RootIsSplit, RowSplitsAbove, SplitStaysAbove};
 
 /// A split can be drawn into the layout of the part that it divides.
 pub fn split_is_drafted()
@@ -19,6 +19,17 @@ pub fn split_stays_above()
     ensures { SplitStaysAbove }
 {}
 
+/// Where the interval below was split into whatever row, and the part above it doesn't become too heavy, the interval
+/// above is split into one that has this row: so a change goes up, whether a record below was divided or not.
+pub fn row_splits_above()
+    ensures { RowSplitsAbove }
+{}
+
+/// A row none of whose parts is too heavy is split into itself.
+pub fn light_row_stays()
+    ensures { LightRowStays }
+{}
+
 /// The whole document is split where the interval of its root is.
 pub fn root_is_split()
     ensures { RootIsSplit }
@@ -27,6 +38,11 @@ pub fn root_is_split()
 /// Of a draft whose records have all come, the places are those that came and those that stood.
 pub fn places_are_both()
     ensures { PlacesAreBoth }
+{}
+
+/// The records of a draft that are to come may take two pages for each node at most.
+pub fn needs_are_few()
+    ensures { NeedsAreFew }
 {}
 
 /// Each piece that may be divided is that of some layout.

@@ -10,7 +10,7 @@ use Rattle.nx_cuts.specs.Cut.{AreParts}
 use Rattle.nx_layouts.specs.Layout.{Layout, piece_of}
 use Rattle.nx_hold.specs.Changes.{place_of}
 use Rattle.nx_divide.specs.Dividing.{DividesMembers, NeedsRoom, NotSplitAt}
-use Rattle.nx_divide.proofs.SplitLemmas.{splits_ok, keeps_ok, splits_refused, removal_refused}
+use Rattle.nx_divide.proofs.SplitLemmas.{splits_ok, comes_ok, keeps_ok, splits_refused, removal_refused}
 use Rattle.nx_divide.proofs.dividing.divide_at.Goals as goal
 
 pub returns-in_err-remove_piece-clause-refused : goal.returns-in_err-remove_piece-clause-refused
@@ -37,3 +37,8 @@ pub returns-clause-keeps : goal.returns-clause-keeps
 returns-clause-keeps g c =
     keeps_ok g.D.Disk (settings_of c.args.records.now) c.args.matrix.now (option_copied c.args.above) (place_of c.args.rid) c.args.records.now c.remove_piece.new.records c.divide.new.records c.args.disk.now c.remove_piece.new.disk c.divide.new.disk c.args.piece c.in_ok-remove_piece.ensures.ok
     c.in_ok-remove_piece.ensures.keeps.0 c.in_ok-remove_piece.ensures.keeps.1 c.divide.result c.divide.ensures.keeps c.divide.ensures.waits
+
+pub returns-clause-comes : goal.returns-clause-comes
+returns-clause-comes g c =
+    comes_ok g.D.Disk (settings_of c.args.records.now) c.args.matrix.now (option_copied c.args.above) (place_of c.args.rid) c.args.records.now c.remove_piece.new.records c.divide.new.records c.args.disk.now c.remove_piece.new.disk c.divide.new.disk c.args.piece c.in_ok-remove_piece.ensures.ok
+    c.divide.result c.divide.ensures.comes

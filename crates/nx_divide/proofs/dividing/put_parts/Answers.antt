@@ -12,7 +12,7 @@ use Rattle.nx_piece.specs.Items.{gapped_of}
 use Rattle.nx_drafts.specs.Draft.{Draft, draft_needs}
 use Rattle.nx_divide.specs.Marked.{IsMarkedDraft}
 use Rattle.nx_divide.specs.Putting.{PutsRow}
-use Rattle.nx_divide.proofs.TopLemmas.{some_draft, some_marked, few_parts, roots_marked, items_few, parts_wait}
+use Rattle.nx_divide.proofs.TopLemmas.{some_draft, some_marked, few_parts, roots_marked, items_few, parts_come, parts_wait}
 use Rattle.nx_divide.proofs.dividing.put_parts.Goals as goal
 
 pub mark_members-requires : goal.mark_members-requires
@@ -65,5 +65,11 @@ returns-in_err-items_of-clause-cause g c =
 pub returns-clause-waits : goal.returns-clause-waits
 returns-clause-waits g c =
     parts_wait g.D.Disk (settings_of c.args.records.now) c.args.records.now.head_range.settings.k.1 c.args.piece c.args.parts.now c.requires.split c.requires.piece c.args.records.now c.items_of.new.records c.args.disk.now c.items_of.new.disk c.in_ok-items_of.field-0 c.items_of.new.proxies
+    (subst (λ (l : List Proxy). PutsRow g.D.Disk c.args.records.now c.items_of.new.records c.args.disk.now c.items_of.new.disk (some_draft (settings_of c.args.records.now) c.args.records.now.head_range.settings.k.1 c.args.piece c.args.parts.now c.requires.split c.requires.piece).draft c.in_ok-items_of.field-0 l c.items_of.new.proxies) c.new-proxies.ensures
+    (c.in_ok-items_of.ensures.ok (some_draft (settings_of c.args.records.now) c.args.records.now.head_range.settings.k.1 c.args.piece c.args.parts.now c.requires.split c.requires.piece).draft (roots_marked c.in-Ok.mark c.below.result.now c.args.parts.now c.args.piece.body.roots (gapped_of c.in-Ok-items_from.roots.items) c.args.piece.proxies (into_iter_items c.into_iter-olds.result) (some_draft (settings_of c.args.records.now) c.args.records.now.head_range.settings.k.1 c.args.piece c.args.parts.now c.requires.split c.requires.piece).draft c.in-Ok.ensures.marked c.below.ensures (c.in-Ok-items_from.ensures ∙ c.into_vec-2.ensures) (c.into_iter-olds.ensures.rest ∙ c.into_vec.ensures) (some_marked (settings_of c.args.records.now) c.args.records.now.head_range.settings.k.1 c.args.piece c.args.parts.now c.requires.split c.requires.piece))))
+
+pub returns-clause-comes : goal.returns-clause-comes
+returns-clause-comes g c =
+    parts_come g.D.Disk (settings_of c.args.records.now) c.args.records.now.head_range.settings.k.1 c.args.piece c.args.parts.now c.requires.split c.requires.piece c.args.records.now c.items_of.new.records c.args.disk.now c.items_of.new.disk c.in_ok-items_of.field-0 c.items_of.new.proxies
     (subst (λ (l : List Proxy). PutsRow g.D.Disk c.args.records.now c.items_of.new.records c.args.disk.now c.items_of.new.disk (some_draft (settings_of c.args.records.now) c.args.records.now.head_range.settings.k.1 c.args.piece c.args.parts.now c.requires.split c.requires.piece).draft c.in_ok-items_of.field-0 l c.items_of.new.proxies) c.new-proxies.ensures
     (c.in_ok-items_of.ensures.ok (some_draft (settings_of c.args.records.now) c.args.records.now.head_range.settings.k.1 c.args.piece c.args.parts.now c.requires.split c.requires.piece).draft (roots_marked c.in-Ok.mark c.below.result.now c.args.parts.now c.args.piece.body.roots (gapped_of c.in-Ok-items_from.roots.items) c.args.piece.proxies (into_iter_items c.into_iter-olds.result) (some_draft (settings_of c.args.records.now) c.args.records.now.head_range.settings.k.1 c.args.piece c.args.parts.now c.requires.split c.requires.piece).draft c.in-Ok.ensures.marked c.below.ensures (c.in-Ok-items_from.ensures ∙ c.into_vec-2.ensures) (c.into_iter-olds.ensures.rest ∙ c.into_vec.ensures) (some_marked (settings_of c.args.records.now) c.args.records.now.head_range.settings.k.1 c.args.piece c.args.parts.now c.requires.split c.requires.piece))))
