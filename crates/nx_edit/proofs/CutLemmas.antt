@@ -121,7 +121,7 @@ rest_stays position path (Kept p m s) h =
     subst (λ (t : Bool). (if t then places_off false (position ∷ path) m ++ places_of s else p ∷ places_of m ++ places_off false ((position - width m) ∷ path) s) ≡ p ∷ places_of m ++ places_of (layout_without (position - width m) path s)) (sym (not_less position (width m) h.0))
     (ap (λ (ps : List RecordPlace). p ∷ places_of m ++ ps) (rest_stays (position - width m) path s h.1))
 
-member_there : (position : ℕ) (path : List ℕ) (row : Layout) → StaysIn position path row → position < width row
+pub member_there : (position : ℕ) (path : List ℕ) (row : Layout) → StaysIn position path row → position < width row
 member_there position path Bare h = absurd h
 member_there zero path (Grown n b s) h = omega arith
 member_there (suc position) path (Grown n b s) h = let e = member_there position path s h in omega (arith, e)
@@ -151,7 +151,7 @@ interval_left position (q ∷ path) place members h =
 
 -- Intervals that the path leads into:
 
-into_there : (index member : ℕ) (rest : List ℕ) (inside : Layout) (position : ℕ) (path : List ℕ) (row : Layout) → LeadsInto index member rest inside position path row → position < width row
+pub into_there : (index member : ℕ) (rest : List ℕ) (inside : Layout) (position : ℕ) (path : List ℕ) (row : Layout) → LeadsInto index member rest inside position path row → position < width row
 into_there index member rest inside position path Bare h = absurd h
 into_there index member rest inside zero path (Grown n b s) h = omega arith
 into_there index member rest inside (suc position) path (Grown n b s) h = let e = into_there (index - length (proxies_of b)) member rest inside position path s h.1 in omega (arith, e)

@@ -18,7 +18,7 @@ use Rattle.nx_records.specs.declared.records.Records.{Records}
 use Rattle.nx_records.specs.declared.error.StoreError.{StoreError}
 use Rattle.nx_records.specs.declared.error.StoreError.TheVariants as store
 use Rattle.nx_records.specs.Records.{has_ended, KeepsSaved, LeavesRecords}
-use Rattle.nx_records.proofs.LeaveLemmas.{leaves_runs, leaves_saved, leaves_stand}
+use Rattle.nx_records.proofs.LeaveLemmas.{leaves_stand}
 use Rattle.nx_records.specs.Refusals.{RunsOn}
 use Rattle.nx_piece.specs.declared.piece.Proxy.{Proxy}
 use Rattle.nx_cuts.specs.Cut.{CutForest, CutTree, Bare, Grown, Kept, forest, tree_of, AreParts}
@@ -29,7 +29,6 @@ use Rattle.nx_hold.specs.Pieces.{PieceMap}
 use Rattle.nx_hold.specs.Documents.{HasDocument, MovesRecords}
 use Rattle.nx_hold.proofs.RefusalLemmas.{runs_then, saved_then}
 use Rattle.nx_nav.specs.declared.error.NavError.{NavError}
-use Rattle.nx_nav.specs.declared.error.NavError.TheVariants as nav
 use Rattle.nx_nav.specs.declared.finding.Shown.{Shown}
 use Rattle.nx_nav.specs.Refusals.{OfEach, HoldsNoDocument, IsRefused}
 use Rattle.nx_nav.specs.Shows.{ShowsNode}
@@ -42,9 +41,10 @@ use Rattle.nx_edit.specs.declared.error.EditError.{EditError}
 use Rattle.nx_edit.specs.declared.error.EditError.TheVariants as error
 use Rattle.nx_edit.specs.Removing.{document_places, OfEntry, HasNone}
 use Rattle.nx_edit.specs.Editing.{places_off, IsEdited, EditsDocument}
-use Rattle.nx_edit.specs.Refusals.{refused_by, deletion_fault, is_of_path, edit_needs, edit_error, seen_error, LeavesLastCommit, NotEdited}
+use Rattle.nx_edit.specs.Refusals.{refused_by, deletion_fault, is_of_path, edit_needs, edit_error, seen_error, NotEdited}
 use Rattle.nx_edit.specs.Rows.{row_nodes, deleted_row, IsHeldInterval, IsReplaced, left_of, left_needs, IsLeftOf, DeletesIn, NotDeletedIn}
 use Rattle.nx_edit.proofs.RemoveLemmas.{later_rose, ends_behind}
+use Rattle.nx_edit.proofs.DocumentLemmas.{left_there, seen_refused}
 
 -- the error that a `?` hands on
 pub handed_on : {T E : Type 0} (r : Result T E) (P : E → Type 0) (e : E) → (y : E) × (r ≡ Err y) × (y ≡ e) → P e → IfErr r P
@@ -226,17 +226,11 @@ module _ {D : Type 0} (d : Ghosts D) (entry : DocEntry) (path : List ℕ) (some 
   abbrev pub NotDeleted : EditError → Records → D → Type 0
   NotDeleted e r x = NotEdited d is_of_path (deletion_fault path) (edit_needs (cut_at path)) entry e r0 r x0 x
 
-  left_same : has_ended r0 ≡ false → LeavesRecords r0 r1 → LeavesLastCommit d r0 r1 x0 x1
-  left_same runs leaves = (leaves_runs {r0 = r0} {r1 = r1} runs leaves, leaves_saved {d = d} {r0 = r0} {r1 = r1} leaves still)
-
   pub look_refused : (e : NavError) → IsRefused d (OfEach d r0 x0 (place_of entry.root) (λ document. at (tree_of document) path ≡ None)) ⊥ (HoldsNoDocument d r0 x0 (place_of entry.root)) e r0 r1 x0 x1
       → NotDeleted (seen_error e) r1 x1
-  look_refused nav.NoNode refused = (refl, left_same refused.1 refused.2, λ document has tidy counted. fault_nowhere path (tree_of document) some (refused.0 document has))
-  look_refused nav.Disk refused = refused
-  look_refused nav.Write refused = absurd refused.0
-  look_refused (nav.Damaged page) refused = (refused.1, λ document has tidy counted. refused.0 document has)
-  look_refused nav.Ended refused = refused
-  look_refused nav.Memory refused = left_same refused.0 refused.1
+  look_refused e refused =
+      seen_refused d r0 r1 x0 x1 still is_of_path (deletion_fault path) (edit_needs (cut_at path)) entry refl (OfEach d r0 x0 (place_of entry.root) (λ document. at (tree_of document) path ≡ None))
+      (λ none document has. fault_nowhere path (tree_of document) some (none document has)) e refused
 
   module _ (runs : has_ended r0 ≡ false) (leaves : LeavesRecords r0 r1) (shown : Shown) (shows : OfEach d r0 x0 (place_of entry.root) (λ document. ShowsNode (tree_of document) path shown)) where
     refusal_shown : (document : CutTree) → HasDocument d r0 x0 (place_of entry.root) document → delete_refusal path (tree_of document) ≡ (if (length path == 1) && is_element shown.node.kind then Some tree.BadPlace else None)
@@ -246,7 +240,7 @@ module _ {D : Type 0} (d : Ghosts D) (entry : DocEntry) (path : List ℕ) (some 
         ∙ ap (λ (n : Node). if (length path == 1) && is_element n.kind then Some tree.BadPlace else None) (sym there.2)
 
     pub root_refused : ((length path == 1) && is_element shown.node.kind) ≡ true → NotDeleted error.BadPlace r1 x1
-    root_refused is = (refl, left_same runs leaves, λ document has tidy counted. ap (option_and_then refused_by) (refusal_shown document has ∙ chosen _ (Some tree.BadPlace) is))
+    root_refused is = (refl, left_there d r0 r1 x0 x1 still runs leaves, λ document has tidy counted. ap (option_and_then refused_by) (refusal_shown document has ∙ chosen _ (Some tree.BadPlace) is))
 
     module _ (not : ((length path == 1) && is_element shown.node.kind) ≡ false) where
       refusal_none : (document : CutTree) → HasDocument d r0 x0 (place_of entry.root) document → delete_refusal path (tree_of document) ≡ None
@@ -263,10 +257,10 @@ module _ {D : Type 0} (d : Ghosts D) (entry : DocEntry) (path : List ℕ) (some 
 
       module _ (r2 : Records) (x2 : D) where
         pub in_refused : (e : StoreError) → NotDeletedIn d None (place_of entry.root) 0 path entry.nodes e r1 r2 x1 x2 → NotDeleted (edit_error e) r2 x2
-        in_refused store.Disk refused = (later_rose (d.faults x0) (d.faults x1) (d.faults x2) still.faults_later refused.0, ends_behind {r0 = r0} {r1 = r1} {r2 = r2} (left_same runs leaves).0 refused.1)
+        in_refused store.Disk refused = (later_rose (d.faults x0) (d.faults x1) (d.faults x2) still.faults_later refused.0, ends_behind {r0 = r0} {r1 = r1} {r2 = r2} (left_there d r0 r1 x0 x1 still runs leaves).0 refused.1)
         in_refused store.Full refused = record {
-          runs = runs_then {r0 = r0} {r1 = r1} {r2 = r2} (left_same runs leaves).0 refused.runs;
-          keeps = saved_then {d = d} {r0 = r0} {r1 = r1} {r2 = r2} {x0 = x0} {x1 = x1} {x2 = x2} (left_same runs leaves).1 refused.keeps;
+          runs = runs_then {r0 = r0} {r1 = r1} {r2 = r2} (left_there d r0 r1 x0 x1 still runs leaves).0 refused.runs;
+          keeps = saved_then {d = d} {r0 = r0} {r1 = r1} {r2 = r2} {x0 = x0} {x1 = x1} {x2 = x2} (left_there d r0 r1 x0 x1 still runs leaves).1 refused.keeps;
           none_free = refused.none_free;
           few = λ document has tidy counted. (
             delete_allowed document has tidy counted,
@@ -275,13 +269,13 @@ module _ {D : Type 0} (d : Ghosts D) (entry : DocEntry) (path : List ℕ) (some 
           );
         }
         in_refused (store.Damaged page) refused = (
-          ends_behind {r0 = r0} {r1 = r1} {r2 = r2} (left_same runs leaves).0 refused.0,
+          ends_behind {r0 = r0} {r1 = r1} {r2 = r2} (left_there d r0 r1 x0 x1 still runs leaves).0 refused.0,
           λ document has tidy counted.
               refused.1 has.saved has.now has.pieces (Grown document.node (has.laid).layout Bare) (leaves_stand {d = d} {r0 = r0} {r1 = r1} leaves still has.stands) tidy (interval_of document has counted),
         )
         in_refused store.Memory refused = (
-          runs_then {r0 = r0} {r1 = r1} {r2 = r2} (left_same runs leaves).0 refused.0,
-          saved_then {d = d} {r0 = r0} {r1 = r1} {r2 = r2} {x0 = x0} {x1 = x1} {x2 = x2} (left_same runs leaves).1 refused.1,
+          runs_then {r0 = r0} {r1 = r1} {r2 = r2} (left_there d r0 r1 x0 x1 still runs leaves).0 refused.0,
+          saved_then {d = d} {r0 = r0} {r1 = r1} {r2 = r2} {x0 = x0} {x1 = x1} {x2 = x2} (left_there d r0 r1 x0 x1 still runs leaves).1 refused.1,
         )
         in_refused store.Ended refused = absurd refused
         in_refused store.Exists refused = absurd refused
@@ -310,6 +304,6 @@ module _ {D : Type 0} (d : Ghosts D) (entry : DocEntry) (path : List ℕ) (some 
 
           pub in_keeps : RunsOn r1 r2 → KeepsSaved d r1 r2 x1 x2 → RunsOn r0 r2 × KeepsSaved d r0 r2 x0 x2
           in_keeps on keeps = (
-            runs_then {r0 = r0} {r1 = r1} {r2 = r2} (left_same runs leaves).0 on,
-            saved_then {d = d} {r0 = r0} {r1 = r1} {r2 = r2} {x0 = x0} {x1 = x1} {x2 = x2} (left_same runs leaves).1 keeps,
+            runs_then {r0 = r0} {r1 = r1} {r2 = r2} (left_there d r0 r1 x0 x1 still runs leaves).0 on,
+            saved_then {d = d} {r0 = r0} {r1 = r1} {r2 = r2} {x0 = x0} {x1 = x1} {x2 = x2} (left_there d r0 r1 x0 x1 still runs leaves).1 keeps,
           )

@@ -22,19 +22,21 @@ off_kept p m s other a b false first last h = elim (Contains-append_cases (p ∷
 ]
 
 -- a place off a path is one of the row's
-pub off_among : (path : List ℕ) (row : Layout) (other : RecordPlace) → Contains (places_off false path row) other → Contains (places_of row) other
-off_among path Bare other h = h
-off_among [] (Grown n b s) other h = absurd (no_place other h)
-off_among (zero ∷ path) (Grown n b s) other h = elim (Contains-append_cases (places_off false path b) (places_of s) other h) [
-  | inl one ↦ Contains-append_left (places_of b) (places_of s) other (off_among path b other one)
+pub off_among : (stays : Bool) (path : List ℕ) (row : Layout) (other : RecordPlace) → Contains (places_off stays path row) other → Contains (places_of row) other
+off_among stays path Bare other h = h
+off_among true [] (Grown n b s) other h = h
+off_among false [] (Grown n b s) other h = absurd (no_place other h)
+off_among stays (zero ∷ path) (Grown n b s) other h = elim (Contains-append_cases (places_off stays path b) (places_of s) other h) [
+  | inl one ↦ Contains-append_left (places_of b) (places_of s) other (off_among stays path b other one)
   | inr rest ↦ Contains-append_right (places_of b) (places_of s) other rest
 ]
-off_among (suc position ∷ path) (Grown n b s) other h = elim (Contains-append_cases (places_of b) (places_off false (position ∷ path) s) other h) [
+off_among stays (suc position ∷ path) (Grown n b s) other h = elim (Contains-append_cases (places_of b) (places_off stays (position ∷ path) s) other h) [
   | inl one ↦ Contains-append_left (places_of b) (places_of s) other one
-  | inr rest ↦ Contains-append_right (places_of b) (places_of s) other (off_among (position ∷ path) s other rest)
+  | inr rest ↦ Contains-append_right (places_of b) (places_of s) other (off_among stays (position ∷ path) s other rest)
 ]
-off_among [] (Kept p m s) other h = absurd (no_place other h)
-off_among (position ∷ path) (Kept p m s) other h = off_kept p m s other (places_off false (position ∷ path) m) (places_off false ((position - width m) ∷ path) s) (nat_lt position (width m)) (off_among (position ∷ path) m other) (off_among ((position - width m) ∷ path) s other) h
+off_among true [] (Kept p m s) other h = h
+off_among false [] (Kept p m s) other h = absurd (no_place other h)
+off_among stays (position ∷ path) (Kept p m s) other h = off_kept p m s other (places_off stays (position ∷ path) m) (places_off stays ((position - width m) ∷ path) s) (nat_lt position (width m)) (off_among stays (position ∷ path) m other) (off_among stays ((position - width m) ∷ path) s other) h
 
 chosen_below : (index k : ℕ) (x y : Layout) → index < k → (if nat_lt index k then x else y) ≡ x
 chosen_below index k x y less = subst (λ (t : Bool). (if t then x else y) ≡ x) (sym (less_is index k less)) refl
@@ -43,44 +45,44 @@ chosen_beside : (index k : ℕ) (x y : Layout) → k ≤ index → (if nat_lt in
 chosen_beside index k x y most = subst (λ (t : Bool). (if t then x else y) ≡ y) (sym (not_less index k most)) refl
 
 pub off_inside : OffInside
-off_inside index member rest inside position path Bare h other among = absurd h
-off_inside index member rest inside zero [] (Grown n b s) h other among = absurd h
-off_inside index member rest inside zero (q ∷ path) (Grown n b s) h other among =
+off_inside stays index member rest inside position path Bare h other among = absurd h
+off_inside stays index member rest inside zero [] (Grown n b s) h other among = absurd h
+off_inside stays index member rest inside zero (q ∷ path) (Grown n b s) h other among =
     let row_is : replaced_at index Bare (Grown n b s) ≡ Grown n (replaced_at index Bare b) s =
     chosen_below index (length (proxies_of b)) (Grown n (replaced_at index Bare b) s) (Grown n b (replaced_at (index - length (proxies_of b)) Bare s)) h.0 in
-    elim (Contains-append_cases (places_off false (q ∷ path) b) (places_of s) other among) [
-      | inl below ↦ elim (off_inside index member rest inside q path b h.1 other below) [
+    elim (Contains-append_cases (places_off stays (q ∷ path) b) (places_of s) other among) [
+      | inl below ↦ elim (off_inside stays index member rest inside q path b h.1 other below) [
         | inl inner ↦ inl inner
         | inr left ↦ inr (subst (λ (l : Layout). Contains (places_of l) other) (sym row_is) (Contains-append_left (places_of (replaced_at index Bare b)) (places_of s) other left))
       ]
       | inr beside ↦ inr (subst (λ (l : Layout). Contains (places_of l) other) (sym row_is) (Contains-append_right (places_of (replaced_at index Bare b)) (places_of s) other beside))
     ]
-off_inside index member rest inside (suc position) path (Grown n b s) h other among =
+off_inside stays index member rest inside (suc position) path (Grown n b s) h other among =
     let later : Layout = replaced_at (index - length (proxies_of b)) Bare s in
     let row_is : replaced_at index Bare (Grown n b s) ≡ Grown n b later = chosen_beside index (length (proxies_of b)) (Grown n (replaced_at index Bare b) s) (Grown n b later) h.0 in
-    elim (Contains-append_cases (places_of b) (places_off false (position ∷ path) s) other among) [
+    elim (Contains-append_cases (places_of b) (places_off stays (position ∷ path) s) other among) [
       | inl below ↦ inr (subst (λ (l : Layout). Contains (places_of l) other) (sym row_is) (Contains-append_left (places_of b) (places_of later) other below))
-      | inr beside ↦ elim (off_inside (index - length (proxies_of b)) member rest inside position path s h.1 other beside) [
+      | inr beside ↦ elim (off_inside stays (index - length (proxies_of b)) member rest inside position path s h.1 other beside) [
         | inl inner ↦ inl inner
         | inr left ↦ inr (subst (λ (l : Layout). Contains (places_of l) other) (sym row_is) (Contains-append_right (places_of b) (places_of later) other left))
       ]
     ]
-off_inside zero member rest inside position path (Kept p m s) h other among =
-    let off : Contains (places_off false (position ∷ path) m ++ places_of s) other =
-    subst (λ (t : Bool). Contains (if t then places_off false (position ∷ path) m ++ places_of s else p ∷ places_of m ++ places_off false ((position - width m) ∷ path) s) other) (less_is position (width m) h.0) among in
-    elim (Contains-append_cases (places_off false (position ∷ path) m) (places_of s) other off) [
+off_inside stays zero member rest inside position path (Kept p m s) h other among =
+    let off : Contains (places_off stays (position ∷ path) m ++ places_of s) other =
+    subst (λ (t : Bool). Contains (if t then places_off stays (position ∷ path) m ++ places_of s else p ∷ places_of m ++ places_off stays ((position - width m) ∷ path) s) other) (less_is position (width m) h.0) among in
+    elim (Contains-append_cases (places_off stays (position ∷ path) m) (places_of s) other off) [
       | inl inner ↦ inl (subst (λ (ps : List RecordPlace). Contains ps other) (sym (here h.1 h.2 h.3)) inner)
       | inr beside ↦ inr beside
     ]
   where
-    here : member ≡ position → rest ≡ path → inside ≡ m → places_off false (member ∷ rest) inside ≡ places_off false (position ∷ path) m
+    here : member ≡ position → rest ≡ path → inside ≡ m → places_off stays (member ∷ rest) inside ≡ places_off stays (position ∷ path) m
     here a b c = cc
-off_inside (suc index) member rest inside position path (Kept p m s) h other among =
-    let off : Contains ((p ∷ places_of m) ++ places_off false ((position - width m) ∷ path) s) other =
-    subst (λ (t : Bool). Contains (if t then places_off false (position ∷ path) m ++ places_of s else p ∷ places_of m ++ places_off false ((position - width m) ∷ path) s) other) (not_less position (width m) h.0) among in
-    elim (Contains-append_cases (p ∷ places_of m) (places_off false ((position - width m) ∷ path) s) other off) [
+off_inside stays (suc index) member rest inside position path (Kept p m s) h other among =
+    let off : Contains ((p ∷ places_of m) ++ places_off stays ((position - width m) ∷ path) s) other =
+    subst (λ (t : Bool). Contains (if t then places_off stays (position ∷ path) m ++ places_of s else p ∷ places_of m ++ places_off stays ((position - width m) ∷ path) s) other) (not_less position (width m) h.0) among in
+    elim (Contains-append_cases (p ∷ places_of m) (places_off stays ((position - width m) ∷ path) s) other off) [
       | inl before ↦ inr (Contains-append_left (p ∷ places_of m) (places_of (replaced_at index Bare s)) other before)
-      | inr beside ↦ elim (off_inside index member rest inside (position - width m) path s h.1 other beside) [
+      | inr beside ↦ elim (off_inside stays index member rest inside (position - width m) path s h.1 other beside) [
         | inl inner ↦ inl inner
         | inr left ↦ inr (Contains-append_right (p ∷ places_of m) (places_of (replaced_at index Bare s)) other left)
       ]

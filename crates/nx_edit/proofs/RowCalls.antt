@@ -26,8 +26,8 @@ use Rattle.nx_hold.specs.Pieces.{HoldsPiece, HoldsNone, PieceMap}
 use Rattle.nx_hold.proofs.MapLemmas.{held_at}
 use Rattle.nx_hold.proofs.RefusalLemmas.{runs_then, saved_then}
 use Rattle.nx_nav.proofs.PartLemmas.{forest-without_places}
-use Rattle.nx_piece.specs.declared.cutting.Removed.{Removed}
-use Rattle.nx_piece.specs.Cutting.{without_tree, IsWithoutTree}
+use Rattle.nx_piece_edits.specs.declared.cutting.Removed.{Removed}
+use Rattle.nx_piece_edits.specs.Cutting.{without_tree, IsWithoutTree}
 use Rattle.nx_edit.specs.Removing.{RemovesRow, NotRemovedRow}
 use Rattle.nx_layouts.specs.Cutting.{member_tree, layout_without, layout_at, StaysIn, LeadsOn}
 use Rattle.nx_edit.specs.Editing.{places_off}
@@ -35,7 +35,8 @@ use Rattle.nx_edit.specs.Rows.{IsHeldInterval, IsReplaced, IsLeftOf, DeletesIn, 
 use Rattle.nx_edit.proofs.RemoveLemmas.{later_rose, ends_behind}
 use Rattle.nx_layouts.proofs.PathLemmas.{path_stays, path_leads_on, path_is_missing}
 use Rattle.nx_edit.proofs.OwnLemmas.{tree_row, tree_fits, rest_needs, still_there, own_put}
-use Rattle.nx_edit.proofs.AwayLemmas.{piece_same, place_inside, inside_proxy, inside_interval, needs_below, above_there, few_before, away_replaced, marked, marked_is}
+use Rattle.nx_edit.proofs.PassedLemmas.{piece_same, place_inside, inside_proxy, inside_interval, above_there}
+use Rattle.nx_edit.proofs.AwayLemmas.{needs_below, few_before, away_replaced, marked, marked_is}
 
 pub get_within : {A : Type 0} (xs : List A) (i : ℕ) (x : A) → slice_get xs i ≡ Some x → i < length xs
 get_within [] zero x e = absurd (cc)
@@ -310,7 +311,7 @@ module _ {D : Type 0} (d : Ghosts D) (piece : Piece) (place : RecordPlace) (memb
             let w = way members i.is in
             let mid = below saved now stands tidy in
             refused.lacks saved mid.0 mid.1 (piece_of members)
-            (above_there now pieces (Some piece) place member path limit members i index next (drop used path) w.inside w.into tidy gone o (replaced pieces members i mid.3)),
+            (above_there now pieces (Some piece) place member path limit members i index next (drop used path) w.inside w.into tidy (replaced pieces members i mid.3).moves),
       )
       update_refused page store.Ended refused = absurd (false≢true (sym runs.after ∙ refused.0))
       update_refused page store.Memory refused = (
@@ -320,7 +321,7 @@ module _ {D : Type 0} (d : Ghosts D) (piece : Piece) (place : RecordPlace) (memb
       update_refused page store.Exists refused = absurd refused
       update_refused page store.NotAStore refused = absurd refused
 
-      pub away_done : (left : Proxy) → left.roots ≡ gapped.gapped_width (with_left index o piece).body.roots → ComesTidy d r1 r2 x1 x2 (λ was now. UpdatesPiece place (place_named left) (with_left index o piece) was now)
+      pub away_done : (left : Proxy) → left.roots ≡ gapped.gapped_width (with_left index o piece).body.roots → ComesTidy d r1 r2 x1 x2 (λ was now. HoldsPiece was place piece → UpdatesPiece place (place_named left) (with_left index o piece) was now)
           → ComesTidy d r0 r2 x0 x2 (DeletesIn (Some piece) place member path limit gone (left ∷ []))
       away_done left roots updates saved was stands tidy =
           let mid = below saved was stands tidy in
@@ -330,5 +331,7 @@ module _ {D : Type 0} (d : Ghosts D) (piece : Piece) (place : RecordPlace) (memb
             now.2,
             λ pieces members i.
                 let w = way members i.is in
-                away_replaced was pieces (Some piece) place member path limit members i index next (drop used path) w.inside w.into tidy gone o (replaced pieces members i mid.3) mid.2 piece i.is left roots now.3,
+                let r = replaced pieces members i mid.3 in
+                let there = above_there was pieces (Some piece) place member path limit members i index next (drop used path) w.inside w.into tidy r.moves in
+                away_replaced was pieces (Some piece) place member path limit members i index next (drop used path) w.inside w.into tidy gone o r mid.2 piece i.is left roots (now.3 (subst (λ (p : Piece). HoldsPiece mid.0 place p) (sym i.is) there)),
           )

@@ -36,10 +36,10 @@ same_around x before inner behind p = (to, from)
       ]
     ]
 
-swapped : (a b : List RecordPlace) (p : RecordPlace) → Contains (a ++ b) p → Contains (b ++ a) p
+pub swapped : (a b : List RecordPlace) (p : RecordPlace) → Contains (a ++ b) p → Contains (b ++ a) p
 swapped a b p h = elim (Contains-append_cases a b p h) [ inl one ↦ Contains-append_right b a p one | inr other ↦ Contains-append_left b a p other ]
 
-same_swapped : (a b : List RecordPlace) → HaveSame (a ++ b) (b ++ a)
+pub same_swapped : (a b : List RecordPlace) → HaveSame (a ++ b) (b ++ a)
 same_swapped a b p = (swapped a b p, swapped b a p)
 
 -- An interval's record, and the records around some of those below it; each holds a piece, and stands once.
@@ -81,7 +81,7 @@ module _ {was : Held} {place : RecordPlace} {before gone behind : List RecordPla
       | inr not ↦ not_none (record_at was other) (is_there other among) (one.fresh other came not)
     ]
 
-    not_below : Contains (before ++ (come ++ behind)) place → ⊥
+    pub not_below : Contains (before ++ (come ++ behind)) place → ⊥
     not_below among = elim (out_of_between before come behind place among) [ inl came ↦ come_apart place came (first_among place (before ++ behind)) | inr around ↦ not_around around ]
 
     -- all of them are there in between
@@ -97,23 +97,36 @@ module _ {was : Held} {place : RecordPlace} {before gone behind : List RecordPla
     pub above_stays : IsTidy was → (piece : Piece) → HoldsPiece was place piece → HoldsPiece mid place piece
     above_stays tidy piece holds = (pieces_stay_around gone come needs was mid tidy one place piece holds (λ went. apart place went (first_among place (before ++ behind)))).1
 
+    -- the record above may be counted among those that moved, and those around
+    pub moves_around : MovesRecords (place ∷ (before ++ (gone ++ behind))) (place ∷ (before ++ (come ++ behind))) needs was mid
+    moves_around =
+        moves_same ((place ∷ (before ++ behind)) ++ gone) (place ∷ (before ++ (gone ++ behind))) ((place ∷ (before ++ behind)) ++ come) (place ∷ (before ++ (come ++ behind))) needs needs was mid
+        (same_around place before gone behind) (same_around place before come behind) (omega arith)
+        (moves_beside (place ∷ (before ++ behind)) gone come needs was mid is_there apart one)
+
+    pub once_there : ArePlacedOnce come → ArePlacedOnce (place ∷ (before ++ (come ++ behind)))
+    once_there come_once = (
+      not_below,
+      once-between before come behind (once-around before gone behind (a.once).1) come_once (λ other came around. come_apart other came (later_among place (before ++ behind) other around)),
+    )
+
+    -- what stands around stays
+    pub beside_stays : IsTidy was → (other : RecordPlace) (piece : Piece) → Contains (before ++ behind) other → HoldsPiece was other piece
+        → (record_at mid other ≡ record_at was other) × HoldsPiece mid other piece × ((count chain : ℕ) → NamesList was other count chain → mid.lists chain ≡ was.lists chain)
+    beside_stays tidy other piece around holds = pieces_stay_around gone come needs was mid tidy one other piece holds (λ went. apart other went (later_among place (before ++ behind) other around))
+
     module _ {now : Held} {top : List RecordPlace} {then : ℕ} (two : MovesRecords (place ∷ []) top then mid now) where
       pub moves_through : MovesRecords (place ∷ (before ++ (gone ++ behind))) (top ++ (before ++ (come ++ behind))) (needs + then) was now
       moves_through =
           let below : List RecordPlace = before ++ (come ++ behind) in
-          let first : MovesRecords (place ∷ (before ++ (gone ++ behind))) (place ∷ below) needs was mid =
-          moves_same ((place ∷ (before ++ behind)) ++ gone) (place ∷ (before ++ (gone ++ behind))) ((place ∷ (before ++ behind)) ++ come) (place ∷ below) needs needs was mid
-          (same_around place before gone behind) (same_around place before come behind) (omega arith)
-          (moves_beside (place ∷ (before ++ behind)) gone come needs was mid is_there apart one) in
           let second : MovesRecords (place ∷ below) (top ++ below) then mid now =
           moves_same (below ++ (place ∷ [])) (place ∷ below) (below ++ top) (top ++ below) then then mid now (same_swapped below (place ∷ [])) (same_swapped below top) (omega arith)
           (moves_beside below (place ∷ []) top then mid now below_there (λ other here among. not_below (subst (λ (p : RecordPlace). Contains below p) (one_place place other here) among)) two) in
-          moves_add_up (place ∷ (before ++ (gone ++ behind))) (place ∷ below) (top ++ below) needs then was mid now first second
+          moves_add_up (place ∷ (before ++ (gone ++ behind))) (place ∷ below) (top ++ below) needs then was mid now moves_around second
 
       pub once_through : ArePlacedOnce top → ArePlacedOnce come → ArePlacedOnce (top ++ (before ++ (come ++ behind)))
       once_through new_once come_once =
-          once-append top (before ++ (come ++ behind)) new_once
-          (once-between before come behind (once-around before gone behind (a.once).1) come_once (λ other came around. come_apart other came (later_among place (before ++ behind) other around)))
+          once-append top (before ++ (come ++ behind)) new_once (once_there come_once).1
           (λ other new among. elim (is_among (place ∷ []) other) [
             | inl here ↦ not_below (subst (λ (p : RecordPlace). Contains (before ++ (come ++ behind)) p) (one_place place other here) among)
             | inr not ↦ not_none (record_at mid other) (below_there other among) (two.fresh other new not)
@@ -134,7 +147,7 @@ module _ {was : Held} {place : RecordPlace} {before gone behind : List RecordPla
         pub around_stays : (other : RecordPlace) (piece : Piece) → Contains (before ++ behind) other → HoldsPiece was other piece
             → (record_at now other ≡ record_at was other) × HoldsPiece now other piece × ((count chain : ℕ) → NamesList was other count chain → now.lists chain ≡ was.lists chain)
         around_stays other piece around holds =
-            let first = pieces_stay_around gone come needs was mid tidy one other piece holds (λ went. apart other went (later_among place (before ++ behind) other around)) in
+            let first = beside_stays tidy other piece around holds in
             stays_on other piece (λ here. not_around (subst (λ (p : RecordPlace). Contains (before ++ behind) p) here around)) first.0 first.1 first.2
 
         pub around_held : (pieces : PieceMap was) (after : PieceMap now) → HaveThere pieces.piece_at after.piece_at (before ++ behind)

@@ -1,5 +1,5 @@
 -- A tree taken out of what one record has, and an interval below it that lost a tree.
-use Rattle.std.specs.Prelude.{◌≡◌, ℕ, ◌<◌, false, ◌⊎◌, Contains, List, ◌∷◌}
+use Rattle.std.specs.Prelude.{◌≡◌, ℕ, ◌<◌, Bool, false, ◌⊎◌, Contains, List, ◌∷◌}
 use Rattle.nx_cuts.specs.Cut.{Bare, Kept, width, part_weight, AreFree}
 use Rattle.nx_layouts.specs.Layout.{RecordPlace, Layout, places_of, without_places}
 use Rattle.nx_layouts.specs.Replace.{replaced_at}
@@ -31,8 +31,8 @@ IntervalInside = (index member : ℕ) (rest : List ℕ) (inside left : Layout) (
 
 -- Where the path leads into an interval, the records off it are off the way on in the interval, or are those of the row without it.
 abbrev pub OffInside : Type 0
-OffInside = (index member : ℕ) (rest : List ℕ) (inside : Layout) (position : ℕ) (path : List ℕ) (row : Layout) → LeadsInto index member rest inside position path row → (place : RecordPlace) → Contains (places_off false (position ∷ path) row) place
-    → Contains (places_off false (member ∷ rest) inside) place ⊎ Contains (places_of (replaced_at index Bare row)) place
+OffInside = (stays : Bool) (index member : ℕ) (rest : List ℕ) (inside : Layout) (position : ℕ) (path : List ℕ) (row : Layout) → LeadsInto index member rest inside position path row → (place : RecordPlace) → Contains (places_off stays (position ∷ path) row) place
+    → Contains (places_off stays (member ∷ rest) inside) place ⊎ Contains (places_of (replaced_at index Bare row)) place
 
 -- What is left of an interval has no tree outside of one.
 abbrev pub LeftIsInterval : Type 0

@@ -3,3 +3,11 @@ pub mod Refusals
 pub mod Editing
 pub mod Rows
 pub mod Cutting
+pub mod Retexting
+pub mod Changing
+pub mod Growing
+pub mod RowPut
+pub mod Planting
+pub mod Parting
+pub mod Grown
+pub mod Inserting

@@ -19,7 +19,7 @@ use Rattle.nx_hold.specs.Pieces.{record_at, NamesList, IsTidy, PieceMap}
 use Rattle.nx_hold.specs.Changes.{place_named, UpdatesPiece, RemovesPiece}
 use Rattle.nx_hold.specs.Documents.{MovesRecords}
 use Rattle.nx_drawn.specs.Edits.{removed_row, deleted}
-use Rattle.nx_piece.specs.Cutting.{without_proxy}
+use Rattle.nx_piece_edits.specs.Cutting.{without_proxy}
 use Rattle.nx_layouts.specs.Cutting.{member_tree}
 use Rattle.nx_edit.specs.Editing.{places_off}
 

@@ -66,7 +66,7 @@ pub fn delete<D: Disk>(
 }
 
 // Ends the records, and answers that a page is damaged.
-fn no_document(records: &mut Records, page: u32) -> EditError
+pub(crate) fn no_document(records: &mut Records, page: u32) -> EditError
     ensures result { result ≡ EditError.Damaged page }
     ensures ends { has_ended records.old ≡ false → EndNow records.old records.new }
 {

@@ -104,7 +104,7 @@ fn remove_record<D: Disk>(
 }
 
 // How many nodes a piece has.
-#[tactic(auto, using(nx_piece::proofs::LeftLemmas::nodes_most))]
+#[tactic(auto, using(nx_piece::proofs::WalkLemmas::nodes_most))]
 fn nodes_in(body: &Body) -> u32
     requires { gapped_weight body.now.roots ≤ 256 }
     ensures { result ≡ gapped_nodes body.now.roots }

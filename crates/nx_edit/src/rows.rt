@@ -11,12 +11,12 @@ ghost use Rattle.nx_hold.specs.Pieces.{HoldsNone};
 ghost use Rattle.nx_hold.specs.Changes.{ComesTidy, piece_needs, place_of};
 ghost use Rattle.nx_edit.specs.Rows.{DeletesIn, IsRestPut, NotDeletedIn, with_left};
 
+use crate::keeping::{is_left_same, put_changed};
 use crate::removing::{damaged, remove_rows};
 use nx_hold::{read_piece, remove_piece, update_piece};
 use nx_host::Disk;
-use nx_piece::{
-    Located, Piece, Proxy, count_nodes, locate, remove_proxy, remove_tree, replace_proxy,
-};
+use nx_piece::{Located, Piece, Proxy, count_nodes, locate};
+use nx_piece_edits::{remove_proxy, remove_tree, replace_proxy};
 use nx_records::{Records, Rid, StoreError};
 use std::alloc::Global;
 
@@ -74,8 +74,9 @@ pub(crate) fn delete_in<D: Disk>(
         &path[used as usize..],
         limit,
     )?;
+    let stays = is_left_same(taken.left, proxy);
     let piece = put_left(alloc, piece, index, taken.left);
-    let left = update_piece(alloc, records, disk, rid, &piece)?;
+    let left = put_changed(alloc, records, disk, rid, &piece, stays)?;
     Ok(Taken {
         left: Some(left),
         gone: taken.gone,

@@ -1,7 +1,6 @@
 use Rattle.std.proofs.Common.{◌≤◌, List, ap, arith}
 use Rattle.nx_piece.specs.Gapped.{GappedTree, gapped_weight, grown_of, gapped_nodes}
-use Rattle.nx_piece.proofs.WalkLemmas.{next_left}
-use Rattle.nx_piece.proofs.LeftLemmas.{nodes_most}
+use Rattle.nx_piece.proofs.WalkLemmas.{next_left, nodes_most}
 use Rattle.nx_edit.proofs.removing.nodes_in.Goals as goal
 
 pub overflow_add-nodes : goal.overflow_add-nodes

@@ -1,5 +1,6 @@
-use Rattle.std.proofs.Common.{◌≡◌, ℕ, ◌≤◌, List, None, Some, length, sym, ap, ◌∙◌, subst, arith}
+use Rattle.std.proofs.Common.{◌≡◌, ℕ, ◌≤◌, List, Option, None, Some, length, sym, ap, ◌∙◌, subst, arith}
 use Rattle.std.proofs.lemmas.List.{length-drop}
+use Rattle.std.specs.Prelude.{IsTrue}
 use Rattle.std.specs.Option.{option_to_list}
 use Rattle.std.proofs.lemmas.Result.{err_from_is_err_and, on_ok_weaker}
 use Rattle.nx_host.proofs.DiskLemmas.{still_then}
@@ -8,13 +9,15 @@ use Rattle.nx_piece.specs.Gapped.{gapped_width}
 use Rattle.nx_records.specs.declared.error.StoreError.{StoreError}
 use Rattle.nx_records.specs.Refusals.{NotStored}
 use Rattle.nx_records.proofs.RefusalLemmas.{err_passed}
-use Rattle.nx_hold.specs.Pieces.{HoldsNone}
+use Rattle.nx_hold.specs.Pieces.{HoldsNone, HoldsPiece}
 use Rattle.nx_hold.specs.Changes.{place_of, place_named, piece_needs, ComesTidy, UpdatesPiece}
 use Rattle.nx_hold.proofs.RefusalLemmas.{runs_then, saved_then}
 use Rattle.nx_nav.proofs.ChildLemmas.{path_falls}
 use Rattle.nx_nav.proofs.SeekLemmas.{part_left}
-use Rattle.nx_edit.specs.Rows.{DeletesIn, NotDeletedIn}
+use Rattle.nx_piece.specs.declared.piece.Proxy.{Proxy}
+use Rattle.nx_edit.specs.Rows.{DeletesIn, NotDeletedIn, with_left}
 use Rattle.nx_edit.proofs.RowCalls.{valid_piece, get_within, ok_map, err_map, read_refused, nowhere_damaged, known_refused, known_done, known_keeps, below_refused, update_refused, away_done}
+use Rattle.nx_edit.proofs.StayLemmas.{comes_where_held, left_stays}
 use Rattle.nx_edit.proofs.rows.+delete_in.Goals as goal
 
 pub returns-in_err-piece-clause-refused : goal.returns-in_err-piece-clause-refused
@@ -86,13 +89,13 @@ put_left-piece-requires-clause-within g t c = get_within c.in_ok-piece.piece.pro
 
 pub returns-in_err-left-clause-refused : goal.returns-in_err-left-clause-refused
 returns-in_err-left-clause-refused g t c =
-    err_passed c.from_residual-in_err-left.result (λ (e : StoreError). NotDeletedIn g.D.Disk None (place_of c.args.rid) c.args.member c.args.path.now c.args.limit e c.args.records.now c.update_piece.new.records c.args.disk.now c.update_piece.new.disk)
+    err_passed c.from_residual-in_err-left.result (λ (e : StoreError). NotDeletedIn g.D.Disk None (place_of c.args.rid) c.args.member c.args.path.now c.args.limit e c.args.records.now c.put_changed.new.records c.args.disk.now c.put_changed.new.disk)
     c.in_err-left.field-0.0 (err_from_is_err_and c.from_residual-in_err-left.result c.from_residual-in_err-left.ensures.1)
-    (known_refused g.D.Disk (place_of c.args.rid) c.args.member c.args.path.now c.args.limit c.args.records.now c.args.disk.now c.requires c.read_piece.new.records c.read_piece.new.disk c.read_piece.ensures.still c.in_ok-piece.piece c.in_ok-piece.ensures.ok.1 c.in_ok-piece.ensures.ok.2 c.update_piece.new.records c.update_piece.new.disk c.in_err-left.field-0.0
+    (known_refused g.D.Disk (place_of c.args.rid) c.args.member c.args.path.now c.args.limit c.args.records.now c.args.disk.now c.requires c.read_piece.new.records c.read_piece.new.disk c.read_piece.ensures.still c.in_ok-piece.piece c.in_ok-piece.ensures.ok.1 c.in_ok-piece.ensures.ok.2 c.put_changed.new.records c.put_changed.new.disk c.in_err-left.field-0.0
     (update_refused g.D.Disk c.in_ok-piece.piece (place_of c.args.rid) c.args.member c.args.path.now c.args.limit c.in-Away.proxy c.in-Away.index c.in-Away.next c.in-Away.used c.in-Away.ensures.0 c.in-Away.ensures.1 c.read_piece.new.records c.delete_in.new.records c.read_piece.new.disk c.delete_in.new.disk c.delete_in.ensures.still c.in_ok-taken.ensures.keeps.0 c.in_ok-taken.ensures.keeps.1 c.in_ok-taken.taken.gone c.in_ok-taken.taken.left
     (subst (λ (rest : List ℕ). ComesTidy g.D.Disk c.read_piece.new.records c.delete_in.new.records c.read_piece.new.disk c.delete_in.new.disk (DeletesIn None (place_named c.in-Away.proxy) c.in-Away.next rest c.args.limit c.in_ok-taken.taken.gone (option_to_list c.in_ok-taken.taken.left))) (part_left c.args.path.now c.in-Away.used) c.in_ok-taken.ensures.ok)
-    c.update_piece.new.records c.update_piece.new.disk c.args.rid.page c.in_err-left.field-0.0
-    (subst (λ (p : Piece). NotStored g.D.Disk (λ was. piece_needs p) (λ was. HoldsNone was (place_of c.args.rid)) c.args.rid.page c.in_err-left.field-0.0 c.delete_in.new.records c.update_piece.new.records c.delete_in.new.disk c.update_piece.new.disk) c.put_left-piece.ensures.same c.in_err-left.ensures.refused)))
+    c.put_changed.new.records c.put_changed.new.disk c.args.rid.page c.in_err-left.field-0.0
+    (subst (λ (p : Piece). NotStored g.D.Disk (λ was. piece_needs p) (λ was. HoldsNone was (place_of c.args.rid)) c.args.rid.page c.in_err-left.field-0.0 c.delete_in.new.records c.put_changed.new.records c.delete_in.new.disk c.put_changed.new.disk) c.put_left-piece.ensures.same c.in_err-left.ensures.refused)))
 
 pub returns-clause-ranged : goal.returns-clause-ranged
 returns-clause-ranged g t c =
@@ -103,24 +106,26 @@ returns-clause-ranged g t c =
 
 pub returns-clause-ok : goal.returns-clause-ok
 returns-clause-ok g t c =
-    known_done g.D.Disk (place_of c.args.rid) c.args.member c.args.path.now c.args.limit c.args.records.now c.args.disk.now c.requires c.read_piece.new.records c.read_piece.new.disk c.read_piece.ensures.still c.in_ok-piece.piece c.in_ok-piece.ensures.ok.1 c.in_ok-piece.ensures.ok.2 c.update_piece.new.records c.update_piece.new.disk c.in_ok-taken.taken.gone (option_to_list (Some c.in_ok-left.left))
+    known_done g.D.Disk (place_of c.args.rid) c.args.member c.args.path.now c.args.limit c.args.records.now c.args.disk.now c.requires c.read_piece.new.records c.read_piece.new.disk c.read_piece.ensures.still c.in_ok-piece.piece c.in_ok-piece.ensures.ok.1 c.in_ok-piece.ensures.ok.2 c.put_changed.new.records c.put_changed.new.disk c.in_ok-taken.taken.gone (option_to_list (Some c.in_ok-left.left))
     (away_done g.D.Disk c.in_ok-piece.piece (place_of c.args.rid) c.args.member c.args.path.now c.args.limit c.in-Away.proxy c.in-Away.index c.in-Away.next c.in-Away.used c.in-Away.ensures.0 c.in-Away.ensures.1 c.read_piece.new.records c.delete_in.new.records c.read_piece.new.disk c.delete_in.new.disk c.delete_in.ensures.still c.in_ok-taken.ensures.keeps.0 c.in_ok-taken.ensures.keeps.1 c.in_ok-taken.taken.gone c.in_ok-taken.taken.left
     (subst (λ (rest : List ℕ). ComesTidy g.D.Disk c.read_piece.new.records c.delete_in.new.records c.read_piece.new.disk c.delete_in.new.disk (DeletesIn None (place_named c.in-Away.proxy) c.in-Away.next rest c.args.limit c.in_ok-taken.taken.gone (option_to_list c.in_ok-taken.taken.left))) (part_left c.args.path.now c.in-Away.used) c.in_ok-taken.ensures.ok)
-    c.update_piece.new.records c.update_piece.new.disk c.in_ok-left.left (subst (λ (p : Piece). c.in_ok-left.left.roots ≡ gapped_width p.body.roots) c.put_left-piece.ensures.same c.in_ok-left.ensures.roots)
-    (subst (λ (p : Piece). ComesTidy g.D.Disk c.delete_in.new.records c.update_piece.new.records c.delete_in.new.disk c.update_piece.new.disk (λ was now. UpdatesPiece (place_of c.args.rid) (place_named c.in_ok-left.left) p was now)) c.put_left-piece.ensures.same c.in_ok-left.ensures.ok))
+    c.put_changed.new.records c.put_changed.new.disk c.in_ok-left.left (subst (λ (p : Piece). c.in_ok-left.left.roots ≡ gapped_width p.body.roots) c.put_left-piece.ensures.same c.in_ok-left.ensures.roots)
+    (subst (λ (p : Piece). ComesTidy g.D.Disk c.delete_in.new.records c.put_changed.new.records c.delete_in.new.disk c.put_changed.new.disk (λ was now. HoldsPiece was (place_of c.args.rid) c.in_ok-piece.piece → UpdatesPiece (place_of c.args.rid) (place_named c.in_ok-left.left) p was now)) c.put_left-piece.ensures.same
+    (comes_where_held g.D.Disk c.delete_in.new.records c.put_changed.new.records c.delete_in.new.disk c.put_changed.new.disk (place_of c.args.rid) (place_named c.in_ok-left.left) c.in_ok-piece.piece c.put_left-piece.result (IsTrue c.is_left_same-stays.result)
+    (λ stays. c.put_left-piece.ensures.same ∙ ap (λ (o : Option Proxy). with_left c.in-Away.index o c.in_ok-piece.piece) (c.is_left_same-stays.ensures.0 stays) ∙ left_stays c.in_ok-piece.piece c.in-Away.index c.in-Away.proxy c.in-Away.ensures.1) c.in_ok-left.ensures.ok)))
 
 pub returns-clause-keeps : goal.returns-clause-keeps
 returns-clause-keeps g t c =
-    let on = known_keeps g.D.Disk (place_of c.args.rid) c.args.member c.args.path.now c.args.limit c.args.records.now c.args.disk.now c.requires c.read_piece.new.records c.read_piece.new.disk c.read_piece.ensures.still c.in_ok-piece.piece c.in_ok-piece.ensures.ok.1 c.in_ok-piece.ensures.ok.2 c.update_piece.new.records c.update_piece.new.disk
-    (runs_then {r0 = c.read_piece.new.records} {r1 = c.delete_in.new.records} {r2 = c.update_piece.new.records} c.in_ok-taken.ensures.keeps.0 c.in_ok-left.ensures.keeps.0)
-    (saved_then {d = g.D.Disk} {r0 = c.read_piece.new.records} {r1 = c.delete_in.new.records} {r2 = c.update_piece.new.records} {x0 = c.read_piece.new.disk} {x1 = c.delete_in.new.disk} {x2 = c.update_piece.new.disk} c.in_ok-taken.ensures.keeps.1 c.in_ok-left.ensures.keeps.1) in
-    (on.0, on.1, c.in_ok-left.ensures.keeps.2)
+    let on = known_keeps g.D.Disk (place_of c.args.rid) c.args.member c.args.path.now c.args.limit c.args.records.now c.args.disk.now c.requires c.read_piece.new.records c.read_piece.new.disk c.read_piece.ensures.still c.in_ok-piece.piece c.in_ok-piece.ensures.ok.1 c.in_ok-piece.ensures.ok.2 c.put_changed.new.records c.put_changed.new.disk
+    (runs_then {r0 = c.read_piece.new.records} {r1 = c.delete_in.new.records} {r2 = c.put_changed.new.records} c.in_ok-taken.ensures.keeps.0 c.in_ok-left.ensures.keeps.0)
+    (saved_then {d = g.D.Disk} {r0 = c.read_piece.new.records} {r1 = c.delete_in.new.records} {r2 = c.put_changed.new.records} {x0 = c.read_piece.new.disk} {x1 = c.delete_in.new.disk} {x2 = c.put_changed.new.disk} c.in_ok-taken.ensures.keeps.1 c.in_ok-left.ensures.keeps.1) in
+    (on.0, on.1, c.in_ok-left.ensures.keeps.2 c.in_ok-taken.ensures.keeps.2)
 
 pub returns-in_err-taken-clause-still : goal.returns-in_err-taken-clause-still
 returns-in_err-taken-clause-still g t c = still_then c.read_piece.ensures.still c.delete_in.ensures.still
 
 pub returns-in_err-left-clause-still : goal.returns-in_err-left-clause-still
-returns-in_err-left-clause-still g t c = still_then c.read_piece.ensures.still (still_then c.delete_in.ensures.still c.update_piece.ensures.still)
+returns-in_err-left-clause-still g t c = still_then c.read_piece.ensures.still (still_then c.delete_in.ensures.still c.put_changed.ensures.still)
 
 pub returns-clause-still : goal.returns-clause-still
-returns-clause-still g t c = still_then c.read_piece.ensures.still (still_then c.delete_in.ensures.still c.update_piece.ensures.still)
+returns-clause-still g t c = still_then c.read_piece.ensures.still (still_then c.delete_in.ensures.still c.put_changed.ensures.still)

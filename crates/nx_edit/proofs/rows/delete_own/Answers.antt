@@ -6,8 +6,8 @@ use Rattle.nx_records.proofs.RefusalLemmas.{err_passed}
 use Rattle.nx_hold.specs.Changes.{place_of, ComesTidy}
 use Rattle.nx_hold.proofs.RefusalLemmas.{runs_then, saved_then}
 use Rattle.nx_edit.specs.Removing.{RemovesRow, NotRemovedRow}
-use Rattle.nx_piece.specs.declared.cutting.Removed.{Removed}
-use Rattle.nx_piece.specs.Cutting.{IsTreeRemoved, IsWithoutTree}
+use Rattle.nx_piece_edits.specs.declared.cutting.Removed.{Removed}
+use Rattle.nx_piece_edits.specs.Cutting.{IsTreeRemoved, IsWithoutTree}
 use Rattle.nx_edit.specs.Rows.{NotDeletedIn}
 use Rattle.nx_edit.proofs.RowCalls.{valid_piece, own_damaged, rows_refused, put_refused, own_done}
 use Rattle.nx_edit.proofs.rows.delete_own.Goals as goal

@@ -4,7 +4,7 @@ use Rattle.nx_piece.specs.declared.piece.Body.{Body}
 use Rattle.nx_piece.specs.declared.piece.Proxy.{Proxy}
 use Rattle.nx_piece.specs.Valid.{HaveRoots}
 use Rattle.nx_edit.specs.Rows.{with_left}
-use Rattle.nx_edit.proofs.AwayLemmas.{piece_same}
+use Rattle.nx_edit.proofs.PassedLemmas.{piece_same}
 use Rattle.nx_edit.proofs.RowCalls.{valid_piece}
 use Rattle.nx_edit.proofs.rows.put_left.Goals as goal
 

@@ -1,0 +1,48 @@
+use Rattle.std.proofs.Common.{Some, sym, subst, arith}
+use Rattle.std.proofs.lemmas.Result.{err_from_is_err_and}
+use Rattle.nx_records.specs.declared.error.StoreError.{StoreError}
+use Rattle.nx_records.proofs.RefusalLemmas.{err_passed}
+use Rattle.nx_records.proofs.StandLemmas.{on_ok_then}
+use Rattle.nx_hold.specs.Changes.{place_of}
+use Rattle.nx_hold.proofs.RefusalLemmas.{runs_then, saved_then}
+use Rattle.nx_edit.specs.declared.changing.Change.TheVariants as put
+use Rattle.nx_edit.specs.Changing.{NotChangedKnown}
+use Rattle.nx_edit.proofs.GrownThroughLemmas.{grown_changed, grown_refused}
+use Rattle.nx_edit.proofs.PlantCalls.{alone_grows, alone_unadded, too_many}
+use Rattle.nx_edit.proofs.RowCalls.{ok_map, err_map}
+use Rattle.nx_edit.proofs.planting.plant_alone.Goals as goal
+
+pub returns-then-len-ge524288-clause-refused : goal.returns-then-len-ge524288-clause-refused
+returns-then-len-ge524288-clause-refused g c =
+    subst (λ (e : StoreError). NotChangedKnown g.D.Disk c.args.matrix.now (Some c.args.piece) (put.Child c.args.position c.args.node) (place_of c.args.rid) c.args.member c.args.path.now e c.args.records.now c.damaged.new.records c.args.disk.now c.args.disk.now) (sym c.damaged.ensures.result)
+    (too_many g.D.Disk c.args.matrix.now c.args.piece (place_of c.args.rid) c.args.member c.args.path.now c.args.position c.args.node c.args.records.now c.args.disk.now c.damaged.new.records
+    (let more = c.if-len-ge524288.true in let is = c.len.ensures in omega (arith, more, is)) (c.damaged.ensures.ends c.requires.runs))
+
+pub returns-in_err-proxy-clause-refused : goal.returns-in_err-proxy-clause-refused
+returns-in_err-proxy-clause-refused g c =
+    err_passed c.from_residual.result (λ (e : StoreError). NotChangedKnown g.D.Disk c.args.matrix.now (Some c.args.piece) (put.Child c.args.position c.args.node) (place_of c.args.rid) c.args.member c.args.path.now e c.args.records.now c.add_piece.new.records c.args.disk.now c.add_piece.new.disk)
+    c.in_err-proxy.field-0.0 (err_from_is_err_and c.from_residual.result c.from_residual.ensures.1)
+    (alone_unadded g.D.Disk c.args.matrix.now c.args.piece (place_of c.args.rid) c.args.member c.args.path.now c.args.position c.args.node c.args.records.now c.args.disk.now c.requires.light c.args.index c.requires.between c.requires.asked c.in-Ok.alone c.in-Ok.ensures.0 c.in-Ok.ensures.1
+    c.requires.runs 0 c.add_piece.new.records c.add_piece.new.disk c.in_err-proxy.field-0.0 c.in_err-proxy.ensures.refused)
+
+pub returns-clause-ok : goal.returns-clause-ok
+returns-clause-ok g c =
+    ok_map c.put_grown.result (λ row puts. grown_changed g.D.Disk c.args.matrix.now (put.Child c.args.position c.args.node) c.args.piece c.in-Ok-plant_proxy.piece (place_of c.args.rid) c.args.member c.args.path.now c.args.records.now c.add_piece.new.records c.put_grown.new.records c.args.disk.now c.add_piece.new.disk c.put_grown.new.disk
+    (c.add_piece.ensures.still).faults_later c.in_ok-proxy.ensures.keeps.0 c.in_ok-proxy.ensures.keeps.1
+    (alone_grows g.D.Disk c.args.matrix.now c.args.piece (place_of c.args.rid) c.args.member c.args.path.now c.args.position c.args.node c.args.records.now c.args.disk.now c.requires.light c.args.index c.requires.between c.requires.asked c.in-Ok.alone c.in-Ok.ensures.0 c.in-Ok.ensures.1
+    c.in-Ok-plant_proxy.piece c.in_ok-proxy.proxy c.in_ok-proxy.ensures.roots c.in-Ok-plant_proxy.ensures c.add_piece.new.records c.add_piece.new.disk c.in_ok-proxy.ensures.ok) _ row puts) c.put_grown.ensures.ok
+
+pub returns-clause-keeps : goal.returns-clause-keeps
+returns-clause-keeps g c =
+    on_ok_then c.put_grown.result c.put_grown.ensures.keeps (λ keeps. (
+      runs_then {r0 = c.args.records.now} {r1 = c.add_piece.new.records} {r2 = c.put_grown.new.records} c.in_ok-proxy.ensures.keeps.0 keeps.0,
+      saved_then {d = g.D.Disk} {r0 = c.args.records.now} {r1 = c.add_piece.new.records} {r2 = c.put_grown.new.records} {x0 = c.args.disk.now} {x1 = c.add_piece.new.disk} {x2 = c.put_grown.new.disk} c.in_ok-proxy.ensures.keeps.1 keeps.1,
+      keeps.2,
+    ))
+
+pub returns-clause-refused : goal.returns-clause-refused
+returns-clause-refused g c =
+    err_map c.put_grown.result (λ e refused. grown_refused g.D.Disk c.args.matrix.now (put.Child c.args.position c.args.node) c.args.piece c.in-Ok-plant_proxy.piece (place_of c.args.rid) c.args.member c.args.path.now c.args.records.now c.add_piece.new.records c.put_grown.new.records c.args.disk.now c.add_piece.new.disk c.put_grown.new.disk
+    (c.add_piece.ensures.still).faults_later c.in_ok-proxy.ensures.keeps.0 c.in_ok-proxy.ensures.keeps.1
+    (alone_grows g.D.Disk c.args.matrix.now c.args.piece (place_of c.args.rid) c.args.member c.args.path.now c.args.position c.args.node c.args.records.now c.args.disk.now c.requires.light c.args.index c.requires.between c.requires.asked c.in-Ok.alone c.in-Ok.ensures.0 c.in-Ok.ensures.1
+    c.in-Ok-plant_proxy.piece c.in_ok-proxy.proxy c.in_ok-proxy.ensures.roots c.in-Ok-plant_proxy.ensures c.add_piece.new.records c.add_piece.new.disk c.in_ok-proxy.ensures.ok) e refused) c.put_grown.ensures.refused

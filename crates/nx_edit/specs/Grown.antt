@@ -1,0 +1,37 @@
+-- What a change below an interval made before the interval's own record is put, and the members that it gives it.
+use Rattle.std.specs.Prelude.{◌≡◌, ◌⊎◌, ℕ, ◌+◌, ◌≤◌, List, ◌∷◌, ◌++◌, true, Contains}
+use Rattle.nx_records.specs.Words.{Held}
+use Rattle.nx_piece.specs.declared.piece.Piece.{Piece}
+use Rattle.nx_matrix.specs.declared.rule.Rule.{Rule}
+use Rattle.nx_cuts.specs.Cut.{Bare, Kept}
+use Rattle.nx_layouts.specs.Layout.{RecordPlace, Layout, AreHeld, ArePlacedOnce, piece_of, places_of, without_places}
+use Rattle.nx_hold.specs.Documents.{MovesRecords}
+use Rattle.nx_hold.specs.Pieces.{record_at, NamesList, PieceMap}
+use Rattle.nx_drawn.specs.Growth.{MayBeHeavy}
+use Rattle.nx_edit.specs.declared.changing.Change.{Change}
+use Rattle.nx_edit.specs.Changing.{changed_interval, way_of}
+use Rattle.nx_edit.specs.Editing.{places_off}
+use Rattle.nx_edit.specs.Rows.{row_nodes}
+
+-- The record is among those that came, and is what it was, with the list that it names.
+abbrev pub StaysAmong : (come : List RecordPlace) (was now : Held) → RecordPlace → Type 0
+StaysAmong come was now place = Contains come place × (record_at now place ≡ record_at was place) × ((count chain : ℕ) → NamesList was place count chain → now.lists chain ≡ was.lists chain)
+
+-- Some of the records below the interval moved, for no more pages than it has nodes. Its piece has other members then, which are as the change makes them, and those off the way to what is put are among the records that didn't move, or stay among those that did.
+pub record GrowsFrom (rules : List Rule) (change : Change) (position : ℕ) (path : List ℕ) (members : Layout) (piece : Piece) (was mid : Held) : Type 0 where
+  pub before : List RecordPlace
+  pub gone : List RecordPlace
+  pub come : List RecordPlace
+  pub behind : List RecordPlace
+  pub needs : ℕ
+  pub grown : Layout
+  pub is : piece_of grown ≡ piece
+  pub places_were : places_of members ≡ before ++ (gone ++ behind)
+  pub places_are : places_of grown ≡ before ++ (come ++ behind)
+  pub moves : MovesRecords gone come needs was mid
+  pub few : needs ≤ row_nodes (without_places members)
+  pub once : ArePlacedOnce come
+  pub held : (pieces : PieceMap mid) → AreHeld pieces.piece_at grown
+  pub heavy : MayBeHeavy (was.settings).k ((was.settings).k + (was.settings).k) ((was.settings).k + 1) grown
+  pub interval_is : Kept tt (without_places grown) Bare ≡ changed_interval rules change position path members
+  pub off : (other : RecordPlace) → Contains (places_off true (position ∷ way_of change path) members) other → Contains (before ++ behind) other ⊎ StaysAmong come was mid other

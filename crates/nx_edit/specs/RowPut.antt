@@ -1,0 +1,38 @@
+-- A row of proxies that comes in the place of one, in the piece of a record.
+use Rattle.std.specs.Prelude.{◌≡◌, ℕ, ◌+◌, ◌≤◌, List, [], ◌∷◌, ◌++◌, length, take, drop, Some}
+use Rattle.std.specs.List.{slice_get}
+use Rattle.nx_tree.specs.declared.node.Node.{Node}
+use Rattle.nx_records.specs.Words.{Held}
+use Rattle.nx_piece.specs.declared.piece.Piece.{Piece}
+use Rattle.nx_piece.specs.declared.piece.Proxy.{Proxy}
+use Rattle.nx_piece.specs.Gapped.{GappedTree, gapped_width}
+use Rattle.nx_piece_edits.specs.Cutting.{with_row}
+use Rattle.nx_piece.specs.Locate.{Inside, reached_in}
+use Rattle.nx_piece.specs.Valid.{HaveRoots}
+use Rattle.nx_layouts.specs.Layout.{RecordPlace}
+use Rattle.nx_hold.specs.Changes.{place_named, UpdatesPiece}
+
+-- the row may come in the place of a proxy of the piece
+pub record MayHaveRow (piece : Piece) (row : List Proxy) : Type 0 where
+  pub some : 1 ≤ length row
+  pub few : length piece.proxies + length row ≤ 524289
+  pub ranged : HaveRoots row
+
+-- a piece in which it does
+abbrev pub piece_with_row : (index : ℕ) (row : List Proxy) (piece : Piece) → Piece
+piece_with_row index row piece = record {
+  body = record { roots = with_row index (length row) piece.body.roots };
+  proxies = take index piece.proxies ++ row ++ drop (index + 1) piece.proxies;
+}
+
+-- the row is the proxy that stands there in the piece
+abbrev pub IsRowThere : (index : ℕ) (row : List Proxy) (piece : Piece) → Type 0
+IsRowThere index row piece = (proxy : Proxy) × (slice_get piece.proxies index ≡ Some proxy) × (row ≡ proxy ∷ [])
+
+-- the piece came in the place of a record, under one proxy
+abbrev pub IsPutAlone : (place : RecordPlace) (piece : Piece) (row : List Proxy) (was now : Held) → Type 0
+IsPutAlone place piece row was now = (proxy : Proxy) × (row ≡ proxy ∷ []) × (proxy.roots ≡ gapped_width piece.body.roots) × UpdatesPiece place (place_named proxy) piece was now
+
+-- the path leads to a tree of the piece, whose node this is
+abbrev pub IsNodeAt : Piece → ℕ → List ℕ → Node → Type 0
+IsNodeAt piece member path node = (tree : GappedTree) × (first : ℕ) × (reached_in piece member path ≡ Inside tree first) × (node ≡ tree.node)

@@ -1,0 +1,91 @@
+// A node that is put into a document.
+ghost use Rattle.std.specs.Prelude.{◌≡◌, true, None, IfOk, IfErr, OnOk};
+ghost use Rattle.nx_host.specs.Still.{IsStill};
+ghost use Rattle.nx_tree.specs.Document.{IsNode};
+ghost use Rattle.nx_tree.specs.Edit.{put};
+ghost use Rattle.nx_records.specs.Records.{KeepsSaved, HasChanges, settings_of};
+ghost use Rattle.nx_records.specs.Refusals.{RunsOn};
+ghost use Rattle.nx_cuts.specs.Cut.{tree_of};
+ghost use Rattle.nx_hold.specs.Changes.{ComesTidy};
+ghost use Rattle.nx_drawn.specs.Edits.{inserted};
+ghost use Rattle.nx_drawn.specs.Splits.{Splits};
+ghost use Rattle.nx_edit.specs.Removing.{OfEntry};
+ghost use Rattle.nx_edit.specs.Editing.{EditsDocument};
+ghost use Rattle.nx_edit.specs.Refusals.{NotEdited, edit_needs};
+ghost use Rattle.nx_edit.specs.Inserting.{insertion_fault, is_of_insertion};
+
+use crate::EditError;
+use crate::changing::{Change, change_in};
+use crate::deleting::no_document;
+use crate::placing::check_place;
+use crate::retexting::first_of;
+use nx_hold::DocEntry;
+use nx_host::Disk;
+use nx_lists::{DEEPEST, MOST_NODES};
+use nx_matrix::Matrix;
+use nx_records::{Records, Rid};
+use nx_tree::Node;
+use nx_weights::weight;
+use std::alloc::Global;
+
+/// Puts the node, without children, at the path of the document, before the sibling that stands there, and answers the
+/// document's new entry. The matrix says which interval it joins, or that it divides one; a part that then outweighs K
+/// is split. Each record of the document stays, with its list, that holds no node on the way along the path, up to the
+/// sibling that stood there.
+///
+/// Errors: those of `insert_at` of `nx_tree`, in their order; `TooHeavy` exactly where the node outweighs K and nothing
+/// else forbids it; `Full`, over sound pages that hold a document of the entry only where fewer pages were free than one
+/// for each node before, and two for each node behind; `Damaged`, only where the records hold no document of the entry,
+/// or lists that records name are missing or named twice; `Disk`, only where `faults` rose; `Ended` exactly where the
+/// records had ended; `Memory`. After each the caller calls `abandon`.
+pub fn insert<D: Disk>(
+    alloc: Global,
+    records: &mut Records,
+    disk: &mut D,
+    matrix: &Matrix,
+    entry: DocEntry,
+    path: &[u32],
+    node: Node,
+) -> Result<DocEntry, EditError>
+    requires { IsNode node }
+    ensures still { IsStill D.Disk disk.old disk.new }
+    ensures allowed { OnOk result (OfEntry D.Disk records.old disk.old entry (λ now document. insertion_fault node path.now (settings_of records.old).k (tree_of document) ≡ None)) }
+    ensures ok { IfOk result (λ new. ComesTidy D.Disk records.old records.new disk.old disk.new (λ was now. EditsDocument (λ document. Splits was.settings matrix.now (inserted matrix.now node path.now document)) true path.now entry new was now)) }
+    ensures keeps { OnOk result (RunsOn records.old records.new × KeepsSaved D.Disk records.old records.new disk.old disk.new × HasChanges records.new) }
+    ensures refused { IfErr result (λ e. NotEdited D.Disk is_of_insertion (insertion_fault node path.now (settings_of records.old).k) (edit_needs (put node path.now)) entry e records.old records.new disk.old disk.new) }
+{
+    if records.is_ended() {
+        return Err(EditError::Ended);
+    }
+    if path.is_empty() {
+        return Err(EditError::BadPlace);
+    }
+    let depth = path.len() - 1;
+    let parent = &path[..depth];
+    let position = path[depth];
+    check_place(alloc, records, disk, entry, parent, position, &node)?;
+    if path.len() > DEEPEST {
+        return Err(EditError::TooDeep);
+    }
+    if entry.nodes >= MOST_NODES {
+        return Err(EditError::TooMany);
+    }
+    let heavy = weight(&node);
+    if heavy > records.settings().k {
+        return Err(EditError::TooHeavy { weight: heavy });
+    }
+    let change = Change::Child { position, node };
+    let row = change_in(
+        alloc, records, disk, matrix, entry.root, None, 0, parent, change,
+    )?;
+    match first_of(&row) {
+        None => Err(no_document(records, entry.root.page)),
+        Some(proxy) => Ok(DocEntry {
+            root: Rid {
+                page: proxy.page,
+                slot: proxy.slot,
+            },
+            nodes: entry.nodes + 1,
+        }),
+    }
+}

@@ -1,0 +1,202 @@
+// A node put below a node of a record's own, into an interval that it divides.
+ghost use Rattle.std.specs.Prelude.{◌≡◌, ◌≢◌, ◌<◌, ◌≤◌, Some, false, length, IfOk, IfErr, OnOk};
+ghost use Rattle.std.specs.Option.{option_copied};
+ghost use Rattle.nx_host.specs.Still.{IsStill};
+ghost use Rattle.nx_weights.specs.Weight.{weight};
+ghost use Rattle.nx_records.specs.Records.{KeepsSaved, HasChanges, has_ended, settings_of};
+ghost use Rattle.nx_records.specs.Refusals.{RunsOn, NotStored};
+ghost use Rattle.nx_piece.specs.Valid.{IsPiece, IsValidPiece};
+ghost use Rattle.nx_hold.specs.Changes.{ComesTidy, piece_needs, place_of};
+ghost use Rattle.nx_matrix.specs.declared.rule.Entry.TheVariants as ask;
+ghost use Rattle.nx_edit.specs.declared.changing.Change.TheVariants as put;
+ghost use Rattle.nx_edit.specs.Changing.{ChangesKnown, NotChangedKnown};
+ghost use Rattle.nx_edit.specs.Parting.{HavePartRoots, IsRecordParted, IsNodePlaced, IsPlacedAlone, IsPlacedBetween, NotParted, alone_piece};
+ghost use Rattle.nx_edit.specs.Planting.{IsWithin, IsAskedThere};
+
+use crate::growing::put_grown;
+use crate::planting::piece_alone;
+use crate::removing::damaged;
+use nx_hold::{add_piece, read_piece, update_piece};
+use nx_host::Disk;
+use nx_lists::NoMemory;
+use nx_matrix::{Entry, Matrix};
+use nx_piece::{Piece, Proxies, Proxy};
+use nx_piece_edits::{divide_roots, plant_node, replace_by_row};
+use nx_records::{Records, Rid, StoreError};
+use nx_tree::Node;
+use std::alloc::Global;
+
+// Puts the node below the one that the path leads to, a node of the record's own, whose piece this is, into the interval
+// of a proxy, behind so many of its members, so that it becomes two. It answers the proxies of what comes in the place of
+// the upper interval. `above` is the node above that.
+pub(crate) fn divide_interval<D: Disk>(
+    alloc: Global,
+    records: &mut Records,
+    disk: &mut D,
+    matrix: &Matrix,
+    rid: Rid,
+    above: Option<&Node>,
+    piece: Piece,
+    member: u16,
+    path: &[u32],
+    position: u32,
+    proxy: Proxy,
+    index: u32,
+    before: u16,
+    entry: Entry,
+    node: Node,
+) -> Result<Proxies, StoreError>
+    requires runs { has_ended records.old ≡ false }
+    requires valid { IsValidPiece piece }
+    requires within { IsWithin piece member path.now position proxy index before }
+    requires light { weight node ≤ (settings_of records.old).k }
+    requires asked { IsAskedThere matrix.now piece member path.now node entry }
+    requires bound { entry ≢ ask.Free }
+    ensures still { IsStill D.Disk disk.old disk.new }
+    ensures ok { IfOk result (λ row. ComesTidy D.Disk records.old records.new disk.old disk.new (ChangesKnown matrix.now (Some piece) (option_copied above.entry) (put.Child position node) (place_of rid) member path.now row)) }
+    ensures keeps { OnOk result (RunsOn records.old records.new × KeepsSaved D.Disk records.old records.new disk.old disk.new × HasChanges records.new) }
+    ensures refused { IfErr result (λ e. NotChangedKnown D.Disk matrix.now (Some piece) (put.Child position node) (place_of rid) member path.now e records.old records.new disk.old disk.new) }
+{
+    if piece.proxies.len() > 524_286 {
+        return Err(damaged(records, rid.page));
+    }
+    let below = Rid {
+        page: proxy.page,
+        slot: proxy.slot,
+    };
+    let (front, back) = part_record(alloc, records, disk, below, before)?;
+    let piece = place_node(
+        alloc, records, disk, piece, member, path, position, index, before, front, back, entry,
+        node,
+    )?;
+    put_grown(alloc, records, disk, matrix, rid, above, piece)
+}
+
+// Puts the first roots of a record in its place, and those behind them into a record of their own. It speaks of a piece
+// that has more roots.
+fn part_record<D: Disk>(
+    alloc: Global,
+    records: &mut Records,
+    disk: &mut D,
+    rid: Rid,
+    before: u16,
+) -> Result<(Proxy, Proxy), StoreError>
+    requires runs { has_ended records.old ≡ false }
+    requires some { 1 ≤ before }
+    ensures still { IsStill D.Disk disk.old disk.new }
+    ensures ranged { IfOk result (λ parts. HavePartRoots before parts.0 parts.1) }
+    ensures ok { IfOk result (λ parts. ComesTidy D.Disk records.old records.new disk.old disk.new (IsRecordParted (place_of rid) before parts.0 parts.1)) }
+    ensures keeps { OnOk result (RunsOn records.old records.new × KeepsSaved D.Disk records.old records.new disk.old disk.new × HasChanges records.new) }
+    ensures refused { IfErr result (λ e. NotParted D.Disk (place_of rid) before e records.old records.new disk.old disk.new) }
+{
+    let inner = read_piece(alloc, records, disk, rid)?;
+    if inner.body.roots.len() <= usize::from(before) {
+        return Err(damaged(records, rid.page));
+    }
+    let Ok((first, second)) = divide_roots(alloc, inner, before) else {
+        return Err(StoreError::Memory);
+    };
+    let front = update_piece(alloc, records, disk, rid, &first)?;
+    let back = add_piece(alloc, records, disk, &second)?;
+    Ok((front, back))
+}
+
+// The piece with the two proxies in the place of one, and the node between them: in the piece, or in a record of its own
+// where it is to be an interval alone.
+fn place_node<D: Disk>(
+    alloc: Global,
+    records: &mut Records,
+    disk: &mut D,
+    piece: Piece,
+    member: u16,
+    path: &[u32],
+    position: u32,
+    index: u32,
+    before: u16,
+    front: Proxy,
+    back: Proxy,
+    entry: Entry,
+    node: Node,
+) -> Result<Piece, StoreError>
+    requires runs { has_ended records.old ≡ false }
+    requires valid { IsValidPiece piece }
+    requires few { length piece.proxies ≤ 524286 }
+    requires within { (proxy : Proxy) × IsWithin piece member path.now position proxy index before }
+    requires ranged { HavePartRoots before front back }
+    requires light { weight node ≤ 256 }
+    ensures still { IsStill D.Disk disk.old disk.new }
+    ensures piece { IfOk result (λ placed. IsPiece placed) }
+    ensures ok { IfOk result (λ placed. ComesTidy D.Disk records.old records.new disk.old disk.new (IsNodePlaced entry piece member path.now position index front back node placed)) }
+    ensures keeps { OnOk result (RunsOn records.old records.new × KeepsSaved D.Disk records.old records.new disk.old disk.new) }
+    ensures refused { IfErr result (λ e. NotStored D.Disk (λ was. piece_needs (alone_piece node)) (λ was. ⊥) 0 e records.old records.new disk.old disk.new) }
+{
+    match entry {
+        Entry::Standalone => place_alone(alloc, records, disk, piece, index, front, back, node),
+        Entry::Cluster | Entry::Free => {
+            let Ok(placed) = place_between(
+                alloc, piece, member, path, position, index, before, front, back, node,
+            ) else {
+                return Err(StoreError::Memory);
+            };
+            Ok(placed)
+        }
+    }
+}
+
+// ... in a record of its own.
+fn place_alone<D: Disk>(
+    alloc: Global,
+    records: &mut Records,
+    disk: &mut D,
+    piece: Piece,
+    index: u32,
+    front: Proxy,
+    back: Proxy,
+    node: Node,
+) -> Result<Piece, StoreError>
+    requires runs { has_ended records.old ≡ false }
+    requires valid { IsValidPiece piece }
+    requires few { length piece.proxies ≤ 524286 }
+    requires within { index < length piece.proxies }
+    requires ranged { (1 ≤ front.roots) × (front.roots ≤ 256) × (1 ≤ back.roots) × (back.roots ≤ 256) }
+    requires light { weight node ≤ 256 }
+    ensures still { IsStill D.Disk disk.old disk.new }
+    ensures piece { IfOk result (λ placed. IsPiece placed) }
+    ensures ok { IfOk result (λ placed. ComesTidy D.Disk records.old records.new disk.old disk.new (IsPlacedAlone piece index front back node placed)) }
+    ensures keeps { OnOk result (RunsOn records.old records.new × KeepsSaved D.Disk records.old records.new disk.old disk.new) }
+    ensures refused { IfErr result (λ e. NotStored D.Disk (λ was. piece_needs (alone_piece node)) (λ was. ⊥) 0 e records.old records.new disk.old disk.new) }
+{
+    let Ok(alone) = piece_alone(alloc, node) else {
+        return Err(StoreError::Memory);
+    };
+    let own = add_piece(alloc, records, disk, &alone)?;
+    let Ok(placed) = replace_by_row(alloc, piece, index, &[front, own, back]) else {
+        return Err(StoreError::Memory);
+    };
+    Ok(placed)
+}
+
+// ... in the piece.
+fn place_between(
+    alloc: Global,
+    piece: Piece,
+    member: u16,
+    path: &[u32],
+    position: u32,
+    index: u32,
+    before: u16,
+    front: Proxy,
+    back: Proxy,
+    node: Node,
+) -> Result<Piece, NoMemory>
+    requires valid { IsValidPiece piece }
+    requires few { length piece.proxies ≤ 524286 }
+    requires within { (proxy : Proxy) × IsWithin piece member path.now position proxy index before }
+    requires ranged { HavePartRoots before front back }
+    requires light { weight node ≤ 256 }
+    ensures piece { IfOk result (λ placed. IsPiece placed) }
+    ensures ok { IfOk result (λ placed. IsPlacedBetween piece member path.now position index front back node placed) }
+{
+    let two = replace_by_row(alloc, piece, index, &[front, back])?;
+    plant_node(alloc, two, member, path, position, node)
+}
