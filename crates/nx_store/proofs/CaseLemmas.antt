@@ -16,7 +16,7 @@ use Rattle.nx_script.specs.declared.command.Command.TheVariants.{Load, Export, G
 use Rattle.nx_script.specs.declared.reply.Reply.{Reply}
 use Rattle.nx_script.specs.declared.reply.Reply.TheVariants as reply
 use Rattle.nx_script.specs.declared.reply.ReplyError.{ReplyError}
-use Rattle.nx_script.specs.declared.reply.ReplyError.TheVariants.{Syntax, NoDocument, Exists, Pyx, NoNode, Full}
+use Rattle.nx_script.specs.declared.reply.ReplyError.TheVariants.{NoDocument, Exists, Pyx, NoNode, Full}
 use Rattle.nx_engine.specs.Step.{shown}
 use Rattle.nx_state.specs.State.{State, all_nodes}
 use Rattle.nx_steps.specs.Answers.{Answers, Refuses, by_stored_document, laid, Loads, MayBeFull, heavy_fault}
@@ -24,7 +24,6 @@ use Rattle.nx_steps.specs.Refusal.{load_fault, node_fault}
 use Rattle.nx_steps.specs.Step.{Effect, FindsNoRoom, may_change, Step}
 use Rattle.nx_steps.proofs.CountLemmas.{load_nodes}
 use Rattle.nx_steps.proofs.RunLemmas.{others_stay}
-use Rattle.nx_store.specs.Carried.{is_carried_out, StoreStep}
 
 -- the lines of a document under a name that is new: their fault, a node that is too heavy, or a load, which may find no room
 abbrev pub BodyStep : State → List ℕ → LoadBody → Reply → State → Type 0
@@ -106,9 +105,5 @@ pub layout_case : (state : State) (name : List ℕ) (r : Reply) (next : State) �
 layout_case state name r next a = (layout_same state name r next).0 a
 
 -- a command that may not change the state leaves it
-pub quiet_leaves : (command : Command) → may_change command ≡ false → (state next : State) (r : Reply) → StoreStep state command r next → next ≡ state
-quiet_leaves command quiet state next r step =
-    elim (is_carried_out command) as (λ b. MatchBool b (Step state command r next) (Refuses state Syntax r next) → next ≡ state) [
-      | true ↦ λ s. others_stay state command r next quiet s
-      | false ↦ λ s. s.1
-    ] step
+pub quiet_leaves : (command : Command) → may_change command ≡ false → (state next : State) (r : Reply) → Step state command r next → next ≡ state
+quiet_leaves command quiet state next r step = others_stay state command r next quiet step

@@ -21,7 +21,7 @@ use Rattle.nx_catalog.specs.declared.saving.RuleError.{RuleError}
 use Rattle.nx_catalog.specs.declared.saving.RuleError.TheVariants as rule
 use Rattle.nx_edit.specs.declared.error.EditError.{EditError}
 use Rattle.nx_edit.specs.declared.error.EditError.TheVariants as edit
-use Rattle.nx_store.specs.Carried.{StoreStep}
+use Rattle.nx_steps.specs.Step.{Step}
 use Rattle.nx_store.specs.Store.{longest_log, GoesOn, IsAt, IsOfEither, Shows, ShowsBegun, IsApplied, NotApplied}
 use Rattle.nx_store.specs.Loading.{IsStoreLeft, reply_of, HasReplyText, IsToldOrNot, IsRefusal}
 use Rattle.nx_store.specs.Changing.{Prepares, StepsRefused, NotPrepared, RuleNotPrepared, IsRuleRefusal}
@@ -55,7 +55,7 @@ module _ {D : Type 0} (d : Ghosts D) (command : Command) (other : command ≢ Ch
         let image = some_value (d.contents x2) told in
         let p = k.prepared in (
           k.next,
-          subst (λ (a : Reply). StoreStep state command a k.next) (sym is) k.step,
+          subst (λ (a : Reply). Step state command a k.next) (sym is) k.step,
           record {
             held = p.now;
             stands = stands p.saved p.now image.0 p.stands image.1;
@@ -110,6 +110,7 @@ module _ {D : Type 0} (d : Ghosts D) (command : Command) (other : command ≢ Ch
     edit_applied path edit.BadPlace r is why state at = refused_left (edit_reply path edit.BadPlace) r is why.0 why.1 state at
     edit_applied path edit.Twice r is why state at = refused_left (edit_reply path edit.Twice) r is why.0 why.1 state at
     edit_applied path edit.NoContent r is why state at = refused_left (edit_reply path edit.NoContent) r is why.0 why.1 state at
+    edit_applied path edit.TooLong r is why state at = refused_left (edit_reply path edit.TooLong) r is why.0 why.1 state at
     edit_applied path edit.TooDeep r is why state at = refused_left (edit_reply path edit.TooDeep) r is why.0 why.1 state at
     edit_applied path edit.TooMany r is why state at = refused_left (edit_reply path edit.TooMany) r is why.0 why.1 state at
     edit_applied path (edit.TooHeavy weight) r is why state at = refused_left (edit_reply path (edit.TooHeavy weight)) r is why.0 why.1 state at
@@ -147,6 +148,7 @@ module _ {D : Type 0} (d : Ghosts D) (command : Command) (other : command ≢ Ch
     edit_ok path edit.BadPlace r is why = told_ok (edit_reply path edit.BadPlace) r is why.0
     edit_ok path edit.Twice r is why = told_ok (edit_reply path edit.Twice) r is why.0
     edit_ok path edit.NoContent r is why = told_ok (edit_reply path edit.NoContent) r is why.0
+    edit_ok path edit.TooLong r is why = told_ok (edit_reply path edit.TooLong) r is why.0
     edit_ok path edit.TooDeep r is why = told_ok (edit_reply path edit.TooDeep) r is why.0
     edit_ok path edit.TooMany r is why = told_ok (edit_reply path edit.TooMany) r is why.0
     edit_ok path (edit.TooHeavy weight) r is why = told_ok (edit_reply path (edit.TooHeavy weight)) r is why.0
@@ -184,6 +186,7 @@ module _ {D : Type 0} (d : Ghosts D) (command : Command) (other : command ≢ Ch
     edit_refused path edit.BadPlace r is why = told_refused (edit_reply path edit.BadPlace) r is why.0
     edit_refused path edit.Twice r is why = told_refused (edit_reply path edit.Twice) r is why.0
     edit_refused path edit.NoContent r is why = told_refused (edit_reply path edit.NoContent) r is why.0
+    edit_refused path edit.TooLong r is why = told_refused (edit_reply path edit.TooLong) r is why.0
     edit_refused path edit.TooDeep r is why = told_refused (edit_reply path edit.TooDeep) r is why.0
     edit_refused path edit.TooMany r is why = told_refused (edit_reply path edit.TooMany) r is why.0
     edit_refused path (edit.TooHeavy weight) r is why = told_refused (edit_reply path (edit.TooHeavy weight)) r is why.0

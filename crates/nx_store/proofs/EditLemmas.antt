@@ -1,10 +1,10 @@
 -- A document of a store edited, before the commit.
 use Rattle.std.proofs.Common.{◌≡◌, ℕ, ◌+◌, ◌*◌, ◌<◌, ◌≤◌, cond, List, [], ◌∷◌, ◌++◌, length, map, Option, None, Some, Bool, true, false, Less, Equal, Greater, is_eq, refl, sym, ap, ◌∙◌, subst, arith, append-nil}
-use Rattle.std.specs.Prelude.{All, if◌then◌else◌, option_and_then}
-use Rattle.std.specs.Option.{is_some, option_map_or}
+use Rattle.std.specs.Prelude.{◌≢◌, All, if◌then◌else◌, nat_lt, option_and_then}
+use Rattle.std.specs.Option.{is_some, option_map, option_map_or, option_or}
 use Rattle.std.specs.List.{sum}
 use Rattle.std.specs.FinMap.{entries, find, get, insert, get-entries}
-use Rattle.std.proofs.lemmas.Bool.{false≢true}
+use Rattle.std.proofs.lemmas.Bool.{false≢true, le-ltb}
 use Rattle.std.proofs.lemmas.List.{length-map}
 use Rattle.std.proofs.lemmas.List.Elements.{All-nil, All-cons, All-head, All-tail}
 use Rattle.nx_host.specs.declared.disk.Disk.{Ghosts}
@@ -13,26 +13,36 @@ use Rattle.nx_host.proofs.DiskLemmas.{untold}
 use Rattle.nx_tree.specs.declared.error.TreeError.{TreeError}
 use Rattle.nx_tree.specs.declared.error.TreeError.TheVariants as tree
 use Rattle.nx_tree.specs.Forest.{OrderedTree, nodes}
-use Rattle.nx_tree.specs.Edit.{delete_refusal, cut_at}
+use Rattle.nx_tree.specs.declared.node.Node.{Node}
+use Rattle.nx_tree.specs.Document.{longest_node}
+use Rattle.nx_tree.specs.Edit.{at as at_path, insert_refusal, delete_refusal, retext_refusal}
+use Rattle.nx_pyx.specs.declared.error.PyxFault.TheVariants.{LongLine}
+use Rattle.nx_pyx.specs.Fault.{fault_at as line_fault}
+use Rattle.nx_weights.specs.Weight.{weight}
+use Rattle.nx_matrix.specs.declared.rule.Rule.{Rule}
 use Rattle.nx_wal.specs.Wal.{current}
 use Rattle.nx_holdings.specs.declared.header.Settings.{Settings}
 use Rattle.nx_holdings.specs.Holdings.{Held, chain_count}
 use Rattle.nx_records.specs.declared.records.Records.{Records}
 use Rattle.nx_records.specs.declared.error.StoreError.{StoreError}
 use Rattle.nx_records.specs.declared.error.StoreError.TheVariants as below
-use Rattle.nx_records.specs.Records.{has_ended, StandsFor, KeepsSaved, ComesTo}
+use Rattle.nx_records.specs.Records.{has_ended, settings_of, StandsFor, KeepsSaved, ComesTo}
 use Rattle.nx_records.specs.Changes.{SetsCatalog, catalog_needs}
 use Rattle.nx_records.specs.Refusals.{RunsOn, NotStored}
 use Rattle.nx_cuts.specs.Cut.{CutTree, tree_of}
 use Rattle.nx_layouts.specs.Layout.{RecordPlace, ArePlacedOnce}
 use Rattle.nx_script.specs.Field.{name_order, is_document_name}
 use Rattle.nx_script.specs.Rule.{HasLabels}
-use Rattle.nx_script.specs.declared.command.Command.{Command}
-use Rattle.nx_script.specs.declared.command.Command.TheVariants.{Delete}
+use Rattle.nx_script.specs.declared.command.Command.TheVariants.{Insert, Delete, Retext, Checkpoint}
+use Rattle.nx_script.specs.declared.command.LineBody.{LineBody}
+use Rattle.nx_script.specs.declared.command.LineBody.TheVariants as line
+use Rattle.nx_script.specs.declared.command.TextBody.{TextBody}
+use Rattle.nx_script.specs.declared.command.TextBody.TheVariants as said
+use Rattle.nx_pyx.specs.declared.error.PyxError.{PyxError}
 use Rattle.nx_script.specs.declared.reply.Reply.TheVariants as reply
 use Rattle.nx_script.specs.declared.reply.ReplyError.{ReplyError}
-use Rattle.nx_script.specs.declared.reply.ReplyError.TheVariants.{NoDocument, Full}
-use Rattle.nx_engine.specs.Step.{worded, delete_fault}
+use Rattle.nx_script.specs.declared.reply.ReplyError.TheVariants.{NoDocument, Pyx, TooHeavy, Full}
+use Rattle.nx_engine.specs.Step.{worded, insert_fault, delete_fault, retext_fault}
 use Rattle.nx_hold.specs.declared.entry.DocEntry.{DocEntry}
 use Rattle.nx_hold.specs.Changes.{ComesTidy}
 use Rattle.nx_hold.specs.Documents.{MovesRecords}
@@ -45,21 +55,22 @@ use Rattle.nx_state.specs.State.{State, document_size, all_nodes}
 use Rattle.nx_state.specs.Stands.{StoredDocument, IsStoredIn, HoldsDocuments, record_places}
 use Rattle.nx_state.proofs.ChangeLemmas.{documents_change, catalog_comes}
 use Rattle.nx_state.proofs.FreeLemmas.{documents_leave_free}
-use Rattle.nx_drawn.specs.Edits.{deleted}
 use Rattle.nx_steps.specs.Answers.{with_document, MayBeFull}
-use Rattle.nx_steps.specs.Refusal.{refusal, document_fault}
-use Rattle.nx_steps.specs.Step.{nodes_after, Step}
+use Rattle.nx_steps.specs.Refusal.{refusal, document_fault, weight_fault, inserted_fault, retexted_fault}
+use Rattle.nx_steps.specs.Step.{nodes_after, may_need_room, Effect, Step}
 use Rattle.nx_steps.proofs.CountLemmas.{room_counted}
 use Rattle.nx_edit.specs.Editing.{places_off, IsEdited, EditsDocument}
-use Rattle.nx_edit.specs.Removing.{document_places}
-use Rattle.nx_edit.specs.Refusals.{refused_by, deletion_fault, edit_needs, edit_error, LeavesLastCommit, IsAtFault, NotEdited}
+use Rattle.nx_edit.specs.Removing.{document_places, OfEntry}
+use Rattle.nx_edit.specs.Refusals.{refused_by, edit_needs, edit_error, LeavesLastCommit, IsAtFault, NotEdited}
+use Rattle.nx_edit.specs.Retexting.{other_content, outweighs, outgrows}
 use Rattle.nx_edit.specs.declared.error.EditError.{EditError}
 use Rattle.nx_edit.specs.declared.error.EditError.TheVariants as edit
-use Rattle.nx_store.specs.Carried.{StoreStep}
 use Rattle.nx_store.specs.Store.{IsAt}
 use Rattle.nx_store.specs.Loading.{IsStoreLeft}
 use Rattle.nx_store.specs.Changing.{Prepares, StepsRefused}
-use Rattle.nx_store.specs.Editing.{edit_reply, EditNotPrepared}
+use Rattle.nx_store.specs.Editing.{edit_command, CanBeMade, edit_fault, is_of_edit, tree_edit, EditBecomes, stays_below, edit_reply, EditNotPrepared}
+use Rattle.nx_store.specs.declared.editing.Edit.{Edit}
+use Rattle.nx_store.specs.declared.editing.Edit.TheVariants as made
 use Rattle.nx_store.specs.declared.store.Store.{Store}
 use Rattle.nx_store.proofs.FoundLemmas.{at_none, same_some}
 use Rattle.nx_store.proofs.KeepLemmas.{later_rose, no_end}
@@ -100,28 +111,44 @@ none_named {store = store} {state = state} name at none = by_name (is_document_n
     by_name true is e = at_none name at (sym e)
     by_name false is e = at_none name at (lacks is (get (store.catalog).documents name) refl)
 
--- ---- what a `delete` is answered
+-- ---- what an edit is answered
 
--- the refusals of trees are worded alike
-worded_none : (o : Option TreeError) → option_and_then refused_by o ≡ None → option_and_then worded o ≡ None
-worded_none None h = refl
-worded_none (Some tree.NoNode) h = cc
-worded_none (Some tree.BadPlace) h = cc
-worded_none (Some tree.Twice) h = cc
-worded_none (Some tree.NoContent) h = cc
-worded_none (Some tree.TooDeep) h = cc
-worded_none (Some tree.TooMany) h = cc
-worded_none (Some tree.Memory) h = refl
+-- reasons are worded alike
+worded_alike : (path : List ℕ) (o : Option TreeError) → option_and_then worded o ≡ option_map (edit_reply path) (option_and_then refused_by o)
+worded_alike path None = refl
+worded_alike path (Some tree.NoNode) = refl
+worded_alike path (Some tree.BadPlace) = refl
+worded_alike path (Some tree.Twice) = refl
+worded_alike path (Some tree.NoContent) = refl
+worded_alike path (Some tree.TooDeep) = refl
+worded_alike path (Some tree.TooMany) = refl
+worded_alike path (Some tree.Memory) = refl
 
-worded_some : (path : List ℕ) (o : Option TreeError) (e : EditError) → option_and_then refused_by o ≡ Some e → option_and_then worded o ≡ Some (edit_reply path e)
-worded_some path None e h = cc
-worded_some path (Some tree.NoNode) e h = ap (λ x. Some (edit_reply path x)) (same_some h)
-worded_some path (Some tree.BadPlace) e h = ap (λ x. Some (edit_reply path x)) (same_some h)
-worded_some path (Some tree.Twice) e h = ap (λ x. Some (edit_reply path x)) (same_some h)
-worded_some path (Some tree.NoContent) e h = ap (λ x. Some (edit_reply path x)) (same_some h)
-worded_some path (Some tree.TooDeep) e h = ap (λ x. Some (edit_reply path x)) (same_some h)
-worded_some path (Some tree.TooMany) e h = ap (λ x. Some (edit_reply path x)) (same_some h)
-worded_some path (Some tree.Memory) e h = cc
+weighed_alike : (path : List ℕ) (k : ℕ) (node : Node) → weight_fault k path node ≡ option_map (edit_reply path) (outweighs k node)
+weighed_alike path k node =
+    elim (nat_lt k (weight node)) as (λ b. (if b then Some (TooHeavy path (weight node)) else None) ≡ option_map (edit_reply path) (if b then Some (edit.TooHeavy (weight node)) else None)) [
+      | true ↦ refl
+      | false ↦ refl
+    ]
+
+there_alike : (path : List ℕ) (k : ℕ) (content : List ℕ) (o : Option OrderedTree)
+    → option_map_or (λ t. weight_fault k path (record t.node { content = content })) o None ≡ option_map (edit_reply path) (option_map_or (λ t. outweighs k (other_content content t)) o None)
+there_alike path k content None = refl
+there_alike path k content (Some t) = weighed_alike path k (other_content content t)
+
+first_alike : (path : List ℕ) (a b : Option EditError) → option_or (option_map (edit_reply path) a) (option_map (edit_reply path) b) ≡ option_map (edit_reply path) (option_or a b)
+first_alike path None b = refl
+first_alike path (Some e) b = refl
+
+long_alike : (path content : List ℕ) (o : Option OrderedTree) → length content ≤ longest_node
+    → (if nat_lt longest_node (length (option_map_or (λ (t : OrderedTree). t.node.name) o []) + length content) then Some (Pyx (line_fault 1 LongLine)) else None)
+    ≡ option_map (edit_reply path) (option_map_or (λ t. outgrows (other_content content t)) o None)
+long_alike path content None short = ap (λ (b : Bool). if b then Some (Pyx (line_fault 1 LongLine)) else None) (le-ltb longest_node (0 + length content) (omega (arith, short)))
+long_alike path content (Some t) short =
+    elim (nat_lt longest_node (length t.node.name + length content)) as (λ b. (if b then Some (Pyx (line_fault 1 LongLine)) else None) ≡ option_map (edit_reply path) (if b then Some edit.TooLong else None)) [
+      | true ↦ refl
+      | false ↦ refl
+    ]
 
 -- what is refused of the document of a name
 at_document : (state : State) (name : List ℕ) (old : CutTree) (fault : OrderedTree → Option ReplyError) → get state.documents name ≡ Some old → document_fault state name fault ≡ fault (tree_of old)
@@ -130,30 +157,99 @@ at_document state name old fault there = ap (λ o. option_map_or (λ (document :
 at_nothing : (state : State) (name : List ℕ) (fault : OrderedTree → Option ReplyError) → get state.documents name ≡ None → document_fault state name fault ≡ Some NoDocument
 at_nothing state name fault none = ap (λ o. option_map_or (λ (document : CutTree). fault (tree_of document)) o (Some NoDocument)) none
 
+edit_refusal : (state : State) (name path : List ℕ) (e : Edit) (old : CutTree) → get state.documents name ≡ Some old → CanBeMade e
+    → refusal state (edit_command name path e) ≡ option_map (edit_reply path) (edit_fault e path (state.settings).k (tree_of old))
+edit_refusal state name path made.Delete old there can = at_document state name old (delete_fault path) there ∙ worded_alike path (delete_refusal path (tree_of old))
+edit_refusal state name path (made.Retext content) old there can =
+    let k = (state.settings).k in
+    let t : OrderedTree = tree_of old in
+    let long : Option EditError = option_map_or (λ there. outgrows (other_content content there)) (at_path t path) None in
+    let wrong : Option EditError = option_and_then refused_by (retext_refusal path t) in
+    at_document state name old (λ t. option_or (retext_fault path (said.Read content) t) (retexted_fault k path (said.Read content) t)) there
+    ∙ ap (λ (o : Option ReplyError). option_or (option_or o (option_and_then worded (retext_refusal path t))) (retexted_fault k path (said.Read content) t)) (long_alike path content (at_path t path) can)
+    ∙ ap (λ (o : Option ReplyError). option_or (option_or (option_map (edit_reply path) long) o) (retexted_fault k path (said.Read content) t)) (worded_alike path (retext_refusal path t))
+    ∙ ap (λ (o : Option ReplyError). option_or o (retexted_fault k path (said.Read content) t)) (first_alike path long wrong)
+    ∙ ap (λ (o : Option ReplyError). option_or (option_map (edit_reply path) (option_or long wrong)) o) (there_alike path k content (at_path t path))
+    ∙ first_alike path (option_or long wrong) (option_map_or (λ there. outweighs k (other_content content there)) (at_path t path) None)
+edit_refusal state name path (made.Insert node) old there can =
+    let k = (state.settings).k in
+    let wrong : Option TreeError = insert_refusal node path (tree_of old) in
+    at_document state name old (λ t. option_or (insert_fault path (line.Read node) t) (inserted_fault k path (line.Read node))) there
+    ∙ ap (λ (o : Option ReplyError). option_or o (weight_fault k path node)) (worded_alike path wrong)
+    ∙ ap (λ (o : Option ReplyError). option_or (option_map (edit_reply path) (option_and_then refused_by wrong)) o) (weighed_alike path k node) ∙ first_alike path (option_and_then refused_by wrong) (outweighs k node)
+
+pub no_checkpoint : (name path : List ℕ) (e : Edit) → edit_command name path e ≢ Checkpoint
+no_checkpoint name path made.Delete is = cc
+no_checkpoint name path (made.Retext content) is = cc
+no_checkpoint name path (made.Insert node) is = cc
+
+edit_effect : (state : State) (name path : List ℕ) (e : Edit) (old document : CutTree) → get state.documents name ≡ Some old → EditBecomes state.settings state.rules e path old document
+    → Effect state (edit_command name path e) reply.Done (with_document state name document)
+edit_effect state name path made.Delete old document there is = (refl, record { old = old; new = document; there = there; becomes = is; next_is = refl })
+edit_effect state name path (made.Retext content) old document there is = (refl, record { old = old; new = document; there = there; becomes = is; next_is = refl })
+edit_effect state name path (made.Insert node) old document there is = (refl, record { old = old; new = document; there = there; becomes = is; next_is = refl })
+
+edit_counts : (state : State) (name path : List ℕ) (e : Edit) (old : CutTree) → get state.documents name ≡ Some old → refusal state (edit_command name path e) ≡ None
+    → nodes_after state (edit_command name path e) + document_size old ≡ all_nodes state + (1 + nodes (tree_edit e path (tree_of old)).below)
+edit_counts state name path made.Delete old there none = room_counted state (Delete name path) none old there
+edit_counts state name path (made.Retext content) old there none = room_counted state (Retext name path (said.Read content)) none old there
+edit_counts state name path (made.Insert node) old there none = room_counted state (Insert name path (line.Read node)) none old there
+
+edit_needs_room : (name path : List ℕ) (e : Edit) → may_need_room (edit_command name path e) ≡ true
+edit_needs_room name path made.Delete = refl
+edit_needs_room name path (made.Retext content) = refl
+edit_needs_room name path (made.Insert node) = refl
+
+pub refused_edit : (state : State) (name path : List ℕ) (e : Edit) (old : CutTree) (error : EditError) → get state.documents name ≡ Some old → CanBeMade e
+    → edit_fault e path (state.settings).k (tree_of old) ≡ Some error → Step state (edit_command name path e) (reply.Refused (edit_reply path error)) state
+refused_edit state name path e old error there can fault =
+    refused_step state (edit_command name path e) (edit_reply path error) (edit_refusal state name path e old there can ∙ ap (option_map (edit_reply path)) fault)
+
+free_edit : (state : State) (name path : List ℕ) (e : Edit) (old : CutTree) → get state.documents name ≡ Some old → CanBeMade e → edit_fault e path (state.settings).k (tree_of old) ≡ None
+    → refusal state (edit_command name path e) ≡ None
+free_edit state name path e old there can fault = edit_refusal state name path e old there can ∙ ap (option_map (edit_reply path)) fault
+
+pub done_edit : (state : State) (name path : List ℕ) (e : Edit) (old document : CutTree) → get state.documents name ≡ Some old → CanBeMade e → edit_fault e path (state.settings).k (tree_of old) ≡ None
+    → EditBecomes state.settings state.rules e path old document → Step state (edit_command name path e) reply.Done (with_document state name document)
+done_edit state name path e old document there can fault is =
+    done_step state (edit_command name path e) (with_document state name document) (free_edit state name path e old there can fault) (edit_effect state name path e old document there is)
+
+pub full_edit : (state : State) (name path : List ℕ) (e : Edit) (old : CutTree) → get state.documents name ≡ Some old → CanBeMade e → edit_fault e path (state.settings).k (tree_of old) ≡ None
+    → ((behind : ℕ) → behind + document_size old ≡ all_nodes state + (1 + nodes (tree_edit e path (tree_of old)).below) → MayBeFull state behind) → Step state (edit_command name path e) (reply.Refused Full) state
+full_edit state name path e old there can fault full =
+    let none = free_edit state name path e old there can fault in
+    full_step state (edit_command name path e) none
+    (record { needs = edit_needs_room name path e; full = full (nodes_after state (edit_command name path e)) (edit_counts state name path e old there none); refused = (refl, refl) })
+
+abbrev text_fault : State → List ℕ → TextBody → OrderedTree → Option ReplyError
+text_fault state path text tree = option_or (retext_fault path text tree) (retexted_fault (state.settings).k path text tree)
+
+pub absent_text : (state : State) (name path : List ℕ) (text : TextBody) → get state.documents name ≡ None → Step state (Retext name path text) (reply.Refused NoDocument) state
+absent_text state name path text none = refused_step state (Retext name path text) NoDocument (at_nothing state name (text_fault state path text) none)
+
+pub wrong_text : (state : State) (name path : List ℕ) (error : PyxError) (old : CutTree) → get state.documents name ≡ Some old → Step state (Retext name path (said.Wrong error)) (reply.Refused (Pyx error)) state
+wrong_text state name path error old there = refused_step state (Retext name path (said.Wrong error)) (Pyx error) (at_document state name old (text_fault state path (said.Wrong error)) there)
+
+abbrev line_fault_of : State → List ℕ → LineBody → OrderedTree → Option ReplyError
+line_fault_of state path said tree = option_or (insert_fault path said tree) (inserted_fault (state.settings).k path said)
+
+pub absent_line : (state : State) (name path : List ℕ) (said : LineBody) → get state.documents name ≡ None → Step state (Insert name path said) (reply.Refused NoDocument) state
+absent_line state name path said none = refused_step state (Insert name path said) NoDocument (at_nothing state name (line_fault_of state path said) none)
+
+pub wrong_line : (state : State) (name path : List ℕ) (error : PyxError) (old : CutTree) → get state.documents name ≡ Some old → Step state (Insert name path (line.Wrong error)) (reply.Refused (Pyx error)) state
+wrong_line state name path error old there = refused_step state (Insert name path (line.Wrong error)) (Pyx error) (at_document state name old (line_fault_of state path (line.Wrong error)) there)
+
 pub absent_cut : (state : State) (name path : List ℕ) → get state.documents name ≡ None → Step state (Delete name path) (reply.Refused NoDocument) state
 absent_cut state name path none = refused_step state (Delete name path) NoDocument (at_nothing state name (delete_fault path) none)
 
-pub refused_cut : (state : State) (name path : List ℕ) (old : CutTree) (e : EditError) → get state.documents name ≡ Some old → deletion_fault path (tree_of old) ≡ Some e
-    → Step state (Delete name path) (reply.Refused (edit_reply path e)) state
-refused_cut state name path old e there fault =
-    refused_step state (Delete name path) (edit_reply path e) (at_document state name old (delete_fault path) there ∙ worded_some path (delete_refusal path (tree_of old)) e fault)
-
-free_cut : (state : State) (name path : List ℕ) (old : CutTree) → get state.documents name ≡ Some old → deletion_fault path (tree_of old) ≡ None → refusal state (Delete name path) ≡ None
-free_cut state name path old there fault = at_document state name old (delete_fault path) there ∙ worded_none (delete_refusal path (tree_of old)) fault
-
-pub done_cut : (state : State) (name path : List ℕ) (old document : CutTree) → get state.documents name ≡ Some old → deletion_fault path (tree_of old) ≡ None → document ≡ deleted path old
-    → Step state (Delete name path) reply.Done (with_document state name document)
-done_cut state name path old document there fault is =
-    done_step state (Delete name path) (with_document state name document) (free_cut state name path old there fault)
-    (refl, record { old = old; new = document; there = there; becomes = is; next_is = refl })
-
-pub full_cut : (state : State) (name path : List ℕ) (old : CutTree) → get state.documents name ≡ Some old → deletion_fault path (tree_of old) ≡ None
-    → ((behind : ℕ) → behind + document_size old ≡ all_nodes state + (1 + nodes (cut_at path (tree_of old)).below) → MayBeFull state behind) → Step state (Delete name path) (reply.Refused Full) state
-full_cut state name path old there fault full =
-    let none = free_cut state name path old there fault in
-    full_step state (Delete name path) none (record { needs = refl; full = full (nodes_after state (Delete name path)) (room_counted state (Delete name path) none old there); refused = (refl, refl) })
-
 -- ---- the state with the document edited
+
+-- what an edit makes is told by the settings of the records
+pub by_settings : {D : Type 0} (d : Ghosts D) (r0 r1 : Records) (x0 x1 : D) (Becomes : Settings → CutTree → CutTree → Type 0) (stays : Bool) (path : List ℕ) (entry new : DocEntry)
+    → ComesTidy d r0 r1 x0 x1 (λ was now. EditsDocument (Becomes was.settings) stays path entry new was now) → ComesTidy d r0 r1 x0 x1 (EditsDocument (Becomes (settings_of r0)) stays path entry new)
+by_settings d r0 r1 x0 x1 Becomes stays path entry new comes saved now stands tidy =
+    let next = comes saved now stands tidy in
+    (next.0, next.1, next.2, subst (λ (s : Settings). EditsDocument (Becomes s) stays path entry new now next.0) ((stands.holds).behind).settings next.3)
 
 -- The records are those of a state with another document in the place of one, whose catalog is not set yet.
 record IsRewritten (saved mid : Held) (state : State) (contents : Contents) (name : List ℕ) (new : DocEntry) (document : CutTree) : Type 0 where
@@ -205,19 +301,34 @@ module _ {D : Type 0} (d : Ghosts D) (s0 : Store) (x0 : D) (state : State) (at :
         },
       )
 
+  -- the same settings and rules are those of the state
+  settings_at : settings_of s0.records ≡ state.settings
+  settings_at = sym (((at.stands).holds).behind).settings ∙ (at.state_is).settings
+
+  rules_at : (s0.catalog).rules ≡ state.rules
+  rules_at = ap (λ (c : Contents). c.rules) (sym (contents_at d s0 x0 state at name entry there)) ∙ (at.state_is).rules
+
+  fault_at : (path : List ℕ) (e : Edit) (o : Option EditError) → edit_fault e path (settings_of s0.records).k (tree_of old.document) ≡ o → edit_fault e path (state.settings).k (tree_of old.document) ≡ o
+  fault_at path e o is = subst (λ (s : Settings). edit_fault e path s.k (tree_of old.document) ≡ o) settings_at is
+
   -- the edited document is entered
-  pub edit_prepared : (command : Command) (r1 : Records) (s2 : Store) (x1 x2 : D) (new : DocEntry) (Becomes : CutTree → CutTree → Type 0) (stays : Bool) (path : List ℕ) → ComesTidy d s0.records r1 x0 x1 (EditsDocument Becomes stays path entry new)
+  pub edit_prepared : (path : List ℕ) (e : Edit) (can : CanBeMade e)
+      → OfEntry d s0.records x0 entry (λ now document. edit_fault e path (settings_of s0.records).k (tree_of document) ≡ None)
+      → (r1 : Records) (s2 : Store) (x1 x2 : D) (new : DocEntry) → ComesTidy d s0.records r1 x0 x1 (EditsDocument (EditBecomes (settings_of s0.records) (s0.catalog).rules e path) (stays_below e) path entry new)
       → (s2.catalog).documents ≡ insert (s0.catalog).documents name new → (s2.catalog).rules ≡ (s0.catalog).rules
       → (All HasLabels (s0.catalog).rules → IsCatalog (catalog_bytes s2.catalog) s2.catalog) → ComesTo d r1 s2.records x1 x2 (λ was now. SetsCatalog (catalog_bytes s2.catalog) was now)
-      → ((document : CutTree) → get state.documents name ≡ Some old.document → Becomes old.document document → StoreStep state command reply.Done (with_document state name document)) → Prepares d state command reply.Done s2 x2
-  edit_prepared command r1 s2 x1 x2 new Becomes stays path comes documents rules form saves steps =
-      let mid = rewritten r1 x1 new Becomes stays path comes in
+      → Prepares d state (edit_command name path e) reply.Done s2 x2
+  edit_prepared path e can free r1 s2 x1 x2 new comes documents rules form saves =
+      let mid = rewritten r1 x1 new (EditBecomes (settings_of s0.records) (s0.catalog).rules e path) (stays_below e) path comes in
       let m = mid.4 in
       let now = saves at.held mid.0 mid.1 in
       let formed = form (at.catalog).labels in
+      let becomes : EditBecomes state.settings state.rules e path old.document mid.2 =
+      subst (λ (s : Settings). EditBecomes s state.rules e path old.document mid.2) settings_at (subst (λ (rs : List Rule). EditBecomes (settings_of s0.records) rs e path old.document mid.2) rules_at mid.3) in
       record {
         next = with_document state name mid.2;
-        step = steps mid.2 (shown_there d s0 x0 state at name entry there) mid.3;
+        step = done_edit state name path e old.document mid.2 (shown_there d s0 x0 state at name entry there) can
+            (fault_at path e None (told_entry d s0 x0 state at name entry there (λ now document. edit_fault e path (settings_of s0.records).k (tree_of document) ≡ None) free)) becomes;
         prepared = record {
           saved = at.held;
           now = now.0;
@@ -231,7 +342,7 @@ module _ {D : Type 0} (d : Ghosts D) (s0 : Store) (x0 : D) (state : State) (at :
             catalog = subst (λ (bytes : List ℕ). IsCatalog bytes s2.catalog) (sym (now.2).catalog) formed;
             names = ap (λ (es : Entries). entries es) documents ∙ m.names;
             documents = m.documents;
-            rules = rules ∙ ap (λ (c : Contents). c.rules) (sym (contents_at d s0 x0 state at name entry there)) ∙ (at.state_is).rules;
+            rules = rules ∙ rules_at;
           };
           catalog = subst (λ (bytes : List ℕ). IsCatalog bytes s2.catalog) (sym (now.2).catalog) formed;
         };
@@ -268,28 +379,28 @@ module _ {D : Type 0} (d : Ghosts D) (s0 : Store) (x0 : D) (state : State) (at :
 
 -- ---- why an edit wasn't prepared
 
-module _ {D : Type 0} (d : Ghosts D) (s0 s1 : Store) (x0 x1 : D) (name : List ℕ) (entry : DocEntry) (path : List ℕ) (command : Command) (runs : has_ended s0.records ≡ false) (there : get (s0.catalog).documents name ≡ Some entry) where
-  module _ (catalog : s1.catalog ≡ s0.catalog) (can : EditError → Bool) (fault : OrderedTree → Option EditError) (change : OrderedTree → OrderedTree)
-      (refuses : (state : State) (document : CutTree) (e : EditError) → get state.documents name ≡ Some document → fault (tree_of document) ≡ Some e → StoreStep state command (reply.Refused (edit_reply path e)) state)
-      (fills_up : (state : State) (document : CutTree) → get state.documents name ≡ Some document → fault (tree_of document) ≡ None
-      → ((behind : ℕ) → behind + document_size document ≡ all_nodes state + (1 + nodes (change (tree_of document)).below) → MayBeFull state behind) → StoreStep state command (reply.Refused Full) state) where
-    by_fault : (e : EditError) → (can e ≡ true) × LeavesLastCommit d s0.records s1.records x0 x1 × IsAtFault d fault entry e s0.records x0 → IsStoreLeft d s0 s1 x0 x1 × StepsRefused d command (edit_reply path e) s0 x0
-    by_fault e refused = (
+module _ {D : Type 0} (d : Ghosts D) (s0 s1 : Store) (x0 x1 : D) (name : List ℕ) (entry : DocEntry) (path : List ℕ) (e : Edit) (runs : has_ended s0.records ≡ false) (there : get (s0.catalog).documents name ≡ Some entry) (can : CanBeMade e) where
+  module _ (catalog : s1.catalog ≡ s0.catalog) where
+    by_fault : (error : EditError) → (is_of_edit e error ≡ true) × LeavesLastCommit d s0.records s1.records x0 x1 × IsAtFault d (edit_fault e path (settings_of s0.records).k) entry error s0.records x0
+        → IsStoreLeft d s0 s1 x0 x1 × StepsRefused d (edit_command name path e) (edit_reply path error) s0 x0
+    by_fault error refused = (
       record { runs = (refused.1).0; saved = (refused.1).1; catalog = catalog },
       λ state at.
-          refuses state (old d s0 x0 state at name entry there).document e (shown_there d s0 x0 state at name entry there)
-          (told_entry d s0 x0 state at name entry there (λ now document. fault (tree_of document) ≡ Some e) refused.2),
+          refused_edit state name path e (old d s0 x0 state at name entry there).document error (shown_there d s0 x0 state at name entry there) can
+          (fault_at d s0 x0 state at name entry there path e (Some error) (told_entry d s0 x0 state at name entry there (λ now document. edit_fault e path (settings_of s0.records).k (tree_of document) ≡ Some error) refused.2)),
     )
 
-    pub edit_unmade : (e : EditError) → NotEdited d can fault (edit_needs change) entry e s0.records s1.records x0 x1 → EditNotPrepared d command path e s0 s1 x0 x1
+    pub edit_unmade : (error : EditError) → NotEdited d (is_of_edit e) (edit_fault e path (settings_of s0.records).k) (edit_needs (tree_edit e path)) entry error s0.records s1.records x0 x1
+        → EditNotPrepared d (edit_command name path e) path error s0 s1 x0 x1
     edit_unmade edit.Disk refused = (refused.0, ((refused.1).before, (refused.1).after))
     edit_unmade edit.Full refused = (
       record { runs = refused.runs; saved = refused.keeps; catalog = catalog },
       λ state at.
-          let t = told_entry d s0 x0 state at name entry there (λ now document. (fault (tree_of document) ≡ None) × (now.free < edit_needs change document)) refused.few in
+          let t = told_entry d s0 x0 state at name entry there (λ now document. (edit_fault e path (settings_of s0.records).k (tree_of document) ≡ None) × (now.free < edit_needs (tree_edit e path) document)) refused.few in
           let document = (old d s0 x0 state at name entry there).document in
-          fills_up state document (shown_there d s0 x0 state at name entry there) t.0
-          (λ behind counted. may_fill d s0 x0 state at name entry there behind (1 + nodes (change (tree_of document)).below) counted t.1),
+          full_edit state name path e document (shown_there d s0 x0 state at name entry there) can
+          (fault_at d s0 x0 state at name entry there path e None t.0)
+          (λ behind counted. may_fill d s0 x0 state at name entry there behind (1 + nodes (tree_edit e path (tree_of document)).below) counted t.1),
     )
     edit_unmade (edit.Damaged page) refused = (((refused.0).before, (refused.0).after), λ state at. told_entry d s0 x0 state at name entry there (λ now document. ⊥) refused.1)
     edit_unmade edit.Ended refused = absurd (no_end s0.records runs refused.0)
@@ -298,6 +409,7 @@ module _ {D : Type 0} (d : Ghosts D) (s0 s1 : Store) (x0 x1 : D) (name : List �
     edit_unmade edit.BadPlace refused = by_fault edit.BadPlace refused
     edit_unmade edit.Twice refused = by_fault edit.Twice refused
     edit_unmade edit.NoContent refused = by_fault edit.NoContent refused
+    edit_unmade edit.TooLong refused = by_fault edit.TooLong refused
     edit_unmade edit.TooDeep refused = by_fault edit.TooDeep refused
     edit_unmade edit.TooMany refused = by_fault edit.TooMany refused
     edit_unmade (edit.TooHeavy weight) refused = by_fault (edit.TooHeavy weight) refused
@@ -312,8 +424,8 @@ module _ {D : Type 0} (d : Ghosts D) (s0 s1 : Store) (x0 x1 : D) (name : List �
       catalog = same;
     }
 
-    pub entry_unsaved : (e : StoreError) → NotStored d (λ was. catalog_needs (catalog_bytes (record { documents = insert (s0.catalog).documents name new; rules = (s0.catalog).rules })) was) (λ was. ⊥) 0 e s1.records s2.records x1 x2
-        → EditNotPrepared d command path (edit_error e) s0 s2 x0 x2
+    pub entry_unsaved : (error : StoreError) → NotStored d (λ was. catalog_needs (catalog_bytes (record { documents = insert (s0.catalog).documents name new; rules = (s0.catalog).rules })) was) (λ was. ⊥) 0 error s1.records s2.records x1 x2
+        → EditNotPrepared d (edit_command name path e) path (edit_error error) s0 s2 x0 x2
     entry_unsaved below.Disk refused = (later_rose (d.faults x0) (d.faults x1) (d.faults x2) still.faults_later refused.0, (goes.before, (refused.1).after))
     entry_unsaved below.Full refused = (left_unsaved refused.runs refused.keeps, λ state at. absurd (entry_fits d s0 x0 state at name entry there s1.records x1 new Becomes stays along comes refused.few))
     entry_unsaved (below.Damaged page) refused = (

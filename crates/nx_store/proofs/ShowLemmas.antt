@@ -11,7 +11,7 @@ use Rattle.nx_script.specs.declared.command.Command.{Command}
 use Rattle.nx_script.specs.declared.command.Command.TheVariants.{Checkpoint}
 use Rattle.nx_script.specs.declared.reply.Reply.{Reply}
 use Rattle.nx_state.specs.State.{State}
-use Rattle.nx_store.specs.Carried.{StoreStep}
+use Rattle.nx_steps.specs.Step.{Step}
 use Rattle.nx_store.specs.Store.{LeavesStore, is_ended, GoesOn, IsAt, IsOf, IsShortened, Shows, IsApplied, NotApplied}
 use Rattle.nx_store.specs.Loading.{IsToldOrNot, reply_of}
 use Rattle.nx_store.specs.declared.store.Store.{Store}
@@ -47,7 +47,7 @@ module _ {D : Type 0} (d : Ghosts D) where
     at_stays : is_ended s1 ≡ false → IsAt d s1 x1 state
     at_stays runs = at_kept {s0 = s0} {s1 = s1} (same runs) still at
 
-    pub looked_reply : (reply : Reply) → is_ended s1 ≡ false → StoreStep state command reply state → IsApplied d (Ok reply) state command s1 x0 x1
+    pub looked_reply : (reply : Reply) → is_ended s1 ≡ false → Step state command reply state → IsApplied d (Ok reply) state command s1 x0 x1
     looked_reply reply runs step = (state, step, at_stays runs, shows_weaker (λ i of. inl of) (shows_still still at), log_stays d command state x0 x1 other)
 
     pub looked_error : (e : EngineError) → NotApplied d e s0 s1 x0 x1 → IsApplied d (Err e) state command s1 x0 x1
@@ -59,12 +59,12 @@ module _ {D : Type 0} (d : Ghosts D) where
     looked_error error.NotAStore refused = absurd refused
     looked_error error.Write refused = absurd refused
 
-    pub looked_applied : (r : Result Reply EngineError) → IfOk r (λ reply. GoesOn s0 s1 × ((state : State) → IsAt d s0 x0 state → StoreStep state command reply state)) → IfErr r (λ e. NotApplied d e s0 s1 x0 x1) → IsApplied d r state command s1 x0 x1
+    pub looked_applied : (r : Result Reply EngineError) → IfOk r (λ reply. GoesOn s0 s1 × ((state : State) → IsAt d s0 x0 state → Step state command reply state)) → IfErr r (λ e. NotApplied d e s0 s1 x0 x1) → IsApplied d r state command s1 x0 x1
     looked_applied (Ok reply) ok refused = looked_reply reply (ok.0).1 (ok.1 state at)
     looked_applied (Err e) ok refused = looked_error e refused
 
   -- a reply to a command for which nothing was done
-  pub told_applied : (s : Store) (x : D) (state : State) (command : Command) (reply : Reply) (r : Result (Reply × List ℕ) EngineError) → command ≢ Checkpoint → IsToldOrNot reply r → IsAt d s x state → StoreStep state command reply state
+  pub told_applied : (s : Store) (x : D) (state : State) (command : Command) (reply : Reply) (r : Result (Reply × List ℕ) EngineError) → command ≢ Checkpoint → IsToldOrNot reply r → IsAt d s x state → Step state command reply state
       → IsApplied d (reply_of r) state command s x x
   told_applied s x state command reply (Ok answer) other is at step = subst (λ (a : Reply × List ℕ). IsApplied d (Ok a.0) state command s x x) (sym is) (state, step, at, none_elapsed, log_stays d command state x x other)
   told_applied s x state command reply (Err e) other is at step = subst (λ (y : EngineError). IsApplied d (Err y) state command s x x) (sym is) (at, none_elapsed)

@@ -10,7 +10,7 @@ use Rattle.nx_host.proofs.DiskLemmas.{told_same}
 use Rattle.nx_script.specs.declared.command.Command.{Command}
 use Rattle.nx_script.specs.declared.reply.Reply.{Reply}
 use Rattle.nx_state.specs.State.{State}
-use Rattle.nx_store.specs.Carried.{StoreStep}
+use Rattle.nx_steps.specs.Step.{Step}
 use Rattle.nx_script.specs.Reply.{reply_text}
 use Rattle.nx_store.specs.Store.{IsAt, IsOf, LeavesLog, IsApplied, ShowsAnswer, IsAnswered}
 use Rattle.nx_store.specs.declared.store.Store.{Store}
@@ -30,7 +30,7 @@ prefix_kept x a b (Some now) kept (was, n, is, grew) = (was, n, subst (λ o. Kee
 
 module _ {D : Type 0} (d : Ghosts D) where
   -- there was no memory for the text
-  pub untold_applied : (s : Store) (x0 x1 : D) (state : State) (command : Command) (reply : Reply) → ((state next : State) (reply : Reply) → StoreStep state command reply next → next ≡ state)
+  pub untold_applied : (s : Store) (x0 x1 : D) (state : State) (command : Command) (reply : Reply) → ((state next : State) (reply : Reply) → Step state command reply next → next ≡ state)
       → IsApplied d (Ok reply) state command s x0 x1 → IsApplied d (Err error.Memory) state command s x0 x1
   untold_applied s x0 x1 state command reply stays applied =
       let same = stays state applied.0 reply applied.1 in

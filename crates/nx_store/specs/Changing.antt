@@ -16,7 +16,7 @@ use Rattle.nx_script.specs.declared.reply.ReplyError.{ReplyError}
 use Rattle.nx_script.specs.declared.reply.ReplyError.TheVariants as refused
 use Rattle.nx_state.specs.State.{State}
 use Rattle.nx_state.specs.Stands.{HoldsState}
-use Rattle.nx_store.specs.Carried.{StoreStep}
+use Rattle.nx_steps.specs.Step.{Step}
 use Rattle.nx_store.specs.Store.{IsAt, IsNowhere, EndsNow}
 use Rattle.nx_store.specs.Loading.{IsStoreLeft, IsToldOrNot, IsRefusal}
 use Rattle.nx_store.specs.declared.store.Store.{Store}
@@ -34,12 +34,12 @@ pub record IsPrepared {D : Type 0} (d : Ghosts D) (store : Store) (disk : D) (st
 -- The step of a command of which only the commit is left.
 pub record Prepares {D : Type 0} (d : Ghosts D) (state : State) (command : Command) (reply : Reply) (store : Store) (disk : D) : Type 0 where
   pub next : State
-  pub step : StoreStep state command reply next
+  pub step : Step state command reply next
   pub prepared : IsPrepared d store disk state next
 
 -- whatever state the store was at, the command is refused so
 abbrev pub StepsRefused : {D : Type 0} → Ghosts D → Command → ReplyError → Store → D → Type 0
-StepsRefused d command error store disk = (state : State) → IsAt d store disk state → StoreStep state command (reply.Refused error) state
+StepsRefused d command error store disk = (state : State) → IsAt d store disk state → Step state command (reply.Refused error) state
 
 -- Why a command that may need no page wasn't prepared, and what that leaves.
 abbrev pub NotPrepared : {D : Type 0} → Ghosts D → StoreError → Store → Store → D → D → Type 0

@@ -1,8 +1,24 @@
--- Why an edit of a document wasn't prepared, and what is answered then.
-use Rattle.std.specs.Prelude.{◌≡◌, ℕ, List, Result, Err}
+-- Edits of documents as commands, why one wasn't prepared, and what is answered then.
+use Rattle.std.specs.Prelude.{◌≡◌, ◌≤◌, ℕ, Bool, true, false, List, length, Option, Result, Err}
 use Rattle.nx_host.specs.Disk.{Rose}
 use Rattle.nx_host.specs.declared.disk.Disk.{Ghosts}
+use Rattle.nx_tree.specs.Forest.{OrderedTree}
+use Rattle.nx_tree.specs.Document.{IsNode, longest_node}
+use Rattle.nx_tree.specs.Edit.{cut_at, put, retext}
+use Rattle.nx_holdings.specs.declared.header.Settings.{Settings}
+use Rattle.nx_cuts.specs.Cut.{CutTree}
+use Rattle.nx_matrix.specs.declared.rule.Rule.{Rule}
 use Rattle.nx_script.specs.declared.command.Command.{Command}
+use Rattle.nx_script.specs.declared.command.Command.TheVariants as command
+use Rattle.nx_script.specs.declared.command.LineBody.TheVariants as line
+use Rattle.nx_script.specs.declared.command.TextBody.TheVariants as said
+use Rattle.nx_pyx.specs.declared.error.PyxFault.TheVariants.{LongLine}
+use Rattle.nx_pyx.specs.Fault.{fault_at}
+use Rattle.nx_drawn.specs.Edits.{deleted, inserted, retexted}
+use Rattle.nx_drawn.specs.Splits.{Splits}
+use Rattle.nx_edit.specs.Refusals.{deletion_fault, is_of_path}
+use Rattle.nx_edit.specs.Inserting.{insertion_fault, is_of_insertion}
+use Rattle.nx_edit.specs.Retexting.{content_fault, is_of_content}
 use Rattle.nx_script.specs.declared.reply.Reply.{Reply}
 use Rattle.nx_script.specs.declared.reply.Reply.TheVariants as reply
 use Rattle.nx_script.specs.declared.reply.ReplyError.{ReplyError}
@@ -12,9 +28,52 @@ use Rattle.nx_edit.specs.declared.error.EditError.TheVariants as edit
 use Rattle.nx_store.specs.Store.{IsNowhere, EndsNow}
 use Rattle.nx_store.specs.Loading.{IsStoreLeft, IsToldOrNot}
 use Rattle.nx_store.specs.Changing.{StepsRefused}
+use Rattle.nx_store.specs.declared.editing.Edit.{Edit}
+use Rattle.nx_store.specs.declared.editing.Edit.TheVariants as made
 use Rattle.nx_store.specs.declared.store.Store.{Store}
 use Rattle.nx_store.specs.declared.error.EngineError.{EngineError}
 use Rattle.nx_store.specs.declared.error.EngineError.TheVariants as told
+
+-- the command of an edit
+abbrev pub edit_command : (name path : List ℕ) → Edit → Command
+edit_command name path made.Delete = command.Delete name path
+edit_command name path (made.Retext content) = command.Retext name path (said.Read content)
+edit_command name path (made.Insert node) = command.Insert name path (line.Read node)
+
+-- the content is no longer than one of a node may be, and the node may stand in a document
+abbrev pub CanBeMade : Edit → Type 0
+CanBeMade made.Delete = Unit {0}
+CanBeMade (made.Retext content) = length content ≤ longest_node
+CanBeMade (made.Insert node) = IsNode node
+
+-- why the edit at the path of a document is refused, whose parts weigh k at most; and whether it can be for this reason
+abbrev pub edit_fault : Edit → List ℕ → (k : ℕ) → OrderedTree → Option EditError
+edit_fault made.Delete path k = deletion_fault path
+edit_fault (made.Retext content) path k = content_fault content path k
+edit_fault (made.Insert node) path k = insertion_fault node path k
+
+abbrev pub is_of_edit : Edit → EditError → Bool
+is_of_edit made.Delete = is_of_path
+is_of_edit (made.Retext content) = is_of_content
+is_of_edit (made.Insert node) = is_of_insertion
+
+-- the edit of the document's tree
+abbrev pub tree_edit : Edit → List ℕ → OrderedTree → OrderedTree
+tree_edit made.Delete path = cut_at path
+tree_edit (made.Retext content) path = retext content path
+tree_edit (made.Insert node) path = put node path
+
+-- what the document with its intervals becomes
+abbrev pub EditBecomes : Settings → List Rule → Edit → List ℕ → CutTree → CutTree → Type 0
+EditBecomes settings rules made.Delete path old new = new ≡ deleted path old
+EditBecomes settings rules (made.Retext content) path old new = Splits settings rules (retexted content path old) new
+EditBecomes settings rules (made.Insert node) path old new = Splits settings rules (inserted rules node path old) new
+
+-- what stands below the path's end stays
+abbrev pub stays_below : Edit → Bool
+stays_below made.Delete = false
+stays_below (made.Retext content) = true
+stays_below (made.Insert node) = true
 
 -- how a script words why an edit at a path is refused; the others are no refusals
 abbrev pub edit_reply : List ℕ → EditError → ReplyError
@@ -22,6 +81,7 @@ edit_reply path edit.NoNode = refused.NoNode
 edit_reply path edit.BadPlace = refused.BadPlace
 edit_reply path edit.Twice = refused.Twice
 edit_reply path edit.NoContent = refused.NoContent
+edit_reply path edit.TooLong = refused.Pyx (fault_at 1 LongLine)
 edit_reply path edit.TooDeep = refused.TooDeep
 edit_reply path edit.TooMany = refused.TooMany
 edit_reply path (edit.TooHeavy weight) = refused.TooHeavy path weight

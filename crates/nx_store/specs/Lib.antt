@@ -1,4 +1,3 @@
-pub mod Carried
 pub mod Told
 pub mod Store
 pub mod Loading

@@ -15,7 +15,7 @@ use Rattle.nx_script.specs.declared.reply.Reply.{Reply}
 use Rattle.nx_script.specs.Reply.{reply_text}
 use Rattle.nx_state.specs.State.{State}
 use Rattle.nx_state.specs.Stands.{HoldsState, Recovers}
-use Rattle.nx_store.specs.Carried.{StoreStep}
+use Rattle.nx_steps.specs.Step.{Step}
 use Rattle.nx_store.specs.declared.store.Store.{Store}
 use Rattle.nx_store.specs.declared.error.EngineError.{EngineError}
 use Rattle.nx_store.specs.declared.error.EngineError.TheVariants as error
@@ -36,7 +36,7 @@ pub record IsAt {D : Type 0} (d : Ghosts D) (store : Store) (disk : D) (state : 
 pub record StoreTurn (state : State) (command : Command) : Type 0 where
   pub reply : Reply
   pub next : State
-  pub step : StoreStep state command reply next
+  pub step : Step state command reply next
 
 -- a command that changes a store begins with a checkpoint where the log has more bytes
 abbrev pub longest_log : ℕ
@@ -72,7 +72,7 @@ ShowsBegun d state command before after = Shows d (IsOf state) before after ⊎ 
 -- How a command ended that came in this state, where the store is then, and what stood meanwhile.
 abbrev pub IsApplied : {D : Type 0} → Ghosts D → Result Reply EngineError → State → Command → Store → D → D → Type 0
 IsApplied d (Ok reply) state command store before after =
-    (next : State) × StoreStep state command reply next × IsAt d store after next × Shows d (IsOfEither state next) before after × LeavesLog d command state next before after
+    (next : State) × Step state command reply next × IsAt d store after next × Shows d (IsOfEither state next) before after × LeavesLog d command state next before after
 IsApplied d (Err error.Memory) state command store before after = IsAt d store after state × Shows d (IsOf state) before after
 IsApplied d (Err error.Disk) state command store before after = ShowsBegun d state command before after
 IsApplied d (Err _) state command store before after = ⊥
@@ -110,7 +110,7 @@ IsGiven d (Err _) bytes left state store before after = ⊥
 -- How an export ended that came in this state, whose reply was to be given behind what the block had; what is left of both is in the block.
 pub record IsExported {D : Type 0} (d : Ghosts D) (result : Result (Unit {0}) EngineError) (state : State) (name block left : List ℕ) (store : Store) (before after : D) : Type 0 where
   pub reply : Reply
-  pub step : StoreStep state (Export name) reply state
+  pub step : Step state (Export name) reply state
   pub given : IsGiven d result (block ++ reply_text reply) left state store before after
   pub time : ShowsGiven d (block ++ reply_text reply) state before after
 

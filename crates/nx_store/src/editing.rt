@@ -1,76 +1,88 @@
-// Commands that edit a document.
-ghost use Rattle.std.specs.Prelude.{◌≡◌, ◌≤◌, if◌then◌else◌, false, Some, None, IsTrue, IsSome, IfOk, IfErr, OnOk};
+// Edits of documents.
+ghost use Rattle.std.specs.Prelude.{◌≡◌, ◌≤◌, false, Some, None, IsTrue, IsSome, IfOk, IfErr, OnOk};
 ghost use Rattle.std.specs.FinMap.{get};
 ghost use Rattle.nx_host.specs.Still.{IsStill, WritesAlone};
-ghost use Rattle.nx_records.specs.Records.{HasChanges, log_length_of};
+ghost use Rattle.nx_records.specs.Records.{KeepsSaved, HasChanges, log_length_of, settings_of};
 ghost use Rattle.nx_records.specs.Refusals.{RunsOn};
+ghost use Rattle.nx_cuts.specs.Cut.{tree_of};
+ghost use Rattle.nx_hold.specs.Changes.{ComesTidy};
+ghost use Rattle.nx_edit.specs.Removing.{OfEntry};
+ghost use Rattle.nx_edit.specs.Editing.{EditsDocument};
+ghost use Rattle.nx_edit.specs.Refusals.{NotEdited, edit_needs};
 ghost use Rattle.nx_script.specs.Field.{is_document_name};
-ghost use Rattle.nx_script.specs.declared.command.Command.TheVariants as command;
 ghost use Rattle.nx_state.specs.State.{State};
 ghost use Rattle.nx_store.specs.Store.{is_ended, longest_log, GoesOn, IsAt, IsApplied, NotApplied};
 ghost use Rattle.nx_store.specs.Loading.{reply_of, HasReplyText};
 ghost use Rattle.nx_store.specs.Changing.{Prepares};
-ghost use Rattle.nx_store.specs.Editing.{EditNotPrepared, IsEditRefusal};
+ghost use Rattle.nx_store.specs.Editing.{edit_command, CanBeMade, edit_fault, is_of_edit, tree_edit, EditBecomes, stays_below, EditNotPrepared, IsEditRefusal};
 
 use crate::loading::told;
 use crate::{EngineError, Store};
-use nx_edit::EditError;
+use nx_edit::{EditError, delete, insert, retext};
 use nx_hold::DocEntry;
 use nx_host::Disk;
-use nx_script::{Reply, ReplyError, is_document_name};
-use nx_tree::{Bytes, Path};
+use nx_matrix::Matrix;
+use nx_pyx::{PyxError, PyxFault};
+use nx_records::Records;
+use nx_script::{Reply, ReplyError};
+use nx_tree::{Bytes, Node, Path};
 use std::alloc::Global;
 
+// An edit of a document at a path.
+#[derive(Drop)]
+pub(crate) enum Edit {
+    // The tree there goes.
+    Delete,
+    // The node there gets this content.
+    Retext(Bytes),
+    // This node comes there.
+    Insert(Node),
+}
+
 impl Store {
-    // Takes the tree at a path of a document away, by one commit. Beside the reply is its text.
-    pub(crate) fn delete<D: Disk>(
-        &mut self,
-        disk: &mut D,
-        name: &Bytes,
-        path: Path,
-    ) -> Result<(Reply, Bytes), EngineError>
-        requires runs { is_ended self.old ≡ false }
-        ensures applies { (state : State) → IsAt D.Disk self.old disk.old state → IsSome (D.contents disk.new) → IsApplied D.Disk (reply_of result) state (command.Delete name.now path) self.new disk.old disk.new }
-        ensures ok { IfOk result (λ answer. GoesOn self.old self.new × HasReplyText answer) }
-        ensures refused { IfErr result (λ e. NotApplied D.Disk e self.old self.new disk.old disk.new) }
-        ensures areas { WritesAlone D.Disk disk.old disk.new (λ _. Unit {0}) }
-    {
-        let Some(entry) = self.entry_of(name) else {
-            return told(self.alloc, Reply::Refused(ReplyError::NoDocument));
-        };
-        self.shorten_log(disk)?;
-        self.delete_shortly(disk, name, path, entry)
-    }
-
-    // The entry of the document of that name. A name that no document may have is none's.
-    fn entry_of(&self, name: &Bytes) -> Option<DocEntry>
-        ensures { result ≡ (if is_document_name name.now then get (self.now.catalog).documents name.now else None) }
-    {
-        if !is_document_name(name.as_slice()) {
-            return None;
-        }
-        self.catalog.find(name.as_slice())
-    }
-
-    // ... that of this entry, where the log is short.
-    fn delete_shortly<D: Disk>(
+    // Edits the document of this entry, by one commit. Beside the reply is its text.
+    pub(crate) fn edit_document<D: Disk>(
         &mut self,
         disk: &mut D,
         name: &Bytes,
         path: Path,
         entry: DocEntry,
+        edit: Edit,
+    ) -> Result<(Reply, Bytes), EngineError>
+        requires runs { is_ended self.old ≡ false }
+        requires named { IsTrue (is_document_name name.now) }
+        requires found { get (self.old.catalog).documents name.now ≡ Some entry }
+        requires can { CanBeMade edit }
+        ensures applies { (state : State) → IsAt D.Disk self.old disk.old state → IsSome (D.contents disk.new) → IsApplied D.Disk (reply_of result) state (edit_command name.now path edit) self.new disk.old disk.new }
+        ensures ok { IfOk result (λ answer. GoesOn self.old self.new × HasReplyText answer) }
+        ensures refused { IfErr result (λ e. NotApplied D.Disk e self.old self.new disk.old disk.new) }
+        ensures areas { WritesAlone D.Disk disk.old disk.new (λ _. Unit {0}) }
+    {
+        self.shorten_log(disk)?;
+        self.edit_shortly(disk, name, path, entry, edit)
+    }
+
+    // ... where the log is short.
+    fn edit_shortly<D: Disk>(
+        &mut self,
+        disk: &mut D,
+        name: &Bytes,
+        path: Path,
+        entry: DocEntry,
+        edit: Edit,
     ) -> Result<(Reply, Bytes), EngineError>
         requires runs { is_ended self.old ≡ false }
         requires short { log_length_of self.old.records ≤ longest_log }
         requires named { IsTrue (is_document_name name.now) }
         requires found { get (self.old.catalog).documents name.now ≡ Some entry }
-        ensures applies { (state : State) → IsAt D.Disk self.old disk.old state → IsSome (D.contents disk.new) → IsApplied D.Disk (reply_of result) state (command.Delete name.now path) self.new disk.old disk.new }
+        requires can { CanBeMade edit }
+        ensures applies { (state : State) → IsAt D.Disk self.old disk.old state → IsSome (D.contents disk.new) → IsApplied D.Disk (reply_of result) state (edit_command name.now path edit) self.new disk.old disk.new }
         ensures ok { IfOk result (λ answer. GoesOn self.old self.new × HasReplyText answer) }
         ensures refused { IfErr result (λ e. NotApplied D.Disk e self.old self.new disk.old disk.new) }
         ensures areas { WritesAlone D.Disk disk.old disk.new (λ _. Unit {0}) }
     {
         let done = told(self.alloc, Reply::Done)?;
-        match self.prepare_delete(disk, name, &path, entry) {
+        match self.prepare_edit(disk, name, &path, entry, edit) {
             Ok(()) => {}
             Err(error) => {
                 self.records.abandon();
@@ -83,26 +95,60 @@ impl Store {
         Ok(done)
     }
 
-    // Takes the tree away but for the commit. Where this fails the catalog is as it was.
-    fn prepare_delete<D: Disk>(
+    // Edits the document but for the commit. Where this fails the catalog is as it was.
+    fn prepare_edit<D: Disk>(
         &mut self,
         disk: &mut D,
         name: &Bytes,
         path: &Path,
         entry: DocEntry,
+        edit: Edit,
     ) -> Result<(), EditError>
         requires runs { is_ended self.old ≡ false }
         requires named { IsTrue (is_document_name name.now) }
         requires found { get (self.old.catalog).documents name.now ≡ Some entry }
+        requires can { CanBeMade edit }
         ensures still { IsStill D.Disk disk.old disk.new }
         ensures runs { OnOk result (RunsOn self.old.records self.new.records × HasChanges self.new.records) }
-        ensures ok { OnOk result ((state : State) → IsAt D.Disk self.old disk.old state → Prepares D.Disk state (command.Delete name.now path.now) Reply.Done self.new disk.new) }
-        ensures refused { IfErr result (λ e. EditNotPrepared D.Disk (command.Delete name.now path.now) path.now e self.old self.new disk.old disk.new) }
+        ensures ok { OnOk result ((state : State) → IsAt D.Disk self.old disk.old state → Prepares D.Disk state (edit_command name.now path.now edit) Reply.Done self.new disk.new) }
+        ensures refused { IfErr result (λ e. EditNotPrepared D.Disk (edit_command name.now path.now edit) path.now e self.old self.new disk.old disk.new) }
     {
-        let new = nx_edit::delete(self.alloc, &mut self.records, disk, entry, path.as_slice())?;
+        let new = make_edit(
+            self.alloc,
+            &mut self.records,
+            disk,
+            self.catalog.matrix(),
+            entry,
+            path.as_slice(),
+            edit,
+        )?;
         self.catalog
             .save_entry(&mut self.records, disk, name.as_slice(), new)?;
         Ok(())
+    }
+}
+
+// Edits the document in the records, and answers its new entry.
+fn make_edit<D: Disk>(
+    alloc: Global,
+    records: &mut Records,
+    disk: &mut D,
+    matrix: &Matrix,
+    entry: DocEntry,
+    path: &[u32],
+    edit: Edit,
+) -> Result<DocEntry, EditError>
+    requires { CanBeMade edit }
+    ensures still { IsStill D.Disk disk.old disk.new }
+    ensures allowed { OnOk result (OfEntry D.Disk records.old disk.old entry (λ now document. edit_fault edit path.now (settings_of records.old).k (tree_of document) ≡ None)) }
+    ensures ok { IfOk result (λ new. ComesTidy D.Disk records.old records.new disk.old disk.new (λ was now. EditsDocument (EditBecomes was.settings matrix.now edit path.now) (stays_below edit) path.now entry new was now)) }
+    ensures keeps { OnOk result (RunsOn records.old records.new × KeepsSaved D.Disk records.old records.new disk.old disk.new × HasChanges records.new) }
+    ensures refused { IfErr result (λ e. NotEdited D.Disk (is_of_edit edit) (edit_fault edit path.now (settings_of records.old).k) (edit_needs (tree_edit edit path.now)) entry e records.old records.new disk.old disk.new) }
+{
+    match edit {
+        Edit::Delete => delete(alloc, records, disk, entry, path),
+        Edit::Retext(content) => retext(alloc, records, disk, matrix, entry, path, content),
+        Edit::Insert(node) => insert(alloc, records, disk, matrix, entry, path, node),
     }
 }
 
@@ -115,6 +161,13 @@ fn edit_refused(alloc: Global, path: Path, error: EditError) -> Result<(Reply, B
         EditError::BadPlace => told(alloc, Reply::Refused(ReplyError::BadPlace)),
         EditError::Twice => told(alloc, Reply::Refused(ReplyError::Twice)),
         EditError::NoContent => told(alloc, Reply::Refused(ReplyError::NoContent)),
+        EditError::TooLong => {
+            let error = PyxError {
+                line: 1,
+                fault: PyxFault::LongLine,
+            };
+            told(alloc, Reply::Refused(ReplyError::Pyx(error)))
+        }
         EditError::TooDeep => told(alloc, Reply::Refused(ReplyError::TooDeep)),
         EditError::TooMany => told(alloc, Reply::Refused(ReplyError::TooMany)),
         EditError::TooHeavy { weight } => {

@@ -7,6 +7,7 @@
 mod asking;
 mod changing;
 mod editing;
+mod edits;
 mod error;
 mod loading;
 mod store;

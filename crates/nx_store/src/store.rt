@@ -11,7 +11,6 @@ ghost use Rattle.nx_state.specs.Stands.{Recovers};
 ghost use Rattle.nx_steps.specs.Step.{may_change};
 
 use crate::EngineError;
-use crate::loading::told;
 use nx_catalog::{Catalog, load_catalog};
 use nx_host::{Disk, Host};
 use nx_records::{Records, Settings};
@@ -135,9 +134,8 @@ impl Store {
             Command::SetRule { rule } => self.set_rule(disk, &rule),
             Command::Discard { name } => self.discard(disk, &name),
             Command::Delete { name, path } => self.delete(disk, &name, path),
-            Command::Insert { .. } | Command::Retext { .. } => {
-                told(self.alloc, Reply::Refused(ReplyError::Syntax))
-            }
+            Command::Retext { name, path, text } => self.retext(disk, &name, path, text),
+            Command::Insert { name, path, line } => self.insert(disk, &name, path, line),
             Command::Names
             | Command::Export { .. }
             | Command::Get { .. }
