@@ -1,5 +1,5 @@
 -- What was given of bytes that are given block by block.
-use Rattle.std.proofs.Common.{◌≡◌, ℕ, ◌+◌, ◌≤◌, ◌<◌, List, [], ◌++◌, length, Result, Err, refl, sym, ap, ◌∙◌, subst, arith, append_assoc, append-nil, length-append}
+use Rattle.std.proofs.Common.{◌≡◌, ℕ, ◌+◌, ◌≤◌, ◌<◌, List, [], ◌++◌, length, Result, Err, refl, sym, ap, ◌∙◌, subst, arith, append_assoc, length-append}
 use Rattle.nx_host.specs.declared.disk.Disk.{Ghosts}
 use Rattle.nx_host.specs.Disk.{Beside, Rose}
 use Rattle.nx_host.specs.Host.{AppendsPrefix}
@@ -33,26 +33,9 @@ gave_rest {left = left} {a = a} {b = b} given c earlier gives gave =
 pub left_is : {all x : List ℕ} {a b : Beside} (y : List ℕ) → GivesBut all x a b → x ≡ y → GivesBut all y a b
 left_is {all = all} {a = a} {b = b} y gives is = subst (λ (l : List ℕ). GivesBut all l a b) is gives
 
--- more bytes behind them are left, too
-pub left_more : {all left : List ℕ} {a b : Beside} (more : List ℕ) → GivesBut all left a b → GivesBut (all ++ more) (left ++ more) a b
-left_more {left = left} more gives = record {
-  done = gives.done;
-  parts = sym (append_assoc gives.done left more) ∙ ap (λ (l : List ℕ). l ++ more) gives.parts;
-  gives = gives.gives;
-}
-
--- all that was to be given, in other words
-pub all_is : {all left : List ℕ} {a b : Beside} (bytes : List ℕ) → GivesBut all left a b → all ≡ bytes → GivesBut bytes left a b
-all_is {left = left} {a = a} {b = b} bytes gives is = subst (λ (l : List ℕ). GivesBut l left a b) is gives
-
 -- nothing is given yet
 pub all_left : (all left : List ℕ) (a : Beside) → left ≡ all → GivesBut all left a a
 all_left all left a is = record { done = []; parts = is; gives = refl }
-
--- nothing is left
-pub gave_all : {all left : List ℕ} {a b : Beside} → GivesBut all left a b → left ≡ [] → Gives all a.output b.output
-gave_all {all = all} {a = a} {b = b} gives none =
-    subst (λ (t : List ℕ). Gives t a.output b.output) (sym (append-nil gives.done) ∙ ap (λ (l : List ℕ). gives.done ++ l) (sym none) ∙ gives.parts) gives.gives
 
 -- the first call fails
 pub fails_at_once : (bytes : List ℕ) (old new : Beside) → 0 < length bytes → Rose old.out_faults new.out_faults → AppendsPrefix bytes old.output new.output → FailsGiving bytes old new

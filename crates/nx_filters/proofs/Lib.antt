@@ -5,4 +5,3 @@ pub mod TidyLemmas
 pub mod PlanLemmas
 pub mod PlannedLemmas
 pub mod VerifyLemmas
-pub mod SessionLemmas

@@ -38,10 +38,6 @@ pub gives_appends : (bytes : List ℕ) (old new : Option (List ℕ)) → Gives b
 gives_appends [] old new same = subst (λ (o : Option (List ℕ)). Appends [] old o) (sym same) (appends_nothing old)
 gives_appends (b ∷ bytes) old new gives = gives
 
-pub appends_gives : (bytes : List ℕ) (old new : Option (List ℕ)) → 0 < length bytes → Appends bytes old new → Gives bytes old new
-appends_gives [] old new some appends = absurd (omega (arith, some))
-appends_gives (b ∷ bytes) old new some appends = appends
-
 -- bytes more
 pub gives_more : (x y : List ℕ) (a b c : Option (List ℕ)) → Gives x a b → Gives y b c → Gives (x ++ y) a c
 gives_more [] y a b c first second = subst (λ (o : Option (List ℕ)). Gives y o c) first second
@@ -111,9 +107,6 @@ given_more x y give_error.WriteFault a b gave = fails_more x y a b gave
 given_more x y give_error.NoMemory a b gave = prefix_more x y a.output b.output gave
 
 -- What was taken:
-
-pub few_whole : {taken : List ℕ} {first now : Option (List ℕ)} → EndsWhole taken first now → TakesFew first now
-few_whole {taken = taken} whole = let few : length taken < most_input = whole.few in record { taken = taken; few = omega arith; takes = whole.takes }
 
 -- all that was taken of an input that is told to the end is that input
 pub whole_is : (input taken : List ℕ) (old new : Option (List ℕ)) → old ≡ Some input → IsSome new → EndsWhole taken old new → input ≡ taken

@@ -3,7 +3,6 @@ pub mod TakeError
 pub mod Outcome
 pub mod Consumer
 pub mod Tidy
-pub mod Session
 pub mod Planned
 pub mod Plan
 pub mod Verify

@@ -136,21 +136,6 @@ fn give_all<H: Host, W: Writes>(
     give_block(host, &mut block)
 }
 
-// Gives what the block has and the canonical text of the document behind it, but for a last part,
-// which is left in the block.
-pub fn give_into<H: Host>(
-    alloc: Global,
-    host: &mut H,
-    block: &mut Bytes,
-    tree: &Tree,
-) -> Result<(), GiveError>
-    ensures given { GivenBut (block.old ++ text tree.now) block.new result (H.beside host.old) (H.beside host.new) }
-    ensures alone { GivesAlone ⟦<H as Disk>⟧ (block.old ++ text tree.now) host.old host.new }
-{
-    let mut writer = Writer::new(alloc, tree)?;
-    give_written(host, block, &mut writer)
-}
-
 // Gives the canonical text of the document.
 pub fn give_text<H: Host>(alloc: Global, host: &mut H, tree: &Tree) -> Result<(), GiveError>
     ensures given { Given (text tree.now) result (H.beside host.old) (H.beside host.new) }

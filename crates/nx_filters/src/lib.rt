@@ -3,7 +3,6 @@
 
 mod consumer;
 mod give;
-mod plain;
 mod planned;
 mod planning;
 mod read;
@@ -14,7 +13,6 @@ mod tidying;
 mod verifying;
 
 pub use give::{BLOCK, GiveError, give_block};
-pub use plain::session;
 pub use planning::plan;
 pub use status::Status;
 pub use tidying::tidy;

@@ -1,5 +1,5 @@
 -- A conversation over a store: commands that came, turns that are had of them, and how it ends.
-use Rattle.std.proofs.Common.{◌≡◌, inl, inr, ℕ, ◌≤◌, true, List, [], ◌∷◌, ◌++◌, Option, None, Some, IsSome, Ok, Err, refl, sym, ap, ◌∙◌, subst, arith, append_assoc, append-nil}
+use Rattle.std.proofs.Common.{◌≡◌, inl, inr, ℕ, ◌≤◌, true, List, [], ◌∷◌, ◌++◌, length, Option, None, Some, IfSome, IsSome, Ok, Err, refl, sym, ap, ◌∙◌, subst, arith, append_assoc, append-nil}
 use Rattle.std.proofs.lemmas.Bool.{false≢true}
 use Rattle.nx_host.specs.declared.disk.Disk.{Ghosts}
 use Rattle.nx_host.specs.Disk.{Image, Beside, Keeps, Rose}
@@ -18,7 +18,7 @@ use Rattle.nx_script.specs.declared.error.ScriptError.{ScriptError}
 use Rattle.nx_script.specs.declared.error.ScriptError.TheVariants as scripts
 use Rattle.nx_script.specs.Commands.{AreCommands, AreWhole}
 use Rattle.nx_script.specs.Script.{HasGiven, HasGivenIn, Stops}
-use Rattle.nx_script.proofs.OneList.{one_list}
+use Rattle.nx_script.proofs.OneList.{one_list, given_prefix}
 use Rattle.nx_script.proofs.ScriptLemmas.{in_input}
 use Rattle.nx_state.specs.State.{State}
 use Rattle.nx_state.specs.Stands.{Recovers}
@@ -32,11 +32,9 @@ use Rattle.nx_filters.specs.declared.status.Status.TheVariants.{Done, Usage, Ref
 use Rattle.nx_filters.specs.declared.give.GiveError.{GiveError}
 use Rattle.nx_filters.specs.TakeError.{status_of_script, status_of_give_error}
 use Rattle.nx_filters.specs.Outcome.{TakesFew, CountsGrow, EndsWhole, Given}
-use Rattle.nx_filters.specs.Session.{AreFirst}
-use Rattle.nx_front.specs.Serving.{Turn, state_after, commands_of, texts_of, ShowsMoment, ShowsBetween, LeavesMoments, EndsBetween, AreOfTaken, EndsServing, EndsWithCheckpoint, HasEmptyLog, LeavesAll, TakesNoByte, ServesFrom, IsCaused, EndsWithoutHeader, Serves}
-use Rattle.nx_front.specs.Conversation.{ShowsReached, HasRun, HasBegun, IsLater, IsConversing, AnswersNext, BeginsNext, StopsShort, IsUnanswered, IsEnded, Converses, status_of_engine}
+use Rattle.nx_front.specs.Serving.{Turn, AreFirst, state_after, commands_of, texts_of, ShowsMoment, ShowsBetween, LeavesMoments, EndsBetween, AreOfTaken, EndsServing, EndsWithCheckpoint, HasEmptyLog, LeavesAll, ServesFrom, IsCaused, EndsWithoutHeader, Serves}
+use Rattle.nx_front.specs.Conversation.{ShowsReached, HasRun, IsLater, IsConversing, AnswersNext, BeginsNext, StopsShort, IsUnanswered, IsEnded, Converses, status_of_engine}
 use Rattle.nx_filters.proofs.OutcomeLemmas.{rose_since, told_at_first, kept_appends, keeps_of}
-use Rattle.nx_filters.proofs.SessionLemmas.{first_given, few_given}
 use Rattle.nx_front.proofs.ClockLemmas.{HasClock, at_end}
 use Rattle.nx_front.proofs.MomentLemmas.{every_moment, every_between, reached_none, commands_more}
 use Rattle.nx_front.proofs.ServeLemmas.{served_none, served_filled, given_block, run_block, between_served, between_block, all_given, stops_giving, block_stopped}
@@ -61,6 +59,23 @@ given_kept {taken = taken} {first = first} {now = now} next given kept = record 
   takes = takes_kept taken first now next given.takes kept;
   end = λ ended. let (end, few) = given.end ended in (end_kept now next end kept, few);
 }
+
+-- the commands that a script gave are the first ones
+first_given : (script : Script) (taken : List ℕ) (commands : List Command) (first now : Option (List ℕ)) → HasGivenIn script taken commands first now → AreFirst taken commands now
+first_given script taken commands first None given = tt
+first_given script taken commands first (Some left) given = given_prefix script taken left commands first given
+
+-- no more bytes were taken than a run takes
+few_given : (script : Script) (taken : List ℕ) (commands : List Command) (first now : Option (List ℕ)) → HasGivenIn script taken commands first now → length taken ≤ most_input
+few_given script taken commands first now given =
+    let counted : script.input.taken ≡ length taken = given.given.counted in let few : script.input.taken ≤ most_input = script.input.few in let e : length taken ≤ most_input = omega arith in e
+
+-- the next command of the script
+pub next_given : (old new : Script) (next : Option Command) (command : Command) → next ≡ Some command →
+    IfSome next (λ c. (taken : List ℕ) (commands : List Command) → HasGiven old taken commands → HasGiven new taken (commands ++ c ∷ [])) →
+    (taken : List ℕ) (commands : List Command) → HasGiven old taken commands → HasGiven new taken (commands ++ command ∷ [])
+next_given old new next command is given =
+    subst (λ (o : Option Command). IfSome o (λ c. (taken : List ℕ) (commands : List Command) → HasGiven old taken commands → HasGiven new taken (commands ++ c ∷ []))) is given
 
 -- a last command is the last one
 last_one : (before commands : List Command) (last command : Command) → commands ++ command ∷ [] ≡ before ++ last ∷ [] → command ≡ last

@@ -10,7 +10,7 @@ use Rattle.nx_script.specs.declared.reply.Reply.TheVariants as reply
 use Rattle.nx_script.specs.Reply.{reply_text, doc_line, interval_line, rule_line}
 use Rattle.nx_state.specs.State.{State}
 use Rattle.nx_state.specs.Stands.{Recovers}
-use Rattle.nx_store.specs.Carried.{StoreStep}
+use Rattle.nx_steps.specs.Step.{Step}
 use Rattle.nx_store.specs.Store.{IsOf}
 use Rattle.nx_front.specs.Serving.{Turn, IsRun, state_after, commands_of, texts_of, BeginsWith, AreWholeReplies, IsMoment, IsBetween}
 use Rattle.nx_front.specs.Conversation.{IsReached, IsReachedBetween}
@@ -18,7 +18,7 @@ use Rattle.nx_front.specs.Conversation.{IsReached, IsReachedBetween}
 -- One turn more:
 
 -- it is a step from the state after all others
-pub run_more : (state : State) (turns : List Turn) (turn : Turn) → IsRun state turns → StoreStep (state_after state turns) turn.command turn.reply turn.next → IsRun state (turns ++ turn ∷ [])
+pub run_more : (state : State) (turns : List Turn) (turn : Turn) → IsRun state turns → Step (state_after state turns) turn.command turn.reply turn.next → IsRun state (turns ++ turn ∷ [])
 run_more state [] turn run step = (step, tt)
 run_more state (t ∷ ts) turn run step = (run.0, run_more t.next ts turn run.1 step)
 

@@ -17,18 +17,17 @@ use Rattle.nx_state.specs.State.{State}
 use Rattle.nx_store.specs.declared.store.Store.{Store}
 use Rattle.nx_store.specs.declared.error.EngineError.{EngineError}
 use Rattle.nx_store.specs.declared.error.EngineError.TheVariants as engine
-use Rattle.nx_store.specs.Carried.{StoreStep}
 use Rattle.nx_store.specs.Store.{StoreTurn, IsAt, IsOf, IsOfEither, Shows, ShowsAnswer, ShowsGiven, IsGiven, IsApplied, IsAnswered, IsExported, TakesNone, NotApplied}
 use Rattle.nx_store.proofs.AtLemmas.{at_beside, at_image}
 use Rattle.nx_store.proofs.CaseLemmas.{quiet_leaves}
-use Rattle.nx_steps.specs.Step.{may_change}
+use Rattle.nx_steps.specs.Step.{Step, may_change}
 use Rattle.nx_filters.specs.declared.status.Status.{Status}
 use Rattle.nx_filters.specs.declared.status.Status.TheVariants.{NoMemory}
 use Rattle.nx_filters.specs.declared.give.GiveError.{GiveError}
 use Rattle.nx_filters.specs.declared.give.GiveError.TheVariants as give_error
 use Rattle.nx_filters.specs.TakeError.{status_of_give_error}
 use Rattle.nx_filters.specs.Outcome.{Given}
-use Rattle.nx_front.specs.Serving.{Turn, state_after, commands_of, texts_of, ShowsBetween, LeavesMoments, EndsBetween, HasEmptyLog}
+use Rattle.nx_front.specs.Serving.{Turn, state_after, commands_of, texts_of, ShowsBetween, LeavesMoments, EndsBetween}
 use Rattle.nx_front.specs.Conversation.{IsReached, ShowsReached, IsReachedBetween, HasRun, HasServed, HasBegun, AnswersNext, BeginsNext, StopsShort, IsUnanswered, status_of_engine}
 use Rattle.nx_filters.proofs.OutcomeLemmas.{kept_appends, gives_appends, keeps_of}
 use Rattle.nx_front.proofs.ClockLemmas.{HasClock, at_end}
@@ -125,7 +124,7 @@ module _ {D : Type 0} {d : Ghosts D} where
 
   -- Behind what the block has comes the reply of a turn that changes nothing.
   served_quietly : {first now : D} {state : State} {turns : List Turn} {store : Store} {block : List ℕ} (turn : Turn) → HasServed d state turns store block first now →
-      StoreStep (state_after state turns) turn.command turn.reply turn.next → turn.next ≡ state_after state turns →
+      Step (state_after state turns) turn.command turn.reply turn.next → turn.next ≡ state_after state turns →
       HasServed d state (turns ++ turn ∷ []) store (block ++ reply_text turn.reply) first now
   served_quietly {first = first} {now = now} {state = state} {turns = turns} {store = store} {block = block} turn served step same =
       let text = reply_text turn.reply in
@@ -240,7 +239,7 @@ module _ {D : Type 0} {d : Ghosts D} where
 
   -- the moments of a turn that may change the state, once all replies before it are out
   run_loudly : {first now next : D} {state : State} {turns : List Turn} {store : Store} {block : List ℕ} (turn : Turn) → HasServed d state turns store block first now → block ≡ [] →
-      StoreStep (state_after state turns) turn.command turn.reply turn.next →
+      Step (state_after state turns) turn.command turn.reply turn.next →
       Elapses d.moment d.stood_since now next (ShowsAnswer (d.beside now).output (state_after state turns) (reply_text turn.reply) turn.next) →
       HasRun d state (turns ++ turn ∷ []) first next
   run_loudly {first = first} {now = now} {state = state} {turns = turns} turn served none step time = record {
@@ -250,7 +249,7 @@ module _ {D : Type 0} {d : Ghosts D} where
 
   -- The reply of a turn that may change the state is given at once.
   served_loudly : {first now next : D} {state : State} {turns : List Turn} {store store' : Store} {block : List ℕ} (turn : Turn) → HasServed d state turns store block first now → block ≡ [] →
-      StoreStep (state_after state turns) turn.command turn.reply turn.next → IsAt d store' next turn.next → Appends (reply_text turn.reply) (d.beside now).output (d.beside next).output →
+      Step (state_after state turns) turn.command turn.reply turn.next → IsAt d store' next turn.next → Appends (reply_text turn.reply) (d.beside now).output (d.beside next).output →
       Elapses d.moment d.stood_since now next (ShowsAnswer (d.beside now).output (state_after state turns) (reply_text turn.reply) turn.next) →
       HasServed d state (turns ++ turn ∷ []) store' block first next
   served_loudly {first = first} {now = now} {next = next} {state = state} {turns = turns} {store' = store'} {block = block} turn served none step at appends time =

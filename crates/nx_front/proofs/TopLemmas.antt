@@ -7,14 +7,13 @@ use Rattle.nx_host.proofs.OutputLemmas.{takes_nothing}
 use Rattle.nx_filters.specs.declared.status.Status.{Status}
 use Rattle.nx_filters.specs.declared.status.Status.TheVariants.{Done, Usage, Refused, DiskFault, ReadFault, WriteFault, NoMemory, NotAStore, Damaged, TooMuch}
 use Rattle.nx_front.specs.declared.words.CommandLine.{CommandLine}
-use Rattle.nx_front.specs.declared.words.CommandLine.TheVariants.{Tidy, Plain, Run, Plan, Verify, Init}
+use Rattle.nx_front.specs.declared.words.CommandLine.TheVariants.{Tidy, Run, Plan, Verify, Init}
 use Rattle.nx_filters.specs.Outcome.{Meaning, RunsBeside, TakesFew, CountsGrow, Completes, HoldsTogether}
 use Rattle.nx_front.specs.Run.{IsCarriedOut, CompletesInput, IsCompleted, IsCoherent, AnswersAgree}
 use Rattle.nx_filters.specs.Plan.{IsLightInput, plan}
 use Rattle.nx_filters.specs.Verify.{IsSoundInput, verify}
 use Rattle.nx_filters.proofs.OutcomeLemmas.{completes}
 use Rattle.nx_filters.proofs.TidyLemmas.{tidy_together, tidy_once}
-use Rattle.nx_filters.proofs.SessionLemmas.{script_together, script_once}
 use Rattle.nx_front.proofs.ServingLaws.{serving_completes, serving_together, one_script}
 use Rattle.nx_filters.proofs.PlanLemmas.{plan_together, equal_plans, light_excludes}
 use Rattle.nx_filters.proofs.VerifyLemmas.{verify_together, verify_once, excludes}
@@ -28,7 +27,6 @@ module _ {D : Type 0} (d : Ghosts D) (a b : D) where
   -- no more is taken than a run takes
   pub carried_bounded : (line : CommandLine) (status : Status) → IsCarriedOut d line status a b → TakesFew (d.beside a).input (d.beside b).input
   carried_bounded Tidy status carried = carried.run.bounded
-  carried_bounded Plain status carried = carried.run.bounded
   carried_bounded Run status carried = carried.bounded
   carried_bounded (Plan k) status carried = carried.run.bounded
   carried_bounded (Verify k) status carried = carried.run.bounded
@@ -40,7 +38,6 @@ module _ {D : Type 0} (d : Ghosts D) (a b : D) where
   -- no count of faults falls
   pub carried_counts : (line : CommandLine) (status : Status) → IsCarriedOut d line status a b → CountsGrow (d.beside a) (d.beside b) × (d.faults a ≤ d.faults b)
   carried_counts Tidy status carried = beside_counts status carried
-  carried_counts Plain status carried = beside_counts status carried
   carried_counts Run status carried = (carried.counts, carried.faults_later)
   carried_counts (Plan k) status carried = beside_counts status carried
   carried_counts (Verify k) status carried = beside_counts status carried
@@ -53,7 +50,6 @@ module _ {D : Type 0} (d : Ghosts D) (a b : D) where
   -- what it ends with where nothing fails
   pub carried_completes : (line : CommandLine) (status : Status) → IsCarriedOut d line status a b → IsCompleted d line status a b
   carried_completes Tidy status carried = beside_completes status tidy_together carried
-  carried_completes Plain status carried = beside_completes status script_together carried
   carried_completes Run status carried = serving_completes status carried
   carried_completes (Plan k) status carried = beside_completes status (plan_together k) carried
   carried_completes (Verify k) status carried = beside_completes status (verify_together k) carried
@@ -62,7 +58,6 @@ module _ {D : Type 0} (d : Ghosts D) (a b : D) where
   -- a command line isn't answered by how it is to be written
   carried_usage : (line : CommandLine) → IsCarriedOut d line Usage a b → ⊥
   carried_usage Tidy carried = carried.run.ends
-  carried_usage Plain carried = carried.run.ends
   carried_usage Run carried = carried.cause
   carried_usage (Plan k) carried = carried.run.ends
   carried_usage (Verify k) carried = carried.run.ends
@@ -115,7 +110,6 @@ counts_same beside = record { read = omega arith; written = omega arith }
 -- what is said of each input, and of the disk, holds together
 pub together : (line : CommandLine) → IsCoherent line
 together Tidy = tidy_together
-together Plain = script_together
 together Run = serving_together
 together (Plan k) = plan_together k
 together (Verify k) = verify_together k
@@ -124,7 +118,6 @@ together (Init settings) = init_together settings
 -- how the answers of each input go together
 pub agrees : (line : CommandLine) → AnswersAgree line
 agrees Tidy = tidy_once
-agrees Plain = script_once
 agrees Run = one_script
 agrees (Plan k) = equal_plans k
 agrees (Verify k) = verify_once k

@@ -1,5 +1,5 @@
 -- What comes of the bytes that were taken, and that a disk is left while none is.
-use Rattle.std.proofs.Common.{◌≡◌, inl, inr, ℕ, ◌+◌, true, false, Bool, List, [], ◌∷◌, ◌++◌, length, take, Option, None, Some, IsSome, Result, refl, sym, ap, ◌∙◌, subst, arith, append_assoc, append-nil, length-append}
+use Rattle.std.proofs.Common.{◌≡◌, inl, inr, ℕ, ◌+◌, true, false, Bool, List, [], ◌∷◌, ◌++◌, length, Option, None, Some, IsSome, Result, refl, sym, ap, ◌∙◌, subst, arith, append_assoc, append-nil, length-append}
 use Rattle.std.proofs.lemmas.Bool.{MatchBool-at_true, false≢true}
 use Rattle.std.proofs.lemmas.List.{take_all}
 use Rattle.nx_host.specs.declared.disk.Disk.{Ghosts}
@@ -16,7 +16,7 @@ use Rattle.nx_script.specs.Script.{HasGivenIn, unread}
 use Rattle.nx_script.proofs.OneList.{whole_prefix, whole_more}
 use Rattle.nx_script.proofs.ScriptLemmas.{HasLooked, looked, parsed_whole}
 use Rattle.nx_filters.specs.declared.give.GiveError.{GiveError}
-use Rattle.nx_filters.specs.Outcome.{EndsWhole, Given}
+use Rattle.nx_filters.specs.Outcome.{Given}
 use Rattle.nx_front.specs.Serving.{AreOfTaken, LeavesAll}
 use Rattle.nx_filters.proofs.OutcomeLemmas.{given_prefix}
 use Rattle.nx_front.proofs.ServingLaws.{one_script}

@@ -1,5 +1,5 @@
 -- A conversation over a store: what was answered so far, and what stood meanwhile.
-use Rattle.std.specs.Prelude.{◌≡◌, ◌⊎◌, ◌<◌, ◌≤◌, ℕ, List, [], ◌∷◌, ◌++◌, length, take, Option, IsSome}
+use Rattle.std.specs.Prelude.{◌≡◌, ◌⊎◌, ◌<◌, ◌≤◌, ℕ, List, [], ◌∷◌, ◌++◌, length, take, Option, IsSome, Result, Ok, Err}
 use Rattle.std.specs.Bool.{MatchBool}
 use Rattle.nx_host.specs.declared.disk.Disk.{Ghosts}
 use Rattle.nx_host.specs.Disk.{Image, Rose}
@@ -72,6 +72,11 @@ pub record IsConversing {D : Type 0} (d : Ghosts D) (begun : Store) (taken : Lis
   pub served : (state : State) → IsAt d begun first state → IsSome (d.contents now) → (turns : List Turn) × (commands_of turns ≡ commands) × HasServed d state turns store block first now
   pub emptied : (state : State) → IsAt d begun first state → IsSome (d.contents now) → EndsWithCheckpoint commands → HasEmptyLog d now
   pub unbegun : commands ≡ [] → (block ≡ []) × LeavesAll d first now
+
+-- the status of a conversation that ended so
+abbrev pub conversation_status : Result (Unit {0}) Status → Status
+conversation_status (Ok _) = Done
+conversation_status (Err status) = status
 
 -- the status where the store stops a run
 abbrev pub status_of_engine : EngineError → Status

@@ -4,10 +4,9 @@ use Rattle.nx_host.specs.declared.disk.Disk.{Ghosts}
 use Rattle.nx_host.specs.Disk.{Image, Beside}
 use Rattle.nx_filters.specs.declared.status.Status.{Status}
 use Rattle.nx_front.specs.declared.words.CommandLine.{CommandLine}
-use Rattle.nx_front.specs.declared.words.CommandLine.TheVariants.{Tidy, Plain, Run, Plan, Verify, Init}
+use Rattle.nx_front.specs.declared.words.CommandLine.TheVariants.{Tidy, Run, Plan, Verify, Init}
 use Rattle.nx_filters.specs.Outcome.{Meaning, HasOneText, RunsBeside, HoldsTogether, IsUndisturbed, Completes}
 use Rattle.nx_filters.specs.Tidy.{tidy}
-use Rattle.nx_filters.specs.Session.{script_run}
 use Rattle.nx_front.specs.Serving.{Serves, CompletesServing, ServingHoldsTogether, HasOneScript}
 use Rattle.nx_filters.specs.Plan.{plan, HasEqualPlans}
 use Rattle.nx_filters.specs.Verify.{verify}
@@ -16,7 +15,6 @@ use Rattle.nx_front.specs.Init.{Initializes, IsUntroubled, CompletesInit, InitHo
 -- how a command line is carried out
 abbrev pub IsCarriedOut : {D : Type 0} → Ghosts D → CommandLine → Status → D → D → Type 0
 IsCarriedOut d Tidy status old new = RunsBeside d tidy status old new
-IsCarriedOut d Plain status old new = RunsBeside d script_run status old new
 IsCarriedOut d Run status old new = Serves d status old new
 IsCarriedOut d (Plan k) status old new = RunsBeside d (plan k) status old new
 IsCarriedOut d (Verify k) status old new = RunsBeside d (verify k) status old new
@@ -29,7 +27,6 @@ CompletesInput m status old new = (input : List ℕ) → IsUndisturbed input old
 -- how a command line ends where nothing fails
 abbrev pub IsCompleted : {D : Type 0} → Ghosts D → CommandLine → Status → D → D → Type 0
 IsCompleted d Tidy status old new = CompletesInput tidy status (d.beside old) (d.beside new)
-IsCompleted d Plain status old new = CompletesInput script_run status (d.beside old) (d.beside new)
 IsCompleted d Run status old new = CompletesServing d status old new
 IsCompleted d (Plan k) status old new = CompletesInput (plan k) status (d.beside old) (d.beside new)
 IsCompleted d (Verify k) status old new = CompletesInput (verify k) status (d.beside old) (d.beside new)
@@ -38,16 +35,14 @@ IsCompleted d (Init settings) status old new = (was : Image) → IsUntroubled d 
 -- what is said of an input, or of a disk, holds together
 abbrev pub IsCoherent : CommandLine → Type 0
 IsCoherent Tidy = HoldsTogether tidy
-IsCoherent Plain = HoldsTogether script_run
 IsCoherent Run = ServingHoldsTogether
 IsCoherent (Plan k) = HoldsTogether (plan k)
 IsCoherent (Verify k) = HoldsTogether (verify k)
 IsCoherent (Init settings) = InitHoldsTogether settings
 
--- how the answers of an input go together: they have one text, but those of `plan` are only as good as each other; those of `run` over a store are of one list of commands; a new store holds one thing
+-- how the answers of an input go together: they have one text, but those of `plan` are only as good as each other; those of `run` are of one list of commands; a new store holds one thing
 abbrev pub AnswersAgree : CommandLine → Type 0
 AnswersAgree Tidy = HasOneText tidy
-AnswersAgree Plain = HasOneText script_run
 AnswersAgree Run = HasOneScript
 AnswersAgree (Plan k) = HasEqualPlans k
 AnswersAgree (Verify k) = HasOneText (verify k)

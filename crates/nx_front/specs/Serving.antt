@@ -1,5 +1,5 @@
 -- A run of a script over a store: its commands are answered one after the other, from the state that the disk holds on.
-use Rattle.std.specs.Prelude.{◌≡◌, ◌⊎◌, ◌↔◌, ℕ, ◌+◌, ◌<◌, ◌≤◌, List, [], ◌∷◌, ◌++◌, length, take, map, Option, Some, IsSome}
+use Rattle.std.specs.Prelude.{◌≡◌, ◌⊎◌, ◌↔◌, ℕ, ◌+◌, ◌<◌, ◌≤◌, List, [], ◌∷◌, ◌++◌, length, take, map, Option, Some, IfSome, IsSome}
 use Rattle.std.specs.List.{flat_map}
 use Rattle.nx_host.specs.declared.disk.Disk.{Ghosts}
 use Rattle.nx_host.specs.Disk.{Image, Beside, Keeps, Rose}
@@ -15,10 +15,9 @@ use Rattle.nx_script.specs.Commands.{AreCommands, AreWhole}
 use Rattle.nx_script.specs.Reply.{reply_text}
 use Rattle.nx_state.specs.State.{State}
 use Rattle.nx_state.specs.Stands.{Recovers}
-use Rattle.nx_store.specs.Carried.{StoreStep}
+use Rattle.nx_steps.specs.Step.{Step}
 use Rattle.nx_filters.specs.declared.status.Status.{Status}
 use Rattle.nx_filters.specs.declared.status.Status.TheVariants.{Done, Usage, Refused, DiskFault, ReadFault, WriteFault, NoMemory, NotAStore, Damaged, TooMuch}
-use Rattle.nx_filters.specs.Session.{AreFirst}
 use Rattle.nx_filters.specs.Outcome.{TakesFew, CountsGrow, EndsWhole}
 
 -- a command, its reply, and the state after it
@@ -30,7 +29,7 @@ pub record Turn : Type 0 where
 -- Each turn is a step: the first one from this state on, each other from the state after the one before it.
 abbrev pub IsRun : State → List Turn → Type 0
 IsRun state [] = Unit {0}
-IsRun state (turn ∷ turns) = StoreStep state turn.command turn.reply turn.next × IsRun turn.next turns
+IsRun state (turn ∷ turns) = Step state turn.command turn.reply turn.next × IsRun turn.next turns
 
 -- the state after all turns
 abbrev pub state_after : State → List Turn → State
@@ -90,6 +89,10 @@ EndsBetween _ = Unit {0}
 abbrev pub AreOfTaken : List ℕ → List Command → Option (List ℕ) → Option (List ℕ) → Type 0
 AreOfTaken taken commands old new =
     (rest : List Command) × (AreWhole taken (commands ++ rest) ⊎ (EndsWhole taken old new × AreCommands taken (commands ++ rest)))
+
+-- these are the first commands of the bytes that were taken and the input that is left, where it is told
+abbrev pub AreFirst : List ℕ → List Command → Option (List ℕ) → Type 0
+AreFirst taken commands now = IfSome now (λ left. (rest : List Command) × AreCommands (taken ++ left) (commands ++ rest))
 
 -- how a run ends that had these turns and took these bytes: whether that is the whole input, which commands they are, and whether all replies are out
 abbrev pub EndsServing : List Turn → List ℕ → Status → Beside → Beside → Type 0

@@ -5,9 +5,8 @@ ghost use Rattle.nx_script.specs.Commands.{CanCome};
 ghost use Rattle.nx_script.specs.Script.{HasGiven, IsDrained};
 ghost use Rattle.nx_steps.specs.Step.{may_change};
 ghost use Rattle.nx_store.specs.Store.{TakesNone};
-ghost use Rattle.nx_filters.specs.Session.{session_status};
 ghost use Rattle.nx_front.specs.Serving.{Serves};
-ghost use Rattle.nx_front.specs.Conversation.{AnswersNext, BeginsNext, IsUnanswered, AnswersAll, EndsConversing, Converses, status_of_engine};
+ghost use Rattle.nx_front.specs.Conversation.{AnswersNext, BeginsNext, IsUnanswered, AnswersAll, EndsConversing, Converses, conversation_status, status_of_engine};
 
 use crate::Status;
 use nx_filters::{BLOCK, give_block};
@@ -34,7 +33,7 @@ pub fn serve<H: Host>(alloc: Global, host: &mut H) -> Status
 
 // Answers every command of the input.
 fn converse<H: Host>(alloc: Global, host: &mut H, store: &mut Store) -> Result<(), Status>
-    ensures { Converses ⟦<H as Disk>⟧ store.old (session_status result) host.old host.new }
+    ensures { Converses ⟦<H as Disk>⟧ store.old (conversation_status result) host.old host.new }
 {
     let mut script = Script::new(alloc)?;
     let mut block = Bytes::new(alloc);

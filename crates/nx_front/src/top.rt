@@ -12,7 +12,7 @@ use crate::init::init;
 use crate::serve::serve;
 use crate::words::{CommandLine, command_line};
 use crate::{Status, Words};
-use nx_filters::{plan, session, tidy, verify};
+use nx_filters::{plan, tidy, verify};
 use nx_host::{Disk, Host};
 use std::alloc::Global;
 
@@ -20,9 +20,9 @@ use std::alloc::Global;
 /// the host, and answers how it ended.
 ///
 /// `STORE tidy` reads a document in PYX lines and gives its canonical text, or one line that
-/// refuses it, and nothing else. `_ run` reads the commands of a script and gives their replies in
-/// order, over documents in memory; `STORE run`, where STORE isn't `_`, does so over the store on the disk:
-/// whatever crash comes, the disk has the documents of the commands that were answered, or of one command more. `STORE plan K` reads a document in PYX lines and gives the lines of a plan: as few intervals
+/// refuses it, and nothing else. `STORE run`, where STORE isn't `_`, reads the commands of a script and gives their
+/// replies in order, over the store on the disk: whatever crash comes, the disk has the documents of the commands that
+/// were answered, or of one command more. `STORE plan K` reads a document in PYX lines and gives the lines of a plan: as few intervals
 /// as there can be with parts of at most K slots, of which the root's is as light as it can be with so
 /// many, and the minima of each node's subtree; or one line that says what is wrong, or which node
 /// weighs more than K. `STORE verify K` reads a document in PYX lines, a line of one dot and the lines of a plan,
@@ -55,7 +55,6 @@ pub fn run<H: Host>(alloc: Global, words: &Words, host: &mut H) -> Status
 {
     match command_line(words) {
         Some(CommandLine::Tidy) => tidy(alloc, host),
-        Some(CommandLine::Plain) => session(alloc, host),
         Some(CommandLine::Run) => serve(alloc, host),
         Some(CommandLine::Plan(k)) => plan(alloc, host, k),
         Some(CommandLine::Verify(k)) => verify(alloc, host, k),

@@ -56,8 +56,6 @@ const TARGET: u32 = 50;
 pub enum CommandLine {
     // A document is read, and its canonical text given.
     Tidy,
-    // A script is carried out over documents in memory.
-    Plain,
     // A script is carried out over a store.
     Run,
     // A document is partitioned into parts that weigh at most so much.
@@ -168,8 +166,6 @@ fn command_of_two(store: &str, command: &str) -> Option<CommandLine>
 {
     if is_store(store) && command == "tidy" {
         Some(CommandLine::Tidy)
-    } else if store == "_" && command == "run" {
-        Some(CommandLine::Plain)
     } else if is_named_store(store) && command == "run" {
         Some(CommandLine::Run)
     } else {

@@ -74,6 +74,14 @@ pub fn next(script: &mut Script, host: &mut DisklessHost) -> Result<Option<Comma
     script.next(host)
 }
 
+/// The same of a script without end.
+pub fn endless_next(
+    script: &mut Script,
+    host: &mut EndlessHost,
+) -> Result<Option<Command>, ScriptError> {
+    script.next(host)
+}
+
 pub fn read_in(host: &mut DisklessHost, room: &mut [u8]) -> Result<usize, Failed> {
     host.read_in(room)
 }

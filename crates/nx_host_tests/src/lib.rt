@@ -1,5 +1,5 @@
 //! Tests of what takes its input from a host, over public calls: scripts and their replies, and whole
-//! runs, on hosts that tell all that was done to them. It has nothing but tests, so that all of it is
+//! runs that use no disk, on hosts that tell all that was done to them. It has nothing but tests, so that all of it is
 //! proved once.
 #![tactic(auto)]
 
@@ -17,7 +17,5 @@ mod replies;
 mod runs;
 #[cfg(test)]
 mod scripts;
-#[cfg(test)]
-mod sessions;
 #[cfg(test)]
 mod verdicts;

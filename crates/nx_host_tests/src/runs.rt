@@ -41,9 +41,10 @@ fn an_input_has_its_answer(rt: HostRuntime) -> Result<(), Fail> {
     Ok(())
 }
 
-const MISUSED: [&[&str]; 24] = [
+const MISUSED: [&[&str]; 25] = [
     &["run"],
     &["s", "run", "s"],
+    &["_", "run"],
     &["_", "run", "_"],
     &[],
     &["_"],
@@ -188,16 +189,6 @@ fn a_line_without_end_is_refused(rt: HostRuntime) -> Result<(), Fail> {
     assert_eq!(rt; status, Status::Refused);
     // Seventeen blocks, and `refused pyx 1 long-line` with its LF.
     assert_eq!(rt; (host.taken, host.given), (1_114_112, 24));
-    Ok(())
-}
-
-#[test]
-fn a_script_without_end_is_too_much(rt: HostRuntime) -> Result<(), Fail> {
-    let words = words_of(rt.alloc(), &["_", "run"])?;
-    let mut host = EndlessHost::default();
-    let status = endless_status(rt.alloc(), &words, &mut host);
-    assert_eq!(rt; status, Status::TooMuch);
-    assert_eq!(rt; (host.taken, host.given), (4_294_967_296, 0));
     Ok(())
 }
 

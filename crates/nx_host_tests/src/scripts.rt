@@ -1,5 +1,6 @@
 // Scripts, and the commands that they give.
-use crate::driven::{host_of, next};
+use crate::driven::{endless_next, host_of, next};
+use crate::endless::EndlessHost;
 use crate::host::DisklessHost;
 use nx_pyx::{PyxError, push_node_line, push_number, write};
 use nx_script::{Command, LineBody, LoadBody, Script, ScriptError, TextBody};
@@ -413,5 +414,45 @@ fn long_scripts(rt: HostRuntime) -> Result<(), Fail> {
         let text = commands_of(rt.alloc(), script.as_slice(), piece)?;
         assert_eq!(rt; text.as_slice(), COMMANDS);
     }
+    Ok(())
+}
+
+// Four commands, of which the end of the input cuts the last one off.
+const ENDING: &[u8] = b"names\n\ndrop e\nload f\n(a";
+
+// Whether the script has ended, with all of it taken.
+fn is_at_end(script: &mut Script, host: &mut DisklessHost) -> Result<bool, ScriptError> {
+    let is_none = next(script, host)?.is_none();
+    Ok(is_none && script.taken() == 23)
+}
+
+// It ends behind them, each time that it is asked.
+fn check_end(rt: &impl Abort, alloc: Global, piece: usize) -> Result<(), Fail> {
+    let mut host = host_of(alloc, ENDING, piece)?;
+    let mut script = Script::new(alloc)?;
+    for _ in 0..4 {
+        assert!(rt; next(&mut script, &mut host)?.is_some());
+    }
+    for _ in 0..2 {
+        assert!(rt; is_at_end(&mut script, &mut host)?);
+    }
+    Ok(())
+}
+
+#[test]
+fn a_script_ends(rt: HostRuntime) -> Result<(), Fail> {
+    for piece in 1..20usize {
+        check_end(&rt, rt.alloc(), piece)?;
+    }
+    Ok(())
+}
+
+#[test]
+fn a_script_without_end_is_too_much(rt: HostRuntime) -> Result<(), Fail> {
+    let mut host = EndlessHost::default();
+    let mut script = Script::new(rt.alloc())?;
+    let found = endless_next(&mut script, &mut host);
+    assert!(rt; matches!(&found, Err(ScriptError::TooMuch)));
+    assert_eq!(rt; (host.taken, host.given), (4_294_967_296, 0));
     Ok(())
 }

@@ -2,9 +2,8 @@ use Rattle.std.proofs.Common.{[], ◌∷◌, ◌++◌, Ok, refl, sym, ap, ◌∙
 use Rattle.std.proofs.lemmas.Result.{err_from_is_err_and}
 use Rattle.nx_script.proofs.CanComeLemmas.{given_can}
 use Rattle.nx_filters.specs.TakeError.{status_of_script}
-use Rattle.nx_filters.proofs.SessionLemmas.{next_given}
 use Rattle.nx_front.proofs.ClockLemmas.{HasClock}
-use Rattle.nx_front.proofs.ConversationLemmas.{conversing_as, conversing_drained, conversing_more, conversing_given, converses_starved, converses_stopped, converses_blocked}
+use Rattle.nx_front.proofs.ConversationLemmas.{next_given, conversing_as, conversing_drained, conversing_more, conversing_given, converses_starved, converses_stopped, converses_blocked}
 use Rattle.nx_front.proofs.serve.answer_ready.Given.{Over}
 use Rattle.nx_front.proofs.serve.answer_ready.Goals as goal
 

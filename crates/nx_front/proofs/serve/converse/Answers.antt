@@ -6,8 +6,7 @@ use Rattle.nx_script.proofs.ScriptLemmas.{stops}
 use Rattle.nx_filters.specs.declared.status.Status.{Status}
 use Rattle.nx_filters.specs.declared.status.Status.TheVariants.{NoMemory}
 use Rattle.nx_filters.specs.TakeError.{status_of_script, status_of_give_error}
-use Rattle.nx_filters.specs.Session.{session_status}
-use Rattle.nx_front.specs.Conversation.{Converses}
+use Rattle.nx_front.specs.Conversation.{Converses, conversation_status}
 use Rattle.nx_front.proofs.ClockLemmas.{HasClock}
 use Rattle.nx_front.proofs.ConversationLemmas.{conversing_none, conversing_given, conversing_filled, converses_blocked, converses_done, converses_unfilled, converses_unbegun}
 use Rattle.nx_front.proofs.serve.converse.Given.{Over}
@@ -19,7 +18,7 @@ clock g = record { stands_now = g.met.H.Disk.stands_now; only_now = g.met.H.Disk
 pub returns-in_err-script : goal.returns-in_err-script
 returns-in_err-script g c =
     let p = err_from_is_err_and c.from_residual.result c.from_residual.ensures.1 in
-    let is : session_status c.from_residual.result ≡ NoMemory = ap session_status p.1 ∙ p.2 ∙ ap status_of_script c.in_err-script.ensures.err in
+    let is : conversation_status c.from_residual.result ≡ NoMemory = ap conversation_status p.1 ∙ p.2 ∙ ap status_of_script c.in_err-script.ensures.err in
     subst (λ (s : Status). Converses g.H.Disk c.args.store.now s c.args.host.now c.args.host.now) (sym is) (converses_unbegun (clock g))
 
 pub loop-block-init : goal.loop-block-init
@@ -28,7 +27,7 @@ loop-block-init g c = ([], [], conversing_none c.new-block.ensures (c.in_ok-scri
 pub returns-in_err-answer_ready : goal.returns-in_err-answer_ready
 returns-in_err-answer_ready g c =
     let p = err_from_is_err_and c.from_residual-in_err-answer_ready.result c.from_residual-in_err-answer_ready.ensures.1 in
-    let is : session_status c.from_residual-in_err-answer_ready.result ≡ c.in_err-answer_ready.field-0.0 = ap session_status p.1 ∙ p.2 in
+    let is : conversation_status c.from_residual-in_err-answer_ready.result ≡ c.in_err-answer_ready.field-0.0 = ap conversation_status p.1 ∙ p.2 in
     let (taken, commands, talk) = c.loop-block.invariant in
     subst (λ (s : Status). Converses g.H.Disk c.args.store.now s c.args.host.now c.answer_ready.new.host) (sym is)
     (c.in_err-answer_ready.ensures.err c.args.host.now c.args.store.now taken commands talk)
@@ -37,7 +36,7 @@ pub returns-in_err-give_block : goal.returns-in_err-give_block
 returns-in_err-give_block g c =
     let p = err_from_is_err_and c.from_residual-in_err-give_block.result c.from_residual-in_err-give_block.ensures.1 in
     let error = c.in_err-give_block.field-0.0 in
-    let is : session_status c.from_residual-in_err-give_block.result ≡ status_of_give_error error = ap session_status p.1 ∙ p.2 in
+    let is : conversation_status c.from_residual-in_err-give_block.result ≡ status_of_give_error error = ap conversation_status p.1 ∙ p.2 in
     let (taken, commands, talk) = c.loop-block.invariant in
     let (more, whole, did) = c.in_ok-answer_ready.ensures.ok c.args.host.now c.args.store.now taken commands talk in
     subst (λ (s : Status). Converses g.H.Disk c.args.store.now s c.args.host.now c.give_block.new.host) (sym is)
@@ -64,7 +63,7 @@ pub returns-in_err-fill : goal.returns-in_err-fill
 returns-in_err-fill g c =
     let p = err_from_is_err_and c.from_residual-in_err-fill.result c.from_residual-in_err-fill.ensures.1 in
     let error = c.in_err-fill.field-0.0 in
-    let is : session_status c.from_residual-in_err-fill.result ≡ status_of_script error = ap session_status p.1 ∙ p.2 in
+    let is : conversation_status c.from_residual-in_err-fill.result ≡ status_of_script error = ap conversation_status p.1 ∙ p.2 in
     let (taken, commands, talk) = c.loop-block.invariant in
     let (more, whole, did) = c.in_ok-answer_ready.ensures.ok c.args.host.now c.args.store.now taken commands talk in
     let empty = c.in_ok-give_block.ensures.empty in

@@ -1,5 +1,5 @@
 use Rattle.std.proofs.Common.{Some, sym, ap, ◌∙◌}
-use Rattle.nx_front.specs.declared.words.CommandLine.TheVariants.{Tidy, Plain, Run, Plan, Verify, Init}
+use Rattle.nx_front.specs.declared.words.CommandLine.TheVariants.{Tidy, Run, Plan, Verify, Init}
 use Rattle.nx_front.proofs.TopLemmas.{carried_as, carried_bounded, carried_counts, carried_completes, not_usage, usage_not, completes_light, completes_sound}
 use Rattle.nx_front.proofs.top.run.Goals as goal
 
@@ -22,27 +22,6 @@ returns-in-Some-Tidy g c =
           completes_light k input status (carried_completes d a b (Plan k) status (carried_as d a b Tidy (Plan k) status (sym is ∙ command) done) input calm) sure;
       certified = λ k input command calm sure.
           completes_sound k input status (carried_completes d a b (Verify k) status (carried_as d a b Tidy (Verify k) status (sym is ∙ command) done) input calm) sure;
-    }
-
-pub returns-in-Some-Plain : goal.returns-in-Some-Plain
-returns-in-Some-Plain g c =
-    let d = g.H.Disk in
-    let a = c.args.host.now in
-    let b = c.session.new.host in
-    let status = c.session.result in
-    let done = c.session.ensures in
-    let is = sym c.command_line.ensures.line ∙ c.in-Some-Plain.is ∙ ap Some c.in-Some-Plain.field-0-is in
-    record {
-      carried = λ line command. carried_as d a b Plain line status (sym is ∙ command) done;
-      bounded = carried_bounded d a b Plain status done;
-      counts = carried_counts d a b Plain status done;
-      usage = usage_not d a b Plain status is done;
-      untouched = λ usage. absurd (not_usage d a b Plain status done usage);
-      complete = λ line command. carried_completes d a b line status (carried_as d a b Plain line status (sym is ∙ command) done);
-      planned = λ k input command calm sure.
-          completes_light k input status (carried_completes d a b (Plan k) status (carried_as d a b Plain (Plan k) status (sym is ∙ command) done) input calm) sure;
-      certified = λ k input command calm sure.
-          completes_sound k input status (carried_completes d a b (Verify k) status (carried_as d a b Plain (Verify k) status (sym is ∙ command) done) input calm) sure;
     }
 
 pub returns-in-Some-Run : goal.returns-in-Some-Run
