@@ -7,7 +7,11 @@ mod damage;
 #[cfg(test)]
 mod documents;
 #[cfg(test)]
+mod drawn;
+#[cfg(test)]
 mod init;
+#[cfg(test)]
+mod intervals;
 #[cfg(test)]
 mod memory_session;
 #[cfg(test)]

@@ -196,20 +196,212 @@ fn rules_stay(rt: HostRuntime) -> Result<(), Fail> {
     Ok(())
 }
 
-const EDITS: [&[u8]; 4] = [
+// An element over six texts, a part of 15 slots.
+const SIX: &[u8] =
+    b"load d\n(a\n-12345678\n-12345678\n-12345678\n-12345678\n-12345678\n-12345678\n)a\n.\n";
+
+const PLANTS: [&[u8]; 14] = [
+    SIX,
+    b"insert d /0/6 -12345678\n",
+    b"layout d\n",
+    b"rule a b standalone\n",
+    b"insert d /0/4 (b\n",
+    b"layout d\n",
+    b"get d /0/4\n",
+    b"get d /0/5\n",
+    b"get d /0\n",
+    b"delete d /0/4\n",
+    b"layout d\n",
+    b"delete d /0\n",
+    b"delete d /\n",
+    b"names\n",
+];
+
+const PLANTED: &[u8] =
+    b"ok 8 1\nok\nroot 3\nrun /0 0 1 4\nrun /0 2 6 10\n.\nok\nok\nroot 3\nrun /0 0 1 4\nrun /0 2 3 4\nrun /0 4 4 2\nrun /0 5 7 6\n.\nnode 0 (b\nnode 0 -12345678\nnode 8 (a\nok\nroot 3\nrun /0 0 1 4\nrun /0 2 3 4\nrun /0 4 6 6\n.\nerror bad-place\nerror bad-place\ndoc d 9\n.\n";
+
+// A part that becomes too heavy is split, and a standalone node divides an interval.
+#[test]
+fn nodes_come(rt: HostRuntime) -> Result<(), Fail> {
+    check_light(&rt, rt.alloc(), &PLANTS, PLANTED)
+}
+
+const CLUSTERS: [&[u8]; 4] = [
+    b"rule a #text cluster\n",
+    SIX,
+    b"insert d /0/6 -12345678\n",
+    b"layout d\n",
+];
+
+const CLUSTERED: &[u8] = b"ok\nok 8 1\nok\nroot 1\nrun / 0 0 16\n.\n";
+
+// Texts that stay in their parent's part go with it.
+#[test]
+fn clusters_stay_whole(rt: HostRuntime) -> Result<(), Fail> {
+    check_light(&rt, rt.alloc(), &CLUSTERS, CLUSTERED)
+}
+
+const DIVIDES: [&[u8]; 7] = [
+    SIX,
+    b"insert d /0/6 -12345678\n",
+    b"rule a b cluster\n",
+    b"insert d /0/4 (b\n",
+    b"layout d\n",
+    b"insert d /0/6 -x\n",
+    b"layout d\n",
+];
+
+const DIVIDED: &[u8] =
+    b"ok 8 1\nok\nok\nok\nroot 5\nrun /0 0 1 4\nrun /0 2 3 4\nrun /0 5 7 6\n.\nok\nroot 5\nrun /0 0 1 4\nrun /0 2 3 4\nrun /0 5 8 8\n.\n";
+
+// A node of a cluster divides an interval, and a free one joins it.
+#[test]
+fn intervals_are_divided_or_joined(rt: HostRuntime) -> Result<(), Fail> {
+    check_light(&rt, rt.alloc(), &DIVIDES, DIVIDED)
+}
+
+const EDITS: [&[u8]; 13] = [
     b"load e\n(a\nAx 1\n-hi\n)a\n.\n",
+    b"insert e /0/1 Ax 2\n",
+    b"get e /0\n",
+    b"retext e /0 x\n",
+    b"retext e /0/1 bye\n",
+    b"get e /0/1\n",
+    b"retext e /0/0\n",
+    b"get e /9\n",
+    b"names\n",
+    b"export e\n",
+    b"drop e\n",
+    b"names\n",
+    b"checkpoint\n",
+];
+
+const EDITED: &[u8] =
+    b"ok 4 1\nerror twice\nnode 2 (a\nerror no-content\nok\nnode 0 -bye\nok\nerror no-node\ndoc e 4\n.\n(a\nAx \n-bye\n)a\n.\nok\n.\nok\n";
+
+#[test]
+fn contents_come(rt: HostRuntime) -> Result<(), Fail> {
+    check_light(&rt, rt.alloc(), &EDITS, EDITED)
+}
+
+const INSERTS: [&[u8]; 15] = [
     b"insert e /0/1 -x\n",
+    b"load e\n(a\nAx 1\n-hi\n)a\n.\n",
+    b"insert e / x\n",
+    b"insert e / -x\n",
+    b"insert e /1/0 -x\n",
+    b"insert e /0/1/0 -x\n",
+    b"insert e /0/3 -x\n",
+    b"insert e /0 -x\n",
+    b"insert e /1 (b\n",
+    b"insert e /0/2 Ax 2\n",
+    b"insert e /0/0 -x\n",
+    b"insert e /0/1 Ax 2\n",
+    // 121 letters and the node itself.
+    b"insert e /0/1 -xxxxxxxxxxxxxxxxxxxxxxxxxxxxxxxxxxxxxxxxxxxxxxxxxxxxxxxxxxxxxxxxxxxxxxxxxxxxxxxxxxxxxxxxxxxxxxxxxxxxxxxxxxxxxxxxxxxxxxxxx\n",
+    b"export e\n",
+    b"names\n",
+];
+
+const NOT_INSERTED: &[u8] =
+    b"error no-document\nok 4 1\nerror pyx 1 bad-code\nerror bad-place\nerror no-node\nerror bad-place\nerror bad-place\nerror bad-place\nerror bad-place\nerror bad-place\nerror bad-place\nerror twice\nerror too-heavy /0/1 17\n(a\nAx 1\n-hi\n)a\n.\ndoc e 4\n.\n";
+
+// What may not come is refused by the first reason, and leaves the document.
+#[test]
+fn nodes_are_refused(rt: HostRuntime) -> Result<(), Fail> {
+    check_light(&rt, rt.alloc(), &INSERTS, NOT_INSERTED)
+}
+
+const RETEXTS: [&[u8]; 8] = [
     b"retext e /0/1 x\n",
+    b"load e\n(a\nAx 1\n-hi\n)a\n.\n",
+    b"retext e /1 x\n",
+    b"retext e /0/1/0 x\n",
+    b"retext e / x\n",
+    b"retext e /0 x\n",
+    // 121 letters and the node itself.
+    b"retext e /0/1 xxxxxxxxxxxxxxxxxxxxxxxxxxxxxxxxxxxxxxxxxxxxxxxxxxxxxxxxxxxxxxxxxxxxxxxxxxxxxxxxxxxxxxxxxxxxxxxxxxxxxxxxxxxxxxxxxxxxxxxxx\n",
     b"export e\n",
 ];
 
-const NOT_EDITED: &[u8] = b"ok 4 1\nerror syntax\nerror syntax\n(a\nAx 1\n-hi\n)a\n.\n";
+const NOT_RETEXTED: &[u8] =
+    b"error no-document\nok 4 1\nerror no-node\nerror no-node\nerror no-content\nerror no-content\nerror too-heavy /0/1 17\n(a\nAx 1\n-hi\n)a\n.\n";
 
-// What isn't carried out yet is answered as a line that is no command, whatever it
-// says, and leaves the store.
 #[test]
-fn not_carried_out_yet(rt: HostRuntime) -> Result<(), Fail> {
-    check_light(&rt, rt.alloc(), &EDITS, NOT_EDITED)
+fn contents_are_refused(rt: HostRuntime) -> Result<(), Fail> {
+    check_light(&rt, rt.alloc(), &RETEXTS, NOT_RETEXTED)
+}
+
+// A content that is too long is told before all but a document that isn't there.
+#[test]
+fn a_content_is_too_long(rt: HostRuntime) -> Result<(), Fail> {
+    let content = Vec::from_elem(rt.alloc(), b'x', 1_048_577)?;
+    let missing: [&[u8]; 3] = [b"retext f /9 ", content.as_slice(), b"\n"];
+    let long: [&[u8]; 3] = [b"retext e /9 ", content.as_slice(), b"\n"];
+    let missing = missing.concat(rt.alloc())?;
+    let long = long.concat(rt.alloc())?;
+    let small = load(rt.alloc(), b"e", SMALL)?;
+    let commands: [&[u8]; 4] = [
+        small.as_slice(),
+        missing.as_slice(),
+        long.as_slice(),
+        b"export e\n",
+    ];
+    let output = b"ok 4 1\nerror no-document\nerror pyx 1 long-line\n(a\nAx 1\n-hi\n)a\n.\n";
+    check_light(&rt, rt.alloc(), &commands, output)
+}
+
+// So many times this text.
+fn times(alloc: Global, often: usize, text: &[u8]) -> Result<Vec<u8>, AllocError> {
+    let mut texts = Vec::new(alloc);
+    for _ in 0..often {
+        texts.extend_from_slice(text)?;
+    }
+    Ok(texts)
+}
+
+// The document of so many elements, each but the first in the one before.
+fn deep(alloc: Global, elements: usize) -> Result<Vec<u8>, AllocError> {
+    let mut document = times(alloc, elements, b"(a\n")?;
+    document.extend_from_slice(times(alloc, elements, b")a\n")?.as_slice())?;
+    Ok(document)
+}
+
+// A node lies at most 256 deep.
+#[test]
+fn a_node_is_too_deep(rt: HostRuntime) -> Result<(), Fail> {
+    let document = deep(rt.alloc(), 256)?;
+    let lines = load(rt.alloc(), b"d", document.as_slice())?;
+    let path = times(rt.alloc(), 255, b"/0")?;
+    let fits: [&[u8]; 3] = [b"insert d ", path.as_slice(), b"/1 -x\n"];
+    let deeper: [&[u8]; 3] = [b"insert d ", path.as_slice(), b"/0/0 -x\n"];
+    let fits = fits.concat(rt.alloc())?;
+    let deeper = deeper.concat(rt.alloc())?;
+    let commands: [&[u8]; 4] = [
+        lines.as_slice(),
+        deeper.as_slice(),
+        fits.as_slice(),
+        b"names\n",
+    ];
+    let output = b"ok 257 33\nerror too-deep\nok\ndoc d 258\n.\n";
+    check_light(&rt, rt.alloc(), &commands, output)
+}
+
+const CHANGES: &[u8] =
+    b"rule a b standalone\ninsert d /0/6 -12345678\ninsert d /0/4 (b\nretext d /0/0 one\ninsert d /0/4/0 -two\nretext d /0/8\ndelete d /0/2\n";
+
+const CHANGED: &[u8] =
+    b"(a\n-one\n-12345678\n-12345678\n(b\n-two\n)b\n-12345678\n-12345678\n-12345678\n)a\n.\nroot 3\nrun /0 0 1 4\nrun /0 2 2 2\nrun /0 3 3 4\nrun /0 4 6 6\n.\n";
+
+// All is there when the store is opened again.
+#[test]
+fn edits_stay(rt: HostRuntime) -> Result<(), Fail> {
+    let empty = new_store(rt.alloc(), LIGHT)?;
+    let script = [SIX, CHANGES].concat(rt.alloc())?;
+    let image = stored(&rt, rt.alloc(), &empty, script.as_slice())?;
+    let found = answers(&rt, rt.alloc(), &image, b"export d\nlayout d\n")?;
+    assert_eq!(rt; found.as_slice(), CHANGED);
+    Ok(())
 }
 
 const DELETES: [&[u8]; 12] = [

@@ -69,6 +69,59 @@ fn a_store_that_was_made_takes_documents(rt: HostRuntime) -> Result<(), Fail> {
     Ok(())
 }
 
+// Whole scripts and all that they are answered: the end of the input in the midst of a command, lines that end
+// otherwise, and lines that are no command.
+const SCRIPTS: [(&[u8], &[u8]); 7] = [
+    (b"names", b".\n"),
+    (
+        b"insert e\n\nload e\n(a\n",
+        b"error syntax\nerror syntax\nerror syntax\n",
+    ),
+    (b"load d\n(a\n)a\n.", b"ok 2 1\n"),
+    (
+        b"load d\r\n(a\r\n)a\r\n.\r\nget d /0\r\n",
+        b"ok 2 1\nnode 0 (a\n",
+    ),
+    (
+        b"load d\n(a\n..\n)a\n.\nnames\n",
+        b"error pyx 2 bad-code\n.\n",
+    ),
+    (
+        b"load\ndrop d\n.\nload d e\nnames\n.\nnames\n",
+        b"error syntax\nerror syntax\n.\n",
+    ),
+    (
+        b"load b\n?x href=\"a.css\"\n(b\nAi 0-1\n-\\n  \n(t\n-T & p\n)t\n-\\n\n)b\n.\nexport b\n",
+        b"ok 8 1\n?x href=\"a.css\"\n(b\nAi 0-1\n-\\n  \n(t\n-T & p\n)t\n-\\n\n)b\n.\n",
+    ),
+];
+
+// A run over the store answers so, where its input comes in such pieces.
+fn check_piece(
+    rt: &impl Abort,
+    alloc: Global,
+    image: &Image,
+    (script, output): (&[u8], &[u8]),
+    piece: u32,
+) -> Result<(), NoMemory> {
+    let mut host = host_with(alloc, image, script, piece.max(1))?;
+    assert_eq!(rt; run_script(alloc, &mut host)?, Status::Done);
+    assert_eq!(rt; host.output(), output, "{piece}");
+    Ok(())
+}
+
+// However the input is cut into pieces.
+#[test]
+fn a_script_has_its_replies(rt: HostRuntime) -> Result<(), Fail> {
+    let image = new_store(rt.alloc(), LIGHT)?;
+    for script in SCRIPTS {
+        for piece in 1..20u32 {
+            check_piece(&rt, rt.alloc(), &image, script, piece)?;
+        }
+    }
+    Ok(())
+}
+
 #[test]
 fn a_disk_that_fails_at_once(rt: HostRuntime) -> Result<(), Fail> {
     let image = new_store(rt.alloc(), LIGHT)?;

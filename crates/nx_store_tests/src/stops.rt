@@ -191,47 +191,88 @@ fn documents_stay_through_a_checkpoint(rt: HostRuntime) -> Result<(), Fail> {
     Ok(())
 }
 
-// Lines, their reply, and how many documents there are then.
-const STEPS: [(&[u8], &[u8], usize); 12] = [
-    (b"names\n", b".\n", 0),
-    (b"load a\n(a\nAx 1\n-hi\n)a\n.\n", b"ok 4 1\n", 1),
-    (b"get a /0\n", b"node 2 (a\n", 1),
-    (b"export a\n", b"(a\nAx 1\n-hi\n)a\n.\n", 1),
-    (b"load a\n(b\n)b\n.\n", b"error exists\n", 1),
-    (
-        b"load b\n(a\n-12345678\n-12345678\n-12345678\n-12345678\n-12345678\n-12345678\n-1234567\n)a\n.\n",
-        b"ok 9 2\n",
-        2,
-    ),
-    (b"checkpoint\n", b"ok\n", 2),
-    (b"layout b\n", b"root 1\nrun / 0 0 16\n.\n", 2),
-    (b"get b /0/6\n", b"node 0 -1234567\n", 2),
-    (b"load c\n(a\n)b\n.\n", b"error pyx 2 bad-nesting\n", 2),
-    (b"load c\n?p\n(c\n)c\n.\n", b"ok 3 1\n", 3),
-    (b"names\n", b"doc a 4\ndoc b 9\ndoc c 3\n.\n", 3),
-];
+// Lines, their reply, and which state the store is in then.
+type Step = (&'static [u8], &'static [u8], usize);
 
-// What a store answers that has so many of the documents.
-const LEFT: [&[u8]; 4] = [
-    b".\nerror no-document\nerror no-document\nerror no-document\n",
-    b"doc a 4\n.\n(a\nAx 1\n-hi\n)a\n.\nerror no-document\nerror no-document\n",
-    b"doc a 4\ndoc b 9\n.\n(a\nAx 1\n-hi\n)a\n.\n(a\n-12345678\n-12345678\n-12345678\n-12345678\n-12345678\n-12345678\n-1234567\n)a\n.\nerror no-document\n",
-    b"doc a 4\ndoc b 9\ndoc c 3\n.\n(a\nAx 1\n-hi\n)a\n.\n(a\n-12345678\n-12345678\n-12345678\n-12345678\n-12345678\n-12345678\n-1234567\n)a\n.\n?p\n(c\n)c\n.\n",
-];
+// A script, and what a store answers in each state to lines that look at it.
+#[derive(Clone, Copy)]
+struct Story {
+    steps: &'static [Step],
+    looks: &'static [u8],
+    left: &'static [&'static [u8]],
+}
 
-// With so many bytes out, what stores answer that have the documents of the commands that were answered, and of
+// Each state has one document more.
+const LOADS: Story = Story {
+    steps: &[
+        (b"names\n", b".\n", 0),
+        (b"load a\n(a\nAx 1\n-hi\n)a\n.\n", b"ok 4 1\n", 1),
+        (b"get a /0\n", b"node 2 (a\n", 1),
+        (b"export a\n", b"(a\nAx 1\n-hi\n)a\n.\n", 1),
+        (b"load a\n(b\n)b\n.\n", b"error exists\n", 1),
+        (
+            b"load b\n(a\n-12345678\n-12345678\n-12345678\n-12345678\n-12345678\n-12345678\n-1234567\n)a\n.\n",
+            b"ok 9 2\n",
+            2,
+        ),
+        (b"checkpoint\n", b"ok\n", 2),
+        (b"layout b\n", b"root 1\nrun / 0 0 16\n.\n", 2),
+        (b"get b /0/6\n", b"node 0 -1234567\n", 2),
+        (b"load c\n(a\n)b\n.\n", b"error pyx 2 bad-nesting\n", 2),
+        (b"load c\n?p\n(c\n)c\n.\n", b"ok 3 1\n", 3),
+        (b"names\n", b"doc a 4\ndoc b 9\ndoc c 3\n.\n", 3),
+    ],
+    looks: b"names\nexport a\nexport b\nexport c\n",
+    left: &[
+        b".\nerror no-document\nerror no-document\nerror no-document\n",
+        b"doc a 4\n.\n(a\nAx 1\n-hi\n)a\n.\nerror no-document\nerror no-document\n",
+        b"doc a 4\ndoc b 9\n.\n(a\nAx 1\n-hi\n)a\n.\n(a\n-12345678\n-12345678\n-12345678\n-12345678\n-12345678\n-12345678\n-1234567\n)a\n.\nerror no-document\n",
+        b"doc a 4\ndoc b 9\ndoc c 3\n.\n(a\nAx 1\n-hi\n)a\n.\n(a\n-12345678\n-12345678\n-12345678\n-12345678\n-12345678\n-12345678\n-1234567\n)a\n.\n?p\n(c\n)c\n.\n",
+    ],
+};
+
+// A part is split by the first edit, and not by the others.
+const EDITS: Story = Story {
+    steps: &[
+        (
+            b"load d\n(a\n-12345678\n-12345678\n-12345678\n-12345678\n-12345678\n-12345678\n)a\n.\n",
+            b"ok 8 1\n",
+            1,
+        ),
+        (b"insert d /0/6 -12345678\n", b"ok\n", 2),
+        (b"insert d /1 -12345678\n", b"error bad-place\n", 2),
+        (b"retext d /0/0\n", b"ok\n", 3),
+        (b"delete d /0/5\n", b"ok\n", 4),
+    ],
+    looks: b"names\nexport d\nlayout d\n",
+    left: &[
+        b".\nerror no-document\nerror no-document\n",
+        b"doc d 8\n.\n(a\n-12345678\n-12345678\n-12345678\n-12345678\n-12345678\n-12345678\n)a\n.\nroot 15\n.\n",
+        b"doc d 9\n.\n(a\n-12345678\n-12345678\n-12345678\n-12345678\n-12345678\n-12345678\n-12345678\n)a\n.\nroot 3\nrun /0 0 1 4\nrun /0 2 6 10\n.\n",
+        b"doc d 9\n.\n(a\n-\n-12345678\n-12345678\n-12345678\n-12345678\n-12345678\n-12345678\n)a\n.\nroot 3\nrun /0 0 1 3\nrun /0 2 6 10\n.\n",
+        b"doc d 8\n.\n(a\n-\n-12345678\n-12345678\n-12345678\n-12345678\n-12345678\n)a\n.\nroot 3\nrun /0 0 1 3\nrun /0 2 5 8\n.\n",
+    ],
+};
+
+// With so many bytes out, what stores answer in the state behind the commands that were answered, and behind
 // one more.
-fn left_after(out: usize) -> (Option<&'static [u8]>, Option<&'static [u8]>) {
+fn left_after(story: Story, out: usize) -> (Option<&'static [u8]>, Option<&'static [u8]>) {
     let mut texts = 0usize;
-    let mut documents = 0usize;
-    for (_, reply, then) in STEPS {
+    let mut state = 0usize;
+    for (_, reply, then) in story.steps {
         texts = texts.saturating_add(reply.len());
         if out < texts {
-            return (LEFT.get(documents).copied(), LEFT.get(then).copied());
+            return (
+                story.left.get(state).copied(),
+                story.left.get(*then).copied(),
+            );
         }
-        documents = then;
+        state = *then;
     }
-    (LEFT.get(documents).copied(), LEFT.get(documents).copied())
+    (
+        story.left.get(state).copied(),
+        story.left.get(state).copied(),
+    )
 }
 
 // A host at which so many calls failed ends its run so.
@@ -259,12 +300,17 @@ fn check_faults(rt: &impl Abort, host: &MemoryHost, status: Status) {
     assert_eq!(rt; faults, u64::from(status != Status::Done));
 }
 
-// Each image has the documents of the commands that were answered, or of one more.
-fn check_left(rt: &impl Abort, alloc: Global, host: &MemoryHost) -> Result<(), NoMemory> {
-    let (before, after) = left_after(host.output().len());
+// Each image is in the state behind the commands that were answered, or behind one more.
+fn check_left(
+    rt: &impl Abort,
+    alloc: Global,
+    story: Story,
+    host: &MemoryHost,
+) -> Result<(), NoMemory> {
+    let (before, after) = left_after(story, host.output().len());
     for choice in CHOICES {
         let image = left(host, choice)?;
-        let found = answers(rt, alloc, &image, b"names\nexport a\nexport b\nexport c\n")?;
+        let found = answers(rt, alloc, &image, story.looks)?;
         let text = Some(found.as_slice());
         assert!(rt; text == before || text == after, "{choice:?}");
     }
@@ -275,28 +321,29 @@ fn check_left(rt: &impl Abort, alloc: Global, host: &MemoryHost) -> Result<(), N
 fn is_done(
     rt: &impl Abort,
     alloc: Global,
+    story: Story,
     mut host: MemoryHost,
     replies: &[u8],
 ) -> Result<bool, NoMemory> {
     let status = run_script(alloc, &mut host)?;
     check_faults(rt, &host, status);
     assert!(rt; replies.starts_with(host.output()));
-    check_left(rt, alloc, &host)?;
+    check_left(rt, alloc, story, &host)?;
     Ok(status == Status::Done)
 }
 
 // The lines of all steps.
-fn all_lines(alloc: Global) -> Result<Vec<u8>, NoMemory> {
+fn all_lines(alloc: Global, story: Story) -> Result<Vec<u8>, NoMemory> {
     let mut script = Vec::new(alloc);
-    for (lines, _, _) in STEPS {
+    for (lines, _, _) in story.steps {
         script.extend_from_slice(lines)?;
     }
     Ok(script)
 }
 
-fn all_replies(alloc: Global) -> Result<Vec<u8>, NoMemory> {
+fn all_replies(alloc: Global, story: Story) -> Result<Vec<u8>, NoMemory> {
     let mut replies = Vec::new(alloc);
-    for (_, reply, _) in STEPS {
+    for (_, reply, _) in story.steps {
         replies.extend_from_slice(reply)?;
     }
     Ok(replies)
@@ -306,25 +353,32 @@ fn all_replies(alloc: Global) -> Result<Vec<u8>, NoMemory> {
 fn steps_host(
     rt: &impl Abort,
     alloc: Global,
+    script: &[u8],
     store: &Image,
     piece: u32,
     number: u64,
     alone: bool,
 ) -> Result<MemoryHost, NoMemory> {
     assert!(rt; piece > 0);
-    let script = all_lines(alloc)?;
-    let mut host = host_with(alloc, store, script.as_slice(), piece)?;
+    let mut host = host_with(alloc, store, script, piece)?;
     fail(&mut host, number, alone)?;
     Ok(host)
 }
 
 // Runs the steps with each call of the host failing in turn.
-fn check_calls(rt: &impl Abort, alloc: Global, piece: u32, alone: bool) -> Result<(), Fail> {
+fn check_calls(
+    rt: &impl Abort,
+    alloc: Global,
+    story: Story,
+    piece: u32,
+    alone: bool,
+) -> Result<(), Fail> {
     let store = new_store(alloc, LIGHT)?;
-    let replies = all_replies(alloc)?;
+    let script = all_lines(alloc, story)?;
+    let replies = all_replies(alloc, story)?;
     for number in 1..CALLS {
-        let host = steps_host(rt, alloc, &store, piece, number, alone)?;
-        if is_done(rt, alloc, host, replies.as_slice())? {
+        let host = steps_host(rt, alloc, script.as_slice(), &store, piece, number, alone)?;
+        if is_done(rt, alloc, story, host, replies.as_slice())? {
             return Ok(());
         }
     }
@@ -333,12 +387,22 @@ fn check_calls(rt: &impl Abort, alloc: Global, piece: u32, alone: bool) -> Resul
 
 #[test]
 fn each_call_fails_in_turn(rt: HostRuntime) -> Result<(), Fail> {
-    check_calls(&rt, rt.alloc(), 65_536, true)
+    check_calls(&rt, rt.alloc(), LOADS, 65_536, true)
 }
 
 #[test]
 fn each_call_is_the_last_in_turn(rt: HostRuntime) -> Result<(), Fail> {
-    check_calls(&rt, rt.alloc(), 30, false)
+    check_calls(&rt, rt.alloc(), LOADS, 30, false)
+}
+
+#[test]
+fn each_call_of_an_edit_fails_in_turn(rt: HostRuntime) -> Result<(), Fail> {
+    check_calls(&rt, rt.alloc(), EDITS, 65_536, true)
+}
+
+#[test]
+fn each_call_of_an_edit_is_the_last_in_turn(rt: HostRuntime) -> Result<(), Fail> {
+    check_calls(&rt, rt.alloc(), EDITS, 30, false)
 }
 
 // Loads where the host is stopped, and says whether the store has ended.

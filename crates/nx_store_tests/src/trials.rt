@@ -2,6 +2,8 @@
 ghost use Rattle.nx_holdings.specs.Header.{AreSettings};
 
 use crate::documents::{Random, random_document};
+use crate::drawn::{any_content, any_entry, any_node, any_pair, edit_line};
+use crate::intervals::Change;
 use crate::stores::{CHOICES, HEAVY, LIGHT};
 use crate::twins::{Tried, Twins};
 use nx_records::Settings;
@@ -9,9 +11,10 @@ use std::alloc::{AllocError, Global};
 use std::process::Abort;
 use std::test::Fail;
 
-// How large documents are.
+// How many documents there are, and how large.
 #[derive(Clone, Copy, Debug)]
 struct Size {
+    names: u8,
     lines: u32,
     longest: u32,
 }
@@ -62,6 +65,71 @@ fn load(
     twins.load(rt, &[name], text.as_slice())
 }
 
+fn rule(rt: &impl Abort, twins: &mut Twins, random: &mut Random) -> Result<(), Fail> {
+    let pair = any_pair(random);
+    let entry = any_entry(random);
+    twins.rule(rt, pair, entry)
+}
+
+fn insert(
+    rt: &impl Abort,
+    alloc: Global,
+    twins: &mut Twins,
+    name: u8,
+    random: &mut Random,
+    size: Size,
+) -> Result<(), Fail> {
+    let path = twins.any_path(&[name], random)?;
+    let child = random.below(4) as usize;
+    let change = twins.coming(&[name], path.as_slice(), child);
+    let node = any_node(alloc, random, child, size.longest)?;
+    let line = edit_line(alloc, b"insert", name, path.as_slice(), node.as_slice())?;
+    twins.edit(rt, &[name], path.as_slice(), change, line.as_slice())
+}
+
+fn delete(
+    rt: &impl Abort,
+    alloc: Global,
+    twins: &mut Twins,
+    name: u8,
+    random: &mut Random,
+) -> Result<(), Fail> {
+    let path = twins.any_path(&[name], random)?;
+    let line = edit_line(alloc, b"delete", name, path.as_slice(), b"")?;
+    twins.edit(rt, &[name], path.as_slice(), Change::Goes, line.as_slice())
+}
+
+fn retext(
+    rt: &impl Abort,
+    alloc: Global,
+    twins: &mut Twins,
+    name: u8,
+    random: &mut Random,
+    size: Size,
+) -> Result<(), Fail> {
+    let path = twins.any_path(&[name], random)?;
+    let content = any_content(alloc, random, size.longest)?;
+    let rest = [b" ", content.as_slice()].concat(alloc)?;
+    let line = edit_line(alloc, b"retext", name, path.as_slice(), rest.as_slice())?;
+    twins.edit(rt, &[name], path.as_slice(), Change::Stays, line.as_slice())
+}
+
+// One edit.
+fn edit(
+    rt: &impl Abort,
+    alloc: Global,
+    twins: &mut Twins,
+    name: u8,
+    random: &mut Random,
+    size: Size,
+) -> Result<(), Fail> {
+    match random.below(8) {
+        0..=4 => insert(rt, alloc, twins, name, random, size),
+        5 => delete(rt, alloc, twins, name, random),
+        _ => retext(rt, alloc, twins, name, random, size),
+    }
+}
+
 fn reopen(twins: &mut Twins, random: &mut Random) -> Result<(), Fail> {
     match CHOICES.get(random.below(3) as usize) {
         Some(choice) => twins.reopen(*choice),
@@ -77,14 +145,17 @@ fn step(
     random: &mut Random,
     size: Size,
 ) -> Result<(), Fail> {
-    let name = random.letter(26);
-    match random.below(12) {
+    let name = random.letter(size.names);
+    match random.below(24) {
         0..=4 => load(rt, alloc, twins, name, random, size),
         5 => look(rt, alloc, twins, name),
         6 => twins.layout(rt, &[name]),
         7 => twins.look(rt, b"names\n"),
         8 => twins.checkpoint(rt),
         9 => reopen(twins, random),
+        10 => twins.discard(rt, &[name]),
+        11 => rule(rt, twins, random),
+        12..=21 => edit(rt, alloc, twins, name, random, size),
         _ => get(rt, alloc, twins, name, random),
     }
 }
@@ -122,12 +193,18 @@ fn trial(
 fn parts_of_few_slots(rt: HostRuntime) -> Result<(), Fail> {
     let settings = Settings { k: 4, ..LIGHT };
     let size = Size {
-        lines: 150,
+        names: 5,
+        lines: 90,
         longest: 24,
     };
-    let tried = trial(&rt, rt.alloc(), settings, size, 150)?;
+    let tried = trial(&rt, rt.alloc(), settings, size, 300)?;
     assert!(rt;
-        tried.loaded > 9 && tried.heavy > 0 && tried.full == 0 && tried.laid > 9,
+        tried.loaded > 9
+            && tried.heavy > 0
+            && tried.full == 0
+            && tried.laid > 9
+            && tried.edited > 9
+            && tried.split > 3,
         "{tried:?}"
     );
     Ok(())
@@ -136,12 +213,18 @@ fn parts_of_few_slots(rt: HostRuntime) -> Result<(), Fail> {
 #[test]
 fn parts_of_some_slots(rt: HostRuntime) -> Result<(), Fail> {
     let size = Size {
+        names: 5,
         lines: 60,
         longest: 120,
     };
-    let tried = trial(&rt, rt.alloc(), LIGHT, size, 200)?;
+    let tried = trial(&rt, rt.alloc(), LIGHT, size, 300)?;
     assert!(rt;
-        tried.loaded > 9 && tried.heavy > 0 && tried.full == 0 && tried.laid > 9,
+        tried.loaded > 9
+            && tried.heavy > 0
+            && tried.full == 0
+            && tried.laid > 9
+            && tried.edited > 9
+            && tried.split > 3,
         "{tried:?}"
     );
     Ok(())
@@ -152,12 +235,18 @@ fn parts_of_some_slots(rt: HostRuntime) -> Result<(), Fail> {
 fn parts_of_many_slots(rt: HostRuntime) -> Result<(), Fail> {
     let settings = Settings { limit: 64, ..HEAVY };
     let size = Size {
+        names: 26,
         lines: 100,
         longest: 2_040,
     };
-    let tried = trial(&rt, rt.alloc(), settings, size, 120)?;
+    let tried = trial(&rt, rt.alloc(), settings, size, 300)?;
     assert!(rt;
-        tried.loaded > 3 && tried.heavy > 0 && tried.full > 3 && tried.laid > 3,
+        tried.loaded > 3
+            && tried.heavy > 0
+            && tried.full > 3
+            && tried.laid > 3
+            && tried.edited > 9
+            && tried.split > 3,
         "{tried:?}"
     );
     Ok(())

@@ -3,18 +3,22 @@ ghost use Rattle.std.specs.Prelude.{◌≤◌};
 ghost use Rattle.nx_holdings.specs.Header.{AreSettings};
 ghost use Rattle.nx_tree.specs.Document.{IsDocument};
 
-use crate::documents::load;
+use crate::documents::{Random, load};
+use crate::drawn::{Entries, Pair, any_path, pair_at, rule_line};
+use crate::intervals::{Change, count_missing, edited};
 use crate::stores::{apply, command_of, create, empty_host, host_with, left, open};
 use nx_engine::Plain;
+use nx_matrix::Entry;
 use nx_memory::{Choice, MemoryHost};
 use nx_partition::plan;
 use nx_parts::{Partitioning, PartsError, check_feasible, part_weights};
 use nx_records::Settings;
 use nx_script::{Command, Reply, ReplyError, ScriptError, write_reply};
 use nx_store::Store;
-use nx_tree::{Bytes, NoMemory, Path, Tree, count};
+use nx_tree::{Bytes, NoMemory, Path, Tree};
 use nx_weights::{HeavyNode, Weights, first_heavy};
 use std::alloc::Global;
+use std::collections::BTreeMap;
 use std::process::Abort;
 use std::test::Fail;
 
@@ -25,6 +29,8 @@ pub struct Tried {
     pub heavy: u32,
     pub full: u32,
     pub laid: u32,
+    pub edited: u32,
+    pub split: u32,
 }
 
 /// A store beside plain trees.
@@ -35,8 +41,9 @@ pub struct Twins {
     store: Store,
     plain: Plain,
     settings: Settings,
-    // The number of nodes of all documents.
-    nodes: u32,
+    entries: Entries,
+    // The intervals of documents, where they are known.
+    layouts: BTreeMap<Vec<u8>, Partitioning>,
     pub tried: Tried,
 }
 
@@ -52,7 +59,8 @@ impl Twins {
             store,
             plain: Plain::new(alloc),
             settings,
-            nodes: 0,
+            entries: Entries::new(),
+            layouts: BTreeMap::new(alloc),
             tried: Tried::default(),
         })
     }
@@ -80,6 +88,17 @@ impl Twins {
         self.check_same(rt, &found, &want)
     }
 
+    // The number of nodes of all documents.
+    fn nodes(&mut self) -> Result<u32, Fail> {
+        let mut nodes = 0u32;
+        if let Reply::Names(lines) = self.apply_plain(b"names\n")? {
+            for line in lines.as_slice() {
+                nodes = nodes.saturating_add(line.nodes);
+            }
+        }
+        Ok(nodes)
+    }
+
     /// Loads a document.
     pub fn load(&mut self, rt: &impl Abort, name: &[u8], text: &[u8]) -> Result<(), Fail> {
         let lines = load(self.alloc, name, text)?;
@@ -99,7 +118,7 @@ impl Twins {
         match found {
             Reply::Loaded { nodes, intervals } => {
                 assert!(rt; is_loaded(want, *nodes));
-                self.add_loaded(*nodes);
+                self.tried.loaded = self.tried.loaded.saturating_add(1);
                 self.check_loaded(rt, name, *intervals);
                 Ok(())
             }
@@ -108,16 +127,12 @@ impl Twins {
                 self.forget(name)
             }
             Reply::Refused(ReplyError::Full) => {
-                self.check_full(rt, name);
-                self.forget(name)
+                let after = self.nodes()?;
+                self.forget(name)?;
+                self.check_full(rt, after)
             }
             found => self.check_same(rt, found, want),
         }
-    }
-
-    fn add_loaded(&mut self, nodes: u32) {
-        self.nodes = self.nodes.saturating_add(nodes);
-        self.tried.loaded = self.tried.loaded.saturating_add(1);
     }
 
     // Takes the document from the plain trees, since the store hasn't kept it.
@@ -149,20 +164,43 @@ impl Twins {
         Ok(())
     }
 
-    // There may be no room: three times the nodes before and after, and 8, reach the limit of pages.
-    fn check_full(&mut self, rt: &impl Abort, name: &[u8]) {
+    // There may be no room: three times the nodes before and after, the rules and 8 reach the limit of pages.
+    fn check_full(&mut self, rt: &impl Abort, after: u32) -> Result<(), Fail> {
         self.tried.full = self.tried.full.saturating_add(1);
-        let new = count_of(rt, &self.plain, name);
-        let nodes = self.nodes.saturating_mul(2).saturating_add(new);
-        let bound = nodes.saturating_mul(3).saturating_add(8);
+        let nodes = self.nodes()?.saturating_add(after);
+        let rules = self.entries.count().saturating_add(8);
+        let bound = nodes.saturating_mul(3).saturating_add(rules);
         assert!(rt; self.settings.limit <= bound);
+        Ok(())
+    }
+
+    /// Forgets a document.
+    pub fn discard(&mut self, rt: &impl Abort, name: &[u8]) -> Result<(), Fail> {
+        let lines = [b"drop ", name, b"\n"].concat(self.alloc)?;
+        self.layouts.remove(name);
+        self.look(rt, lines.as_slice())
+    }
+
+    /// Makes a rule.
+    pub fn rule(&mut self, rt: &impl Abort, pair: Pair, entry: Entry) -> Result<(), Fail> {
+        let lines = rule_line(self.alloc, pair, entry)?;
+        let old = self.entries.of(pair);
+        self.entries.set(pair, entry);
+        let found = self.apply(lines.as_slice())?;
+        if let Reply::Refused(ReplyError::Full) = found {
+            let nodes = self.nodes()?;
+            self.check_full(rt, nodes)?;
+            self.entries.set(pair, old);
+            return Ok(());
+        }
+        self.check_same(rt, &found, &Reply::Done)
     }
 
     /// Asks for the intervals of a document.
     pub fn layout(&mut self, rt: &impl Abort, name: &[u8]) -> Result<(), Fail> {
         let lines = [b"layout ", name, b"\n"].concat(self.alloc)?;
         match self.apply(lines.as_slice())? {
-            Reply::Laid { parts, weights } => self.check_laid(rt, name, &parts, &weights),
+            Reply::Laid { parts, weights } => self.check_laid(rt, name, parts, &weights),
             found => self.check_none(rt, name, &found),
         }
     }
@@ -173,20 +211,149 @@ impl Twins {
         self.check_same(rt, found, &Reply::Refused(ReplyError::NoDocument))
     }
 
-    // The intervals are a partitioning of the document in parts of at most K slots, with these weights, and as
-    // few as there can be.
+    // The intervals are a partitioning of the document in parts of at most K slots, with these weights. They are
+    // those that are known, or as few as there can be.
     fn check_laid(
         &mut self,
         rt: &impl Abort,
         name: &[u8],
-        parts: &Partitioning,
+        parts: Partitioning,
         weights: &Weights,
     ) -> Result<(), Fail> {
         self.tried.laid = self.tried.laid.saturating_add(1);
-        let want = weights_in(rt, self.alloc, &self.plain, name, self.settings.k, parts)?;
+        let want = weights_in(rt, self.alloc, &self.plain, name, self.settings.k, &parts)?;
         assert_eq!(rt; weights.as_slice(), want.as_slice());
-        self.check_loaded(rt, name, (parts.len() % (1 << 20)) as u32);
+        match self.layouts.get(name) {
+            Some(known) => check_all(rt, known, &parts),
+            None => self.check_loaded(rt, name, (parts.len() % (1 << 20)) as u32),
+        }
+        self.keep(name, parts)
+    }
+
+    fn keep(&mut self, name: &[u8], parts: Partitioning) -> Result<(), Fail> {
+        let name = Vec::from_slice(self.alloc, name)?;
+        self.layouts.insert(name, parts)?;
         Ok(())
+    }
+
+    // The intervals of a document, which are known no more then.
+    fn take_layout(&mut self, rt: &impl Abort, name: &[u8]) -> Result<Partitioning, Fail> {
+        if self.layouts.get(name).is_none() {
+            self.layout(rt, name)?;
+        }
+        match self.layouts.remove(name) {
+            Some(parts) => Ok(parts),
+            None => panic!(rt; "the intervals aren't known"),
+        }
+    }
+
+    /// A path in a document, where it is there.
+    pub fn any_path(&self, name: &[u8], random: &mut Random) -> Result<Path, NoMemory> {
+        match self.plain.document(name) {
+            Some(tree) => any_path(self.alloc, random, tree),
+            None => Ok(Path::new(self.alloc)),
+        }
+    }
+
+    /// What comes with a child of this kind at a path.
+    pub fn coming(&self, name: &[u8], path: &[u32], child: usize) -> Change {
+        match self.plain.document(name) {
+            Some(tree) => Change::Comes(self.entries.of(pair_at(tree, path, child))),
+            None => Change::Stays,
+        }
+    }
+
+    // The lines that load a document as it is.
+    fn reload(&mut self, name: &[u8]) -> Result<Vec<u8>, Fail> {
+        let lines = [b"export ", name, b"\n"].concat(self.alloc)?;
+        match self.apply_plain(lines.as_slice())? {
+            Reply::Exported(text) => Ok(load(self.alloc, name, text.as_slice())?),
+            _ => Ok(Vec::new(self.alloc)),
+        }
+    }
+
+    /// Edits a document at a path by this line.
+    pub fn edit(
+        &mut self,
+        rt: &impl Abort,
+        name: &[u8],
+        path: &[u32],
+        change: Change,
+        line: &[u8],
+    ) -> Result<(), Fail> {
+        if self.plain.document(name).is_none() {
+            return self.look(rt, line);
+        }
+        let old = self.take_layout(rt, name)?;
+        let reload = self.reload(name)?;
+        let want = self.apply_plain(line)?;
+        let found = self.apply(line)?;
+        if let Reply::Done = found {
+            self.check_same(rt, &found, &want)?;
+            let parts = edited(self.alloc, &old, path, change)?;
+            return self.check_edited(rt, name, parts);
+        }
+        self.keep(name, old)?;
+        self.check_edit(rt, name, reload.as_slice(), &found, &want)
+    }
+
+    // The store's refusal of an edit goes with what the plain trees did.
+    fn check_edit(
+        &mut self,
+        rt: &impl Abort,
+        name: &[u8],
+        reload: &[u8],
+        found: &Reply,
+        want: &Reply,
+    ) -> Result<(), Fail> {
+        match found {
+            Reply::Refused(ReplyError::TooHeavy { path, weight }) => {
+                self.check_same(rt, &Reply::Done, want)?;
+                self.check_heavy(rt, name, path, *weight)?;
+                self.restore(name, reload)
+            }
+            Reply::Refused(ReplyError::Full) => {
+                self.check_same(rt, &Reply::Done, want)?;
+                let after = self.nodes()?;
+                self.restore(name, reload)?;
+                self.check_full(rt, after)
+            }
+            found => self.check_same(rt, found, want),
+        }
+    }
+
+    // Takes an edit back, since the store hasn't kept it.
+    fn restore(&mut self, name: &[u8], reload: &[u8]) -> Result<(), Fail> {
+        self.forget(name)?;
+        self.apply_plain(reload)?;
+        Ok(())
+    }
+
+    // The intervals of the document are these, but for one whose part is split since it is too heavy.
+    fn check_edited(
+        &mut self,
+        rt: &impl Abort,
+        name: &[u8],
+        want: Partitioning,
+    ) -> Result<(), Fail> {
+        self.tried.edited = self.tried.edited.saturating_add(1);
+        if is_heavy(rt, self.alloc, &self.plain, name, self.settings.k, &want)? {
+            self.tried.split = self.tried.split.saturating_add(1);
+            let parts = self.ask_layout(rt, name)?;
+            assert!(rt; count_missing(&want, &parts) <= 1);
+            self.keep(name, parts)?;
+        } else {
+            self.keep(name, want)?;
+        }
+        self.layout(rt, name)
+    }
+
+    fn ask_layout(&mut self, rt: &impl Abort, name: &[u8]) -> Result<Partitioning, Fail> {
+        let lines = [b"layout ", name, b"\n"].concat(self.alloc)?;
+        match self.apply(lines.as_slice())? {
+            Reply::Laid { parts, .. } => Ok(parts),
+            _ => panic!(rt; "there is no document"),
+        }
     }
 
     /// Empties the log.
@@ -259,12 +426,30 @@ fn heavy_in(
     first_heavy(alloc, tree, k)
 }
 
-// The number of nodes of the document of that name.
-fn count_of(rt: &impl Abort, plain: &Plain, name: &[u8]) -> u32 {
+// Both are the same intervals.
+fn check_all(rt: &impl Abort, want: &Partitioning, found: &Partitioning) {
+    assert_eq!(rt; found.len(), want.len());
+    assert_eq!(rt; count_missing(want, found), 0);
+}
+
+// Whether one of these parts of the document of that name weighs more than K.
+fn is_heavy(
+    rt: &impl Abort,
+    alloc: Global,
+    plain: &Plain,
+    name: &[u8],
+    k: u32,
+    parts: &Partitioning,
+) -> Result<bool, PartsError> {
+    assert!(rt; parts.len() < 1 << 20);
     let Some(tree) = plain.document(name) else {
         panic!(rt; "there is no document");
     };
-    count(tree)
+    match check_feasible(alloc, tree, k, parts) {
+        Ok(()) => Ok(false),
+        Err(PartsError::Heavy { .. }) => Ok(true),
+        Err(error) => Err(error),
+    }
 }
 
 // The weights of these parts of the document of that name, which are feasible.
