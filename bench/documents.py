@@ -116,10 +116,10 @@ RECORDS = 122_400
 GROUP = 100
 
 
-def records():
+def records(count=RECORDS):
     """One element over groups of records, each with an attribute and two texts."""
     yield "(records"
-    for index in range(RECORDS):
+    for index in range(count):
         if index % GROUP == 0:
             yield "(group"
         yield "(record"
@@ -127,7 +127,7 @@ def records():
         yield text(index, index % 31)
         yield text(index, 5)
         yield ")record"
-        if index % GROUP == GROUP - 1:
+        if index % GROUP == GROUP - 1 or index == count - 1:
             yield ")group"
     yield ")records"
 
@@ -239,6 +239,56 @@ def record_gets():
     for _ in range(100_000):
         record = draw.randrange(RECORDS)
         yield f"get d /0/{record // GROUP}/{record % GROUP}/{draw.randrange(3)}"
+
+
+def record_edits(words, edits, count=RECORDS):
+    """So many edits at random places of `records`, these words in turn. Each record keeps its attribute and a text."""
+    draw = random.Random(4)
+    children = [3] * count
+    for index in range(edits):
+        word = words[index % len(words)]
+        record = draw.randrange(count)
+        while word == "delete" and children[record] < 3:
+            record = draw.randrange(count)
+        path = f"/0/{record // GROUP}/{record % GROUP}"
+        if word == "insert":
+            children[record] += 1
+            yield f"insert d {path}/{draw.randrange(1, children[record])} {text(index, index % 31)}"
+        elif word == "delete":
+            yield f"delete d {path}/{draw.randrange(1, children[record])}"
+            children[record] -= 1
+        else:
+            yield f"retext d {path}/{draw.randrange(children[record])} {prose(index, index % 31)}"
+
+
+def hot_inserts(place, children, edits):
+    """So many inserts at one place of an element with children: at its `front`, its `middle` or its `end`."""
+    begin = {"front": 0, "middle": children // 2, "end": children}[place]
+    for index in range(edits):
+        position = begin + index if place == "end" else begin
+        yield f"insert d /0/{position} {text(index, 1 + index % 31)}"
+
+
+def growth(edits):
+    """So many inserts at random places of a document that has one element at first. Two of five nodes are elements."""
+    draw = random.Random(5)
+    # The elements: their parents, and their children, with -1 for one that is no element.
+    parents, children = [None], [[]]
+    for index in range(edits):
+        parent = draw.randrange(len(parents))
+        position = draw.randrange(len(children[parent]) + 1)
+        path, node = [position], parent
+        while parents[node] is not None:
+            above = parents[node]
+            path.append(children[above].index(node))
+            node = above
+        is_element = draw.random() < 0.4
+        children[parent].insert(position, len(parents) if is_element else -1)
+        if is_element:
+            parents.append(parent)
+            children.append([])
+        steps = "/".join(map(str, [0, *reversed(path)]))
+        yield f"insert d /{steps} {'(item' if is_element else text(index, 1 + index % 31)}"
 
 
 def rows(lines):

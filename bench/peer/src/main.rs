@@ -1,4 +1,4 @@
-//! natix's commands over plain trees, without proofs: `tidy`, `run`, `plan` and `verify` do what natix's
+//! natix's commands over plain trees, without proofs: `tidy`, `plan` and `verify` do what natix's
 //! do, and refuse what those refuse. Of several plans that are as good `plan` may give another one.
 
 mod certificate;
@@ -9,7 +9,6 @@ mod parts;
 mod plan_text;
 mod profiles;
 mod pyx;
-mod script;
 mod shape;
 mod tree;
 
@@ -127,7 +126,6 @@ fn main() -> ExitCode {
     let input = io::stdin().lock();
     let ended = match command {
         [word] if word == "tidy" => emit(read_document(input), write_tree),
-        [word] if word == "run" => script::run(input, io::stdout()),
         [word, k] if word == "plan" => k_of(k).and_then(|k| {
             let plan = read_document(input).and_then(|document| Ok(plan(&document, k)?));
             emit(plan, write_plan)
@@ -142,7 +140,7 @@ fn main() -> ExitCode {
     let (status, message) = match ended {
         Ok(()) => return ExitCode::SUCCESS,
         Err(Failure::Refused(_)) => return ExitCode::from(2),
-        Err(Failure::Usage) => (1, "usage: peer [_] tidy|run|plan K|verify K"),
+        Err(Failure::Usage) => (1, "usage: peer [_] tidy|plan K|verify K"),
         Err(Failure::Read) => (4, "read fault"),
         Err(Failure::Write) => (5, "write fault"),
         Err(Failure::TooMuch) => (9, "too much input"),

@@ -249,7 +249,7 @@ fn check_length(name: &[u8], content: &[u8]) -> Result<(), Fault> {
     Ok(())
 }
 
-fn check_name(name: &[u8]) -> Result<(), Fault> {
+pub fn check_name(name: &[u8]) -> Result<(), Fault> {
     let outside = |byte: &u8| matches!(byte, 0..=b' ' | b'#' | b'*' | b'/' | b'?' | b'@' | b'\\');
     if name.is_empty() || name.iter().any(outside) {
         return Err(Fault::BadName);
@@ -280,7 +280,8 @@ pub fn unescape(mut escaped: &[u8]) -> Vec<u8> {
     content
 }
 
-/// What one line says as a node without children.
+/// What one line says as a node without children, for `bench/store_peer`.
+#[allow(dead_code)]
 pub fn line_node(line: &[u8]) -> Result<Node, Fault> {
     let (kind, name, content) = match line.split_first() {
         Some((b'(', name)) => (Kind::Element, name, Vec::new()),

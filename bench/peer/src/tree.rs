@@ -49,21 +49,4 @@ impl Tree {
     pub fn is_attribute(&self) -> bool {
         matches!(self.node.kind, Kind::Attribute)
     }
-
-    /// The tree at the end of the path.
-    pub fn at(&self, path: &[u32]) -> Option<&Tree> {
-        path.iter()
-            .try_fold(self, |tree, &position| tree.children.get(position as usize))
-    }
-
-    pub fn at_mut(&mut self, path: &[u32]) -> Option<&mut Tree> {
-        path.iter().try_fold(self, |tree, &position| {
-            tree.children.get_mut(position as usize)
-        })
-    }
-
-    /// The recursion ends at the depth limit of documents.
-    pub fn count(&self) -> usize {
-        1 + self.children.iter().map(Tree::count).sum::<usize>()
-    }
 }

@@ -5,7 +5,7 @@ use crate::partition::Cut;
 use crate::piece::{Growing, Proxy};
 use crate::records::{Place, Records};
 use crate::shape::Shape;
-use crate::tree::Tree;
+use crate::tree::{Node, Tree};
 use std::slice::from_ref;
 
 /// Puts a document whose nodes lie so, and answers the place of the record of its root.
@@ -54,7 +54,12 @@ impl Building<'_> {
 
     /// Adds a tree that has this number to a piece. The recursion ends at the depth limit of documents.
     fn add_tree(&mut self, tree: &Tree, node: usize, piece: &mut Growing) -> Result<(), Failure> {
-        let at = piece.push_node(&tree.node);
+        let Node {
+            kind,
+            name,
+            content,
+        } = &tree.node;
+        let at = piece.push_node(*kind, name, content);
         let mut items = 0;
         let mut run = None;
         let mut position = 0;
@@ -79,7 +84,7 @@ impl Building<'_> {
                 items += 1;
                 piece.push_run()
             });
-            piece.push_proxy(run, proxy);
+            piece.push_proxies(run, &proxy.bytes());
         }
         piece.set_items(at, items);
         Ok(())

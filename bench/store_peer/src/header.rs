@@ -8,8 +8,8 @@ const MARK: &[u8] = b"NATIXST1";
 #[derive(Clone, Copy)]
 pub struct Header {
     pub k: u16,
-    target: u16,
-    tolerance: u16,
+    pub target: u16,
+    pub tolerance: u16,
     pub limit: u32,
     /// How many pages are used or free.
     pub pages: u32,

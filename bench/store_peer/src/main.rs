@@ -1,18 +1,24 @@
-//! A store in natix's files without proofs: `init` makes one, and `run` answers `load`, `names`, `get`, `export`,
-//! `layout` and `checkpoint` from it, with the same replies and the same syncs. It reads documents and partitions
-//! them as `bench/peer` does.
+//! A store in natix's files without proofs: `init` makes one, and `run` answers the commands of a script from it, with
+//! the same replies and the same syncs. It reads documents and partitions them as `bench/peer` does. An edit writes the
+//! records on its path that change, and of a list of proxies and of the catalog the chain pages that change.
 
 mod building;
 mod catalog;
+mod dividing;
+mod draft;
+mod editing;
 mod header;
 mod log;
 mod page;
 mod piece;
 mod records;
+mod rules;
 mod script;
 mod showing;
 mod slots;
+mod split;
 mod store;
+mod stored;
 
 #[allow(dead_code)]
 #[path = "../../peer/src/fields.rs"]

@@ -2,12 +2,14 @@
 
 use crate::page::{is_zero, set, u16_at, u32_at};
 use crate::records::Place;
-use crate::tree::{Kind, Node};
+use crate::rules::Named;
+use crate::tree::Kind;
 use std::iter::from_fn;
 
 const HEAD: usize = 16;
 const RUN: u8 = 6;
-const PROXY: usize = 8;
+/// The bytes of a proxy.
+pub const PROXY: usize = 8;
 /// A record with its proxies has at most so many bytes; else these stand in a list.
 const LONGEST: usize = 8_176;
 const MOST_SLOTS: u32 = 256;
@@ -15,10 +17,30 @@ const MOST_ROOTS: u16 = 256;
 const MOST_PROXIES: u32 = 524_288;
 
 /// A record, and how many trees it holds beside each other.
-#[derive(Clone, Copy)]
+#[derive(Clone, Copy, PartialEq)]
 pub struct Proxy {
     pub place: Place,
     pub roots: u16,
+}
+
+impl Proxy {
+    pub fn bytes(&self) -> [u8; PROXY] {
+        let mut bytes = [0; PROXY];
+        set(&mut bytes, 0, &self.place.page.to_be_bytes());
+        set(&mut bytes, 4, &self.place.slot.to_be_bytes());
+        set(&mut bytes, 6, &self.roots.to_be_bytes());
+        bytes
+    }
+
+    pub fn read(bytes: &[u8]) -> Proxy {
+        Proxy {
+            place: Place {
+                page: u32_at(bytes, 0),
+                slot: u16_at(bytes, 4),
+            },
+            roots: u16_at(bytes, 6),
+        }
+    }
 }
 
 /// A piece that grows in document order, as the bytes of its record.
@@ -38,10 +60,9 @@ impl Growing {
     }
 
     /// Adds a node, and answers where the number of its child items is to be put.
-    pub fn push_node(&mut self, node: &Node) -> usize {
+    pub fn push_node(&mut self, kind: Kind, name: &[u8], content: &[u8]) -> usize {
         let at = self.bytes.len();
-        let (name, content) = (&node.name, &node.content);
-        self.bytes.extend([code(node.kind), 0]);
+        self.bytes.extend([code(kind), 0]);
         self.bytes.extend((name.len() as u16).to_be_bytes());
         self.bytes.extend((content.len() as u16).to_be_bytes());
         self.bytes.extend([0, 0]);
@@ -63,13 +84,11 @@ impl Growing {
         self.bytes.len() - 8
     }
 
-    /// Adds a proxy to the run there, which is the last one.
-    pub fn push_proxy(&mut self, run: usize, proxy: Proxy) {
-        let count = u32_at(&self.bytes, run + 4) + 1;
+    /// Adds proxies to the run there, which is the last one.
+    pub fn push_proxies(&mut self, run: usize, proxies: &[u8]) {
+        let count = u32_at(&self.bytes, run + 4) + (proxies.len() / PROXY) as u32;
         set(&mut self.bytes, run + 4, &count.to_be_bytes());
-        self.proxies.extend(proxy.place.page.to_be_bytes());
-        self.proxies.extend(proxy.place.slot.to_be_bytes());
-        self.proxies.extend(proxy.roots.to_be_bytes());
+        self.proxies.extend_from_slice(proxies);
     }
 
     /// The proxies, where they have no room in the record.
@@ -133,6 +152,28 @@ pub enum What<'a> {
     Run(u32),
 }
 
+impl<'a> What<'a> {
+    pub fn is_node(&self) -> bool {
+        matches!(self, What::Node { .. })
+    }
+
+    /// The kind and the name of a node.
+    pub fn named(&self) -> Named<'a> {
+        match *self {
+            What::Node { kind, name, .. } => (kind, name),
+            What::Run(_) => unreachable!("a run has no name"),
+        }
+    }
+
+    /// In slots of 8 bytes; proxies weigh nothing.
+    pub fn weight(&self) -> u32 {
+        match self {
+            What::Node { name, content, .. } => 1 + (name.len() + content.len()).div_ceil(8) as u32,
+            What::Run(_) => 0,
+        }
+    }
+}
+
 #[derive(Clone, Copy)]
 pub struct Item<'a> {
     pub what: What<'a>,
@@ -148,7 +189,7 @@ pub struct Piece<'a> {
     pub roots: u16,
     /// What its nodes weigh.
     pub weight: u32,
-    proxies: &'a [u8],
+    pub proxies: &'a [u8],
     proxy_count: u32,
 }
 
@@ -260,14 +301,13 @@ impl<'a> Piece<'a> {
     }
 
     pub fn proxy(&self, index: u32) -> Proxy {
-        let proxy = &self.proxies[PROXY * index as usize..][..PROXY];
-        Proxy {
-            place: Place {
-                page: u32_at(proxy, 0),
-                slot: u16_at(proxy, 4),
-            },
-            roots: u16_at(proxy, 6),
-        }
+        Proxy::read(&self.proxies[PROXY * index as usize..][..PROXY])
+    }
+
+    /// How many proxies stand before this item, or in all where there is none.
+    pub fn proxies_before(&self, item: u32) -> u32 {
+        let item = self.items.get(item as usize);
+        item.map_or(self.proxy_count, |item| item.before)
     }
 
     /// The proxies of the run that is this item.

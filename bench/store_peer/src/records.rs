@@ -8,10 +8,17 @@ use crate::slots;
 use std::collections::BTreeMap;
 
 /// Where a record stands.
-#[derive(Clone, Copy)]
+#[derive(Clone, Copy, PartialEq)]
 pub struct Place {
     pub page: u32,
     pub slot: u16,
+}
+
+/// A byte list, and the chain pages on which it stands.
+#[derive(Default)]
+pub struct List {
+    pub bytes: Vec<u8>,
+    pages: Vec<u32>,
 }
 
 pub struct Records {
@@ -117,6 +124,34 @@ impl Records {
         Ok(slot.map(|slot| Place { page, slot }))
     }
 
+    /// The page of a record, which is there, as it waits for the next commit.
+    fn page_of(&mut self, place: Place) -> Result<&mut Page, Failure> {
+        if !self.waiting.contains_key(&place.page) {
+            let copy = *self.read(place.page)?;
+            if !slots::is_slotted(&copy) || slots::record(&copy, place.slot).is_none() {
+                return Err(Failure::Damaged(place.page));
+            }
+            *self.change(place.page) = copy;
+        }
+        Ok(self.change(place.page))
+    }
+
+    /// Puts a record in the place of another one, or elsewhere where it doesn't fit there.
+    pub fn replace(&mut self, place: Place, record: &[u8]) -> Result<Place, Failure> {
+        if slots::replace(self.page_of(place)?, place.slot, record) {
+            return Ok(place);
+        }
+        self.remove(place)?;
+        self.add(record)
+    }
+
+    pub fn remove(&mut self, place: Place) -> Result<(), Failure> {
+        if !slots::remove(self.page_of(place)?, place.slot) {
+            self.release(place.page);
+        }
+        Ok(())
+    }
+
     /// A page that was free: the first of the free list, else one that was never used.
     fn take(&mut self) -> Result<u32, Failure> {
         let page = self.head.free;
@@ -136,58 +171,80 @@ impl Records {
         let next = self.head.free;
         fill_free(self.change(page), next);
         self.head.free = page;
+        if self.head.room == page {
+            self.head.room = 0;
+        }
     }
 
-    /// Adds a byte list, from its last page on, and answers its first page.
+    /// Adds a byte list, and answers its first page.
     pub fn add_list(&mut self, bytes: &[u8]) -> Result<u32, Failure> {
+        self.change_list(&List::default(), bytes)
+    }
+
+    /// Puts bytes in the place of a list, from their last page on, and answers their first page. Only those of its
+    /// pages are written that change.
+    pub fn change_list(&mut self, old: &List, bytes: &[u8]) -> Result<u32, Failure> {
+        let count = bytes.len().div_ceil(CHAIN_BYTES);
+        let mut olds = old.bytes.chunks(CHAIN_BYTES);
+        let kept = Vec::from_iter(old.pages.iter().zip(&mut olds).take(count));
+        let mut behind = old.pages.get(count).copied().unwrap_or(0);
         let mut next = 0;
-        for content in bytes.chunks(CHAIN_BYTES).rev() {
-            let page = self.take()?;
-            fill_chain(self.change(page), next, content);
+        for (i, content) in bytes.chunks(CHAIN_BYTES).enumerate().rev() {
+            let page = match kept.get(i) {
+                Some(&(&page, was)) => {
+                    if (was, behind) != (content, next) {
+                        fill_chain(self.change(page), next, content);
+                    }
+                    behind = page;
+                    page
+                }
+                None => {
+                    let page = self.take()?;
+                    fill_chain(self.change(page), next, content);
+                    page
+                }
+            };
             next = page;
+        }
+        for &page in old.pages.iter().skip(count) {
+            self.release(page);
         }
         Ok(next)
     }
 
-    /// The bytes of the list at a page, which are so many.
-    pub fn list(&mut self, first: u32, length: u64) -> Result<Vec<u8>, Failure> {
+    pub fn remove_list(&mut self, list: &List) {
+        for &page in &list.pages {
+            self.release(page);
+        }
+    }
+
+    /// The list at a page, which has so many bytes.
+    pub fn list(&mut self, first: u32, length: u64) -> Result<List, Failure> {
         if length > u64::from(self.head.pages) * CHAIN_BYTES as u64 {
             return Err(Failure::Damaged(first));
         }
-        let mut bytes = Vec::with_capacity(length as usize);
+        let mut list = List::default();
+        list.bytes.reserve_exact(length as usize);
         let mut page = first;
-        while page != 0 && (bytes.len() as u64) < length {
+        while page != 0 && (list.bytes.len() as u64) < length {
             let (next, content) = chain_link(self.read(page)?).ok_or(Failure::Damaged(page))?;
-            bytes.extend_from_slice(content);
+            list.bytes.extend_from_slice(content);
+            list.pages.push(page);
             page = next;
         }
-        if page != 0 || bytes.len() as u64 != length {
+        if page != 0 || list.bytes.len() as u64 != length {
             return Err(Failure::Damaged(first));
         }
-        Ok(bytes)
+        Ok(list)
     }
 
-    fn give_back_list(&mut self, first: u32, length: u64) -> Result<(), Failure> {
-        let (mut page, mut left) = (first, length);
-        while page != 0 && left > 0 {
-            let (next, content) = chain_link(self.read(page)?).ok_or(Failure::Damaged(page))?;
-            left = left.saturating_sub(content.len() as u64);
-            self.release(page);
-            page = next;
-        }
-        if page != 0 || left != 0 {
-            return Err(Failure::Damaged(first));
-        }
-        Ok(())
-    }
-
-    pub fn catalog(&mut self) -> Result<Vec<u8>, Failure> {
+    pub fn catalog(&mut self) -> Result<List, Failure> {
         self.list(self.head.catalog, self.head.catalog_length)
     }
 
     pub fn set_catalog(&mut self, bytes: &[u8]) -> Result<(), Failure> {
-        self.give_back_list(self.head.catalog, self.head.catalog_length)?;
-        self.head.catalog = self.add_list(bytes)?;
+        let old = self.catalog()?;
+        self.head.catalog = self.change_list(&old, bytes)?;
         self.head.catalog_length = bytes.len() as u64;
         Ok(())
     }

@@ -2,8 +2,10 @@
 
 use crate::Failure;
 use crate::catalog::Entry;
+use crate::editing::Change;
 use crate::fields::{field, path_of};
-use crate::pyx::{CONTENT_LIMIT, Reader, Refusal};
+use crate::pyx::{self, CONTENT_LIMIT, Reader, Refusal};
+use crate::rules::Asked;
 use crate::showing;
 use crate::store::Store;
 use std::io::{BufRead, ErrorKind, Read, Write};
@@ -13,6 +15,8 @@ pub const BLOCK: usize = 65_536;
 const INPUT_LIMIT: u64 = 4_294_967_296;
 /// The bytes of a line that is part of no document.
 const LINE_LIMIT: usize = 4_194_304;
+/// The bytes of a label in a rule.
+const LABEL_LIMIT: usize = 1_024;
 
 /// A document whose lines come.
 struct Load {
@@ -160,14 +164,18 @@ impl<W: Write> Session<W> {
         }
         match line {
             b"names" => return self.names(),
+            b"rules" => return self.rules(),
             b"checkpoint" => return self.checkpoint(),
             _ => {}
         }
         match field(line) {
-            Some((b"get", rest)) => self.get(rest),
-            Some((word @ (b"export" | b"layout"), name)) if is_name(name) => {
+            Some((b"rule", rest)) => self.rule(rest),
+            Some((word @ (b"get" | b"insert" | b"delete" | b"retext"), rest)) => {
+                self.at_place(word, rest)
+            }
+            Some((word @ (b"drop" | b"export" | b"layout"), name)) if is_name(name) => {
                 match self.store.entry(name) {
-                    Some(entry) => self.show(word, entry),
+                    Some(entry) => self.whole(word, name, entry),
                     None => Ok(Err("no-document")),
                 }
             }
@@ -185,6 +193,46 @@ impl<W: Write> Session<W> {
         Ok(Ok(()))
     }
 
+    fn rules(&mut self) -> Reply {
+        for (parent, child, asked) in self.store.catalog.rules.iter() {
+            for part in [
+                b"rule ",
+                parent,
+                b" ",
+                child,
+                b" ",
+                asked.word().as_bytes(),
+                b"\n",
+            ] {
+                self.replies.extend_from_slice(part);
+            }
+        }
+        self.replies.extend_from_slice(b".\n");
+        Ok(Ok(()))
+    }
+
+    fn rule(&mut self, rest: &[u8]) -> Reply {
+        let Some((parent, child, word)) = three(rest) else {
+            return Ok(Err("syntax"));
+        };
+        let labels = is_parent(parent) && is_child(child);
+        let Some(asked) = Asked::named(word).filter(|_| labels) else {
+            return Ok(Err("syntax"));
+        };
+        self.give()?;
+        let done = self.store.set_rule(parent, child, asked)?;
+        self.done(done)
+    }
+
+    /// What a command that changes the store is answered.
+    fn done(&mut self, done: Result<(), String>) -> Reply {
+        match done {
+            Ok(()) => self.replies.extend_from_slice(b"ok\n"),
+            Err(refusal) => self.error(&refusal),
+        }
+        Ok(Ok(()))
+    }
+
     fn checkpoint(&mut self) -> Reply {
         self.give()?;
         self.store.records.checkpoint()?;
@@ -192,8 +240,13 @@ impl<W: Write> Session<W> {
         Ok(Ok(()))
     }
 
-    /// Adds a whole document to the replies, its text or its intervals.
-    fn show(&mut self, word: &[u8], entry: Entry) -> Reply {
+    /// Takes a document away, or adds it to the replies, its text or its intervals.
+    fn whole(&mut self, word: &[u8], name: &[u8], entry: Entry) -> Reply {
+        if word == b"drop" {
+            self.give()?;
+            let done = self.store.discard(name, entry)?;
+            return self.done(done);
+        }
         let (records, replies) = (&mut self.store.records, &mut self.replies);
         match word {
             b"export" => showing::export(records, entry, replies, &mut self.out)?,
@@ -203,22 +256,75 @@ impl<W: Write> Session<W> {
         Ok(Ok(()))
     }
 
-    fn get(&mut self, rest: &[u8]) -> Reply {
-        let words = field(rest).filter(|(name, _)| is_name(name));
-        let Some((name, Some(path))) = words.map(|(name, path)| (name, path_of(path))) else {
+    fn at_place(&mut self, word: &[u8], rest: &[u8]) -> Reply {
+        let Some((name, rest)) = field(rest) else {
+            return Ok(Err("syntax"));
+        };
+        let (path, last) = match field(rest) {
+            Some((path, last)) => (path, Some(last)),
+            None => (rest, None),
+        };
+        let whole = match word {
+            b"insert" => last.is_some(),
+            b"retext" => true,
+            _ => last.is_none(),
+        };
+        let Some(path) = path_of(path).filter(|_| whole && is_name(name)) else {
             return Ok(Err("syntax"));
         };
         let Some(entry) = self.store.entry(name) else {
             return Ok(Err("no-document"));
         };
-        let found = showing::get(
-            &mut self.store.records,
-            entry.root,
-            &path,
-            &mut self.replies,
-        )?;
+        match word {
+            b"get" => self.get(entry, &path),
+            b"delete" => self.edit(name, entry, &path, &Change::Goes),
+            b"retext" => {
+                let content = pyx::unescape(last.unwrap_or(b""));
+                self.edit(name, entry, &path, &Change::Content(&content))
+            }
+            _ => match pyx::line_node(last.unwrap_or(b"")) {
+                Ok(node) => self.edit(name, entry, &path, &Change::Comes(&node)),
+                Err(fault) => {
+                    self.error(&format!("pyx 1 {}", fault.word()));
+                    Ok(Ok(()))
+                }
+            },
+        }
+    }
+
+    fn edit(&mut self, name: &[u8], entry: Entry, path: &[u32], change: &Change) -> Reply {
+        // Earlier replies are out before a commit begins.
+        self.give()?;
+        let done = self.store.edit(name, entry, path, change)?;
+        self.done(done)
+    }
+
+    fn get(&mut self, entry: Entry, path: &[u32]) -> Reply {
+        let (records, replies) = (&mut self.store.records, &mut self.replies);
+        let found = showing::get(records, entry.root, path, replies)?;
         Ok(if found { Ok(()) } else { Err("no-node") })
     }
+}
+
+/// Three fields, the last of which goes to the end.
+fn three(rest: &[u8]) -> Option<(&[u8], &[u8], &[u8])> {
+    let (one, rest) = field(rest)?;
+    let (two, three) = field(rest)?;
+    Some((one, two, three))
+}
+
+fn is_parent(label: &[u8]) -> bool {
+    label == b"#doc" || is_label(label)
+}
+
+fn is_child(label: &[u8]) -> bool {
+    let unmarked = label.strip_prefix(b"@").or(label.strip_prefix(b"?"));
+    label == b"#text" || (is_label(unmarked.unwrap_or(label)) && label.len() <= LABEL_LIMIT)
+}
+
+/// Whether this is a node's name that may stand in a rule.
+fn is_label(label: &[u8]) -> bool {
+    label.len() <= LABEL_LIMIT && pyx::check_name(label).is_ok()
 }
 
 fn is_name(name: &[u8]) -> bool {

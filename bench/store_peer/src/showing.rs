@@ -3,77 +3,16 @@
 use crate::Failure;
 use crate::catalog::Entry;
 use crate::fields::write_path;
-use crate::piece::{Item, Piece, Proxy, What, list_of};
+use crate::piece::{Item, Piece, Proxy, What};
 use crate::pyx::write_parts;
 use crate::records::{Place, Records};
 use crate::script::BLOCK;
+use crate::stored::{Child, Stored, root_of, way};
 use crate::tree::Kind;
 use std::io::{self, Write};
 
 /// The levels of a document.
 const LEVELS: u32 = 257;
-
-/// The bytes of a record that holds a piece, and those of the list of its proxies.
-struct Stored {
-    proxy: Proxy,
-    record: Vec<u8>,
-    list: Vec<u8>,
-}
-
-impl Stored {
-    fn read(records: &mut Records, proxy: Proxy) -> Result<Stored, Failure> {
-        let record = records.record(proxy.place)?.to_vec();
-        let list = match list_of(&record) {
-            Some((first, length)) => records.list(first, length)?,
-            None => Vec::new(),
-        };
-        Ok(Stored {
-            proxy,
-            record,
-            list,
-        })
-    }
-
-    fn piece(&self) -> Result<Piece<'_>, Failure> {
-        let piece = Piece::read(&self.record, &self.list);
-        let piece = piece.filter(|piece| piece.roots == self.proxy.roots);
-        piece.ok_or(Failure::Damaged(self.proxy.place.page))
-    }
-}
-
-fn root_of(place: Place) -> Proxy {
-    Proxy { place, roots: 1 }
-}
-
-/// Where a position among the children of a node leads.
-enum Found {
-    Item(u32),
-    /// To one of the trees of another record.
-    Away(Proxy, u32),
-    Nowhere,
-}
-
-/// The child at a position among the items from one to an end.
-fn child_at(piece: &Piece, first: u32, end: u32, position: u32) -> Found {
-    let mut left = position;
-    for index in piece.beside(first, end) {
-        let item = &piece.items[index as usize];
-        match item.what {
-            What::Node { .. } if left == 0 => return Found::Item(index),
-            What::Node { .. } => left -= 1,
-            What::Run(count) => {
-                for proxy in piece.proxies(item, count) {
-                    let roots = u32::from(proxy.roots);
-                    if left < roots {
-                        return Found::Away(proxy, left);
-                    }
-                    left -= roots;
-                }
-            }
-        }
-    }
-    Found::Nowhere
-}
 
 fn count_children(piece: &Piece, index: u32) -> u32 {
     let below = piece.beside(index + 1, piece.items[index as usize].end);
@@ -98,20 +37,16 @@ pub fn get(
     loop {
         let stored = Stored::read(records, proxy)?;
         let piece = stored.piece()?;
-        let mut found = child_at(&piece, 0, piece.items.len() as u32, member);
-        while let Found::Item(index) = found
-            && let Some((&position, behind)) = rest.split_first()
-        {
-            found = child_at(&piece, index + 1, piece.items[index as usize].end, position);
-            rest = behind;
-        }
-        match found {
-            Found::Item(index) => {
+        let way = way(&piece, member, rest);
+        match way.child {
+            Child::Here(index) => {
                 write_shown(&piece, index, out).expect("memory");
                 return Ok(true);
             }
-            Found::Away(away, root) => (proxy, member) = (away, root),
-            Found::Nowhere => return Ok(false),
+            Child::Away(away) => {
+                (proxy, member, rest) = (piece.proxy(away.index), away.member, way.rest);
+            }
+            Child::Nowhere => return Ok(false),
         }
     }
 }

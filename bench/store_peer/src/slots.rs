@@ -78,14 +78,16 @@ pub fn put(page: &mut Page, record: &[u8]) -> Option<u16> {
     if 8 + 4 * count + taken + record.len() > PAGE {
         return None;
     }
-    let mut low = ranges
+    let low = ranges
         .filter(|&(_, length)| length > 0)
         .map(|(at, _)| at)
         .min();
-    if low.unwrap_or(PAGE) < 8 + 4 * count + record.len() {
-        low = Some(pack(page));
+    let low = low.unwrap_or(PAGE);
+    if slot < old || low < 8 + 4 * count + record.len() {
+        pack(page, slot, record, count);
+        return Some(slot as u16);
     }
-    let at = low.unwrap_or(PAGE) - record.len();
+    let at = low - record.len();
     set(page, at, record);
     set(page, 2, &(count as u16).to_be_bytes());
     set(page, 8 + 4 * slot, &(at as u16).to_be_bytes());
@@ -93,17 +95,50 @@ pub fn put(page: &mut Page, record: &[u8]) -> Option<u16> {
     Some(slot as u16)
 }
 
-/// Moves the records to the end of the page, and answers where the first of them stands.
-fn pack(page: &mut Page) -> usize {
+/// Puts a record in the place of another one, and answers whether it fits.
+pub fn replace(page: &mut Page, slot: u16, record: &[u8]) -> bool {
+    let slot = usize::from(slot);
+    let (at, length) = range(page, slot);
+    if record.len() <= length {
+        set(page, at, record);
+        set(page, 10 + 4 * slot, &(record.len() as u16).to_be_bytes());
+        return true;
+    }
+    let count = count(page);
+    let taken: usize = (0..count).map(|slot| range(page, slot).1).sum();
+    let fits = 8 + 4 * count + taken - length + record.len() <= PAGE;
+    if fits {
+        pack(page, slot, record, count);
+    }
+    fits
+}
+
+/// Takes a record out, with the empty slots at the end, and answers whether the page has another one.
+pub fn remove(page: &mut Page, slot: u16) -> bool {
+    set(page, 8 + 4 * usize::from(slot), &[0; 4]);
+    let last = (0..count(page)).rfind(|&slot| range(page, slot).1 > 0);
+    let count = last.map_or(0, |last| last + 1);
+    set(page, 2, &(count as u16).to_be_bytes());
+    count > 0
+}
+
+/// Lays the records anew, each before the last one, with this one in its slot.
+fn pack(page: &mut Page, slot: usize, record: &[u8], count: usize) {
     let old = *page;
+    clear(page);
+    set(page, 2, &(count as u16).to_be_bytes());
     let mut end = PAGE;
-    for slot in 0..count(&old) {
-        let (at, length) = range(&old, slot);
-        if length > 0 {
-            end -= length;
-            set(page, end, &old[at..at + length]);
-            set(page, 8 + 4 * slot, &(end as u16).to_be_bytes());
+    for i in 0..count {
+        let kept = || {
+            let (at, length) = range(&old, i);
+            &old[at..at + length]
+        };
+        let bytes = if i == slot { record } else { kept() };
+        if !bytes.is_empty() {
+            end -= bytes.len();
+            set(page, end, bytes);
+            set(page, 8 + 4 * i, &(end as u16).to_be_bytes());
+            set(page, 10 + 4 * i, &(bytes.len() as u16).to_be_bytes());
         }
     }
-    end
 }

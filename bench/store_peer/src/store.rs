@@ -3,12 +3,14 @@
 use crate::Failure;
 use crate::building;
 use crate::catalog::{Catalog, Entry};
+use crate::editing::{Change, Stop, edit, remove_document};
 use crate::partition;
 use crate::records::Records;
+use crate::rules::Asked;
 use crate::shape::Shape;
 use crate::tree::Tree;
 
-/// A load begins with a checkpoint where the log has more bytes.
+/// A command that changes the store begins with a checkpoint where the log has more bytes.
 const LONG_LOG: u64 = 67_108_864;
 
 pub struct Store {
@@ -26,14 +28,14 @@ impl Store {
     pub fn create(name: &str, k: u16) -> Result<Store, Failure> {
         Ok(Store {
             records: Records::create(name, k)?,
-            catalog: Catalog::new(),
+            catalog: Catalog::default(),
         })
     }
 
     pub fn open(name: &str) -> Result<Store, Failure> {
         let mut records = Records::open(name)?;
-        let bytes = records.catalog()?;
-        let catalog = Catalog::read(&bytes).ok_or(Failure::Damaged(0))?;
+        let catalog = records.catalog()?;
+        let catalog = Catalog::read(&catalog.bytes).ok_or(Failure::Damaged(0))?;
         Ok(Store { records, catalog })
     }
 
@@ -47,9 +49,7 @@ impl Store {
         name: &[u8],
         document: &Tree,
     ) -> Result<Result<Loaded, String>, Failure> {
-        if self.records.log_length() > LONG_LOG {
-            self.records.checkpoint()?;
-        }
+        self.shorten_log()?;
         let shape = Shape::new(document);
         let cuts = match partition::lean(&shape, self.records.head.k.into()) {
             Ok(lean) => lean.cuts,
@@ -57,24 +57,94 @@ impl Store {
         };
         let put = building::store(&mut self.records, document, &shape, &cuts).and_then(|root| {
             let nodes = shape.count() as u32;
-            self.catalog
-                .documents
-                .insert(name.to_vec(), Entry { root, nodes });
+            let entry = Entry { root, nodes };
+            self.catalog.documents.insert(name.to_vec(), entry);
             self.records.set_catalog(&self.catalog.bytes())
         });
-        match put {
-            Ok(()) => self.records.commit()?,
-            Err(Failure::Full) => {
-                self.catalog.documents.remove(name);
-                self.records.abandon();
-                return Ok(Err("full".to_string()));
-            }
-            Err(failure) => return Err(failure),
+        if let Err(refusal) = self.end(put.map_err(Stop::from))? {
+            self.catalog.documents.remove(name);
+            return Ok(Err(refusal));
         }
         let starts = cuts.iter().filter(|&&cut| cut == partition::Cut::First);
         Ok(Ok(Loaded {
             nodes: shape.count(),
             intervals: 1 + starts.count(),
         }))
+    }
+
+    fn shorten_log(&mut self) -> Result<(), Failure> {
+        if self.records.log_length() > LONG_LOG {
+            self.records.checkpoint()?;
+        }
+        Ok(())
+    }
+
+    /// Commits what was made, or drops it and says why it is refused.
+    fn end(&mut self, made: Result<(), Stop>) -> Result<Result<(), String>, Failure> {
+        let refusal = match made {
+            Ok(()) => {
+                self.records.commit()?;
+                return Ok(Ok(()));
+            }
+            Err(Stop::Refused(refusal)) => refusal,
+            Err(Stop::Failure(Failure::Full)) => "full".to_string(),
+            Err(Stop::Failure(failure)) => return Err(failure),
+        };
+        self.records.abandon();
+        Ok(Err(refusal))
+    }
+
+    /// Edits the document of that name and entry, by one commit, or says why that is refused.
+    pub fn edit(
+        &mut self,
+        name: &[u8],
+        entry: Entry,
+        path: &[u32],
+        change: &Change,
+    ) -> Result<Result<(), String>, Failure> {
+        self.shorten_log()?;
+        let rules = &self.catalog.rules;
+        let made = edit(&mut self.records, rules, entry, path, change).and_then(|new| {
+            if new != entry {
+                self.catalog.documents.insert(name.to_vec(), new);
+                self.records.set_catalog(&self.catalog.bytes())?;
+            }
+            Ok(())
+        });
+        let ended = self.end(made)?;
+        if ended.is_err() {
+            self.catalog.documents.insert(name.to_vec(), entry);
+        }
+        Ok(ended)
+    }
+
+    /// Takes the document of that name and entry away, by one commit.
+    pub fn discard(&mut self, name: &[u8], entry: Entry) -> Result<Result<(), String>, Failure> {
+        self.shorten_log()?;
+        let rules = &self.catalog.rules;
+        let made = remove_document(&mut self.records, rules, entry).and_then(|()| {
+            self.catalog.documents.remove(name);
+            self.records.set_catalog(&self.catalog.bytes())
+        });
+        self.end(made.map_err(Stop::from))
+    }
+
+    /// Makes a rule, by one commit.
+    pub fn set_rule(
+        &mut self,
+        parent: &[u8],
+        child: &[u8],
+        asked: Asked,
+    ) -> Result<Result<(), String>, Failure> {
+        self.shorten_log()?;
+        let Some(before) = self.catalog.rules.set(parent, child, asked) else {
+            return Ok(Err("too-many-rules".to_string()));
+        };
+        let made = self.records.set_catalog(&self.catalog.bytes());
+        let ended = self.end(made.map_err(Stop::from))?;
+        if ended.is_err() {
+            self.catalog.rules.set(parent, child, before);
+        }
+        Ok(ended)
     }
 }

@@ -1,0 +1,186 @@
+//! A piece that is changed: its items in document order with their depths, and its proxies.
+
+use crate::piece::{Growing, PROXY, Piece, Proxy, What};
+
+#[derive(Clone, Copy)]
+pub struct Line<'a> {
+    /// 0 for a root. A node's children have one more.
+    pub depth: usize,
+    pub what: What<'a>,
+}
+
+pub struct Draft<'a> {
+    pub lines: Vec<Line<'a>>,
+    pub proxies: Vec<u8>,
+}
+
+impl<'a> Draft<'a> {
+    pub fn new(piece: &Piece<'a>) -> Draft<'a> {
+        let mut lines = Vec::with_capacity(piece.items.len() + 2);
+        let mut open = Vec::new();
+        for item in &piece.items {
+            while open.last().is_some_and(|&end| end as usize <= lines.len()) {
+                open.pop();
+            }
+            lines.push(Line {
+                depth: open.len(),
+                what: item.what,
+            });
+            open.push(item.end);
+        }
+        Draft {
+            lines,
+            proxies: piece.proxies.to_vec(),
+        }
+    }
+
+    pub fn weight(&self) -> u32 {
+        self.lines.iter().map(|line| line.what.weight()).sum()
+    }
+
+    /// Puts proxies in the place of one, which is the one with this index and stands in the run that is this item.
+    pub fn replace_proxy(&mut self, run: u32, index: u32, row: &[Proxy]) {
+        let at = PROXY * index as usize;
+        let bytes = row.iter().flat_map(Proxy::bytes);
+        self.proxies.splice(at..at + PROXY, bytes);
+        if let What::Run(count) = &mut self.lines[run as usize].what {
+            *count = *count + row.len() as u32 - 1;
+        }
+    }
+
+    /// Puts a line before an item, or behind so many of its proxies where it is a run.
+    pub fn plant(&mut self, item: u32, taken: u32, line: Line<'a>) {
+        let mut at = item as usize;
+        if taken > 0
+            && let Some(run) = self.lines.get(at).copied()
+            && let What::Run(count) = run.what
+        {
+            let part = |count| Line {
+                what: What::Run(count),
+                ..run
+            };
+            self.lines[at] = part(taken);
+            at += 1;
+            self.lines.insert(at, part(count - taken));
+        }
+        self.lines.insert(at, line);
+    }
+
+    /// Puts a proxy before the one with this index.
+    pub fn insert_proxy(&mut self, index: u32, proxy: Proxy) {
+        let at = PROXY * index as usize;
+        self.proxies.splice(at..at, proxy.bytes());
+    }
+
+    /// The lines from one up to an end with these proxies, as a draft of its own.
+    pub fn part(&self, lines: (u32, u32), proxies: (u32, u32)) -> Draft<'a> {
+        let bytes = PROXY * proxies.0 as usize..PROXY * proxies.1 as usize;
+        Draft {
+            lines: self.lines[lines.0 as usize..lines.1 as usize].to_vec(),
+            proxies: self.proxies[bytes].to_vec(),
+        }
+    }
+
+    /// Takes the lines from one up to an end out, with these proxies.
+    pub fn cut(&mut self, lines: (u32, u32), proxies: (u32, u32)) {
+        self.lines.drain(lines.0 as usize..lines.1 as usize);
+        let bytes = PROXY * proxies.0 as usize..PROXY * proxies.1 as usize;
+        self.proxies.drain(bytes);
+    }
+
+    pub fn write(&self, writer: &mut Writer) {
+        let mut proxies = self.proxies.as_slice();
+        for line in &self.lines {
+            match line.what {
+                What::Node { .. } => writer.node(line.depth, line.what),
+                What::Run(count) => {
+                    let (run, rest) = proxies.split_at(PROXY * count as usize);
+                    writer.run(line.depth, run);
+                    proxies = rest;
+                }
+            }
+        }
+        writer.finish();
+    }
+}
+
+/// A node to which children come.
+struct Open {
+    /// Where the number of its child items is to be put.
+    at: usize,
+    items: u16,
+    /// Its last child item, where that is a run.
+    run: Option<usize>,
+}
+
+/// Makes a piece of lines. Runs beside each other become one, and those without proxies go.
+pub struct Writer {
+    pub piece: Growing,
+    pub roots: u16,
+    open: Vec<Open>,
+}
+
+impl Writer {
+    pub fn new() -> Writer {
+        Writer {
+            piece: Growing::new(),
+            roots: 0,
+            open: Vec::new(),
+        }
+    }
+
+    pub fn node(&mut self, depth: usize, what: What) {
+        let What::Node {
+            kind,
+            name,
+            content,
+        } = what
+        else {
+            return;
+        };
+        self.close(depth);
+        match self.open.last_mut() {
+            Some(parent) => {
+                parent.items += 1;
+                parent.run = None;
+            }
+            None => self.roots += 1,
+        }
+        let at = self.piece.push_node(kind, name, content);
+        self.open.push(Open {
+            at,
+            items: 0,
+            run: None,
+        });
+    }
+
+    pub fn run(&mut self, depth: usize, proxies: &[u8]) {
+        self.close(depth);
+        let Some(parent) = self.open.last_mut().filter(|_| !proxies.is_empty()) else {
+            return;
+        };
+        let run = *parent.run.get_or_insert_with(|| {
+            parent.items += 1;
+            self.piece.push_run()
+        });
+        self.piece.push_proxies(run, proxies);
+    }
+
+    /// Closes the nodes that no line of this depth stands below.
+    fn close(&mut self, depth: usize) {
+        for node in self.open.drain(depth..) {
+            self.piece.set_items(node.at, node.items);
+        }
+    }
+
+    /// Nothing more comes.
+    pub fn finish(&mut self) {
+        self.close(0);
+    }
+
+    pub fn clear(&mut self) {
+        self.piece.clear();
+        self.roots = 0;
+        self.open.clear();
+    }
+}
