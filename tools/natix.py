@@ -17,6 +17,15 @@ A store is two files, and `natix STORE run` alone opens them; one process has a 
 changes the store has answered is there, whatever crash comes.** A path is a tuple of positions: `(0, 2)` is the third
 child of the root's first child, and `()` the document's root.
 
+A document is edited where it lies:
+
+    >>> with natix.Store.open(shelf) as store:
+    ...     store.retext("shop", (0, 1, 0), "black tea")
+    ...     store.insert("shop", (0, 2), natix.Node.element("shelf"))
+    ...     store.delete("shop", (0, 0))
+    ...     store.export("shop")
+    '<shop><item>black tea</item><shelf/></shop>\\n'
+
 A command that is refused changes nothing and raises `Refused`, with the word and the place:
 
     >>> with natix.Store.open(shelf) as store:
@@ -30,7 +39,7 @@ which commands it had answered. Many commands go faster together, by `Store.ask_
     >>> with natix.Store.open(shelf) as store:
     ...     answers = store.ask_all([natix.get("shop", (0, at)) for at in range(3)])
     >>> [answer.name for answer in answers[:2]], answers[2]
-    (['lang', 'item'], Refused('no-node'))
+    (['item', 'shelf'], Refused('no-node'))
 
 The program `natix` is the one that `$NATIX` names, or that of this repository, or the one on the PATH; `xmlpyx`, which
 makes PYX of XML, stands beside this module, or `$XMLPYX` names it. No store is for two threads at once.
@@ -38,6 +47,7 @@ makes PYX of XML, stands beside this module, or `$XMLPYX` names it. No store is 
 
 from __future__ import annotations
 
+import contextlib
 import os
 import re
 import select
@@ -47,12 +57,11 @@ import subprocess
 import sys
 import tempfile
 import xml.etree.ElementTree as tree
-from pathlib import Path as File
-from typing import (Any, BinaryIO, Callable, Dict, Generic, Iterable, List, NamedTuple, Optional, Sequence, Tuple, Type, TypeVar,
+from typing import (Any, BinaryIO, Callable, Dict, Generic, Iterable, Iterator, List, NamedTuple, Optional, Sequence, Tuple, Type, TypeVar,
                     Union, cast, overload)
 
 __all__ = ["Bound", "Command", "Ended", "Error", "Interval", "Loaded", "Node", "NotXml", "Plan", "Pyx", "Refused", "Store", "checkpoint", "delete",
-           "drop", "export", "get", "insert", "layout", "load", "names", "plan", "pyx", "retext", "rule", "rules", "tidy", "verify"]
+           "drop", "export", "get", "insert", "layout", "load", "names", "new_file", "plan", "pyx", "retext", "rule", "rules", "tidy", "verify"]
 
 HERE = os.path.dirname(os.path.abspath(__file__))
 BLOCK = 65536
@@ -109,6 +118,17 @@ class Node(NamedTuple):
     @classmethod
     def instruction(cls, name: str, content: str = "") -> Node:
         return cls("instruction", name, content)
+
+    @classmethod
+    def read(cls, line: str) -> Node:
+        """The node of a line of PYX that isn't an end.
+
+        >>> Node.read("Aname tea\\\\tcup")
+        Node(kind='attribute', name='name', content='tea\\tcup', children=0)
+        """
+        if line[:1] not in _KINDS:
+            raise ValueError(f"{line!r} is no line of PYX that says a node")
+        return _line_node(_bytes(line), 0)
 
 
 class Interval(NamedTuple):
@@ -254,13 +274,17 @@ def _node_line(node: Node) -> bytes:
 
 def _read_node(reply: List[bytes]) -> Node:
     _, children, line = reply[0].split(b" ", 2)
+    return _line_node(line, int(children))
+
+
+def _line_node(line: bytes, children: int) -> Node:
     kind = _KINDS.get(_text(line[:1]))
     if kind is None:
-        return Node("document", "", "", int(children))
+        return Node("document", "", "", children)
     if kind == "text":
-        return Node(kind, "", _content(line[1:]), int(children))
+        return Node(kind, "", _content(line[1:]), children)
     name, _, content = line[1:].partition(b" ")
-    return Node(kind, _text(name), _content(content), int(children))
+    return Node(kind, _text(name), _content(content), children)
 
 
 def _read_interval(line: bytes) -> Interval:
@@ -388,12 +412,17 @@ def _convert(direction: str, source: Union[bytes, BinaryIO]) -> bytes:
         done = subprocess.run(words, input=source, stdout=subprocess.PIPE, stderr=subprocess.PIPE)
     else:
         done = subprocess.run(words, stdin=source, stdout=subprocess.PIPE, stderr=subprocess.PIPE)
-    if done.returncode:
-        said = done.stderr.decode("utf-8", "replace").strip()
-        if said.startswith("xmlpyx: "):
-            said = said[8:]
-        raise NotXml(said) if done.returncode == 2 else Error(f"xmlpyx ended with {done.returncode}: {said}")
+    _check_xmlpyx(done.returncode, done.stderr)
     return done.stdout
+
+
+def _check_xmlpyx(status: int, said: bytes) -> None:
+    """Raises what xmlpyx said where it didn't end well."""
+    if status:
+        why = said.decode("utf-8", "replace").strip()
+        if why.startswith("xmlpyx: "):
+            why = why[8:]
+        raise NotXml(why) if status == 2 else Error(f"xmlpyx ended with {status}: {why}")
 
 
 Source = Union[str, bytes, Pyx, "os.PathLike[str]", BinaryIO, tree.Element, "tree.ElementTree"]
@@ -493,7 +522,8 @@ class Store:
         self.path = _store_word(path)
         self._answered = 0  # in the whole session
         self._rest = b""  # what came of a line of a reply
-        self._process = subprocess.Popen([_find_natix(program), self.path, "run"], stdin=subprocess.PIPE, stdout=subprocess.PIPE, stderr=subprocess.PIPE, bufsize=0)
+        self._process = subprocess.Popen([_find_natix(program), self.path, "run"], stdin=subprocess.PIPE, stdout=subprocess.PIPE, stderr=subprocess.PIPE, bufsize=0,
+                                         start_new_session=True)  # Ctrl-C is for this program to take
         for pipe in (self._process.stdin, self._process.stdout):
             os.set_blocking(cast(BinaryIO, pipe).fileno(), False)
         self.ask_all([Command(b"", _nothing)])  # answered as a line that is no command once the store is open
@@ -518,21 +548,6 @@ class Store:
     def open(cls, path: Union[str, "os.PathLike[str]"], program: Optional[str] = None) -> Store:
         """Opens a store, or raises `Ended` where it is none, or another process has it."""
         return cls(path, program)
-
-    @classmethod
-    def memory(cls, program: Optional[str] = None) -> Store:
-        """Documents in memory, for as long as it is open. They can be edited.
-
-        >>> with Store.memory() as store:
-        ...     store.load("tea", "<shop><item>tea</item></shop>")
-        ...     store.retext("tea", (0, 0, 0), "black tea")
-        ...     store.insert("tea", (0, 1), Node.element("shelf"))
-        ...     store.delete("tea", (0, 0, 0))
-        ...     store.export("tea")
-        Loaded(nodes=4, intervals=0)
-        '<shop><item/><shelf/></shop>\\n'
-        """
-        return cls("_", program)
 
     def __enter__(self) -> Store:
         return self
@@ -671,7 +686,8 @@ class Store:
             return tree.ElementTree(tree.fromstring(xml))
         if to is tree.Element:
             return tree.fromstring(xml)
-        _write_file(File(to), xml)
+        with new_file(to) as file:
+            file.write(xml)
         return None
 
     def drop(self, name: str) -> None:
@@ -725,16 +741,33 @@ class Store:
 
 def _store_word(path: Union[str, "os.PathLike[str]"]) -> str:
     word = os.fspath(path)
-    return word if isinstance(path, str) and word == "_" else os.path.join(".", word) if word.startswith("-") or word == "_" else word
+    return os.path.join(".", word) if word.startswith("-") or word == "_" else word
 
 
-def _write_file(path: File, data: bytes) -> None:
-    """Puts a file there, whole or not at all."""
-    handle, name = tempfile.mkstemp(dir=path.parent or ".", prefix=path.name)
+@contextlib.contextmanager
+def new_file(path: Union[str, "os.PathLike[str]"]) -> Iterator[BinaryIO]:
+    """An open file that is put there once the block ends well, whole, with the rights of the one before it; else nothing is
+    changed. What is no ordinary file, as a terminal, is written at once."""
+    path = os.path.realpath(path)
+    if os.path.exists(path) and not os.path.isfile(path):
+        with open(path, "wb") as file:
+            yield cast(BinaryIO, file)
+        return
+    handle, name = tempfile.mkstemp(dir=os.path.dirname(path), prefix=os.path.basename(path)[:100])
     try:
         with os.fdopen(handle, "wb") as file:
-            file.write(data)
+            yield cast(BinaryIO, file)
+            file.flush()
+            os.fchmod(file.fileno(), os.stat(path).st_mode & 0o777 if os.path.exists(path) else 0o666 & ~_mask())
+            os.fsync(file.fileno())
         os.replace(name, path)
     except BaseException:
         os.unlink(name)
         raise
+
+
+def _mask() -> int:
+    """The rights that new files don't have."""
+    mask = os.umask(0o077)
+    os.umask(mask)
+    return mask

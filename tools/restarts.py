@@ -9,7 +9,7 @@ from collections import Counter
 
 import crashes
 import sessions
-from sessions import READER, Wrong, ask, load, look, replies_of, script
+from sessions import READER, Document, Wrong, ask, load, look, replies_of, script
 
 # Of how many images the program itself is asked for one.
 SOME = 400
@@ -67,7 +67,7 @@ def states_of(begun, commands, last, gone={}):
     states, known = [begun], gone | last
     for words, document in commands:
         word, name, *_ = [*words.split(), b""]
-        new = {name: known[name]} if document or word == b"delete" else {}
+        new = {name: known[name]} if document or word in (b"insert", b"delete", b"retext") else {}
         if document and known[name][1] != b"".join(line + b"\n" for line in document):
             raise Wrong(f"the document {name} isn't what was loaded")
         states.append({other: held for other, held in (states[-1] or {}).items() if (word, other) != (b"drop", name)} | new)
@@ -138,9 +138,10 @@ class Trial:
             return [[INIT]]
         names, there = ask(b"names"), sorted(stands)
         goes = [ask(b"drop", name) for name in there[:1]]
-        for name in there[1:2]:
-            path = self.draw.choice(sessions.may_go(stands[name][1].splitlines()))
-            goes.append(ask(b"delete", name, sessions.path_text(path)))
+        # One edit each, since only what a document is in the end is known.
+        for word, name in zip((b"delete", b"insert", b"retext"), there[1:]):
+            nodes, text, _ = stands[name]
+            goes.append(sessions.drawn_edit(self.draw, word, name, Document(text.split(b"\n")[:-1], nodes), 3))
         return [[ask(b"checkpoint"), names], [names, load(b"second", self.document(40)), *goes, ask(b"checkpoint"), load(b"third", self.document(7))]]
 
     def wrong_images(self, disk, of):

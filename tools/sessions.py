@@ -1,6 +1,7 @@
 """Sessions of `natix STORE run`, drawn documents, and what a store has to hold by the replies: for tools/test-store."""
 
 import os
+import re
 import subprocess
 
 import driven
@@ -97,16 +98,110 @@ def places(lines):
     return found
 
 
-def may_go(lines):
-    """The paths of the nodes that may go: all but the root and the element below it."""
-    return [path for path, (begin, _) in places(lines).items() if len(path) > 1 or lines[begin][:1] == b"?"]
+def children(found, path):
+    """Where the children of a node stand, by the places of all nodes."""
+    below = []
+    while (*path, len(below)) in found:
+        below.append(found[(*path, len(below))])
+    return below
 
 
-def without(document, path):
-    """The document without the node at the path; its intervals aren't known."""
-    begin, end = places(document.lines)[path]
+def name_and_content(line):
+    """The name of a node and its content, escaped, by its line."""
+    name, _, content = (b"", b"", line[1:]) if line[:1] == b"-" else line[1:].partition(b" ")
+    return name, content
+
+
+def weight(line):
+    name, content = name_and_content(line)
+    return 1 + -(-len(name + re.sub(rb"\\[ntr\\]", b".", content)) // 8)
+
+
+# Edits: what the document is then, whose intervals aren't known, or by which words it is refused.
+
+
+def deleted(document, path):
+    found = places(document.lines)
+    if path not in found:
+        return b"no-node" if path else b"bad-place"
+    begin, end = found[path]
+    if len(path) == 1 and document.lines[begin][:1] == b"(":
+        return b"bad-place"
     gone = sum(line[:1] != b")" for line in document.lines[begin:end])
     return Document(document.lines[:begin] + document.lines[end:], document.nodes - gone)
+
+
+def inserted(document, path, line, k):
+    found, lines, above = places(document.lines), document.lines, path[:-1]
+    if not path:
+        return b"bad-place"
+    if above and above not in found:
+        return b"no-node"
+    if line[:1] != b"?" if not above else lines[found[above][0]][:1] != b"(":
+        return b"bad-place"
+    siblings, position, is_attribute = children(found, above), path[-1], line[:1] == b"A"
+    attributes = [lines[begin] for begin, _ in siblings if lines[begin][:1] == b"A"]
+    if position > len(siblings) or (position > len(attributes) if is_attribute else position < len(attributes)):
+        return b"bad-place"
+    if is_attribute and name_and_content(line)[0] in [name_and_content(other)[0] for other in attributes]:
+        return b"twice"
+    if len(path) > 256:
+        return b"too-deep"
+    if weight(line) > k:
+        return b"too-heavy %s %d" % (path_text(path), weight(line))
+    end = found[above][1] - 1 if above else len(lines)
+    at = siblings[position][0] if position < len(siblings) else end
+    new = [line, b")" + line[1:]] if line[:1] == b"(" else [line]
+    return Document(lines[:at] + new + lines[at:], document.nodes + 1)
+
+
+def retexted(document, path, content, k):
+    found, lines = places(document.lines), document.lines
+    if path and path not in found:
+        return b"no-node"
+    if not path or lines[found[path][0]][:1] == b"(":
+        return b"no-content"
+    at = found[path][0]
+    code, (name, _) = lines[at][:1], name_and_content(lines[at])
+    line = {b"-": b"-", b"A": code + name + b" ", b"?": code + name + (b" " if content else b"")}[code] + content
+    if weight(line) > k:
+        return b"too-heavy %s %d" % (path_text(path), weight(line))
+    return Document(lines[:at] + [line] + lines[at + 1 :], document.nodes)
+
+
+def edited(document, words, k):
+    """What an edit makes of the document that it names."""
+    word, _, path, rest = [*words.split(b" ", 3), b""][:4]
+    path = tuple(int(position) for position in path.split(b"/")[1:] if position)
+    if word == b"delete":
+        return deleted(document, path)
+    return (inserted if word == b"insert" else retexted)(document, path, rest, k)
+
+
+def drawn_edit(draw, word, name, document, k):
+    """An edit of a document, mostly one that isn't refused."""
+    found, lines = places(document.lines), document.lines
+    elements = [path for path, (begin, _) in found.items() if lines[begin][:1] == b"("]
+    others = [path for path in found if path not in elements]
+    if word == b"delete":
+        return ask(word, name, path_text(draw.choice([path for path in found if len(path) > 1 or path in others] or [(0,)])))
+    if word == b"retext":
+        path = draw.choice(others if others and draw.random() < 0.9 else [(), *elements])
+        return ask(word, name, path_text(path), drawn_content(draw, 8 * k - 16))
+    above, kind = draw.choice(elements if draw.random() < 0.9 else [(), *found]), draw.random()
+    siblings = children(found, above)
+    attributes = sum(lines[begin][:1] == b"A" for begin, _ in siblings)
+    first, last = (0, attributes) if kind < 0.15 else (attributes, len(siblings))
+    if draw.random() < 0.05:
+        last += 1
+    line = b"-" + drawn_content(draw, 8 * k - 8 + draw.choice((0, 0, 0, 8)))
+    if kind < 0.15:
+        line = b"Ab%d " % draw.randint(0, 99) + drawn_content(draw, 8 * k - 16)
+    elif kind < 0.4:
+        line = b"(" + drawn_name(draw)
+    elif kind < 0.5:
+        line = drawn_instruction(draw, k)
+    return ask(word, name, path_text((*above, draw.randint(first, last))), line)
 
 
 def path_text(path):
