@@ -34,7 +34,7 @@ all_right : {A : Type 0} (P : A → Type 0) (a b : List A) → All P (a ++ b) �
 all_right P [] b h = h
 all_right P (x ∷ a) b h = all_right P a b (All-tail P x (a ++ b) h)
 
-all_joined : {A : Type 0} (P : A → Type 0) (a b : List A) → All P a → All P b → All P (a ++ b)
+pub all_joined : {A : Type 0} (P : A → Type 0) (a b : List A) → All P a → All P b → All P (a ++ b)
 all_joined P [] b h k = k
 all_joined P (x ∷ a) b h k = All-cons P x (a ++ b) (All-head P x a h) (all_joined P a b (All-tail P x a h) k)
 
@@ -85,6 +85,13 @@ module _ {needs : ℕ} {was now : Held} (before old new after : List StoredDocum
 
   same_record : (place : RecordPlace) → Contains stays place → record_at now place ≡ record_at was place
   same_record place among = moves.kept place (λ gone. gone_apart place gone among) (λ came. came_apart place came among)
+
+  -- ... with the list that it names
+  pub rest_stays : (place : RecordPlace) → Contains stays place → (record_at now place ≡ record_at was place) × ((count chain : ℕ) → NamesList was place count chain → now.lists chain ≡ was.lists chain)
+  rest_stays place among =
+      let there = stays_there place among in
+      let around = pieces_stay_around (all_places old) (all_places new) needs was now h.tidy moves place there.0 there.1 (λ gone. gone_apart place gone among) in
+      (around.0, around.2)
 
   pieces_stay_there : HaveThere (h.pieces).piece_at (piece_map now).piece_at stays
   pieces_stay_there place piece among e =

@@ -55,7 +55,7 @@ module _ {D : Type 0} {d : Ghosts D} where
       subst (λ (j : Image). Recovers j (Some state)) (sym (((keeps.step).settled).only i may)) (at.held, ((s.records).saved, keeps.holds), at.state_is)
 
   -- ... over a disk whose areas stay as they are, whatever is taken and given beside it
-  pub at_beside : {s : Store} {x0 x1 : D} {P : Option (List ℕ) → Type 0} {state : State} → LeavesAreas d x0 x1 P → IsSome (d.contents x1) → IsAt d s x0 state → IsAt d s x1 state
+  abbrev pub at_beside : {s : Store} {x0 x1 : D} {P : Option (List ℕ) → Type 0} {state : State} → LeavesAreas d x0 x1 P → IsSome (d.contents x1) → IsAt d s x0 state → IsAt d s x1 state
   at_beside leaves told at = record {
     held = at.held;
     stands = record {

@@ -52,7 +52,7 @@ use Rattle.nx_hold.proofs.RefusalLemmas.{runs_then, saved_then}
 use Rattle.nx_catalog.specs.Catalog.{Contents, Document, Entries, CanBeKept, IsCatalog, catalog_bytes}
 use Rattle.nx_catalog.proofs.LengthLemmas.{most_bytes, length_there}
 use Rattle.nx_state.specs.State.{State, document_size, all_nodes}
-use Rattle.nx_state.specs.Stands.{StoredDocument, IsStoredIn, HoldsDocuments, record_places}
+use Rattle.nx_state.specs.Stands.{StoredDocument, IsStoredIn, HoldsDocuments, record_places, all_places}
 use Rattle.nx_state.proofs.ChangeLemmas.{documents_change, catalog_comes}
 use Rattle.nx_state.proofs.FreeLemmas.{documents_leave_free}
 use Rattle.nx_steps.specs.Answers.{with_document, MayBeFull}
@@ -66,6 +66,7 @@ use Rattle.nx_edit.specs.Retexting.{other_content, outweighs, outgrows}
 use Rattle.nx_edit.specs.declared.error.EditError.{EditError}
 use Rattle.nx_edit.specs.declared.error.EditError.TheVariants as edit
 use Rattle.nx_store.specs.Store.{IsAt}
+use Rattle.nx_store.specs.Staying.{RecordsOffStay}
 use Rattle.nx_store.specs.Loading.{IsStoreLeft}
 use Rattle.nx_store.specs.Changing.{Prepares, StepsRefused}
 use Rattle.nx_store.specs.Editing.{edit_command, CanBeMade, edit_fault, is_of_edit, tree_edit, EditBecomes, stays_below, edit_reply, EditNotPrepared}
@@ -77,6 +78,7 @@ use Rattle.nx_store.proofs.KeepLemmas.{later_rose, no_end}
 use Rattle.nx_store.proofs.RoomLemmas.{sum_between, nodes_stored, edit_room}
 use Rattle.nx_store.proofs.StepsLemmas.{refused_step, done_step, full_step}
 use Rattle.nx_store.proofs.OrderedLemmas.{name_same, replaced_between}
+use Rattle.nx_store.proofs.StayingLemmas.{off_within, change_leaves, catalog_leaves}
 use Rattle.nx_store.proofs.GoneLemmas.{none_needed, contents_at, entries_at, the_one, place, shown_there, holds_between, stored_one, told_entry}
 
 -- ---- the entry of a name
@@ -265,19 +267,22 @@ module _ {D : Type 0} (d : Ghosts D) (s0 : Store) (x0 : D) (state : State) (at :
   abbrev pub old : StoredDocument
   old = (the_one d s0 x0 state at name entry there).0
 
+  moved_alone : (mid : Held) (now : StoredDocument) (needs : ℕ) → MovesRecords (record_places old) (record_places now) needs at.held mid → MovesRecords (all_places (old ∷ [])) (all_places (now ∷ [])) needs at.held mid
+  moved_alone mid now needs moves =
+      subst (λ (ps : List RecordPlace). MovesRecords ps (record_places now ++ []) needs at.held mid) (sym (append-nil (record_places old)))
+      (subst (λ (ps : List RecordPlace). MovesRecords (record_places old) ps needs at.held mid) (sym (append-nil (record_places now))) moves)
+
   -- its records became those of another one
   changed_between : (mid : Held) (now : StoredDocument) (needs : ℕ) → MovesRecords (record_places old) (record_places now) needs at.held mid → IsTidy mid
       → ((pieces : PieceMap mid) → IsStoredIn (mid.settings).k pieces.piece_at now) → HoldsDocuments mid ((place d s0 x0 state at name entry there).before ++ now ∷ (place d s0 x0 state at name entry there).after)
   changed_between mid now needs moves tidy stored =
       let among = place d s0 x0 state at name entry there in
-      documents_change needs at.held mid among.before (old ∷ []) (now ∷ []) among.after (holds_between d s0 x0 state at name entry there)
-      (subst (λ (ps : List RecordPlace). MovesRecords ps (record_places now ++ []) needs at.held mid) (sym (append-nil (record_places old)))
-      (subst (λ (ps : List RecordPlace). MovesRecords (record_places old) ps needs at.held mid) (sym (append-nil (record_places now))) moves))
+      documents_change needs at.held mid among.before (old ∷ []) (now ∷ []) among.after (holds_between d s0 x0 state at name entry there) (moved_alone mid now needs moves)
       tidy (subst ArePlacedOnce (sym (append-nil (record_places now))) ((stored (piece_map mid)).laid).once)
       (λ pieces. All-cons (IsStoredIn (mid.settings).k pieces.piece_at) now [] (stored pieces) (All-nil (IsStoredIn (mid.settings).k pieces.piece_at)))
 
   rewritten : (r1 : Records) (x1 : D) (new : DocEntry) (Becomes : CutTree → CutTree → Type 0) (stays : Bool) (path : List ℕ) → ComesTidy d s0.records r1 x0 x1 (EditsDocument Becomes stays path entry new)
-      → (mid : Held) × StandsFor d r1 x1 at.held mid × (document : CutTree) × Becomes old.document document × IsRewritten at.held mid state s0.catalog name new document
+      → (mid : Held) × StandsFor d r1 x1 at.held mid × (document : CutTree) × Becomes old.document document × IsRewritten at.held mid state s0.catalog name new document × RecordsOffStay name (places_off stays path) (at.state_is).stored at.held mid
   rewritten r1 x1 new Becomes stays path comes =
       let mid = comes at.held at.held at.stands ((at.state_is).holds).tidy in
       let among = place d s0 x0 state at name entry there in
@@ -299,6 +304,10 @@ module _ {D : Type 0} (d : Ghosts D) (s0 : Store) (x0 : D) (state : State) (at :
           documents = replaced_between (λ (s : StoredDocument). s.name) (λ (s : StoredDocument). s.document) state.documents among.before old now among.after (sym among.named)
               ((at.state_is).documents ∙ ap (map (λ (s : StoredDocument). (s.name, s.document))) among.are);
         },
+        subst (λ (l : List StoredDocument). RecordsOffStay name (places_off stays path) l at.held mid.0) (sym among.are)
+            (change_leaves name (places_off stays path) (document_size old.document + 2 * document_size edited.document) at.held mid.0 among.before old (now ∷ []) among.after
+            (holds_between d s0 x0 state at name entry there) (moved_alone mid.0 now (document_size old.document + 2 * document_size edited.document) edited.moves) among.named (off_within stays path)
+            (record { records = edited.records_stay; lists = edited.lists_stay })),
       )
 
   -- the same settings and rules are those of the state
@@ -317,36 +326,38 @@ module _ {D : Type 0} (d : Ghosts D) (s0 : Store) (x0 : D) (state : State) (at :
       → (r1 : Records) (s2 : Store) (x1 x2 : D) (new : DocEntry) → ComesTidy d s0.records r1 x0 x1 (EditsDocument (EditBecomes (settings_of s0.records) (s0.catalog).rules e path) (stays_below e) path entry new)
       → (s2.catalog).documents ≡ insert (s0.catalog).documents name new → (s2.catalog).rules ≡ (s0.catalog).rules
       → (All HasLabels (s0.catalog).rules → IsCatalog (catalog_bytes s2.catalog) s2.catalog) → ComesTo d r1 s2.records x1 x2 (λ was now. SetsCatalog (catalog_bytes s2.catalog) was now)
-      → Prepares d state (edit_command name path e) reply.Done s2 x2
+      → (made : Prepares d state (edit_command name path e) reply.Done s2 x2) × RecordsOffStay name (places_off (stays_below e) path) (at.state_is).stored at.held (made.prepared).now
   edit_prepared path e can free r1 s2 x1 x2 new comes documents rules form saves =
       let mid = rewritten r1 x1 new (EditBecomes (settings_of s0.records) (s0.catalog).rules e path) (stays_below e) path comes in
       let m = mid.4 in
       let now = saves at.held mid.0 mid.1 in
       let formed = form (at.catalog).labels in
       let becomes : EditBecomes state.settings state.rules e path old.document mid.2 =
-      subst (λ (s : Settings). EditBecomes s state.rules e path old.document mid.2) settings_at (subst (λ (rs : List Rule). EditBecomes (settings_of s0.records) rs e path old.document mid.2) rules_at mid.3) in
-      record {
-        next = with_document state name mid.2;
-        step = done_edit state name path e old.document mid.2 (shown_there d s0 x0 state at name entry there) can
-            (fault_at path e None (told_entry d s0 x0 state at name entry there (λ now document. edit_fault e path (settings_of s0.records).k (tree_of document) ≡ None) free)) becomes;
-        prepared = record {
-          saved = at.held;
-          now = now.0;
-          stands = now.1;
-          was = at.state_is;
-          will = record {
-            settings = (now.2).settings ∙ m.settings ∙ (at.state_is).settings;
-            stored = m.stored;
-            holds = catalog_comes (catalog_bytes s2.catalog) mid.0 now.0 m.stored m.holds now.2;
-            contents = s2.catalog;
+      subst (λ (s : Settings). EditBecomes s state.rules e path old.document mid.2) settings_at (subst (λ (rs : List Rule). EditBecomes (settings_of s0.records) rs e path old.document mid.2) rules_at mid.3) in (
+        record {
+          next = with_document state name mid.2;
+          step = done_edit state name path e old.document mid.2 (shown_there d s0 x0 state at name entry there) can
+              (fault_at path e None (told_entry d s0 x0 state at name entry there (λ now document. edit_fault e path (settings_of s0.records).k (tree_of document) ≡ None) free)) becomes;
+          prepared = record {
+            saved = at.held;
+            now = now.0;
+            stands = now.1;
+            was = at.state_is;
+            will = record {
+              settings = (now.2).settings ∙ m.settings ∙ (at.state_is).settings;
+              stored = m.stored;
+              holds = catalog_comes (catalog_bytes s2.catalog) mid.0 now.0 m.stored m.holds now.2;
+              contents = s2.catalog;
+              catalog = subst (λ (bytes : List ℕ). IsCatalog bytes s2.catalog) (sym (now.2).catalog) formed;
+              names = ap (λ (es : Entries). entries es) documents ∙ m.names;
+              documents = m.documents;
+              rules = rules ∙ rules_at;
+            };
             catalog = subst (λ (bytes : List ℕ). IsCatalog bytes s2.catalog) (sym (now.2).catalog) formed;
-            names = ap (λ (es : Entries). entries es) documents ∙ m.names;
-            documents = m.documents;
-            rules = rules ∙ rules_at;
           };
-          catalog = subst (λ (bytes : List ℕ). IsCatalog bytes s2.catalog) (sym (now.2).catalog) formed;
-        };
-      }
+        },
+        catalog_leaves name (places_off (stays_below e) path) (catalog_bytes s2.catalog) at.held mid.0 now.0 (at.state_is).stored now.2 mid.5,
+      )
 
   -- the catalog, which is as long as it was, needs no page
   pub entry_fits : (r1 : Records) (x1 : D) (new : DocEntry) (Becomes : CutTree → CutTree → Type 0) (stays : Bool) (path : List ℕ) → ComesTidy d s0.records r1 x0 x1 (EditsDocument Becomes stays path entry new)

@@ -1,5 +1,5 @@
 -- A document of a store taken away, before the commit.
-use Rattle.std.proofs.Common.{◌≡◌, ℕ, ◌+◌, ◌<◌, ◌≤◌, cond, List, [], ◌∷◌, ◌++◌, length, map, Option, None, Some, false, Less, Equal, Greater, is_eq, refl, sym, ap, ◌∙◌, subst, arith}
+use Rattle.std.proofs.Common.{◌≡◌, ℕ, ◌+◌, ◌<◌, ◌≤◌, cond, List, [], ◌∷◌, ◌++◌, length, map, Option, None, Some, false, Less, Equal, Greater, is_eq, refl, sym, ap, ◌∙◌, subst, arith, append-nil}
 use Rattle.std.specs.Prelude.{All, option_map}
 use Rattle.std.specs.Option.{is_some, option_map_or}
 use Rattle.std.specs.FinMap.{entries, get, remove}
@@ -25,20 +25,23 @@ use Rattle.nx_script.specs.declared.reply.ReplyError.{ReplyError}
 use Rattle.nx_script.specs.declared.reply.ReplyError.TheVariants.{NoDocument}
 use Rattle.nx_hold.specs.declared.entry.DocEntry.{DocEntry}
 use Rattle.nx_hold.specs.Changes.{ComesTidy}
+use Rattle.nx_layouts.specs.Layout.{RecordPlace}
 use Rattle.nx_hold.specs.Documents.{MovesRecords}
 use Rattle.nx_hold.proofs.RefusalLemmas.{runs_then, saved_then}
 use Rattle.nx_catalog.specs.Catalog.{Contents, Entries, IsCatalog, catalog_bytes}
 use Rattle.nx_catalog.proofs.CatalogLemmas.{one_contents}
 use Rattle.nx_catalog.proofs.LengthLemmas.{length_less}
 use Rattle.nx_state.specs.State.{State}
-use Rattle.nx_state.specs.Stands.{StoredDocument, IsStoredIn, HoldsDocuments}
+use Rattle.nx_state.specs.Stands.{StoredDocument, IsStoredIn, HoldsDocuments, record_places}
 use Rattle.nx_state.proofs.ChangeLemmas.{document_goes, catalog_comes}
 use Rattle.nx_steps.specs.Step.{Step}
 use Rattle.nx_edit.specs.Removing.{document_places, RemovesDocument, OfEntry, NotRemoved}
 use Rattle.nx_store.specs.Store.{IsAt}
+use Rattle.nx_store.specs.Staying.{RecordsOffStay}
 use Rattle.nx_store.specs.Changing.{Prepares, NotPrepared}
 use Rattle.nx_store.specs.declared.store.Store.{Store}
 use Rattle.nx_store.proofs.FoundLemmas.{found, get_found, map_some, same_some}
+use Rattle.nx_store.proofs.StayingLemmas.{none_within, none_stay, change_leaves, catalog_leaves}
 use Rattle.nx_store.proofs.KeepLemmas.{later_rose, no_end}
 use Rattle.nx_store.proofs.StepsLemmas.{refused_step, done_step}
 use Rattle.nx_store.proofs.OrderedLemmas.{name_same, removed_between}
@@ -121,7 +124,7 @@ module _ {D : Type 0} (d : Ghosts D) (s0 : Store) (x0 : D) (state : State) (at :
       subst (λ (e : DocEntry). OfEntry d s0.records x0 e P) (sym the_one.2) each (the_one.0).document
       (record { saved = at.held; now = at.held; stands = at.stands; pieces = holds_between.pieces; laid = record { layout = (the_one.0).layout; laid = stored_one.laid } }) holds_between.tidy stored_one.counted
 
-  gone : (r1 : Records) (x1 : D) → ComesTidy d s0.records r1 x0 x1 (RemovesDocument entry) → (mid : Held) × StandsFor d r1 x1 at.held mid × IsGone at.held mid state s0.catalog name
+  gone : (r1 : Records) (x1 : D) → ComesTidy d s0.records r1 x0 x1 (RemovesDocument entry) → (mid : Held) × StandsFor d r1 x1 at.held mid × IsGone at.held mid state s0.catalog name × RecordsOffStay name (λ layout. []) (at.state_is).stored at.held mid
   gone r1 x1 comes =
       let mid = comes at.held at.held at.stands ((at.state_is).holds).tidy in
       let s = the_one.0 in
@@ -141,38 +144,43 @@ module _ {D : Type 0} (d : Ghosts D) (s0 : Store) (x0 : D) (state : State) (at :
               (removed_between (λ (s : StoredDocument). s.name) (λ (s : StoredDocument). s.document) state.documents place.before s place.after
               ((at.state_is).documents ∙ ap (map (λ (s : StoredDocument). (s.name, s.document))) place.are));
         },
+        subst (λ (l : List StoredDocument). RecordsOffStay name (λ layout. []) l at.held mid.0) (sym place.are)
+            (change_leaves name (λ layout. []) 0 at.held mid.0 place.before s [] place.after holds_between
+            (subst (λ (ps : List RecordPlace). MovesRecords ps [] 0 at.held mid.0) (sym (append-nil (record_places s))) moves) place.named none_within (none_stay at.held mid.0)),
       )
 
   -- the document is no longer entered
   pub gone_prepared : (r1 : Records) (s2 : Store) (x1 x2 : D) → ComesTidy d s0.records r1 x0 x1 (RemovesDocument entry) → (s2.catalog).documents ≡ remove (s0.catalog).documents name → (s2.catalog).rules ≡ (s0.catalog).rules
       → (All HasLabels (s0.catalog).rules → IsCatalog (catalog_bytes s2.catalog) s2.catalog) → ComesTo d r1 s2.records x1 x2 (λ was now. SetsCatalog (catalog_bytes s2.catalog) was now)
-      → Prepares d state (Discard name) reply.Done s2 x2
+      → (made : Prepares d state (Discard name) reply.Done s2 x2) × RecordsOffStay name (λ layout. []) (at.state_is).stored at.held (made.prepared).now
   gone_prepared r1 s2 x1 x2 comes documents rules form saves =
       let mid = gone r1 x1 comes in
       let m = mid.2 in
       let now = saves at.held mid.0 mid.1 in
-      let formed = form (at.catalog).labels in
-      record {
-        next = record state { documents = remove state.documents name };
-        step = found_gone state name (the_one.0).document shown_there;
-        prepared = record {
-          saved = at.held;
-          now = now.0;
-          stands = now.1;
-          was = at.state_is;
-          will = record {
-            settings = (now.2).settings ∙ m.settings ∙ (at.state_is).settings;
-            stored = m.stored;
-            holds = catalog_comes (catalog_bytes s2.catalog) mid.0 now.0 m.stored m.holds now.2;
-            contents = s2.catalog;
+      let formed = form (at.catalog).labels in (
+        record {
+          next = record state { documents = remove state.documents name };
+          step = found_gone state name (the_one.0).document shown_there;
+          prepared = record {
+            saved = at.held;
+            now = now.0;
+            stands = now.1;
+            was = at.state_is;
+            will = record {
+              settings = (now.2).settings ∙ m.settings ∙ (at.state_is).settings;
+              stored = m.stored;
+              holds = catalog_comes (catalog_bytes s2.catalog) mid.0 now.0 m.stored m.holds now.2;
+              contents = s2.catalog;
+              catalog = subst (λ (bytes : List ℕ). IsCatalog bytes s2.catalog) (sym (now.2).catalog) formed;
+              names = ap (λ (es : Entries). entries es) documents ∙ m.names;
+              documents = m.documents;
+              rules = rules ∙ ap (λ (c : Contents). c.rules) (sym contents_at) ∙ (at.state_is).rules;
+            };
             catalog = subst (λ (bytes : List ℕ). IsCatalog bytes s2.catalog) (sym (now.2).catalog) formed;
-            names = ap (λ (es : Entries). entries es) documents ∙ m.names;
-            documents = m.documents;
-            rules = rules ∙ ap (λ (c : Contents). c.rules) (sym contents_at) ∙ (at.state_is).rules;
           };
-          catalog = subst (λ (bytes : List ℕ). IsCatalog bytes s2.catalog) (sym (now.2).catalog) formed;
-        };
-      }
+        },
+        catalog_leaves name (λ layout. []) (catalog_bytes s2.catalog) at.held mid.0 now.0 (at.state_is).stored now.2 mid.3,
+      )
 
   -- the shorter catalog needs no page
   pub room_behind : (r1 : Records) (x1 : D) (comes : ComesTidy d s0.records r1 x0 x1 (RemovesDocument entry))

@@ -3,6 +3,7 @@ pub mod CommitLemmas
 pub mod StepsLemmas
 pub mod RuleLemmas
 pub mod AtLemmas
+pub mod StayingLemmas
 pub mod ShowLemmas
 pub mod FoundLemmas
 pub mod RefusalLemmas

@@ -20,6 +20,7 @@ use Rattle.nx_script.specs.declared.command.Command.TheVariants.{Checkpoint}
 use Rattle.nx_state.specs.State.{State}
 use Rattle.nx_steps.specs.Step.{may_change}
 use Rattle.nx_store.specs.Store.{longest_log, IsAt, IsOf, IsShortened, LeavesLog}
+use Rattle.nx_store.specs.Staying.{HoldsOn}
 use Rattle.nx_store.specs.declared.store.Store.{Store}
 use Rattle.nx_store.proofs.FoundLemmas.{same_some}
 
@@ -48,6 +49,10 @@ module _ {D : Type 0} {d : Ghosts D} (s0 : Store) (r1 : Records) (x0 : D) (follo
         state_is = at.state_is;
         catalog = subst (λ (c : Contents). IsCatalog (at.held).catalog c) (sym catalog) at.catalog;
       }
+
+  -- ... with all that it held
+  pub emptied_holds : (x1 : D) (s2 : Store) → ((saved now : Held) (image : Image) → StandsFor d r1 x0 saved now → d.contents x1 ≡ Some image → StandsFor d s2.records x1 saved now) → HasNoChanges s2.records → s2.catalog ≡ s0.catalog → HoldsOn d s0 s2 x0 x1
+  emptied_holds x1 s2 stands none_left catalog state at told = let image = some_value (d.contents x1) told in (stands at.held at.held image.0 (dropped state at) image.1, none_left, catalog)
 
   -- without a group in its log
   pub emptied_log : (x1 : D) → ((was now : Image) → IsInStepWith d r1 x0 was → d.contents x1 ≡ Some now → groups now.log ≡ [])

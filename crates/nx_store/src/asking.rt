@@ -8,6 +8,7 @@ ghost use Rattle.nx_script.specs.declared.command.Command.TheVariants as command
 ghost use Rattle.nx_store.specs.Told.{line_of};
 ghost use Rattle.nx_state.specs.State.{State};
 ghost use Rattle.nx_steps.specs.Step.{Step};
+ghost use Rattle.nx_store.specs.Staying.{HoldsOn};
 ghost use Rattle.nx_store.specs.Store.{is_ended, LeavesStore, EndsNow, GoesOn, IsAt, IsOf, IsApplied, NotApplied};
 
 use crate::{EngineError, Store};
@@ -146,6 +147,7 @@ impl Store {
             × ((state : State) → IsAt D.Disk self.old disk.old state → IsSome (D.contents disk.new) → IsAt D.Disk self.new disk.new state)) }
         ensures log { OnOk result ((state : State) (now : Image) → IsAt D.Disk self.old disk.old state → IsSettled D.Disk disk.new now → image_group_count now ≡ 0) }
         ensures catalog { self.new.catalog ≡ self.old.catalog }
+        ensures holds { OnOk result (HoldsOn D.Disk self.old self.new disk.old disk.new) }
         ensures refused { IfErr result (λ e. (e ≡ EngineError.Disk) × Rose (D.faults disk.old) (D.faults disk.new) × EndsNow self.old self.new) }
     {
         self.records.abandon();

@@ -7,6 +7,7 @@ ghost use Rattle.nx_script.specs.Field.{is_document_name};
 ghost use Rattle.nx_script.specs.declared.command.Command.TheVariants as command;
 ghost use Rattle.nx_state.specs.State.{State};
 ghost use Rattle.nx_store.specs.Store.{is_ended, GoesOn, IsAt, IsApplied, NotApplied};
+ghost use Rattle.nx_store.specs.Staying.{LeavesOthers};
 ghost use Rattle.nx_store.specs.Loading.{reply_of, HasReplyText};
 
 use crate::editing::Edit;
@@ -30,6 +31,7 @@ impl Store {
         ensures ok { IfOk result (λ answer. GoesOn self.old self.new × HasReplyText answer) }
         ensures refused { IfErr result (λ e. NotApplied D.Disk e self.old self.new disk.old disk.new) }
         ensures areas { WritesAlone D.Disk disk.old disk.new (λ _. Unit {0}) }
+        ensures leaves { LeavesOthers D.Disk (command.Delete name.now path) self.old self.new disk.old disk.new }
     {
         let Some(entry) = self.entry_of(name) else {
             return told(self.alloc, Reply::Refused(ReplyError::NoDocument));
@@ -51,6 +53,7 @@ impl Store {
         ensures ok { IfOk result (λ answer. GoesOn self.old self.new × HasReplyText answer) }
         ensures refused { IfErr result (λ e. NotApplied D.Disk e self.old self.new disk.old disk.new) }
         ensures areas { WritesAlone D.Disk disk.old disk.new (λ _. Unit {0}) }
+        ensures leaves { LeavesOthers D.Disk (command.Retext name.now path text) self.old self.new disk.old disk.new }
     {
         let Some(entry) = self.entry_of(name) else {
             return told(self.alloc, Reply::Refused(ReplyError::NoDocument));
@@ -78,6 +81,7 @@ impl Store {
         ensures ok { IfOk result (λ answer. GoesOn self.old self.new × HasReplyText answer) }
         ensures refused { IfErr result (λ e. NotApplied D.Disk e self.old self.new disk.old disk.new) }
         ensures areas { WritesAlone D.Disk disk.old disk.new (λ _. Unit {0}) }
+        ensures leaves { LeavesOthers D.Disk (command.Insert name.now path line) self.old self.new disk.old disk.new }
     {
         let Some(entry) = self.entry_of(name) else {
             return told(self.alloc, Reply::Refused(ReplyError::NoDocument));

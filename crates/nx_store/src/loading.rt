@@ -14,6 +14,7 @@ ghost use Rattle.nx_script.specs.Field.{is_document_name};
 ghost use Rattle.nx_script.specs.Rule.{HasLabels};
 ghost use Rattle.nx_catalog.specs.Catalog.{IsCatalog, catalog_bytes};
 ghost use Rattle.nx_state.specs.State.{State};
+ghost use Rattle.nx_store.specs.Staying.{HoldsOn};
 ghost use Rattle.nx_store.specs.Store.{is_ended, longest_log, EndsNow, GoesOn, IsAt, IsOf, IsShortened, IsApplied, NotApplied};
 ghost use Rattle.nx_store.specs.Loading.{IsNew, IsChosen, IsKept, NotKept, reply_of, HasReplyText, IsToldOrNot, IsRefusal};
 
@@ -87,6 +88,7 @@ impl Store {
             × ((state : State) → IsAt D.Disk self.old disk.old state → IsSome (D.contents disk.new) → IsAt D.Disk self.new disk.new state)) }
         ensures log { OnOk result ((state : State) (was now : Image) → IsAt D.Disk self.old disk.old state → IsSettled D.Disk disk.old was → IsSettled D.Disk disk.new now → IsShortened was now) }
         ensures catalog { self.new.catalog ≡ self.old.catalog }
+        ensures holds { OnOk result (HoldsOn D.Disk self.old self.new disk.old disk.new) }
         ensures refused { IfErr result (λ e. (e ≡ EngineError.Disk) × Rose (D.faults disk.old) (D.faults disk.new) × EndsNow self.old self.new) }
     {
         if self.records.log_length() <= LONG_LOG {

@@ -31,6 +31,7 @@ pub struct Store {
 impl Store {
     ghost use Rattle.nx_host.specs.declared.disk.Disk.{Ghosts};
     ghost use Rattle.nx_script.specs.declared.reply.Reply.{Reply};
+    ghost use Rattle.nx_store.specs.Staying.{LeavesOthers};
     ghost use Rattle.nx_store.specs.Loading.{reply_of, HasReplyText, IsAppliedWithText};
     ghost use Rattle.nx_store.specs.Store.{is_ended, IsAt, IsApplied, IsAnswered, IsExported, GoesOn, TakesNone, NotApplied, NotAnswered, NotMade, NotOpened};
 
@@ -93,6 +94,10 @@ impl Store {
     /// 67,108,864 bytes, a checkpoint comes first, so that this group is alone. Once `checkpoint` was answered the
     /// log of no image has a group. All memory is taken before the commit.
     ///
+    /// An edit leaves each record of its document that holds neither a node on the way along the path nor one of a
+    /// tree that it deletes, and all records of the other documents, each with its list. A `drop` leaves all records
+    /// of the others.
+    ///
     /// The command is one that a script can give.
     ///
     /// Errors: `Disk`, only where `faults` rose; `Damaged`, only where the disk stood for no state when the
@@ -104,6 +109,7 @@ impl Store {
         ensures ok { OnOk result (GoesOn self.old self.new) }
         ensures refused { IfErr result (λ e. NotApplied D.Disk e self.old self.new disk.old disk.new) }
         ensures areas { WritesAlone D.Disk disk.old disk.new (λ _. Unit {0}) }
+        ensures leaves { LeavesOthers D.Disk command self.old self.new disk.old disk.new }
     {
         if self.is_ended() {
             return Err(EngineError::Ended);
@@ -128,6 +134,7 @@ impl Store {
         ensures ok { IfOk result (λ answer. GoesOn self.old self.new × HasReplyText answer) }
         ensures refused { IfErr result (λ e. NotApplied D.Disk e self.old self.new disk.old disk.new) }
         ensures areas { WritesAlone D.Disk disk.old disk.new (λ _. Unit {0}) }
+        ensures leaves { LeavesOthers D.Disk command self.old self.new disk.old disk.new }
     {
         match command {
             Command::Load { name, body } => self.load(disk, name, body),
@@ -185,6 +192,7 @@ impl Store {
         ensures ok { OnOk result (GoesOn self.old self.new) }
         ensures refused { IfErr result (λ e. NotAnswered ⟦<H as Disk>⟧ e self.old self.new host.old host.new) }
         ensures beside { TakesNone ⟦<H as Disk>⟧ host.old host.new }
+        ensures leaves { LeavesOthers ⟦<H as Disk>⟧ command self.old self.new host.old host.new }
     {
         let text = self.text_for(host, command)?;
         let Ok(()) = host.emit(text.as_slice()) else {
@@ -236,6 +244,7 @@ impl Store {
         ensures ok { OnOk result (GoesOn self.old self.new) }
         ensures refused { IfErr result (λ e. NotApplied D.Disk e self.old self.new disk.old disk.new) }
         ensures areas { WritesAlone D.Disk disk.old disk.new (λ _. Unit {0}) }
+        ensures leaves { LeavesOthers D.Disk command self.old self.new disk.old disk.new }
     {
         if self.is_ended() {
             return Err(EngineError::Ended);

@@ -1,11 +1,14 @@
-use Rattle.std.proofs.Common.{◌∙◌, arith}
-use Rattle.std.specs.Prelude.{Result}
+use Rattle.std.proofs.Common.{◌∙◌, subst, arith}
+use Rattle.std.specs.Prelude.{Result, IsSome}
 use Rattle.std.proofs.lemmas.Result.{err_from_is_err_and}
+use Rattle.nx_host.specs.Host.{AppendsPrefix}
 use Rattle.nx_host.specs.Phase.{TalksAlone}
+use Rattle.nx_host.proofs.DiskLemmas.{told_same}
 use Rattle.nx_store.specs.Store.{IsAnswered}
 use Rattle.nx_store.specs.declared.error.EngineError.{EngineError}
 use Rattle.nx_store.proofs.ShowLemmas.{handed}
 use Rattle.nx_store.proofs.TextLemmas.{failed_answered, told_between, given_answered, unwritten_answered}
+use Rattle.nx_store.proofs.StayingLemmas.{given_others}
 use Rattle.nx_store.proofs.store.Store.answer.Goals as goal
 
 pub returns-in_err-text-clause-answers : goal.returns-in_err-text-clause-answers
@@ -45,3 +48,35 @@ returns-clause-answers g c state at told =
     let kept = c.in_ok-text.ensures.areas.beside_stays.output in
     let w = c.in_ok-text.ensures.writes state at (told_between g.H.Disk c.text_for.new.self c.args.host.now c.text_for.new.disk c.emit.new.self state c.args.command c.as_slice.result.now kept gives told) in
     given_answered g.H.Disk c.text_for.new.self c.args.host.now c.text_for.new.disk c.emit.new.self state c.args.command c.as_slice.result.now kept gives told w.0 (c.as_slice.ensures ∙ w.1) w.2 e.ok
+
+pub returns-in_default-clause-leaves : goal.returns-in_default-clause-leaves
+returns-in_default-clause-leaves g c =
+    let e = c.in_default.ensures in
+    let gives : TalksAlone g.H.Disk c.as_slice.result.now c.text_for.new.disk c.emit.new.self = record {
+      contents_stay = e.contents;
+      images_stay = e.images;
+      faults_stay = e.faults;
+      reads_stay = e.reads;
+      in_faults_later = omega (arith, e.in_faults);
+      out_faults_later = e.out_faults;
+      time = e.time;
+    } in
+    given_others g.H.Disk c.args.command c.args.self.now c.text_for.new.self c.args.host.now c.text_for.new.disk c.emit.new.self
+    (AppendsPrefix c.as_slice.result.now (g.H.Disk.beside c.text_for.new.disk).output) gives
+    (λ told. subst (λ o. IsSome o) (told_same (g.H.Disk.contents c.text_for.new.disk) (g.H.Disk.contents c.emit.new.self) gives.contents_stay told) told) c.text_for.ensures.leaves
+
+pub returns-clause-leaves : goal.returns-clause-leaves
+returns-clause-leaves g c =
+    let e = c.in-Ok.ensures in
+    let gives : TalksAlone g.H.Disk c.as_slice.result.now c.text_for.new.disk c.emit.new.self = record {
+      contents_stay = e.contents;
+      images_stay = e.images;
+      faults_stay = e.faults;
+      reads_stay = e.reads;
+      in_faults_later = omega (arith, e.in_faults);
+      out_faults_later = e.out_faults;
+      time = e.time;
+    } in
+    given_others g.H.Disk c.args.command c.args.self.now c.text_for.new.self c.args.host.now c.text_for.new.disk c.emit.new.self
+    (AppendsPrefix c.as_slice.result.now (g.H.Disk.beside c.text_for.new.disk).output) gives
+    (λ told. subst (λ o. IsSome o) (told_same (g.H.Disk.contents c.text_for.new.disk) (g.H.Disk.contents c.emit.new.self) gives.contents_stay told) told) c.text_for.ensures.leaves

@@ -2,6 +2,7 @@ use Rattle.std.proofs.Common.{sym, subst}
 use Rattle.nx_script.specs.declared.command.Command.{Command}
 use Rattle.nx_script.specs.Commands.{CanCome}
 use Rattle.nx_store.specs.Store.{IsApplied}
+use Rattle.nx_store.specs.Staying.{LeavesOthers}
 use Rattle.nx_store.specs.Loading.{reply_of}
 use Rattle.nx_store.proofs.store.Store.change.Goals as goal
 
@@ -34,3 +35,21 @@ insert-requires-clause-come g c = subst CanCome c.in-Insert.is c.requires.come
 pub returns-in-Insert-clause-applies : goal.returns-in-Insert-clause-applies
 returns-in-Insert-clause-applies g c state at told =
     subst (λ (k : Command). IsApplied g.D.Disk (reply_of c.insert.result) state k c.insert.new.self c.args.disk.now c.insert.new.disk) (sym c.in-Insert.is) (c.insert.ensures.applies state at told)
+
+pub returns-in-Load-clause-leaves : goal.returns-in-Load-clause-leaves
+returns-in-Load-clause-leaves g c = subst (λ (k : Command). LeavesOthers g.D.Disk k c.args.self.now c.load.new.self c.args.disk.now c.load.new.disk) (sym c.in-Load.is) tt
+
+pub returns-in-SetRule-clause-leaves : goal.returns-in-SetRule-clause-leaves
+returns-in-SetRule-clause-leaves g c = subst (λ (k : Command). LeavesOthers g.D.Disk k c.args.self.now c.set_rule.new.self c.args.disk.now c.set_rule.new.disk) (sym c.in-SetRule.is) tt
+
+pub returns-in-Discard-clause-leaves : goal.returns-in-Discard-clause-leaves
+returns-in-Discard-clause-leaves g c = subst (λ (k : Command). LeavesOthers g.D.Disk k c.args.self.now c.discard.new.self c.args.disk.now c.discard.new.disk) (sym c.in-Discard.is) c.discard.ensures.leaves
+
+pub returns-in-Delete-clause-leaves : goal.returns-in-Delete-clause-leaves
+returns-in-Delete-clause-leaves g c = subst (λ (k : Command). LeavesOthers g.D.Disk k c.args.self.now c.delete.new.self c.args.disk.now c.delete.new.disk) (sym c.in-Delete.is) c.delete.ensures.leaves
+
+pub returns-in-Retext-clause-leaves : goal.returns-in-Retext-clause-leaves
+returns-in-Retext-clause-leaves g c = subst (λ (k : Command). LeavesOthers g.D.Disk k c.args.self.now c.retext.new.self c.args.disk.now c.retext.new.disk) (sym c.in-Retext.is) c.retext.ensures.leaves
+
+pub returns-in-Insert-clause-leaves : goal.returns-in-Insert-clause-leaves
+returns-in-Insert-clause-leaves g c = subst (λ (k : Command). LeavesOthers g.D.Disk k c.args.self.now c.insert.new.self c.args.disk.now c.insert.new.disk) (sym c.in-Insert.is) c.insert.ensures.leaves

@@ -7,10 +7,12 @@ use Rattle.nx_catalog.specs.Catalog.{Contents}
 use Rattle.nx_script.specs.declared.reply.Reply.{Reply}
 use Rattle.nx_store.specs.Store.{IsApplied}
 use Rattle.nx_store.specs.Loading.{reply_of}
-use Rattle.nx_store.specs.Editing.{edit_command}
+use Rattle.nx_edit.specs.Editing.{places_off}
+use Rattle.nx_store.specs.Editing.{edit_command, stays_below}
 use Rattle.nx_store.specs.declared.error.EngineError.{EngineError}
 use Rattle.nx_store.proofs.ShowLemmas.{handed, shows_written, later_applied}
 use Rattle.nx_store.proofs.AppliedLemmas.{later_refused}
+use Rattle.nx_store.proofs.StayingLemmas.{ended_leaves, later_leaves}
 use Rattle.nx_store.proofs.store.Store.edit_document.Goals as goal
 
 pub edit_shortly-requires-clause-found : goal.edit_shortly-requires-clause-found
@@ -35,3 +37,12 @@ returns-clause-refused g c =
     if_err_then c.edit_shortly.result c.edit_shortly.ensures.refused (λ e refused.
     later_refused g.D.Disk c.args.self.now c.shorten_log.new.self c.edit_shortly.new.self c.args.disk.now c.shorten_log.new.disk c.edit_shortly.new.disk c.requires.runs
     c.in_ok-shorten_log.ensures.goes c.edit_shortly.ensures.areas c.in_ok-shorten_log.ensures.ok.2 e c.in_ok-shorten_log.ensures.ok.0 refused)
+
+pub returns-in_err-shorten_log-clause-leaves : goal.returns-in_err-shorten_log-clause-leaves
+returns-in_err-shorten_log-clause-leaves g c =
+    ended_leaves g.D.Disk c.args.name.now (places_off (stays_below c.args.edit) c.args.path) c.args.self.now c.shorten_log.new.self c.args.disk.now c.shorten_log.new.disk (c.in_err-shorten_log.ensures.refused.2).1
+
+pub returns-clause-leaves : goal.returns-clause-leaves
+returns-clause-leaves g c =
+    later_leaves g.D.Disk c.args.name.now (places_off (stays_below c.args.edit) c.args.path) c.args.self.now c.shorten_log.new.self c.edit_shortly.new.self c.args.disk.now c.shorten_log.new.disk c.edit_shortly.new.disk
+    c.in_ok-shorten_log.ensures.holds c.edit_shortly.ensures.areas.told c.edit_shortly.ensures.leaves

@@ -1,5 +1,5 @@
 use Rattle.std.proofs.Common.{refl}
-use Rattle.nx_store.proofs.LogLemmas.{emptied_goes, emptied_at, emptied_log}
+use Rattle.nx_store.proofs.LogLemmas.{emptied_goes, emptied_at, emptied_holds, emptied_log}
 use Rattle.nx_store.proofs.store.Store.empty_log.Goals as goal
 
 pub returns-in_default-clause-goes : goal.returns-in_default-clause-goes
@@ -21,3 +21,8 @@ returns-clause-ok g c = (
 pub returns-clause-log : goal.returns-clause-log
 returns-clause-log g c =
     emptied_log {d = g.D.Disk} c.args.self.now c.abandon.new.self c.args.disk.now c.abandon.ensures.follows c.abandon.ensures.none_left c.abandon.ensures.saved c.abandon.ensures.stays.0 c.checkpoint.new.disk c.in-Ok.ensures.empty.4
+
+pub returns-clause-holds : goal.returns-clause-holds
+returns-clause-holds g c =
+    emptied_holds {d = g.D.Disk} c.args.self.now c.abandon.new.self c.args.disk.now c.abandon.ensures.follows c.abandon.ensures.none_left c.abandon.ensures.saved c.abandon.ensures.stays.0 c.checkpoint.new.disk
+    (record { alloc = c.args.self.now.alloc; records = c.checkpoint.new.self; catalog = c.args.self.now.catalog }) c.in-Ok.ensures.ok c.in-Ok.ensures.empty.3 refl

@@ -11,6 +11,7 @@ use Rattle.nx_store.specs.Loading.{reply_of}
 use Rattle.nx_store.proofs.FoundLemmas.{at_found}
 use Rattle.nx_store.proofs.ShowLemmas.{told_applied}
 use Rattle.nx_store.proofs.EditLemmas.{named_there, none_named, absent_text, wrong_text}
+use Rattle.nx_store.proofs.StayingLemmas.{held_same, held_others}
 use Rattle.nx_store.proofs.store.Store.retext.Goals as goal
 
 pub returns-in_default-clause-applies : goal.returns-in_default-clause-applies
@@ -38,3 +39,9 @@ edit_document-requires-clause-can g c = subst (λ (t : TextBody). CanCome (Retex
 pub returns-clause-applies : goal.returns-clause-applies
 returns-clause-applies g c state at told =
     subst (λ (t : TextBody). IsApplied g.D.Disk (reply_of c.edit_document.result) state (Retext c.args.name.now c.args.path t) c.edit_document.new.self c.args.disk.now c.edit_document.new.disk) (sym c.in-Read.is) (c.edit_document.ensures.applies state at told)
+
+pub returns-in_default-clause-leaves : goal.returns-in_default-clause-leaves
+returns-in_default-clause-leaves g c = held_others g.D.Disk (Retext c.args.name.now c.args.path c.args.text) c.args.self.now c.args.self.now c.args.disk.now c.args.disk.now (λ runs. held_same g.D.Disk c.args.self.now c.args.disk.now)
+
+pub returns-in-Wrong-clause-leaves : goal.returns-in-Wrong-clause-leaves
+returns-in-Wrong-clause-leaves g c = held_others g.D.Disk (Retext c.args.name.now c.args.path c.args.text) c.args.self.now c.args.self.now c.args.disk.now c.args.disk.now (λ runs. held_same g.D.Disk c.args.self.now c.args.disk.now)
