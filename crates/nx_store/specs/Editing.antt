@@ -5,7 +5,7 @@ use Rattle.nx_host.specs.declared.disk.Disk.{Ghosts}
 use Rattle.nx_tree.specs.Forest.{OrderedTree}
 use Rattle.nx_tree.specs.Document.{IsNode, longest_node}
 use Rattle.nx_tree.specs.Edit.{cut_at, put, retext}
-use Rattle.nx_holdings.specs.declared.header.Settings.{Settings}
+use Rattle.nx_records.specs.Words.{Settings}
 use Rattle.nx_cuts.specs.Cut.{CutTree}
 use Rattle.nx_matrix.specs.declared.rule.Rule.{Rule}
 use Rattle.nx_script.specs.declared.command.Command.{Command}
