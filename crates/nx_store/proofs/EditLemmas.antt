@@ -1,6 +1,6 @@
 -- A document of a store edited, before the commit.
-use Rattle.std.proofs.Common.{◌≡◌, ℕ, ◌+◌, ◌*◌, ◌<◌, ◌≤◌, cond, List, [], ◌∷◌, ◌++◌, length, map, Option, None, Some, Bool, true, false, Less, Equal, Greater, is_eq, refl, sym, ap, ◌∙◌, subst, arith, append-nil}
-use Rattle.std.specs.Prelude.{◌≢◌, All, if◌then◌else◌, nat_lt, option_and_then}
+use Rattle.std.proofs.Common.{◌≡◌, ℕ, ◌+◌, ◌*◌, ◌<◌, ◌≤◌, cond, inl, inr, List, [], ◌∷◌, ◌++◌, length, map, Option, None, Some, Bool, true, false, Less, Equal, Greater, is_eq, refl, sym, ap, ◌∙◌, subst, arith, append-nil}
+use Rattle.std.specs.Prelude.{◌≢◌, All, if◌then◌else◌, nat_lt, option_and_then, Ok, Err}
 use Rattle.std.specs.Option.{is_some, option_map, option_map_or, option_or}
 use Rattle.std.specs.List.{sum}
 use Rattle.std.specs.FinMap.{entries, find, get, insert, get-entries}
@@ -33,6 +33,7 @@ use Rattle.nx_cuts.specs.Cut.{CutTree, tree_of}
 use Rattle.nx_layouts.specs.Layout.{RecordPlace, ArePlacedOnce}
 use Rattle.nx_script.specs.Field.{name_order, is_document_name}
 use Rattle.nx_script.specs.Rule.{HasLabels}
+use Rattle.nx_script.specs.Commands.{CanCome}
 use Rattle.nx_script.specs.declared.command.Command.TheVariants.{Insert, Delete, Retext, Checkpoint}
 use Rattle.nx_script.specs.declared.command.LineBody.{LineBody}
 use Rattle.nx_script.specs.declared.command.LineBody.TheVariants as line
@@ -66,12 +67,14 @@ use Rattle.nx_edit.specs.Retexting.{other_content, outweighs, outgrows}
 use Rattle.nx_edit.specs.declared.error.EditError.{EditError}
 use Rattle.nx_edit.specs.declared.error.EditError.TheVariants as edit
 use Rattle.nx_store.specs.Store.{IsAt}
-use Rattle.nx_store.specs.Staying.{RecordsOffStay}
+use Rattle.nx_store.specs.Staying.{IsOffPath, IsLeftBy, RecordsStay}
 use Rattle.nx_store.specs.Loading.{IsStoreLeft}
 use Rattle.nx_store.specs.Changing.{Prepares, StepsRefused}
-use Rattle.nx_store.specs.Editing.{edit_command, CanBeMade, edit_fault, is_of_edit, tree_edit, EditBecomes, stays_below, edit_reply, EditNotPrepared}
+use Rattle.nx_store.specs.Editing.{edit_command, said_command, said_edit, CanBeMade, edit_fault, is_of_edit, tree_edit, EditBecomes, stays_below, edit_reply, EditNotPrepared}
 use Rattle.nx_store.specs.declared.editing.Edit.{Edit}
 use Rattle.nx_store.specs.declared.editing.Edit.TheVariants as made
+use Rattle.nx_store.specs.declared.edits.EditBody.{EditBody}
+use Rattle.nx_store.specs.declared.edits.EditBody.TheVariants as body
 use Rattle.nx_store.specs.declared.store.Store.{Store}
 use Rattle.nx_store.proofs.FoundLemmas.{at_none, same_some}
 use Rattle.nx_store.proofs.KeepLemmas.{later_rose, no_end}
@@ -244,6 +247,44 @@ wrong_line state name path error old there = refused_step state (Insert name pat
 pub absent_cut : (state : State) (name path : List ℕ) → get state.documents name ≡ None → Step state (Delete name path) (reply.Refused NoDocument) state
 absent_cut state name path none = refused_step state (Delete name path) NoDocument (at_nothing state name (delete_fault path) none)
 
+-- ---- an edit as it is said
+
+pub absent_body : (state : State) (name path : List ℕ) (b : EditBody) → get state.documents name ≡ None → Step state (said_command name path b) (reply.Refused NoDocument) state
+absent_body state name path body.Delete none = absent_cut state name path none
+absent_body state name path (body.Retext text) none = absent_text state name path text none
+absent_body state name path (body.Insert said) none = absent_line state name path said none
+
+pub wrong_body : (state : State) (name path : List ℕ) (b : EditBody) (error : PyxError) (old : CutTree) → said_edit b ≡ Err error → get state.documents name ≡ Some old → Step state (said_command name path b) (reply.Refused (Pyx error)) state
+wrong_body state name path body.Delete error old is there = absurd (cc)
+wrong_body state name path (body.Retext (said.Read content)) error old is there = absurd (cc)
+wrong_body state name path (body.Retext (said.Wrong e)) error old is there =
+    let same : e ≡ error = cc in
+    subst (λ (x : PyxError). Step state (Retext name path (said.Wrong e)) (reply.Refused (Pyx x)) state) same (wrong_text state name path e old there)
+wrong_body state name path (body.Insert (line.Read node)) error old is there = absurd (cc)
+wrong_body state name path (body.Insert (line.Wrong e)) error old is there =
+    let same : e ≡ error = cc in
+    subst (λ (x : PyxError). Step state (Insert name path (line.Wrong e)) (reply.Refused (Pyx x)) state) same (wrong_line state name path e old there)
+
+-- it is the command of the edit that it says
+pub said_same : (name path : List ℕ) (b : EditBody) (e : Edit) → said_edit b ≡ Ok e → said_command name path b ≡ edit_command name path e
+said_same name path body.Delete e is = let same : made.Delete ≡ e = cc in ap (edit_command name path) same
+said_same name path (body.Retext (said.Read content)) e is = let same : made.Retext content ≡ e = cc in ap (edit_command name path) same
+said_same name path (body.Retext (said.Wrong error)) e is = absurd (cc)
+said_same name path (body.Insert (line.Read node)) e is = let same : made.Insert node ≡ e = cc in ap (edit_command name path) same
+said_same name path (body.Insert (line.Wrong error)) e is = absurd (cc)
+
+pub said_can : (name path : List ℕ) (b : EditBody) (e : Edit) → said_edit b ≡ Ok e → CanCome (said_command name path b) → CanBeMade e
+said_can name path body.Delete e is come = let same : made.Delete ≡ e = cc in subst CanBeMade same tt
+said_can name path (body.Retext (said.Read content)) e is come = let same : made.Retext content ≡ e = cc in subst CanBeMade same come
+said_can name path (body.Retext (said.Wrong error)) e is come = absurd (cc)
+said_can name path (body.Insert (line.Read node)) e is come = let same : made.Insert node ≡ e = cc in subst CanBeMade same come
+said_can name path (body.Insert (line.Wrong error)) e is come = absurd (cc)
+
+pub said_no_checkpoint : (name path : List ℕ) (b : EditBody) → said_command name path b ≢ Checkpoint
+said_no_checkpoint name path body.Delete is = cc
+said_no_checkpoint name path (body.Retext text) is = cc
+said_no_checkpoint name path (body.Insert said) is = cc
+
 -- ---- the state with the document edited
 
 -- what an edit makes is told by the settings of the records
@@ -252,6 +293,12 @@ pub by_settings : {D : Type 0} (d : Ghosts D) (r0 r1 : Records) (x0 x1 : D) (Bec
 by_settings d r0 r1 x0 x1 Becomes stays path entry new comes saved now stands tidy =
     let next = comes saved now stands tidy in
     (next.0, next.1, next.2, subst (λ (s : Settings). EditsDocument (Becomes s) stays path entry new now next.0) ((stands.holds).behind).settings next.3)
+
+-- what an edit leaves is off its path
+left_off : (name path : List ℕ) (e : Edit) (s : StoredDocument) (p : RecordPlace) → IsLeftBy (edit_command name path e) s p → IsOffPath name (stays_below e) path s p
+left_off name path made.Delete s p left = left
+left_off name path (made.Retext content) s p left = left
+left_off name path (made.Insert node) s p left = left
 
 -- The records are those of a state with another document in the place of one, whose catalog is not set yet.
 record IsRewritten (saved mid : Held) (state : State) (contents : Contents) (name : List ℕ) (new : DocEntry) (document : CutTree) : Type 0 where
@@ -282,7 +329,7 @@ module _ {D : Type 0} (d : Ghosts D) (s0 : Store) (x0 : D) (state : State) (at :
       (λ pieces. All-cons (IsStoredIn (mid.settings).k pieces.piece_at) now [] (stored pieces) (All-nil (IsStoredIn (mid.settings).k pieces.piece_at)))
 
   rewritten : (r1 : Records) (x1 : D) (new : DocEntry) (Becomes : CutTree → CutTree → Type 0) (stays : Bool) (path : List ℕ) → ComesTidy d s0.records r1 x0 x1 (EditsDocument Becomes stays path entry new)
-      → (mid : Held) × StandsFor d r1 x1 at.held mid × (document : CutTree) × Becomes old.document document × IsRewritten at.held mid state s0.catalog name new document × RecordsOffStay name (places_off stays path) (at.state_is).stored at.held mid
+      → (mid : Held) × StandsFor d r1 x1 at.held mid × (document : CutTree) × Becomes old.document document × IsRewritten at.held mid state s0.catalog name new document × RecordsStay (IsOffPath name stays path) (at.state_is).stored at.held mid
   rewritten r1 x1 new Becomes stays path comes =
       let mid = comes at.held at.held at.stands ((at.state_is).holds).tidy in
       let among = place d s0 x0 state at name entry there in
@@ -304,10 +351,13 @@ module _ {D : Type 0} (d : Ghosts D) (s0 : Store) (x0 : D) (state : State) (at :
           documents = replaced_between (λ (s : StoredDocument). s.name) (λ (s : StoredDocument). s.document) state.documents among.before old now among.after (sym among.named)
               ((at.state_is).documents ∙ ap (map (λ (s : StoredDocument). (s.name, s.document))) among.are);
         },
-        subst (λ (l : List StoredDocument). RecordsOffStay name (places_off stays path) l at.held mid.0) (sym among.are)
-            (change_leaves name (places_off stays path) (document_size old.document + 2 * document_size edited.document) at.held mid.0 among.before old (now ∷ []) among.after
-            (holds_between d s0 x0 state at name entry there) (moved_alone mid.0 now (document_size old.document + 2 * document_size edited.document) edited.moves) among.named (off_within stays path)
-            (record { records = edited.records_stay; lists = edited.lists_stay })),
+        subst (λ (l : List StoredDocument). RecordsStay (IsOffPath name stays path) l at.held mid.0) (sym among.are)
+            (change_leaves (IsOffPath name stays path) (document_size old.document + 2 * document_size edited.document) at.held mid.0 among.before old (now ∷ []) among.after
+            (holds_between d s0 x0 state at name entry there) (moved_alone mid.0 now (document_size old.document + 2 * document_size edited.document) edited.moves) (off_within name stays path)
+            (λ p left. elim left [
+              | inl of ↦ record { itself = edited.records_stay p of.1; list = λ count chain names. edited.lists_stay p count chain of.1 names }
+              | inr of ↦ absurd (of.0 among.named)
+            ])),
       )
 
   -- the same settings and rules are those of the state
@@ -326,7 +376,7 @@ module _ {D : Type 0} (d : Ghosts D) (s0 : Store) (x0 : D) (state : State) (at :
       → (r1 : Records) (s2 : Store) (x1 x2 : D) (new : DocEntry) → ComesTidy d s0.records r1 x0 x1 (EditsDocument (EditBecomes (settings_of s0.records) (s0.catalog).rules e path) (stays_below e) path entry new)
       → (s2.catalog).documents ≡ insert (s0.catalog).documents name new → (s2.catalog).rules ≡ (s0.catalog).rules
       → (All HasLabels (s0.catalog).rules → IsCatalog (catalog_bytes s2.catalog) s2.catalog) → ComesTo d r1 s2.records x1 x2 (λ was now. SetsCatalog (catalog_bytes s2.catalog) was now)
-      → (made : Prepares d state (edit_command name path e) reply.Done s2 x2) × RecordsOffStay name (places_off (stays_below e) path) (at.state_is).stored at.held (made.prepared).now
+      → (made : Prepares d state (edit_command name path e) reply.Done s2 x2) × RecordsStay (IsLeftBy (edit_command name path e)) (at.state_is).stored at.held (made.prepared).now
   edit_prepared path e can free r1 s2 x1 x2 new comes documents rules form saves =
       let mid = rewritten r1 x1 new (EditBecomes (settings_of s0.records) (s0.catalog).rules e path) (stays_below e) path comes in
       let m = mid.4 in
@@ -356,7 +406,7 @@ module _ {D : Type 0} (d : Ghosts D) (s0 : Store) (x0 : D) (state : State) (at :
             catalog = subst (λ (bytes : List ℕ). IsCatalog bytes s2.catalog) (sym (now.2).catalog) formed;
           };
         },
-        catalog_leaves name (places_off (stays_below e) path) (catalog_bytes s2.catalog) at.held mid.0 now.0 (at.state_is).stored now.2 mid.5,
+        λ s p there left. catalog_leaves (IsOffPath name (stays_below e) path) (catalog_bytes s2.catalog) at.held mid.0 now.0 (at.state_is).stored now.2 mid.5 s p there (left_off name path e s p left),
       )
 
   -- the catalog, which is as long as it was, needs no page

@@ -37,11 +37,11 @@ use Rattle.nx_state.proofs.ChangeLemmas.{document_goes, catalog_comes}
 use Rattle.nx_steps.specs.Step.{Step}
 use Rattle.nx_edit.specs.Removing.{document_places, RemovesDocument, OfEntry, NotRemoved}
 use Rattle.nx_store.specs.Store.{IsAt}
-use Rattle.nx_store.specs.Staying.{RecordsOffStay}
+use Rattle.nx_store.specs.Staying.{IsLeftBy, RecordsStay}
 use Rattle.nx_store.specs.Changing.{Prepares, NotPrepared}
 use Rattle.nx_store.specs.declared.store.Store.{Store}
 use Rattle.nx_store.proofs.FoundLemmas.{found, get_found, map_some, same_some}
-use Rattle.nx_store.proofs.StayingLemmas.{none_within, none_stay, change_leaves, catalog_leaves}
+use Rattle.nx_store.proofs.StayingLemmas.{change_leaves, catalog_leaves}
 use Rattle.nx_store.proofs.KeepLemmas.{later_rose, no_end}
 use Rattle.nx_store.proofs.StepsLemmas.{refused_step, done_step}
 use Rattle.nx_store.proofs.OrderedLemmas.{name_same, removed_between}
@@ -124,7 +124,7 @@ module _ {D : Type 0} (d : Ghosts D) (s0 : Store) (x0 : D) (state : State) (at :
       subst (λ (e : DocEntry). OfEntry d s0.records x0 e P) (sym the_one.2) each (the_one.0).document
       (record { saved = at.held; now = at.held; stands = at.stands; pieces = holds_between.pieces; laid = record { layout = (the_one.0).layout; laid = stored_one.laid } }) holds_between.tidy stored_one.counted
 
-  gone : (r1 : Records) (x1 : D) → ComesTidy d s0.records r1 x0 x1 (RemovesDocument entry) → (mid : Held) × StandsFor d r1 x1 at.held mid × IsGone at.held mid state s0.catalog name × RecordsOffStay name (λ layout. []) (at.state_is).stored at.held mid
+  gone : (r1 : Records) (x1 : D) → ComesTidy d s0.records r1 x0 x1 (RemovesDocument entry) → (mid : Held) × StandsFor d r1 x1 at.held mid × IsGone at.held mid state s0.catalog name × RecordsStay (IsLeftBy (Discard name)) (at.state_is).stored at.held mid
   gone r1 x1 comes =
       let mid = comes at.held at.held at.stands ((at.state_is).holds).tidy in
       let s = the_one.0 in
@@ -144,15 +144,15 @@ module _ {D : Type 0} (d : Ghosts D) (s0 : Store) (x0 : D) (state : State) (at :
               (removed_between (λ (s : StoredDocument). s.name) (λ (s : StoredDocument). s.document) state.documents place.before s place.after
               ((at.state_is).documents ∙ ap (map (λ (s : StoredDocument). (s.name, s.document))) place.are));
         },
-        subst (λ (l : List StoredDocument). RecordsOffStay name (λ layout. []) l at.held mid.0) (sym place.are)
-            (change_leaves name (λ layout. []) 0 at.held mid.0 place.before s [] place.after holds_between
-            (subst (λ (ps : List RecordPlace). MovesRecords ps [] 0 at.held mid.0) (sym (append-nil (record_places s))) moves) place.named none_within (none_stay at.held mid.0)),
+        subst (λ (l : List StoredDocument). RecordsStay (IsLeftBy (Discard name)) l at.held mid.0) (sym place.are)
+            (change_leaves (IsLeftBy (Discard name)) 0 at.held mid.0 place.before s [] place.after holds_between
+            (subst (λ (ps : List RecordPlace). MovesRecords ps [] 0 at.held mid.0) (sym (append-nil (record_places s))) moves) (λ t p left. left.1) (λ p left. absurd (left.0 place.named))),
       )
 
   -- the document is no longer entered
   pub gone_prepared : (r1 : Records) (s2 : Store) (x1 x2 : D) → ComesTidy d s0.records r1 x0 x1 (RemovesDocument entry) → (s2.catalog).documents ≡ remove (s0.catalog).documents name → (s2.catalog).rules ≡ (s0.catalog).rules
       → (All HasLabels (s0.catalog).rules → IsCatalog (catalog_bytes s2.catalog) s2.catalog) → ComesTo d r1 s2.records x1 x2 (λ was now. SetsCatalog (catalog_bytes s2.catalog) was now)
-      → (made : Prepares d state (Discard name) reply.Done s2 x2) × RecordsOffStay name (λ layout. []) (at.state_is).stored at.held (made.prepared).now
+      → (made : Prepares d state (Discard name) reply.Done s2 x2) × RecordsStay (IsLeftBy (Discard name)) (at.state_is).stored at.held (made.prepared).now
   gone_prepared r1 s2 x1 x2 comes documents rules form saves =
       let mid = gone r1 x1 comes in
       let m = mid.2 in
@@ -179,7 +179,7 @@ module _ {D : Type 0} (d : Ghosts D) (s0 : Store) (x0 : D) (state : State) (at :
             catalog = subst (λ (bytes : List ℕ). IsCatalog bytes s2.catalog) (sym (now.2).catalog) formed;
           };
         },
-        catalog_leaves name (λ layout. []) (catalog_bytes s2.catalog) at.held mid.0 now.0 (at.state_is).stored now.2 mid.3,
+        catalog_leaves (IsLeftBy (Discard name)) (catalog_bytes s2.catalog) at.held mid.0 now.0 (at.state_is).stored now.2 mid.3,
       )
 
   -- the shorter catalog needs no page

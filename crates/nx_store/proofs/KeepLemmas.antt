@@ -21,6 +21,8 @@ use Rattle.nx_records.specs.Refusals.{RunsOn, NotStored}
 use Rattle.nx_records.proofs.StandLemmas.{abandon_stands}
 use Rattle.nx_matrix.specs.declared.rule.Rule.{Rule}
 use Rattle.nx_script.specs.Rule.{HasLabels}
+use Rattle.nx_script.specs.declared.command.LoadBody.TheVariants.{Read}
+use Rattle.nx_script.specs.declared.command.Command.TheVariants.{Load}
 use Rattle.nx_hold.specs.declared.entry.DocEntry.{DocEntry}
 use Rattle.nx_hold.specs.Changes.{ComesTidy}
 use Rattle.nx_hold.proofs.RefusalLemmas.{runs_then, saved_then}
@@ -28,9 +30,11 @@ use Rattle.nx_catalog.specs.Catalog.{Contents, Entries, IsCatalog, catalog_bytes
 use Rattle.nx_state.specs.State.{State}
 use Rattle.nx_build.specs.Storing.{StoresDocument}
 use Rattle.nx_store.specs.Store.{IsAt}
+use Rattle.nx_store.specs.Staying.{IsLeftBy, RecordsStay}
 use Rattle.nx_store.specs.Loading.{IsNew, IsKept, IsStoreLeft, NotKept}
 use Rattle.nx_store.specs.declared.store.Store.{Store}
 use Rattle.nx_store.proofs.NameLemmas.{taken_back}
+use Rattle.nx_store.proofs.StayingLemmas.{catalog_leaves}
 use Rattle.nx_store.proofs.LoadLemmas.{IsBrought, brought, set_state, save_full, store_full, many_full}
 
 pub no_end : (r : Records) → has_ended r ≡ false → has_ended r ≡ true → ⊥
@@ -87,21 +91,24 @@ module _ {D : Type 0} (d : Ghosts D) where
     -- the document is kept
     pub kept_at : (r1 : Records) (s2 : Store) (x1 x2 : D) (c1 : Contents) (name : List ℕ) (tree : OrderedTree) (parts : List Interval) (entry : DocEntry) → c1.documents ≡ insert (s0.catalog).documents name entry → c1.rules ≡ (s0.catalog).rules
         → (All HasLabels c1.rules → IsCatalog (catalog_bytes c1) c1) → s2.catalog ≡ c1 → (mid : Held) → StandsFor d r1 x1 at.held mid → IsBrought at.held mid state s0.catalog at.state_is name tree parts entry
-        → ComesTo d r1 s2.records x1 x2 (λ was now. SetsCatalog (catalog_bytes c1) was now) → IsKept d s2 x2 state name tree parts
+        → ComesTo d r1 s2.records x1 x2 (λ was now. SetsCatalog (catalog_bytes c1) was now)
+        → (kept : IsKept d s2 x2 state name tree parts) × RecordsStay (IsLeftBy (Load name (Read tree))) (at.state_is).stored at.held kept.now
     kept_at r1 s2 x1 x2 c1 name tree parts entry documents rules form same mid stands b sets =
         let now = sets at.held mid stands in
-        let formed = form_at c1 rules form in
-        record {
-          document = b.document;
-          tree_is = b.tree_is;
-          parts_are = b.parts_are;
-          saved = at.held;
-          now = now.0;
-          stands = now.1;
-          was = at.state_is;
-          will = set_state at.held mid now.0 state s0.catalog c1 at.state_is name tree parts entry at.catalog b documents rules formed now.2;
-          catalog = subst (λ (c : Contents). IsCatalog (now.0).catalog c) (sym same) (subst (λ (bytes : List ℕ). IsCatalog bytes c1) (sym (now.2).catalog) formed);
-        }
+        let formed = form_at c1 rules form in (
+          record {
+            document = b.document;
+            tree_is = b.tree_is;
+            parts_are = b.parts_are;
+            saved = at.held;
+            now = now.0;
+            stands = now.1;
+            was = at.state_is;
+            will = set_state at.held mid now.0 state s0.catalog c1 at.state_is name tree parts entry at.catalog b documents rules formed now.2;
+            catalog = subst (λ (c : Contents). IsCatalog (now.0).catalog c) (sym same) (subst (λ (bytes : List ℕ). IsCatalog bytes c1) (sym (now.2).catalog) formed);
+          },
+          catalog_leaves (IsLeftBy (Load name (Read tree))) (catalog_bytes c1) at.held mid now.0 (at.state_is).stored now.2 b.stay,
+        )
 
   -- why the records of a document weren't brought
   pub store_refused : (s0 s1 : Store) (x0 x1 : D) (tree : OrderedTree) (name : List ℕ) (e : StoreError) → has_ended s0.records ≡ false → IsNew s0 name → s1.catalog ≡ s0.catalog

@@ -1,5 +1,6 @@
 -- What the steps of a load make of a store that is at a state.
-use Rattle.std.proofs.Common.{◌≡◌, ℕ, ◌+◌, ◌*◌, ◌<◌, ◌≤◌, List, ◌∷◌, ◌++◌, length, map, None, refl, sym, ap, ◌∙◌, subst, arith}
+use Rattle.std.proofs.Common.{◌≡◌, ℕ, ◌+◌, ◌*◌, ◌<◌, ◌≤◌, List, [], ◌∷◌, ◌++◌, length, map, None, refl, sym, ap, ◌∙◌, subst, arith, append-nil}
+use Rattle.std.specs.Prelude.{Contains}
 use Rattle.std.specs.List.{sum}
 use Rattle.std.specs.FinMap.{FinMap, entries, get, insert, find}
 use Rattle.std.proofs.lemmas.List.{length-map}
@@ -11,20 +12,23 @@ use Rattle.nx_holdings.specs.declared.header.Settings.{Settings}
 use Rattle.nx_holdings.specs.Holdings.{Held, Holds, chain_count}
 use Rattle.nx_records.specs.Changes.{SetsCatalog, catalog_needs}
 use Rattle.nx_cuts.specs.Cut.{CutTree, tree_of, parts_of}
-use Rattle.nx_layouts.specs.Layout.{IsLaidOutAs}
+use Rattle.nx_layouts.specs.Layout.{RecordPlace, IsLaidOutAs}
 use Rattle.nx_script.specs.Field.{name_order}
 use Rattle.nx_hold.specs.declared.entry.DocEntry.{DocEntry}
+use Rattle.nx_hold.specs.Documents.{MovesRecords}
 use Rattle.nx_hold.specs.Pieces.{IsTidy}
 use Rattle.nx_hold.proofs.MapLemmas.{piece_map}
 use Rattle.nx_catalog.specs.Catalog.{Contents, IsCatalog, catalog_bytes}
 use Rattle.nx_catalog.proofs.CatalogLemmas.{one_contents}
 use Rattle.nx_catalog.proofs.LengthLemmas.{most_bytes}
 use Rattle.nx_state.specs.State.{State, document_size, all_nodes}
-use Rattle.nx_state.specs.Stands.{StoredDocument, HoldsDocuments, HoldsState}
+use Rattle.nx_state.specs.Stands.{StoredDocument, HoldsDocuments, HoldsState, record_places}
 use Rattle.nx_build.specs.Storing.{StoresDocument}
 use Rattle.nx_steps.specs.Answers.{with_document, MayBeFull}
 use Rattle.nx_state.proofs.ChangeLemmas.{document_comes, catalog_comes}
 use Rattle.nx_state.proofs.FreeLemmas.{documents_leave_free}
+use Rattle.nx_store.specs.Staying.{RecordStays, RecordsStay}
+use Rattle.nx_store.proofs.StayingLemmas.{come_leaves}
 use Rattle.nx_store.proofs.NameLemmas.{front, behind, front-behind, none_either, none_listed, inserted_between}
 use Rattle.nx_store.proofs.PlanLemmas.{parts_are_planned}
 use Rattle.nx_store.proofs.RoomLemmas.{store_room, save_room, count_room, all_two, sum_between, length_between, nodes_stored}
@@ -96,6 +100,7 @@ pub record IsBrought (saved now : Held) (state : State) (contents : Contents) (a
   pub documents : entries (insert state.documents name document) ≡ map (λ (s : StoredDocument). (s.name, s.document)) stored
   pub number : length stored ≡ length at.stored + 1
   pub sizes : sum (map (λ (s : StoredDocument). document_size s.document) stored) ≡ all_nodes state + (1 + nodes tree.below)
+  pub stay : (s : StoredDocument) (place : RecordPlace) → Contains at.stored s → Contains (record_places s) place → RecordStays saved now place
 
 module _ (saved now : Held) (state : State) (contents : Contents) (at : HoldsState saved state) (catalog : IsCatalog saved.catalog contents) (name : List ℕ) (none : get contents.documents name ≡ None) (tree : OrderedTree) (parts : List Interval)
     (page slot count k : ℕ) (stores : StoresDocument k tree parts (record { page = page; slot = slot }) saved now) where
@@ -132,6 +137,10 @@ module _ (saved now : Held) (state : State) (contents : Contents) (at : HoldsSta
             let all = ap (λ (l : List StoredDocument). sum (map (λ (s : StoredDocument). document_size s.document) l)) (all_are saved state contents at catalog name none) in
             let whole = nodes_stored state at.stored at.documents in
             omega (arith, between, all, whole, size);
+        stay = subst (λ (l : List StoredDocument). RecordsStay (λ s place. Contains (record_places s) place) l saved now) (all_are saved state contents at catalog name none)
+            (come_leaves (λ s place. Contains (record_places s) place) (2 * (1 + nodes tree.below)) saved now front (new_document ∷ []) rest
+            (subst (HoldsDocuments saved) (sym (all_are saved state contents at catalog name none)) at.holds)
+            (subst (λ (ps : List RecordPlace). MovesRecords [] ps (2 * (1 + nodes tree.below)) saved now) (sym (append-nil (record_places new_document))) stores.adds) (λ s place among. among));
       }
 
 -- With the catalog set, they hold the state with the document.

@@ -39,9 +39,11 @@ use Rattle.nx_steps.specs.Refusal.{rule_fault}
 use Rattle.nx_steps.specs.Step.{nodes_after, Step}
 use Rattle.nx_steps.proofs.CountLemmas.{room_counted}
 use Rattle.nx_store.specs.Store.{IsAt}
+use Rattle.nx_store.specs.Staying.{IsLeftBy, RecordsStay}
 use Rattle.nx_store.specs.Changing.{Prepares, RuleNotPrepared}
 use Rattle.nx_store.specs.declared.store.Store.{Store}
 use Rattle.nx_store.proofs.KeepLemmas.{no_end}
+use Rattle.nx_store.proofs.StayingLemmas.{catalog_alone}
 use Rattle.nx_store.proofs.RoomLemmas.{nodes_stored}
 use Rattle.nx_store.proofs.StepsLemmas.{refused_step, done_step, full_step}
 
@@ -107,33 +109,36 @@ module _ {D : Type 0} (d : Ghosts D) (s0 : Store) (x0 : D) (state : State) (at :
   }
 
   pub rule_prepared : (s2 : Store) (x2 : D) (rule : Rule) → (s2.catalog).documents ≡ (s0.catalog).documents → MakesRule (s0.catalog).rules rule (s2.catalog).rules → IsCatalog (catalog_bytes s2.catalog) s2.catalog
-      → ComesTo d s0.records s2.records x0 x2 (λ was now. SetsCatalog (catalog_bytes s2.catalog) was now) → Prepares d state (SetRule rule) reply.Done s2 x2
+      → ComesTo d s0.records s2.records x0 x2 (λ was now. SetsCatalog (catalog_bytes s2.catalog) was now)
+      → (made : Prepares d state (SetRule rule) reply.Done s2 x2) × RecordsStay (IsLeftBy (SetRule rule)) (at.state_is).stored at.held (made.prepared).now
   rule_prepared s2 x2 rule documents makes formed saves =
       let now = saves at.held at.held at.stands in
       let made : MakesRule state.rules rule (s2.catalog).rules = subst (λ (rs : List Rule). MakesRule rs rule (s2.catalog).rules) rules_at makes in
-      let old : AreRules state.rules = subst AreRules rules_at (at.catalog).rules in
-      record {
-        next = record state { rules = (s2.catalog).rules };
-        step = done_step state (SetRule rule) (record state { rules = (s2.catalog).rules }) (rule_fits state.rules (s2.catalog).rules rule old made)
-            (refl, record { rules = (s2.catalog).rules; are_rules = made.are; sets = made.sets; next_is = refl });
-        prepared = record {
-          saved = at.held;
-          now = now.0;
-          stands = now.1;
-          was = at.state_is;
-          will = record {
-            settings = (now.2).settings ∙ (at.state_is).settings;
-            stored = (at.state_is).stored;
-            holds = catalog_comes (catalog_bytes s2.catalog) at.held now.0 (at.state_is).stored (at.state_is).holds now.2;
-            contents = s2.catalog;
+      let old : AreRules state.rules = subst AreRules rules_at (at.catalog).rules in (
+        record {
+          next = record state { rules = (s2.catalog).rules };
+          step = done_step state (SetRule rule) (record state { rules = (s2.catalog).rules }) (rule_fits state.rules (s2.catalog).rules rule old made)
+              (refl, record { rules = (s2.catalog).rules; are_rules = made.are; sets = made.sets; next_is = refl });
+          prepared = record {
+            saved = at.held;
+            now = now.0;
+            stands = now.1;
+            was = at.state_is;
+            will = record {
+              settings = (now.2).settings ∙ (at.state_is).settings;
+              stored = (at.state_is).stored;
+              holds = catalog_comes (catalog_bytes s2.catalog) at.held now.0 (at.state_is).stored (at.state_is).holds now.2;
+              contents = s2.catalog;
+              catalog = subst (λ (bytes : List ℕ). IsCatalog bytes s2.catalog) (sym (now.2).catalog) formed;
+              names = ap (λ (m : Entries). entries m) (documents ∙ ap (λ (c : Contents). c.documents) (sym contents_at)) ∙ (at.state_is).names;
+              documents = (at.state_is).documents;
+              rules = refl;
+            };
             catalog = subst (λ (bytes : List ℕ). IsCatalog bytes s2.catalog) (sym (now.2).catalog) formed;
-            names = ap (λ (m : Entries). entries m) (documents ∙ ap (λ (c : Contents). c.documents) (sym contents_at)) ∙ (at.state_is).names;
-            documents = (at.state_is).documents;
-            rules = refl;
           };
-          catalog = subst (λ (bytes : List ℕ). IsCatalog bytes s2.catalog) (sym (now.2).catalog) formed;
-        };
-      }
+        },
+        catalog_alone (IsLeftBy (SetRule rule)) (catalog_bytes s2.catalog) at.held now.0 (at.state_is).stored now.2,
+      )
 
   pub rule_many : (rule : Rule) → IsRuleRefused (s0.catalog).rules rule.parent rule.child rule.entry matrix.TooManyRules → Step state (SetRule rule) (reply.Refused TooManyRules) state
   rule_many rule refused = refused_step state (SetRule rule) TooManyRules (rule_refused state.rules rule (subst (λ (rs : List Rule). IsRuleRefused rs rule.parent rule.child rule.entry matrix.TooManyRules) rules_at refused))

@@ -1,108 +1,137 @@
--- What stays of the documents of a store where a command changes one.
-use Rattle.std.proofs.Common.{◌≡◌, ℕ, List, [], ◌∷◌, ◌++◌, Option, Some, Bool, true, false, refl, sym, ap, ◌∙◌, subst}
-use Rattle.std.specs.Prelude.{Contains, IsSome}
+-- Which records of a store stay where a command is carried out.
+use Rattle.std.proofs.Common.{◌≡◌, ℕ, List, [], ◌∷◌, ◌++◌, Option, Some, Bool, true, false, refl, sym, ap, ◌∙◌, subst, arith, inl, inr}
+use Rattle.std.specs.Prelude.{◌⊎◌, ◌<◌, Contains, IsSome}
 use Rattle.std.proofs.lemmas.Bool.{false≢true}
-use Rattle.std.proofs.lemmas.List.Elements.{All-nil, All-cons, All-weaker, Contains-append_left, Contains-append_right}
+use Rattle.std.proofs.lemmas.List.Elements.{Contains-append_left, Contains-append_right, Contains-append_cases, Contains-push_cases}
 use Rattle.nx_host.specs.Disk.{Image}
 use Rattle.nx_host.specs.declared.disk.Disk.{Ghosts}
 use Rattle.nx_host.specs.Phase.{LeavesAreas}
-use Rattle.nx_holdings.specs.Holdings.{Held}
+use Rattle.nx_host.specs.Still.{IsStill}
+use Rattle.nx_host.proofs.DiskLemmas.{told_same}
+use Rattle.nx_replay.specs.Log.{replay}
+use Rattle.nx_holdings.specs.Holdings.{Held, HoldsBy}
+use Rattle.nx_holdings.proofs.OneLemmas.{hold_one}
 use Rattle.nx_records.specs.Records.{has_ended, StandsFor, HasNoChanges, FollowsOn}
 use Rattle.nx_records.specs.Changes.{SetsCatalog}
 use Rattle.nx_records.specs.declared.error.StoreError.{StoreError}
 use Rattle.nx_records.specs.declared.error.StoreError.TheVariants as below
+use Rattle.nx_records.proofs.LeaveLemmas.{leaves_stand}
 use Rattle.nx_records.proofs.StandLemmas.{abandon_stands}
-use Rattle.nx_layouts.specs.Layout.{RecordPlace, Layout, places_of}
-use Rattle.nx_layouts.proofs.PlaceLemmas.{no_place, later_among}
+use Rattle.nx_tree.specs.Forest.{OrderedTree}
+use Rattle.nx_layouts.specs.Layout.{RecordPlace, places_of}
+use Rattle.nx_layouts.proofs.PlaceLemmas.{later_among}
 use Rattle.nx_hold.specs.Changes.{place_of}
-use Rattle.nx_hold.specs.Pieces.{record_at, NamesList}
 use Rattle.nx_hold.specs.Documents.{MovesRecords}
 use Rattle.nx_edit.specs.Editing.{places_off}
 use Rattle.nx_edit.specs.declared.error.EditError.{EditError}
 use Rattle.nx_edit.specs.declared.error.EditError.TheVariants as edit
 use Rattle.nx_edit.proofs.OffLemmas.{off_among}
 use Rattle.nx_catalog.specs.Catalog.{Contents, IsCatalog}
+use Rattle.nx_catalog.specs.declared.saving.RuleError.{RuleError}
+use Rattle.nx_catalog.specs.declared.saving.RuleError.TheVariants as rule
 use Rattle.nx_script.specs.declared.command.Command.{Command}
-use Rattle.nx_script.specs.declared.command.Command.TheVariants.{Discard, Delete, Retext, Insert}
-use Rattle.nx_script.specs.declared.reply.Reply.{Reply}
 use Rattle.nx_state.specs.State.{State}
 use Rattle.nx_state.specs.Stands.{StoredDocument, HoldsDocuments, record_places, all_places}
-use Rattle.nx_state.proofs.ChangeLemmas.{all_joined, rest_stays}
-use Rattle.nx_steps.specs.Step.{may_change}
-use Rattle.nx_store.specs.Store.{is_ended, IsAt}
-use Rattle.nx_store.specs.Staying.{RecordsStay, DocumentStays, RecordsOffStay, LeavesRest, LeavesOthers, HoldsOn}
-use Rattle.nx_store.specs.Loading.{IsStoreLeft}
-use Rattle.nx_store.specs.Changing.{Prepares, NotPrepared}
+use Rattle.nx_state.proofs.ChangeLemmas.{rest_stays}
+use Rattle.nx_store.specs.Store.{is_ended, LeavesStore, IsAt}
+use Rattle.nx_store.specs.Staying.{RecordStays, IsOffPath, IsLeftBy, RecordsStay, LeavesOthers, HoldsOn}
+use Rattle.nx_store.specs.Loading.{IsStoreLeft, NotKept}
+use Rattle.nx_store.specs.Changing.{IsPrepared, NotPrepared, RuleNotPrepared}
 use Rattle.nx_store.specs.Editing.{EditNotPrepared}
 use Rattle.nx_store.specs.declared.store.Store.{Store}
-use Rattle.nx_store.proofs.AtLemmas.{at_beside}
+use Rattle.nx_store.proofs.AtLemmas.{at_runs}
+use Rattle.nx_store.proofs.FoundLemmas.{same_some}
 use Rattle.nx_store.proofs.LogLemmas.{some_value}
 
--- the record at a place stays, with the list that it names
-abbrev PlaceStays : (was now : Held) → RecordPlace → Type 0
-PlaceStays was now place = (record_at now place ≡ record_at was place) × ((count chain : ℕ) → NamesList was place count chain → now.lists chain ≡ was.lists chain)
+-- ---- places and documents among others
 
--- the places that are told are some of the document's
-abbrev pub IsWithin : (Layout → List RecordPlace) → Type 0
-IsWithin left = (s : StoredDocument) (place : RecordPlace) → Contains (left s.layout) place → Contains (record_places s) place
+none_there : {A : Type 0} (x : A) → Contains [] x → ⊥
+none_there x h = let low : h.0 < 0 = h.1 in omega (arith, low)
 
-pub off_within : (stays : Bool) (path : List ℕ) → IsWithin (places_off stays path)
-off_within stays path s place among =
+alone_there : {A : Type 0} (x y : A) → Contains (x ∷ []) y → x ≡ y
+alone_there x y h = elim (Contains-push_cases [] x y h) [ inl none ↦ absurd (none_there y none) | inr same ↦ same ]
+
+-- a document's records are among those of all
+place_there : (stored : List StoredDocument) (s : StoredDocument) (place : RecordPlace) → Contains stored s → Contains (record_places s) place → Contains (all_places stored) place
+place_there [] s place there among = absurd (none_there s there)
+place_there (t ∷ stored) s place there among = elim (Contains-append_cases (t ∷ []) stored s there) [
+  | inl one ↦ Contains-append_left (record_places t) (all_places stored) place (subst (λ (x : StoredDocument). Contains (record_places x) place) (sym (alone_there t s one)) among)
+  | inr rest ↦ Contains-append_right (record_places t) (all_places stored) place (place_there stored s place rest among)
+]
+
+-- those off a path are of the document
+pub off_within : (name : List ℕ) (stays : Bool) (path : List ℕ) (s : StoredDocument) (place : RecordPlace) → IsOffPath name stays path s place → Contains (record_places s) place
+off_within name stays path s place (inl of) =
     later_among (place_of s.entry.root) ((places_of s.layout ++ []) ++ []) place
-    (Contains-append_left (places_of s.layout ++ []) [] place (Contains-append_left (places_of s.layout) [] place (off_among stays path s.layout place among)))
+    (Contains-append_left (places_of s.layout ++ []) [] place (Contains-append_left (places_of s.layout) [] place (off_among stays path s.layout place of.1)))
+off_within name stays path s place (inr of) = of.1
 
-pub none_within : IsWithin (λ layout. [])
-none_within s place among = absurd (no_place place among)
+-- ---- records that stay
 
-all_stay : (was now : Held) (places : List RecordPlace) → ((place : RecordPlace) → Contains places place → PlaceStays was now place) → RecordsStay places was now
-all_stay was now places each = record { records = λ place among. (each place among).0; lists = λ place count chain among names. (each place among).1 count chain names }
+same_record : (was : Held) (place : RecordPlace) → RecordStays was was place
+same_record was place = record { itself = refl; list = λ count chain names. refl }
 
-pub none_stay : (was now : Held) → RecordsStay [] was now
-none_stay was now = all_stay was now [] (λ place among. absurd (no_place place among))
-
-all_same : (was : Held) (places : List RecordPlace) → RecordsStay places was was
-all_same was places = record { records = λ place among. refl; lists = λ place count chain among names. refl }
-
-along_catalog : (bytes : List ℕ) (was mid now : Held) → SetsCatalog bytes mid now → (places : List RecordPlace) → RecordsStay places was mid → RecordsStay places was now
-along_catalog bytes was mid now sets places stay = record {
-  records = λ place among. ap (λ (r : ℕ → ℕ → Option (List ℕ)). r place.page place.slot) sets.records ∙ stay.records place among;
-  lists = λ place count chain among names. ap (λ (l : ℕ → Option (List ℕ)). l chain) sets.lists ∙ stay.lists place count chain among names;
+along_catalog : (bytes : List ℕ) (was mid now : Held) (place : RecordPlace) → SetsCatalog bytes mid now → RecordStays was mid place → RecordStays was now place
+along_catalog bytes was mid now place sets stays = record {
+  itself = ap (λ (r : ℕ → ℕ → Option (List ℕ)). r place.page place.slot) sets.records ∙ stays.itself;
+  list = λ count chain names. ap (λ (l : ℕ → Option (List ℕ)). l chain) sets.lists ∙ stays.list count chain names;
 }
 
-module _ (name : List ℕ) (left : Layout → List RecordPlace) where
-  several_stay : (was now : Held) (stored : List StoredDocument) → IsWithin left → ((place : RecordPlace) → Contains (all_places stored) place → PlaceStays was now place) → RecordsOffStay name left stored was now
-  several_stay was now [] within each = All-nil (DocumentStays name left was now)
-  several_stay was now (s ∷ stored) within each =
-      let here : (place : RecordPlace) → Contains (record_places s) place → PlaceStays was now place = λ place among. each place (Contains-append_left (record_places s) (all_places stored) place among) in
-      All-cons (DocumentStays name left was now) s stored
-      (record { itself = λ same. all_stay was now (left s.layout) (λ place among. here place (within s place among)); other = λ apart. all_stay was now (record_places s) here })
-      (several_stay was now stored within (λ place among. each place (Contains-append_right (record_places s) (all_places stored) place among)))
+module _ (Left : StoredDocument → RecordPlace → Type 0) where
+  same_rest : (was : Held) (stored : List StoredDocument) → RecordsStay Left stored was was
+  same_rest was stored s place there left = same_record was place
+
+  -- where the catalog is set then
+  pub catalog_leaves : (bytes : List ℕ) (was mid now : Held) (stored : List StoredDocument) → SetsCatalog bytes mid now → RecordsStay Left stored was mid → RecordsStay Left stored was now
+  catalog_leaves bytes was mid now stored sets rest s place there left = along_catalog bytes was mid now place sets (rest s place there left)
+
+  -- where it alone is set
+  pub catalog_alone : (bytes : List ℕ) (was now : Held) (stored : List StoredDocument) → SetsCatalog bytes was now → RecordsStay Left stored was now
+  catalog_alone bytes was now stored sets = catalog_leaves bytes was was now stored sets (same_rest was stored)
+
+  module _ (needs : ℕ) (was now : Held) (before old new after : List StoredDocument) (h : HoldsDocuments was (before ++ (old ++ after))) (moves : MovesRecords (all_places old) (all_places new) needs was now)
+      (within : (s : StoredDocument) (place : RecordPlace) → Left s place → Contains (record_places s) place) where
+    beside_stay : (s : StoredDocument) (place : RecordPlace) → Contains before s ⊎ Contains after s → Left s place → RecordStays was now place
+    beside_stay s place beside left =
+        let among = within s place left in
+        let there : Contains (all_places before ++ all_places after) place = elim beside [
+          | inl early ↦ Contains-append_left (all_places before) (all_places after) place (place_there before s place early among)
+          | inr late ↦ Contains-append_right (all_places before) (all_places after) place (place_there after s place late among)
+        ] in
+        let stays = rest_stays before old new after h moves place there in
+        record { itself = stays.0; list = stays.1 }
 
   -- where the records of a document became others, the rest stays
   pub change_leaves : (needs : ℕ) (was now : Held) (before : List StoredDocument) (old : StoredDocument) (new after : List StoredDocument) → HoldsDocuments was (before ++ old ∷ after)
-      → MovesRecords (all_places (old ∷ [])) (all_places new) needs was now → old.name ≡ name → IsWithin left → RecordsStay (left old.layout) was now → RecordsOffStay name left (before ++ old ∷ after) was now
-  change_leaves needs was now before old new after h moves named within kept =
-      let rest : (place : RecordPlace) → Contains (all_places before ++ all_places after) place → PlaceStays was now place = rest_stays before (old ∷ []) new after h moves in
-      all_joined (DocumentStays name left was now) before (old ∷ after)
-      (several_stay was now before within (λ place among. rest place (Contains-append_left (all_places before) (all_places after) place among)))
-      (All-cons (DocumentStays name left was now) old after (record { itself = λ same. kept; other = λ apart. absurd (apart named) })
-      (several_stay was now after within (λ place among. rest place (Contains-append_right (all_places before) (all_places after) place among))))
+      → MovesRecords (all_places (old ∷ [])) (all_places new) needs was now → ((s : StoredDocument) (place : RecordPlace) → Left s place → Contains (record_places s) place)
+      → ((place : RecordPlace) → Left old place → RecordStays was now place) → RecordsStay Left (before ++ old ∷ after) was now
+  change_leaves needs was now before old new after h moves within kept s place there left = elim (Contains-append_cases before (old ∷ after) s there) [
+    | inl early ↦ beside_stay needs was now before (old ∷ []) new after h moves within s place (inl early) left
+    | inr later ↦ elim (Contains-append_cases (old ∷ []) after s later) [
+      | inl one ↦ kept place (subst (λ (x : StoredDocument). Left x place) (sym (alone_there old s one)) left)
+      | inr late ↦ beside_stay needs was now before (old ∷ []) new after h moves within s place (inr late) left
+    ]
+  ]
 
-  -- so it does where the catalog is set then
-  pub catalog_leaves : (bytes : List ℕ) (was mid now : Held) (stored : List StoredDocument) → SetsCatalog bytes mid now → RecordsOffStay name left stored was mid → RecordsOffStay name left stored was now
-  catalog_leaves bytes was mid now stored sets rest =
-      All-weaker (DocumentStays name left was mid) (DocumentStays name left was now)
-      (λ s stays. record {
-        itself = λ same. along_catalog bytes was mid now sets (left s.layout) (stays.itself same);
-        other = λ apart. along_catalog bytes was mid now sets (record_places s) (stays.other apart);
-      })
-      stored rest
+  -- where those of one more came, all stay
+  pub come_leaves : (needs : ℕ) (was now : Held) (before new after : List StoredDocument) → HoldsDocuments was (before ++ after) → MovesRecords [] (all_places new) needs was now
+      → ((s : StoredDocument) (place : RecordPlace) → Left s place → Contains (record_places s) place) → RecordsStay Left (before ++ after) was now
+  come_leaves needs was now before new after h moves within s place there left = beside_stay needs was now before [] new after h moves within s place (Contains-append_cases before after s there) left
 
-  same_rest : (was : Held) (stored : List StoredDocument) → RecordsOffStay name left stored was was
-  same_rest was [] = All-nil (DocumentStays name left was was)
-  same_rest was (s ∷ stored) = All-cons (DocumentStays name left was was) s stored (record { itself = λ same. all_same was (left s.layout); other = λ apart. all_same was (record_places s) }) (same_rest was stored)
+-- ---- a store that stands for what it held
 
 module _ {D : Type 0} (d : Ghosts D) where
+  -- what a store at a state holds is one thing
+  one_held : (s : Store) (x : D) (state next : State) (at : IsAt d s x state) (then : IsAt d s x next) → at.held ≡ then.held
+  one_held s x state next at then =
+      let a = (at.stands).keeps in
+      let b = (then.stands).keeps in
+      let same : a.image ≡ b.image = same_some (sym ((a.step).settled).here ∙ ((b.step).settled).here) in
+      hold_one (replay b.image) at.held then.held ((s.records).saved, subst (λ (i : Image). HoldsBy (replay i) (s.records).saved at.held) same a.holds) ((s.records).saved, b.holds)
+
+  told_at : (s : Store) (x : D) (state : State) → IsAt d s x state → IsSome (d.contents x)
+  told_at s x state at = subst (λ (o : Option Image). IsSome o) (sym ((((at.stands).keeps).step).settled).here) refl
+
   -- a store that stands for what it held is at its state
   abbrev held_on : (s0 s1 : Store) (x0 x1 : D) → HoldsOn d s0 s1 x0 x1 → (state : State) (at : IsAt d s0 x0 state) → IsSome (d.contents x1) → IsAt d s1 x1 state
   held_on s0 s1 x0 x1 holds state at told = record {
@@ -113,30 +142,71 @@ module _ {D : Type 0} (d : Ghosts D) where
     catalog = subst (λ (c : Contents). IsCatalog (at.held).catalog c) (sym (holds state at told).2) at.catalog;
   }
 
-  pub held_same : (s : Store) (x : D) → HoldsOn d s s x x
-  held_same s x state at told = (at.stands, at.none_waits, refl)
+  -- a store was at a state before something was given where it is at it then
+  abbrev at_before : (s : Store) (x0 x1 : D) (P : Option (List ℕ) → Type 0) (state : State) → LeavesAreas d x0 x1 P → IsAt d s x1 state → IsAt d s x0 state
+  at_before s x0 x1 P state gives then =
+      let settled = (((then.stands).keeps).step).settled in
+      record {
+        held = then.held;
+        stands = record {
+          keeps = record {
+            runs = ((then.stands).keeps).runs;
+            image = ((then.stands).keeps).image;
+            step = record {
+              settled = record {
+                here = sym (told_same (d.contents x0) (d.contents x1) gives.contents_stay (told_at s x1 state then)) ∙ settled.here;
+                only = λ i may. settled.only i ((gives.images_stay i).1 may);
+              };
+              follows = (((then.stands).keeps).step).follows;
+            };
+            holds = ((then.stands).keeps).holds;
+          };
+          holds = (then.stands).holds;
+        };
+        none_waits = then.none_waits;
+        state_is = then.state_is;
+        catalog = then.catalog;
+      }
 
-  module _ (name : List ℕ) (left : Layout → List RecordPlace) where
-    pub held_leaves : (s0 s1 : Store) (x0 x1 : D) → (is_ended s1 ≡ false → HoldsOn d s0 s1 x0 x1) → LeavesRest d name left s0 s1 x0 x1
-    held_leaves s0 s1 x0 x1 holds runs state at told = (state, held_on s0 s1 x0 x1 (holds runs) state at told, same_rest name left at.held (at.state_is).stored)
+  module _ (command : Command) where
+    -- it is enough to say it of one state that the store is at then
+    one_leaves : (s0 s1 : Store) (x0 x1 : D)
+        → ((state : State) (at : IsAt d s0 x0 state) → is_ended s1 ≡ false → IsSome (d.contents x1) → (next : State) × (then : IsAt d s1 x1 next) × RecordsStay (IsLeftBy command) (at.state_is).stored at.held then.held)
+        → LeavesOthers d command s0 s1 x0 x1
+    one_leaves s0 s1 x0 x1 makes state next at then =
+        let made = makes state at (at_runs then) (told_at s1 x1 next then) in
+        subst (λ (now : Held). RecordsStay (IsLeftBy command) (at.state_is).stored at.held now) (one_held s1 x1 made.0 next made.1 then) made.2
 
-    pub ended_leaves : (s0 s1 : Store) (x0 x1 : D) → is_ended s1 ≡ true → LeavesRest d name left s0 s1 x0 x1
-    ended_leaves s0 s1 x0 x1 ended runs state at told = absurd (false≢true (sym runs ∙ ended))
+    pub held_leaves : (s0 s1 : Store) (x0 x1 : D) → (is_ended s1 ≡ false → HoldsOn d s0 s1 x0 x1) → LeavesOthers d command s0 s1 x0 x1
+    held_leaves s0 s1 x0 x1 holds = one_leaves s0 s1 x0 x1 (λ state at runs told. (state, held_on s0 s1 x0 x1 (holds runs) state at told, same_rest (IsLeftBy command) at.held (at.state_is).stored))
+
+    -- nothing was done
+    pub unasked_leaves : (s : Store) (x : D) → LeavesOthers d command s s x x
+    unasked_leaves s x = held_leaves s s x x (λ runs state at told. (at.stands, at.none_waits, refl))
+
+    -- the store was looked at
+    pub looked_leaves : (s0 s1 : Store) (x0 x1 : D) → IsStill d x0 x1 → (is_ended s1 ≡ false → LeavesStore s0 s1) → LeavesOthers d command s0 s1 x0 x1
+    looked_leaves s0 s1 x0 x1 still same =
+        held_leaves s0 s1 x0 x1 (λ runs state at told. let left = same runs in (leaves_stand {r0 = s0.records} {r1 = s1.records} left.records still at.stands, (left.records).changes_stay ∙ at.none_waits, left.catalog))
+
+    pub ended_leaves : (s0 s1 : Store) (x0 x1 : D) → is_ended s1 ≡ true → LeavesOthers d command s0 s1 x0 x1
+    ended_leaves s0 s1 x0 x1 ended state next at then = absurd (false≢true (sym (at_runs then) ∙ ended))
 
     -- behind a step that left what is held
-    pub later_leaves : (s0 s1 s2 : Store) (x0 x1 x2 : D) → HoldsOn d s0 s1 x0 x1 → (IsSome (d.contents x2) → IsSome (d.contents x1)) → LeavesRest d name left s1 s2 x1 x2 → LeavesRest d name left s0 s2 x0 x2
-    later_leaves s0 s1 s2 x0 x1 x2 holds before leaves runs state at told = leaves runs state (held_on s0 s1 x0 x1 holds state at (before told)) told
+    pub later_leaves : (s0 s1 s2 : Store) (x0 x1 x2 : D) → HoldsOn d s0 s1 x0 x1 → (IsSome (d.contents x2) → IsSome (d.contents x1)) → LeavesOthers d command s1 s2 x1 x2 → LeavesOthers d command s0 s2 x0 x2
+    later_leaves s0 s1 s2 x0 x1 x2 holds before leaves state next at then = leaves state next (held_on s0 s1 x0 x1 holds state at (before (told_at s2 x2 next then))) then
 
     -- behind the commit of what was prepared
-    pub committed_leaves : (command : Command) (reply : Reply) (s0 s1 s2 : Store) (x0 x1 x2 : D)
-        → ((state : State) (at : IsAt d s0 x0 state) → (made : Prepares d state command reply s1 x1) × RecordsOffStay name left (at.state_is).stored at.held (made.prepared).now)
+    pub committed_leaves : (s0 s1 s2 : Store) (x0 x1 x2 : D)
+        → ((state : State) (at : IsAt d s0 x0 state) → (next : State) × (p : IsPrepared d s1 x1 state next) × RecordsStay (IsLeftBy command) (at.state_is).stored at.held p.now)
         → ((saved now : Held) (image : Image) → StandsFor d s1.records x1 saved now → d.contents x2 ≡ Some image → StandsFor d s2.records x2 now now) → HasNoChanges s2.records → s2.catalog ≡ s1.catalog
-        → LeavesRest d name left s0 s2 x0 x2
-    committed_leaves command reply s0 s1 s2 x0 x1 x2 makes stands none catalog runs state at told =
+        → LeavesOthers d command s0 s2 x0 x2
+    committed_leaves s0 s1 s2 x0 x1 x2 makes stands none catalog =
+        one_leaves s0 s2 x0 x2 (λ state at runs told.
         let made = makes state at in
-        let p = (made.0).prepared in
+        let p = made.1 in
         let image = some_value (d.contents x2) told in (
-          (made.0).next,
+          made.0,
           record {
             held = p.now;
             stands = stands p.saved p.now image.0 p.stands image.1;
@@ -144,37 +214,12 @@ module _ {D : Type 0} (d : Ghosts D) where
             state_is = p.will;
             catalog = subst (λ (c : Contents). IsCatalog (p.now).catalog c) (sym catalog) p.catalog;
           },
-          made.1,
-        )
+          made.2,
+        ))
 
-    given_leaves : (s0 s1 : Store) (x0 x1 x2 : D) (P : Option (List ℕ) → Type 0) → LeavesAreas d x1 x2 P → (IsSome (d.contents x2) → IsSome (d.contents x1)) → LeavesRest d name left s0 s1 x0 x1 → LeavesRest d name left s0 s1 x0 x2
-    given_leaves s0 s1 x0 x1 x2 P gives before leaves runs state at told =
-        let l = leaves runs state at (before told) in
-        (l.0, at_beside {d = d} {s = s1} {x0 = x1} {x1 = x2} {P = P} {state = l.0} gives told l.1, l.2)
-
-  -- ---- whatever command it was
-
-  pub held_others : (command : Command) (s0 s1 : Store) (x0 x1 : D) → (is_ended s1 ≡ false → HoldsOn d s0 s1 x0 x1) → LeavesOthers d command s0 s1 x0 x1
-  held_others (Discard name) s0 s1 x0 x1 holds = held_leaves name (λ layout. []) s0 s1 x0 x1 holds
-  held_others (Delete name path) s0 s1 x0 x1 holds = held_leaves name (places_off false path) s0 s1 x0 x1 holds
-  held_others (Retext name path text) s0 s1 x0 x1 holds = held_leaves name (places_off true path) s0 s1 x0 x1 holds
-  held_others (Insert name path line) s0 s1 x0 x1 holds = held_leaves name (places_off true path) s0 s1 x0 x1 holds
-  held_others command s0 s1 x0 x1 holds = tt
-
-  pub quiet_others : (command : Command) (s0 s1 : Store) (x0 x1 : D) → may_change command ≡ false → LeavesOthers d command s0 s1 x0 x1
-  quiet_others (Discard name) s0 s1 x0 x1 quiet = absurd (false≢true (sym quiet))
-  quiet_others (Delete name path) s0 s1 x0 x1 quiet = absurd (false≢true (sym quiet))
-  quiet_others (Retext name path text) s0 s1 x0 x1 quiet = absurd (false≢true (sym quiet))
-  quiet_others (Insert name path line) s0 s1 x0 x1 quiet = absurd (false≢true (sym quiet))
-  quiet_others command s0 s1 x0 x1 quiet = tt
-
-  -- ... and whatever is given behind it
-  pub given_others : (command : Command) (s0 s1 : Store) (x0 x1 x2 : D) (P : Option (List ℕ) → Type 0) → LeavesAreas d x1 x2 P → (IsSome (d.contents x2) → IsSome (d.contents x1)) → LeavesOthers d command s0 s1 x0 x1 → LeavesOthers d command s0 s1 x0 x2
-  given_others (Discard name) s0 s1 x0 x1 x2 P gives before leaves = given_leaves name (λ layout. []) s0 s1 x0 x1 x2 P gives before leaves
-  given_others (Delete name path) s0 s1 x0 x1 x2 P gives before leaves = given_leaves name (places_off false path) s0 s1 x0 x1 x2 P gives before leaves
-  given_others (Retext name path text) s0 s1 x0 x1 x2 P gives before leaves = given_leaves name (places_off true path) s0 s1 x0 x1 x2 P gives before leaves
-  given_others (Insert name path line) s0 s1 x0 x1 x2 P gives before leaves = given_leaves name (places_off true path) s0 s1 x0 x1 x2 P gives before leaves
-  given_others command s0 s1 x0 x1 x2 P gives before leaves = tt
+    -- whatever is given behind it
+    pub given_leaves : (s0 s1 : Store) (x0 x1 x2 : D) (P : Option (List ℕ) → Type 0) → LeavesAreas d x1 x2 P → LeavesOthers d command s0 s1 x0 x1 → LeavesOthers d command s0 s1 x0 x2
+    given_leaves s0 s1 x0 x1 x2 P gives leaves state next at then = leaves state next at (at_before s1 x1 x2 P next gives then)
 
   -- ---- where it wasn't prepared, and was dropped
 
@@ -183,19 +228,41 @@ module _ {D : Type 0} (d : Ghosts D) where
     left_holds : IsStoreLeft d s0 s1 x0 x1 → HoldsOn d s0 s2 x0 x1
     left_holds left state at told = (abandon_stands {r0 = s1.records} {r1 = s2.records} follows none heads ended (left.saved at.held (at.stands).keeps), none, catalog ∙ left.catalog)
 
+    ends_here : is_ended s1 ≡ true → is_ended s2 ≡ false → ⊥
+    ends_here was runs = false≢true (sym runs ∙ ended ∙ was)
+
+    pub kept_holds : (tree : OrderedTree) (e : StoreError) → NotKept d tree e s0 s1 x0 x1 → is_ended s2 ≡ false → HoldsOn d s0 s2 x0 x1
+    kept_holds tree below.Memory why runs = left_holds why
+    kept_holds tree below.Full why runs = left_holds why.0
+    kept_holds tree below.Disk why runs = absurd (ends_here (why.1).1 runs)
+    kept_holds tree (below.Damaged page) why runs = absurd (ends_here (why.0).1 runs)
+    kept_holds tree below.Ended why runs = absurd why
+    kept_holds tree below.Exists why runs = absurd why
+    kept_holds tree below.NotAStore why runs = absurd why
+
     pub drop_holds : (e : StoreError) → NotPrepared d e s0 s1 x0 x1 → is_ended s2 ≡ false → HoldsOn d s0 s2 x0 x1
     drop_holds below.Memory why runs = left_holds why
-    drop_holds below.Disk why runs = absurd (false≢true (sym runs ∙ ended ∙ (why.1).1))
-    drop_holds (below.Damaged page) why runs = absurd (false≢true (sym runs ∙ ended ∙ (why.0).1))
+    drop_holds below.Disk why runs = absurd (ends_here (why.1).1 runs)
+    drop_holds (below.Damaged page) why runs = absurd (ends_here (why.0).1 runs)
     drop_holds below.Full why runs = absurd why
     drop_holds below.Ended why runs = absurd why
     drop_holds below.Exists why runs = absurd why
     drop_holds below.NotAStore why runs = absurd why
 
+    pub rule_holds : (command : Command) (e : RuleError) → RuleNotPrepared d command e s0 s1 x0 x1 → is_ended s2 ≡ false → HoldsOn d s0 s2 x0 x1
+    rule_holds command rule.TooManyRules why runs = left_holds why.0
+    rule_holds command (rule.Store below.Full) why runs = left_holds why.0
+    rule_holds command (rule.Store below.Memory) why runs = left_holds why
+    rule_holds command (rule.Store below.Disk) why runs = drop_holds below.Disk why runs
+    rule_holds command (rule.Store (below.Damaged page)) why runs = drop_holds (below.Damaged page) why runs
+    rule_holds command (rule.Store below.Ended) why runs = absurd why
+    rule_holds command (rule.Store below.Exists) why runs = absurd why
+    rule_holds command (rule.Store below.NotAStore) why runs = absurd why
+
     pub edit_holds : (command : Command) (path : List ℕ) (e : EditError) → EditNotPrepared d command path e s0 s1 x0 x1 → is_ended s2 ≡ false → HoldsOn d s0 s2 x0 x1
     edit_holds command path edit.Memory why runs = left_holds why
-    edit_holds command path edit.Disk why runs = absurd (false≢true (sym runs ∙ ended ∙ (why.1).1))
-    edit_holds command path (edit.Damaged page) why runs = absurd (false≢true (sym runs ∙ ended ∙ (why.0).1))
+    edit_holds command path edit.Disk why runs = absurd (ends_here (why.1).1 runs)
+    edit_holds command path (edit.Damaged page) why runs = absurd (ends_here (why.0).1 runs)
     edit_holds command path edit.Ended why runs = absurd why
     edit_holds command path edit.NoNode why runs = left_holds why.0
     edit_holds command path edit.BadPlace why runs = left_holds why.0

@@ -1,5 +1,5 @@
 -- Edits of documents as commands, why one wasn't prepared, and what is answered then.
-use Rattle.std.specs.Prelude.{◌≡◌, ◌≤◌, ℕ, Bool, true, false, List, length, Option, Result, Err}
+use Rattle.std.specs.Prelude.{◌≡◌, ◌≤◌, ℕ, Bool, true, false, List, length, Option, Result, Ok, Err}
 use Rattle.nx_host.specs.Disk.{Rose}
 use Rattle.nx_host.specs.declared.disk.Disk.{Ghosts}
 use Rattle.nx_tree.specs.Forest.{OrderedTree}
@@ -12,6 +12,7 @@ use Rattle.nx_script.specs.declared.command.Command.{Command}
 use Rattle.nx_script.specs.declared.command.Command.TheVariants as command
 use Rattle.nx_script.specs.declared.command.LineBody.TheVariants as line
 use Rattle.nx_script.specs.declared.command.TextBody.TheVariants as said
+use Rattle.nx_pyx.specs.declared.error.PyxError.{PyxError}
 use Rattle.nx_pyx.specs.declared.error.PyxFault.TheVariants.{LongLine}
 use Rattle.nx_pyx.specs.Fault.{fault_at}
 use Rattle.nx_drawn.specs.Edits.{deleted, inserted, retexted}
@@ -30,6 +31,8 @@ use Rattle.nx_store.specs.Loading.{IsStoreLeft, IsToldOrNot}
 use Rattle.nx_store.specs.Changing.{StepsRefused}
 use Rattle.nx_store.specs.declared.editing.Edit.{Edit}
 use Rattle.nx_store.specs.declared.editing.Edit.TheVariants as made
+use Rattle.nx_store.specs.declared.edits.EditBody.{EditBody}
+use Rattle.nx_store.specs.declared.edits.EditBody.TheVariants as body
 use Rattle.nx_store.specs.declared.store.Store.{Store}
 use Rattle.nx_store.specs.declared.error.EngineError.{EngineError}
 use Rattle.nx_store.specs.declared.error.EngineError.TheVariants as told
@@ -39,6 +42,20 @@ abbrev pub edit_command : (name path : List ℕ) → Edit → Command
 edit_command name path made.Delete = command.Delete name path
 edit_command name path (made.Retext content) = command.Retext name path (said.Read content)
 edit_command name path (made.Insert node) = command.Insert name path (line.Read node)
+
+-- the command that says an edit so
+abbrev pub said_command : (name path : List ℕ) → EditBody → Command
+said_command name path body.Delete = command.Delete name path
+said_command name path (body.Retext text) = command.Retext name path text
+said_command name path (body.Insert said) = command.Insert name path said
+
+-- the edit that is said, or the fault of the line that says none
+abbrev pub said_edit : EditBody → Result Edit PyxError
+said_edit body.Delete = Ok made.Delete
+said_edit (body.Retext (said.Read content)) = Ok (made.Retext content)
+said_edit (body.Retext (said.Wrong error)) = Err error
+said_edit (body.Insert (line.Read node)) = Ok (made.Insert node)
+said_edit (body.Insert (line.Wrong error)) = Err error
 
 -- the content is no longer than one of a node may be, and the node may stand in a document
 abbrev pub CanBeMade : Edit → Type 0

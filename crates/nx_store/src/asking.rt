@@ -8,7 +8,7 @@ ghost use Rattle.nx_script.specs.declared.command.Command.TheVariants as command
 ghost use Rattle.nx_store.specs.Told.{line_of};
 ghost use Rattle.nx_state.specs.State.{State};
 ghost use Rattle.nx_steps.specs.Step.{Step};
-ghost use Rattle.nx_store.specs.Staying.{HoldsOn};
+ghost use Rattle.nx_store.specs.Staying.{LeavesOthers, HoldsOn};
 ghost use Rattle.nx_store.specs.Store.{is_ended, LeavesStore, EndsNow, GoesOn, IsAt, IsOf, IsApplied, NotApplied};
 
 use crate::{EngineError, Store};
@@ -129,6 +129,7 @@ impl Store {
         ensures ok { OnOk result (GoesOn self.old self.new) }
         ensures refused { IfErr result (λ e. NotApplied D.Disk e self.old self.new disk.old disk.new) }
         ensures areas { WritesAlone D.Disk disk.old disk.new (λ _. Unit {0}) }
+        ensures leaves { LeavesOthers D.Disk command.Checkpoint self.old self.new disk.old disk.new }
     {
         if self.is_ended() {
             return Err(EngineError::Ended);

@@ -1,5 +1,5 @@
 // Commands that change a store in other ways than `load`.
-ghost use Rattle.std.specs.Prelude.{◌≡◌, ◌≤◌, [], false, Some, IsSome, IfOk, IfErr, OnOk};
+ghost use Rattle.std.specs.Prelude.{◌≡◌, ◌≤◌, false, Some, IsSome, IfOk, IfErr, OnOk};
 ghost use Rattle.std.specs.FinMap.{get};
 ghost use Rattle.nx_host.specs.Still.{IsStill, WritesAlone};
 ghost use Rattle.nx_records.specs.Records.{HasChanges, log_length_of};
@@ -8,7 +8,7 @@ ghost use Rattle.nx_script.specs.Rule.{HasLabels};
 ghost use Rattle.nx_script.specs.declared.command.Command.TheVariants as command;
 ghost use Rattle.nx_state.specs.State.{State};
 ghost use Rattle.nx_store.specs.Store.{is_ended, longest_log, GoesOn, IsAt, IsApplied, NotApplied};
-ghost use Rattle.nx_store.specs.Staying.{RecordsOffStay, LeavesOthers};
+ghost use Rattle.nx_store.specs.Staying.{IsLeftBy, RecordsStay, LeavesOthers};
 ghost use Rattle.nx_store.specs.Loading.{reply_of, HasReplyText};
 ghost use Rattle.nx_store.specs.Changing.{Prepares, NotPrepared, RuleNotPrepared, IsRuleRefusal};
 
@@ -37,6 +37,7 @@ impl Store {
         ensures ok { IfOk result (λ answer. GoesOn self.old self.new × HasReplyText answer) }
         ensures refused { IfErr result (λ e. NotApplied D.Disk e self.old self.new disk.old disk.new) }
         ensures areas { WritesAlone D.Disk disk.old disk.new (λ _. Unit {0}) }
+        ensures leaves { LeavesOthers D.Disk (command.SetRule rule.now) self.old self.new disk.old disk.new }
     {
         self.shorten_log(disk)?;
         self.set_rule_shortly(disk, rule)
@@ -55,6 +56,7 @@ impl Store {
         ensures ok { IfOk result (λ answer. GoesOn self.old self.new × HasReplyText answer) }
         ensures refused { IfErr result (λ e. NotApplied D.Disk e self.old self.new disk.old disk.new) }
         ensures areas { WritesAlone D.Disk disk.old disk.new (λ _. Unit {0}) }
+        ensures leaves { LeavesOthers D.Disk (command.SetRule rule.now) self.old self.new disk.old disk.new }
     {
         let done = told(self.alloc, Reply::Done)?;
         match self.prepare_rule(disk, rule) {
@@ -76,7 +78,8 @@ impl Store {
         requires labels { HasLabels rule.now }
         ensures still { IsStill D.Disk disk.old disk.new }
         ensures runs { OnOk result (RunsOn self.old.records self.new.records × HasChanges self.new.records) }
-        ensures ok { OnOk result ((state : State) → IsAt D.Disk self.old disk.old state → Prepares D.Disk state (command.SetRule rule.now) Reply.Done self.new disk.new) }
+        ensures ok { OnOk result ((state : State) (at : IsAt D.Disk self.old disk.old state) → (made : Prepares D.Disk state (command.SetRule rule.now) Reply.Done self.new disk.new)
+            × RecordsStay (IsLeftBy (command.SetRule rule.now)) (at.state_is).stored at.held (made.prepared).now) }
         ensures refused { IfErr result (λ e. RuleNotPrepared D.Disk (command.SetRule rule.now) e self.old self.new disk.old disk.new) }
     {
         self.catalog.save_rule(&mut self.records, disk, rule)?;
@@ -145,7 +148,7 @@ impl Store {
         ensures still { IsStill D.Disk disk.old disk.new }
         ensures runs { OnOk result (RunsOn self.old.records self.new.records × HasChanges self.new.records) }
         ensures ok { OnOk result ((state : State) (at : IsAt D.Disk self.old disk.old state) → (made : Prepares D.Disk state (command.Discard name.now) Reply.Done self.new disk.new)
-            × RecordsOffStay name.now (λ layout. []) (at.state_is).stored at.held (made.prepared).now) }
+            × RecordsStay (IsLeftBy (command.Discard name.now)) (at.state_is).stored at.held (made.prepared).now) }
         ensures refused { IfErr result (λ e. NotPrepared D.Disk e self.old self.new disk.old disk.new) }
     {
         remove_document(self.alloc, &mut self.records, disk, entry)?;

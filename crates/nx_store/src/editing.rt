@@ -7,13 +7,13 @@ ghost use Rattle.nx_records.specs.Refusals.{RunsOn};
 ghost use Rattle.nx_cuts.specs.Cut.{tree_of};
 ghost use Rattle.nx_hold.specs.Changes.{ComesTidy};
 ghost use Rattle.nx_edit.specs.Removing.{OfEntry};
-ghost use Rattle.nx_edit.specs.Editing.{places_off, EditsDocument};
+ghost use Rattle.nx_edit.specs.Editing.{EditsDocument};
 ghost use Rattle.nx_edit.specs.Refusals.{NotEdited, edit_needs};
 ghost use Rattle.nx_script.specs.Field.{is_document_name};
 ghost use Rattle.nx_state.specs.State.{State};
 ghost use Rattle.nx_store.specs.Store.{is_ended, longest_log, GoesOn, IsAt, IsApplied, NotApplied};
 ghost use Rattle.nx_store.specs.Loading.{reply_of, HasReplyText};
-ghost use Rattle.nx_store.specs.Staying.{RecordsOffStay, LeavesRest};
+ghost use Rattle.nx_store.specs.Staying.{IsLeftBy, RecordsStay, LeavesOthers};
 ghost use Rattle.nx_store.specs.Changing.{Prepares};
 ghost use Rattle.nx_store.specs.Editing.{edit_command, CanBeMade, edit_fault, is_of_edit, tree_edit, EditBecomes, stays_below, EditNotPrepared, IsEditRefusal};
 
@@ -58,7 +58,7 @@ impl Store {
         ensures ok { IfOk result (λ answer. GoesOn self.old self.new × HasReplyText answer) }
         ensures refused { IfErr result (λ e. NotApplied D.Disk e self.old self.new disk.old disk.new) }
         ensures areas { WritesAlone D.Disk disk.old disk.new (λ _. Unit {0}) }
-        ensures leaves { LeavesRest D.Disk name.now (places_off (stays_below edit) path) self.old self.new disk.old disk.new }
+        ensures leaves { LeavesOthers D.Disk (edit_command name.now path edit) self.old self.new disk.old disk.new }
     {
         self.shorten_log(disk)?;
         self.edit_shortly(disk, name, path, entry, edit)
@@ -82,7 +82,7 @@ impl Store {
         ensures ok { IfOk result (λ answer. GoesOn self.old self.new × HasReplyText answer) }
         ensures refused { IfErr result (λ e. NotApplied D.Disk e self.old self.new disk.old disk.new) }
         ensures areas { WritesAlone D.Disk disk.old disk.new (λ _. Unit {0}) }
-        ensures leaves { LeavesRest D.Disk name.now (places_off (stays_below edit) path) self.old self.new disk.old disk.new }
+        ensures leaves { LeavesOthers D.Disk (edit_command name.now path edit) self.old self.new disk.old disk.new }
     {
         let done = told(self.alloc, Reply::Done)?;
         match self.prepare_edit(disk, name, &path, entry, edit) {
@@ -114,7 +114,7 @@ impl Store {
         ensures still { IsStill D.Disk disk.old disk.new }
         ensures runs { OnOk result (RunsOn self.old.records self.new.records × HasChanges self.new.records) }
         ensures ok { OnOk result ((state : State) (at : IsAt D.Disk self.old disk.old state) → (made : Prepares D.Disk state (edit_command name.now path.now edit) Reply.Done self.new disk.new)
-            × RecordsOffStay name.now (places_off (stays_below edit) path.now) (at.state_is).stored at.held (made.prepared).now) }
+            × RecordsStay (IsLeftBy (edit_command name.now path.now edit)) (at.state_is).stored at.held (made.prepared).now) }
         ensures refused { IfErr result (λ e. EditNotPrepared D.Disk (edit_command name.now path.now edit) path.now e self.old self.new disk.old disk.new) }
     {
         let new = make_edit(

@@ -4,95 +4,56 @@ ghost use Rattle.std.specs.FinMap.{get};
 ghost use Rattle.nx_host.specs.Still.{WritesAlone};
 ghost use Rattle.nx_script.specs.Commands.{CanCome};
 ghost use Rattle.nx_script.specs.Field.{is_document_name};
-ghost use Rattle.nx_script.specs.declared.command.Command.TheVariants as command;
 ghost use Rattle.nx_state.specs.State.{State};
 ghost use Rattle.nx_store.specs.Store.{is_ended, GoesOn, IsAt, IsApplied, NotApplied};
 ghost use Rattle.nx_store.specs.Staying.{LeavesOthers};
 ghost use Rattle.nx_store.specs.Loading.{reply_of, HasReplyText};
+ghost use Rattle.nx_store.specs.Editing.{said_command, said_edit};
 
 use crate::editing::Edit;
 use crate::loading::told;
 use crate::{EngineError, Store};
 use nx_hold::DocEntry;
 use nx_host::Disk;
+use nx_pyx::PyxError;
 use nx_script::{LineBody, Reply, ReplyError, TextBody, is_document_name};
 use nx_tree::{Bytes, Path};
 
+// What a command that edits a document says besides name and path.
+#[derive(Drop)]
+pub(crate) enum EditBody {
+    // The tree there goes.
+    Delete,
+    // The node there gets what this says.
+    Retext(TextBody),
+    // What this says comes there.
+    Insert(LineBody),
+}
+
 impl Store {
-    // Takes the tree at a path of a document away, by one commit. Beside the reply is its text.
-    pub(crate) fn delete<D: Disk>(
+    // Edits a document at a path, by one commit. Beside the reply is its text.
+    pub(crate) fn edit<D: Disk>(
         &mut self,
         disk: &mut D,
         name: &Bytes,
         path: Path,
+        body: EditBody,
     ) -> Result<(Reply, Bytes), EngineError>
         requires runs { is_ended self.old ≡ false }
-        ensures applies { (state : State) → IsAt D.Disk self.old disk.old state → IsSome (D.contents disk.new) → IsApplied D.Disk (reply_of result) state (command.Delete name.now path) self.new disk.old disk.new }
+        requires come { CanCome (said_command name.now path body) }
+        ensures applies { (state : State) → IsAt D.Disk self.old disk.old state → IsSome (D.contents disk.new) → IsApplied D.Disk (reply_of result) state (said_command name.now path body) self.new disk.old disk.new }
         ensures ok { IfOk result (λ answer. GoesOn self.old self.new × HasReplyText answer) }
         ensures refused { IfErr result (λ e. NotApplied D.Disk e self.old self.new disk.old disk.new) }
         ensures areas { WritesAlone D.Disk disk.old disk.new (λ _. Unit {0}) }
-        ensures leaves { LeavesOthers D.Disk (command.Delete name.now path) self.old self.new disk.old disk.new }
+        ensures leaves { LeavesOthers D.Disk (said_command name.now path body) self.old self.new disk.old disk.new }
     {
         let Some(entry) = self.entry_of(name) else {
             return told(self.alloc, Reply::Refused(ReplyError::NoDocument));
         };
-        self.edit_document(disk, name, path, entry, Edit::Delete)
-    }
-
-    // Replaces the content of the node at a path of a document, by one commit. Beside the reply is its text.
-    pub(crate) fn retext<D: Disk>(
-        &mut self,
-        disk: &mut D,
-        name: &Bytes,
-        path: Path,
-        text: TextBody,
-    ) -> Result<(Reply, Bytes), EngineError>
-        requires runs { is_ended self.old ≡ false }
-        requires come { CanCome (command.Retext name.now path text) }
-        ensures applies { (state : State) → IsAt D.Disk self.old disk.old state → IsSome (D.contents disk.new) → IsApplied D.Disk (reply_of result) state (command.Retext name.now path text) self.new disk.old disk.new }
-        ensures ok { IfOk result (λ answer. GoesOn self.old self.new × HasReplyText answer) }
-        ensures refused { IfErr result (λ e. NotApplied D.Disk e self.old self.new disk.old disk.new) }
-        ensures areas { WritesAlone D.Disk disk.old disk.new (λ _. Unit {0}) }
-        ensures leaves { LeavesOthers D.Disk (command.Retext name.now path text) self.old self.new disk.old disk.new }
-    {
-        let Some(entry) = self.entry_of(name) else {
-            return told(self.alloc, Reply::Refused(ReplyError::NoDocument));
-        };
-        let content = match text {
-            TextBody::Read(content) => content,
-            TextBody::Wrong(error) => {
-                return told(self.alloc, Reply::Refused(ReplyError::Pyx(error)));
-            }
-        };
-        self.edit_document(disk, name, path, entry, Edit::Retext(content))
-    }
-
-    // Puts the node that a line says at a path of a document, by one commit. Beside the reply is its text.
-    pub(crate) fn insert<D: Disk>(
-        &mut self,
-        disk: &mut D,
-        name: &Bytes,
-        path: Path,
-        line: LineBody,
-    ) -> Result<(Reply, Bytes), EngineError>
-        requires runs { is_ended self.old ≡ false }
-        requires come { CanCome (command.Insert name.now path line) }
-        ensures applies { (state : State) → IsAt D.Disk self.old disk.old state → IsSome (D.contents disk.new) → IsApplied D.Disk (reply_of result) state (command.Insert name.now path line) self.new disk.old disk.new }
-        ensures ok { IfOk result (λ answer. GoesOn self.old self.new × HasReplyText answer) }
-        ensures refused { IfErr result (λ e. NotApplied D.Disk e self.old self.new disk.old disk.new) }
-        ensures areas { WritesAlone D.Disk disk.old disk.new (λ _. Unit {0}) }
-        ensures leaves { LeavesOthers D.Disk (command.Insert name.now path line) self.old self.new disk.old disk.new }
-    {
-        let Some(entry) = self.entry_of(name) else {
-            return told(self.alloc, Reply::Refused(ReplyError::NoDocument));
-        };
-        let node = match line {
-            LineBody::Read(node) => node,
-            LineBody::Wrong(error) => {
-                return told(self.alloc, Reply::Refused(ReplyError::Pyx(error)));
-            }
-        };
-        self.edit_document(disk, name, path, entry, Edit::Insert(node))
+        match edit_of(body) {
+            Err(error) => told(self.alloc, Reply::Refused(ReplyError::Pyx(error))),
+            Ok(edit) => self.edit_document(disk, name, path, entry, edit),
+        }
     }
 
     // The entry of the document of that name. A name that no document may have is none's.
@@ -103,5 +64,18 @@ impl Store {
             return None;
         }
         self.catalog.find(name.as_slice())
+    }
+}
+
+// The edit that is said, or the fault of the line that says none.
+fn edit_of(body: EditBody) -> Result<Edit, PyxError>
+    ensures { result ≡ said_edit body }
+{
+    match body {
+        EditBody::Delete => Ok(Edit::Delete),
+        EditBody::Retext(TextBody::Read(content)) => Ok(Edit::Retext(content)),
+        EditBody::Insert(LineBody::Read(node)) => Ok(Edit::Insert(node)),
+        EditBody::Retext(TextBody::Wrong(error)) => Err(error),
+        EditBody::Insert(LineBody::Wrong(error)) => Err(error),
     }
 }

@@ -14,7 +14,7 @@ ghost use Rattle.nx_script.specs.Field.{is_document_name};
 ghost use Rattle.nx_script.specs.Rule.{HasLabels};
 ghost use Rattle.nx_catalog.specs.Catalog.{IsCatalog, catalog_bytes};
 ghost use Rattle.nx_state.specs.State.{State};
-ghost use Rattle.nx_store.specs.Staying.{HoldsOn};
+ghost use Rattle.nx_store.specs.Staying.{IsLeftBy, RecordsStay, LeavesOthers, HoldsOn};
 ghost use Rattle.nx_store.specs.Store.{is_ended, longest_log, EndsNow, GoesOn, IsAt, IsOf, IsShortened, IsApplied, NotApplied};
 ghost use Rattle.nx_store.specs.Loading.{IsNew, IsChosen, IsKept, NotKept, reply_of, HasReplyText, IsToldOrNot, IsRefusal};
 
@@ -46,6 +46,7 @@ impl Store {
         ensures ok { IfOk result (λ answer. GoesOn self.old self.new × HasReplyText answer) }
         ensures refused { IfErr result (λ e. NotApplied D.Disk e self.old self.new disk.old disk.new) }
         ensures areas { WritesAlone D.Disk disk.old disk.new (λ _. Unit {0}) }
+        ensures leaves { LeavesOthers D.Disk (Load name body) self.old self.new disk.old disk.new }
     {
         if self.records.is_ended() {
             return Err(EngineError::Ended);
@@ -75,6 +76,7 @@ impl Store {
         ensures ok { IfOk result (λ answer. GoesOn self.old self.new × HasReplyText answer) }
         ensures refused { IfErr result (λ e. NotApplied D.Disk e self.old self.new disk.old disk.new) }
         ensures areas { WritesAlone D.Disk disk.old disk.new (λ _. Unit {0}) }
+        ensures leaves { LeavesOthers D.Disk (Load name.now (Read tree)) self.old self.new disk.old disk.new }
     {
         self.shorten_log(disk)?;
         self.load_planned(disk, name, tree)
@@ -114,6 +116,7 @@ impl Store {
         ensures ok { IfOk result (λ answer. GoesOn self.old self.new × HasReplyText answer) }
         ensures refused { IfErr result (λ e. NotApplied D.Disk e self.old self.new disk.old disk.new) }
         ensures areas { WritesAlone D.Disk disk.old disk.new (λ _. Unit {0}) }
+        ensures leaves { LeavesOthers D.Disk (Load name.now (Read tree)) self.old self.new disk.old disk.new }
     {
         let k = u32::from(self.records.settings().k);
         match partition(self.alloc, &tree, k) {
@@ -145,6 +148,7 @@ impl Store {
         ensures ok { IfOk result (λ answer. GoesOn self.old self.new × HasReplyText answer) }
         ensures refused { IfErr result (λ e. NotApplied D.Disk e self.old self.new disk.old disk.new) }
         ensures areas { WritesAlone D.Disk disk.old disk.new (λ _. Unit {0}) }
+        ensures leaves { LeavesOthers D.Disk (Load name.now (Read tree)) self.old self.new disk.old disk.new }
     {
         let loaded = told(
             self.alloc,
@@ -182,7 +186,8 @@ impl Store {
         requires chosen { IsChosen self.old tree parts.now }
         ensures still { IsStill D.Disk disk.old disk.new }
         ensures runs { OnOk result (RunsOn self.old.records self.new.records × HasChanges self.new.records) }
-        ensures ok { OnOk result ((state : State) → IsAt D.Disk self.old disk.old state → IsKept D.Disk self.new disk.new state name.now tree parts.now) }
+        ensures ok { OnOk result ((state : State) (at : IsAt D.Disk self.old disk.old state) → (kept : IsKept D.Disk self.new disk.new state name.now tree parts.now)
+            × RecordsStay (IsLeftBy (Load name.now (Read tree))) (at.state_is).stored at.held kept.now) }
         ensures refused { IfErr result (λ e. NotKept D.Disk tree e self.old self.new disk.old disk.new) }
     {
         let nodes = count(&tree);

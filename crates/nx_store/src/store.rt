@@ -11,6 +11,7 @@ ghost use Rattle.nx_state.specs.Stands.{Recovers};
 ghost use Rattle.nx_steps.specs.Step.{may_change};
 
 use crate::EngineError;
+use crate::edits::EditBody;
 use nx_catalog::{Catalog, load_catalog};
 use nx_host::{Disk, Host};
 use nx_records::{Records, Settings};
@@ -95,8 +96,8 @@ impl Store {
     /// log of no image has a group. All memory is taken before the commit.
     ///
     /// An edit leaves each record of its document that holds neither a node on the way along the path nor one of a
-    /// tree that it deletes, and all records of the other documents, each with its list. A `drop` leaves all records
-    /// of the others.
+    /// tree that it deletes, and all records of the other documents, each with its place, bytes and list. A `drop`
+    /// leaves all records of the others, and each other command all that were there.
     ///
     /// The command is one that a script can give.
     ///
@@ -140,9 +141,13 @@ impl Store {
             Command::Load { name, body } => self.load(disk, name, body),
             Command::SetRule { rule } => self.set_rule(disk, &rule),
             Command::Discard { name } => self.discard(disk, &name),
-            Command::Delete { name, path } => self.delete(disk, &name, path),
-            Command::Retext { name, path, text } => self.retext(disk, &name, path, text),
-            Command::Insert { name, path, line } => self.insert(disk, &name, path, line),
+            Command::Delete { name, path } => self.edit(disk, &name, path, EditBody::Delete),
+            Command::Retext { name, path, text } => {
+                self.edit(disk, &name, path, EditBody::Retext(text))
+            }
+            Command::Insert { name, path, line } => {
+                self.edit(disk, &name, path, EditBody::Insert(line))
+            }
             Command::Names
             | Command::Export { .. }
             | Command::Get { .. }
@@ -161,6 +166,7 @@ impl Store {
         ensures ok { OnOk result (GoesOn self.old self.new) }
         ensures refused { IfErr result (λ e. NotApplied D.Disk e self.old self.new disk.old disk.new) }
         ensures areas { WritesAlone D.Disk disk.old disk.new (λ _. Unit {0}) }
+        ensures leaves { LeavesOthers D.Disk command self.old self.new disk.old disk.new }
     {
         match command {
             Command::Names => self.names(),
@@ -264,6 +270,7 @@ impl Store {
         ensures ok { OnOk result (GoesOn self.old self.new) }
         ensures refused { IfErr result (λ e. NotApplied D.Disk e self.old self.new disk.old disk.new) }
         ensures areas { WritesAlone D.Disk disk.old disk.new (λ _. Unit {0}) }
+        ensures leaves { LeavesOthers D.Disk command self.old self.new disk.old disk.new }
     {
         let reply = self.look(disk, command)?;
         let text = write_reply(self.alloc, &reply)?;

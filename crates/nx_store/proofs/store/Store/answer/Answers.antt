@@ -1,14 +1,13 @@
-use Rattle.std.proofs.Common.{◌∙◌, subst, arith}
-use Rattle.std.specs.Prelude.{Result, IsSome}
+use Rattle.std.proofs.Common.{◌∙◌, arith}
+use Rattle.std.specs.Prelude.{Result}
 use Rattle.std.proofs.lemmas.Result.{err_from_is_err_and}
 use Rattle.nx_host.specs.Host.{AppendsPrefix}
 use Rattle.nx_host.specs.Phase.{TalksAlone}
-use Rattle.nx_host.proofs.DiskLemmas.{told_same}
 use Rattle.nx_store.specs.Store.{IsAnswered}
 use Rattle.nx_store.specs.declared.error.EngineError.{EngineError}
 use Rattle.nx_store.proofs.ShowLemmas.{handed}
 use Rattle.nx_store.proofs.TextLemmas.{failed_answered, told_between, given_answered, unwritten_answered}
-use Rattle.nx_store.proofs.StayingLemmas.{given_others}
+use Rattle.nx_store.proofs.StayingLemmas.{given_leaves}
 use Rattle.nx_store.proofs.store.Store.answer.Goals as goal
 
 pub returns-in_err-text-clause-answers : goal.returns-in_err-text-clause-answers
@@ -61,9 +60,8 @@ returns-in_default-clause-leaves g c =
       out_faults_later = e.out_faults;
       time = e.time;
     } in
-    given_others g.H.Disk c.args.command c.args.self.now c.text_for.new.self c.args.host.now c.text_for.new.disk c.emit.new.self
-    (AppendsPrefix c.as_slice.result.now (g.H.Disk.beside c.text_for.new.disk).output) gives
-    (λ told. subst (λ o. IsSome o) (told_same (g.H.Disk.contents c.text_for.new.disk) (g.H.Disk.contents c.emit.new.self) gives.contents_stay told) told) c.text_for.ensures.leaves
+    given_leaves g.H.Disk c.args.command c.args.self.now c.text_for.new.self c.args.host.now c.text_for.new.disk c.emit.new.self
+    (AppendsPrefix c.as_slice.result.now (g.H.Disk.beside c.text_for.new.disk).output) gives c.text_for.ensures.leaves
 
 pub returns-clause-leaves : goal.returns-clause-leaves
 returns-clause-leaves g c =
@@ -77,6 +75,5 @@ returns-clause-leaves g c =
       out_faults_later = e.out_faults;
       time = e.time;
     } in
-    given_others g.H.Disk c.args.command c.args.self.now c.text_for.new.self c.args.host.now c.text_for.new.disk c.emit.new.self
-    (AppendsPrefix c.as_slice.result.now (g.H.Disk.beside c.text_for.new.disk).output) gives
-    (λ told. subst (λ o. IsSome o) (told_same (g.H.Disk.contents c.text_for.new.disk) (g.H.Disk.contents c.emit.new.self) gives.contents_stay told) told) c.text_for.ensures.leaves
+    given_leaves g.H.Disk c.args.command c.args.self.now c.text_for.new.self c.args.host.now c.text_for.new.disk c.emit.new.self
+    (AppendsPrefix c.as_slice.result.now (g.H.Disk.beside c.text_for.new.disk).output) gives c.text_for.ensures.leaves

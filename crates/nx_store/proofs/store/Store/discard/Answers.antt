@@ -1,4 +1,4 @@
-use Rattle.std.proofs.Common.{◌≡◌, ℕ, List, [], Some, sym, ap, ◌∙◌, subst, inl}
+use Rattle.std.proofs.Common.{◌≡◌, ℕ, List, Some, sym, ap, ◌∙◌, subst, inl}
 use Rattle.std.specs.Prelude.{Result, Err}
 use Rattle.std.specs.FinMap.{get}
 use Rattle.std.proofs.lemmas.Result.{err_from_is_err_and}
@@ -15,7 +15,7 @@ use Rattle.nx_store.proofs.FoundLemmas.{at_none}
 use Rattle.nx_store.proofs.ShowLemmas.{handed, shows_written, told_applied, later_applied}
 use Rattle.nx_store.proofs.AppliedLemmas.{later_refused}
 use Rattle.nx_store.proofs.GoneLemmas.{absent_gone}
-use Rattle.nx_store.proofs.StayingLemmas.{held_same, held_leaves, ended_leaves, later_leaves}
+use Rattle.nx_store.proofs.StayingLemmas.{unasked_leaves, ended_leaves, later_leaves}
 use Rattle.nx_store.proofs.store.Store.discard.Goals as goal
 
 pub returns-in_default-clause-applies : goal.returns-in_default-clause-applies
@@ -50,13 +50,13 @@ returns-clause-refused g c =
     c.in_ok-shorten_log.ensures.goes c.discard_shortly.ensures.areas c.in_ok-shorten_log.ensures.ok.2 e c.in_ok-shorten_log.ensures.ok.0 refused)
 
 pub returns-in_default-clause-leaves : goal.returns-in_default-clause-leaves
-returns-in_default-clause-leaves g c = held_leaves g.D.Disk c.args.name.now (λ layout. []) c.args.self.now c.args.self.now c.args.disk.now c.args.disk.now (λ runs. held_same g.D.Disk c.args.self.now c.args.disk.now)
+returns-in_default-clause-leaves g c = unasked_leaves g.D.Disk (Discard c.args.name.now) c.args.self.now c.args.disk.now
 
 pub returns-in_err-shorten_log-clause-leaves : goal.returns-in_err-shorten_log-clause-leaves
 returns-in_err-shorten_log-clause-leaves g c =
-    ended_leaves g.D.Disk c.args.name.now (λ layout. []) c.args.self.now c.shorten_log.new.self c.args.disk.now c.shorten_log.new.disk (c.in_err-shorten_log.ensures.refused.2).1
+    ended_leaves g.D.Disk (Discard c.args.name.now) c.args.self.now c.shorten_log.new.self c.args.disk.now c.shorten_log.new.disk (c.in_err-shorten_log.ensures.refused.2).1
 
 pub returns-clause-leaves : goal.returns-clause-leaves
 returns-clause-leaves g c =
-    later_leaves g.D.Disk c.args.name.now (λ layout. []) c.args.self.now c.shorten_log.new.self c.discard_shortly.new.self c.args.disk.now c.shorten_log.new.disk c.discard_shortly.new.disk
+    later_leaves g.D.Disk (Discard c.args.name.now) c.args.self.now c.shorten_log.new.self c.discard_shortly.new.self c.args.disk.now c.shorten_log.new.disk c.discard_shortly.new.disk
     c.in_ok-shorten_log.ensures.holds c.discard_shortly.ensures.areas.told c.discard_shortly.ensures.leaves

@@ -1,4 +1,4 @@
-use Rattle.std.proofs.Common.{List, [], ℕ, ap, refl}
+use Rattle.std.proofs.Common.{List, ℕ, ap, refl}
 use Rattle.nx_wal.specs.Wal.{next_group}
 use Rattle.nx_records.specs.Records.{next_number}
 use Rattle.nx_script.specs.declared.reply.Reply.{Reply}
@@ -8,7 +8,7 @@ use Rattle.nx_store.specs.declared.store.Store.{Store}
 use Rattle.nx_store.proofs.CommitLemmas.{commit_begun, commit_applied, refusal_applied, refusal_ok, refusal_refused}
 use Rattle.nx_store.proofs.ShowLemmas.{still_areas}
 use Rattle.nx_store.proofs.AppliedLemmas.{commit_refused}
-use Rattle.nx_store.proofs.StayingLemmas.{held_same, held_leaves, ended_leaves, committed_leaves, drop_holds}
+use Rattle.nx_store.proofs.StayingLemmas.{unasked_leaves, held_leaves, ended_leaves, committed_leaves, drop_holds}
 use Rattle.nx_store.proofs.store.Store.discard_shortly.Goals as goal
 
 pub returns-in-Err-clause-applies : goal.returns-in-Err-clause-applies
@@ -46,23 +46,23 @@ returns-clause-applies g c state at told =
     (ap (λ (a : Reply × List ℕ). a.0) c.in_ok-done.ensures)
 
 pub returns-in_err-done-clause-leaves : goal.returns-in_err-done-clause-leaves
-returns-in_err-done-clause-leaves g c = held_leaves g.D.Disk c.args.name.now (λ layout. []) c.args.self.now c.args.self.now c.args.disk.now c.args.disk.now (λ runs. held_same g.D.Disk c.args.self.now c.args.disk.now)
+returns-in_err-done-clause-leaves g c = unasked_leaves g.D.Disk (Discard c.args.name.now) c.args.self.now c.args.disk.now
 
 pub returns-in-Err-clause-leaves : goal.returns-in-Err-clause-leaves
 returns-in-Err-clause-leaves g c =
     let now : Store = record { alloc = c.prepare_discard.new.self.alloc; records = c.abandon.new.self; catalog = c.prepare_discard.new.self.catalog } in
-    held_leaves g.D.Disk c.args.name.now (λ layout. []) c.args.self.now now c.args.disk.now c.prepare_discard.new.disk
+    held_leaves g.D.Disk (Discard c.args.name.now) c.args.self.now now c.args.disk.now c.prepare_discard.new.disk
     (drop_holds g.D.Disk c.args.self.now c.prepare_discard.new.self now c.args.disk.now c.prepare_discard.new.disk c.abandon.ensures.follows c.abandon.ensures.none_left c.abandon.ensures.saved c.abandon.ensures.stays.0 refl
     c.in-Err.error c.in-Err.ensures.refused)
 
 pub returns-clause-leaves : goal.returns-clause-leaves
 returns-clause-leaves g c =
-    committed_leaves g.D.Disk c.args.name.now (λ layout. []) (Discard c.args.name.now) Done c.args.self.now c.prepare_discard.new.self
+    committed_leaves g.D.Disk (Discard c.args.name.now) c.args.self.now c.prepare_discard.new.self
     (record { alloc = c.prepare_discard.new.self.alloc; records = c.commit.new.self; catalog = c.prepare_discard.new.self.catalog }) c.args.disk.now c.prepare_discard.new.disk c.commit.new.disk
-    c.in-Ok.ensures.ok c.in-Ok-commit.ensures.ok c.in-Ok-commit.ensures.none_left.2 refl
+    (λ state at. let made = c.in-Ok.ensures.ok state at in ((made.0).next, (made.0).prepared, made.1)) c.in-Ok-commit.ensures.ok c.in-Ok-commit.ensures.none_left.2 refl
 
 pub returns-in_default-clause-leaves : goal.returns-in_default-clause-leaves
 returns-in_default-clause-leaves g c =
     let now : Store = record { alloc = c.prepare_discard.new.self.alloc; records = c.commit.new.self; catalog = c.prepare_discard.new.self.catalog } in
     let refused = commit_refused g.D.Disk c.args.self.now c.prepare_discard.new.self now c.args.disk.now c.prepare_discard.new.disk c.commit.new.disk c.in_default.field-0 c.in-Ok.ensures.still c.in-Ok.ensures.runs.0 c.in_default.ensures.refused in
-    ended_leaves g.D.Disk c.args.name.now (λ layout. []) c.args.self.now now c.args.disk.now c.commit.new.disk (refused.1).1
+    ended_leaves g.D.Disk (Discard c.args.name.now) c.args.self.now now c.args.disk.now c.commit.new.disk (refused.1).1

@@ -7,8 +7,7 @@ use Rattle.nx_catalog.specs.Catalog.{Contents}
 use Rattle.nx_script.specs.declared.reply.Reply.{Reply}
 use Rattle.nx_store.specs.Store.{IsApplied}
 use Rattle.nx_store.specs.Loading.{reply_of}
-use Rattle.nx_edit.specs.Editing.{places_off}
-use Rattle.nx_store.specs.Editing.{edit_command, stays_below}
+use Rattle.nx_store.specs.Editing.{edit_command}
 use Rattle.nx_store.specs.declared.error.EngineError.{EngineError}
 use Rattle.nx_store.proofs.ShowLemmas.{handed, shows_written, later_applied}
 use Rattle.nx_store.proofs.AppliedLemmas.{later_refused}
@@ -40,9 +39,9 @@ returns-clause-refused g c =
 
 pub returns-in_err-shorten_log-clause-leaves : goal.returns-in_err-shorten_log-clause-leaves
 returns-in_err-shorten_log-clause-leaves g c =
-    ended_leaves g.D.Disk c.args.name.now (places_off (stays_below c.args.edit) c.args.path) c.args.self.now c.shorten_log.new.self c.args.disk.now c.shorten_log.new.disk (c.in_err-shorten_log.ensures.refused.2).1
+    ended_leaves g.D.Disk (edit_command c.args.name.now c.args.path c.args.edit) c.args.self.now c.shorten_log.new.self c.args.disk.now c.shorten_log.new.disk (c.in_err-shorten_log.ensures.refused.2).1
 
 pub returns-clause-leaves : goal.returns-clause-leaves
 returns-clause-leaves g c =
-    later_leaves g.D.Disk c.args.name.now (places_off (stays_below c.args.edit) c.args.path) c.args.self.now c.shorten_log.new.self c.edit_shortly.new.self c.args.disk.now c.shorten_log.new.disk c.edit_shortly.new.disk
+    later_leaves g.D.Disk (edit_command c.args.name.now c.args.path c.args.edit) c.args.self.now c.shorten_log.new.self c.edit_shortly.new.self c.args.disk.now c.shorten_log.new.disk c.edit_shortly.new.disk
     c.in_ok-shorten_log.ensures.holds c.edit_shortly.ensures.areas.told c.edit_shortly.ensures.leaves

@@ -7,9 +7,11 @@ use Rattle.nx_script.specs.declared.reply.Reply.TheVariants.{Refused}
 use Rattle.nx_script.specs.declared.reply.ReplyError.TheVariants.{Exists, Pyx}
 use Rattle.nx_steps.specs.Step.{Step}
 use Rattle.nx_store.specs.Store.{IsApplied}
+use Rattle.nx_store.specs.Staying.{LeavesOthers}
 use Rattle.nx_store.specs.Loading.{reply_of}
 use Rattle.nx_store.proofs.ShowLemmas.{told_applied}
 use Rattle.nx_store.proofs.StepLemmas.{is_nothing, exists_answers, wrong_answers}
+use Rattle.nx_store.proofs.StayingLemmas.{unasked_leaves}
 use Rattle.nx_store.proofs.store.Store.load.Goals as goal
 
 pub returns-then-is_some-clause-loads : goal.returns-then-is_some-clause-loads
@@ -27,3 +29,16 @@ returns-in-Wrong-clause-loads g c state at told =
 pub returns-clause-loads : goal.returns-clause-loads
 returns-clause-loads g c state at told =
     subst (λ (b : LoadBody). IsApplied g.D.Disk (reply_of c.load_tree.result) state (Load c.args.name b) c.load_tree.new.self c.args.disk.now c.load_tree.new.disk) (sym c.in-Read.is) (c.load_tree.ensures.loads state at told)
+
+pub returns-then-is_ended-clause-leaves : goal.returns-then-is_ended-clause-leaves
+returns-then-is_ended-clause-leaves g c = unasked_leaves g.D.Disk (Load c.args.name c.args.body) c.args.self.now c.args.disk.now
+
+pub returns-then-is_some-clause-leaves : goal.returns-then-is_some-clause-leaves
+returns-then-is_some-clause-leaves g c = unasked_leaves g.D.Disk (Load c.args.name c.args.body) c.args.self.now c.args.disk.now
+
+pub returns-in-Wrong-clause-leaves : goal.returns-in-Wrong-clause-leaves
+returns-in-Wrong-clause-leaves g c = unasked_leaves g.D.Disk (Load c.args.name c.args.body) c.args.self.now c.args.disk.now
+
+pub returns-clause-leaves : goal.returns-clause-leaves
+returns-clause-leaves g c =
+    subst (λ (b : LoadBody). LeavesOthers g.D.Disk (Load c.args.name b) c.args.self.now c.load_tree.new.self c.args.disk.now c.load_tree.new.disk) (sym c.in-Read.is) c.load_tree.ensures.leaves

@@ -9,6 +9,7 @@ use Rattle.nx_script.specs.declared.reply.Reply.TheVariants.{Refused}
 use Rattle.nx_script.specs.declared.reply.ReplyError.TheVariants as reason
 use Rattle.nx_store.proofs.ShowLemmas.{told_applied}
 use Rattle.nx_store.proofs.StepLemmas.{heavy_answers}
+use Rattle.nx_store.proofs.StayingLemmas.{unasked_leaves}
 use Rattle.nx_store.proofs.store.Store.load_planned.Goals as goal
 
 pub returns-in-Err-TooHeavy-clause-loads : goal.returns-in-Err-TooHeavy-clause-loads
@@ -17,3 +18,9 @@ returns-in-Err-TooHeavy-clause-loads g c state at told =
     (heavy_answers c.args.self.now c.args.disk.now c.args.name.now c.args.tree state c.in-Err-TooHeavy.path c.in-Err-TooHeavy.weight c.requires.new
     (subst (λ (k : ℕ). IsPlanRefused k c.args.tree (TooHeavy c.in-Err-TooHeavy.path c.in-Err-TooHeavy.weight)) (c.from-k.ensures ∙ ap (λ (t : Settings). t.k) c.settings.ensures)
     (subst (λ (e : PlanError). IsPlanRefused c.from-k.result c.args.tree e) c.in-Err-TooHeavy.field-0-is c.in-Err-TooHeavy.ensures.err)) at)
+
+pub returns-in-Err-TooHeavy-clause-leaves : goal.returns-in-Err-TooHeavy-clause-leaves
+returns-in-Err-TooHeavy-clause-leaves g c = unasked_leaves g.D.Disk (Load c.args.name.now (Read c.args.tree)) c.args.self.now c.args.disk.now
+
+pub returns-clause-leaves : goal.returns-clause-leaves
+returns-clause-leaves g c = unasked_leaves g.D.Disk (Load c.args.name.now (Read c.args.tree)) c.args.self.now c.args.disk.now

@@ -7,10 +7,12 @@ use Rattle.nx_script.specs.declared.command.Command.TheVariants.{Names, Export, 
 use Rattle.nx_script.specs.declared.reply.Reply.TheVariants.{Refused}
 use Rattle.nx_script.specs.declared.reply.ReplyError.TheVariants.{Syntax}
 use Rattle.nx_store.specs.Store.{IsApplied, NotApplied}
+use Rattle.nx_store.specs.Staying.{LeavesOthers}
 use Rattle.nx_store.specs.declared.error.EngineError.{EngineError}
 use Rattle.nx_store.proofs.LookLemmas.{names_answer, rules_answer}
 use Rattle.nx_store.proofs.AtLemmas.{leaves_self}
 use Rattle.nx_store.proofs.ShowLemmas.{still_areas, looked_applied}
+use Rattle.nx_store.proofs.StayingLemmas.{unasked_leaves, looked_leaves}
 use Rattle.nx_store.proofs.store.Store.look.Goals as goal
 
 pub returns-in-Names-clause-applies : goal.returns-in-Names-clause-applies
@@ -79,3 +81,24 @@ returns-in-Layout-clause-areas g c = still_areas g.D.Disk c.layout.ensures.still
 pub returns-in-Checkpoint-clause-applies : goal.returns-in-Checkpoint-clause-applies
 returns-in-Checkpoint-clause-applies g c state at told =
     subst (λ (k : Command). IsApplied g.D.Disk c.checkpoint.result state k c.checkpoint.new.self c.args.disk.now c.checkpoint.new.disk) (sym c.in-Checkpoint.is) (c.checkpoint.ensures.applies state at told)
+
+pub returns-in-Names-clause-leaves : goal.returns-in-Names-clause-leaves
+returns-in-Names-clause-leaves g c = unasked_leaves g.D.Disk c.args.command c.args.self.now c.args.disk.now
+
+pub returns-in-Rules-clause-leaves : goal.returns-in-Rules-clause-leaves
+returns-in-Rules-clause-leaves g c = unasked_leaves g.D.Disk c.args.command c.args.self.now c.args.disk.now
+
+pub returns-in-Bad-clause-leaves : goal.returns-in-Bad-clause-leaves
+returns-in-Bad-clause-leaves g c = unasked_leaves g.D.Disk c.args.command c.args.self.now c.args.disk.now
+
+pub returns-in-Export-clause-leaves : goal.returns-in-Export-clause-leaves
+returns-in-Export-clause-leaves g c = looked_leaves g.D.Disk c.args.command c.args.self.now c.export.new.self c.args.disk.now c.export.new.disk c.export.ensures.still c.export.ensures.same
+
+pub returns-in-Get-clause-leaves : goal.returns-in-Get-clause-leaves
+returns-in-Get-clause-leaves g c = looked_leaves g.D.Disk c.args.command c.args.self.now c.get.new.self c.args.disk.now c.get.new.disk c.get.ensures.still c.get.ensures.same
+
+pub returns-in-Layout-clause-leaves : goal.returns-in-Layout-clause-leaves
+returns-in-Layout-clause-leaves g c = looked_leaves g.D.Disk c.args.command c.args.self.now c.layout.new.self c.args.disk.now c.layout.new.disk c.layout.ensures.still c.layout.ensures.same
+
+pub returns-in-Checkpoint-clause-leaves : goal.returns-in-Checkpoint-clause-leaves
+returns-in-Checkpoint-clause-leaves g c = subst (λ (k : Command). LeavesOthers g.D.Disk k c.args.self.now c.checkpoint.new.self c.args.disk.now c.checkpoint.new.disk) (sym c.in-Checkpoint.is) c.checkpoint.ensures.leaves

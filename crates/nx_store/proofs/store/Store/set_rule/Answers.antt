@@ -9,6 +9,7 @@ use Rattle.nx_store.specs.Loading.{reply_of}
 use Rattle.nx_store.specs.declared.error.EngineError.{EngineError}
 use Rattle.nx_store.proofs.ShowLemmas.{handed, shows_written, later_applied}
 use Rattle.nx_store.proofs.AppliedLemmas.{later_refused}
+use Rattle.nx_store.proofs.StayingLemmas.{ended_leaves, later_leaves}
 use Rattle.nx_store.proofs.store.Store.set_rule.Goals as goal
 
 pub returns-in_err-shorten_log-clause-applies : goal.returns-in_err-shorten_log-clause-applies
@@ -30,3 +31,12 @@ returns-clause-refused g c =
     if_err_then c.set_rule_shortly.result c.set_rule_shortly.ensures.refused (λ e refused.
     later_refused g.D.Disk c.args.self.now c.shorten_log.new.self c.set_rule_shortly.new.self c.args.disk.now c.shorten_log.new.disk c.set_rule_shortly.new.disk c.requires.runs
     c.in_ok-shorten_log.ensures.goes c.set_rule_shortly.ensures.areas c.in_ok-shorten_log.ensures.ok.2 e c.in_ok-shorten_log.ensures.ok.0 refused)
+
+pub returns-in_err-shorten_log-clause-leaves : goal.returns-in_err-shorten_log-clause-leaves
+returns-in_err-shorten_log-clause-leaves g c =
+    ended_leaves g.D.Disk (SetRule c.args.rule.now) c.args.self.now c.shorten_log.new.self c.args.disk.now c.shorten_log.new.disk (c.in_err-shorten_log.ensures.refused.2).1
+
+pub returns-clause-leaves : goal.returns-clause-leaves
+returns-clause-leaves g c =
+    later_leaves g.D.Disk (SetRule c.args.rule.now) c.args.self.now c.shorten_log.new.self c.set_rule_shortly.new.self c.args.disk.now c.shorten_log.new.disk c.set_rule_shortly.new.disk
+    c.in_ok-shorten_log.ensures.holds c.set_rule_shortly.ensures.areas.told c.set_rule_shortly.ensures.leaves

@@ -7,6 +7,8 @@ use Rattle.nx_script.specs.declared.command.Command.TheVariants.{SetRule}
 use Rattle.nx_store.specs.declared.store.Store.{Store}
 use Rattle.nx_store.proofs.CommitLemmas.{commit_begun, commit_applied, rule_applied, rule_ok, rule_refused}
 use Rattle.nx_store.proofs.ShowLemmas.{still_areas}
+use Rattle.nx_store.proofs.AppliedLemmas.{commit_refused}
+use Rattle.nx_store.proofs.StayingLemmas.{unasked_leaves, held_leaves, ended_leaves, committed_leaves, rule_holds}
 use Rattle.nx_store.proofs.store.Store.set_rule_shortly.Goals as goal
 
 pub returns-in-Err-clause-applies : goal.returns-in-Err-clause-applies
@@ -33,12 +35,34 @@ returns-in-Err-clause-areas g c = still_areas g.D.Disk c.in-Err.ensures.still
 pub returns-in_default-clause-applies : goal.returns-in_default-clause-applies
 returns-in_default-clause-applies g c state at told =
     commit_begun g.D.Disk (SetRule c.args.rule.now) (λ is. cc) c.args.self.now c.prepare_rule.new.self c.args.disk.now c.prepare_rule.new.disk c.commit.new.disk c.in-Ok.ensures.still c.commit.ensures.goes state at Done
-    (c.in-Ok.ensures.ok state at) told
+    (c.in-Ok.ensures.ok state at).0 told
 
 pub returns-clause-applies : goal.returns-clause-applies
 returns-clause-applies g c state at told =
     commit_applied g.D.Disk (SetRule c.args.rule.now) (λ is. cc) c.args.self.now c.prepare_rule.new.self c.args.disk.now c.prepare_rule.new.disk c.commit.new.disk c.in-Ok.ensures.still c.commit.ensures.goes state at Done
-    (c.in-Ok.ensures.ok state at) told
+    (c.in-Ok.ensures.ok state at).0 told
     (record { alloc = c.prepare_rule.new.self.alloc; records = c.commit.new.self; catalog = c.prepare_rule.new.self.catalog }) c.in_ok-done.done.0 (next_group (next_number c.prepare_rule.new.self.records) c.prepare_rule.new.self.records.wal)
     c.requires.short c.in-Ok-commit.ensures.group c.in-Ok-commit.ensures.step c.in-Ok-commit.ensures.ok c.in-Ok-commit.ensures.none_left.2 refl
     (ap (λ (a : Reply × List ℕ). a.0) c.in_ok-done.ensures)
+
+pub returns-in_err-done-clause-leaves : goal.returns-in_err-done-clause-leaves
+returns-in_err-done-clause-leaves g c = unasked_leaves g.D.Disk (SetRule c.args.rule.now) c.args.self.now c.args.disk.now
+
+pub returns-in-Err-clause-leaves : goal.returns-in-Err-clause-leaves
+returns-in-Err-clause-leaves g c =
+    let now : Store = record { alloc = c.prepare_rule.new.self.alloc; records = c.abandon.new.self; catalog = c.prepare_rule.new.self.catalog } in
+    held_leaves g.D.Disk (SetRule c.args.rule.now) c.args.self.now now c.args.disk.now c.prepare_rule.new.disk
+    (rule_holds g.D.Disk c.args.self.now c.prepare_rule.new.self now c.args.disk.now c.prepare_rule.new.disk c.abandon.ensures.follows c.abandon.ensures.none_left c.abandon.ensures.saved c.abandon.ensures.stays.0 refl
+    (SetRule c.args.rule.now) c.in-Err.error c.in-Err.ensures.refused)
+
+pub returns-clause-leaves : goal.returns-clause-leaves
+returns-clause-leaves g c =
+    committed_leaves g.D.Disk (SetRule c.args.rule.now) c.args.self.now c.prepare_rule.new.self
+    (record { alloc = c.prepare_rule.new.self.alloc; records = c.commit.new.self; catalog = c.prepare_rule.new.self.catalog }) c.args.disk.now c.prepare_rule.new.disk c.commit.new.disk
+    (λ state at. let made = c.in-Ok.ensures.ok state at in ((made.0).next, (made.0).prepared, made.1)) c.in-Ok-commit.ensures.ok c.in-Ok-commit.ensures.none_left.2 refl
+
+pub returns-in_default-clause-leaves : goal.returns-in_default-clause-leaves
+returns-in_default-clause-leaves g c =
+    let now : Store = record { alloc = c.prepare_rule.new.self.alloc; records = c.commit.new.self; catalog = c.prepare_rule.new.self.catalog } in
+    let refused = commit_refused g.D.Disk c.args.self.now c.prepare_rule.new.self now c.args.disk.now c.prepare_rule.new.disk c.commit.new.disk c.in_default.field-0 c.in-Ok.ensures.still c.in-Ok.ensures.runs.0 c.in_default.ensures.refused in
+    ended_leaves g.D.Disk (SetRule c.args.rule.now) c.args.self.now now c.args.disk.now c.commit.new.disk (refused.1).1

@@ -4,7 +4,7 @@ use Rattle.std.proofs.lemmas.Result.{err_from_is_err_and}
 use Rattle.nx_store.specs.Loading.{IsAppliedWithText}
 use Rattle.nx_store.specs.declared.error.EngineError.{EngineError}
 use Rattle.nx_store.proofs.ShowLemmas.{handed}
-use Rattle.nx_store.proofs.StayingLemmas.{held_same, held_others, quiet_others}
+use Rattle.nx_store.proofs.StayingLemmas.{unasked_leaves}
 use Rattle.nx_store.proofs.store.Store.text_for.Goals as goal
 
 pub returns-then-may_change-clause-writes : goal.returns-then-may_change-clause-writes
@@ -16,7 +16,4 @@ returns-in_err-text-clause-writes g c state at told =
     c.in_err-text.field-0.0 (err_from_is_err_and c.from_residual.result c.from_residual.ensures.1) (c.in_err-text.ensures.applies state at told)
 
 pub returns-then-is_ended-clause-leaves : goal.returns-then-is_ended-clause-leaves
-returns-then-is_ended-clause-leaves g c = held_others g.D.Disk c.args.command c.args.self.now c.args.self.now c.args.disk.now c.args.disk.now (λ runs. held_same g.D.Disk c.args.self.now c.args.disk.now)
-
-pub returns-clause-leaves : goal.returns-clause-leaves
-returns-clause-leaves g c = quiet_others g.D.Disk c.args.command c.args.self.now c.text_behind.new.self c.args.disk.now c.text_behind.new.disk (sym c.may_change.ensures.answer ∙ c.if-may_change.false)
+returns-then-is_ended-clause-leaves g c = unasked_leaves g.D.Disk c.args.command c.args.self.now c.args.disk.now
