@@ -18,6 +18,7 @@ use Rattle.nx_cuts.specs.Cut.{CutForest, Bare, Grown, Kept, forest, width, part_
 use Rattle.nx_layouts.specs.Layout.{Layout, without_places, piece_body, proxies_of, piece_of}
 use Rattle.nx_layouts.specs.Replace.{joined_layout}
 use Rattle.nx_layouts.proofs.LayoutLemmas.{proxies_counted}
+use Rattle.nx_layouts.proofs.SizeLemmas.{part_is_weight, parts_fit}
 use Rattle.nx_layouts.proofs.ValidLemmas.{piece_valid}
 use Rattle.nx_hold.specs.Changes.{place_named, piece_needs, AddsPiece, ComesTidy}
 use Rattle.nx_build.specs.Marked.{IsMarked, AreMembers}
@@ -159,7 +160,7 @@ members_valid holder position trees members layout m same few =
     let light : part_weight members ≡ part_weight layout = ap part_weight (sym same) ∙ weight-without layout in
     let count : length (proxies_of layout) ≡ proxy_count members = length-proxies layout ∙ sym (count-without layout) ∙ ap proxy_count same in
     let all : nodes (forest members) ≡ nodes trees = ap nodes (m.marked).trees_are in
-    let valid = piece_valid 256 layout (omega arith) (omega (arith, some, wide)) (free_with layout free) (omega (arith, weighs, light)) (parts_with 256 layout parts)
+    let valid = piece_valid 256 layout (omega arith) (omega (arith, some, wide)) (free_with layout free) (omega (arith, weighs, light, part_is_weight layout)) (parts_fit 256 layout (parts_with 256 layout parts))
     (omega (arith, count, all, count_cuts members, cuts_few 256 members (m.marked).light, few)) in
     record { body = valid.0; ranged = valid.1 }
 

@@ -1,19 +1,19 @@
 -- The piece of an interval that became too heavy.
-use Rattle.std.proofs.Common.{◌≡◌, ℕ, ◌+◌, ◌≤◌, List, [], ◌∷◌, ◌++◌, refl, sym, arith}
+use Rattle.std.proofs.Common.{◌≡◌, ℕ, ◌+◌, ◌≤◌, List, [], ◌∷◌, ◌++◌, refl, sym, ◌∙◌, arith}
 use Rattle.nx_tree.specs.Forest.{Forest, Empty, Plant, nodes}
 use Rattle.nx_piece.specs.declared.piece.Proxy.{Proxy}
 use Rattle.nx_piece.specs.Gapped as gapped
-use Rattle.nx_piece.specs.Gapped.{Gapped, End, Grow, Gap, gapped_weight, proxies_in}
+use Rattle.nx_piece.specs.Gapped.{Gapped, End, Grow, Gap, gapped_size, proxies_in}
 use Rattle.nx_piece.specs.Valid.{AreTrees, HaveRoots}
 use Rattle.nx_cuts.specs.Cut.{Bare, Grown, Kept, joined, forest, width, part_weight, AreFree, AreParts}
 use Rattle.nx_layouts.specs.Layout.{Layout, gap_more, piece_body, proxies_of}
 use Rattle.nx_layouts.proofs.LayoutLemmas.{proxies_counted}
+use Rattle.nx_layouts.proofs.SizeLemmas.{body_size, part_is_weight}
 use Rattle.nx_layouts.proofs.ValidLemmas.{body_apart}
 use Rattle.nx_split.specs.Piece.{AreGappedAtMost}
 use Rattle.nx_drawn.specs.Growth.{PartIsAtMost}
 use Rattle.nx_drawn.proofs.GrowthLemmas.{width_light}
 use Rattle.nx_drawn.proofs.DividedLemmas.{heavier_parts}
-use Rattle.nx_drafts.proofs.FillLemmas.{weight-piece}
 use Rattle.nx_divide.specs.Marked.{many}
 use Rattle.nx_divide.specs.Heavy.{HeavyIsPiece}
 use Rattle.nx_divide.proofs.RowLemmas.{many-gap_more}
@@ -65,8 +65,8 @@ proxies_many End = omega arith
 proxies_many (Grow n b s) = omega (arith, proxies_many b, proxies_many s)
 proxies_many (Gap count s) = omega (arith, proxies_many s)
 
--- each node of a piece weighs something
-pub many_few : (g : Gapped) → many g ≤ gapped_weight g + proxies_in g
+-- each node of a piece has an item of one slot at least
+pub many_few : (g : Gapped) → many g ≤ gapped_size g + proxies_in g
 many_few End = omega arith
 many_few (Grow n b s) = omega (arith, many_few b, many_few s)
 many_few (Gap count s) = omega (arith, many_few s)
@@ -88,7 +88,7 @@ heavy_is_piece k limit wide members most limited narrow heavy small =
     let light = heavy.light in
     let parts : AreParts 256 members = heavier_parts k 256 members most heavy.parts in
     let w = free_roots members heavy.free in
-    let v = weight-piece members in
+    let v = body_size members ∙ part_is_weight members in
     let c = proxies_counted members in
     let m = many_nodes members parts in
     let p = proxies_many (piece_body members) in record {

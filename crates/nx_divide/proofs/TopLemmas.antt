@@ -18,9 +18,8 @@ use Rattle.nx_records.specs.Refusals.{NotStored}
 use Rattle.nx_piece.specs.declared.piece.Piece.{Piece}
 use Rattle.nx_piece.specs.declared.piece.Proxy.{Proxy}
 use Rattle.nx_piece.specs.Gapped as gapped
-use Rattle.nx_piece.specs.Gapped.{Gapped, End, Grow, Gap, item_count, gapped_weight}
+use Rattle.nx_piece.specs.Gapped.{Gapped, End, Grow, Gap, item_count, item_slots, gapped_size}
 use Rattle.nx_piece.specs.Valid.{IsPiece, AreApart, AreTrees, BeginsNoGap}
-use Rattle.nx_weights.specs.Weight.{weight}
 use Rattle.nx_parts.specs.declared.marks.Mark.{Mark}
 use Rattle.nx_parts.specs.Marks.{marked, marked_in, holder_by_marks}
 use Rattle.nx_layouts.specs.Replace.{joined_layout}
@@ -212,12 +211,12 @@ roots_marked mark below parts roots items olds left c holds are items_are left_i
     (marked_same None (holder parts) (holder_by_marks below) 0 roots olds left c (λ p path. sym (holds (p ∷ path)) ∙ sym (are p path)) (sym left_is) m)
 
 -- nodes and gaps of a piece are few
-apart_few : (g : Gapped) → AreApart g → (BeginsNoGap g → item_count g ≤ 3 * gapped_weight g) × (item_count g ≤ 3 * gapped_weight g + 1)
+apart_few : (g : Gapped) → AreApart g → (BeginsNoGap g → item_count g ≤ 3 * gapped_size g) × (item_count g ≤ 3 * gapped_size g + 1)
 apart_few End a = (λ b. omega arith, omega arith)
 apart_few (Grow n b s) a =
     let x = (apart_few b a.0).1 in
     let y = (apart_few s a.1).1 in
-    let w : 1 ≤ weight n = omega arith in
+    let w : 1 ≤ item_slots n = omega arith in
     (λ none. omega (arith, x, y, w), omega (arith, x, y, w))
 apart_few (Gap count s) a = let y = (apart_few s a.2).0 a.1 in (λ none. absurd none, omega (arith, y))
 

@@ -16,6 +16,7 @@ use Rattle.nx_piece.specs.Items.{gapped_of, with_last_tree}
 use Rattle.nx_piece.specs.Valid.{IsValidPiece}
 use Rattle.nx_cuts.specs.Cut.{width, part_weight, AreFree, AreParts}
 use Rattle.nx_layouts.specs.Layout.{without_places, piece_body, proxies_of, piece_of}
+use Rattle.nx_layouts.proofs.SizeLemmas.{part_is_weight, parts_fit}
 use Rattle.nx_layouts.proofs.ValidLemmas.{piece_valid}
 use Rattle.nx_hold.specs.Changes.{place_named, piece_needs, AddsPiece, ComesTidy}
 use Rattle.nx_drafts.specs.Draft.{Draft, Ends, Grows, Stands, Comes, drawn_forest, layout_before, layout_after, unmarked, draft_body, draft_count, draft_needs}
@@ -180,7 +181,7 @@ members_valid holder position items olds members draft m same few =
     let count : length (proxies_of (layout_after draft)) ≡ draft_count members = count-layout_after draft ∙ sym (count-unmarked draft) ∙ ap draft_count same in
     let nodes : many (piece_body (layout_before members)) ≡ many items = ap many (m.marked).items_are in
     let f = count_few 256 members (m.marked).light in
-    let valid = piece_valid 256 (layout_after draft) (omega arith) (omega (arith, some, wide)) (free_with (layout_after draft) free) (omega (arith, weighs, light)) (parts_with 256 (layout_after draft) parts)
+    let valid = piece_valid 256 (layout_after draft) (omega arith) (omega (arith, some, wide)) (free_with (layout_after draft) free) (omega (arith, weighs, light, part_is_weight (layout_after draft))) (parts_fit 256 (layout_after draft) (parts_with 256 (layout_after draft) parts))
     (omega (arith, count, nodes, f, few)) in
     record { body = valid.0; ranged = valid.1 }
 

@@ -39,7 +39,7 @@ fn is_light(k: u32, tree: &PieceTree) -> bool
     requires { HasShortNodes tree.now }
     ensures { IsTrue result ↔ ((node_weight tree.now.node ≤ k) × AreGappedAtMost k tree.now.below) }
 {
-    if nx_weights::weight(&tree.node) > k {
+    if tree.weight() > k {
         return false;
     }
     for item in tree.children.as_slice() {

@@ -38,8 +38,8 @@ use std::alloc::Global;
 /// all others, whatever interval has the piece. The record that the piece stood in is the caller's matter, who removes
 /// it before.
 ///
-/// The piece has to be one that may be stored, but it may weigh up to 512 and have up to 257 roots; it has to weigh
-/// more than the K of these records, and none of its nodes may. It has 524,288 nodes and proxies at most.
+/// The piece has to be one that may be stored, but its nodes may take up to 512 slots, and it may have up to 257 roots;
+/// it has to weigh more than the K of these records, and none of its nodes may. It has 524,288 nodes and proxies at most.
 ///
 /// Errors: `Full`, over sound pages only where fewer pages were free than one for each interval of the split, and those
 /// of their chains; `Damaged` with page 0, only where the pages aren't sound; `Disk`, only where `faults` rose; `Ended`

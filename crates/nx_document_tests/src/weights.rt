@@ -5,7 +5,7 @@ ghost use Rattle.nx_weights.specs.Weight.{IsWithinLimits};
 
 use crate::fixtures::read;
 use nx_tree::{Bytes, Kind, NoMemory, Node, Tree, node_at};
-use nx_weights::{Weights, first_heavy, subtree_weights, weight};
+use nx_weights::{Weights, first_heavy, subtree_weights, weight, weight_of};
 use std::alloc::Global;
 use std::process::Abort;
 use std::test::Fail;
@@ -22,21 +22,23 @@ const LENGTHS: [(usize, usize, u32); 8] = [
     (576, 1_048_000, 131_073),
 ];
 
-// What a node of a name and a content of so many bytes weighs.
-fn weight_of(rt: &impl Abort, alloc: Global, name: usize, content: usize) -> Result<u32, Fail> {
+// What a node of a name and a content of so many bytes weighs, by the node and by the two lengths.
+fn weigh(rt: &impl Abort, alloc: Global, name: usize, content: usize) -> Result<u32, Fail> {
     assert!(rt; name <= 576 && content <= 1_048_000);
     let node = Node {
         kind: Kind::Attribute,
         name: Bytes::from_vec(vec![in alloc; b'n'; name]?),
         content: Bytes::from_vec(vec![in alloc; b'c'; content]?),
     };
-    Ok(weight(&node))
+    let weight = weight(&node);
+    assert_eq!(rt; weight_of(name as u32, content as u32), weight);
+    Ok(weight)
 }
 
 #[test]
 fn lengths(rt: HostRuntime) -> Result<(), Fail> {
     for (name, content, want) in LENGTHS {
-        assert_eq!(rt; weight_of(&rt, rt.alloc(), name, content)?, want);
+        assert_eq!(rt; weigh(&rt, rt.alloc(), name, content)?, want);
     }
     Ok(())
 }

@@ -1,5 +1,6 @@
 pub mod LayoutLemmas
 pub mod ReplaceLemmas
+pub mod SizeLemmas
 pub mod ValidLemmas
 pub mod PlaceLemmas
 pub mod HeldLemmas

@@ -1,4 +1,5 @@
 pub mod Layout
+pub mod Size
 pub mod Replace
 pub mod Valid
 pub mod Cutting

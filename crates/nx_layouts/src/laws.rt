@@ -18,8 +18,8 @@ pub fn one_for_several()
     ensures { OneForSeveral }
 {}
 
-/// The members of an interval, one at least, have a piece that may be stored, where no part weighs more than `k`, `k`
-/// is at most 256, and at most 524,288 intervals are below them.
+/// The members of an interval, one at least, have a piece that may be stored, where the items of no part take more than
+/// `k` slots, `k` is at most 256, and at most 524,288 intervals are below them.
 pub fn piece_is_valid()
     ensures { PieceIsValid }
 {}

@@ -19,7 +19,7 @@ use Rattle.nx_piece.specs.Gapped.{Gapped}
 use Rattle.nx_piece.specs.declared.piece.Piece.{Piece}
 use Rattle.nx_cuts.specs.Cut.{CutForest, CutTree, Bare, Grown, Kept, forest, width, part_weight, AreFree, AreParts, tree_of}
 use Rattle.nx_layouts.specs.Layout.{RecordPlace, Layout, without_places, piece_body, piece_of, AreHeld}
-use Rattle.nx_layouts.proofs.ValidLemmas.{body_weight}
+use Rattle.nx_layouts.proofs.SizeLemmas.{body_size, part_is_weight}
 use Rattle.nx_hold.specs.Documents.{HasDocument}
 use Rattle.nx_hold.specs.Pieces.{HoldsPiece, HoldsNone}
 use Rattle.nx_nav.specs.Parts.{HasLayout, HasInterval, HasNoInterval}
@@ -54,11 +54,11 @@ no_interval roots piece holds other members h as_many =
     let same = ap (λ (p : Piece). gapped.gapped_width p.body.roots) (interval_piece h piece holds) in
     other (same ∙ interval_width h ∙ as_many)
 
--- ... and where its piece is heavier than the settings let a part be
+-- ... and where the items of its piece take more slots than the settings let a part weigh
 pub no_light_interval : {D : Type 0} {d : Ghosts D} {records : Records} {disk : D} {place : RecordPlace} (roots : ℕ) (piece : Piece) → ((saved now : Held) (held : Piece) → StandsFor d records disk saved now → HoldsPiece now place held → piece ≡ held)
-    → (settings_of records).k < gapped.gapped_weight piece.body.roots → HasNoInterval d records disk place roots
+    → (settings_of records).k < gapped.gapped_size piece.body.roots → HasNoInterval d records disk place roots
 no_light_interval roots piece holds heavy members h as_many =
-    let weighs = ap (λ (p : Piece). gapped.gapped_weight p.body.roots) (interval_piece h piece holds) ∙ body_weight members in
+    let takes = ap (λ (p : Piece). gapped.gapped_size p.body.roots) (interval_piece h piece holds) ∙ body_size members ∙ part_is_weight members in
     let most = ap (λ (t : Settings). t.k) (((h.stands).holds).behind).settings in
     let light : part_weight members ≤ (h.now.settings).k = h.light.2 in
     omega arith

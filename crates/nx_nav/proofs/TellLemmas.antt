@@ -16,7 +16,7 @@ use Rattle.nx_piece.specs.Gapped.{GappedTree, End, gapped_weight}
 use Rattle.nx_cuts.specs.Cut.{Bare, Grown, Kept, forest, width, part_weight, AreParts}
 use Rattle.nx_cuts.proofs.FeasibleLemmas.{trees}
 use Rattle.nx_layouts.specs.Layout.{RecordPlace, Layout, piece_body, proxies_of, piece_of, places_of, ArePlacedOnce}
-use Rattle.nx_layouts.proofs.ValidLemmas.{body_weight}
+use Rattle.nx_layouts.proofs.SizeLemmas.{body_weight}
 use Rattle.nx_nav.specs.declared.error.NavError.{NavError}
 use Rattle.nx_nav.specs.declared.visited.Visited.{Visited}
 use Rattle.nx_nav.specs.Nodes.{CanBeTree, CanStand}

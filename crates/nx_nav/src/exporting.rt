@@ -13,7 +13,7 @@ use crate::telling::{push_end, push_start};
 use crate::visited::Visited;
 use crate::walking::{Tells, Walk, tell_document};
 use nx_host::{Disk, Host};
-use nx_piece::NodeView;
+use nx_piece::{BodyView, NodeView};
 use nx_records::{Records, Rid};
 use nx_tree::{Bytes, NoMemory};
 use std::alloc::Global;
@@ -90,7 +90,7 @@ impl<H: Host> Tells<H> for Exporting {
         }
     }
 
-    fn begin(&mut self, _roots: u16, _weight: u32) -> Result<(), NoMemory> {
+    fn begin(&mut self, _roots: u16, _body: &BodyView<'_>) -> Result<(), NoMemory> {
         Ok(())
     }
 

@@ -13,7 +13,7 @@ use crate::visited::Visited;
 use crate::walking::{Tells, Walk, tell_document};
 use nx_host::Disk;
 use nx_parts::{Interval, Partitioning};
-use nx_piece::NodeView;
+use nx_piece::{BodyView, NodeView};
 use nx_records::{Records, Rid};
 use nx_tree::{NoMemory, Path};
 use nx_weights::Weights;
@@ -105,11 +105,11 @@ impl<D: Disk> Tells<D> for Laying {
         Ok(())
     }
 
-    fn begin(&mut self, roots: u16, weight: u32) -> Result<(), NoMemory> {
+    fn begin(&mut self, roots: u16, body: &BodyView<'_>) -> Result<(), NoMemory> {
         let path = self.path.as_slice();
         let interval = interval_at(self.alloc, path, self.position, roots)?;
         self.parts.push(interval)?;
-        self.weights.push(u64::from(weight))
+        self.weights.push(u64::from(body.weight()))
     }
 
     fn open(&mut self, _node: NodeView<'_>) -> Result<(), NoMemory> {

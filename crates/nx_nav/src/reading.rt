@@ -1,10 +1,10 @@
-// The piece of a record, which has to have as many roots as its proxy says, and to be as light as the
-// settings want it.
+// The piece of a record, which has to have as many roots as its proxy says, and whose nodes may take no more
+// slots than the settings let a part weigh.
 ghost use Rattle.std.specs.Prelude.{◌≡◌, ◌≤◌, false, IfOk, IfErr};
 ghost use Rattle.nx_host.specs.Still.{IsStill};
 ghost use Rattle.nx_records.specs.Records.{has_ended, settings_of, LeavesRecords};
 ghost use Rattle.nx_records.specs.Refusals.{EndNow};
-ghost use Rattle.nx_piece.specs.Gapped.{gapped_width, gapped_weight};
+ghost use Rattle.nx_piece.specs.Gapped.{gapped_width, gapped_size};
 ghost use Rattle.nx_piece.specs.Valid.{IsValidPiece};
 ghost use Rattle.nx_hold.specs.Changes.{place_of};
 ghost use Rattle.nx_nav.specs.Along.{ReadsPiece};
@@ -19,8 +19,8 @@ use nx_records::{Records, Rid, StoreError};
 use nx_tree::Bytes;
 use std::alloc::Global;
 
-// The piece of the record at a place, which has so many roots and isn't heavier than a part may be, seen in
-// the record's bytes.
+// The piece of the record at a place, which has so many roots and whose nodes take no more slots than a part may
+// weigh, seen in the record's bytes.
 pub fn piece_at<'a, D: Disk>(
     alloc: Global,
     records: &mut Records,
@@ -33,7 +33,7 @@ pub fn piece_at<'a, D: Disk>(
     ensures stays { IfOk result (λ piece. (has_ended records.old ≡ false) × LeavesRecords records.old records.new) }
     ensures valid { IfOk result (λ piece. IsValidPiece piece) }
     ensures roots { IfOk result (λ piece. gapped_width piece.body.roots ≡ roots) }
-    ensures light { IfOk result (λ piece. gapped_weight piece.body.roots ≤ (settings_of records.old).k) }
+    ensures light { IfOk result (λ piece. gapped_size piece.body.roots ≤ (settings_of records.old).k) }
     ensures ok { IfOk result (λ piece. IsPieceAt D.Disk records.old disk.old (place_of rid) roots piece) }
     ensures reads { ReadsPiece D.Disk records.old disk.old disk.new (place_of rid) }
     ensures refused { IfErr result (λ e. IsRefused D.Disk ⊥ ⊥ (HasNoInterval D.Disk records.old disk.old (place_of rid) roots) e records.old records.new disk.old disk.new) }
@@ -45,7 +45,7 @@ pub fn piece_at<'a, D: Disk>(
     if piece.body.root_count() != roots {
         return Err(damaged(records, rid.page));
     }
-    if piece.body.weight() > records.settings().k {
+    if piece.body.size() > records.settings().k {
         return Err(damaged(records, rid.page));
     }
     Ok(piece)

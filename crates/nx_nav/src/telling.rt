@@ -14,7 +14,7 @@ use crate::NavError;
 use crate::visited::Visited;
 use crate::walking::{Tells, Walk, tell_document};
 use nx_host::Disk;
-use nx_piece::NodeView;
+use nx_piece::{BodyView, NodeView};
 use nx_pyx::push_parts_line;
 use nx_records::{Records, Rid};
 use nx_tree::{Bytes, Kind, NoMemory};
@@ -72,7 +72,7 @@ impl<D: Disk> Tells<D> for Text {
         Ok(())
     }
 
-    fn begin(&mut self, _roots: u16, _weight: u32) -> Result<(), NoMemory> {
+    fn begin(&mut self, _roots: u16, _body: &BodyView<'_>) -> Result<(), NoMemory> {
         Ok(())
     }
 

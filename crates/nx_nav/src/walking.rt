@@ -4,7 +4,7 @@ ghost use Rattle.nx_host.specs.Disk.{Image, Keeps};
 ghost use Rattle.nx_host.specs.Still.{IsStill};
 ghost use Rattle.nx_records.specs.Records.{has_ended, LeavesRecords};
 ghost use Rattle.nx_tree.specs.Document.{IsNode};
-ghost use Rattle.nx_piece.specs.Gapped.{proxies_in};
+ghost use Rattle.nx_piece.specs.Gapped.{gapped_weight, proxies_in};
 ghost use Rattle.nx_piece.specs.Flat.{seen_node};
 ghost use Rattle.nx_piece.specs.Viewing.{seen_items, seen_tree};
 ghost use Rattle.nx_piece.specs.Valid.{HaveRoots};
@@ -21,7 +21,7 @@ use crate::reading::{damaged, piece_at};
 use crate::visited::Visited;
 use nx_host::Disk;
 use nx_lists::DEEPEST;
-use nx_piece::{ItemView, ItemsView, NodeView, Proxy, TreeView};
+use nx_piece::{BodyView, ItemView, ItemsView, NodeView, Proxy, TreeView};
 use nx_records::{Records, Rid};
 use nx_tree::{Bytes, NoMemory};
 use std::alloc::Global;
@@ -43,10 +43,10 @@ pub trait Tells<D: Disk> {
         ensures ready { OnOk result (IsReady self.new) }
         ensures err { IfErr result (λ e. (e ≡ NavError.Write) × Unwritten disk.old disk.new × ((last : Self) × Told self.old disk.old [] last disk.new)) };
 
-    // An interval of so many members begins, whose part weighs so much.
-    fn begin(&mut self, roots: u16, weight: u32) -> Result<(), NoMemory>
+    // An interval of so many members begins, whose record has these nodes.
+    fn begin(&mut self, roots: u16, body: &BodyView<'_>) -> Result<(), NoMemory>
         requires { 1 ≤ roots }
-        ensures { OnOk result ((disk : D) → Told self.old disk (Begin roots weight ∷ []) self.new disk) };
+        ensures { OnOk result ((disk : D) → Told self.old disk (Begin roots (gapped_weight body.now.roots) ∷ []) self.new disk) };
 
     // A node begins, which a document may have.
     fn open(&mut self, node: NodeView<'_>) -> Result<(), NoMemory>
@@ -140,7 +140,7 @@ fn tell_interval<D: Disk, T: Tells<D>>(
     }
     let mut bytes = Bytes::new(walk.alloc);
     let piece = piece_at(walk.alloc, records, disk, rid, roots, &mut bytes)?;
-    walk.teller.begin(roots, piece.body.weight())?;
+    walk.teller.begin(roots, &piece.body)?;
     let spot = Spot {
         page: rid.page,
         depth,

@@ -6,8 +6,7 @@ use Rattle.std.proofs.lemmas.List.{length-append, length-replicate}
 use Rattle.nx_tree.specs.declared.node.Kind.{Kind}
 use Rattle.nx_tree.specs.declared.node.Kind.TheVariants.{Doc, Element, Attribute, Text, Instruction}
 use Rattle.nx_tree.specs.declared.node.Node.{Node}
-use Rattle.nx_weights.specs.Weight.{weight}
-use Rattle.nx_piece.specs.Gapped.{Gapped, End, Grow, Gap, gapped_width, gapped_weight, proxies_in}
+use Rattle.nx_piece.specs.Gapped.{Gapped, End, Grow, Gap, gapped_width, gapped_size, proxies_in, item_slots}
 use Rattle.nx_piece.specs.Encoding.{two_bytes, four_bytes, kind_byte, padding, content_bytes, node_bytes, run_bytes, items_bytes}
 use Rattle.nx_piece.specs.Valid.{AreApart}
 use Rattle.nx_piece.proofs.WalkLemmas.{item_count_most, width_most}
@@ -54,7 +53,7 @@ append_unique (c ∷ a) (d ∷ b) x y n e =
     let h : c ≡ d = cc in let t : a ≡ b = i.0 in (cc, i.1)
 
 abbrev pub IsLight : Node → Type 0
-IsLight node = weight node ≤ 256
+IsLight node = item_slots node ≤ 256
 
 pub light_name : (n : Node) → IsLight n → (length n.name < 65536) × (length n.content < 65536)
 light_name n h = (omega arith, omega arith)
@@ -99,7 +98,7 @@ row (Gap count beside) last = Gap count (row beside last)
 
 -- the trees and gaps of a piece, whose numbers fit their fields
 pub record IsStorable (f : Gapped) : Type 0 where
-  pub light : gapped_weight f ≤ 256
+  pub light : gapped_size f ≤ 256
   pub few : proxies_in f ≤ 524288
   pub apart : AreApart f
 

@@ -4,13 +4,12 @@ use Rattle.std.proofs.lemmas.List.{length-append, append-nil, nil_from_length}
 use Rattle.std.proofs.lemmas.Grind.{div_ceil_times}
 use Rattle.std.specs.Bool.{MatchBool}
 use Rattle.nx_tree.specs.declared.node.Node.{Node}
-use Rattle.nx_weights.specs.Weight.{weight}
 use Rattle.nx_piece.specs.declared.reading.Left.{Left}
 use Rattle.std.specs.Prelude.{None}
 use Rattle.nx_piece.specs.declared.piece.Proxy.{Proxy}
 use Rattle.nx_piece.specs.declared.piece.Stored.TheVariants.{Inline, Chained}
 use Rattle.nx_piece.specs.Decoded.{IsDecoded}
-use Rattle.nx_piece.specs.Gapped.{Gapped, GappedTree, End, Grow, Gap, item_count, gapped_width, gapped_weight, proxies_in, slots_in}
+use Rattle.nx_piece.specs.Gapped.{Gapped, GappedTree, End, Grow, Gap, item_count, gapped_width, gapped_size, proxies_in, slots_in, item_slots}
 use Rattle.nx_piece.specs.Encoding.{four_bytes, node_bytes, items_bytes, proxy_bytes, proxies_bytes, items_head_bytes, head_bytes, body_bytes}
 use Rattle.nx_piece.specs.Valid.{AreTrees, BeginsNoGap, IsValidBody, IsValidInline, IsValidChained, HaveRoots, HaveNumbers, longest_inline}
 use Rattle.nx_piece.specs.Reading.{alone, HasReadItems, BeginsWithItems, BeginsNoTree, BeginsNoTrees, BeginsNoBody, BeginsNoHead, BeginsNoProxiesHead, IsReadBody, IsLeft}
@@ -18,7 +17,7 @@ use Rattle.nx_piece.proofs.WalkLemmas.{item_count_most}
 use Rattle.nx_piece.proofs.ApartLemmas.{two_unique, four_unique, row, width_row, IsStorable, one_row, content_length}
 use Rattle.nx_piece.proofs.ReadLemmas.{read_more, read_none, remains, nothing_begins}
 
-node_length : (n : Node) (i : ℕ) → length (node_bytes n i) ≡ 8 * weight n
+node_length : (n : Node) (i : ℕ) → length (node_bytes n i) ≡ 8 * item_slots n
 node_length n i =
     let times = div_ceil_times (length n.name + length n.content) 8 (omega arith) in
     let c = content_length n in
@@ -258,7 +257,7 @@ pub body_read : {bytes behind rest : List ℕ} {form roots items proxies chain s
     → 1 ≤ roots → roots ≤ 256 → proxies ≤ 524288 → left.proxies ≡ 0 → left.items ≡ 0 → size ≡ 16 + (length behind - length rest) + 8 * proxies → IsReadBody bytes form g proxies chain rest size
 body_read {bytes} {behind} {rest} {form} {roots} {items} {proxies} {chain} {size} {g} {left} head read some few fits none all sum =
     let x : proxies ≡ left.proxies + proxies_in g = read.0.proxies in let y : items ≡ left.items + item_count g = read.0.items in
-    let z : 256 ≡ left.room + gapped_weight g = read.0.room in
+    let z : 256 ≡ left.room + gapped_size g = read.0.room in
     let w : gapped_width g ≡ roots = read.2 in
     let many : items ≡ item_count g = omega arith in
     let long : length behind ≡ length (items_bytes g) + length rest = ap length read.0.same ∙ length-append (items_bytes g) rest in

@@ -4,8 +4,11 @@ use Rattle.std.proofs.lemmas.List.{length-drop}
 use Rattle.nx_piece.specs.declared.viewing.NodeView.{NodeView}
 use Rattle.nx_piece.specs.declared.viewing.Flat.{Flat}
 use Rattle.nx_piece.specs.declared.viewing.Flat.TheVariants.{Tree, Run}
-use Rattle.nx_piece.specs.Gapped.{Gapped, Grow, Gap, gapped_width, proxies_in}
+use Rattle.nx_tree.specs.declared.node.Node.{Node}
+use Rattle.nx_weights.specs.Weight.{weight}
+use Rattle.nx_piece.specs.Gapped.{Gapped, Grow, Gap, gapped_width, gapped_size, gapped_weight, item_slots, proxies_in}
 use Rattle.nx_piece.specs.Flat.{seen_node, forest_within, unflattened}
+use Rattle.nx_piece.proofs.SizeLemmas.{gapped_sum, sum_is_weight, sum_is_size}
 
 take_few : (n : ℕ) (items : List Flat) → length (take n items) ≤ length items
 take_few zero items = omega arith
@@ -100,3 +103,33 @@ runs_within (suc n) (Tree node below ∷ items) h =
 
 pub runs_in : (items : List Flat) → proxies_in (unflattened items) ≡ runs_sum items
 runs_in items = runs_within (length items) items (omega arith)
+
+-- the sum of a measure of the nodes of a flat list
+abbrev pub flat_sum : (Node → ℕ) → List Flat → ℕ
+flat_sum measure [] = 0
+flat_sum measure (Tree node below ∷ items) = measure (seen_node node) + flat_sum measure items
+flat_sum measure (Run count ∷ items) = flat_sum measure items
+
+sum_cut : (measure : Node → ℕ) (n : ℕ) (items : List Flat) → flat_sum measure (take n items) + flat_sum measure (drop n items) ≡ flat_sum measure items
+sum_cut measure zero items = omega arith
+sum_cut measure (suc n) [] = omega arith
+sum_cut measure (suc n) (Tree node below ∷ items) = let h = sum_cut measure n items in omega (arith, h)
+sum_cut measure (suc n) (Run count ∷ items) = sum_cut measure n items
+
+sum_within : (measure : Node → ℕ) (n : ℕ) (items : List Flat) → length items ≤ n → gapped_sum measure (forest_within n items) ≡ flat_sum measure items
+sum_within measure zero [] h = refl
+sum_within measure zero (item ∷ items) h = absurd (omega arith)
+sum_within measure (suc n) [] h = refl
+sum_within measure (suc n) (Run count ∷ items) h = sum_within measure n items (omega arith)
+sum_within measure (suc n) (Tree node below ∷ items) h =
+    let t = take_few below items in let d = length-drop below items in
+    let a = sum_within measure n (take below items) (omega arith) in
+    let b = sum_within measure n (drop below items) (omega arith) in
+    let c = sum_cut measure below items in
+    omega arith
+
+pub weights_in : (items : List Flat) → flat_sum weight items ≡ gapped_weight (unflattened items)
+weights_in items = sym (sum_within weight (length items) items (omega arith)) ∙ sum_is_weight (unflattened items)
+
+pub sizes_in : (items : List Flat) → flat_sum item_slots items ≡ gapped_size (unflattened items)
+sizes_in items = sym (sum_within item_slots (length items) items (omega arith)) ∙ sum_is_size (unflattened items)

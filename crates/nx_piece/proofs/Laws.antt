@@ -8,10 +8,11 @@ use Rattle.nx_piece.specs.declared.piece.Piece.{Piece}
 use Rattle.nx_piece.specs.declared.piece.Stored.{Stored}
 use Rattle.nx_piece.specs.declared.piece.Stored.TheVariants.{Inline, Chained}
 use Rattle.nx_piece.specs.Decoded.{IsDecoded}
-use Rattle.nx_piece.specs.Gapped.{Gapped, End, Grow, Gap, gapped_width, gapped_weight, slots_in}
+use Rattle.nx_piece.specs.Gapped.{Gapped, End, Grow, Gap, gapped_width, gapped_size, gapped_weight, slots_in}
 use Rattle.nx_piece.specs.Encoding.{proxy_bytes, proxies_bytes, body_bytes, encoding}
 use Rattle.nx_piece.specs.Valid.{AreApart, AreTrees, BeginsNoGap, IsValid, IsValidBody, IsValidInline, IsValidChained, IsPiece, HaveRoots, HaveNumbers, HasNumbers, inline_length}
 use Rattle.nx_piece.specs.Weight.{HaveShortNodes}
+use Rattle.nx_piece.proofs.SizeLemmas.{weight_within}
 use Rattle.nx_piece.proofs.ApartLemmas.{two_unique, four_unique}
 use Rattle.nx_piece.proofs.BodyLemmas.{body_unique, items_length, proxies_length}
 
@@ -69,7 +70,7 @@ chained_bytes body count chain = let i = items_length body.roots in omega arith
 piece_within : (piece : Piece) → IsValidBody piece.body.roots (length piece.proxies) → HaveRoots piece.proxies → IsPiece piece
 piece_within piece h ranged =
     let roots : gapped_width piece.body.roots ≤ 256 = h.few in
-    let slots : gapped_weight piece.body.roots ≤ 256 = h.light in
+    let slots : gapped_size piece.body.roots ≤ 256 = h.light in
     record {
       body = record { trees = h.trees; some = h.some; few = omega arith; light = omega arith; apart = h.apart; counted = h.counted; few_proxies = h.few_proxies };
       ranged = ranged;
@@ -84,20 +85,24 @@ pub chained_is_piece : (piece : Piece) → IsValidChained piece.body.roots (leng
 chained_is_piece piece h ranged = piece_within piece h.body ranged
 
 -- the nodes of a piece have short names and contents
-pub are_short : (f : Gapped) → gapped_weight f ≤ 512 → HaveShortNodes f
+pub are_short : (f : Gapped) → gapped_size f ≤ 512 → HaveShortNodes f
 are_short End h = tt
 are_short (Grow n b s) h = (omega arith, are_short b (omega arith), are_short s (omega arith))
 are_short (Gap c s) h = are_short s h
 
-slots_apart : (f : Gapped) → AreApart f → (slots_in f ≤ 3 * gapped_weight f + 1) × (BeginsNoGap f → slots_in f ≤ 3 * gapped_weight f)
+-- nor do they weigh much together
+pub little_weight : (f : Gapped) → gapped_size f ≤ 512 → gapped_weight f ≤ 4294967295
+little_weight f h = omega (arith, weight_within f)
+
+slots_apart : (f : Gapped) → AreApart f → (slots_in f ≤ 3 * gapped_size f + 1) × (BeginsNoGap f → slots_in f ≤ 3 * gapped_size f)
 slots_apart End h = (omega arith, λ _. omega arith)
 slots_apart (Grow n b s) h =
     let p = slots_apart b h.0 in let q = slots_apart s h.1 in
-    let x : slots_in b ≤ 3 * gapped_weight b + 1 = p.0 in let y : slots_in s ≤ 3 * gapped_weight s + 1 = q.0 in
+    let x : slots_in b ≤ 3 * gapped_size b + 1 = p.0 in let y : slots_in s ≤ 3 * gapped_size s + 1 = q.0 in
     (omega arith, λ _. omega arith)
 slots_apart (Gap c s) h =
     let q = slots_apart s h.2 in
-    let y : slots_in s ≤ 3 * gapped_weight s = q.1 h.1 in
+    let y : slots_in s ≤ 3 * gapped_size s = q.1 h.1 in
     (omega arith, λ bad. absurd bad)
 
 begins_no_gap : (f : Gapped) → AreTrees f → BeginsNoGap f
@@ -108,6 +113,6 @@ begins_no_gap (Gap c s) h = absurd h
 -- without its proxies a piece fits in a record
 pub body_fits : (f : Gapped) (count : ℕ) → IsValidBody f count → 16 + 8 * slots_in f ≤ 6160
 body_fits f count h =
-    let light : gapped_weight f ≤ 256 = h.light in
-    let few : slots_in f ≤ 3 * gapped_weight f = (slots_apart f h.apart).1 (begins_no_gap f h.trees) in
+    let light : gapped_size f ≤ 256 = h.light in
+    let few : slots_in f ≤ 3 * gapped_size f = (slots_apart f h.apart).1 (begins_no_gap f h.trees) in
     omega (arith, light, few)

@@ -1,4 +1,5 @@
 pub mod GappedLemmas
+pub mod SizeLemmas
 pub mod FlatLemmas
 pub mod WalkLemmas
 pub mod ApartLemmas

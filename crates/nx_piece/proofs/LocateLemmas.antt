@@ -3,10 +3,9 @@ use Rattle.std.proofs.Common.{◌≡◌, ℕ, zero, suc, ◌+◌, ◌-◌, ◌*�
 use Rattle.std.specs.List.{slice_get, sum_by}
 use Rattle.std.proofs.lemmas.List.{length-append, length-drop, drop_all}
 use Rattle.std.proofs.lemmas.List.Sums.{sum_by-cons}
-use Rattle.nx_weights.specs.Weight.{weight}
 use Rattle.nx_piece.specs.declared.piece.Piece.{Piece}
 use Rattle.nx_piece.specs.declared.piece.Proxy.{Proxy}
-use Rattle.nx_piece.specs.Gapped.{Gapped, GappedTree, End, Grow, Gap, gapped_weight, proxies_in}
+use Rattle.nx_piece.specs.Gapped.{Gapped, GappedTree, End, Grow, Gap, gapped_size, proxies_in, item_slots}
 use Rattle.nx_piece.specs.Valid.{AreTrees, HaveRoots, IsPiece}
 use Rattle.nx_piece.specs.Locate.{PieceChild, Own, Kept, roots_from, kept_from, children_of, Inside, Outside, Missing, reached, reached_in, IsPartOf}
 
@@ -158,25 +157,25 @@ kept_no_tree index (proxy ∷ proxies) i t k e = elim (get_parts (roots_from ind
 
 -- a child that is a tree of the piece weighs no more than all, and its gaps lie within those of all
 pub own_child : (proxies : List Proxy) (first : ℕ) (f : Gapped) (i : ℕ) (t : GappedTree) (k : ℕ) → slice_get (children_of proxies first f) i ≡ Some (Own t k)
-    → (weight t.node + gapped_weight t.below ≤ gapped_weight f) × (k + proxies_in t.below ≤ first + proxies_in f)
+    → (item_slots t.node + gapped_size t.below ≤ gapped_size f) × (k + proxies_in t.below ≤ first + proxies_in f)
 own_child proxies first End i t k e = absurd (cc)
 own_child proxies first (Grow n b s) zero t k e =
     let whole : Own (record { node = n; below = b }) first ≡ Own t k = some_same e in
     let tree : record { node = n; below = b } ≡ t = cc in
     let same_first : first ≡ k = cc in
-    let w : weight n + gapped_weight b ≡ weight t.node + gapped_weight t.below = ap (λ (x : GappedTree). weight x.node + gapped_weight x.below) tree in
+    let w : item_slots n + gapped_size b ≡ item_slots t.node + gapped_size t.below = ap (λ (x : GappedTree). item_slots x.node + gapped_size x.below) tree in
     let p : proxies_in b ≡ proxies_in t.below = ap (λ (x : GappedTree). proxies_in x.below) tree in
     (omega arith, omega arith)
 own_child proxies first (Grow n b s) (suc i) t k e =
     let h = own_child proxies (first + proxies_in b) s i t k e in
-    let w : weight t.node + gapped_weight t.below ≤ gapped_weight s = h.0 in
+    let w : item_slots t.node + gapped_size t.below ≤ gapped_size s = h.0 in
     let p : k + proxies_in t.below ≤ first + proxies_in b + proxies_in s = h.1 in
     (omega arith, omega arith)
 own_child proxies first (Gap c s) i t k e = elim (get_parts (kept_from first (take c (drop first proxies))) (children_of proxies (first + c) s) i (Own t k) e) [
   | inl h ↦ absurd (kept_no_tree first (take c (drop first proxies)) i t k h)
   | inr q ↦
       let h = own_child proxies (first + c) s q.0 t k q.1 in
-      let w : weight t.node + gapped_weight t.below ≤ gapped_weight s = h.0 in
+      let w : item_slots t.node + gapped_size t.below ≤ gapped_size s = h.0 in
       let p : k + proxies_in t.below ≤ first + c + proxies_in s = h.1 in
       (omega arith, omega arith)
 ]
@@ -256,7 +255,7 @@ taken_most n proxies h =
     few (suc n) (x ∷ xs) = omega (arith, few n xs)
 
 -- and so no node has many children
-pub children_most : (proxies : List Proxy) (first : ℕ) (f : Gapped) → HaveRoots proxies → length (children_of proxies first f) ≤ gapped_weight f + 256 * proxies_in f
+pub children_most : (proxies : List Proxy) (first : ℕ) (f : Gapped) → HaveRoots proxies → length (children_of proxies first f) ≤ gapped_size f + 256 * proxies_in f
 children_most proxies first End h = omega arith
 children_most proxies first (Grow n b s) h = let a = children_most proxies (first + proxies_in b) s h in omega arith
 children_most proxies first (Gap c s) h =
@@ -297,7 +296,7 @@ gap_counted {proxies} {first} {before} {count} {c} {more} {all} {rest} {beside} 
 }
 
 -- and there are not many of them
-pub counted_few : {proxies : List Proxy} {first before count : ℕ} {all rest : Gapped} → IsCounted proxies first all before count rest → HaveRoots proxies → proxies_in all ≤ 524288 → gapped_weight all ≤ 512
+pub counted_few : {proxies : List Proxy} {first before count : ℕ} {all rest : Gapped} → IsCounted proxies first all before count rest → HaveRoots proxies → proxies_in all ≤ 524288 → gapped_size all ≤ 512
     → count + length (children_of proxies before rest) ≤ 134218240
 counted_few {proxies} {first} {before} {count} {all} {rest} h ranged few light = let a = h.sum in let b = children_most proxies first all ranged in omega arith
 
@@ -309,14 +308,14 @@ all_counted {proxies} {first} {before} {count} {all} {rest} h e =
 pub record IsOnWay (piece : Piece) (member : ℕ) (path : List ℕ) (used : ℕ) (tree : GappedTree) (first : ℕ) : Type 0 where
   pub same : reached_in piece member path ≡ reached piece.proxies used (drop used path) (Some (Own tree first))
   pub part : IsPartOf piece tree first
-  pub deep : used + weight tree.node + gapped_weight tree.below ≤ 512
+  pub deep : used + item_slots tree.node + gapped_size tree.below ≤ 512
 
 pub way_begins : (piece : Piece) (member : ℕ) (path : List ℕ) (tree : GappedTree) (first : ℕ) → IsPiece piece → slice_get (children_of piece.proxies 0 piece.body.roots) member ≡ Some (Own tree first) → IsOnWay piece member path 0 tree first
 way_begins piece member path tree first valid e =
     let own = own_child piece.proxies 0 piece.body.roots member tree first e in
-    let w : weight tree.node + gapped_weight tree.below ≤ gapped_weight piece.body.roots = own.0 in
+    let w : item_slots tree.node + gapped_size tree.below ≤ gapped_size piece.body.roots = own.0 in
     let p : first + proxies_in tree.below ≤ 0 + proxies_in piece.body.roots = own.1 in
-    let l : gapped_weight piece.body.roots ≤ 512 = valid.body.light in
+    let l : gapped_size piece.body.roots ≤ 512 = valid.body.light in
     let c : proxies_in piece.body.roots ≡ length piece.proxies = valid.body.counted in
     record {
       same = ap (reached piece.proxies 0 path) e;
@@ -333,10 +332,10 @@ pub way_goes_on : {piece : Piece} {member : ℕ} {path : List ℕ} {used : ℕ} 
     → drop used path ≡ position ∷ drop (used + 1) path → slice_get (children_of piece.proxies first tree.below) position ≡ Some (Own child before) → IsOnWay piece member path (used + 1) child before
 way_goes_on {piece} {member} {path} {used} {tree} {first} position child before h d e =
     let own = own_child piece.proxies first tree.below position child before e in
-    let w : weight child.node + gapped_weight child.below ≤ gapped_weight tree.below = own.0 in
+    let w : item_slots child.node + gapped_size child.below ≤ gapped_size tree.below = own.0 in
     let p : before + proxies_in child.below ≤ first + proxies_in tree.below = own.1 in
     let f : first + proxies_in tree.below ≤ length piece.proxies = h.part.fits in
-    let l : used + weight tree.node + gapped_weight tree.below ≤ 512 = h.deep in
+    let l : used + item_slots tree.node + gapped_size tree.below ≤ 512 = h.deep in
     record {
       same = step position h d ∙ ap (reached piece.proxies (used + 1) (drop (used + 1) path)) e;
       part = record { fits = omega arith; light = omega arith };

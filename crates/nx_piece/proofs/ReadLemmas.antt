@@ -1,9 +1,8 @@
 -- Items read one after another.
 use Rattle.std.proofs.Common.{◌≡◌, ℕ, ◌+◌, ◌<◌, ◌≤◌, Bool, true, false, List, ◌++◌, refl, sym, ap, ◌∙◌, subst, arith, append_assoc}
 use Rattle.nx_tree.specs.declared.node.Node.{Node}
-use Rattle.nx_weights.specs.Weight.{weight}
 use Rattle.nx_piece.specs.declared.reading.Left.{Left}
-use Rattle.nx_piece.specs.Gapped.{Gapped, GappedTree, End, Grow, Gap, item_count, gapped_width, gapped_weight, proxies_in}
+use Rattle.nx_piece.specs.Gapped.{Gapped, GappedTree, End, Grow, Gap, item_count, gapped_width, gapped_size, proxies_in, item_slots}
 use Rattle.nx_piece.specs.Encoding.{node_bytes, run_bytes, items_bytes}
 use Rattle.nx_piece.specs.Valid.{AreApart, BeginsNoGap}
 use Rattle.nx_piece.specs.Reading.{alone, HasReadItems, BeginsWithItems, BeginsNoTree, BeginsNoRun, HasTakenNode, IsLeft}
@@ -27,10 +26,10 @@ row_bytes (Grow n b s) g =
     ∙ sym (append_assoc (node_bytes n (gapped_width b) ++ items_bytes b) (items_bytes s) (items_bytes g))
 row_bytes (Gap c s) g = ap (λ (r : List ℕ). run_bytes c ++ r) (row_bytes s g)
 
-row_weight : (f g : Gapped) → gapped_weight (row f g) ≡ gapped_weight f + gapped_weight g
-row_weight End g = omega arith
-row_weight (Grow n b s) g = let h = row_weight s g in omega (arith, h)
-row_weight (Gap c s) g = row_weight s g
+row_size : (f g : Gapped) → gapped_size (row f g) ≡ gapped_size f + gapped_size g
+row_size End g = omega arith
+row_size (Grow n b s) g = let h = row_size s g in omega (arith, h)
+row_size (Gap c s) g = row_size s g
 
 row_proxies : (f g : Gapped) → proxies_in (row f g) ≡ proxies_in f + proxies_in g
 row_proxies End g = omega arith
@@ -64,7 +63,7 @@ apart_row (Gap d (Gap c s)) g h = absurd h.1
 pub read_more : {bytes rest behind : List ℕ} {before between after : Left} {f g : Gapped} → HasReadItems bytes before f rest between → HasReadItems rest between g behind after → (ends_in_gap f ≡ true → BeginsNoGap g) → HasReadItems bytes before (row f g) behind after
 read_more {bytes} {rest} {behind} {before} {between} {after} {f} {g} h k next = record {
   same = h.same ∙ ap (λ (r : List ℕ). items_bytes f ++ r) k.same ∙ sym (ap (λ (r : List ℕ). r ++ behind) (row_bytes f g) ∙ append_assoc (items_bytes f) (items_bytes g) behind);
-  room = let a = h.room in let b = k.room in let c = row_weight f g in omega arith;
+  room = let a = h.room in let b = k.room in let c = row_size f g in omega arith;
   proxies = let a = h.proxies in let b = k.proxies in let c = row_proxies f g in omega arith;
   items = let a = h.items in let b = k.items in let c = row_item_count f g in omega arith;
   apart = row_apart f g h.apart k.apart next;
@@ -97,7 +96,7 @@ remains {bytes} {rest} {behind} {before} {left} {f} {g} h k l w =
     let parts = apart_row f on.rest (subst AreApart on.is k.apart) in
     let a = h.room in let b = h.proxies in let c = h.items in
     let d = k.room in let e = k.proxies in let i = k.items in
-    let x = ap gapped_weight on.is ∙ row_weight f on.rest in
+    let x = ap gapped_size on.is ∙ row_size f on.rest in
     let y = ap proxies_in on.is ∙ row_proxies f on.rest in
     let z = ap item_count on.is ∙ row_item_count f on.rest in
     record {
@@ -194,12 +193,12 @@ lone_node {bytes} {behind} {before} {left} {node} {count} h none = whole_tree h 
 pub no_tree : {bytes behind rest : List ℕ} {before left between : Left} {node : Node} {count i : ℕ} {f : Gapped} {after_run : Bool} → HasTakenNode bytes before node count behind left → IsLeft before → count < 65536
     → ItemsRead behind left f rest between i after_run → i < count → BeginsNoTree rest between → BeginsNoRun rest between after_run → BeginsNoTree bytes before
 no_tree {bytes} {behind} {rest} {before} {left} {between} {node} {count} {i} {f} {after_run} h l fits k within trees runs t last b =
-    let own : weight t.node ≤ 256 = let r = b.room in let q = l.room in omega arith in
-    let mine : weight node ≤ 256 = let r = h.room in let q = l.room in omega arith in
+    let own : item_slots t.node ≤ 256 = let r = b.room in let q = l.room in omega arith in
+    let mine : item_slots node ≤ 256 = let r = h.room in let q = l.room in omega arith in
     let few : gapped_width t.below < 65536 = let r = b.room in let q = l.room in let s = item_count_most t.below b.apart.0 in let w = width_most t.below in omega arith in
     let told = node_unique mine own fits few (sym h.same ∙ b.same ∙ sym (grow_bytes t.node t.below End last)) in
     let same_count : count ≡ gapped_width t.below = told.1 in
-    let same_weight : weight node ≡ weight t.node = ap weight told.0 in
+    let same_size : item_slots node ≡ item_slots t.node = ap item_slots told.0 in
     let w = k.counted in
     let left_is = head_left _ _ _ _ _ _ h l in
     let r = remains k.read
@@ -214,7 +213,7 @@ no_tree {bytes} {behind} {rest} {before} {left} {between} {node} {count} {i} {f}
     nothing_begins r.begins wide trees runs (λ e. r.next (k.run ∙ e))
 
 -- where no node begins there is no tree
-pub no_head : (bytes : List ℕ) (left : Left) → IsLeft left → ((node : Node) (items : ℕ) (behind : List ℕ) → weight node ≤ left.room → items < 65536 → bytes ≡ node_bytes node items ++ behind → ⊥) → BeginsNoTree bytes left
+pub no_head : (bytes : List ℕ) (left : Left) → IsLeft left → ((node : Node) (items : ℕ) (behind : List ℕ) → item_slots node ≤ left.room → items < 65536 → bytes ≡ node_bytes node items ++ behind → ⊥) → BeginsNoTree bytes left
 no_head bytes left l none t behind b =
     let r = b.room in let q = l.room in let s = item_count_most t.below b.apart.0 in let w = width_most t.below in
     none t.node (gapped_width t.below) (items_bytes t.below ++ behind) (omega arith) (omega arith) (b.same ∙ sym (grow_bytes t.node t.below End behind))

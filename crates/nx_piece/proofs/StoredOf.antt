@@ -16,7 +16,7 @@ use Rattle.nx_piece.specs.declared.piece.Proxy.{Proxy}
 use Rattle.nx_piece.specs.declared.piece.Stored.{Stored}
 use Rattle.nx_piece.specs.declared.piece.Stored.TheVariants.{Inline, Chained}
 use Rattle.nx_piece.specs.Decoded.{IsDecoded}
-use Rattle.nx_piece.specs.Gapped.{Gapped, End, Grow, Gap, item_count, gapped_width, gapped_weight, proxies_in}
+use Rattle.nx_piece.specs.Gapped.{Gapped, End, Grow, Gap, item_count, gapped_width, gapped_size, proxies_in}
 use Rattle.nx_piece.specs.Encoding.{two_bytes, four_bytes, kind_byte, padding, content_bytes, node_bytes, items_bytes, proxies_bytes, encoding}
 use Rattle.nx_piece.specs.Valid.{AreApart, AreTrees, BeginsNoGap, IsValid, IsValidBody, IsValidInline, IsValidChained, HaveRoots, HaveNumbers, HasNumbers, inline_length, longest_inline}
 use Rattle.nx_piece.proofs.WalkLemmas.{item_count_most}
@@ -225,11 +225,11 @@ numbers_decided (p ∷ ps) =
 body_decided : (f : Gapped) (p : ℕ) → Decided (IsValidBody f p)
 body_decided f p =
     as_decided
-    (λ (h : (AreTrees f × ((1 ≤ gapped_width f) × (gapped_width f ≤ 256))) × (((gapped_weight f ≤ 256) × AreApart f) × ((proxies_in f ≡ p) × (p ≤ 524288)))).
+    (λ (h : (AreTrees f × ((1 ≤ gapped_width f) × (gapped_width f ≤ 256))) × (((gapped_size f ≤ 256) × AreApart f) × ((proxies_in f ≡ p) × (p ≤ 524288)))).
     record { trees = h.0.0; some = h.0.1.0; few = h.0.1.1; light = h.1.0.0; apart = h.1.0.1; counted = h.1.1.0; few_proxies = h.1.1.1 })
     (λ (b : IsValidBody f p). ((b.trees, (b.some, b.few)), ((b.light, b.apart), (b.counted, b.few_proxies))))
     (both (both (trees_decided f) (both (at_most 1 (gapped_width f)) (at_most (gapped_width f) 256)))
-    (both (both (at_most (gapped_weight f) 256) (apart_decided f)) (both (same_number (proxies_in f) p) (at_most p 524288))))
+    (both (both (at_most (gapped_size f) 256) (apart_decided f)) (both (same_number (proxies_in f) p) (at_most p 524288))))
 
 valid_decided : (s : Stored) → Decided (IsValid s)
 valid_decided (Inline piece) =

@@ -2,11 +2,10 @@
 use Rattle.std.proofs.Common.{◌≡◌, ℕ, zero, suc, ◌+◌, ◌*◌, ◌<◌, ◌≤◌, List, [], ◌∷◌, ◌++◌, length, drop, get_or, refl, sym, ap, ◌∙◌, subst, arith, append_assoc}
 use Rattle.std.proofs.lemmas.List.{append-nil, drop_all}
 use Rattle.std.proofs.Math.Seq.{drop-cons}
-use Rattle.nx_weights.specs.Weight.{weight}
 use Rattle.nx_piece.specs.declared.piece.Item.{Item}
 use Rattle.nx_piece.specs.declared.piece.Item.TheVariants.{Tree, Run}
 use Rattle.nx_piece.specs.declared.piece.Proxy.{Proxy}
-use Rattle.nx_piece.specs.Gapped.{Gapped, GappedTree, End, Grow, Gap, item_count, grown_of, gapped_width, gapped_weight, gapped_nodes, slots_in}
+use Rattle.nx_piece.specs.Gapped.{Gapped, GappedTree, End, Grow, Gap, item_count, grown_of, gapped_width, gapped_size, gapped_nodes, slots_in, item_slots}
 use Rattle.nx_piece.specs.Items.{gapped_of}
 use Rattle.nx_piece.specs.Encoding.{node_bytes, run_bytes, tree_bytes, items_bytes, proxy_bytes, proxies_bytes, head_bytes, body_bytes}
 use Rattle.nx_piece.specs.Valid.{HaveNumbers, AreApart, BeginsNoGap, IsSmall, IsSmallTree}
@@ -21,28 +20,28 @@ width_most End = omega arith
 width_most (Grow n b s) = omega (arith, width_most s)
 width_most (Gap c s) = omega (arith, width_most s)
 
-mutual_bound : (f : Gapped) → AreApart f → (item_count f ≤ 3 * gapped_weight f + 1) × (BeginsNoGap f → item_count f ≤ 3 * gapped_weight f)
+mutual_bound : (f : Gapped) → AreApart f → (item_count f ≤ 3 * gapped_size f + 1) × (BeginsNoGap f → item_count f ≤ 3 * gapped_size f)
 mutual_bound End h = (omega arith, λ _. omega arith)
 mutual_bound (Grow n b s) h =
     let p = mutual_bound b h.0 in let q = mutual_bound s h.1 in
-    let x : item_count b ≤ 3 * gapped_weight b + 1 = p.0 in let y : item_count s ≤ 3 * gapped_weight s + 1 = q.0 in
+    let x : item_count b ≤ 3 * gapped_size b + 1 = p.0 in let y : item_count s ≤ 3 * gapped_size s + 1 = q.0 in
     (omega arith, λ _. omega arith)
 mutual_bound (Gap c s) h =
     let q = mutual_bound s h.2 in
-    let y : item_count s ≤ 3 * gapped_weight s = q.1 h.1 in
+    let y : item_count s ≤ 3 * gapped_size s = q.1 h.1 in
     (omega arith, λ bad. absurd bad)
 
 -- between the nodes of a piece stand few gaps
-pub item_count_most : (f : Gapped) → AreApart f → item_count f ≤ 3 * gapped_weight f + 1
+pub item_count_most : (f : Gapped) → AreApart f → item_count f ≤ 3 * gapped_size f + 1
 item_count_most f h = (mutual_bound f h).0
 
-pub slots_in_most : (f : Gapped) → slots_in f ≤ gapped_weight f + item_count f
+pub slots_in_most : (f : Gapped) → slots_in f ≤ gapped_size f + item_count f
 slots_in_most End = omega arith
 slots_in_most (Grow n b s) = omega (arith, slots_in_most b, slots_in_most s)
 slots_in_most (Gap c s) = omega (arith, slots_in_most s)
 
 -- each node weighs something
-pub nodes_most : (f : Gapped) → gapped_nodes f ≤ gapped_weight f
+pub nodes_most : (f : Gapped) → gapped_nodes f ≤ gapped_size f
 nodes_most End = omega arith
 nodes_most (Grow n b s) = omega (arith, nodes_most b, nodes_most s)
 nodes_most (Gap c s) = nodes_most s
@@ -103,20 +102,20 @@ pub record IsWritten (now : List ℕ) (rest : Gapped) (all : List ℕ) : Type 0 
   pub bytes : now ++ items_bytes rest ≡ all
   pub small : IsSmall rest
 
-pub tree_most : (t : GappedTree) → IsSmallTree t → (1 + item_count t.below ≤ 1000) × (weight t.node + slots_in t.below ≤ 2000)
+pub tree_most : (t : GappedTree) → IsSmallTree t → (1 + item_count t.below ≤ 1000) × (item_slots t.node + slots_in t.below ≤ 2000)
 tree_most t h = let l = h.light in let s = item_count_most t.below h.apart in let w = slots_in_most t.below in (omega arith, omega arith)
 
 pub all_most : (f : Gapped) → IsSmall f → (item_count f ≤ 1000) × (slots_in f ≤ 2000)
 all_most f h = let l = h.light in let s = item_count_most f h.apart in let w = slots_in_most f in (omega arith, omega arith)
 
-pub measured_start : (w : ℕ) (f : Gapped) (t : GappedTree) → w ≡ weight t.node → f ≡ t.below → IsSmallTree t → IsMeasured 1 w f (1 + item_count t.below) (weight t.node + slots_in t.below)
+pub measured_start : (w : ℕ) (f : Gapped) (t : GappedTree) → w ≡ item_slots t.node → f ≡ t.below → IsSmallTree t → IsMeasured 1 w f (1 + item_count t.below) (item_slots t.node + slots_in t.below)
 measured_start w f t is e h = record {
   item_sum = ap (λ (g : Gapped). 1 + item_count g) e;
   slot_sum = let p = ap slots_in e in omega arith;
   small = let l = h.light in next_small t.below f (sym e) (record { light = omega arith; apart = h.apart });
 }
 
-pub measured_tree : {items slots more_items more_slots n w : ℕ} {rest beside : Gapped} {t : GappedTree} → IsMeasured items slots rest n w → rest ≡ Grow t.node t.below beside → more_items ≡ 1 + item_count t.below → more_slots ≡ weight t.node + slots_in t.below
+pub measured_tree : {items slots more_items more_slots n w : ℕ} {rest beside : Gapped} {t : GappedTree} → IsMeasured items slots rest n w → rest ≡ Grow t.node t.below beside → more_items ≡ 1 + item_count t.below → more_slots ≡ item_slots t.node + slots_in t.below
     → IsMeasured (items + more_items) (slots + more_slots) beside n w
 measured_tree {items} {slots} {more_items} {more_slots} {n} {w} {rest} {beside} {t} h e i k =
     let a = h.item_sum in let b = h.slot_sum in let p = ap item_count e in let q = ap slots_in e in
@@ -159,7 +158,7 @@ pub written_end : (now all : List ℕ) (rest : Gapped) → IsWritten now rest al
 written_end now all rest h e = sym (append-nil now) ∙ sym (ap (λ (f : Gapped). now ++ items_bytes f) e) ∙ h.bytes
 
 -- what is counted with the next is still little
-pub fits_tree : {items slots more_items more_slots n w : ℕ} {rest beside : Gapped} {t : GappedTree} → IsMeasured items slots rest n w → rest ≡ Grow t.node t.below beside → more_items ≡ 1 + item_count t.below → more_slots ≡ weight t.node + slots_in t.below
+pub fits_tree : {items slots more_items more_slots n w : ℕ} {rest beside : Gapped} {t : GappedTree} → IsMeasured items slots rest n w → rest ≡ Grow t.node t.below beside → more_items ≡ 1 + item_count t.below → more_slots ≡ item_slots t.node + slots_in t.below
     → (n ≤ 1000) × (w ≤ 2000) → (items + more_items ≤ 1000) × (slots + more_slots ≤ 2000)
 fits_tree {items} {slots} {more_items} {more_slots} {n} {w} {rest} {beside} {t} h e i k most =
     let m = measured_tree h e i k in

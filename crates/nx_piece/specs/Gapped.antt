@@ -1,5 +1,6 @@
 -- A forest with gaps. A gap stands for so many intervals, which are kept elsewhere.
-use Rattle.std.specs.Prelude.{◌≡◌, ℕ, ◌+◌, List, [], ◌∷◌, Option, None, Some, refl, ◌⊎◌}
+use Rattle.std.specs.Prelude.{◌≡◌, ℕ, ◌+◌, List, [], ◌∷◌, length, Option, None, Some, refl, ◌⊎◌}
+use Rattle.std.specs.Int.{div_ceil}
 use Rattle.std.specs.Coded.{Coded, code_by, coded×, coded_ℕ, coded_list, coded_option, coded⊎}
 use Rattle.std.proofs.Common.{inl, inr, ap, ◌∙◌}
 use Rattle.nx_tree.specs.declared.node.Node.{Node}
@@ -34,6 +35,16 @@ gapped_nodes End = 0
 gapped_nodes (Grow node below beside) = 1 + gapped_nodes below + gapped_nodes beside
 gapped_nodes (Gap count beside) = gapped_nodes beside
 
+-- the size of a node's item, in slots of 8 bytes: one for its numbers, and those that its name and its content fill together
+abbrev pub item_slots : Node → ℕ
+item_slots node = 1 + div_ceil (length node.name + length node.content) 8
+
+-- the sum of the sizes of the nodes' items
+abbrev pub gapped_size : Gapped → ℕ
+gapped_size End = 0
+gapped_size (Grow node below beside) = item_slots node + gapped_size below + gapped_size beside
+gapped_size (Gap count beside) = gapped_size beside
+
 -- the sum of the weights of the nodes
 abbrev pub gapped_weight : Gapped → ℕ
 gapped_weight End = 0
@@ -46,10 +57,10 @@ proxies_in End = 0
 proxies_in (Grow node below beside) = proxies_in below + proxies_in beside
 proxies_in (Gap count beside) = count + proxies_in beside
 
--- how many groups of 8 bytes the items take
+-- how many slots all items take, the gaps' among them
 abbrev pub slots_in : Gapped → ℕ
 slots_in End = 0
-slots_in (Grow node below beside) = weight node + slots_in below + slots_in beside
+slots_in (Grow node below beside) = item_slots node + slots_in below + slots_in beside
 slots_in (Gap count beside) = 1 + slots_in beside
 
 -- so many proxies more in front; gaps that become neighbours are one

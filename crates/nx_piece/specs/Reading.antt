@@ -2,13 +2,12 @@
 use Rattle.std.specs.Prelude.{◌≡◌, ℕ, suc, ◌+◌, ◌<◌, ◌≤◌, Bool, false, List, ◌++◌, length}
 use Rattle.nx_tree.specs.declared.node.Kind.{Kind}
 use Rattle.nx_tree.specs.declared.node.Node.{Node}
-use Rattle.nx_weights.specs.Weight.{weight}
 use Rattle.nx_piece.specs.declared.reading.Head.{Head}
 use Rattle.nx_piece.specs.declared.reading.Left.{Left}
 use Rattle.nx_piece.specs.declared.piece.Proxy.{Proxy}
 use Rattle.nx_piece.specs.declared.viewing.Flat.{Flat}
 use Rattle.nx_piece.specs.Flat.{Spells}
-use Rattle.nx_piece.specs.Gapped.{Gapped, GappedTree, End, Grow, Gap, item_count, gapped_width, gapped_weight, proxies_in}
+use Rattle.nx_piece.specs.Gapped.{Gapped, GappedTree, End, Grow, Gap, item_count, gapped_width, item_slots, gapped_size, proxies_in}
 use Rattle.nx_piece.specs.Encoding.{node_head_bytes, content_bytes, node_bytes, run_bytes, items_bytes, proxies_bytes, items_head_bytes, proxies_head_bytes, head_bytes, body_bytes}
 use Rattle.nx_piece.specs.Valid.{AreApart, AreTrees, HaveRoots, IsValidBody, inline_length}
 
@@ -22,18 +21,18 @@ pub record HasPushed (old new : List Flat) (f : Gapped) : Type 0 where
   pub same : new ≡ old ++ added
   pub spells : Spells added f
 
--- the bytes begin with the items of f, and what they take of weight, proxies and items is taken
+-- the bytes begin with the items of f, and what they take of slots, proxies and items is taken
 pub record HasReadItems (bytes : List ℕ) (before : Left) (f : Gapped) (behind : List ℕ) (after : Left) : Type 0 where
   pub same : bytes ≡ items_bytes f ++ behind
-  pub room : before.room ≡ after.room + gapped_weight f
+  pub room : before.room ≡ after.room + gapped_size f
   pub proxies : before.proxies ≡ after.proxies + proxies_in f
   pub items : before.items ≡ after.items + item_count f
   pub apart : AreApart f
 
--- the bytes begin with the items of f, for which enough of weight, proxies and items is left
+-- the bytes begin with the items of f, for which enough of slots, proxies and items is left
 pub record BeginsWithItems (bytes : List ℕ) (left : Left) (f : Gapped) (behind : List ℕ) : Type 0 where
   pub same : bytes ≡ items_bytes f ++ behind
-  pub room : gapped_weight f ≤ left.room
+  pub room : gapped_size f ≤ left.room
   pub proxies : proxies_in f ≤ left.proxies
   pub items : item_count f ≤ left.items
   pub apart : AreApart f
@@ -58,7 +57,7 @@ pub record IsLeft (left : Left) : Type 0 where
 -- the head of a tree, whose items follow
 pub record HasTakenNode (bytes : List ℕ) (before : Left) (node : Node) (count : ℕ) (behind : List ℕ) (left : Left) : Type 0 where
   pub same : bytes ≡ node_bytes node count ++ behind
-  pub room : before.room ≡ left.room + weight node
+  pub room : before.room ≡ left.room + item_slots node
   pub proxies : before.proxies ≡ left.proxies
   pub items : before.items ≡ suc left.items
 
@@ -70,9 +69,9 @@ BeginsNoNodeHead bytes = (kind : Kind) (name content items : ℕ) (rest : List �
 abbrev pub BeginsNoContent : List ℕ → ℕ → ℕ → Type 0
 BeginsNoContent bytes name content = (node : Node) (rest : List ℕ) → length node.name ≡ name → length node.content ≡ content → bytes ≡ content_bytes node ++ rest → ⊥
 
--- the bytes begin with no node that weighs at most so much
+-- the bytes begin with no node whose item takes at most so many slots
 abbrev pub BeginsNoNode : List ℕ → ℕ → Type 0
-BeginsNoNode bytes room = (node : Node) (items : ℕ) (rest : List ℕ) → weight node ≤ room → items < 65536 → bytes ≡ node_bytes node items ++ rest → ⊥
+BeginsNoNode bytes room = (node : Node) (items : ℕ) (rest : List ℕ) → item_slots node ≤ room → items < 65536 → bytes ≡ node_bytes node items ++ rest → ⊥
 
 -- the bytes begin with no run, whatever it counts
 abbrev pub BeginsNoRunItem : List ℕ → Type 0

@@ -1,11 +1,10 @@
 -- Which pieces may be stored, and in which of the two forms.
 use Rattle.std.specs.Prelude.{◌≡◌, ℕ, ◌+◌, ◌*◌, ◌<◌, ◌≤◌, nat_le, Bool, List, [], ◌∷◌, length}
-use Rattle.nx_weights.specs.Weight.{weight}
 use Rattle.nx_piece.specs.declared.piece.Piece.{Piece}
 use Rattle.nx_piece.specs.declared.piece.Proxy.{Proxy}
 use Rattle.nx_piece.specs.declared.piece.Stored.{Stored}
 use Rattle.nx_piece.specs.declared.piece.Stored.TheVariants.{Inline, Chained}
-use Rattle.nx_piece.specs.Gapped.{Gapped, GappedTree, End, Grow, Gap, gapped_width, gapped_weight, proxies_in, slots_in}
+use Rattle.nx_piece.specs.Gapped.{Gapped, GappedTree, End, Grow, Gap, gapped_width, item_slots, gapped_size, proxies_in, slots_in}
 
 -- no gap is the first
 abbrev pub BeginsNoGap : Gapped → Type 0
@@ -25,12 +24,12 @@ AreTrees End = Unit {0}
 AreTrees (Grow node below beside) = AreTrees beside
 AreTrees (Gap count beside) = ⊥
 
--- the nodes of a piece with so many proxies, which has at most so many roots and weighs at most so many slots
+-- the nodes of a piece with so many proxies, which has at most so many roots and whose nodes' items take at most so many slots
 pub record IsBodyWithin (most_roots most_slots : ℕ) (roots : Gapped) (proxies : ℕ) : Type 0 where
   pub trees : AreTrees roots
   pub some : 1 ≤ gapped_width roots
   pub few : gapped_width roots ≤ most_roots
-  pub light : gapped_weight roots ≤ most_slots
+  pub light : gapped_size roots ≤ most_slots
   pub apart : AreApart roots
   pub counted : proxies_in roots ≡ proxies
   pub few_proxies : proxies ≤ 524288
@@ -87,15 +86,15 @@ HasNumbers (Chained body count chain) = chain < 4294967296
 
 -- trees and gaps of a piece
 pub record IsSmall (f : Gapped) : Type 0 where
-  pub light : gapped_weight f ≤ 256
+  pub light : gapped_size f ≤ 256
   pub apart : AreApart f
 
 -- a tree of a piece
 pub record IsSmallTree (tree : GappedTree) : Type 0 where
-  pub light : weight tree.node + gapped_weight tree.below ≤ 256
+  pub light : item_slots tree.node + gapped_size tree.below ≤ 256
   pub apart : AreApart tree.below
 
--- a piece as it may be in memory: one that is about to be split may have one root more, and weigh up to twice as much
+-- a piece as it may be in memory: one that is about to be split may have one root more, and its items may take twice as many slots
 pub record IsPiece (piece : Piece) : Type 0 where
   pub body : IsBodyWithin 257 512 piece.body.roots (length piece.proxies)
   pub ranged : HaveRoots piece.proxies

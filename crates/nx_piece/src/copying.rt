@@ -22,15 +22,26 @@ pub fn decode(alloc: Global, bytes: &[u8]) -> Result<Option<Stored>, NoMemory>
         return Ok(None);
     };
     match stored {
-        StoredView::Inline(piece) => {
-            let PieceView { body, proxies } = piece;
-            let body = copy_body(alloc, &body)?;
-            Ok(Some(Stored::Inline(Piece { body, proxies })))
-        }
+        StoredView::Inline(piece) => Ok(Some(Stored::Inline(piece.into_piece(alloc)?))),
         StoredView::Chained { body, count, chain } => {
             let body = copy_body(alloc, &body)?;
             Ok(Some(Stored::Chained { body, count, chain }))
         }
+    }
+}
+
+impl PieceView<'_> {
+    /// A piece of its own, with copies of the nodes and the proxies themselves. The roots are trees, as those of each
+    /// piece that a record holds.
+    ///
+    /// Errors: `NoMemory`.
+    pub fn into_piece(self, alloc: Global) -> Result<Piece, NoMemory>
+        requires { AreTrees self.body.roots }
+        ensures { IfOk result (λ piece. piece ≡ self.entry) }
+    {
+        let PieceView { body, proxies } = self;
+        let body = copy_body(alloc, &body)?;
+        Ok(Piece { body, proxies })
     }
 }
 

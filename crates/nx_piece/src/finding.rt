@@ -30,10 +30,12 @@ pub enum LocatedView<'a> {
     Nowhere,
 }
 
-// A child of a node, as `LocatedView` has it.
+/// A child of a node.
 #[derive(Clone, Copy)]
-enum FoundView<'a> {
+pub enum FoundView<'a> {
+    /// A tree, with the number of proxies that stand in runs before its own items.
     Tree(TreeView<'a>, u32),
+    /// A root of the record of a proxy: the proxy's index, and the root's among those of the record.
     Root(u32, u16),
 }
 
@@ -44,14 +46,19 @@ pub fn find<'a>(piece: &'a PieceView<'_>, member: u16, path: &[u32]) -> LocatedV
     ensures { IsLocatedView piece.now (reached_in piece.now member path.now) result }
 {
     let proxies = piece.proxies.as_slice();
-    let (mut tree, mut first) = match child_at(piece.body.roots(), proxies, 0, u32::from(member)) {
+    let (mut tree, mut first) = match find_child(
+        piece.body.roots(),
+        proxies,
+        0,
+        u32::from(member),
+    ) {
         None => return LocatedView::Nowhere,
         Some(FoundView::Tree(tree, first)) => (tree, first),
         // The roots of a piece are trees.
         Some(FoundView::Root(_, _)) => return LocatedView::Nowhere,
     };
     for (used, position) in path.iter().enumerate() {
-        match child_at(tree.children, proxies, first, *position) {
+        match find_child(tree.children, proxies, first, *position) {
             None => return LocatedView::Nowhere,
             Some(FoundView::Tree(child, before)) => {
                 tree = child;
@@ -98,8 +105,9 @@ pub fn count_children(piece: &PieceView<'_>, at: TreeView<'_>, first: u32) -> u3
     children
 }
 
-// The child at a position among items that have so many proxies before them.
-fn child_at<'a>(
+/// The child at a position among the items of a node, before which `first` of the proxies stand; none where the items stand
+/// for no more children. A proxy counts as as many children as it has roots. It takes no memory.
+pub fn find_child<'a>(
     items: ItemsView<'a>,
     proxies: &[Proxy],
     first: u32,

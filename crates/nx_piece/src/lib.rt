@@ -17,10 +17,10 @@ mod weighing;
 mod writing;
 
 pub use copying::decode;
-pub use finding::{LocatedView, count_children, find, member_at};
+pub use finding::{FoundView, LocatedView, count_children, find, find_child, member_at};
 pub use locating::{FoundChild, Located, child_at, children, locate, proxies_below, root_at};
 pub use piece::{Body, Item, Items, Piece, PieceTree, PieceTrees, Proxies, Proxy, Stored};
 pub use reading::{decode_proxies, view};
 pub use viewing::{BodyView, ItemView, ItemsView, NodeView, PieceView, StoredView, TreeView};
-pub use weighing::{count_nodes, weight};
+pub use weighing::{count_nodes, size, weight};
 pub use writing::{encode, encode_chained, encode_inline, encode_proxies, fits_inline};

@@ -5,9 +5,8 @@ ghost use Rattle.std.specs.Bool.{MatchBool};
 ghost use Rattle.std.specs.Vec.{vec_len, vec_capacity};
 ghost use Rattle.nx_tree.specs.declared.node.Node.{Node};
 ghost use Rattle.nx_tree.specs.declared.node.Kind.{Kind};
-ghost use Rattle.nx_weights.specs.Weight.{weight};
 ghost use Rattle.nx_piece.specs.Encoding.{kind_byte, node_head_bytes, node_bytes, content_bytes, run_bytes, items_head_bytes, proxies_head_bytes, head_bytes, proxy_bytes, proxies_bytes};
-ghost use Rattle.nx_piece.specs.Gapped.{Gapped, GappedTree, End, Grow, Gap, gapped_width};
+ghost use Rattle.nx_piece.specs.Gapped.{Gapped, GappedTree, End, Grow, Gap, gapped_width, item_slots};
 ghost use Rattle.nx_piece.specs.declared.piece.Proxy.{Proxy};
 ghost use Rattle.nx_piece.specs.Valid.{AreTrees, HaveRoots, HaveNumbers};
 ghost use Rattle.nx_piece.specs.Decoded.{IsDecoded};
@@ -207,7 +206,7 @@ fn take_node(bytes: &[u8], left: Left) -> Option<(NodeView<'_>, u16, &[u8], Left
         return None;
     };
     let left = Left {
-        room: left.room - node.weight(),
+        room: left.room - node.size(),
         proxies: left.proxies,
         items: left.items - 1,
     };
@@ -229,7 +228,7 @@ fn take_leaf(bytes: &[u8], left: Left) -> Option<(NodeView<'_>, &[u8], Left)>
     Some((node, behind, left))
 }
 
-// What the rest of a piece may have: weight, proxies and items.
+// What the rest of a piece may have: slots of nodes, proxies and items.
 #[derive(Clone, Copy)]
 struct Left {
     room: u32,
@@ -259,7 +258,7 @@ fn take_run(bytes: &[u8], left: Left, after_run: bool) -> Option<(u32, &[u8], Le
 // A node with its number of child items, and what stands behind it.
 fn read_node(bytes: &[u8], room: u32) -> Option<(NodeView<'_>, u16, &[u8])>
     requires { room ≤ 256 }
-    ensures { MatchOption result (BeginsNoNode bytes.now room) (λ found. (bytes.now ≡ node_bytes (seen_node found.0) found.1 ++ found.2.now) × (weight (seen_node found.0) ≤ room) × (found.1 < 65536)) }
+    ensures { MatchOption result (BeginsNoNode bytes.now room) (λ found. (bytes.now ≡ node_bytes (seen_node found.0) found.1 ++ found.2.now) × (item_slots (seen_node found.0) ≤ room) × (found.1 < 65536)) }
 {
     let Some((kind, name, content, items, behind)) = read_node_head(bytes) else {
         return None;

@@ -1,12 +1,13 @@
 // The nodes of a record as they lie in its bytes, as one flat list.
 ghost use Rattle.std.specs.Prelude.{◌≡◌, ◌≤◌, IfOk, MatchOption};
-ghost use Rattle.nx_weights.specs.Weight.{weight};
-ghost use Rattle.nx_piece.specs.Gapped.{End, gapped_width, gapped_weight, proxies_in};
+ghost use Rattle.nx_weights.specs.Weight.{weight, IsShort};
+ghost use Rattle.nx_piece.specs.Gapped.{End, gapped_width, gapped_size, gapped_weight, item_slots, proxies_in};
 ghost use Rattle.nx_piece.specs.Flat.{seen_node, unflattened};
 ghost use Rattle.nx_piece.specs.Viewing.{seen_items, begun_with};
 
 use crate::Proxies;
 use nx_tree::{Bytes, Kind, NoMemory, Node};
+use nx_weights::weight_of;
 use std::alloc::Global;
 use std::marker::Model;
 
@@ -32,10 +33,18 @@ impl NodeView<'_> {
         })
     }
 
-    // What the node weighs, in slots.
-    pub(crate) fn weight(self) -> u32
-        requires { weight (seen_node self) ≤ 256 }
+    /// What the node weighs, in slots of 8 bytes. It has to be within the limits of a document. It takes no memory.
+    pub fn weight(self) -> u32
+        requires { IsShort (seen_node self) }
         ensures { result ≡ weight (seen_node self.entry) }
+    {
+        weight_of(self.name.len() as u32, self.content.len() as u32)
+    }
+
+    // How many slots the node's item takes.
+    pub(crate) fn size(self) -> u32
+        requires { item_slots (seen_node self) ≤ 256 }
+        ensures { result ≡ item_slots (seen_node self.entry) }
     {
         1 + (self.name.len() + self.content.len()).div_ceil(8) as u32
     }
@@ -136,7 +145,7 @@ impl<'a> ItemsView<'a> {
 pub struct BodyView<'a> {
     items: Vec<Flat<'a>>,
     roots: u16,
-    weight: u32,
+    size: u32,
 }
 
 impl<'a> Model for BodyView<'a> {
@@ -147,27 +156,24 @@ impl<'a> Model for BodyView<'a> {
 
     ghost coded = { body_code };
 
-    ghost use Rattle.std.specs.Prelude.{◌≡◌};
-    ghost use Rattle.nx_piece.specs.Gapped.{gapped_width, gapped_weight};
+    ghost use Rattle.std.specs.Prelude.{◌≡◌, ◌≤◌};
+    ghost use Rattle.nx_piece.specs.Gapped.{gapped_width, gapped_size};
     ghost use Rattle.nx_piece.specs.Flat.{unflattened};
 
     ghost view = { λ a. record { roots = unflattened a.items.items } };
 
-    ghost invariant = { λ a. (a.roots ≡ gapped_width (unflattened a.items.items)) × (a.weight ≡ gapped_weight (unflattened a.items.items)) };
+    ghost invariant = { λ a. (a.roots ≡ gapped_width (unflattened a.items.items)) × (a.size ≡ gapped_size (unflattened a.items.items)) × (a.size ≤ 256) };
 }
 
 impl<'a> BodyView<'a> {
-    // The body of these items, which has so many roots and weighs so much.
-    pub(crate) fn new(items: Vec<Flat<'a>>, roots: u16, weight: u32) -> BodyView<'a>
+    // The body of these items, which has so many roots, and whose nodes' items take so many slots.
+    pub(crate) fn new(items: Vec<Flat<'a>>, roots: u16, size: u32) -> BodyView<'a>
         requires roots { roots ≡ gapped_width (unflattened items.items) }
-        requires weight { weight ≡ gapped_weight (unflattened items.items) }
+        requires size { size ≡ gapped_size (unflattened items.items) }
+        requires small { size ≤ 256 }
         ensures { result.roots ≡ unflattened items.entry.items }
     {
-        BodyView {
-            items,
-            roots,
-            weight,
-        }
+        BodyView { items, roots, size }
     }
 
     /// The roots, which are trees alone.
@@ -186,11 +192,25 @@ impl<'a> BodyView<'a> {
         self.roots
     }
 
-    /// The sum of the weights of the nodes, in slots of 8 bytes; proxies weigh nothing.
+    /// The sum of the weights of the nodes, in slots of 8 bytes; proxies weigh nothing. It looks at each node, and takes no
+    /// memory.
     pub fn weight(&self) -> u32
         ensures { result ≡ gapped_weight self.now.roots }
     {
-        self.weight
+        let mut weight = 0;
+        for item in self.items.as_slice() {
+            if let Flat::Tree { node, .. } = item {
+                weight += node.weight();
+            }
+        }
+        weight
+    }
+
+    /// How many slots of 8 bytes the items of the nodes take in the record; runs and proxies aren't counted.
+    pub fn size(&self) -> u32
+        ensures { result ≡ gapped_size self.now.roots }
+    {
+        self.size
     }
 }
 

@@ -1,15 +1,13 @@
 // The bytes of a stored piece, written.
 ghost use Rattle.std.specs.Prelude.{◌≡◌, ◌+◌, ◌*◌, ◌<◌, ◌≤◌, ◌∷◌, ◌++◌, length, IfOk, OnOk};
 ghost use Rattle.std.proofs.Math.ListN.{replicate};
-ghost use Rattle.nx_weights.specs.Weight.{weight};
-ghost use Rattle.nx_piece.specs.Gapped.{item_count, grown_of, gapped_width, slots_in};
+ghost use Rattle.nx_piece.specs.Gapped.{item_count, item_slots, grown_of, gapped_width, slots_in};
 ghost use Rattle.nx_piece.specs.Encoding.{two_bytes, four_bytes, kind_byte, items_head_bytes, proxies_head_bytes, node_head_bytes, node_bytes, run_bytes, tree_bytes, items_bytes, proxies_bytes, head_bytes, body_bytes, encoding};
 ghost use Rattle.nx_piece.specs.Valid.{IsValid, IsValidPiece, is_inline, HasNumbers, HaveNumbers, IsValidBody, IsSmall, IsSmallTree};
 
 use crate::reading::LONGEST_INLINE;
 use crate::{Body, Item, Piece, PieceTree, Proxy, Stored};
 use nx_tree::{Bytes, Kind, NoMemory, Node};
-use nx_weights::weight;
 use std::alloc::Global;
 
 /// The bytes of the record that holds the piece, which has to be valid.
@@ -134,11 +132,11 @@ fn measure_all(trees: &[PieceTree]) -> Size
 fn measure(tree: &PieceTree) -> Size
     requires { IsSmallTree tree.now }
     ensures items { result.items ≡ 1 + item_count tree.now.below }
-    ensures slots { result.slots ≡ weight tree.now.node + slots_in tree.now.below }
+    ensures slots { result.slots ≡ item_slots tree.now.node + slots_in tree.now.below }
 {
     let mut size = Size {
         items: 1,
-        slots: weight(&tree.node),
+        slots: tree.size(),
     };
     for item in tree.children.as_slice() {
         match item {
@@ -213,7 +211,7 @@ fn push_tree(tree: &PieceTree, out: &mut Bytes) -> Result<(), NoMemory>
 }
 
 fn push_node(node: &Node, items: u16, out: &mut Bytes) -> Result<(), NoMemory>
-    requires { weight node.now ≤ 256 }
+    requires { item_slots node.now ≤ 256 }
     ensures { OnOk result (out.new ≡ out.old ++ node_bytes node.now items) }
 {
     push_node_head(

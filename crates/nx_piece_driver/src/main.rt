@@ -1,6 +1,6 @@
 //! A program that reads the record of its standard input again and again, to be timed. Its first word says how often;
 //! with `view` behind it the nodes are seen in the record, and else they are decoded. It says how much the record holds.
-#![tactic(auto, using(nx_piece::proofs::Laws::are_short))]
+#![tactic(auto, using(nx_piece::proofs::Laws::are_short, nx_piece::proofs::Laws::little_weight))]
 
 use nx_piece::{Stored, StoredView, decode, view, weight};
 use nx_tree::NoMemory;

@@ -6,9 +6,10 @@ use Rattle.nx_tree.specs.declared.node.Node.{Node}
 use Rattle.nx_weights.specs.Weight.{weight}
 use Rattle.nx_piece.specs.declared.piece.Piece.{Piece}
 use Rattle.nx_piece.specs.declared.piece.Proxy.{Proxy}
-use Rattle.nx_piece.specs.Gapped.{Gapped, GappedTree, End, Grow, Gap, gapped_width, gapped_weight, proxies_in, grown_of}
+use Rattle.nx_piece.specs.Gapped.{Gapped, GappedTree, End, Grow, Gap, gapped_width, item_slots, gapped_size, proxies_in, grown_of}
 use Rattle.nx_piece.specs.Valid.{AreApart, AreTrees, HaveRoots, IsBodyWithin}
 use Rattle.nx_piece.specs.Locate.{Own, children_of}
+use Rattle.nx_piece.proofs.SizeLemmas.{gapped_sum, sum_is_weight, sum_is_size}
 use Rattle.nx_piece.proofs.LocateLemmas.{ranged_drop, ranged_take}
 use Rattle.nx_piece_edits.specs.Planting.{put_at, IsWithRoot}
 use Rattle.nx_piece_edits.specs.Dividing.{first_roots, roots_behind, AreDivided}
@@ -20,19 +21,18 @@ use Rattle.nx_piece_edits.proofs.PassedLemmas.{index_at}
 pub record HasLeaf (f g : Gapped) (node : Node) : Type 0 where
   pub trees : AreTrees g
   pub width : gapped_width g ≡ gapped_width f + 1
-  pub weighs : gapped_weight g ≡ gapped_weight f + weight node
+  pub sums : (measure : Node → ℕ) → gapped_sum measure g ≡ gapped_sum measure f + measure node
   pub counted : proxies_in g ≡ proxies_in f
   pub apart : AreApart f → AreApart g
 
 leaf_keeps : (node : Node) (i : ℕ) (f : Gapped) (ps : List Proxy) → AreTrees f → i ≤ gapped_width f → HasLeaf f (put_at (λ g. Grow node End g) i f ps) node
-leaf_keeps node zero f ps trees within = record { trees = trees; width = omega arith; weighs = omega arith; counted = omega arith; apart = λ h. (tt, h) }
+leaf_keeps node zero f ps trees within = record { trees = trees; width = omega arith; sums = λ measure. omega arith; counted = omega arith; apart = λ h. (tt, h) }
 leaf_keeps node (suc i) End ps trees within = absurd (omega (arith, within))
 leaf_keeps node (suc i) (Grow n b s) ps trees within =
     let h = leaf_keeps node i s (drop (proxies_in b) ps) trees (omega (arith, within)) in
     let width = h.width in
-    let weighs = h.weighs in
     let counted = h.counted in
-    record { trees = h.trees; width = omega (arith, width); weighs = omega (arith, weighs); counted = omega (arith, counted); apart = λ a. (a.0, h.apart a.1) }
+    record { trees = h.trees; width = omega (arith, width); sums = λ measure. let w = h.sums measure in omega (arith, w); counted = omega (arith, counted); apart = λ a. (a.0, h.apart a.1) }
 leaf_keeps node (suc i) (Gap c s) ps trees within = absurd trees
 
 grown_trees : (roots : List GappedTree) → AreTrees (grown_of roots)
@@ -48,7 +48,7 @@ leaf_put roots zero leaf ps within = refl
 leaf_put [] (suc i) leaf ps within = absurd (omega (arith, within))
 leaf_put (t ∷ roots) (suc i) leaf ps within = ap (Grow t.node t.below) (leaf_put roots i leaf (drop (proxies_in t.below) ps) (omega (arith, within)))
 
-leaf_within : {most_roots slots more_roots more_slots n : ℕ} {f g : Gapped} {node : Node} → IsBodyWithin most_roots slots f n → HasLeaf f g node → gapped_width g ≤ more_roots → gapped_weight g ≤ more_slots → IsBodyWithin more_roots more_slots g n
+leaf_within : {most_roots slots more_roots more_slots n : ℕ} {f g : Gapped} {node : Node} → IsBodyWithin most_roots slots f n → HasLeaf f g node → gapped_width g ≤ more_roots → gapped_size g ≤ more_slots → IsBodyWithin more_roots more_slots g n
 leaf_within {most_roots} {slots} {more_roots} {more_slots} {n} {f} {g} {node} h k narrow light =
     let width = k.width in
     let counts = k.counted in
@@ -74,16 +74,19 @@ root_is piece member node trees roots all within is =
     is ∙ leaf_put trees member leaf piece.proxies (omega (arith, within, count, wide)) ∙ ap (λ (f : Gapped). put_at (λ g. Grow node End g) member f piece.proxies) all in
     let k : HasLeaf old roots node = subst (λ g. HasLeaf old g node) (sym body) (leaf_keeps node member old piece.proxies (subst AreTrees all (grown_trees trees)) within) in
     let width = k.width in
-    let weighs = k.weighs in
+    let weights = k.sums weight in
+    let sizes = k.sums item_slots in
+    let sized : gapped_size roots ≡ gapped_size old + item_slots node = omega (arith, sizes, sum_is_size roots, sum_is_size old) in
     record {
       body = body;
       proxies = refl;
-      weighs = weighs;
+      weighs = omega (arith, weights, sum_is_weight roots, sum_is_weight old);
+      sized = sized;
       width = width;
       heavy = λ v most.
           let few = v.body.few in
           let light = v.body.light in
-          record { body = leaf_within v.body k (omega (arith, width, few)) (omega (arith, weighs, light, most)); ranged = v.ranged };
+          record { body = leaf_within v.body k (omega (arith, width, few)) (omega (arith, sized, light, most)); ranged = v.ranged };
       valid = λ v most narrow. record { body = leaf_within v.body k narrow most; ranged = v.ranged };
     }
 
@@ -116,25 +119,25 @@ pub record IsInTwo (f g h : Gapped) (i : ℕ) : Type 0 where
   pub back_trees : AreTrees h
   pub front_width : gapped_width g ≡ i
   pub back_width : gapped_width h + i ≡ gapped_width f
-  pub weighs : gapped_weight g + gapped_weight h ≡ gapped_weight f
+  pub sized : gapped_size g + gapped_size h ≡ gapped_size f
   pub counted : proxies_in g + proxies_in h ≡ proxies_in f
   pub apart : AreApart f → AreApart g × AreApart h
 
 pub in_two : (f : Gapped) (i : ℕ) → AreTrees f → i ≤ gapped_width f → IsInTwo f (first_roots i f) (roots_behind i f) i
-in_two f zero trees within = record { front_trees = tt; back_trees = trees; front_width = refl; back_width = omega arith; weighs = omega arith; counted = omega arith; apart = λ h. (tt, h) }
+in_two f zero trees within = record { front_trees = tt; back_trees = trees; front_width = refl; back_width = omega arith; sized = omega arith; counted = omega arith; apart = λ h. (tt, h) }
 in_two End (suc i) trees within = absurd (omega (arith, within))
 in_two (Grow n b s) (suc i) trees within =
     let h = in_two s i trees (omega (arith, within)) in
     let front = h.front_width in
     let back = h.back_width in
-    let weighs = h.weighs in
+    let sized = h.sized in
     let counted = h.counted in
     record {
       front_trees = h.front_trees;
       back_trees = h.back_trees;
       front_width = omega (arith, front);
       back_width = omega (arith, back);
-      weighs = omega (arith, weighs);
+      sized = omega (arith, sized);
       counted = omega (arith, counted);
       apart = λ a. ((a.0, (h.apart a.1).0), (h.apart a.1).1);
     }
@@ -144,7 +147,7 @@ halves_within : {most_roots slots n : ℕ} {f g h : Gapped} (i p q : ℕ) → Is
 halves_within {most_roots} {slots} {n} {f} {g} {h} i p q b k some more own sum =
     let front = k.front_width in
     let back = k.back_width in
-    let weighs = k.weighs in
+    let sized = k.sized in
     let counted = k.counted in
     let few = b.few in
     let light = b.light in
@@ -154,7 +157,7 @@ halves_within {most_roots} {slots} {n} {f} {g} {h} i p q b k some more own sum =
         trees = k.front_trees;
         some = omega (arith, front, some);
         few = omega (arith, front, more, few);
-        light = omega (arith, weighs, light);
+        light = omega (arith, sized, light);
         apart = (k.apart b.apart).0;
         counted = omega (arith, own);
         few_proxies = omega (arith, sum, most);
@@ -163,7 +166,7 @@ halves_within {most_roots} {slots} {n} {f} {g} {h} i p q b k some more own sum =
         trees = k.back_trees;
         some = omega (arith, back, more);
         few = omega (arith, back, few);
-        light = omega (arith, weighs, light);
+        light = omega (arith, sized, light);
         apart = (k.apart b.apart).1;
         counted = omega (arith, counted, all, own, sum);
         few_proxies = omega (arith, sum, most);

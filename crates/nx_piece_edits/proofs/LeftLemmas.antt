@@ -4,14 +4,15 @@ use Rattle.std.specs.List.{slice_get}
 use Rattle.std.proofs.lemmas.Bool.{cases_lt}
 use Rattle.std.proofs.lemmas.Bool.Decides.{nat_tests}
 use Rattle.std.proofs.lemmas.List.{drop-drop, length-drop, length-set, length-take-le, set_split}
-use Rattle.nx_weights.specs.Weight.{weight}
+use Rattle.nx_tree.specs.declared.node.Node.{Node}
 use Rattle.nx_piece.specs.declared.piece.Piece.{Piece}
 use Rattle.nx_piece.specs.declared.piece.Proxy.{Proxy}
-use Rattle.nx_piece.specs.Gapped.{Gapped, GappedTree, End, Grow, Gap, gapped_width, gapped_weight, proxies_in, with_gap}
+use Rattle.nx_piece.specs.Gapped.{Gapped, GappedTree, End, Grow, Gap, gapped_width, gapped_size, item_slots, proxies_in, with_gap}
 use Rattle.nx_piece.specs.Valid.{AreApart, AreTrees, BeginsNoGap, HaveRoots, IsBodyWithin}
 use Rattle.nx_piece.specs.Locate.{PieceChild, Own, Kept, Reached, Inside, Outside, Missing, roots_of, roots_from, kept_from, children_of, reached, reached_in, IsPartOf}
 use Rattle.nx_piece_edits.specs.Cutting.{without_tree, smaller_gap, without_proxy, IsWithoutTree, IsWithoutProxy, IsWithProxy}
 use Rattle.nx_piece_edits.specs.Taking.{led, IsTakenOut}
+use Rattle.nx_piece.proofs.SizeLemmas.{gapped_sum}
 use Rattle.nx_piece.proofs.LocateLemmas.{kept_length, ranged_take, ranged_drop}
 use Rattle.nx_piece_edits.proofs.TakeLemmas.{led_nowhere, led_away}
 
@@ -22,10 +23,15 @@ width_gap count End = omega arith
 width_gap count (Grow n b s) = omega arith
 width_gap count (Gap c s) = omega arith
 
-pub weight_gap : (count : ℕ) (f : Gapped) → gapped_weight (with_gap count f) ≡ gapped_weight f
-weight_gap count End = refl
-weight_gap count (Grow n b s) = refl
-weight_gap count (Gap c s) = refl
+size_gap : (count : ℕ) (f : Gapped) → gapped_size (with_gap count f) ≡ gapped_size f
+size_gap count End = refl
+size_gap count (Grow n b s) = refl
+size_gap count (Gap c s) = refl
+
+pub sum_gap : (measure : Node → ℕ) (count : ℕ) (f : Gapped) → gapped_sum measure (with_gap count f) ≡ gapped_sum measure f
+sum_gap measure count End = refl
+sum_gap measure count (Grow n b s) = refl
+sum_gap measure count (Gap c s) = refl
 
 pub proxies_gap : (count : ℕ) (f : Gapped) → proxies_in (with_gap count f) ≡ count + proxies_in f
 proxies_gap count End = refl
@@ -57,14 +63,14 @@ width_left position path (Gap c s) proxies =
     let g = width_gap c rest in
     omega (arith, h, g)
 
-weight_left : (position : ℕ) (path : List ℕ) (f : Gapped) (proxies : List Proxy) → gapped_weight (without_tree position path f proxies) ≤ gapped_weight f
-weight_left position path End proxies = omega arith
-weight_left zero [] (Grow n b s) proxies = omega arith
-weight_left zero (next ∷ path) (Grow n b s) proxies = let h = weight_left next path b proxies in omega (arith, h)
-weight_left (suc position) path (Grow n b s) proxies = let h = weight_left position path s (drop (proxies_in b) proxies) in omega (arith, h)
-weight_left position path (Gap c s) proxies =
-    let h = weight_left (position - roots_of (take c proxies)) path s (drop c proxies) in
-    let g = weight_gap c (without_tree (position - roots_of (take c proxies)) path s (drop c proxies)) in
+size_left : (position : ℕ) (path : List ℕ) (f : Gapped) (proxies : List Proxy) → gapped_size (without_tree position path f proxies) ≤ gapped_size f
+size_left position path End proxies = omega arith
+size_left zero [] (Grow n b s) proxies = omega arith
+size_left zero (next ∷ path) (Grow n b s) proxies = let h = size_left next path b proxies in omega (arith, h)
+size_left (suc position) path (Grow n b s) proxies = let h = size_left position path s (drop (proxies_in b) proxies) in omega (arith, h)
+size_left position path (Gap c s) proxies =
+    let h = size_left (position - roots_of (take c proxies)) path s (drop c proxies) in
+    let g = size_gap c (without_tree (position - roots_of (take c proxies)) path s (drop c proxies)) in
     omega (arith, h, g)
 
 apart_left : (position : ℕ) (path : List ℕ) (f : Gapped) (proxies : List Proxy) → AreApart f → AreApart (without_tree position path f proxies)
@@ -144,7 +150,7 @@ within_left {most_roots} {most_slots} {roots} {n} {m} position path proxies t be
     let counted = h.counted in
     let few_proxies = h.few_proxies in
     let w = width_left position path roots proxies in
-    let l = weight_left position path roots proxies in
+    let l = size_left position path roots proxies in
     let c = counted_left proxies 0 0 position path roots t before led_is in
     record {
       trees = trees_left position path roots proxies h.trees;
@@ -223,20 +229,20 @@ width_fewer index (Grow n b s) h =
     ]
 width_fewer index (Gap c s) h = absurd h
 
-weight_smaller : (count : ℕ) (f : Gapped) → gapped_weight (smaller_gap count f) ≡ gapped_weight f
-weight_smaller count f = elim (nat_lt 1 count) as (λ t. gapped_weight (if t then Gap (count - 1) f else f) ≡ gapped_weight f) [ true ↦ refl | false ↦ refl ]
+size_smaller : (count : ℕ) (f : Gapped) → gapped_size (smaller_gap count f) ≡ gapped_size f
+size_smaller count f = elim (nat_lt 1 count) as (λ t. gapped_size (if t then Gap (count - 1) f else f) ≡ gapped_size f) [ true ↦ refl | false ↦ refl ]
 
-weight_fewer : (index : ℕ) (f : Gapped) → gapped_weight (without_proxy index f) ≡ gapped_weight f
-weight_fewer index End = refl
-weight_fewer index (Grow n b s) =
-    elim (nat_lt index (proxies_in b)) as (λ t. gapped_weight (if t then Grow n (without_proxy index b) s else Grow n b (without_proxy (index - proxies_in b) s)) ≡ weight n + gapped_weight b + gapped_weight s) [
-      | true ↦ ap (λ (w : ℕ). weight n + w + gapped_weight s) (weight_fewer index b)
-      | false ↦ ap (λ (w : ℕ). weight n + gapped_weight b + w) (weight_fewer (index - proxies_in b) s)
+size_fewer : (index : ℕ) (f : Gapped) → gapped_size (without_proxy index f) ≡ gapped_size f
+size_fewer index End = refl
+size_fewer index (Grow n b s) =
+    elim (nat_lt index (proxies_in b)) as (λ t. gapped_size (if t then Grow n (without_proxy index b) s else Grow n b (without_proxy (index - proxies_in b) s)) ≡ item_slots n + gapped_size b + gapped_size s) [
+      | true ↦ ap (λ (w : ℕ). item_slots n + w + gapped_size s) (size_fewer index b)
+      | false ↦ ap (λ (w : ℕ). item_slots n + gapped_size b + w) (size_fewer (index - proxies_in b) s)
     ]
-weight_fewer index (Gap c s) =
-    elim (nat_lt index c) as (λ t. gapped_weight (if t then smaller_gap c s else Gap c (without_proxy (index - c) s)) ≡ gapped_weight s) [
-      | true ↦ weight_smaller c s
-      | false ↦ weight_fewer (index - c) s
+size_fewer index (Gap c s) =
+    elim (nat_lt index c) as (λ t. gapped_size (if t then smaller_gap c s else Gap c (without_proxy (index - c) s)) ≡ gapped_size s) [
+      | true ↦ size_smaller c s
+      | false ↦ size_fewer (index - c) s
     ]
 
 begins_fewer : (index : ℕ) (f : Gapped) → BeginsNoGap f → BeginsNoGap (without_proxy index f)
@@ -307,7 +313,7 @@ within_fewer {most_roots} {most_slots} {roots} {n} {m} index h less sum =
     let counted = h.counted in
     let few_proxies = h.few_proxies in
     let w = width_fewer index roots h.trees in
-    let l = weight_fewer index roots in
+    let l = size_fewer index roots in
     let c = counted_fewer index roots (omega arith) in
     record {
       trees = trees_fewer index roots h.trees;

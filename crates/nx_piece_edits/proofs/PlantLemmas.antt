@@ -7,9 +7,10 @@ use Rattle.nx_tree.specs.declared.node.Node.{Node}
 use Rattle.nx_weights.specs.Weight.{weight}
 use Rattle.nx_piece.specs.declared.piece.Piece.{Piece}
 use Rattle.nx_piece.specs.declared.piece.Proxy.{Proxy}
-use Rattle.nx_piece.specs.Gapped.{Gapped, GappedTree, End, Grow, Gap, gapped_width, gapped_weight, proxies_in, with_gap}
+use Rattle.nx_piece.specs.Gapped.{Gapped, GappedTree, End, Grow, Gap, gapped_width, item_slots, gapped_size, gapped_weight, proxies_in, with_gap}
 use Rattle.nx_piece.specs.Valid.{AreApart, AreTrees, HaveRoots, IsBodyWithin, IsPiece}
 use Rattle.nx_piece.specs.Locate.{PieceChild, Kept, Inside, roots_of, kept_from, children_of, reached, reached_in}
+use Rattle.nx_piece.proofs.SizeLemmas.{gapped_sum, sum_is_weight, sum_is_size}
 use Rattle.nx_piece.proofs.LocateLemmas.{get_in_front, get_behind, kept_length, ranged_drop, ranged_take}
 use Rattle.nx_piece_edits.specs.Taking.{led}
 use Rattle.nx_piece_edits.specs.Setting.{with_tree}
@@ -17,45 +18,51 @@ use Rattle.nx_piece_edits.specs.Planting.{passed, put_at, put_below, FallsApart,
 use Rattle.nx_piece_edits.specs.declared.setting.NodeEdit.{NodeEdit}
 use Rattle.nx_piece_edits.specs.Editing.{node_edited}
 use Rattle.nx_piece_edits.proofs.TakeLemmas.{led_nowhere}
-use Rattle.nx_piece_edits.proofs.LeftLemmas.{all_kept, passes_kept, tree_reached, first_reached, apart_gap, proxies_gap, weight_gap, ranged_append}
+use Rattle.nx_piece_edits.proofs.LeftLemmas.{all_kept, passes_kept, tree_reached, first_reached, apart_gap, proxies_gap, sum_gap, ranged_append}
 use Rattle.nx_piece_edits.proofs.SetLemmas.{KeepsForm, set_keeps, within_more}
 use Rattle.nx_piece_edits.proofs.PassedLemmas.{all_are_passed, passes_one, put_inside, put_beyond}
 
--- what is put weighs so many slots and has so many proxies, and leaves gaps apart
-pub record PutsMore (put : Gapped → Gapped) (slots more : ℕ) : Type 0 where
-  pub weighs : (f : Gapped) → gapped_weight (put f) ≡ gapped_weight f + slots
+-- what is put adds so much by each measure of nodes, and so many proxies, and leaves gaps apart
+pub record PutsMore (put : Gapped → Gapped) (added : (Node → ℕ) → ℕ) (more : ℕ) : Type 0 where
+  pub sums : (measure : Node → ℕ) (f : Gapped) → gapped_sum measure (put f) ≡ gapped_sum measure f + added measure
   pub counted : (f : Gapped) → proxies_in (put f) ≡ proxies_in f + more
   pub apart : (f : Gapped) → AreApart f → AreApart (put f)
 
-leaf_more : (node : Node) → PutsMore (λ f. Grow node End f) (weight node) 0
-leaf_more node = record { weighs = λ f. omega arith; counted = λ f. omega arith; apart = λ f h. (tt, h) }
+-- what a node and a proxy add
+abbrev leaf : Node → (Node → ℕ) → ℕ
+leaf node measure = measure node
 
-proxy_more : PutsMore (λ f. with_gap 1 f) 0 1
+abbrev nothing : (Node → ℕ) → ℕ
+nothing measure = 0
+
+leaf_more : (node : Node) → PutsMore (λ f. Grow node End f) (leaf node) 0
+leaf_more node = record { sums = λ measure f. omega arith; counted = λ f. omega arith; apart = λ f h. (tt, h) }
+
+proxy_more : PutsMore (λ f. with_gap 1 f) nothing 1
 proxy_more = record {
-  weighs = λ f. let w = weight_gap 1 f in omega (arith, w);
+  sums = λ measure f. let w = sum_gap measure 1 f in omega (arith, w);
   counted = λ f. let c = proxies_gap 1 f in omega (arith, c);
   apart = λ f h. apart_gap 1 f (omega arith) h;
 }
 
 -- how trees and gaps change
-pub record IsMore (f g : Gapped) (slots more : ℕ) : Type 0 where
-  pub weighs : gapped_weight g ≡ gapped_weight f + slots
+pub record IsMore (f g : Gapped) (added : (Node → ℕ) → ℕ) (more : ℕ) : Type 0 where
+  pub sums : (measure : Node → ℕ) → gapped_sum measure g ≡ gapped_sum measure f + added measure
   pub counted : proxies_in g ≡ proxies_in f + more
   pub apart : AreApart g
 
-pub put_keeps : {put : Gapped → Gapped} {slots more : ℕ} → PutsMore put slots more → (ps : List Proxy) (first : ℕ) (f : Gapped) (n : ℕ) → FallsApart (children_of ps first f) n → AreApart f → HaveRoots ps → first + proxies_in f ≤ length ps
-    → IsMore f (put_at put n f (drop first ps)) slots more
-put_keeps m ps first f zero between apart ranged fits = record { weighs = m.weighs f; counted = m.counted f; apart = m.apart f apart }
+pub put_keeps : {put : Gapped → Gapped} {added : (Node → ℕ) → ℕ} {more : ℕ} → PutsMore put added more → (ps : List Proxy) (first : ℕ) (f : Gapped) (n : ℕ) → FallsApart (children_of ps first f) n → AreApart f → HaveRoots ps → first + proxies_in f ≤ length ps
+    → IsMore f (put_at put n f (drop first ps)) added more
+put_keeps m ps first f zero between apart ranged fits = record { sums = λ measure. m.sums measure f; counted = m.counted f; apart = m.apart f apart }
 put_keeps m ps first End (suc n) between apart ranged fits = let w = between.within in absurd (omega (arith, w))
-put_keeps {put} {slots} {more} m ps first (Grow node b s) (suc n) between apart ranged fits =
+put_keeps {put} {added} {more} m ps first (Grow node b s) (suc n) between apart ranged fits =
     let within = between.within in
     let rest : FallsApart (children_of ps (first + proxies_in b) s) n = record { within = omega (arith, within); apart = λ k i e. between.apart k i e } in
-    let h : IsMore s (put_at put n s (drop (proxies_in b) (drop first ps))) slots more =
-    subst (λ qs. IsMore s (put_at put n s qs) slots more) (sym (drop-drop (proxies_in b) first ps)) (put_keeps m ps (first + proxies_in b) s n rest apart.1 ranged (omega (arith, fits))) in
-    let w = h.weighs in
+    let h : IsMore s (put_at put n s (drop (proxies_in b) (drop first ps))) added more =
+    subst (λ qs. IsMore s (put_at put n s qs) added more) (sym (drop-drop (proxies_in b) first ps)) (put_keeps m ps (first + proxies_in b) s n rest apart.1 ranged (omega (arith, fits))) in
     let c = h.counted in
-    record { weighs = omega (arith, w); counted = omega (arith, c); apart = (apart.0, h.apart) }
-put_keeps {put} {slots} {more} m ps first (Gap c s) (suc n) between apart ranged fits =
+    record { sums = λ measure. let w = h.sums measure in omega (arith, w); counted = omega (arith, c); apart = (apart.0, h.apart) }
+put_keeps {put} {added} {more} m ps first (Gap c s) (suc n) between apart ranged fits =
     let own : List Proxy = take c (drop first ps) in
     let others : List PieceChild = children_of ps (first + c) s in
     let some : 1 ≤ c = apart.0 in
@@ -67,12 +74,10 @@ put_keeps {put} {slots} {more} m ps first (Gap c s) (suc n) between apart ranged
           let q : ℕ = passed (suc n) own in
           let one = passes_one first (suc n) own (omega arith) (omega (arith, some, taken)) (λ k i e. between.apart k i (get_in_front (kept_from first own) others (suc n) (Kept k i) e)) in
           let rest : Gapped = Gap (c - q) s in
-          let w = m.weighs rest in
-          let x = weight_gap q (put rest) in
           let p = m.counted rest in
           let y = proxies_gap q (put rest) in
-          subst (λ g. IsMore (Gap c s) g slots more) (sym (put_inside put (suc n) c s (drop first ps) (omega arith) inside)) (record {
-            weighs = omega (arith, w, x);
+          subst (λ g. IsMore (Gap c s) g added more) (sym (put_inside put (suc n) c s (drop first ps) (omega arith) inside)) (record {
+            sums = λ measure. let w = m.sums measure rest in let x = sum_gap measure q (put rest) in omega (arith, w, x);
             counted = omega (arith, p, y, inside);
             apart = apart_gap q (put rest) one (m.apart rest ((omega (arith, inside)), apart.1, apart.2));
           })
@@ -85,14 +90,12 @@ put_keeps {put} {slots} {more} m ps first (Gap c s) (suc n) between apart ranged
           let there = ap (slice_get (kept_from first own ++ others)) place ∙ get_behind (kept_from first own) others left in
           let rest : FallsApart others left = record { within = omega (arith, within, sum, place); apart = λ k i e. between.apart k i (there ∙ e) } in
           let g : Gapped = put_at put left s (drop c (drop first ps)) in
-          let h : IsMore s g slots more =
-          subst (λ qs. IsMore s (put_at put left s qs) slots more) (sym (drop-drop c first ps)) (put_keeps m ps (first + c) s left rest apart.2 ranged (omega (arith, fits))) in
-          let w = h.weighs in
-          let x = weight_gap c g in
+          let h : IsMore s g added more =
+          subst (λ qs. IsMore s (put_at put left s qs) added more) (sym (drop-drop c first ps)) (put_keeps m ps (first + c) s left rest apart.2 ranged (omega (arith, fits))) in
           let p = h.counted in
           let y = proxies_gap c g in
-          subst (λ f. IsMore (Gap c s) f slots more) (sym (put_beyond put (suc n) c s (drop first ps) (omega arith) beyond)) (record {
-            weighs = omega (arith, w, x);
+          subst (λ f. IsMore (Gap c s) f added more) (sym (put_beyond put (suc n) c s (drop first ps) (omega arith) beyond)) (record {
+            sums = λ measure. let w = h.sums measure in let x = sum_gap measure c g in omega (arith, w, x);
             counted = omega (arith, p, y);
             apart = apart_gap c g some h.apart;
           })
@@ -124,37 +127,35 @@ led_part ps first used position path (Gap c s) t before e =
     (omega (arith, fits), λ a. h.1 a.2)
 
 -- trees and gaps in which something is put below a node
-pub record IsGrown (f g : Gapped) (slots more : ℕ) : Type 0 where
-  pub weighs : gapped_weight g ≡ gapped_weight f + slots
+pub record IsGrown (f g : Gapped) (added : (Node → ℕ) → ℕ) (more : ℕ) : Type 0 where
+  pub sums : (measure : Node → ℕ) → gapped_sum measure g ≡ gapped_sum measure f + added measure
   pub counted : proxies_in g ≡ proxies_in f + more
   pub apart : AreApart g
   pub width : gapped_width g ≡ gapped_width f
   pub trees : AreTrees f → AreTrees g
 
-below_grown : {put : Gapped → Gapped} {slots more : ℕ} → PutsMore put slots more → (piece : Piece) (member : ℕ) (path : List ℕ) (position : ℕ) (tree : GappedTree) (first : ℕ) → IsPiece piece → reached_in piece member path ≡ Inside tree first
+below_grown : {put : Gapped → Gapped} {added : (Node → ℕ) → ℕ} {more : ℕ} → PutsMore put added more → (piece : Piece) (member : ℕ) (path : List ℕ) (position : ℕ) (tree : GappedTree) (first : ℕ) → IsPiece piece → reached_in piece member path ≡ Inside tree first
     → FallsApart (children_of piece.proxies first tree.below) position
-    → IsGrown piece.body.roots (with_tree member path (put_below put position tree (drop first piece.proxies)) piece.body.roots piece.proxies) slots more
-below_grown {put} {slots} {more} m piece member path position tree first h leads between =
+    → IsGrown piece.body.roots (with_tree member path (put_below put position tree (drop first piece.proxies)) piece.body.roots piece.proxies) added more
+below_grown {put} {added} {more} m piece member path position tree first h leads between =
     let new : GappedTree = put_below put position tree (drop first piece.proxies) in
     let part = led_part piece.proxies 0 0 member path piece.body.roots tree first leads in
     let within : first + proxies_in tree.below ≤ 0 + proxies_in piece.body.roots = part.0 in
     let all = h.body.counted in
     let own = put_keeps m piece.proxies first tree.below position between (part.1 h.body.apart) h.ranged (omega (arith, within, all)) in
     let k : KeepsForm piece.body.roots (with_tree member path new piece.body.roots piece.proxies) tree new = set_keeps piece.proxies 0 0 member path piece.body.roots tree first new leads in
-    let w = k.weighs in
-    let x = own.weighs in
     let c = k.counted in
     let y = own.counted in
     record {
-      weighs = omega (arith, w, x);
+      sums = λ measure. let w = k.sums measure in let x = own.sums measure in omega (arith, w, x);
       counted = omega (arith, c, y);
       apart = k.apart h.body.apart (λ _. own.apart);
       width = k.width;
       trees = k.trees;
     }
 
-grown_within : {most_roots slots more_slots weighs n more : ℕ} {f g : Gapped} → IsBodyWithin most_roots slots f n → IsGrown f g weighs more → gapped_weight g ≤ more_slots → n + more ≤ 524288 → IsBodyWithin most_roots more_slots g (n + more)
-grown_within {most_roots} {slots} {more_slots} {weighs} {n} {more} {f} {g} h k light room =
+grown_within : {most_roots slots more_slots n more : ℕ} {added : (Node → ℕ) → ℕ} {f g : Gapped} → IsBodyWithin most_roots slots f n → IsGrown f g added more → gapped_size g ≤ more_slots → n + more ≤ 524288 → IsBodyWithin most_roots more_slots g (n + more)
+grown_within {most_roots} {slots} {more_slots} {n} {more} {added} {f} {g} h k light room =
     let width = k.width in
     let counts = k.counted in
     let some = h.some in
@@ -177,19 +178,22 @@ pub node_is : (piece : Piece) (member : ℕ) (path : List ℕ) (position : ℕ) 
     → FallsApart (children_of piece.proxies first tree.below) position → roots ≡ with_tree member path (put_below (λ f. Grow node End f) position tree (drop first piece.proxies)) piece.body.roots piece.proxies
     → IsWithNode piece member path position node (record { body = record { roots = roots }; proxies = piece.proxies })
 node_is piece member path position node roots tree first h leads between is =
-    let k : IsGrown piece.body.roots roots (weight node) 0 = subst (λ g. IsGrown piece.body.roots g (weight node) 0) (sym is) (below_grown (leaf_more node) piece member path position tree first h leads between) in
-    let weighs = k.weighs in
+    let k : IsGrown piece.body.roots roots (leaf node) 0 = subst (λ g. IsGrown piece.body.roots g (leaf node) 0) (sym is) (below_grown (leaf_more node) piece member path position tree first h leads between) in
+    let weights = k.sums weight in
+    let sizes = k.sums item_slots in
+    let sized : gapped_size roots ≡ gapped_size piece.body.roots + item_slots node = omega (arith, sizes, sum_is_size roots, sum_is_size piece.body.roots) in
     record {
       tree = tree;
       first = first;
       leads = leads;
       body = is;
       proxies = refl;
-      weighs = weighs;
+      weighs = omega (arith, weights, sum_is_weight roots, sum_is_weight piece.body.roots);
+      sized = sized;
       heavy = λ v most.
           let light = v.body.light in
           let few = v.body.few_proxies in
-          record { body = within_more (no_more (grown_within {more_slots = 512} v.body k (omega (arith, weighs, light, most)) (omega (arith, few)))) (omega arith) (omega arith); ranged = v.ranged };
+          record { body = within_more (no_more (grown_within {more_slots = 512} v.body k (omega (arith, sized, light, most)) (omega (arith, few)))) (omega arith) (omega arith); ranged = v.ranged };
       valid = λ v most. let few = v.body.few_proxies in record { body = no_more (grown_within v.body k most (omega (arith, few))); ranged = v.ranged };
     }
 
@@ -205,19 +209,21 @@ pub proxy_is : (piece : Piece) (member : ℕ) (path : List ℕ) (position index 
     → roots ≡ with_tree member path (put_below (λ f. with_gap 1 f) position tree (drop first piece.proxies)) piece.body.roots piece.proxies → proxies ≡ insert piece.proxies index proxy
     → IsWithProxyAt piece member path position index proxy (record { body = record { roots = roots }; proxies = proxies })
 proxy_is piece member path position index proxy roots proxies tree first h leads between within is now =
-    let k : IsGrown piece.body.roots roots 0 1 = subst (λ g. IsGrown piece.body.roots g 0 1) (sym is) (below_grown proxy_more piece member path position tree first h leads between) in
-    let weighs = k.weighs in
+    let k : IsGrown piece.body.roots roots nothing 1 = subst (λ g. IsGrown piece.body.roots g nothing 1) (sym is) (below_grown proxy_more piece member path position tree first h leads between) in
+    let weights = k.sums weight in
+    let sizes = k.sums item_slots in
     let long : length piece.proxies + 1 ≡ length proxies = sym (ap length now ∙ one_longer piece.proxies index proxy within) in
     let ranged : 1 ≤ proxy.roots → proxy.roots ≤ 256 → HaveRoots proxies = λ some most.
     subst HaveRoots (sym now) (ranged_append (take index piece.proxies) (proxy ∷ drop index piece.proxies) (ranged_take index piece.proxies h.ranged) (some, most, ranged_drop index piece.proxies h.ranged)) in
-    let same : gapped_weight roots ≡ gapped_weight piece.body.roots = omega (arith, weighs) in
+    let same : gapped_size roots ≡ gapped_size piece.body.roots = omega (arith, sizes, sum_is_size roots, sum_is_size piece.body.roots) in
     record {
       tree = tree;
       first = first;
       leads = leads;
       body = is;
       proxies = now;
-      weighs = same;
+      weighs = omega (arith, weights, sum_is_weight roots, sum_is_weight piece.body.roots);
+      sized = same;
       stays = λ some most room.
           let light = h.body.light in
           record { body = subst (λ (n : ℕ). IsBodyWithin 257 512 roots n) long (grown_within h.body k (omega (arith, same, light)) (omega (arith, room))); ranged = ranged some most };

@@ -7,7 +7,7 @@ use Rattle.nx_piece.specs.declared.piece.Item.{Item}
 use Rattle.nx_piece.specs.declared.piece.Item.TheVariants.{Tree}
 use Rattle.nx_piece.specs.declared.piece.Piece.{Piece}
 use Rattle.nx_piece.specs.declared.piece.Proxy.{Proxy}
-use Rattle.nx_piece.specs.Gapped.{Gapped, GappedTree, End, Grow, Gap, gapped_width, gapped_weight, proxies_in, grown_of}
+use Rattle.nx_piece.specs.Gapped.{Gapped, GappedTree, End, Grow, Gap, gapped_width, item_slots, gapped_size, proxies_in, grown_of}
 use Rattle.nx_piece.specs.Items.{gapped_of}
 use Rattle.nx_piece.specs.Valid.{AreApart, AreTrees, BeginsNoGap, IsBodyWithin}
 use Rattle.nx_piece.specs.Locate.{PieceChild, Inside, roots_of, kept_from, children_of, reached_in}
@@ -15,15 +15,16 @@ use Rattle.nx_piece.specs.Found.{StandsAmong}
 use Rattle.nx_piece_edits.specs.Taking.{led}
 use Rattle.nx_piece_edits.specs.Shortening.{items_before, grown_before}
 use Rattle.nx_piece_edits.specs.Setting.{with_tree, tree_with, with_content, IsWithContent}
+use Rattle.nx_piece.proofs.SizeLemmas.{gapped_sum, sum_is_weight, sum_is_size}
 use Rattle.nx_piece.proofs.LocateLemmas.{kept_length}
 use Rattle.nx_piece_edits.proofs.TakeLemmas.{there_within, led_nowhere, stands_set}
 use Rattle.nx_piece_edits.proofs.LeftLemmas.{all_kept, passes_kept, tree_reached}
 use Rattle.nx_piece_edits.proofs.RootLemmas.{RootStands, root_there, grown_set}
 use Rattle.nx_piece_edits.proofs.ShortLemmas.{item_set}
 
--- What stays of trees and gaps in which one tree is replaced, and how much heavier they are.
+-- What stays of trees and gaps in which one tree is replaced, and how much more each measure of nodes says of them.
 pub record KeepsForm (f g : Gapped) (t new : GappedTree) : Type 0 where
-  pub weighs : gapped_weight g + (weight t.node + gapped_weight t.below) ≡ gapped_weight f + (weight new.node + gapped_weight new.below)
+  pub sums : (measure : Node → ℕ) → gapped_sum measure g + (measure t.node + gapped_sum measure t.below) ≡ gapped_sum measure f + (measure new.node + gapped_sum measure new.below)
   pub width : gapped_width g ≡ gapped_width f
   pub trees : AreTrees f → AreTrees g
   pub begins : BeginsNoGap f → BeginsNoGap g
@@ -32,7 +33,7 @@ pub record KeepsForm (f g : Gapped) (t new : GappedTree) : Type 0 where
 
 form_here : (t new : GappedTree) (s : Gapped) → KeepsForm (Grow t.node t.below s) (Grow new.node new.below s) t new
 form_here t new s = record {
-  weighs = omega arith;
+  sums = λ measure. omega arith;
   width = refl;
   trees = λ h. h;
   begins = λ h. tt;
@@ -42,7 +43,7 @@ form_here t new s = record {
 
 form_below : (n : Node) (b g s : Gapped) (t new : GappedTree) → KeepsForm b g t new → KeepsForm (Grow n b s) (Grow n g s) t new
 form_below n b g s t new h = record {
-  weighs = let w = h.weighs in omega arith;
+  sums = λ measure. let w = h.sums measure in omega arith;
   width = refl;
   trees = λ x. x;
   begins = λ x. tt;
@@ -52,7 +53,7 @@ form_below n b g s t new h = record {
 
 form_beside : (n : Node) (b s g : Gapped) (t new : GappedTree) → KeepsForm s g t new → KeepsForm (Grow n b s) (Grow n b g) t new
 form_beside n b s g t new h = record {
-  weighs = let w = h.weighs in omega arith;
+  sums = λ measure. let w = h.sums measure in omega arith;
   width = ap (λ (w : ℕ). 1 + w) h.width;
   trees = λ x. h.trees x;
   begins = λ x. tt;
@@ -62,7 +63,7 @@ form_beside n b s g t new h = record {
 
 form_gap : (count : ℕ) (s g : Gapped) (t new : GappedTree) → KeepsForm s g t new → KeepsForm (Gap count s) (Gap count g) t new
 form_gap count s g t new h = record {
-  weighs = h.weighs;
+  sums = h.sums;
   width = ap (λ (w : ℕ). 1 + w) h.width;
   trees = λ x. absurd x;
   begins = λ x. absurd x;
@@ -94,7 +95,7 @@ set_keeps proxies first used position path (Gap c s) t before new e =
 
 -- A piece in which a node has another content:
 
-pub content_within : {most_roots slots more : ℕ} {roots g : Gapped} {n : ℕ} {t new : GappedTree} → IsBodyWithin most_roots slots roots n → KeepsForm roots g t new → new.below ≡ t.below → gapped_weight g ≤ more → IsBodyWithin most_roots more g n
+pub content_within : {most_roots slots more : ℕ} {roots g : Gapped} {n : ℕ} {t new : GappedTree} → IsBodyWithin most_roots slots roots n → KeepsForm roots g t new → new.below ≡ t.below → gapped_size g ≤ more → IsBodyWithin most_roots more g n
 content_within {most_roots} {slots} {more} {roots} {g} {n} {t} {new} h k same light =
     let width = k.width in
     let counts = k.counted in
@@ -131,17 +132,21 @@ pub content_is : (piece : Piece) (member : ℕ) (path content : List ℕ) (roots
 content_is piece member path content roots tree first e is =
     let new : GappedTree = with_content content tree in
     let k : KeepsForm piece.body.roots roots tree new = subst (λ g. KeepsForm piece.body.roots g tree new) (sym is) (set_keeps piece.proxies 0 0 member path piece.body.roots tree first new e) in
-    let weighs = k.weighs in
+    let weights = k.sums weight in
+    let sizes = k.sums item_slots in
+    let sized : gapped_size roots + item_slots tree.node ≡ gapped_size piece.body.roots + item_slots new.node =
+    omega (arith, sizes, sum_is_size roots, sum_is_size piece.body.roots) in
     record {
       tree = tree;
       first = first;
       leads = e;
       body = is;
       proxies = refl;
-      weighs = omega (arith, weighs);
+      weighs = omega (arith, weights, sum_is_weight roots, sum_is_weight piece.body.roots);
+      sized = sized;
       heavy = λ v most.
           let light = v.body.light in
-          record { body = within_more (content_within {more = 512} v.body k refl (omega (arith, weighs, light, most))) (omega arith) (omega arith); ranged = v.ranged };
+          record { body = within_more (content_within {more = 512} v.body k refl (omega (arith, sized, light, most))) (omega arith) (omega arith); ranged = v.ranged };
       valid = λ v most. record { body = content_within v.body k refl most; ranged = v.ranged };
     }
 

@@ -4,7 +4,7 @@ use Rattle.std.proofs.lemmas.Bool.{cases_lt}
 use Rattle.std.proofs.lemmas.List.{length-drop, length-take-le}
 use Rattle.nx_piece.specs.declared.piece.Piece.{Piece}
 use Rattle.nx_piece.specs.declared.piece.Proxy.{Proxy}
-use Rattle.nx_piece.specs.Gapped.{Gapped, End, Grow, Gap, gapped_width, gapped_weight, proxies_in}
+use Rattle.nx_piece.specs.Gapped.{Gapped, End, Grow, Gap, gapped_width, gapped_size, proxies_in}
 use Rattle.nx_piece.specs.Valid.{AreApart, AreTrees, BeginsNoGap, HaveRoots}
 use Rattle.nx_piece_edits.specs.Cutting.{with_row, IsWithRow}
 use Rattle.nx_piece.proofs.LocateLemmas.{ranged_take, ranged_drop}
@@ -14,13 +14,13 @@ use Rattle.nx_piece_edits.proofs.LeftLemmas.{less_is, not_less, ranged_append}
 pub record KeepsWider (index count : ℕ) (f g : Gapped) : Type 0 where
   pub trees : AreTrees f → AreTrees g
   pub width : gapped_width g ≡ gapped_width f
-  pub weighs : gapped_weight g ≡ gapped_weight f
+  pub sized : gapped_size g ≡ gapped_size f
   pub begins : BeginsNoGap f → BeginsNoGap g
   pub apart : 1 ≤ count → AreApart f → AreApart g
   pub counted : index < proxies_in f → proxies_in g + 1 ≡ proxies_in f + count
 
 pub wider_keeps : (index count : ℕ) (f : Gapped) → KeepsWider index count f (with_row index count f)
-wider_keeps index count End = record { trees = λ h. h; width = refl; weighs = refl; begins = λ h. h; apart = λ some h. h; counted = λ less. absurd (omega (arith, less)) }
+wider_keeps index count End = record { trees = λ h. h; width = refl; sized = refl; begins = λ h. h; apart = λ some h. h; counted = λ less. absurd (omega (arith, less)) }
 wider_keeps index count (Grow n b s) =
     elim (cases_lt index (proxies_in b)) [
       | inl here ↦
@@ -28,7 +28,7 @@ wider_keeps index count (Grow n b s) =
           subst (KeepsWider index count (Grow n b s)) (sym (less_is index (proxies_in b) (Grow n (with_row index count b) s) (Grow n b (with_row (index - proxies_in b) count s)) here)) (record {
             trees = λ h. h;
             width = refl;
-            weighs = let w = r.weighs in omega (arith, w);
+            sized = let w = r.sized in omega (arith, w);
             begins = λ h. tt;
             apart = λ some h. (r.apart some h.0, h.1);
             counted = λ less. let c = r.counted here in omega (arith, c);
@@ -38,7 +38,7 @@ wider_keeps index count (Grow n b s) =
           subst (KeepsWider index count (Grow n b s)) (sym (not_less index (proxies_in b) (Grow n (with_row index count b) s) (Grow n b (with_row (index - proxies_in b) count s)) behind)) (record {
             trees = λ h. r.trees h;
             width = ap (λ (w : ℕ). 1 + w) r.width;
-            weighs = let w = r.weighs in omega (arith, w);
+            sized = let w = r.sized in omega (arith, w);
             begins = λ h. tt;
             apart = λ some h. (h.0, r.apart some h.1);
             counted = λ less. let c = r.counted (omega (arith, less, behind)) in omega (arith, c);
@@ -50,7 +50,7 @@ wider_keeps index count (Gap had s) =
           subst (KeepsWider index count (Gap had s)) (sym (less_is index had (Gap (had - 1 + count) s) (Gap had (with_row (index - had) count s)) here)) (record {
             trees = λ h. absurd h;
             width = refl;
-            weighs = refl;
+            sized = refl;
             begins = λ h. absurd h;
             apart = λ some h. ((omega (arith, some)), h.1, h.2);
             counted = λ less. omega (arith, here);
@@ -60,7 +60,7 @@ wider_keeps index count (Gap had s) =
           subst (KeepsWider index count (Gap had s)) (sym (not_less index had (Gap (had - 1 + count) s) (Gap had (with_row (index - had) count s)) behind)) (record {
             trees = λ h. absurd h;
             width = ap (λ (w : ℕ). 1 + w) r.width;
-            weighs = r.weighs;
+            sized = r.sized;
             begins = λ h. absurd h;
             apart = λ some h. (h.0, r.begins h.1, r.apart some h.2);
             counted = λ less. let c = r.counted (omega (arith, less, behind)) in omega (arith, c);
@@ -82,7 +82,7 @@ row_put piece index row roots proxies within some body is = record {
       let counted = v.body.counted in
       let now = k.counted (omega (arith, within, counted)) in
       let width = k.width in
-      let weighs = k.weighs in
+      let sized = k.sized in
       let one = v.body.some in
       let few = v.body.few in
       let light = v.body.light in
@@ -91,7 +91,7 @@ row_put piece index row roots proxies within some body is = record {
           trees = k.trees v.body.trees;
           some = omega (arith, width, one);
           few = omega (arith, width, few);
-          light = omega (arith, weighs, light);
+          light = omega (arith, sized, light);
           apart = k.apart some v.body.apart;
           counted = omega (arith, now, counted, sum);
           few_proxies = omega (arith, sum, room);

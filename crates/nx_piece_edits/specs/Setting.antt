@@ -3,7 +3,7 @@ use Rattle.std.specs.Prelude.{◌≡◌, ℕ, zero, suc, ◌+◌, ◌-◌, ◌�
 use Rattle.nx_weights.specs.Weight.{weight}
 use Rattle.nx_piece.specs.declared.piece.Piece.{Piece}
 use Rattle.nx_piece.specs.declared.piece.Proxy.{Proxy}
-use Rattle.nx_piece.specs.Gapped.{Gapped, GappedTree, End, Grow, Gap, gapped_weight, proxies_in}
+use Rattle.nx_piece.specs.Gapped.{Gapped, GappedTree, End, Grow, Gap, item_slots, gapped_size, gapped_weight, proxies_in}
 use Rattle.nx_piece.specs.Locate.{Inside, roots_of, reached_in}
 use Rattle.nx_piece.specs.Valid.{IsPiece, IsValidPiece}
 
@@ -28,7 +28,7 @@ with_content content tree = record { node = record tree.node { content = content
 abbrev pub LeadsInside : Piece → ℕ → List ℕ → Type 0
 LeadsInside piece member path = (tree : GappedTree) × (first : ℕ) × (reached_in piece member path ≡ Inside tree first)
 
--- The node that the path leads to has another content. A valid piece may be split then, where the node weighs no more than a part may, and is valid where it is as light as that.
+-- The node that the path leads to has another content. A valid piece may be split then, where the node's item takes no more slots than a piece's may, and is valid where all of them take no more.
 pub record IsWithContent (piece : Piece) (member : ℕ) (path content : List ℕ) (changed : Piece) : Type 0 where
   pub tree : GappedTree
   pub first : ℕ
@@ -36,5 +36,6 @@ pub record IsWithContent (piece : Piece) (member : ℕ) (path content : List ℕ
   pub body : changed.body.roots ≡ with_tree member path (with_content content tree) piece.body.roots piece.proxies
   pub proxies : changed.proxies ≡ piece.proxies
   pub weighs : gapped_weight changed.body.roots + weight tree.node ≡ gapped_weight piece.body.roots + weight (record tree.node { content = content })
-  pub heavy : IsValidPiece piece → weight (record tree.node { content = content }) ≤ 256 → IsPiece changed
-  pub valid : IsValidPiece piece → gapped_weight changed.body.roots ≤ 256 → IsValidPiece changed
+  pub sized : gapped_size changed.body.roots + item_slots tree.node ≡ gapped_size piece.body.roots + item_slots (record tree.node { content = content })
+  pub heavy : IsValidPiece piece → item_slots (record tree.node { content = content }) ≤ 256 → IsPiece changed
+  pub valid : IsValidPiece piece → gapped_size changed.body.roots ≤ 256 → IsValidPiece changed

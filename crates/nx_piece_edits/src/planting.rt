@@ -19,8 +19,8 @@ use std::alloc::Global;
 use std::mem;
 
 /// The piece with the node as a leaf at the position among the children of the node that the path leads to, which begins at
-/// the root `member`. The position falls between children there, as `fall_at` tells. A valid piece stays one where it weighs
-/// 256 slots at most then, and may be split where the node weighs no more than that.
+/// the root `member`. The position falls between children there, as `fall_at` tells. A valid piece stays one where its
+/// nodes take 256 slots at most then, and may be split where the node takes no more than that.
 ///
 /// Errors: `NoMemory`. The piece and the node are dropped then.
 pub fn plant_node(

@@ -10,8 +10,8 @@ use nx_piece::{Body, Items, Piece, PieceTree, PieceTrees, Proxies, root_at};
 use nx_tree::Node;
 use std::alloc::Global;
 
-/// The piece with the node as a root at the index `member`, which is a leaf. A valid piece stays one where it weighs 256
-/// slots at most then and has 256 roots at most, and may be split where the node weighs no more than that.
+/// The piece with the node as a root at the index `member`, which is a leaf. A valid piece stays one where its nodes
+/// take 256 slots at most then and it has 256 roots at most, and may be split where the node takes no more than that.
 ///
 /// Errors: `NoMemory`. The piece and the node are dropped then.
 pub fn plant_root(alloc: Global, piece: Piece, member: u16, node: Node) -> Result<Piece, NoMemory>

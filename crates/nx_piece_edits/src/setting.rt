@@ -27,8 +27,8 @@ pub(crate) enum NodeEdit {
 }
 
 /// The piece with this content of the node that the path leads to, which begins at the root `member`: to a tree of the
-/// piece, as `locate` tells. A valid piece stays one where it weighs 256 slots at most then, and may be split where that
-/// node does. It takes no memory.
+/// piece, as `locate` tells. A valid piece stays one where its nodes take 256 slots at most then, and may be split where
+/// that node does. It takes no memory.
 pub fn set_content(alloc: Global, piece: Piece, member: u16, path: &[u32], content: Bytes) -> Piece
     requires piece { IsPiece piece }
     requires leads { LeadsInside piece member path.now }

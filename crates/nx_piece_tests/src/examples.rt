@@ -5,7 +5,7 @@ ghost use Rattle.nx_piece.specs.Valid.{IsValidInline};
 use nx_lists::NoMemory;
 use nx_piece::{
     Item, ItemView, ItemsView, Located, LocatedView, PieceView, Proxy, Stored, StoredView,
-    TreeView, decode, encode, find, locate, view, weight,
+    TreeView, decode, encode, find, locate, size, view, weight,
 };
 use nx_tree::Kind;
 use std::alloc::Global;
@@ -22,7 +22,7 @@ const DOCUMENT: [u8; 72] = [
 ];
 
 #[test]
-#[tactic(auto, using(nx_piece::proofs::Laws::are_short))]
+#[tactic(auto, using(nx_piece::proofs::Laws::are_short, nx_piece::proofs::Laws::little_weight))]
 fn small_document(rt: HostRuntime) -> Result<(), Fail> {
     let alloc = rt.alloc();
     let mut bytes = DOCUMENT;
@@ -34,6 +34,7 @@ fn small_document(rt: HostRuntime) -> Result<(), Fail> {
         panic!(rt; "the proxies stand in a chain");
     };
     assert_eq!(rt; weight(&piece.body), 7);
+    assert_eq!(rt; size(&piece.body), 7);
     assert!(rt; piece.proxies.is_empty());
     let [root] = piece.body.roots.as_slice() else {
         panic!(rt; "there is not one root");

@@ -8,6 +8,7 @@ use std::alloc::Global;
 pub(crate) struct Made {
     pub(crate) bytes: Vec<u8>,
     pub(crate) weight: u32,
+    pub(crate) size: u32,
     pub(crate) roots: u32,
     // How many children the first root has.
     pub(crate) children: u32,
@@ -21,11 +22,12 @@ struct Parts {
     proxies: Vec<u8>,
     proxy_count: u32,
     weight: u32,
+    size: u32,
     // As many proxies as a run has at most.
     longest_run: u32,
 }
 
-// A piece of one to three roots that weighs at most so much, 3 at least, and has at most so many proxies in a
+// A piece of one to three roots whose nodes take at most so many slots, 3 at least, and has at most so many proxies in a
 // run.
 pub(crate) fn make(
     alloc: Global,
@@ -39,6 +41,7 @@ pub(crate) fn make(
         proxies: Vec::new(alloc),
         proxy_count: 0,
         weight: 0,
+        size: 0,
         longest_run,
     };
     let mut room = random.below(most.saturating_sub(2)).saturating_add(3);
@@ -53,10 +56,12 @@ pub(crate) fn make(
         }
     }
     let weight = parts.weight;
+    let size = parts.size;
     let bytes = record(alloc, random, parts, roots)?;
     Ok(Made {
         bytes,
         weight,
+        size,
         roots,
         children,
     })
@@ -91,7 +96,7 @@ fn record(
     Ok(bytes)
 }
 
-// A tree that weighs at most so much, with at most so many levels below it; how many children it has.
+// A tree that takes at most so many slots, with at most so many levels below it; how many children it has.
 fn push_tree(
     alloc: Global,
     random: &mut Random,
@@ -143,6 +148,7 @@ fn push_node(random: &mut Random, parts: &mut Parts, slots: u32) -> Result<(), N
     }
     parts.item_count = parts.item_count.saturating_add(1);
     parts.weight = parts.weight.saturating_add(slots);
+    parts.size = parts.size.saturating_add(slots);
     Ok(())
 }
 

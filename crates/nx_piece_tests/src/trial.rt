@@ -6,7 +6,7 @@ use crate::random::Random;
 use nx_lists::NoMemory;
 use nx_piece::{
     Located, LocatedView, PieceView, Stored, StoredView, children, count_children, decode, encode,
-    find, locate, view, weight,
+    find, locate, size, view, weight,
 };
 use std::alloc::Global;
 use std::process::Abort;
@@ -19,16 +19,22 @@ fn check(rt: &impl Abort, alloc: Global, made: &Made) -> Result<(), NoMemory> {
     check_view(rt, alloc, made)
 }
 
-// A piece has the bytes that it was read from, and weighs what was written.
-#[tactic(auto, using(nx_piece::proofs::Laws::are_short))]
+// A piece has the bytes that it was read from, and weighs and takes what was written.
+#[tactic(auto, using(nx_piece::proofs::Laws::are_short, nx_piece::proofs::Laws::little_weight))]
 fn check_copy(rt: &impl Abort, alloc: Global, made: &Made) -> Result<(), NoMemory> {
     let Some(stored) = decode(alloc, made.bytes.as_slice())? else {
         panic!(rt; "no piece was read");
     };
     assert_eq!(rt; encode(alloc, &stored)?.as_slice(), made.bytes.as_slice());
     match &stored {
-        Stored::Inline(piece) => assert_eq!(rt; weight(&piece.body), made.weight),
-        Stored::Chained { body, .. } => assert_eq!(rt; weight(body), made.weight),
+        Stored::Inline(piece) => {
+            assert_eq!(rt; weight(&piece.body), made.weight);
+            assert_eq!(rt; size(&piece.body), made.size);
+        }
+        Stored::Chained { body, .. } => {
+            assert_eq!(rt; weight(body), made.weight);
+            assert_eq!(rt; size(body), made.size);
+        }
     }
     Ok(())
 }
@@ -70,9 +76,13 @@ fn check_view(rt: &impl Abort, alloc: Global, made: &Made) -> Result<(), NoMemor
     match &stored {
         StoredView::Inline(piece) => {
             assert_eq!(rt; piece.body.weight(), made.weight);
+            assert_eq!(rt; piece.body.size(), made.size);
             check_children(rt, piece, made);
         }
-        StoredView::Chained { body, .. } => assert_eq!(rt; body.weight(), made.weight),
+        StoredView::Chained { body, .. } => {
+            assert_eq!(rt; body.weight(), made.weight);
+            assert_eq!(rt; body.size(), made.size);
+        }
     }
     Ok(())
 }

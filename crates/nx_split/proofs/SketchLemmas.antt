@@ -6,9 +6,10 @@ use Rattle.nx_matrix.specs.declared.rule.Entry.TheVariants.{Standalone, Cluster,
 use Rattle.nx_matrix.specs.declared.rule.Rule.{Rule}
 use Rattle.nx_piece.specs.declared.piece.Piece.{Piece}
 use Rattle.nx_piece.specs.declared.piece.Proxy.{Proxy}
-use Rattle.nx_piece.specs.Gapped.{Gapped, End, Grow, Gap, gapped_weight, proxies_in}
+use Rattle.nx_piece.specs.Gapped.{Gapped, End, Grow, Gap, gapped_size, gapped_weight, proxies_in}
 use Rattle.nx_piece.specs.Valid.{IsPiece}
 use Rattle.nx_sketch.specs.declared.spot.Spot.{Spot}
+use Rattle.nx_piece.proofs.SizeLemmas.{weight_within}
 use Rattle.nx_sketch.specs.Sketch.{sketch_weight, spots_of, AreRising, AreUnclustered, IsSketch, IsFlat}
 use Rattle.nx_sketch.specs.Sketch.{AreSpotsAtMost as AreLight}
 use Rattle.nx_division.specs.Divided.{IsSplittable}
@@ -57,8 +58,8 @@ piece_is_light k rules above piece h = light k rules piece.proxies (asked_of_roo
 
 piece_is_small : (rules : List Rule) (above : Option Node) (piece : Piece) → IsPiece piece → sketch_weight (sketch_of rules above piece) < 2 ^ 24
 piece_is_small rules above piece h =
-    let light : gapped_weight piece.body.roots ≤ 512 = h.body.light in
-    omega (arith, sketch_weight-sketch rules piece.proxies (asked_of_root rules above) 0 0 piece.body.roots)
+    let small : gapped_size piece.body.roots ≤ 512 = h.body.light in
+    omega (arith, small, weight_within piece.body.roots, sketch_weight-sketch rules piece.proxies (asked_of_root rules above) 0 0 piece.body.roots)
 
 pub piece_is_flat : (rules : List Rule) (above : Option Node) (piece : Piece) (spots : List Spot) → IsPiece piece → spots ≡ spots_of (sketch_of rules above piece) → IsFlat spots
 piece_is_flat rules above piece spots h is = record { sketch = sketch_of rules above piece; is = is; small = piece_is_small rules above piece h }

@@ -22,7 +22,7 @@ use std::alloc::Global;
 /// weight times `target`, divided by 100 and rounded down. A node is of the separator where this point lies
 /// within its subtree, of which only the nodes of the piece count, and the subtree weighs more than
 /// `tolerance`. No rule and no node above the piece matters. The piece has to be one that may be stored,
-/// but it may weigh up to 512 and have up to 257 roots.
+/// but its nodes may take up to 512 slots, and it may have up to 257 roots.
 ///
 /// Errors: `NoMemory`.
 pub fn separator(
@@ -51,8 +51,8 @@ pub fn separator(
 /// children as the document does, a proxy as as many as it has roots. Roots alone below the helper
 /// are a `Run` with the empty path.
 ///
-/// The piece has to be one that may be stored, but it may weigh up to 512 and have up to 257 roots; it has
-/// to weigh more than `k`, and none of its nodes may.
+/// The piece has to be one that may be stored, but its nodes may take up to 512 slots, and it may have up to 257
+/// roots; it has to weigh more than `k`, and none of its nodes may.
 ///
 /// Errors: `NoMemory`.
 pub fn split(

@@ -3,7 +3,7 @@ ghost use Rattle.std.specs.Prelude.{◌≡◌, ◌+◌, ◌<◌, ◌≤◌, ◌^
 ghost use Rattle.std.specs.List.{sum_by};
 ghost use Rattle.std.specs.Option.{option_copied};
 ghost use Rattle.nx_weights.specs.Weight.{weight};
-ghost use Rattle.nx_piece.specs.Gapped.{gapped_weight, proxies_in};
+ghost use Rattle.nx_piece.specs.Gapped.{gapped_size, gapped_weight, item_slots, proxies_in};
 ghost use Rattle.nx_piece.specs.Valid.{HaveRoots, IsPiece};
 ghost use Rattle.nx_sketch.specs.Sketch.{spots_of};
 ghost use Rattle.nx_split.specs.Piece.{asked_of_root, sketch_of, tree_sketch};
@@ -13,7 +13,6 @@ use nx_matrix::{Entry, Matrix};
 use nx_piece::{Item, Piece, PieceTree, Proxy};
 use nx_sketch::Spot;
 use nx_tree::Node;
-use nx_weights::weight;
 use std::alloc::Global;
 
 // What the nodes of a tree weigh, and how many proxies stand before it and in it.
@@ -71,13 +70,13 @@ fn push_tree(
     requires fits { first + proxies_in tree.now.below ≤ length proxies.now }
     requires few { length proxies.now ≤ 524288 }
     requires ranged { HaveRoots proxies.now }
-    requires light { weight tree.now.node + gapped_weight tree.now.below ≤ 512 }
+    requires small { item_slots tree.now.node + gapped_size tree.now.below ≤ 512 }
     ensures spots { IfOk result (λ _. spots.new.items ≡ spots.old.items ++ spots_of (tree_sketch matrix.now proxies.now entry first position tree.now)) }
     ensures weight { IfOk result (λ passed. passed.weight ≡ weight tree.now.node + gapped_weight tree.now.below) }
     ensures proxies { IfOk result (λ passed. passed.proxies ≡ first + proxies_in tree.now.below) }
 {
     let place = spots.len();
-    let weight = weight(&tree.node);
+    let weight = tree.weight();
     let mut own = Spot {
         position,
         weight,

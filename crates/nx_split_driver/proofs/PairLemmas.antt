@@ -2,14 +2,15 @@
 use Rattle.std.proofs.Common.{◌≡◌, ◌≤◌, List, [], ◌∷◌, ◌++◌, length, sym, ap, subst, arith}
 use Rattle.nx_piece.specs.declared.piece.Piece.{Piece}
 use Rattle.nx_piece.specs.declared.piece.Proxy.{Proxy}
-use Rattle.nx_piece.specs.Gapped.{Gapped, GappedTree, End, Grow, Gap, gapped_weight, grown_of, proxies_in}
+use Rattle.nx_piece.specs.Gapped.{Gapped, GappedTree, End, Grow, Gap, gapped_size, grown_of, proxies_in}
 use Rattle.nx_piece.specs.Valid.{AreApart, IsPiece, IsValidInline}
+use Rattle.nx_piece.proofs.SizeLemmas.{item_heavy}
 use Rattle.nx_split.specs.Piece.{AreGappedAtMost}
 use Rattle.nx_split_driver.specs.Half.{IsHalf}
 
-light_all : (f : Gapped) → gapped_weight f ≤ 256 → AreGappedAtMost 256 f
+light_all : (f : Gapped) → gapped_size f ≤ 256 → AreGappedAtMost 256 f
 light_all End h = tt
-light_all (Grow n b s) h = (omega arith, light_all b (omega arith), light_all s (omega arith))
+light_all (Grow n b s) h = (omega (arith, item_heavy n), light_all b (omega arith), light_all s (omega arith))
 light_all (Gap c s) h = light_all s h
 
 -- the piece of both
@@ -31,14 +32,14 @@ pub pair_is_light : (a b : GappedTree) (roots : Gapped) → IsHalf a → IsHalf 
 pair_is_light a b roots h k is =
     let x = h.light in
     let y = k.light in
-    subst (AreGappedAtMost 256) (sym is) (omega arith, light_all a.below (omega arith), (omega arith, light_all b.below (omega arith), tt))
+    subst (AreGappedAtMost 256) (sym is) (omega (arith, item_heavy a.node), light_all a.below (omega arith), (omega (arith, item_heavy b.node), light_all b.below (omega arith), tt))
 
 pub root_is_half : (roots : Gapped) (proxies : List Proxy) (t : GappedTree) → IsValidInline roots proxies → length proxies ≡ 0 → roots ≡ Grow t.node t.below End → IsHalf t
 root_is_half roots proxies t valid none all =
     let body = valid.body in
     let light = body.light in
     let counted = body.counted in
-    let w = ap gapped_weight all in
+    let w = ap gapped_size all in
     let p = ap proxies_in all in
     record { light = omega arith; apart = (subst AreApart all body.apart).0; own = omega arith }
 

@@ -1,6 +1,6 @@
 //! A program that splits a piece again and again, to be timed. The piece is the record of its standard input
 //! beside itself; its words say how often, and how many rules the matrix has.
-#![tactic(auto, using(nx_piece::proofs::Laws::are_short))]
+#![tactic(auto, using(nx_piece::proofs::Laws::are_short, nx_piece::proofs::Laws::little_weight))]
 
 mod pieces;
 mod rules;

@@ -108,7 +108,7 @@ pub(crate) fn split_of(
 }
 
 // The split of a piece, where it may be split.
-#[tactic(auto, using(nx_piece::proofs::Laws::inline_is_piece, nx_piece::proofs::Laws::are_short))]
+#[tactic(auto, using(nx_piece::proofs::Laws::inline_is_piece, nx_piece::proofs::Laws::are_short, nx_piece::proofs::Laws::little_weight))]
 fn split_piece(
     alloc: Global,
     piece: &Piece,
@@ -147,7 +147,7 @@ fn is_light(k: u32, tree: &PieceTree) -> bool
     requires { HasShortNodes tree.now }
     ensures { IsTrue result → IsTreeAtMost k tree.now }
 {
-    if nx_weights::weight(&tree.node) > k {
+    if tree.weight() > k {
         return false;
     }
     for item in tree.children.as_slice() {

@@ -6,7 +6,7 @@ use Rattle.nx_holdings.specs.Holdings.{Held, chain_count}
 use Rattle.nx_holdings.specs.Laws.{IsAmong, pages_of_list, pages_of_lists}
 use Rattle.nx_piece.specs.declared.piece.Piece.{Piece}
 use Rattle.nx_piece.specs.declared.piece.Stored.TheVariants.{Inline, Chained}
-use Rattle.nx_piece.specs.Gapped.{Gapped, End, Grow, Gap, gapped_weight, slots_in}
+use Rattle.nx_piece.specs.Gapped.{Gapped, End, Grow, Gap, gapped_size, slots_in}
 use Rattle.nx_piece.specs.Gapped as gapped
 use Rattle.nx_piece.specs.Valid.{AreApart, AreTrees, BeginsNoGap, IsValidChained}
 use Rattle.nx_piece.proofs.BodyLemmas.{proxies_length}
@@ -20,22 +20,22 @@ use Rattle.nx_layouts.proofs.PlaceLemmas.{one_place}
 use Rattle.nx_state.specs.Stands.{StoredDocument, IsStoredIn, record_places, all_places}
 
 -- the items of a piece: each gap stands before a node, behind one, or below one
-slots_few : (f : Gapped) → AreApart f → (slots_in f ≤ 3 * gapped_weight f + 1) × (BeginsNoGap f → slots_in f ≤ 3 * gapped_weight f)
+slots_few : (f : Gapped) → AreApart f → (slots_in f ≤ 3 * gapped_size f + 1) × (BeginsNoGap f → slots_in f ≤ 3 * gapped_size f)
 slots_few End h = (omega arith, λ _. omega arith)
 slots_few (Grow n b s) h =
-    let below : slots_in b ≤ 3 * gapped_weight b + 1 = (slots_few b h.0).0 in
-    let beside : slots_in s ≤ 3 * gapped_weight s + 1 = (slots_few s h.1).0 in
+    let below : slots_in b ≤ 3 * gapped_size b + 1 = (slots_few b h.0).0 in
+    let beside : slots_in s ≤ 3 * gapped_size s + 1 = (slots_few s h.1).0 in
     (omega (arith, below, beside), λ _. omega (arith, below, beside))
 slots_few (Gap c s) h =
-    let beside : slots_in s ≤ 3 * gapped_weight s = (slots_few s h.2).1 h.1 in
+    let beside : slots_in s ≤ 3 * gapped_size s = (slots_few s h.2).1 h.1 in
     (omega (arith, beside), λ gap. absurd gap)
 
 -- no gap stands behind the last root
-root_slots : (f : Gapped) → AreApart f → AreTrees f → 1 ≤ gapped.gapped_width f → slots_in f + 1 ≤ 3 * gapped_weight f
+root_slots : (f : Gapped) → AreApart f → AreTrees f → 1 ≤ gapped.gapped_width f → slots_in f + 1 ≤ 3 * gapped_size f
 root_slots End h trees some = absurd (omega (arith, some))
-root_slots (Grow n b End) h trees some = let below : slots_in b ≤ 3 * gapped_weight b + 1 = (slots_few b h.0).0 in omega (arith, below)
+root_slots (Grow n b End) h trees some = let below : slots_in b ≤ 3 * gapped_size b + 1 = (slots_few b h.0).0 in omega (arith, below)
 root_slots (Grow n b (Grow m d s)) h trees some =
-    let below : slots_in b ≤ 3 * gapped_weight b + 1 = (slots_few b h.0).0 in
+    let below : slots_in b ≤ 3 * gapped_size b + 1 = (slots_few b h.0).0 in
     let beside = root_slots (Grow m d s) h.1 trees (omega arith) in
     omega (arith, below, beside)
 root_slots (Grow n b (Gap c s)) h trees some = absurd trees

@@ -1,13 +1,22 @@
 -- The sums of weights, and the list of them as it grows.
+use Rattle.std.specs.Int.{div_ceil}
 use Rattle.std.proofs.Common.{◌≡◌, ℕ, ◌+◌, ◌*◌, ◌<◌, ◌≤◌, List, [], ◌∷◌, ◌++◌, length, drop, sym, ap, ◌∙◌, arith, append_assoc, slice_set}
 use Rattle.std.proofs.lemmas.List.{append-nil, length-append}
 use Rattle.std.proofs.Math.Seq.{set-append_seam}
 use Rattle.nx_tree.specs.declared.node.Node.{Node}
 use Rattle.nx_tree.specs.Forest.{OrderedTree, Forest, Empty, Plant, forest_of, nodes}
-use Rattle.nx_weights.specs.Weight.{weight, total, weights_in, tree_weight, tree_weights, IsShort, AreShort, IsWithinLimits}
+use Rattle.nx_weights.specs.Weight.{weight, weight_of, total, weights_in, tree_weight, tree_weights, IsShort, AreShort, IsWithinLimits}
+
+-- a node takes one slot at least
+pub weight_least : (n : Node) → 1 ≤ weight n
+weight_least n = omega arith
+
+-- and no more than one and those that its name and its content fill together
+pub weight_of_most : (name content : ℕ) → weight_of name content ≤ 1 + div_ceil (name + content) 8
+weight_of_most name content = omega arith
 
 pub weight_most : (n : Node) → IsShort n → weight n ≤ 131073
-weight_most n h = omega arith
+weight_most n h = omega (arith, weight_of_most (length n.name) (length n.content))
 
 pub total_most : (f : Forest) → AreShort f → total f ≤ 131073 * nodes f
 total_most Empty h = omega arith

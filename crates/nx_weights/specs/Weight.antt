@@ -8,9 +8,13 @@ use Rattle.nx_tree.specs.Forest.{OrderedTree, Forest, Empty, Plant, nodes}
 use Rattle.nx_tree.specs.Edit.{at}
 use Rattle.nx_tree.specs.Document.{longest_node, most_nodes, deepest, depth}
 
--- the slots of 8 bytes that a node takes: one, and those that its name and its content fill together
+-- the slots of 8 bytes that a node takes whose name and content have so many bytes: one, and those that they fill together
+abbrev pub weight_of : (name content : ℕ) → ℕ
+weight_of name content = 1 + div_ceil (name + content) 8
+
+-- the slots of 8 bytes that a node takes
 abbrev pub weight : Node → ℕ
-weight node = 1 + div_ceil (length node.name + length node.content) 8
+weight node = weight_of (length node.name) (length node.content)
 
 -- the sum of the weights of the nodes of a forest
 abbrev pub total : Forest → ℕ

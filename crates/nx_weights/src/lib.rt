@@ -10,6 +10,6 @@ mod sums;
 mod weights;
 
 pub use heavy::{HeavyNode, first_heavy};
-pub use node::weight;
+pub use node::{weight, weight_of};
 pub use sums::subtree_weights;
 pub use weights::Weights;

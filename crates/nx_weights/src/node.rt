@@ -1,16 +1,24 @@
 // The weight of one node.
-ghost use Rattle.std.specs.Prelude.{◌≡◌};
-ghost use Rattle.nx_weights.specs.Weight.{weight, IsShort};
+ghost use Rattle.std.specs.Prelude.{◌≡◌, ◌≤◌};
+ghost use Rattle.nx_weights.specs.Weight.{weight, weight_of, IsShort};
 
 use nx_tree::Node;
 
-/// The weight of the node without its children, in slots of 8 bytes: one slot, and those that its
-/// name and its content fill together. These may have at most 1,048,576 bytes together, as in a
-/// document. It takes no memory.
+/// The weight of a node without its children, in slots of 8 bytes, whose name and content have so many
+/// bytes: one slot, and those that they fill together. Each may have at most 1,048,576 bytes. It takes no memory.
+pub fn weight_of(name: u32, content: u32) -> u32
+    requires name { name ≤ 1048576 }
+    requires content { content ≤ 1048576 }
+    ensures { result ≡ weight_of name content }
+{
+    1 + (name + content).div_ceil(8)
+}
+
+/// The weight of the node without its children, in slots of 8 bytes (`weight_of`). Its name and its content may
+/// have at most 1,048,576 bytes together, as in a document. It takes no memory.
 pub fn weight(node: &Node) -> u32
     requires { IsShort node.now }
     ensures { result ≡ weight node.now }
 {
-    let bytes = node.name.len() + node.content.len();
-    1 + bytes.div_ceil(8) as u32
+    weight_of(node.name.len() as u32, node.content.len() as u32)
 }

@@ -3,7 +3,7 @@ use Rattle.nx_piece.specs.declared.piece.Piece.{Piece}
 use Rattle.nx_holdings.specs.declared.header.Settings.{Settings}
 use Rattle.nx_holdings.specs.declared.header.Header.{Header}
 use Rattle.nx_records.specs.Records.{LeavesRecords, settings_of}
-use Rattle.nx_piece.specs.Gapped.{gapped_width, gapped_weight}
+use Rattle.nx_piece.specs.Gapped.{gapped_width, gapped_size}
 use Rattle.nx_hold.specs.Changes.{place_of}
 use Rattle.nx_nav.specs.Parts.{HasNoInterval}
 use Rattle.nx_nav.proofs.RefusalLemmas.{is_damaged}
@@ -26,12 +26,12 @@ returns-then-root_count-roots-clause-refused g c =
 pub returns-clause-ok : goal.returns-clause-ok
 returns-clause-ok g c = λ members h as_many. interval_piece h c.in-Ok.piece c.in-Ok.ensures.ok.2
 
-pub returns-then-weight-settings-clause-refused : goal.returns-then-weight-settings-clause-refused
-returns-then-weight-settings-clause-refused g c =
+pub returns-then-size-settings-clause-refused : goal.returns-then-size-settings-clause-refused
+returns-then-size-settings-clause-refused g c =
     let same : LeavesRecords c.args.records.now c.view_piece.new.records = c.in-Ok.ensures.ok.1 in
     let most : c.settings.result.k ≡ (settings_of c.args.records.now).k = ap (λ (t : Settings). t.k) (c.settings.ensures ∙ ap (λ (h : Header). h.settings) same.head_stays) in
-    let weighs : c.weight.result ≡ gapped_weight c.in-Ok.piece.body.roots = c.weight.ensures ∙ ap (λ (p : Piece). gapped_weight p.body.roots) c.piece.view_is in
-    let heavy : (settings_of c.args.records.now).k < gapped_weight c.in-Ok.piece.body.roots = let more = c.if-weight-settings.true in omega arith in
-    is_damaged g.D.Disk ⊥ ⊥ (HasNoInterval g.D.Disk c.args.records.now c.args.disk.now (place_of c.args.rid) c.args.roots) {r0 = c.args.records.now} {r1 = c.view_piece.new.records} {r2 = c.damaged-then-weight-settings.new.records}
-    c.args.disk.now c.view_piece.new.disk c.damaged-then-weight-settings.result c.damaged-then-weight-settings.ensures.result c.in-Ok.ensures.ok.0 same c.damaged-then-weight-settings.ensures.ends
+    let takes : c.size.result ≡ gapped_size c.in-Ok.piece.body.roots = c.size.ensures ∙ ap (λ (p : Piece). gapped_size p.body.roots) c.piece.view_is in
+    let heavy : (settings_of c.args.records.now).k < gapped_size c.in-Ok.piece.body.roots = let more = c.if-size-settings.true in omega arith in
+    is_damaged g.D.Disk ⊥ ⊥ (HasNoInterval g.D.Disk c.args.records.now c.args.disk.now (place_of c.args.rid) c.args.roots) {r0 = c.args.records.now} {r1 = c.view_piece.new.records} {r2 = c.damaged-then-size-settings.new.records}
+    c.args.disk.now c.view_piece.new.disk c.damaged-then-size-settings.result c.damaged-then-size-settings.ensures.result c.in-Ok.ensures.ok.0 same c.damaged-then-size-settings.ensures.ends
     (no_light_interval c.args.roots c.in-Ok.piece c.in-Ok.ensures.ok.2 heavy)

@@ -275,7 +275,6 @@ tell_interval-loop-item-init g t c =
     let paused = c.in_ok-pause.ensures.ok in
     let roots : seen_items c.roots-items.result ≡ c.in_ok-piece.piece.body.roots = c.roots-items.ensures ∙ ap (λ (p : Piece). p.body.roots) c.piece.view_is in
     let proxies : c.as_slice-proxies.result.now ≡ c.in_ok-piece.piece.proxies = c.as_slice-proxies.ensures ∙ ap (λ (p : Piece). p.proxies) c.piece.view_is in
-    let weight : c.weight.result ≡ gapped_weight c.in_ok-piece.piece.body.roots = c.weight.ensures ∙ ap (λ (p : Piece). gapped_weight p.body.roots) c.piece.view_is in
     let valid = c.in_ok-piece.ensures.valid in
     let visits : Visits c.args.walk.now.visited (place_of c.args.rid ∷ []) c.visit.new.self = λ earlier were. was_new (HasVisited c.visit.new.self (earlier ++ place_of c.args.rid ∷ [])) (Contains earlier (place_of c.args.rid)) c.if-not-branch.false (c.in_ok-visit.ensures earlier were) in
     record {
@@ -285,7 +284,7 @@ tell_interval-loop-item-init g t c =
       rooted = subst HaveRoots (sym proxies) valid.ranged;
       way = subst (λ (f : Gapped). IsOnWay g.D.Disk g.T.Tells.Told (IsIntervalAt g.D.Disk c.args.records.now c.args.disk.now (place_of c.args.rid) c.args.roots) (AreOf g.D.Disk c.piece_at.new.records c.piece_at.new.disk f c.as_slice-proxies.result.now) c.args.walk.now.teller c.args.disk.now c.args.walk.now.left c.args.walk.now.visited c.begin.new.self c.piece_at.new.disk c.args.walk.now.left c.visit.new.self) (sym roots)
           (subst (λ (ps : List Proxy). IsOnWay g.D.Disk g.T.Tells.Told (IsIntervalAt g.D.Disk c.args.records.now c.args.disk.now (place_of c.args.rid) c.args.roots) (AreOf g.D.Disk c.piece_at.new.records c.piece_at.new.disk c.in_ok-piece.piece.body.roots ps) c.args.walk.now.teller c.args.disk.now c.args.walk.now.left c.args.walk.now.visited c.begin.new.self c.piece_at.new.disk c.args.walk.now.left c.visit.new.self) (sym proxies)
-          (interval_begins (teller g) c.args.records.now c.piece_at.new.records (place_of c.args.rid) c.args.roots paused c.piece_at.ensures.still c.args.walk.now.left c.weight.result c.args.walk.now.visited c.visit.new.self c.in_ok-piece.piece c.begin.new.self visits c.in_ok-piece.ensures.stays.1 c.in_ok-piece.ensures.ok weight (c.in_ok-begin.ensures c.piece_at.new.disk)));
+          (interval_begins (teller g) c.args.records.now c.piece_at.new.records (place_of c.args.rid) c.args.roots paused c.piece_at.ensures.still c.args.walk.now.left _ c.args.walk.now.visited c.visit.new.self c.in_ok-piece.piece c.begin.new.self visits c.in_ok-piece.ensures.stays.1 c.in_ok-piece.ensures.ok (ap (λ (p : Piece). gapped_weight p.body.roots) c.piece.view_is) (c.in_ok-begin.ensures c.piece_at.new.disk)));
     }
 
 pub tell_interval-loop-item-preserved-in_ok-proxies : goal.tell_interval-loop-item-preserved-in_ok-proxies

@@ -16,7 +16,7 @@ loop-preserved t c =
     elim c.match-take_run.branch [
       | in-Some-take_run w ↦
           let taken = w.in-Some-take_run.ensures.1 in
-          let weight = taken.room in let items = taken.items in
+          let slots = taken.room in let items = taken.items in
           let long = w.push_reserved-in-Some-take_run.ensures.len in let capacity = w.push_reserved-in-Some-take_run.ensures.capacity in
           rw (w.flat-is, w.rest-is, w.left-is, w.after_run-is)
           (record {
@@ -28,7 +28,7 @@ loop-preserved t c =
           })
       | in_default-take_run+in-Some-take_leaf w ↦
           let taken = w.in-Some-take_leaf.ensures in
-          let weight = taken.room in let items = taken.items in
+          let slots = taken.room in let items = taken.items in
           let long = w.push_reserved-in-Some-take_leaf.ensures.len in let capacity = w.push_reserved-in-Some-take_leaf.ensures.capacity in
           rw (w.flat-is, w.rest-is, w.left-is, w.after_run-is)
           (record {
@@ -41,7 +41,7 @@ loop-preserved t c =
       | in_default-take_run+in_default-take_leaf+in-Some-read_tree w ↦
           let tree = w.in-Some-read_tree.ensures.tree in
           let taken = tree.2 in
-          let weight = taken.room in let items = taken.items in
+          let slots = taken.room in let items = taken.items in
           let long = pushed_length tree.1 in
           let before = c.loop.flat.ok.0 in let now = w.read_tree.new.flat.ok.0 in
           let capacity = w.in-Some-read_tree.ensures.capacity in

@@ -1,5 +1,5 @@
 use Rattle.std.proofs.Common.{arith, refl, ◌∙◌, ap}
-use Rattle.nx_piece.specs.Gapped.{gapped_width, gapped_weight}
+use Rattle.nx_piece.specs.Gapped.{gapped_width, gapped_size}
 use Rattle.nx_piece.proofs.BodyLemmas.{bad_roots, bad_items, bad_sums, body_read}
 use Rattle.nx_piece.proofs.PushLemmas.{all_pushed}
 use Rattle.nx_piece.proofs.reading.read_body.Goals as goal
@@ -25,10 +25,10 @@ new-body-requires-clause-roots c =
     let read = c.in-Some-read_roots.ensures in
     let wide = read.4 in let same = ap gapped_width (all_pushed c.in_ok-flat.ensures.items read.1) in omega arith
 
-pub new-body-requires-clause-weight : goal.new-body-requires-clause-weight
-new-body-requires-clause-weight c =
+pub new-body-requires-clause-size : goal.new-body-requires-clause-size
+new-body-requires-clause-size c =
     let read = c.in-Some-read_roots.ensures in
-    let light = read.2.room in let same = ap gapped_weight (all_pushed c.in_ok-flat.ensures.items read.1) in omega arith
+    let light = read.2.room in let same = ap gapped_size (all_pushed c.in_ok-flat.ensures.items read.1) in omega arith
 
 pub returns : goal.returns
 returns c =

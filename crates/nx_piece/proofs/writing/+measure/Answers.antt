@@ -1,7 +1,6 @@
 use Rattle.std.proofs.Common.{rules, arith, ap, ◌∙◌, ◌≤◌, ◌+◌, suc}
 use Rattle.std.proofs.lemmas.List.{drop_all}
-use Rattle.nx_weights.specs.Weight.{weight}
-use Rattle.nx_piece.specs.Gapped.{GappedTree, item_count}
+use Rattle.nx_piece.specs.Gapped.{GappedTree, item_count, item_slots}
 use Rattle.nx_piece.specs.Items.{gapped_of}
 use Rattle.nx_piece.proofs.WalkLemmas.{next_tree, next_run, next_falls, next_small, first_small, tree_most, fits_tree, fits_gap, measured_start, measured_tree, measured_gap, measured_end}
 use Rattle.nx_piece.proofs.writing.+measure.Goals as goal
@@ -9,7 +8,7 @@ use Rattle.nx_piece.proofs.writing.+measure.Goals.{in-Tree, in-Run}
 
 pub loop-item-init : goal.loop-item-init
 loop-item-init t c =
-    measured_start c.weight.result _ c.args.tree.now (c.weight.ensures ∙ ap (λ (x : GappedTree). weight x.node) c.tree.view_is) (c.as_slice-item-items.ensures ∙ ap (λ (x : GappedTree). x.below) c.tree.view_is) c.requires
+    measured_start c.size.result _ c.args.tree.now c.size.ensures (c.as_slice-item-items.ensures ∙ ap (λ (x : GappedTree). x.below) c.tree.view_is) c.requires
 
 pub measure-more-requires : goal.measure-more-requires
 measure-more-requires t c =

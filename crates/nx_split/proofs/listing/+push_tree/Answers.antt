@@ -1,12 +1,12 @@
 use Rattle.std.proofs.Common.{rules, arith, ◌≡◌, ◌+◌, ◌-◌, ◌<◌, ◌≤◌, ◌^◌, ◌++◌, ℕ, List, suc, length, drop, take, refl, sym, ap, subst, ◌∙◌, vec_len}
 use Rattle.std.specs.List.{sum_by}
 use Rattle.std.proofs.lemmas.List.{drop_all}
-use Rattle.nx_weights.specs.Weight.{weight}
 use Rattle.nx_matrix.specs.declared.rule.Entry.{Entry}
 use Rattle.nx_piece.specs.declared.piece.Item.{Item}
 use Rattle.nx_piece.specs.declared.piece.Proxy.{Proxy}
-use Rattle.nx_piece.specs.Gapped.{GappedTree, item_count, gapped_weight, proxies_in}
+use Rattle.nx_piece.specs.Gapped.{GappedTree, item_count, item_slots, gapped_size, gapped_weight, proxies_in}
 use Rattle.nx_piece.specs.Items.{gapped_of}
+use Rattle.nx_piece.proofs.SizeLemmas.{tree_within}
 use Rattle.nx_piece.proofs.WalkLemmas.{next_tree, next_run, next_falls}
 use Rattle.nx_piece.proofs.LocateLemmas.{none_counted, tree_counted, gap_counted, counted_few}
 use Rattle.nx_sketch.specs.declared.spot.Spot.{Spot}
@@ -22,11 +22,10 @@ push_tree-requires t c =
     let falls : suc (item_count c.in-Tree.child.below) ≤ item_count c.args.tree.now.below =
     next_falls c.args.tree.now.below c.as_slice-item-items.result.now c.loop-item.item-index c.in-Tree.child (c.as_slice-item-items.ensures ∙ ap (λ (x : GappedTree). x.below) c.tree.view_is) d in
     let p = ap (λ (xs : List Item). proxies_in (gapped_of xs)) d in
-    let w = ap (λ (xs : List Item). gapped_weight (gapped_of xs)) d in
+    let w = ap (λ (xs : List Item). gapped_size (gapped_of xs)) d in
     let f = c.loop-item.invariant.counted.fits in
-    let s = c.loop-item.invariant.weighed in
+    let s = c.loop-item.invariant.small in
     let room : c.args.first + proxies_in c.args.tree.now.below ≤ length c.args.proxies.now = c.requires.fits in
-    let light : weight c.args.tree.now.node + gapped_weight c.args.tree.now.below ≤ 512 = c.requires.light in
     (search rules, (omega arith, (c.requires.few, (c.requires.ranged, omega arith))))
 
 pub loop-item-init : goal.loop-item-init
@@ -34,7 +33,9 @@ loop-item-init t c =
     let same = c.as_slice-item-items.ensures ∙ ap (λ (x : GappedTree). x.below) c.tree.view_is in
     record {
       counted = none_counted c.args.proxies.now c.args.first c.args.tree.now.below _ same;
-      weighed = omega (arith, ap gapped_weight same, c.weight-weight.ensures, ap (λ (x : GappedTree). weight x.node) c.tree.view_is);
+      light = omega (arith, tree_within c.args.tree.now, c.requires.small);
+      small = omega (arith, ap gapped_size same, c.requires.small);
+      weighed = omega (arith, ap gapped_weight same, c.weight-weight.ensures);
       listed = none_listed same refl;
     }
 
@@ -42,7 +43,7 @@ pub overflow_add-next : goal.overflow_add-next
 overflow_add-next t c =
     let room : c.args.first + proxies_in c.args.tree.now.below ≤ length c.args.proxies.now = c.requires.fits in
     let few : length c.args.proxies.now ≤ 524288 = c.requires.few in
-    let light : weight c.args.tree.now.node + gapped_weight c.args.tree.now.below ≤ 512 = c.requires.light in
+    let small : item_slots c.args.tree.now.node + gapped_size c.args.tree.now.below ≤ 512 = c.requires.small in
     let most = counted_few c.loop-item.invariant.counted c.requires.ranged (omega arith) (omega arith) in
     omega arith
 
@@ -52,7 +53,7 @@ roots_of-next-requires t c =
     let span : c.loop-item.before + c.in-Run.count - c.loop-item.before ≡ c.in-Run.count = omega arith in
     let room : c.args.first + proxies_in c.args.tree.now.below ≤ length c.args.proxies.now = c.requires.fits in
     let few : length c.args.proxies.now ≤ 524288 = c.requires.few in
-    let light : weight c.args.tree.now.node + gapped_weight c.args.tree.now.below ≤ 512 = c.requires.light in
+    let small : item_slots c.args.tree.now.node + gapped_size c.args.tree.now.below ≤ 512 = c.requires.small in
     let most = counted_few (gap_counted c.loop-item.invariant.counted d refl) c.requires.ranged (omega arith) (omega arith) in
     subst (λ (n : ℕ). sum_by (λ (p : Proxy). p.roots) (take n (drop c.loop-item.before c.args.proxies.now)) < 2 ^ 32) (sym span) (omega arith)
 
@@ -62,7 +63,7 @@ overflow_add-next-in-Run t c =
     let span : c.loop-item.before + c.in-Run.count - c.loop-item.before ≡ c.in-Run.count = omega arith in
     let room : c.args.first + proxies_in c.args.tree.now.below ≤ length c.args.proxies.now = c.requires.fits in
     let few : length c.args.proxies.now ≤ 524288 = c.requires.few in
-    let light : weight c.args.tree.now.node + gapped_weight c.args.tree.now.below ≤ 512 = c.requires.light in
+    let small : item_slots c.args.tree.now.node + gapped_size c.args.tree.now.below ≤ 512 = c.requires.small in
     let next = gap_counted c.loop-item.invariant.counted d
     (c.roots_of-next.ensures ∙ ap (λ (n : ℕ). sum_by (λ (p : Proxy). p.roots) (take n (drop c.loop-item.before c.args.proxies.now))) span) in
     let most = counted_few next c.requires.ranged (omega arith) (omega arith) in
@@ -81,6 +82,8 @@ loop-item-preserved t c =
           passed.spots ∙ ap (λ (e : Entry). c.loop-item.spots.items ++ spots_of (tree_sketch c.args.matrix.now c.args.proxies.now e c.loop-item.before c.loop-item.next child)) entry in
           rw (w.spots-is, w.within-is, w.before-is ∙ passed.proxies, w.next-is) (record {
             counted = tree_counted child (proxies_in child.below) c.loop-item.invariant.counted (ap gapped_of d) refl;
+            light = c.loop-item.invariant.light;
+            small = omega (arith, ap (λ (xs : List Item). gapped_size (gapped_of xs)) d, c.loop-item.invariant.small);
             weighed = omega (arith, ap (λ (xs : List Item). gapped_weight (gapped_of xs)) d, c.loop-item.invariant.weighed, passed.weight);
             listed = tree_listed child w.push_tree.new.spots.items c.loop-item.invariant.listed (ap gapped_of d) listed;
           })
@@ -90,6 +93,8 @@ loop-item-preserved t c =
           let more = w.roots_of-next.ensures ∙ ap (λ (n : ℕ). sum_by (λ (p : Proxy). p.roots) (take n (drop c.loop-item.before c.args.proxies.now))) span in
           rw (w.spots-is, w.within-is, w.before-is, w.next-is, more) (record {
             counted = gap_counted c.loop-item.invariant.counted d refl;
+            light = c.loop-item.invariant.light;
+            small = omega (arith, ap gapped_size d, c.loop-item.invariant.small);
             weighed = omega (arith, ap gapped_weight d, c.loop-item.invariant.weighed);
             listed = gap_listed w.in-Run.count c.loop-item.invariant.listed d;
           })
@@ -103,7 +108,7 @@ overflow_cast-own t c =
     let own : Spot = record { position = c.args.position; weight = c.weight-weight.result; within = c.weight-weight.result; entry = c.args.entry; below = 0 } in
     let listed : AreListed c.args.matrix.now c.args.proxies.now c.args.first c.args.tree.now c.args.spots.now.items own c.loop-item.spots.items =
     are_listed c.in_ok-push.ensures.items c.loop-item.invariant.listed (ap gapped_of none) in
-    let few = listed_few c.args.tree.now listed c.requires.light in
+    let few = listed_few c.args.tree.now listed c.loop-item.invariant.light in
     let place = c.len-place.ensures in
     let len = c.len.ensures in
     let f = few.1 in
@@ -121,7 +126,7 @@ returns-clause-spots t c =
     (record { position = c.args.position; weight = c.weight-weight.result; within = c.loop-item.within; entry = c.args.entry; below = c.len.result - c.len-place.result - 1 })
     listed (c.len-place.ensures ∙ old)
     (record {
-      weight_is = c.weight-weight.ensures ∙ ap (λ (x : GappedTree). weight x.node) c.tree.view_is;
+      weight_is = c.weight-weight.ensures;
       within_is = omega (arith, ap (λ (xs : List Item). gapped_weight (gapped_of xs)) none, c.loop-item.invariant.weighed);
       below_is = ap (λ (n : ℕ). n - c.len-place.result - 1) (c.len.ensures ∙ now);
     })

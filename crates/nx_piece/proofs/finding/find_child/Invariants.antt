@@ -1,7 +1,7 @@
 use Rattle.nx_piece.specs.Gapped.{item_count}
 use Rattle.nx_piece.specs.Viewing.{seen_items}
 use Rattle.nx_piece.proofs.LocateLemmas.{IsReached}
-use Rattle.nx_piece.proofs.finding.child_at.Given as goal
+use Rattle.nx_piece.proofs.finding.find_child.Given as goal
 
 abbrev pub decreases-loop-item : goal.decreases-loop-item
 decreases-loop-item l = item_count (seen_items l.rest)
