@@ -5,6 +5,9 @@ use crate::page::{MOST_PAGES, Page, is_zero, set, u16_at, u32_at, u64_at};
 
 const MARK: &[u8] = b"NATIXST1";
 
+/// The format of what is written. That of a store may be 1 until its next commit.
+const FORMAT: u16 = 2;
+
 #[derive(Clone, Copy)]
 pub struct Header {
     pub k: u16,
@@ -56,7 +59,7 @@ impl Header {
             catalog: u32_at(page, 40),
             catalog_length: u64_at(page, 44),
         };
-        let sound = u16_at(page, 8) == 1
+        let sound = (1..=FORMAT).contains(&u16_at(page, 8))
             && (1..=256).contains(&header.k)
             && header.target <= 100
             && header.tolerance <= 256
@@ -74,7 +77,7 @@ impl Header {
     pub fn write(&self, page: &mut Page) {
         page.fill(0);
         set(page, 0, MARK);
-        set(page, 8, &1u16.to_be_bytes());
+        set(page, 8, &FORMAT.to_be_bytes());
         set(page, 10, &self.k.to_be_bytes());
         set(page, 12, &self.target.to_be_bytes());
         set(page, 14, &self.tolerance.to_be_bytes());

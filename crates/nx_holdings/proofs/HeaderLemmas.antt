@@ -105,7 +105,7 @@ module _ (h : Header) (bytes : List ℕ) (is : IsHeader bytes h) where
   } ≡ h
   says_fields settings same =
       let r = is.range in
-      let format : h.format ≡ 1 = r.format in
+      let format : h.format ≤ 2 = r.format.1 in
       let limit : s.limit ≤ 16777216 = r.settings.limit.1 in
       let pages : h.pages ≤ s.limit = r.pages.1 in
       let free : h.free < 2 ^ 32 = r.pointers.0 in

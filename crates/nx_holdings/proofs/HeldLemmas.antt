@@ -133,12 +133,12 @@ holds_all {pages = pages} {h = h} {held = held} range holds = record {
   };
 }
 
--- another number of the group changes nothing else
-pub holds_numbered : {pages : Pages} {h : Header} {held : Held} (number : ℕ) → HoldsBehind pages h held → HoldsBehind pages (record h { number = number }) held
-holds_numbered {h = h} number holds = record {
+-- another format and another number of the group change nothing else
+pub holds_numbered : {pages : Pages} {h : Header} {held : Held} (format number : ℕ) → HoldsBehind pages h held → HoldsBehind pages (record h { format = format; number = number }) held
+holds_numbered {h = h} format number holds = record {
   shares = holds.shares;
   header = holds.header;
-  shared = named_else holds.shared (record h { number = number }) holds.shares [] refl refl (holds.shared).free (holds.shared).chains (λ p. refl);
+  shared = named_else holds.shared (record h { format = format; number = number }) holds.shares [] refl refl (holds.shared).free (holds.shared).chains (λ p. refl);
   settings = holds.settings;
   records = holds.records;
   lists = holds.lists;

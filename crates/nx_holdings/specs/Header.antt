@@ -29,9 +29,13 @@ pub record AreSettings (s : Settings) : Type 0 where
   pub tolerance : s.tolerance ≤ 256
   pub limit : (64 ≤ s.limit) × (s.limit ≤ most_pages)
 
+-- the newest format that a store may have
+abbrev pub newest_format : ℕ
+newest_format = 2
+
 -- each field is in its range, and fits its bytes
 pub record IsInRange (h : Header) : Type 0 where
-  pub format : h.format ≡ 1
+  pub format : (1 ≤ h.format) × (h.format ≤ newest_format)
   pub settings : AreSettings h.settings
   pub pages : (2 ≤ h.pages) × (h.pages ≤ h.settings.limit)
   pub catalog_length : (8 ≤ h.catalog_length) × (h.catalog_length < 2 ^ 64)

@@ -9,6 +9,9 @@ use crate::free::blank;
 use nx_numbers::{MOST_PAGES, set_u16_at, set_u32_at, set_u64_at, u16_at, u32_at, u64_at};
 use nx_slots::PageBytes;
 
+/// The newest format of a store. Pages of the older one, 1, are read as those of this one.
+pub const NEWEST_FORMAT: u16 = 2;
+
 /// What a store is set to when it is made.
 #[derive(Clone, Copy, Debug, PartialEq, Eq)]
 pub struct Settings {
@@ -25,7 +28,7 @@ pub struct Settings {
 /// The header of a store, its page 0.
 #[derive(Clone, Copy, Debug, PartialEq, Eq)]
 pub struct Header {
-    /// The format of the store: 1.
+    /// The format of the store, from 1 to the newest.
     pub format: u16,
     /// What the store is set to.
     pub settings: Settings,
@@ -63,7 +66,7 @@ fn is_in_range(header: Header) -> bool
     ensures yes { result ≡ true → IsInRange header }
     ensures no { IsInRange header → result ≡ true }
 {
-    if header.format != 1 || !are_settings(&header.settings) {
+    if header.format < 1 || header.format > NEWEST_FORMAT || !are_settings(&header.settings) {
         return false;
     }
     if header.pages < 2 || header.pages > header.settings.limit {

@@ -8,4 +8,4 @@ mod header;
 pub mod laws;
 
 pub use free::{free_page, read_free_page};
-pub use header::{Header, Settings, are_settings, header_page, read_header};
+pub use header::{Header, NEWEST_FORMAT, Settings, are_settings, header_page, read_header};

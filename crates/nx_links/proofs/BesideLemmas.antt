@@ -1,11 +1,11 @@
 -- What pages hold beside a chain, where a page is put in front of it or its first page is given back.
-use Rattle.std.proofs.Common.{◌≡◌, ℕ, ◌+◌, ◌-◌, ◌<◌, ◌≤◌, List, [], ◌∷◌, length, refl, sym, ap, subst, ◌∙◌, arith, inl, inr, length-append}
+use Rattle.std.proofs.Common.{◌≡◌, ℕ, ◌+◌, ◌-◌, ◌<◌, ◌≤◌, List, [], ◌∷◌, ◌++◌, length, refl, sym, ap, subst, ◌∙◌, arith, inl, inr, length-append}
 use Rattle.std.specs.Prelude.{◌≢◌, ◌^◌, Option, Some, None}
 use Rattle.nx_replay.specs.Log.{Pages}
 use Rattle.nx_chain.specs.Chain.{chain_bytes}
 use Rattle.nx_holdings.specs.declared.header.Header.{Header}
 use Rattle.nx_holdings.specs.Holdings.{with_page, free_bytes, times, Link, IsLink, AreLinked, Chain, next_of, content_of, pages_of_links, pages_of_chains, Shares, named, IsShared, record_in, chain_count}
-use Rattle.nx_holdings.proofs.TimesLemmas.{times_one, times-cons, times-append, with_page-here, with_page-other}
+use Rattle.nx_holdings.proofs.TimesLemmas.{times_one, times-cons, times-append, with_page-here, with_page-other, links_same, link_there}
 use Rattle.nx_holdings.proofs.SharedLemmas.{equal_or, named_parts, write_aside, named_else, grow, free_loose, take_first}
 use Rattle.nx_holdings.proofs.HeldLemmas.{free_kind, chain_kind, other_record}
 use Rattle.nx_holdings.proofs.DenseLemmas.{among_here, AreChains}
@@ -75,6 +75,13 @@ module _ {pages : Pages} {h : Header} {links : List Link} {held : HeldBeside} (h
         ],
         (holds.shared).below p (omega (arith, e, among)),
       )
+
+  pub chain_linked : AreLinked pages links
+  chain_linked = linked.0
+
+  -- no page of the chain comes twice
+  pub chain_once : (p : ℕ) → times p (pages_of_links links) ≤ 1
+  chain_once p = let e = parts p in let once = (holds.shared).once p in omega (arith, e, once)
 
   -- the chain is a list of its bytes
   pub chain_from : IsListFrom h.pages pages (next_of links) (content_of links)
@@ -253,3 +260,125 @@ give_first {pages = pages} {h = h} {held = held} l ls holds = record {
 pub give_link : {pages : Pages} {h : Header} {held : HeldBeside} {page : ℕ} (links : List Link) → HoldsBeside pages h links held → next_of links ≡ page → page ≢ 0 → IsGiven pages h links held page
 give_link [] holds same some = absurd (some (sym same))
 give_link {pages = pages} {h = h} {held = held} (l ∷ ls) holds same some = subst (λ (p : ℕ). IsGiven pages h (l ∷ ls) held p) same (give_first l ls holds)
+
+-- chains in two parts
+pub pages_join : (done rest : List Link) → pages_of_links (done ++ rest) ≡ pages_of_links done ++ pages_of_links rest
+pages_join [] rest = refl
+pages_join (d ∷ ds) rest = ap (λ (ps : List ℕ). d.page ∷ ps) (pages_join ds rest)
+
+pub join_times : (p : ℕ) (done rest : List Link) → times p (pages_of_links (done ++ rest)) ≡ times p (pages_of_links done) + times p (pages_of_links rest)
+join_times p done rest = ap (λ (ps : List ℕ). times p ps) (pages_join done rest) ∙ times-append p (pages_of_links done) (pages_of_links rest)
+
+pub linked_behind : (pages : Pages) (done rest : List Link) → AreLinked pages (done ++ rest) → AreLinked pages rest
+linked_behind pages [] rest linked = linked
+linked_behind pages (d ∷ ds) rest linked = linked_behind pages ds rest linked.2
+
+next_join : (done : List Link) (l m : Link) (rest : List Link) → l.page ≡ m.page → next_of (done ++ (l ∷ rest)) ≡ next_of (done ++ (m ∷ rest))
+next_join [] l m rest same = same
+next_join (d ∷ ds) l m rest same = refl
+
+-- one page of a chain has other content
+linked_set : (pages : Pages) (done : List Link) (l : Link) (rest : List Link) (content : List ℕ) → AreLinked pages (done ++ (l ∷ rest)) → ((p : ℕ) → times p (pages_of_links (done ++ (l ∷ rest))) ≤ 1)
+    → 1 ≤ length content → length content ≤ 8184 → (1 ≤ length rest → length content ≡ 8184)
+    → AreLinked (with_page pages l.page (chain_bytes (next_of rest) content)) (done ++ (record { page = l.page; content = content } ∷ rest))
+linked_set pages [] l rest content linked once some few full = (
+  record { there = with_page-here pages l.page (chain_bytes (next_of rest) content); some = some; few = few },
+  full,
+  links_same pages (with_page pages l.page (chain_bytes (next_of rest) content)) rest
+      (λ p among. with_page-other pages l.page (chain_bytes (next_of rest) content) p (λ same.
+      let here = times_one l.page (pages_of_links rest) in
+      let twice = once l.page in
+      let there = ap (λ (q : ℕ). times q (pages_of_links rest)) same in
+      absurd (omega (arith, here, twice, there, among))))
+      linked.2,
+)
+linked_set pages (d ∷ ds) l rest content linked once some few full = (
+  record {
+    there = with_page-other pages l.page (chain_bytes (next_of rest) content) d.page apart ∙ (linked.0).there
+        ∙ ap (λ (n : ℕ). Some (chain_bytes n d.content)) (next_join ds l (record { page = l.page; content = content }) rest refl);
+    some = (linked.0).some;
+    few = (linked.0).few;
+  },
+  λ more. linked.1 (let a = length-append ds (l ∷ rest) in let b = length-append ds (record { page = l.page; content = content } ∷ rest) in omega (arith, a, b, more)),
+  linked_set pages ds l rest content linked.2 (λ p. let c = times-cons p d.page (pages_of_links (ds ++ (l ∷ rest))) in let o = once p in omega (arith, c, o)) some few full,
+)
+  where
+    apart : d.page ≡ l.page → ⊥
+    apart same =
+        let one = times_one d.page (pages_of_links (ds ++ (l ∷ rest))) in
+        let both = join_times d.page ds (l ∷ rest) in
+        let here : times d.page (l.page ∷ pages_of_links rest) ≡ 1 + times l.page (pages_of_links rest) =
+        ap (λ (q : ℕ). times q (l.page ∷ pages_of_links rest)) same ∙ times_one l.page (pages_of_links rest) in
+        let o = once d.page in
+        absurd (omega (arith, one, both, here, o))
+
+-- Other content on one page of a chain leaves all that is held beside it.
+pub set_link : {pages : Pages} {h : Header} {held : HeldBeside} (done : List Link) (l : Link) (rest : List Link) (content : List ℕ) → HoldsBeside pages h (done ++ (l ∷ rest)) held → 1 ≤ length content → length content ≤ 8184
+    → (1 ≤ length rest → length content ≡ 8184) → HoldsBeside (with_page pages l.page (chain_bytes (next_of rest) content)) h (done ++ (record { page = l.page; content = content } ∷ rest)) held
+set_link {pages = pages} {h = h} {held = held} done l rest content holds some few full = record {
+  free = holds.free;
+  others = holds.others;
+  header = (holds.header.0, with_page-other pages l.page bytes 0 zero_apart ∙ holds.header.1);
+  shared = named_else written h (record { free = holds.free; chains = chains_with set holds.others }) [] refl refl written.free
+      (with_linked (with_page pages l.page bytes) set holds.others (linked_set pages done l rest content chains.0 (chain_once holds) some few full) written.chains)
+      (λ p. back (times p (0 ∷ [])) (times p holds.free) (times p (pages_of_links links)) (times p (pages_of_chains holds.others)) (named_parts p (record { free = holds.free; chains = chains_with set holds.others }) [])
+      (with_times p set holds.others) (same p) (named_parts p alone (pages_of_links links)));
+  records = λ p slot. elim (equal_or p l.page) [
+    | inl same ↦
+        let there = link_there pages links l.page chains.0 among in
+        holds.records p slot ∙ ap (λ (q : ℕ). record_in (pages q) slot) same
+        ∙ other_record pages l.page slot (record { bytes = chain_bytes there.0 there.1.0; there = there.1.1; kind = chain_kind there.0 there.1.0 })
+        ∙ sym (other_record (with_page pages l.page bytes) l.page slot (record { bytes = bytes; there = with_page-here pages l.page bytes; kind = chain_kind (next_of rest) content }))
+        ∙ ap (λ (q : ℕ). record_in (with_page pages l.page bytes q) slot) (sym same)
+    | inr apart ↦ holds.records p slot ∙ ap (λ (o : Option (List ℕ)). record_in o slot) (sym (with_page-other pages l.page bytes p apart))
+  ];
+  lists = holds.lists;
+  count = holds.count;
+}
+  where
+    bytes : List ℕ
+    bytes = chain_bytes (next_of rest) content
+
+    links : List Link
+    links = done ++ (l ∷ rest)
+
+    set : List Link
+    set = done ++ (record { page = l.page; content = content } ∷ rest)
+
+    chains : AreLinked pages links × AreChains pages holds.others
+    chains = linked_with pages links holds.others (holds.shared).chains
+
+    alone : Shares
+    alone = record { free = holds.free; chains = holds.others }
+
+    same : (p : ℕ) → times p (pages_of_links set) ≡ times p (pages_of_links links)
+    same p = join_times p done (record { page = l.page; content = content } ∷ rest) ∙ sym (join_times p done (l ∷ rest))
+
+    among : 1 ≤ times l.page (pages_of_links links)
+    among = let both = join_times l.page done (l ∷ rest) in let one = times_one l.page (pages_of_links rest) in omega (arith, both, one)
+
+    forth : (z f n o : ℕ) {a b x : ℕ} → a ≡ z + (f + (o + n)) → b ≡ z + (f + (x + 0)) → x ≡ n + o → a ≡ b
+    forth z f n o one two three = omega arith
+
+    back : (z f n o : ℕ) {a b x y : ℕ} → a ≡ z + (f + (x + 0)) → x ≡ y + o → y ≡ n → b ≡ z + (f + (o + n)) → a ≡ b
+    back z f n o one two three four = omega arith
+
+    loose : IsShared pages h alone (pages_of_links links)
+    loose = named_else holds.shared h alone (pages_of_links links) refl refl (holds.shared).free chains.1 (λ p.
+        forth (times p (0 ∷ [])) (times p holds.free) (times p (pages_of_links links)) (times p (pages_of_chains holds.others)) (named_parts p alone (pages_of_links links))
+        (named_parts p (record { free = holds.free; chains = chains_with links holds.others }) []) (with_times p links holds.others))
+
+    written : IsShared (with_page pages l.page bytes) h alone (pages_of_links links)
+    written = write_aside loose l.page bytes (inl among)
+
+    zero_apart : 0 ≡ l.page → ⊥
+    zero_apart zero = let some = (chain_low holds l.page among).0 in omega (arith, zero, some)
+
+-- a chain whose rest begins at no page has none
+pub no_rest : {pages : Pages} {h : Header} {held : HeldBeside} (done rest : List Link) → HoldsBeside pages h (done ++ rest) held → next_of rest ≡ 0 → rest ≡ []
+no_rest done [] holds none = refl
+no_rest done (l ∷ ls) holds none =
+    let both = join_times l.page done (l ∷ ls) in
+    let one = times_one l.page (pages_of_links ls) in
+    let some = (chain_low holds l.page (omega (arith, both, one))).0 in
+    absurd (omega (arith, none, some))

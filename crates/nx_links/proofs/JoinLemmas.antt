@@ -232,6 +232,36 @@ module _ {pages0 pages1 : Pages} {h0 h1 : Header} {held : Held} (holds : HoldsBe
       both true false x o apart = refl
       both false b x o apart = refl
 
+  -- the chain that stands aside is a list again, with other bytes
+  pub changed_holds : {links : List Link} (first free : ℕ) (bytes : List ℕ) → next_of links ≡ first → content_of links ≡ bytes → 1 ≤ length bytes → first ≢ h0.catalog
+      → HoldsBeside pages1 h1 links (record { records = held.records; lists = all_but holds first; free = free }) → KeepsCatalog h0 h1
+      → HoldsBehind pages1 h1 (record held { lists = λ p. if p == first then Some bytes else held.lists p; free = free })
+  changed_holds {links = links} first free bytes here content some other beside keeps =
+      join beside (record held { lists = λ p. if p == first then Some bytes else held.lists p; free = free }) (holds.settings ∙ sym keeps.settings) refl refl
+      (λ p.
+      ap (λ (o : Option (List ℕ)). if p == first then Some bytes else o) (holds.lists p)
+      ∙ both (p == first) (p == h0.catalog) (Some bytes) (list_at (holds.shares).chains p) (λ is catalog. other (sym (eqb-true p first is) ∙ eqb-true p h0.catalog catalog))
+      ∙ ap (λ (o : Option (List ℕ)). if p == h0.catalog then None else o) (sym (chains_are p))
+      ∙ ap (λ (c : ℕ). if p == c then None else list_at (chains_with links beside.others) p) (sym keeps.catalog))
+      (ap (λ (c : ℕ). list_at (chains_with links beside.others) c) keeps.catalog ∙ chains_are h0.catalog
+      ∙ ap (λ (b : Bool). if b then Some bytes else (if b then None else list_at (holds.shares).chains h0.catalog)) (other_page h0.catalog first (λ same. other (sym same))) ∙ holds.catalog)
+      (holds.catalog_length ∙ sym keeps.catalog_length)
+    where
+      there : 1 ≤ length (content_of links)
+      there = let same = ap length content in omega (arith, same, some)
+
+      chains_are : (p : ℕ) → list_at (chains_with links beside.others) p ≡ (if p == first then Some bytes else (if p == first then None else list_at (holds.shares).chains p))
+      chains_are p =
+          lists_with_first beside there p
+          ∙ ap (λ (f : ℕ). if p == f then Some (content_of links) else (if p == first then None else list_at (holds.shares).chains p)) here
+          ∙ ap (λ (b : List ℕ). if p == first then Some b else (if p == first then None else list_at (holds.shares).chains p)) content
+
+      both : (a b : Bool) (x o : Option (List ℕ)) → (a ≡ true → b ≡ true → ⊥) → (if a then x else (if b then None else o)) ≡ (if b then None else (if a then x else (if a then None else o)))
+      both true true x o apart = absurd (apart refl refl)
+      both true false x o apart = refl
+      both false true x o apart = refl
+      both false false x o apart = refl
+
   -- the chain that came to stand aside is the catalog, in place of the old one, which stood aside before
   pub catalog_holds : {links : List Link} (free : ℕ) (bytes : List ℕ) → content_of links ≡ bytes → 1 ≤ length bytes
       → HoldsBeside pages1 h1 links (record { records = held.records; lists = all_but holds h0.catalog; free = free }) → KeepsCatalog h0 h1

@@ -1,5 +1,5 @@
 -- What is read of a chain while its pages are given back, whatever the pages are.
-use Rattle.std.proofs.Common.{◌≡◌, ◌≢◌, ℕ, List, [], length, refl, sym, ap, subst, ◌∙◌, arith, inl, inr, Option, Some, None}
+use Rattle.std.proofs.Common.{◌≡◌, ◌≢◌, ℕ, List, sym, ap, subst, ◌∙◌, arith, inl, inr, Option, None}
 use Rattle.std.proofs.lemmas.Bool.{cases_eq}
 use Rattle.std.specs.Prelude.{MatchOption, slice_index}
 use Rattle.nx_replay.specs.Log.{Pages}
@@ -10,7 +10,7 @@ use Rattle.nx_holdings.proofs.TimesLemmas.{with_page-here, with_page-other}
 use Rattle.nx_holdings.proofs.OneLemmas.{first_of_chain, first_of_free}
 use Rattle.nx_links.specs.Lists.{IsNamed}
 use Rattle.nx_records.specs.Changes.{HasListFrom}
-use Rattle.nx_records.specs.Chains.{HasLink, AddsNoLink}
+use Rattle.nx_records.specs.Chains.{AddsNoLink}
 use Rattle.nx_records.proofs.ChainLemmas.{list_read}
 use Rattle.nx_records.proofs.RefusalLemmas.{some_same}
 

@@ -5,11 +5,11 @@ use Rattle.nx_host.specs.declared.disk.Disk.{Ghosts}
 use Rattle.nx_host.specs.Still.{IsStill}
 use Rattle.nx_host.proofs.DiskLemmas.{settled_still}
 use Rattle.nx_replay.specs.Log.{Entry, over, entry_pages, replay}
-use Rattle.nx_wal.specs.Wal.{pending, current}
+use Rattle.nx_wal.specs.Wal.{current}
 use Rattle.nx_holdings.specs.declared.header.Header.{Header}
 use Rattle.nx_holdings.specs.Holdings.{Held, HoldsBy}
 use Rattle.nx_records.specs.declared.records.Records.{Records}
-use Rattle.nx_records.specs.Records.{has_ended, LeavesRecords, IsInStepWith, HasSaved, StandsFor, KeepsSaved}
+use Rattle.nx_records.specs.Records.{has_ended, LeavesRecords, IsInStepWith, StandsFor, KeepsSaved}
 use Rattle.nx_records.specs.Refusals.{RunsOn, EndNow, HadEnded}
 
 pub leaves_same : {r0 r1 : Records} → r1 ≡ r0 → LeavesRecords r0 r1

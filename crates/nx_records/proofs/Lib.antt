@@ -5,6 +5,9 @@ pub mod LeaveLemmas
 pub mod RefusalLemmas
 pub mod FirstLemmas
 pub mod ChainLemmas
+pub mod ReadingLemmas
 pub mod WritingLemmas
+pub mod RewritingLemmas
 pub mod FreedLemmas
+pub mod InPlaceLemmas
 pub mod RoomLemmas

@@ -7,7 +7,7 @@ use Rattle.nx_host.specs.Disk.{Image}
 use Rattle.nx_host.specs.declared.disk.Disk.{Ghosts}
 use Rattle.nx_slots.specs.declared.page.SlotsError.{SlotsError}
 use Rattle.nx_slots.specs.declared.page.SlotsError.TheVariants.{NoRoom}
-use Rattle.nx_slots.specs.Slots.{slots_of, IsSlotted}
+use Rattle.nx_slots.specs.Slots.{slots_of}
 use Rattle.nx_slots.specs.Edits.{free_in, needed_for}
 use Rattle.nx_slots.specs.Refusals.{LacksRoom}
 use Rattle.nx_replay.specs.Log.{Pages, replay}

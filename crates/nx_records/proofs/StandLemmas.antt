@@ -13,12 +13,13 @@ use Rattle.nx_replay.proofs.ReplayLemmas.{over-over, replay-more, replay-same}
 use Rattle.nx_wal.specs.declared.wal.Wal.{Wal}
 use Rattle.nx_wal.specs.Wal.{IsInStep, Follows, PutsRecord, current, pending, next_group, length_of, wal_ended}
 use Rattle.nx_holdings.specs.declared.header.Header.{Header}
-use Rattle.nx_holdings.specs.Header.{header_bytes, IsInRange}
+use Rattle.nx_holdings.specs.Header.{header_bytes, newest_format, IsInRange}
 use Rattle.nx_holdings.specs.Holdings.{with_page, Held, HoldsBehind, HoldsBy, Holds}
+use Rattle.nx_holdings.proofs.TimesLemmas.{with_page-other}
 use Rattle.nx_holdings.proofs.HeldLemmas.{holds_all, holds_numbered, holds_dense}
 use Rattle.nx_records.specs.declared.records.Records.{Records}
 use Rattle.nx_records.specs.Records.{has_ended, next_number, HasSaved, StandsFor, KeepsSaved, KeepsLog, ComesTo}
-use Rattle.nx_records.specs.Numbering.{number_behind}
+use Rattle.nx_records.specs.Numbering.{number_behind, IsNextHeader}
 use Rattle.nx_records.specs.Pages.{numbered, released, SeesSo, StepsTo}
 
 -- what waits is laid over the pages that are there
@@ -64,7 +65,7 @@ module _ {D : Type 0} (d : Ghosts D) (r0 r1 r2 : Records) (x0 x2 : D) (Comes : H
       let image = (stands.keeps).image in
       let step = (stands.keeps).step in
       let next = steps image now step (stands.holds).behind in
-      let numbered_next : HoldsBehind (current r1.wal image) r2.head next.0 = subst (λ (h : Header). HoldsBehind (current r1.wal image) h next.0) (sym head) (holds_numbered (next_number r1) next.1) in (
+      let numbered_next : HoldsBehind (current r1.wal image) r2.head next.0 = subst (λ (h : Header). HoldsBehind (current r1.wal image) h next.0) (sym head) (holds_numbered newest_format (next_number r1) next.1) in (
         next.0,
         record {
           keeps = saved_kept {r0 = r0} {r1 = r2} (keeps_then {r0 = r0} {r1 = r1} {r2 = r2} one two) still saved stands.keeps;
@@ -99,7 +100,7 @@ stepped d r0 r1 before {base = base} page bytes Comes stored comes was held step
     let r = comes was held step holds in (
       r.0,
       subst (λ (p : Pages). HoldsBehind p r1.head r.0) (sym (stored.2 was))
-          (subst (λ (h : Header). HoldsBehind (with_page (current r0.wal was) page bytes) h r.0) (sym stored.0) (holds_numbered (next_number r0) r.1)),
+          (subst (λ (h : Header). HoldsBehind (with_page (current r0.wal was) page bytes) h r.0) (sym stored.0) (holds_numbered newest_format (next_number r0) r.1)),
       r.2,
     )
 
@@ -199,19 +200,24 @@ range_moved free room range low low_too = record {
   number = range.number;
 }
 
+-- a header that is the next commit's already
+pub numbered_already : (saved head : Header) → IsNextHeader saved head → numbered (number_behind saved.number) head ≡ head
+numbered_already saved head next =
+    ap (λ (n : ℕ). numbered n head) (sym next.0) ∙ ap (λ (f : ℕ). record head { format = f }) (sym next.1)
+
 -- the header where a page was given back, which was the room page or wasn't
 pub released_room : {h1 : Header} (h : Header) (number page : ℕ) → h1 ≡ numbered number h → h1.room ≡ page → record h1 { free = page; room = 0 } ≡ numbered number (released page h)
 released_room {h1 = h1} h number page same room =
     let is : (h.room == page) ≡ true = eq-eqb h.room page (sym (ap (λ (x : Header). x.room) same) ∙ room) in
     ap (λ (x : Header). record x { free = page; room = 0 }) same
-    ∙ ap (λ (b : Bool). record h { number = number; free = page; room = if b then 0 else h.room }) (sym is)
+    ∙ ap (λ (b : Bool). record h { format = newest_format; number = number; free = page; room = if b then 0 else h.room }) (sym is)
 
 pub released_other : {h1 : Header} (h : Header) (number page : ℕ) → h1 ≡ numbered number h → (h1.room ≡ page → ⊥) → record h1 { free = page } ≡ numbered number (released page h)
 released_other {h1 = h1} h number page same room =
     let fails : (h.room == page) ≡ false =
     elim (cases_Bool (h.room == page)) [ inl holds ↦ absurd (room (ap (λ (x : Header). x.room) same ∙ eqb-true h.room page holds)) | inr fails ↦ fails ] in
     ap (λ (x : Header). record x { free = page }) same
-    ∙ ap (λ (b : Bool). record h { number = number; free = page; room = if b then 0 else h.room }) (sym fails)
+    ∙ ap (λ (b : Bool). record h { format = newest_format; number = number; free = page; room = if b then 0 else h.room }) (sym fails)
 
 -- over a disk that was asked alone the same is settled, before and after
 pub settled_back : {D : Type 0} {d : Ghosts D} {x0 x1 : D} {was : Image} → IsStill d x0 x1 → IsSettled d x1 was → IsSettled d x0 was
@@ -245,14 +251,18 @@ module _ (known : Option Header) (old new : Wal) (page : ℕ) (bytes : List ℕ)
       ap (λ (f : Pages). f page) put
       ∙ ap (λ (b : Bool). option_or (if b then Some bytes else None) (entry_pages (pending old) page)) (eq-eqb page page refl)
 
+  pub all_wait : (p : ℕ) → entry_pages (pending new) p ≡ with_page (entry_pages (pending old)) page bytes p
+  all_wait p = ap (λ (f : Pages). f p) put ∙ one_or (p == page) (entry_pages (pending old) p)
+    where
+      one_or : (b : Bool) (o : Option (List ℕ)) → option_or (if b then Some bytes else None) o ≡ (if b then Some bytes else o)
+      one_or true o = refl
+      one_or false o = refl
+
   pub header_stays : (page ≡ 0 → ⊥) → IfSome known (λ h. entry_pages (pending old) 0 ≡ Some (header_bytes h)) → IfSome known (λ h. entry_pages (pending new) 0 ≡ Some (header_bytes h))
   header_stays other waits = stays known waits
     where
       same : entry_pages (pending new) 0 ≡ entry_pages (pending old) 0
-      same = elim (cases_Bool (0 == page)) [
-        | inl holds ↦ absurd (other (sym (eqb-true 0 page holds)))
-        | inr fails ↦ ap (λ (f : Pages). f 0) put ∙ ap (λ (b : Bool). option_or (if b then Some bytes else None) (entry_pages (pending old) 0)) fails
-      ]
+      same = all_wait 0 ∙ with_page-other (entry_pages (pending old)) page bytes 0 (λ zero. other (sym zero))
 
       stays : (o : Option Header) → IfSome o (λ h. entry_pages (pending old) 0 ≡ Some (header_bytes h)) → IfSome o (λ h. entry_pages (pending new) 0 ≡ Some (header_bytes h))
       stays None waits = tt
@@ -273,7 +283,7 @@ header_beside P known old new page bytes None other put none waits = subst (λ (
 
 -- the same records, whose log was asked alone
 pub same_wal : (r : Records) (wal : Wal) → wal ≡ r.wal → (saved_range : IsInRange r.saved) (head_range : IsInRange r.head)
-    (numbered : pending wal ≢ [] → (r.head).number ≡ number_behind (r.saved).number)
+    (numbered : pending wal ≢ [] → IsNextHeader r.saved r.head)
     (header_waits : IfSome r.waiting_head (λ h. entry_pages (pending wal) 0 ≡ Some (header_bytes h))) (runs : r.ended ≡ false → wal_ended wal ≡ false)
     → ◌≡◌ {A = Records} (record {
       wal = wal;
@@ -288,7 +298,7 @@ pub same_wal : (r : Records) (wal : Wal) → wal ≡ r.wal → (saved_range : Is
       runs = runs;
     }) r
 same_wal r wal same saved_range head_range numbered header_waits runs =
-    subst (λ (w : Wal). (n : pending w ≢ [] → (r.head).number ≡ number_behind (r.saved).number)
+    subst (λ (w : Wal). (n : pending w ≢ [] → IsNextHeader r.saved r.head)
     (h : IfSome r.waiting_head (λ h. entry_pages (pending w) 0 ≡ Some (header_bytes h))) (k : r.ended ≡ false → wal_ended w ≡ false)
     → ◌≡◌ {A = Records} (record {
       wal = w;
@@ -305,7 +315,7 @@ same_wal r wal same saved_range head_range numbered header_waits runs =
     (sym same) (λ n h k.
     let one : IsProp (IsInRange r.saved) = hlevel props in
     let two : IsProp (IsInRange r.head) = hlevel props in
-    let three : IsProp (pending r.wal ≢ [] → (r.head).number ≡ number_behind (r.saved).number) = hlevel props in
+    let three : IsProp (pending r.wal ≢ [] → IsNextHeader r.saved r.head) = hlevel props in
     let four : IsProp (IfSome r.waiting_head (λ h. entry_pages (pending r.wal) 0 ≡ Some (header_bytes h))) = hlevel props in
     let five : IsProp (r.ended ≡ false → wal_ended r.wal ≡ false) = hlevel props in
     λ i. record {

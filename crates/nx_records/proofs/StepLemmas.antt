@@ -4,7 +4,7 @@ use Rattle.std.proofs.lemmas.Bool.{cases_Bool, cases_lt, eqb-true, eq-eqb, false
 use Rattle.std.proofs.lemmas.List.{get_or-set_other, get_or-set_same, get_or_past}
 use Rattle.std.specs.Prelude.{◌==◌, ◌≢◌, ◌^◌, ◌&&◌, if◌then◌else◌, nat_lt, slice_index_or, slice_set, Option, Some, None, IsSome}
 use Rattle.nx_host.specs.declared.disk.Disk.{Ghosts}
-use Rattle.std.specs.Option.{option_or}
+use Rattle.std.specs.Option.{option_or, is_some}
 use Rattle.nx_replay.specs.Log.{Pages, replay}
 use Rattle.nx_slots.specs.Slots.{IsSlotted, slots_of}
 use Rattle.nx_slots.specs.Edits.{with_record, without_record, HasRecord, IsPut, free_in, record_bytes, growth_of, bytes_in, needed_for}
@@ -16,6 +16,7 @@ use Rattle.nx_host.specs.Disk.{Image}
 use Rattle.nx_wal.specs.declared.wal.Wal.{Wal}
 use Rattle.nx_wal.specs.Wal.{IsInStep, PutsRecord, current}
 use Rattle.nx_holdings.specs.declared.header.Header.{Header}
+use Rattle.nx_holdings.specs.Header.{newest_format}
 use Rattle.nx_holdings.specs.Holdings.{with_page, free_bytes, record_in, Held, HoldsBehind, times, IsFreeList, Shares, IsShared}
 use Rattle.nx_holdings.proofs.TimesLemmas.{times_one, times-cons}
 use Rattle.nx_holdings.proofs.SharedLemmas.{named_parts}
@@ -159,6 +160,34 @@ module _ {pages : Pages} {h : Header} {held : Held} (holds : HoldsBehind pages h
           over_twice : (b : Bool) (o : Option (List ℕ)) → (if b then Some bytes else (if b then None else o)) ≡ (if b then Some bytes else o)
           over_twice true o = refl
           over_twice false o = refl
+
+  -- ... to the bytes that it has
+  pub same_holds : (page slot : ℕ) (slots : List (Option (List ℕ))) (bytes : List ℕ) → HasSlots pages page slots → slice_index_or slots slot None ≡ Some bytes → UpdatesRecord page slot bytes page slot held held
+  same_holds page slot slots bytes has there = record {
+    was_there = ap is_some here;
+    was_none =
+        ap (λ (b : Bool). if b && (slot == slot) then None else held.records page slot) (eq-eqb page page refl)
+        ∙ ap (λ (b : Bool). if b then None else held.records page slot) (eq-eqb slot slot refl);
+    changes = record { records = λ i p s. each p s i; lists = refl; catalog = refl; settings = refl };
+    stays = λ none. (refl, refl);
+    free = omega arith;
+  }
+    where
+      here : held.records page slot ≡ Some bytes
+      here = holds.records page slot ∙ page_records page slots has slot ∙ there
+
+      each : (p s : ℕ) → held.records p s ≡ records_with (records_with held.records page slot None) page slot (Some bytes) p s
+      each p s = elim (cases_Bool ((p == page) && (s == slot))) [
+        | inl both ↦
+            elim (cases_Bool (p == page)) [
+              | inl one ↦
+                  let other : (s == slot) ≡ true = ap (λ (b : Bool). b && (s == slot)) (sym one) ∙ both in
+                  ap (λ (q : ℕ). held.records q s) (eqb-true p page one) ∙ ap (λ (t : ℕ). held.records page t) (eqb-true s slot other) ∙ here
+                  ∙ sym (ap (λ (b : Bool). if b then Some bytes else records_with held.records page slot None p s) both)
+              | inr none ↦ absurd (false≢true (ap (λ (b : Bool). b && (s == slot)) (sym none) ∙ both))
+            ]
+        | inr fails ↦ sym (ap (λ (b : Bool). if b then Some bytes else (if b then None else held.records p s)) fails)
+      ]
 
   -- a record is taken out of a slotted page, which has others
   pub clear_holds : (page slot : ℕ) (slots : List (Option (List ℕ))) (page_bytes : List ℕ) → page < h.pages → HasSlots pages page slots → HasRecord slots slot → IsSlotted page_bytes
@@ -337,7 +366,7 @@ module _ {D : Type 0} (d : Ghosts D) (r0 r1 r2 : Records) (before : D) where
       let under : record r2.head { room = page } ≡ numbered (next_number r1) base = ap (λ (h : Header). record h { room = page }) stored.0 in (
         r.0,
         subst (λ (p : Pages). HoldsBehind p (record r2.head { room = page }) r.0) (sym pages)
-            (subst (λ (h : Header). HoldsBehind (with_page (current r0.wal was) page page_bytes) h r.0) (sym under) (holds_numbered (next_number r1) r.1)),
+            (subst (λ (h : Header). HoldsBehind (with_page (current r0.wal was) page page_bytes) h r.0) (sym under) (holds_numbered newest_format (next_number r1) r.1)),
         r.2,
       )
 

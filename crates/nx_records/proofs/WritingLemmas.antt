@@ -9,7 +9,7 @@ use Rattle.nx_chain.specs.Chain.{chain_bytes}
 use Rattle.nx_wal.specs.declared.wal.Wal.{Wal}
 use Rattle.nx_wal.specs.Wal.{current}
 use Rattle.nx_holdings.specs.declared.header.Header.{Header}
-use Rattle.nx_holdings.specs.Header.{header_bytes, IsInRange}
+use Rattle.nx_holdings.specs.Header.{header_bytes, newest_format, IsInRange}
 use Rattle.nx_holdings.specs.Holdings.{with_page, free_bytes, Link, next_of, content_of, chain_count, Held, HoldsBehind, HoldsBy}
 use Rattle.nx_holdings.specs.Laws.{pages_of_list}
 use Rattle.nx_holdings.proofs.TimesLemmas.{other_page}
@@ -18,15 +18,15 @@ use Rattle.nx_holdings.proofs.ChainLemmas.{Names, one_next, one_content}
 use Rattle.nx_links.specs.Beside.{HeldBeside, HoldsBeside, KeepsCatalog, KeepsBeside}
 use Rattle.nx_links.proofs.ListLemmas.{has_first}
 use Rattle.nx_links.proofs.BesideLemmas.{IsLoosed, loose_first, loose_unused, put_link, give_link, room_apart, chain_from, chain_count_of, first_low}
-use Rattle.nx_links.proofs.JoinLemmas.{beside_header, all_lists, all_but, enter_none, enter, freed_holds, written_holds, catalog_holds}
+use Rattle.nx_links.proofs.JoinLemmas.{beside_header, all_lists, all_but, enter_none, enter, freed_holds, written_holds}
 use Rattle.nx_records.specs.declared.records.Records.{Records}
 use Rattle.nx_records.specs.declared.error.StoreError.{StoreError}
 use Rattle.nx_records.specs.declared.error.StoreError.TheVariants as error
 use Rattle.nx_records.specs.Records.{has_ended, has_free, next_number, KeepsLog, StandsFor}
-use Rattle.nx_records.specs.Changes.{WritesList, SetsCatalog}
+use Rattle.nx_records.specs.Changes.{WritesList}
 use Rattle.nx_records.specs.Refusals.{EndNow, NotChanged, NotStored}
 use Rattle.nx_records.specs.Pages.{SeesSo, StepsTo, IsPageTaken, NotTaken, numbered, released}
-use Rattle.nx_records.specs.Chains.{HasLink, NoLink, NotListed, MayLead, link_before, IsContentAt, IsWritten, IsChainLeft, ChainStepsTo, FreesTo, BesideSo, Nowhere, NotLed, NotGivenBack, with_catalog}
+use Rattle.nx_records.specs.Chains.{HasLink, NoLink, NotListed, MayLead, link_before, IsContentAt, IsWritten, IsChainLeft, ChainStepsTo, FreesTo, BesideSo, Nowhere, NotLed, NotGivenBack}
 use Rattle.nx_records.proofs.StandLemmas.{Stores, step_kept, saved_kept, keeps_then}
 use Rattle.nx_records.proofs.StepLemmas.{first_free, none_free}
 use Rattle.nx_records.proofs.RefusalLemmas.{keeps_self, runs_on, ends_later, ended_now}
@@ -54,10 +54,10 @@ taken_keeps : {pages : Pages} {h h1 : Header} {page : ℕ} → IsPageTaken pages
 taken_keeps (inl free) = record { settings = ap (λ (x : Header). x.settings) free.head; catalog = ap (λ (x : Header). x.catalog) free.head; catalog_length = ap (λ (x : Header). x.catalog_length) free.head }
 taken_keeps (inr new) = record { settings = ap (λ (x : Header). x.settings) new.head; catalog = ap (λ (x : Header). x.catalog) new.head; catalog_length = ap (λ (x : Header). x.catalog_length) new.head }
 
-catalog_then : {a b c : Header} → KeepsCatalog a b → KeepsCatalog b c → KeepsCatalog a c
+pub catalog_then : {a b c : Header} → KeepsCatalog a b → KeepsCatalog b c → KeepsCatalog a c
 catalog_then one two = record { settings = two.settings ∙ one.settings; catalog = two.catalog ∙ one.catalog; catalog_length = two.catalog_length ∙ one.catalog_length }
 
-catalog_numbered : {a b : Header} (number : ℕ) → b ≡ numbered number a → KeepsCatalog a b
+pub catalog_numbered : {a b : Header} (number : ℕ) → b ≡ numbered number a → KeepsCatalog a b
 catalog_numbered number same = record { settings = ap (λ (x : Header). x.settings) same; catalog = ap (λ (x : Header). x.catalog) same; catalog_length = ap (λ (x : Header). x.catalog_length) same }
 
 -- a page is taken, and comes in front of a chain
@@ -190,13 +190,13 @@ module _ {D : Type 0} (d : Ghosts D) (r0 r1 r2 : Records) (x0 x1 x2 : D) (named 
 pub ended_behind : {r0 r1 r2 : Records} → has_ended r0 ≡ false → KeepsLog r0 r1 → (has_ended r2 ≡ true) × (r2.wal ≡ r1.wal) × (r2.saved ≡ r1.saved) × (r2.head ≡ r1.head) → EndNow r0 r2
 ended_behind {r0 = r0} {r1 = r1} {r2 = r2} runs keeps ended = ends_later {r0 = r0} {r1 = r1} {r2 = r2} runs keeps (ended_now {r0 = r1} {r1 = r1} {r2 = r2} keeps.runs refl ended)
 
-no_full : (page : ℕ) → error.Damaged page ≡ error.Full → ⊥
+pub no_full : (page : ℕ) → error.Damaged page ≡ error.Full → ⊥
 no_full page same = cc
 
-memory_full : error.Memory ≡ error.Full → ⊥
+pub memory_full : error.Memory ≡ error.Full → ⊥
 memory_full same = cc
 
-disk_full : error.Disk ≡ error.Full → ⊥
+pub disk_full : error.Disk ≡ error.Full → ⊥
 disk_full same = cc
 
 module _ {D : Type 0} (d : Ghosts D) (r0 r1 : Records) (x0 x1 : D) (named : ℕ) (Starts : List Link → Type 0) where
@@ -293,7 +293,7 @@ all_there {h = h} holds first list other there =
     sym (ap (λ (b : Bool). if b then None else all_lists holds first) (other_page first h.catalog other)) ∙ sym (holds.lists first) ∙ there
 
 -- what is held beside a chain, by what it was
-beside_is : (next : HeldBeside) {records : ℕ → ℕ → Option (List ℕ)} {lists : ℕ → Option (List ℕ)} → next.records ≡ records → next.lists ≡ lists
+pub beside_is : (next : HeldBeside) {records : ℕ → ℕ → Option (List ℕ)} {lists : ℕ → Option (List ℕ)} → next.records ≡ records → next.lists ≡ lists
     → next ≡ record { records = records; lists = lists; free = next.free }
 beside_is next {records = records} same_records same_lists =
     ap (λ (r : ℕ → ℕ → Option (List ℕ)). record { records = r; lists = next.lists; free = next.free }) same_records
@@ -341,32 +341,6 @@ module _ {D : Type 0} (d : Ghosts D) (r0 r1 : Records) (before : D) where
         ),
       )
 
--- the catalog's chain is given back, and another written
-module _ {D : Type 0} (d : Ghosts D) (r0 r1 r2 r3 : Records) (x0 x1 : D) where
-  pub catalog_steps : (first : ℕ) (bytes : List ℕ) → 1 ≤ length bytes → KeepsLog r0 r1 → IsStill d x0 x1
-      → ChainStepsTo d r0 r1 x0 (λ links. next_of links ≡ r0.head.catalog) (λ links more. (more ≡ []) × (length (content_of links) ≡ r0.head.catalog_length))
-      → ChainStepsTo d r1 r2 x1 (λ links. links ≡ []) (λ links more. (next_of more ≡ first) × (content_of more ≡ bytes))
-      → (r3.wal ≡ r2.wal) × (r3.head ≡ with_catalog first (length bytes) r2.head) → StepsTo d r0 r3 x0 (λ was now. SetsCatalog bytes was now)
-  catalog_steps first bytes some keeps still gives writes is was held step holds =
-      let entered = enter holds r0.head.catalog held.catalog holds.catalog in
-      let one = gives was entered.links (record { records = held.records; lists = all_but holds r0.head.catalog; free = held.free }) step entered.holds entered.here in
-      let two = writes was one.more one.next (step_kept {r0 = r0} {r1 = r1} keeps still step) one.holds (one.comes).0 in
-      let beside = subst (λ (b : HeldBeside). HoldsBeside (current r2.wal was) r2.head two.more b)
-      (beside_is two.next ((two.keeps).records ∙ (one.keeps).records) ((two.keeps).lists ∙ (one.keeps).lists)) two.holds in
-      let holds2 = catalog_holds holds (two.next).free bytes (two.comes).1 some beside (catalog_then one.catalog two.catalog) in
-      let head : r3.head ≡ with_catalog (next_of two.more) (length bytes) r2.head = is.1 ∙ ap (λ (f : ℕ). with_catalog f (length bytes) r2.head) (sym (two.comes).0) in
-      let old = chain_count_of entered.holds in
-      let old_long = ap (λ (b : List ℕ). chain_count (length b)) entered.are in
-      let new = chain_count_of two.holds in
-      let new_long = ap (λ (b : List ℕ). chain_count (length b)) (two.comes).1 in
-      let given = (one.keeps).free in
-      let put = (two.keeps).free in (
-        record held { catalog = bytes; free = (two.next).free },
-        subst (λ (w : Wal). HoldsBehind (current w was) r3.head (record held { catalog = bytes; free = (two.next).free })) (sym is.0)
-            (subst (λ (x : Header). HoldsBehind (current r2.wal was) x (record held { catalog = bytes; free = (two.next).free })) (sym head) holds2),
-        record { catalog = refl; records = refl; lists = refl; settings = refl; free = omega (arith, old, old_long, new, new_long, given, put) },
-      )
-
 -- With the header put, what is held behind it is what the records stand for.
 pub header_stands : {D : Type 0} {d : Ghosts D} {r0 r2 : Records} {x0 x2 : D} {saved now next : Held} (r1 : Records) → KeepsLog r0 r2 → IsStill d x0 x2 → IsInRange r2.head → r2.head ≡ numbered (next_number r1) r1.head
     → ((was : Image) → current r2.wal was ≡ with_page (current r1.wal was) 0 (header_bytes r2.head)) → (stands : StandsFor d r0 x0 saved now) → HoldsBehind (current r1.wal (stands.keeps).image) r1.head next
@@ -379,7 +353,7 @@ header_stands {r0 = r0} {r2 = r2} {saved = saved} {next = next} r1 keeps still r
     holds = subst (λ (h : Header). HoldsBy (replay (stands.keeps).image) h saved) (sym keeps.saved) (stands.keeps).holds;
   };
   holds = subst (λ (p : Pages). HoldsBy p r2.head next) (sym (pages (stands.keeps).image))
-      (holds_all range (subst (λ (h : Header). HoldsBehind (current r1.wal (stands.keeps).image) h next) (sym head) (holds_numbered (next_number r1) behind)));
+      (holds_all range (subst (λ (h : Header). HoldsBehind (current r1.wal (stands.keeps).image) h next) (sym head) (holds_numbered newest_format (next_number r1) behind)));
 }
 
 -- the pages of a list that is written

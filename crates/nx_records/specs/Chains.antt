@@ -1,18 +1,19 @@
 -- What the steps of a call read of chains, and make of them.
-use Rattle.std.specs.Prelude.{◌≡◌, ◌≢◌, ℕ, ◌+◌, ◌*◌, ◌<◌, ◌≤◌, false, List, ◌∷◌, ◌++◌, length, drop, Some}
+use Rattle.std.specs.Prelude.{◌≡◌, ◌≢◌, ◌⊎◌, ℕ, ◌+◌, ◌*◌, ◌<◌, ◌≤◌, false, List, ◌∷◌, ◌++◌, length, drop, Some}
 use Rattle.nx_numbers.specs.Sizes.{page_room}
 use Rattle.nx_host.specs.Disk.{Image, Rose}
 use Rattle.nx_host.specs.declared.disk.Disk.{Ghosts}
 use Rattle.nx_replay.specs.Log.{Pages}
+use Rattle.nx_chain.specs.Chain.{chain_bytes}
 use Rattle.nx_wal.specs.Wal.{IsInStep, current}
 use Rattle.nx_holdings.specs.declared.header.Header.{Header}
-use Rattle.nx_holdings.specs.Holdings.{Link, next_of, content_of, chain_count, Held, HoldsBehind}
+use Rattle.nx_holdings.specs.Holdings.{Link, next_of, content_of, pages_of_links, times, chain_count, Held, HoldsBehind}
 use Rattle.nx_links.specs.Lists.{IsLinkAt, IsListFrom}
 use Rattle.nx_links.specs.Beside.{HeldBeside, HoldsBeside, KeepsCatalog, KeepsBeside}
-use Rattle.nx_records.specs.Records.{has_ended, has_free, KeepsLog}
+use Rattle.nx_records.specs.Records.{has_ended, has_free, current_pages, waiting, KeepsLog, PutsChangedAlone}
 use Rattle.nx_records.specs.Changes.{FreesList}
 use Rattle.nx_records.specs.Refusals.{EndNow}
-use Rattle.nx_records.specs.Pages.{SeesSo}
+use Rattle.nx_records.specs.Pages.{SeesSo, PutsPage}
 use Rattle.nx_records.specs.declared.records.Records.{Records}
 use Rattle.nx_records.specs.declared.error.StoreError.{StoreError}
 use Rattle.nx_records.specs.declared.error.StoreError.TheVariants as error
@@ -29,6 +30,10 @@ NoLink limit page pages = page < limit → (next : ℕ) (content : List ℕ) →
 -- each chain page was one before
 abbrev pub AddsNoLink : (was now : Pages) → Type 0
 AddsNoLink was now = (page next : ℕ) (content : List ℕ) → HasLink now page next content → HasLink was page next content
+
+-- each chain page was one before with the same next page, and had as many bytes
+abbrev pub KeepsLinks : (was now : Pages) → Type 0
+KeepsLinks was now = (page next : ℕ) (content : List ℕ) → HasLink now page next content → (had : List ℕ) × HasLink was page next had × (length had ≡ length content)
 
 -- no list of so many bytes begins at the page
 abbrev pub NoListFrom : (limit page len : ℕ) → Pages → Type 0
@@ -79,10 +84,14 @@ pub record ChainLeads (pages : Pages) (was now : Header) (links : List Link) (he
   pub keeps : KeepsBeside links held more next
   pub comes : Comes more
 
--- Of a chain that is so the steps have made one that came of it so, and beside it the same is held. The header's page may be older.
+-- Of a chain that is so the steps have made one that came of it so over the image, and beside it the same is held. The header's page may be older.
+abbrev pub LinksStepTo : {D : Type 0} → Ghosts D → Records → Records → D → (List Link → Type 0) → (Image → List Link → List Link → Type 0) → Type 0
+LinksStepTo d old new before Starts Comes = (was : Image) (links : List Link) (held : HeldBeside) → IsInStep d old.wal before was → HoldsBeside (current old.wal was) old.head links held → Starts links
+    → ChainLeads (current new.wal was) old.head new.head links held (Comes was links)
+
+-- ... whatever the image is
 abbrev pub ChainStepsTo : {D : Type 0} → Ghosts D → Records → Records → D → (List Link → Type 0) → (List Link → List Link → Type 0) → Type 0
-ChainStepsTo d old new before Starts Comes = (was : Image) (links : List Link) (held : HeldBeside) → IsInStep d old.wal before was → HoldsBeside (current old.wal was) old.head links held → Starts links
-    → ChainLeads (current new.wal was) old.head new.head links held (Comes links)
+ChainStepsTo d old new before Starts Comes = LinksStepTo d old new before Starts (λ was. Comes)
 
 -- Where a list is at the first page, it has this length, and the steps have made what is held without it of what is held behind the header.
 abbrev pub FreesTo : {D : Type 0} → Ghosts D → Records → Records → D → (first len : ℕ) → Type 0
@@ -114,3 +123,46 @@ NotGivenBack d Starts named e old new before after = NotLed d Starts Nowhere nam
 -- the header with another catalog
 abbrev pub with_catalog : (first len : ℕ) → Header → Header
 with_catalog first len h = record h { catalog = first; catalog_length = len }
+
+-- The chain page that had other content was put with this, and left alone where that is what it had.
+abbrev pub SetsLink : (page next : ℕ) → (had content : List ℕ) → Records → Records → Type 0
+SetsLink page next had content old new = ((content ≡ had) × (new ≡ old)) ⊎ ((content ≡ had → ⊥) × PutsPage page (chain_bytes next content) old new)
+
+-- The page is one of the chain, and this content may stand there.
+pub record MayChange (page : ℕ) (content : List ℕ) (links : List Link) : Type 0 where
+  pub done : List Link
+  pub rest : List Link
+  pub are : links ≡ done ++ rest
+  pub here : next_of rest ≡ page
+  pub full : 2 ≤ length rest → length content ≡ page_room
+
+-- A chain that begins at the page, of so many bytes on as many pages as they take.
+pub record IsChainOf (first len : ℕ) (links : List Link) : Type 0 where
+  pub begins : next_of links ≡ first
+  pub long : length (content_of links) ≡ len
+  pub count : length links ≡ chain_count len
+
+-- The first pages of a chain have the bytes that stand there, the rest of them begins at the page, and so many bytes of the old ones are left.
+pub record IsPassed (bytes : List ℕ) (index page left len : ℕ) (links more : List Link) : Type 0 where
+  pub passed : List Link
+  pub done : List Link
+  pub rest : List Link
+  pub were : links ≡ passed ++ rest
+  pub now : more ≡ done ++ rest
+  pub pages : pages_of_links done ≡ pages_of_links passed
+  pub here : next_of rest ≡ page
+  pub count : length passed ≡ index
+  pub are : content_of done ++ drop (index * page_room) bytes ≡ bytes
+  pub counted : length (content_of passed) + left ≡ len
+
+-- ... and each page has other bytes than before and is one of those, or waits as it did.
+pub record IsOver (old new : Records) (was : Image) (bytes : List ℕ) (index page left len : ℕ) (links more : List Link) : Type 0 where
+  pub passed : IsPassed bytes index page left len links more
+  pub waits : (p : ℕ) → (waiting new p ≡ waiting old p) ⊎ ((1 ≤ times p (pages_of_links passed.done)) × (current_pages new was p ≡ current_pages old was p → ⊥))
+
+-- In the place of a chain of so many bytes stands one of these, which begins at the page. Where it takes as many pages, those alone were put whose bytes changed.
+pub record IsRewritten (old new : Records) (was : Image) (first len : ℕ) (bytes : List ℕ) (links more : List Link) : Type 0 where
+  pub begins : next_of more ≡ first
+  pub are : content_of more ≡ bytes
+  pub long : length (content_of links) ≡ len
+  pub alone : chain_count len ≡ chain_count (length bytes) → PutsChangedAlone old new was

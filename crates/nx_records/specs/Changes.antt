@@ -85,6 +85,11 @@ pub record FreesList (first : ℕ) (was now : Held) : Type 0 where
   pub changes : ChangesLists was now (lists_with was.lists first None)
   pub free : was.free + pages_of_list (was.lists first) ≤ now.free
 
+-- The list at a first page has other bytes, and at most so many fewer pages are free as these take more.
+pub record ChangesList (first : ℕ) (bytes : List ℕ) (was now : Held) : Type 0 where
+  pub changes : ChangesLists was now (lists_with was.lists first (Some bytes))
+  pub free : was.free + pages_of_list (was.lists first) ≤ now.free + chain_count (length bytes)
+
 -- The catalog was replaced. Its old chain pages are free, and at most so many fewer as the new ones are.
 pub record SetsCatalog (bytes : List ℕ) (was now : Held) : Type 0 where
   pub catalog : now.catalog ≡ bytes

@@ -5,12 +5,12 @@ use Rattle.nx_replay.specs.Log.{Pages}
 use Rattle.nx_chain.specs.Chain.{chain_bytes}
 use Rattle.nx_holdings.specs.declared.header.Header.{Header}
 use Rattle.nx_holdings.specs.declared.header.Settings.{Settings}
-use Rattle.nx_holdings.specs.Header.{header_bytes}
+use Rattle.nx_holdings.specs.Header.{header_bytes, newest_format}
 use Rattle.nx_holdings.specs.Holdings.{with_page}
 
 -- its header
 abbrev pub first_head : Settings → Header
-first_head settings = record { format = 1; settings = settings; pages = 2; free = 0; room = 0; number = 0; catalog = 1; catalog_length = 8 }
+first_head settings = record { format = newest_format; settings = settings; pages = 2; free = 0; room = 0; number = 0; catalog = 1; catalog_length = 8 }
 
 -- the header, and the page of a catalog without documents and rules
 abbrev pub first_pages : Header → Pages

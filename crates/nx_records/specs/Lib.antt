@@ -4,6 +4,7 @@ pub mod Records
 pub mod Changes
 pub mod Room
 pub mod Refusals
+pub mod Reading
 pub mod Pages
 pub mod Chains
 pub mod First

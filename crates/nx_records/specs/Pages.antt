@@ -6,8 +6,9 @@ use Rattle.nx_replay.specs.Log.{Pages}
 use Rattle.nx_slots.specs.Slots.{IsSlotted, slots_of}
 use Rattle.nx_wal.specs.Wal.{IsInStep, current}
 use Rattle.nx_holdings.specs.declared.header.Header.{Header}
-use Rattle.nx_holdings.specs.Holdings.{Held, HoldsBehind, free_bytes}
-use Rattle.nx_records.specs.Records.{has_free, KeepsLog}
+use Rattle.nx_holdings.specs.Header.{newest_format}
+use Rattle.nx_holdings.specs.Holdings.{with_page, Held, HoldsBehind, free_bytes}
+use Rattle.nx_records.specs.Records.{has_free, next_number, waiting, KeepsLog}
 use Rattle.nx_records.specs.Refusals.{EndNow}
 use Rattle.nx_records.specs.declared.records.Records.{Records}
 use Rattle.nx_records.specs.declared.error.StoreError.{StoreError}
@@ -49,9 +50,14 @@ NotFound d P named error.NotAStore old new before after = ⊥
 NotFound d P named error.Full old new before after = ⊥
 NotFound d P named error.Memory old new before after = ⊥
 
--- the header with this number
+-- the header of a commit with this number, which writes the newest format
 abbrev pub numbered : ℕ → Header → Header
-numbered number h = record h { number = number }
+numbered number h = record h { format = newest_format; number = number }
+
+-- The page waits with these bytes, and all others as they did.
+pub record PutsPage (page : ℕ) (bytes : List ℕ) (old new : Records) : Type 0 where
+  pub head : new.head ≡ numbered (next_number old) old.head
+  pub waits : (p : ℕ) → waiting new p ≡ with_page (waiting old) page bytes p
 
 -- The page was taken from the free list, or was the first that was never used.
 pub record IsFirstFree (pages : Pages) (page : ℕ) (was now : Header) : Type 0 where

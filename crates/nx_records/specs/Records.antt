@@ -2,7 +2,7 @@
 use Rattle.std.specs.Prelude.{◌≡◌, ◌≢◌, ◌==◌, if◌then◌else◌, nat_lt, ℕ, Bool, true, false, List, [], length}
 use Rattle.nx_host.specs.Disk.{Image}
 use Rattle.nx_host.specs.declared.disk.Disk.{Ghosts}
-use Rattle.nx_replay.specs.Log.{Pages, groups, end_of, replay, HasMark}
+use Rattle.nx_replay.specs.Log.{Pages, groups, end_of, entry_pages, replay, HasMark}
 use Rattle.nx_wal.specs.Wal.{IsInStep, Follows, current, pending, length_of}
 use Rattle.nx_holdings.specs.declared.header.Header.{Header}
 use Rattle.nx_holdings.specs.declared.header.Settings.{Settings}
@@ -51,6 +51,10 @@ last_number records = (records.saved).number
 abbrev pub next_number : Records → ℕ
 next_number records = number_behind (last_number records)
 
+-- the format that the last commit's header says
+abbrev pub format_of : Records → ℕ
+format_of records = (records.saved).format
+
 -- something waits for a commit
 abbrev pub HasChanges : Records → Type 0
 HasChanges records = pending records.wal ≢ []
@@ -66,6 +70,14 @@ IsInStepWith d records disk image = IsInStep d records.wal disk image
 -- the pages as the changes that wait, else those of the image, have them
 abbrev pub current_pages : Records → Image → Pages
 current_pages records image = current records.wal image
+
+-- the pages that wait for a commit
+abbrev pub waiting : Records → Pages
+waiting records = entry_pages (pending records.wal)
+
+-- Of the pages beside the header's, each that has the bytes that it had waits only as it did before.
+abbrev pub PutsChangedAlone : Records → Records → Image → Type 0
+PutsChangedAlone old new was = (page : ℕ) → page ≢ 0 → current_pages new was page ≡ current_pages old was page → waiting new page ≡ waiting old page
 
 -- page 0 of the image begins as that of a store does
 abbrev pub HasHeader : Image → Type 0

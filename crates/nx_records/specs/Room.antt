@@ -19,6 +19,6 @@ pub record FitsRoom (pages : Pages) (head : Header) (bytes : List ℕ) : Type 0 
 abbrev pub HasRoomFor : Records → Pages → List ℕ → Type 0
 HasRoomFor records pages bytes = FitsRoom pages records.head bytes ⊎ (has_free records ≡ true)
 
--- no page was taken: none of the free list, and none that was never used
+-- no page was taken and none given back: the free list begins where it began, and no page more was used
 abbrev pub TakesNoPage : Records → Records → Type 0
 TakesNoPage old new = ((new.head).free ≡ (old.head).free) × (page_count_of new ≡ page_count_of old)

@@ -1,10 +1,12 @@
 // Reading chains, page by page.
-ghost use Rattle.std.specs.Prelude.{List as Items, ◌≡◌, ◌≢◌, ◌⊎◌, ◌+◌, ◌*◌, ◌<◌, ◌≤◌, ℕ, length, true, false, IfOk, IfErr};
+ghost use Rattle.std.specs.Prelude.{List as Items, ◌≡◌, ◌≢◌, ◌⊎◌, ◌+◌, ◌*◌, ◌<◌, ◌≤◌, ℕ, length, true, false, IfOk, IfErr, IfSome, IfNone};
 ghost use Rattle.nx_numbers.specs.Sizes.{page_room};
 ghost use Rattle.nx_host.specs.Still.{IsStill};
 ghost use Rattle.nx_holdings.specs.Holdings.{chain_count};
-ghost use Rattle.nx_links.specs.Lists.{IsListFrom};
+ghost use Rattle.nx_links.specs.Lists.{IsLinkAt, IsListFrom, IsListStep};
+ghost use Rattle.nx_replay.specs.Log.{Pages};
 
+use crate::reading::ListReader;
 use crate::{Records, StoreError};
 use nx_chain::{ChainPage, read_chain_page};
 use nx_host::Disk;
@@ -14,7 +16,7 @@ use nx_slots::PageBytes;
 use std::alloc::Global;
 
 // Whether a page of so many bytes may have this next page: all but the last of a chain are full.
-fn may_stand(next: u32, len: usize) -> bool
+pub(crate) fn may_stand(next: u32, len: usize) -> bool
     ensures yes { result ≡ true → next ≢ 0 → len ≡ page_room }
     ensures no { result ≡ false → (next ≢ 0) × (len ≢ page_room) }
 {
@@ -24,6 +26,7 @@ fn may_stand(next: u32, len: usize) -> bool
 impl Records {
     ghost use Rattle.nx_records.specs.Records.{has_ended, page_count_of};
     ghost use Rattle.nx_records.specs.Pages.{SeesSo};
+    ghost use Rattle.nx_records.specs.Reading.{Opens, IsBlock};
     ghost use Rattle.nx_records.specs.Chains.{HasLink, NoLink, NoListFrom, NotListed};
 
     // Whether a list of so many bytes may begin at a page: it has a byte, and isn't the catalog.
@@ -55,6 +58,7 @@ impl Records {
         ensures reads { D.reads disk.new ≤ D.reads disk.old + 1 }
         ensures ok { IfOk result (λ link. (self.new ≡ self.old) × (page < self.old.head.pages) × (1 ≤ length link.content) × (link.next ≢ 0 → length link.content ≡ page_room)
             × SeesSo D.Disk self.old disk.old (λ pages. HasLink pages page link.next link.content)) }
+        ensures few { IfOk result (λ link. length link.content ≤ page_room) }
         ensures refused { IfErr result (λ e. NotListed D.Disk (NoLink self.old.head.pages page) named e self.old self.new disk.old disk.new) }
     {
         if page >= self.head.pages {
@@ -78,6 +82,44 @@ impl Records {
         Ok(link)
     }
 
+    // How a chain of so many bytes is read from a page on, where there may be one. No page is read yet.
+    pub(crate) fn start_chain(&self, first: u32, len: u64) -> Option<ListReader>
+        ensures some { IfSome result (λ reader. Opens reader first len × (len ≤ page_room * page_count_of self.now)) }
+        ensures none { IfNone result ((pages : Pages) → NoListFrom self.now.head.pages first len pages) }
+    {
+        if self.may_have(len) {
+            ListReader::new(first, len)
+        } else {
+            None
+        }
+    }
+
+    // The bytes on the next page of a chain of which some are left.
+    pub(crate) fn read_on<D: Disk>(
+        &mut self,
+        alloc: Global,
+        disk: &mut D,
+        reader: &mut ListReader,
+        named: u32,
+    ) -> Result<List<u8>, StoreError>
+        requires runs { has_ended self.old ≡ false }
+        requires some { reader.old.left ≢ 0 }
+        ensures still { IsStill D.Disk disk.old disk.new }
+        ensures reads { D.reads disk.new ≤ D.reads disk.old + 1 }
+        ensures ok { IfOk result (λ block. (self.new ≡ self.old) × IsBlock reader.old reader.new block) }
+        ensures stood { IfOk result (λ block. SeesSo D.Disk self.old disk.old (λ pages. IsLinkAt pages reader.old.next reader.new.next block)) }
+        ensures step { IfOk result (λ block. SeesSo D.Disk self.old disk.old (λ pages. IsListStep self.old.head.pages pages reader.old.next reader.new.next block)) }
+        ensures refused { IfErr result (λ e. NotListed D.Disk (NoListFrom self.old.head.pages reader.old.next reader.old.left) named e self.old self.new disk.old disk.new) }
+        ensures stays { IfErr result (λ e. reader.new ≡ reader.old) }
+    {
+        let link = self.link(alloc, disk, reader.next, named)?;
+        let Some(behind) = reader.behind(link.next, link.content.len() as u64) else {
+            return Err(self.damaged(named));
+        };
+        *reader = behind;
+        Ok(link.content)
+    }
+
     // The bytes on the chain pages from one on, which are so many. Also where pages run in a circle, it reads
     // no more of them than there are.
     pub(crate) fn read_chain<D: Disk>(
@@ -95,23 +137,17 @@ impl Records {
         ensures ok { IfOk result (λ bytes. (self.new ≡ self.old) × (length bytes ≡ len) × SeesSo D.Disk self.old disk.old (λ pages. IsListFrom self.old.head.pages pages first bytes)) }
         ensures refused { IfErr result (λ e. NotListed D.Disk (NoListFrom self.old.head.pages first len) named e self.old self.new disk.old disk.new) }
     {
-        if !self.may_have(len) {
+        let Some(mut reader) = self.start_chain(first, len) else {
             return Err(self.damaged(named));
-        }
-        let mut bytes = List::new(alloc);
-        let mut page = first;
-        while page != 0 {
-            if bytes.len() as u64 >= len {
-                return Err(self.damaged(named));
-            }
-            let link = self.link(alloc, disk, page, named)?;
-            let Ok(_) = bytes.extend_from_slice(link.content.as_slice()) else {
+        };
+        let Ok(mut bytes) = List::with_capacity(alloc, len as usize) else {
+            return Err(StoreError::Memory);
+        };
+        while reader.left > 0 {
+            let block = self.read_on(alloc, disk, &mut reader, named)?;
+            let Ok(_) = bytes.extend_from_slice(block.as_slice()) else {
                 return Err(StoreError::Memory);
             };
-            page = link.next;
-        }
-        if bytes.len() as u64 != len {
-            return Err(self.damaged(named));
         }
         Ok(bytes)
     }

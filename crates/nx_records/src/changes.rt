@@ -1,5 +1,5 @@
 // Putting records into pages, and taking them out.
-ghost use Rattle.std.specs.Prelude.{◌≡◌, ◌≢◌, ◌+◌, ◌<◌, ◌≤◌, ℕ, [], length, true, false, Some, None, IfOk, IfErr, IfSome, IfNone, OnOk};
+ghost use Rattle.std.specs.Prelude.{◌≡◌, ◌≢◌, ◌+◌, ◌<◌, ◌≤◌, ℕ, [], length, slice_index_or, true, false, Some, None, IfOk, IfErr, IfSome, IfNone, OnOk};
 ghost use Rattle.nx_numbers.specs.Sizes.{longest_record};
 ghost use Rattle.nx_host.specs.Disk.{Image};
 ghost use Rattle.nx_host.specs.Still.{IsStill};
@@ -10,6 +10,17 @@ use crate::{Records, Rid, StoreError};
 use nx_host::Disk;
 use nx_numbers::{PAGE_ROOM, PAGE_SIZE};
 use nx_slots::{Page, PageBytes, put_in};
+
+// Whether these bytes are the record of a slot.
+fn is_there(page: &Page, slot: u16, bytes: &[u8]) -> bool
+    ensures yes { result ≡ true → slice_index_or page.now slot None ≡ Some bytes.now }
+    ensures no { result ≡ false → slice_index_or page.now slot None ≢ Some bytes.now }
+{
+    match page.read(slot) {
+        Some(old) => old == bytes,
+        None => false,
+    }
+}
 
 impl Records {
     ghost use Rattle.nx_records.specs.Records.{has_ended, KeepsLog};
@@ -147,7 +158,8 @@ impl Records {
         Ok(Rid { page, slot })
     }
 
-    // Puts other bytes in the place of a record of a slotted page, or elsewhere where they don't fit.
+    // Puts bytes in the place of a record of a slotted page, or elsewhere where they don't fit. Where they are
+    // the same nothing is done.
     pub(crate) fn replace<D: Disk>(
         &mut self,
         disk: &mut D,
@@ -162,11 +174,15 @@ impl Records {
         requires few { length bytes.now ≤ longest_record }
         ensures still { IsStill D.Disk disk.old disk.new }
         ensures keeps { IfOk result (λ place. KeepsLog self.old self.new) }
+        ensures alone { IfOk result (λ place. slice_index_or page rid.slot None ≡ Some bytes.now → self.new ≡ self.old) }
         ensures ok { IfOk result (λ place. SeesSo D.Disk self.old disk.old (λ pages. HasSlots pages rid.page page)
             → StepsTo D.Disk self.old self.new disk.old (λ was now. UpdatesRecord rid.page rid.slot bytes.now place.page place.slot was now)) }
         ensures refused { IfErr result (λ e. SeesSo D.Disk self.old disk.old (λ pages. HasSlots pages rid.page page)
             → NotPut D.Disk (λ held. held.free < update_needs rid.page rid.slot bytes.now held) rid.page e self.old self.new disk.old disk.new) }
     {
+        if is_there(&page, rid.slot, bytes) {
+            return Ok(rid);
+        }
         match page.set(rid.slot, bytes) {
             Ok(()) => {
                 self.store(rid.page, page.bytes())?;

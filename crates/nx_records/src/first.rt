@@ -9,7 +9,7 @@ ghost use Rattle.nx_records.specs.First.{first_head, first_pages};
 
 use crate::StoreError;
 use nx_chain::chain_page;
-use nx_holdings::{Header, Settings, header_page};
+use nx_holdings::{Header, NEWEST_FORMAT, Settings, header_page};
 use nx_wal::Wal;
 
 // The header of a new store.
@@ -19,7 +19,7 @@ pub(crate) fn first_header(settings: Settings) -> Header
     ensures range { IsInRange result }
 {
     Header {
-        format: 1,
+        format: NEWEST_FORMAT,
         settings,
         pages: 2,
         free: 0,

@@ -10,10 +10,14 @@ mod first;
 pub mod laws;
 mod lists;
 mod pages;
+mod reading;
 mod records;
+mod rewriting;
 mod writing;
 
 pub use error::StoreError;
-pub use nx_holdings::{Header, Settings, read_header};
+pub use nx_holdings::{Header, NEWEST_FORMAT, Settings, read_header};
 pub use nx_numbers::MOST_PAGES;
+pub use reading::ListReader;
 pub use records::{Records, Rid};
+pub use rewriting::take_same_pages;

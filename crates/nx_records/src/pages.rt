@@ -9,10 +9,11 @@ ghost use Rattle.nx_wal.specs.Reading.{page_found};
 ghost use Rattle.nx_holdings.specs.Header.{header_bytes};
 ghost use Rattle.nx_holdings.specs.Holdings.{with_page, free_bytes};
 ghost use Rattle.nx_slots.specs.Slots.{IsSlotted};
-ghost use Rattle.nx_records.specs.Numbering.{number_behind as behind};
+ghost use Rattle.nx_records.specs.Numbering.{IsNextHeader, number_behind as behind};
+ghost use Rattle.nx_records.specs.Pages.{numbered};
 
 use crate::{Records, StoreError};
-use nx_holdings::{Header, free_page, header_page, read_free_page};
+use nx_holdings::{Header, NEWEST_FORMAT, free_page, header_page, read_free_page};
 use nx_host::Disk;
 use nx_numbers::PAGE_SIZE;
 use nx_slots::{Page, PageBytes, is_page};
@@ -26,6 +27,14 @@ fn number_behind(number: u64) -> u64
     } else {
         number + 1
     }
+}
+
+// Makes a header that of the next commit: its group has the number behind this one, and it writes the newest format.
+fn begin(header: &mut Header, last: u64)
+    ensures { header.new ≡ numbered (behind last) header.old }
+{
+    header.format = NEWEST_FORMAT;
+    header.number = number_behind(last);
 }
 
 // Whether a header is this one.
@@ -44,8 +53,8 @@ fn known_beside(page: u32, known: Option<Header>) -> Option<Header>
 }
 
 impl Records {
-    ghost use Rattle.nx_records.specs.Records.{has_ended, KeepsLog, has_free, next_number};
-    ghost use Rattle.nx_records.specs.Pages.{HasSlots, IsFreeAt, SeesSo, NotLoaded, NotFound, NotTaken, IsPageTaken, IsFirstUnused, numbered, released};
+    ghost use Rattle.nx_records.specs.Records.{has_ended, KeepsLog, has_free, next_number, waiting};
+    ghost use Rattle.nx_records.specs.Pages.{HasSlots, IsFreeAt, SeesSo, NotLoaded, NotFound, NotTaken, IsPageTaken, IsFirstUnused, PutsPage, released};
 
     // Ends the records, and answers that the page that a call names is damaged.
     pub(crate) fn damaged(&mut self, page: u32) -> StoreError
@@ -146,7 +155,7 @@ impl Records {
         Ok(slotted)
     }
 
-    // Makes a page wait for the next commit, and gives the header that commit's number.
+    // Makes a page wait for the next commit, and the header that commit's.
     pub(crate) fn store(&mut self, page: u32, bytes: &PageBytes) -> Result<(), StoreError>
         requires runs { has_ended self.old ≡ false }
         requires low { page < most_pages }
@@ -154,13 +163,14 @@ impl Records {
         ensures ok { OnOk result ((self.new.head ≡ numbered (next_number self.old) self.old.head) × (pending self.new.wal ≢ [])
             × ((was : Image) → current self.new.wal was ≡ with_page (current self.old.wal was) page bytes.now.bytes)) }
         ensures waits { OnOk result (entry_pages (pending self.new.wal) page ≡ Some bytes.now.bytes) }
+        ensures puts { OnOk result (PutsPage page bytes.now.bytes self.old self.new) }
         ensures refused { IfErr result (λ e. e ≡ StoreError.Memory) }
     {
         let Ok(_) = self.wal.put(page, bytes) else {
             return Err(StoreError::Memory);
         };
         self.waiting_head = known_beside(page, self.waiting_head);
-        self.head.number = number_behind(self.saved.number);
+        begin(&mut self.head, self.saved.number);
         Ok(())
     }
 
@@ -170,22 +180,24 @@ impl Records {
         ensures keeps { KeepsLog self.old self.new }
         ensures ok { OnOk result ((self.new.head ≡ numbered (next_number self.old) self.old.head) × (pending self.new.wal ≢ [])
             × ((was : Image) → current self.new.wal was ≡ with_page (current self.old.wal was) 0 (header_bytes self.new.head))) }
+        ensures beside { OnOk result ((p : ℕ) → p ≢ 0 → waiting self.new p ≡ waiting self.old p) }
         ensures refused { IfErr result (λ e. e ≡ StoreError.Memory) }
     {
-        self.head.number = number_behind(self.saved.number);
+        begin(&mut self.head, self.saved.number);
         if is_header(self.waiting_head, self.head) {
             return Ok(());
         }
         self.put_header()
     }
 
-    // Makes the page of the header wait, which has the next commit's number.
+    // Makes the page of the header wait, which is the next commit's.
     fn put_header(&mut self) -> Result<(), StoreError>
         requires runs { has_ended self.old ≡ false }
-        requires number { self.old.head.number ≡ next_number self.old }
+        requires next { IsNextHeader self.old.saved self.old.head }
         ensures keeps { KeepsLog self.old self.new }
         ensures ok { OnOk result ((self.new.head ≡ self.old.head) × (pending self.new.wal ≢ [])
             × ((was : Image) → current self.new.wal was ≡ with_page (current self.old.wal was) 0 (header_bytes self.new.head))) }
+        ensures beside { OnOk result ((p : ℕ) → p ≢ 0 → waiting self.new p ≡ waiting self.old p) }
         ensures refused { IfErr result (λ e. e ≡ StoreError.Memory) }
     {
         let page = header_page(&self.head);

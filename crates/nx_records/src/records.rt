@@ -6,9 +6,9 @@ ghost use Rattle.nx_host.specs.Disk.{Image};
 ghost use Rattle.nx_host.specs.Still.{IsStill, IsSettled, WritesAlone};
 ghost use Rattle.nx_replay.specs.Log.{entry_pages, groups, replay, group_size, Stays, HasSame, HasGroup};
 ghost use Rattle.nx_wal.specs.Wal.{pending, next_group, wal_ended};
-ghost use Rattle.nx_holdings.specs.Header.{AreSettings, IsInRange, header_bytes};
+ghost use Rattle.nx_holdings.specs.Header.{AreSettings, IsInRange, header_bytes, newest_format};
 ghost use Rattle.nx_holdings.specs.Holdings.{Held, Holds};
-ghost use Rattle.nx_records.specs.Numbering.{number_behind};
+ghost use Rattle.nx_records.specs.Numbering.{IsNextHeader};
 
 use crate::StoreError;
 use crate::first::{first_header, put_first};
@@ -44,13 +44,13 @@ pub struct Records {
     pub(crate) ended: bool,
     ghost saved_range: { IsInRange saved } by { Prim.hlevel props },
     ghost head_range: { IsInRange head } by { Prim.hlevel props },
-    ghost numbered: { pending wal ≢ [] → head.number ≡ number_behind saved.number } by { Prim.hlevel props },
+    ghost numbered: { pending wal ≢ [] → IsNextHeader saved head } by { Prim.hlevel props },
     ghost header_waits: { IfSome waiting_head (λ h. entry_pages (pending wal) 0 ≡ Some (header_bytes h)) } by { Prim.hlevel props },
     ghost runs: { ended ≡ false → wal_ended wal ≡ false } by { Prim.hlevel props },
 }
 
 impl Records {
-    ghost use Rattle.nx_records.specs.Records.{HasSaved, StandsFor, KeepsSaved, KeepsLog, LeavesRecords, FollowsOn, ComesTo, HasChanges, HasNoChanges, HasHeader, IsInStepWith, current_pages, has_ended, has_free, settings_of, log_length_of, last_number, next_number};
+    ghost use Rattle.nx_records.specs.Records.{HasSaved, StandsFor, KeepsSaved, KeepsLog, LeavesRecords, FollowsOn, ComesTo, HasChanges, HasNoChanges, HasHeader, IsInStepWith, PutsChangedAlone, current_pages, has_ended, has_free, settings_of, format_of, log_length_of, last_number, next_number};
     ghost use Rattle.nx_records.specs.Changes.{nothing_held, AddsRecord, UpdatesRecord, RemovesRecord, update_needs};
     ghost use Rattle.nx_records.specs.Room.{FitsRoom, HasRoomFor, TakesNoPage};
     ghost use Rattle.nx_records.specs.Refusals.{IsNewStore, NotRead, NotChanged, NotStored, NotWritten, NotCreated, NoRecordsOpened, RunsOn};
@@ -72,6 +72,7 @@ impl Records {
             StandsFor D.Disk records disk.new (nothing_held settings) (nothing_held settings) × IsInStepWith D.Disk records disk.new now × IsNewStore settings was now) }
         ensures fresh { IfOk result (λ records. (has_ended records ≡ false) × HasNoChanges records × (settings_of records ≡ settings)) }
         ensures number { IfOk result (λ records. last_number records ≡ 0) }
+        ensures format { IfOk result (λ records. format_of records ≡ newest_format) }
         ensures refused { IfErr result (λ e. NotCreated D.Disk e disk.old disk.new) }
     {
         let mut wal = match Wal::create(disk, alloc) {
@@ -104,6 +105,7 @@ impl Records {
         ensures still { IsStill D.Disk disk.old disk.new }
         ensures ok { IfOk result (λ records. (was : Image) (held : Held) → IsSettled D.Disk disk.old was → Holds (replay was) held → StandsFor D.Disk records disk.new held held) }
         ensures step { IfOk result (λ records. (was : Image) → IsSettled D.Disk disk.old was → IsInStepWith D.Disk records disk.new was × HasHeader was) }
+        ensures header { IfOk result (λ records. (was : Image) → IsSettled D.Disk disk.old was → replay was 0 ≡ Some (header_bytes records.saved)) }
         ensures fresh { IfOk result (λ records. (has_ended records ≡ false) × HasNoChanges records) }
         ensures reads { IfSome (D.contents disk.old) (λ was. D.reads disk.new ≤ D.reads disk.old + (3 * (length was.log / entry_size + 1) + 2)) }
         ensures refused { IfErr result (λ e. NoRecordsOpened D.Disk e disk.old disk.new) }
@@ -140,6 +142,14 @@ impl Records {
         ensures { result ≡ settings_of self.now }
     {
         self.head.settings
+    }
+
+    /// The format that the last commit's header says. Each commit writes the newest one, also where the
+    /// store was of an older. It takes no memory.
+    pub fn format(&self) -> u16
+        ensures { result ≡ format_of self.now }
+    {
+        self.saved.format
     }
 
     /// Whether a page is free: one of the free list, or one that was never used. The header alone
@@ -232,7 +242,7 @@ impl Records {
     }
 
     /// Puts 1 to 8,176 bytes in the place of a record, and answers its place, which is another where
-    /// they don't fit there.
+    /// they don't fit there. Where they are the same its page isn't put.
     ///
     /// Errors: `Full`, over sound pages only where the bytes are longer than the old ones and no page
     /// was free; `Damaged` with the place's page, only where the pages aren't sound or no record is
@@ -248,6 +258,7 @@ impl Records {
         requires few { length bytes.now ≤ longest_record }
         ensures still { IsStill D.Disk disk.old disk.new }
         ensures ok { IfOk result (λ place. ComesTo D.Disk self.old self.new disk.old disk.new (λ was now. UpdatesRecord rid.page rid.slot bytes.now place.page place.slot was now)) }
+        ensures alone { IfOk result (λ place. (saved now : Held) (stands : StandsFor D.Disk self.old disk.old saved now) → now.records rid.page rid.slot ≡ Some bytes.now → PutsChangedAlone self.old self.new (stands.keeps).image) }
         ensures keeps { IfOk result (λ place. RunsOn self.old self.new × KeepsSaved D.Disk self.old self.new disk.old disk.new × HasChanges self.new) }
         ensures refused { IfErr result (λ e. NotStored D.Disk (update_needs rid.page rid.slot bytes.now) (λ was. was.records rid.page rid.slot ≡ None) rid.page e self.old self.new disk.old disk.new) }
     {
@@ -287,7 +298,8 @@ impl Records {
 
     /// Commits what was changed. Something was, since the last commit or `abandon`, and the log has at
     /// most 2^62 bytes. At every moment the disk holds what it held after the last commit, or what is
-    /// held now, and after Ok the latter, with one group more in its log. It takes no memory.
+    /// held now, and after Ok the latter, with one group more in its log, and the header has the newest
+    /// format. It takes no memory.
     ///
     /// Errors: `Disk`, only where `faults` rose; `Ended` exactly where the records had ended.
     pub fn commit<D: Disk>(&mut self, disk: &mut D) -> Result<(), StoreError>
@@ -300,6 +312,7 @@ impl Records {
         ensures step { OnOk result ((was now : Image) → IsInStepWith D.Disk self.old disk.old was → D.contents disk.new ≡ Some now → IsInStepWith D.Disk self.new disk.new now) }
         ensures none_left { OnOk result ((has_ended self.old ≡ false) × (has_ended self.new ≡ false) × HasNoChanges self.new) }
         ensures header { OnOk result ((self.new.saved ≡ self.old.head) × (self.new.head ≡ self.old.head) × (last_number self.new ≡ next_number self.old)) }
+        ensures format { OnOk result (format_of self.new ≡ newest_format) }
         ensures length { OnOk result (log_length_of self.new ≡ log_length_of self.old + group_size (length (pending self.old.wal))) }
         ensures reads { D.reads disk.new ≡ D.reads disk.old }
         ensures refused { IfErr result (λ e. NotWritten D.Disk e self.old self.new disk.old disk.new) }

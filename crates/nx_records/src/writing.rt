@@ -23,7 +23,7 @@ fn chain_pages(len: usize) -> usize
 }
 
 // The bytes that stand on the chain page with this index.
-fn content_at(bytes: &[u8], index: usize) -> &[u8]
+pub(crate) fn content_at(bytes: &[u8], index: usize) -> &[u8]
     requires { index < chain_count (length bytes.now) }
     ensures { IsContentAt bytes.now index result.now }
 {

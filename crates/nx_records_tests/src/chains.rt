@@ -1,5 +1,6 @@
 // Chains that strangers wrote: each is answered as damaged, as a byte list and as the catalog, and never by a
 // wrong list.
+use crate::blocks::read_blocks;
 use crate::pages::counts_of;
 use crate::stores::Store;
 use crate::strangers::{Edit, changed, changed_pages, host_with, put};
@@ -19,8 +20,8 @@ const LIST: [Edit; 4] = [
 // An edit that changes nothing.
 const NONE: Edit = (0, b"");
 
-// With the edit, a list of so many bytes at this page is answered as damaged, where it is read and where it
-// is freed.
+// With the edit, a list of so many bytes at this page is answered as damaged, where it is read whole or block by
+// block, and where it is freed or changed.
 fn check_list(
     rt: &impl Abort,
     alloc: Global,
@@ -35,10 +36,20 @@ fn check_list(
     let read = store.read_list(alloc, &mut host, first, len);
     assert_eq!(rt; read.err(), damaged, "{edit:?} {first} {len}");
     let mut store = Store::open(alloc, &mut host)?;
+    let read = read_blocks(rt, alloc, &mut host, &mut store, first, len);
+    assert_eq!(rt; read.err(), damaged, "{edit:?} {first} {len}");
+    let mut store = Store::open(alloc, &mut host)?;
     let freed = store.free_list(alloc, &mut host, first, len);
     assert_eq!(rt; freed.err(), damaged, "{edit:?} {first} {len}");
     let later = store.free_list(alloc, &mut host, 3, 16_369);
     assert_eq!(rt; later, Err(StoreError::Ended));
+    let mut bytes = Vec::new(alloc);
+    bytes.resize((len % 65_536) as usize, 7)?;
+    if len > 0 && bytes.len() as u64 == len {
+        let mut store = Store::open(alloc, &mut host)?;
+        let put = store.change_list(rt, alloc, &mut host, first, len, &bytes);
+        assert_eq!(rt; put.err(), damaged, "{edit:?} {first} {len}");
+    }
     Ok(())
 }
 

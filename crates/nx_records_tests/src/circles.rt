@@ -19,9 +19,24 @@ const CATALOG: Edit = (8_192, &[2, 0, 31, 248, 0, 0, 0, 1]);
 #[derive(Clone, Copy, Debug, PartialEq, Eq)]
 enum Ask {
     ReadList { len: u64 },
+    ReadBlocks { len: u64 },
     FreeList { len: u64 },
     ReadCatalog,
     SetCatalog,
+}
+
+// Reads the list at page 4 block by block.
+fn read_blocks(
+    alloc: Global,
+    host: &mut MemoryHost,
+    records: &mut Records,
+    len: u64,
+) -> Result<(), StoreError> {
+    let mut reader = records.open_list(host, 4, len)?;
+    for _ in 0..10 {
+        records.next_block(alloc, host, &mut reader)?;
+    }
+    Ok(())
 }
 
 // What records answer. The lists begin at page 4.
@@ -36,6 +51,7 @@ fn answer(
             Ok(_) => Ok(()),
             Err(error) => Err(error),
         },
+        Ask::ReadBlocks { len } => read_blocks(alloc, host, records, len),
         Ask::FreeList { len } => records.free_list(alloc, host, 4, len),
         Ask::ReadCatalog => match records.read_catalog(alloc, host) {
             Ok(_) => Ok(()),
@@ -77,6 +93,7 @@ fn lists_in_circles(rt: HostRuntime) -> Result<(), Fail> {
         (u64::MAX, 0),
     ] {
         check(&rt, alloc, &LIST, Ask::ReadList { len }, 4, reads)?;
+        check(&rt, alloc, &LIST, Ask::ReadBlocks { len }, 4, reads)?;
     }
     // A page that was given back is a free one when it comes again.
     for (len, reads) in [(1, 1), (8_184, 1), (49_104, 2), (49_105, 0), (u64::MAX, 0)] {

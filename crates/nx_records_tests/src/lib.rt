@@ -3,9 +3,15 @@
 #![tactic(auto)]
 
 #[cfg(test)]
+mod blocks;
+#[cfg(test)]
 mod chains;
 #[cfg(test)]
 mod circles;
+#[cfg(test)]
+mod formats;
+#[cfg(test)]
+mod groups;
 #[cfg(test)]
 mod maps;
 #[cfg(test)]

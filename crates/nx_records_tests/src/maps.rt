@@ -45,6 +45,16 @@ impl Part {
         self.length.div_ceil(8_184)
     }
 
+    /// A part from the same byte on that takes so many chain pages, 1 to 5.
+    pub fn on_pages(self, pages: u32) -> Part {
+        let whole = pages.saturating_sub(1).saturating_mul(8_184);
+        let last = self.length.saturating_sub(1) % 8_184;
+        Part {
+            from: self.from,
+            length: whole.saturating_add(last).saturating_add(1),
+        }
+    }
+
     /// Its bytes.
     pub fn of(self, noise: &[u8]) -> &[u8] {
         let rest = &noise[noise.len().min(self.from as usize)..];

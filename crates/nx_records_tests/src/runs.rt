@@ -18,6 +18,7 @@ pub enum Call {
     Read { number: u32 },
     WriteList { part: Part },
     FreeList { number: u32 },
+    ChangeList { number: u32, part: Part },
     ReadList { number: u32 },
     SetCatalog { part: Part },
     ReadCatalog,
@@ -62,7 +63,8 @@ impl Call {
             0..=29 => Call::FreeList { number },
             30..=49 if grows => Call::FreeList { number },
             30..=49 => Call::WriteList { part },
-            50..=69 => Call::ReadList { number },
+            50..=59 => Call::ChangeList { number, part },
+            60..=69 => Call::ReadList { number },
             70..=84 => Call::SetCatalog {
                 part: Part {
                     from: part.from,
@@ -128,6 +130,7 @@ impl Run {
             Call::Read { number } => self.read(rt, number)?,
             Call::WriteList { part } => self.write_list(rt, part)?,
             Call::FreeList { number } => self.free_list(number)?,
+            Call::ChangeList { number, part } => self.change_list(rt, number, part)?,
             Call::ReadList { number } => self.read_list(rt, number)?,
             Call::SetCatalog { part } => self.set_catalog(rt, part)?,
             Call::ReadCatalog => self.read_catalog(rt)?,
@@ -205,6 +208,23 @@ impl Run {
         }
         let pages = list.part.chain_pages();
         self.now.free = self.now.free.saturating_add(pages);
+        Ok(())
+    }
+
+    // The part is cut or drawn out so that it takes as many pages as the list.
+    fn change_list(&mut self, rt: &impl Abort, number: u32, part: Part) -> Result<(), StoreError> {
+        let Some((index, list)) = self.now.pick_list(number) else {
+            return Ok(());
+        };
+        let part = part.on_pages(list.part.chain_pages());
+        let len = u64::from(list.part.length);
+        let bytes = part.of(&self.noise);
+        self.store
+            .change_list(rt, self.alloc, &mut self.host, list.first, len, bytes)?;
+        let first = list.first;
+        if let Some(list) = self.now.lists.get_mut(index) {
+            *list = Listed { first, part };
+        }
         Ok(())
     }
 

@@ -5,7 +5,7 @@ ghost use Rattle.nx_records.specs.Records.{HasChanges};
 
 use nx_lists::{List, NoMemory};
 use nx_memory::{Image, MemoryHost};
-use nx_records::{Records, Rid, Settings, StoreError};
+use nx_records::{ListReader, Records, Rid, Settings, StoreError, take_same_pages};
 use std::alloc::Global;
 use std::process::Abort;
 
@@ -66,8 +66,16 @@ impl Store {
         })
     }
 
+    pub fn format(&self) -> u16 {
+        self.records.format()
+    }
+
     pub fn has_free_page(&self) -> bool {
         self.records.has_free_page()
+    }
+
+    pub fn log_length(&self) -> u64 {
+        self.records.log_length()
     }
 
     pub fn read(
@@ -158,6 +166,38 @@ impl Store {
         }
     }
 
+    pub fn open_list(
+        &mut self,
+        host: &MemoryHost,
+        first: u32,
+        len: u64,
+    ) -> Result<ListReader, StoreError> {
+        match self.records.open_list(host, first, len) {
+            Ok(reader) => Ok(reader),
+            Err(error) => {
+                self.changed = false;
+                self.records.abandon();
+                Err(error)
+            }
+        }
+    }
+
+    pub fn next_block(
+        &mut self,
+        alloc: Global,
+        host: &mut MemoryHost,
+        reader: &mut ListReader,
+    ) -> Result<Option<List<u8>>, StoreError> {
+        match self.records.next_block(alloc, host, reader) {
+            Ok(found) => Ok(found),
+            Err(error) => {
+                self.changed = false;
+                self.records.abandon();
+                Err(error)
+            }
+        }
+    }
+
     pub fn write_list(
         &mut self,
         rt: &impl Abort,
@@ -186,6 +226,31 @@ impl Store {
         len: u64,
     ) -> Result<(), StoreError> {
         match self.records.free_list(alloc, host, first, len) {
+            Ok(_) => {
+                self.changed = true;
+                Ok(())
+            }
+            Err(error) => {
+                self.changed = false;
+                self.records.abandon();
+                Err(error)
+            }
+        }
+    }
+
+    /// Puts other bytes in the place of those of a list, which take as many pages.
+    pub fn change_list(
+        &mut self,
+        rt: &impl Abort,
+        alloc: Global,
+        host: &mut MemoryHost,
+        first: u32,
+        len: u64,
+        bytes: &[u8],
+    ) -> Result<(), StoreError> {
+        assert!(rt; 1 <= bytes.len());
+        assert!(rt; take_same_pages(bytes.len() as u64, len));
+        match self.records.change_list(alloc, host, first, len, bytes) {
             Ok(_) => {
                 self.changed = true;
                 Ok(())

@@ -161,9 +161,11 @@ fn what_has_no_mark_is_no_store(rt: HostRuntime) -> Result<(), Fail> {
 
 #[test]
 fn headers_of_strangers(rt: HostRuntime) -> Result<(), Fail> {
-    let edits: [Edit; 13] = [
-        // A format that there isn't, and settings that are out of range.
-        (8, &[0, 2]),
+    let edits: [Edit; 15] = [
+        // Formats that there aren't, and settings that are out of range.
+        (8, &[0, 0]),
+        (8, &[0, 3]),
+        (8, &[1, 1]),
         (10, &[0, 0]),
         (10, &[1, 1]),
         (12, &[0, 101]),

@@ -22,7 +22,7 @@ pub returns-in-Err-Disk-clause-goes : goal.returns-in-Err-Disk-clause-goes
 returns-in-Err-Disk-clause-goes g c = still_creates g.D.Disk c.args.settings c.create.ensures.still
 
 pub returns-in-Err : goal.returns-in-Err
-returns-in-Err g c = record { goes = still_creates g.D.Disk c.args.settings c.create.ensures.still; ok = tt; fresh = tt; number = tt; refused = c.create.ensures.still }
+returns-in-Err g c = record { goes = still_creates g.D.Disk c.args.settings c.create.ensures.still; ok = tt; fresh = tt; number = tt; format = tt; refused = c.create.ensures.still }
 
 pub returns-in_err-put_first-clause-goes : goal.returns-in_err-put_first-clause-goes
 returns-in_err-put_first-clause-goes g c = still_creates g.D.Disk c.args.settings c.create.ensures.still
@@ -54,6 +54,9 @@ returns-in-Err-Disk-clause-refused g c = (
 
 pub returns-clause-number : goal.returns-clause-number
 returns-clause-number g c = ap (λ (h : Header). h.number) c.first_header-header.ensures.first
+
+pub returns-clause-format : goal.returns-clause-format
+returns-clause-format g c = ap (λ (h : Header). h.format) c.first_header-header.ensures.first
 
 pub invariant_of-result : goal.invariant_of-result
 invariant_of-result g c = record {

@@ -1,12 +1,12 @@
-use Rattle.std.proofs.Common.{List, ℕ, ◌<◌, sym, subst, ◌∙◌, arith}
+use Rattle.std.proofs.Common.{List, ℕ, ◌<◌, refl, sym, subst, ◌∙◌, arith}
 use Rattle.std.proofs.lemmas.Result.{err_from_is_err_and}
 use Rattle.std.specs.Prelude.{Option}
 use Rattle.nx_records.specs.declared.error.StoreError.{StoreError}
 use Rattle.nx_records.specs.Changes.{AddsRecord, RemovesRecord, UpdatesRecord, update_needs}
 use Rattle.nx_records.specs.Pages.{HasSlots, SeesSo, NotPut}
 use Rattle.nx_records.proofs.StandLemmas.{keeps_then, stepped, if_ok_then, if_err_then}
-use Rattle.nx_records.proofs.StepLemmas.{set_holds, moved_record, longer_needs}
-use Rattle.nx_records.proofs.RefusalLemmas.{err_passed, put_memory, moved_refused, moved_steps}
+use Rattle.nx_records.proofs.StepLemmas.{set_holds, same_holds, moved_record, longer_needs}
+use Rattle.nx_records.proofs.RefusalLemmas.{err_passed, keeps_self, put_memory, moved_refused, moved_steps}
 use Rattle.nx_records.proofs.records.Records.replace.Goals as goal
 
 pub returns-in_err-store-in-Ok-clause-refused : goal.returns-in_err-store-in-Ok-clause-refused
@@ -55,3 +55,20 @@ returns-in_ok-drop_record-in-Err-clause-refused g c = if_err_then c.place.result
     let one = longer_needs holds c.args.rid.page c.args.rid.slot c.args.page c.args.bytes.now c.in-Err.field-0 (sees was step) c.requires.there c.in-Err.ensures.no_room.0 in
     let fewer = removes.free in
     omega (arith, one, fewer, none)) refused)
+
+pub returns-then-is_there-clause-keeps : goal.returns-then-is_there-clause-keeps
+returns-then-is_there-clause-keeps g c = keeps_self c.args.self.now c.args.self.now c.requires.runs refl
+
+pub returns-then-is_there-clause-ok : goal.returns-then-is_there-clause-ok
+returns-then-is_there-clause-ok g c sees was held step holds =
+    (held, holds, same_holds holds c.args.rid.page c.args.rid.slot c.args.page c.args.bytes.now (sees was step) (c.is_there.ensures.yes c.if-is_there.true))
+
+pub returns-then-is_there-clause-alone : goal.returns-then-is_there-clause-alone
+returns-then-is_there-clause-alone g c there = refl
+
+pub returns-in_ok-store-in-Ok-clause-alone : goal.returns-in_ok-store-in-Ok-clause-alone
+returns-in_ok-store-in-Ok-clause-alone g c there = absurd (c.is_there.ensures.no c.if-is_there.false there)
+
+pub returns-in_ok-drop_record-in-Err-clause-alone : goal.returns-in_ok-drop_record-in-Err-clause-alone
+returns-in_ok-drop_record-in-Err-clause-alone g c =
+    if_ok_then c.place.result c.place.ensures.ok (λ place ok there. absurd (c.is_there.ensures.no c.if-is_there.false there))

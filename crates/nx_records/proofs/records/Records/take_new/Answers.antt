@@ -1,4 +1,4 @@
-use Rattle.std.proofs.Common.{◌<◌, arith}
+use Rattle.std.proofs.Common.{arith}
 use Rattle.nx_records.proofs.RoomLemmas.{unused_is_free}
 use Rattle.nx_records.proofs.records.Records.take_new.Goals as goal
 

@@ -1,15 +1,16 @@
-use Rattle.std.proofs.Common.{◌≡◌, ◌<◌, refl, sym, subst}
+use Rattle.std.proofs.Common.{◌≡◌, ◌<◌, ◌∙◌, refl, sym, ap, subst}
 use Rattle.std.proofs.lemmas.Result.{err_from_is_err_and}
 use Rattle.std.specs.Prelude.{None, IsSome}
 use Rattle.nx_host.proofs.DiskLemmas.{still_then}
 use Rattle.nx_records.specs.declared.records.Records.{Records}
 use Rattle.nx_records.specs.declared.error.StoreError.{StoreError}
-use Rattle.nx_records.specs.Records.{KeepsLog}
+use Rattle.nx_records.specs.Records.{waiting, KeepsLog}
 use Rattle.nx_records.specs.Changes.{UpdatesRecord, update_needs}
 use Rattle.nx_records.specs.Pages.{HasSlots}
 use Rattle.nx_records.specs.Refusals.{NotStored}
 use Rattle.nx_records.proofs.StandLemmas.{keeps_then, saved_kept, steps_lead, later_steps, sees_later}
 use Rattle.nx_records.proofs.RefusalLemmas.{err_passed, store_refused, slot_damaged, ended_now, later_refused, put_stored, memory_stored, runs_on}
+use Rattle.nx_records.proofs.StepLemmas.{page_records}
 use Rattle.nx_records.proofs.LeaveLemmas.{had_ended}
 use Rattle.nx_records.proofs.records.Records.update.Goals as goal
 
@@ -79,3 +80,11 @@ returns-clause-still g c = still_then c.slotted.ensures.still c.replace.ensures.
 
 pub returns-then-self-clause-refused : goal.returns-then-self-clause-refused
 returns-then-self-clause-refused g c = had_ended c.if-self.true
+
+pub returns-clause-alone : goal.returns-clause-alone
+returns-clause-alone g c saved now stands there p other seen =
+    let holds = (stands.holds).behind in
+    let has = c.in_ok-page.ensures.ok.2 (stands.keeps).image (stands.keeps).step in
+    let slot = sym (page_records holds c.args.rid.page c.in_ok-page.page has c.args.rid.slot) ∙ sym (holds.records c.args.rid.page c.args.rid.slot) ∙ there in
+    let stays : c.replace.new.self ≡ c.args.self.now = c.in_ok-place.ensures.alone slot ∙ c.in_ok-page.ensures.ok.0 in
+    c.in_ok-store_header.ensures.beside p other ∙ ap (λ (r : Records). waiting r p) stays
