@@ -5,7 +5,7 @@ use Rattle.std.proofs.lemmas.Bool.{false≢true}
 use Rattle.std.proofs.lemmas.Bool.Decides.{eqb_tells, leb_tells, nat_tests}
 use Rattle.nx_holdings.specs.Holdings.{Held, chain_count}
 use Rattle.nx_holdings.specs.Laws.{pages_of_list}
-use Rattle.nx_records.specs.Changes.{records_with, lists_with, AddsRecord, UpdatesRecord, RemovesRecord, WritesList, FreesList, update_needs, needs_than}
+use Rattle.nx_records.specs.Changes.{records_with, lists_with, AddsRecord, UpdatesRecord, RemovesRecord, WritesList, FreesList, ChangesList, update_needs, needs_than}
 use Rattle.nx_piece.specs.declared.piece.Body.{Body}
 use Rattle.nx_piece.specs.declared.piece.Piece.{Piece}
 use Rattle.nx_piece.specs.declared.piece.Proxy.{Proxy}
@@ -18,7 +18,7 @@ use Rattle.nx_piece.proofs.BodyLemmas.{proxies_length}
 use Rattle.nx_piece.proofs.Laws.{inline_bytes, chained_bytes, body_fits}
 use Rattle.nx_layouts.specs.Layout.{RecordPlace}
 use Rattle.nx_layouts.proofs.PlaceLemmas.{place_is}
-use Rattle.nx_hold.specs.Pieces.{record_at, IsStored, HoldsPiece, HoldsNone, NamesList, NamesNot, HasNamedList, IsTidy, SameBeside, ChangesOneRecord}
+use Rattle.nx_hold.specs.Pieces.{record_at, IsStored, HoldsPiece, HoldsNone, NamesList, NamesNot, HasNamedList, HasItsList, SameBeside, ChangesOneRecord}
 use Rattle.nx_hold.specs.Changes.{piece_needs, chain_pages, AddsPiece, UpdatesPiece, RemovesPiece}
 use Rattle.nx_hold.specs.Putting.{LacksProxies, chain_of, HasList, without_list, with_list, FreesChain, IsFormOf, PutsProxies}
 use Rattle.nx_hold.proofs.PieceLemmas.{some_same, no_value, one_at, no_both, chain_same, count_same}
@@ -137,6 +137,9 @@ free_of_add was mid now pages one two = omega (arith, one, two)
 free_of_update : (was mid next now pages needs : ℕ) → was ≤ mid + pages → mid ≤ next + needs → needs ≤ 1 → next ≤ now → was ≤ now + (1 + pages)
 free_of_update was mid next now pages needs one two few three = omega (arith, one, two, few, three)
 
+free_on_list : (was mid now had has needs pages : ℕ) → was ≤ mid + needs → needs ≤ 1 → mid + had ≤ now + has → had ≡ has → was ≤ now + (1 + pages)
+free_on_list was mid now had has needs pages one few two same = omega (arith, one, few, two, same)
+
 pub records_at : (was now : Held) → now.records ≡ was.records → (place : RecordPlace) → record_at now place ≡ record_at was place
 records_at was now same place = ap (λ (f : ℕ → ℕ → Option (List ℕ)). f place.page place.slot) same
 
@@ -162,10 +165,10 @@ adds_piece place piece bytes was mid now valid puts adds = record {
     is : IsStored now place puts.stored
     is = record { bytes = at place ∙ record_here mid.records place (Some bytes) ∙ ap Some puts.are; valid = puts.valid; numbers = puts.numbers }
 
--- the list of a record that stays in order isn't one that came
-pub has_list : (was : Held) (place : RecordPlace) (stored : Stored) → IsTidy was → IsStored was place stored → HasList was stored
-has_list was place (Inline piece) tidy is = tt
-has_list was place (Chained body count chain) tidy is = tidy.there place count chain (body, is)
+-- the list of a record that is in order
+pub has_list : (was : Held) (place : RecordPlace) (stored : Stored) → HasItsList was place → IsStored was place stored → HasList was stored
+has_list was place (Inline piece) has is = tt
+has_list was place (Chained body count chain) has is = has count chain (body, is)
 
 list_of_one : (was : Held) (stored : Stored) → HasList was stored → (chain : ℕ) → chain_of stored ≡ Some chain → (list : List ℕ) × (was.lists chain ≡ Some list)
 list_of_one was (Inline piece) has chain e = absurd (no_value (sym e))
@@ -244,6 +247,69 @@ module _ (old new : RecordPlace) (piece : Piece) (bytes : List ℕ) (stored : St
       is : IsStored now new puts.stored
       is = record { bytes = at new ∙ record_here (records_with mid.records old.page old.slot None) new (Some bytes) ∙ ap Some puts.are; valid = puts.valid; numbers = puts.numbers }
 
+inline_cases : (piece : Piece) → ((is_inline piece ≡ true) × (inline_length piece.body.roots (length piece.proxies) ≤ longest_inline)) ⊎ ((is_inline piece ≡ false) × (longest_inline < inline_length piece.body.roots (length piece.proxies)))
+inline_cases piece = leb_tells (inline_length piece.body.roots (length piece.proxies)) longest_inline
+
+pub inline_valid : (piece : Piece) → IsValidPiece piece → is_inline piece ≡ true → IsValid (Inline piece)
+inline_valid piece valid is = elim (inline_cases piece) [ inl h ↦ record { body = valid.body; ranged = valid.ranged; fits = h.1 } | inr h ↦ absurd (false≢true (sym h.0 ∙ is)) ]
+
+pub chained_valid : (piece : Piece) (chain : ℕ) → IsValidPiece piece → is_inline piece ≡ false → IsValid (Chained piece.body (length piece.proxies) chain)
+chained_valid piece chain valid is = elim (inline_cases piece) [ inl h ↦ absurd (false≢true (sym is ∙ h.0)) | inr h ↦ record { body = valid.body; long = h.1 } ]
+
+-- The list of the old record has the new one's proxies, on as many pages.
+module _ (old new : RecordPlace) (piece : Piece) (bytes : List ℕ) (count chain : ℕ) (was mid now : Held) where
+  pub updates_on_list : IsValidPiece piece → is_inline piece ≡ false → HaveNumbers piece.proxies → chain < 4294967296 → bytes ≡ encoding (Chained piece.body (length piece.proxies) chain)
+      → chain_count (8 * length piece.proxies) ≡ chain_count (8 * count) → NamesList was old count chain → HasItsList was old
+      → UpdatesRecord old.page old.slot bytes new.page new.slot was mid → ChangesList chain (proxies_bytes piece.proxies) mid now → UpdatesPiece old new piece was now
+  updates_on_list valid long fit number are pages names its updates changes = record {
+    was_there = (Chained names.0 count chain, names.1);
+    was_free = λ apart. sym (record_other was.records old new None (λ e. apart (sym e))) ∙ updates.was_none;
+    holds = inr (record { chain = chain; stored = is; list = list_at chain ∙ list_here mid.lists chain (Some (proxies_bytes piece.proxies)); rooted = valid.ranged; numbers = fit });
+    stays = λ before after was_bytes now_bytes fewer.
+        let same : after ≡ bytes = some_same (sym now_bytes ∙ is.bytes) ∙ sym are in
+        let fits : length bytes ≤ length before = subst (λ (l : List ℕ). length l ≤ length before) same fewer in
+        let at_old = updates.stays (none_needed (was.records old.page old.slot) bytes before was_bytes fits) in
+        place_is new old at_old.0 at_old.1;
+    alone = record {
+      beside = λ p not_old not_new. other p (λ e. not_new (ap Some e)) ∙ record_other was.records old p None (λ e. not_old (ap Some e));
+      went = λ p e not_new. other p (λ same. not_new (ap Some same)) ∙ ap (λ (q : RecordPlace). records_with was.records old.page old.slot None q.page q.slot) (some_same e) ∙ record_here was.records old None;
+      lists = λ c not_old not_new.
+          list_at c ∙ list_other mid.lists chain c (Some (proxies_bytes piece.proxies)) (λ same. not_new new (length piece.proxies) refl (subst (λ (n : ℕ). NamesList now new (length piece.proxies) n) same (piece.body, is)))
+          ∙ ap (λ (f : ℕ → Option (List ℕ)). f c) (updates.changes).lists;
+      freed = λ p n c e named not_new.
+          let here : NamesList was old n c = subst (λ (q : RecordPlace). NamesList was q n c) (some_same e) named in
+          let one = one_at was old (Chained here.0 n c) (Chained names.0 count chain) here.1 names.1 in
+          let same = chain_same here.0 names.0 n count c chain one in
+          absurd (not_new new (length piece.proxies) refl (subst (λ (n : ℕ). NamesList now new (length piece.proxies) n) (sym same) (piece.body, is)));
+      fresh = λ p n c e named not_old.
+          let here : NamesList now new n c = subst (λ (q : RecordPlace). NamesList now q n c) (some_same e) named in
+          let one = one_at now new (Chained here.0 n c) (Chained piece.body (length piece.proxies) chain) here.1 is in
+          let same = chain_same here.0 piece.body n (length piece.proxies) c chain one in
+          absurd (not_old old count refl (subst (λ (n : ℕ). NamesList was old count n) (sym same) names));
+      settings = (changes.changes).settings ∙ (updates.changes).settings;
+      catalog = (changes.changes).catalog ∙ (updates.changes).catalog;
+      free =
+          let there = its count chain names in
+          let had : pages_of_list (mid.lists chain) ≡ chain_count (8 * count) =
+          ap (λ (f : ℕ → Option (List ℕ)). pages_of_list (f chain)) (updates.changes).lists ∙ ap pages_of_list there.1 ∙ ap chain_count there.2 in
+          let has : chain_count (length (proxies_bytes piece.proxies)) ≡ chain_count (8 * length piece.proxies) = ap chain_count (proxies_length piece.proxies) in
+          free_on_list was.free mid.free now.free (pages_of_list (mid.lists chain)) (chain_count (length (proxies_bytes piece.proxies))) (update_needs old.page old.slot bytes was) (chain_pages piece)
+          updates.free (few_needs (was.records old.page old.slot) bytes) changes.free (had ∙ sym pages ∙ sym has);
+    };
+  }
+    where
+      at : (p : RecordPlace) → record_at now p ≡ records_with (records_with was.records old.page old.slot None) new.page new.slot (Some bytes) p.page p.slot
+      at p = ap (λ (f : ℕ → ℕ → Option (List ℕ)). f p.page p.slot) ((changes.changes).records ∙ (updates.changes).records)
+
+      other : (p : RecordPlace) → (p ≡ new → ⊥) → record_at now p ≡ records_with was.records old.page old.slot None p.page p.slot
+      other p apart = at p ∙ record_other (records_with was.records old.page old.slot None) new p (Some bytes) apart
+
+      list_at : (c : ℕ) → now.lists c ≡ lists_with mid.lists chain (Some (proxies_bytes piece.proxies)) c
+      list_at c = ap (λ (f : ℕ → Option (List ℕ)). f c) (changes.changes).lists
+
+      is : IsStored now new (Chained piece.body (length piece.proxies) chain)
+      is = record { bytes = at new ∙ record_here (records_with was.records old.page old.slot None) new (Some bytes) ∙ ap Some are; valid = chained_valid piece chain valid long; numbers = number }
+
 pub removes_piece : (old : RecordPlace) (stored : Stored) (was next now : Held) → IsStored was old stored → RemovesRecord old.page old.slot was next → FreesChain stored next now → RemovesPiece old was now
 removes_piece old stored was next now was_is removes frees = record {
   was_there = (stored, was_is);
@@ -305,15 +371,6 @@ lacking_none held place body count chain is lacks piece (inr h) =
 pub no_list_none : (held : Held) (place : RecordPlace) (stored : Stored) → IsStored held place stored → (HasList held stored → ⊥) → HoldsNone held place
 no_list_none held place (Inline piece) is apart = absurd (apart tt)
 no_list_none held place (Chained body count chain) is apart = λ piece h. apart (listed held place piece count chain h (body, is))
-
-inline_cases : (piece : Piece) → ((is_inline piece ≡ true) × (inline_length piece.body.roots (length piece.proxies) ≤ longest_inline)) ⊎ ((is_inline piece ≡ false) × (longest_inline < inline_length piece.body.roots (length piece.proxies)))
-inline_cases piece = leb_tells (inline_length piece.body.roots (length piece.proxies)) longest_inline
-
-pub inline_valid : (piece : Piece) → IsValidPiece piece → is_inline piece ≡ true → IsValid (Inline piece)
-inline_valid piece valid is = elim (inline_cases piece) [ inl h ↦ record { body = valid.body; ranged = valid.ranged; fits = h.1 } | inr h ↦ absurd (false≢true (sym h.0 ∙ is)) ]
-
-pub chained_valid : (piece : Piece) (chain : ℕ) → IsValidPiece piece → is_inline piece ≡ false → IsValid (Chained piece.body (length piece.proxies) chain)
-chained_valid piece chain valid is = elim (inline_cases piece) [ inl h ↦ absurd (false≢true (sym is ∙ h.0)) | inr h ↦ record { body = valid.body; long = h.1 } ]
 
 pub inline_few : (piece : Piece) (bytes : List ℕ) → IsValid (Inline piece) → bytes ≡ encoding (Inline piece) → length bytes ≤ 8176
 inline_few piece bytes valid are =

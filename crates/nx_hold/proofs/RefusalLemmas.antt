@@ -119,6 +119,17 @@ module _ {D : Type 0} (d : Ghosts D) (Lacks Fewer : Held → Type 0) (named page
   store_told needs error.Exists refused = absurd refused
   store_told needs error.NotAStore refused = absurd refused
 
+-- ... or of a call that may need more pages
+pub store_more : {D : Type 0} (d : Ghosts D) (named : ℕ) (r0 r1 : Records) (x0 x1 : D) (Lacks Fewer : Held → Type 0) (needs more : Held → ℕ) → ((held : Held) → Lacks held → Fewer held) → ((held : Held) → held.free < needs held → held.free < more held)
+    → (e : StoreError) → NotStored d needs Lacks named e r0 r1 x0 x1 → NotStored d more Fewer named e r0 r1 x0 x1
+store_more d named r0 r1 x0 x1 Lacks Fewer needs more fewer few error.Disk refused = refused
+store_more d named r0 r1 x0 x1 Lacks Fewer needs more fewer few (error.Damaged told) refused = record { page = refused.page; ends = refused.ends; lacks = λ saved now stands. fewer now (refused.lacks saved now stands) }
+store_more d named r0 r1 x0 x1 Lacks Fewer needs more fewer few error.Ended refused = refused
+store_more d named r0 r1 x0 x1 Lacks Fewer needs more fewer few error.Memory refused = refused
+store_more d named r0 r1 x0 x1 Lacks Fewer needs more fewer few error.Full refused = record { runs = refused.runs; none_free = refused.none_free; few = λ saved now stands. few now (refused.few saved now stands); keeps = refused.keeps }
+store_more d named r0 r1 x0 x1 Lacks Fewer needs more fewer few error.Exists refused = absurd refused
+store_more d named r0 r1 x0 x1 Lacks Fewer needs more fewer few error.NotAStore refused = absurd refused
+
 -- a call that reads gave up, within one that changes something
 module _ {D : Type 0} (d : Ghosts D) (Lacks : Held → Type 0) (named : ℕ) (r0 r1 : Records) (x0 x1 : D) (still : IsStill d x0 x1) where
   pub read_changed : (e : StoreError) → NotRead d Lacks named e r0 r1 x0 x1 → NotChanged d Lacks named e r0 r1 x0 x1

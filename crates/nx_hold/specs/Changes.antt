@@ -10,7 +10,7 @@ use Rattle.nx_piece.specs.declared.piece.Proxy.{Proxy}
 use Rattle.nx_piece.specs.declared.piece.Stored.{Stored}
 use Rattle.nx_piece.specs.Valid.{is_inline}
 use Rattle.nx_layouts.specs.Layout.{RecordPlace}
-use Rattle.nx_hold.specs.Pieces.{record_at, IsStored, HoldsPiece, HoldsNone, NamesList, IsTidy, ChangesOneRecord, PieceMap}
+use Rattle.nx_hold.specs.Pieces.{record_at, IsStored, HoldsPiece, HoldsNone, NamesList, HasItsList, IsTidy, ChangesOneRecord, PieceMap}
 
 abbrev pub place_of : Rid → RecordPlace
 place_of rid = record { page = rid.page; slot = rid.slot }
@@ -58,6 +58,10 @@ pub record RemovesPiece (place : RecordPlace) (was now : Held) : Type 0 where
 abbrev pub ComesTidy : {D : Type 0} → Ghosts D → Records → Records → D → D → (Held → Held → Type 0) → Type 0
 ComesTidy d old new before after Comes =
     (saved now : Held) → StandsFor d old before saved now → IsTidy now → (next : Held) × StandsFor d new after saved next × IsTidy next × Comes now next
+
+-- Of what they stood for, where the list that the record at the place names is in order, the records now stand for something that came of it so.
+abbrev pub ComesOwn : {D : Type 0} → Ghosts D → Records → Records → D → D → RecordPlace → (Held → Held → Type 0) → Type 0
+ComesOwn d old new before after place Comes = (saved now : Held) → StandsFor d old before saved now → HasItsList now place → (next : Held) × StandsFor d new after saved next × Comes now next
 
 -- An added piece is where no piece was, and all earlier ones stay.
 pub record IsAdded (place : RecordPlace) (piece : Piece) (was now : Held) : Type 0 where

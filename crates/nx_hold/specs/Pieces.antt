@@ -43,9 +43,13 @@ NamesList held place count chain = (body : Body) × IsStored held place (Chained
 abbrev pub HasNamedList : Held → RecordPlace → Type 0
 HasNamedList held place = (count chain : ℕ) → NamesList held place count chain → IsSome (held.lists chain)
 
+-- ... and as long as its proxies need
+abbrev pub HasItsList : Held → RecordPlace → Type 0
+HasItsList held place = (count chain : ℕ) → NamesList held place count chain → (bytes : List ℕ) × (held.lists chain ≡ Some bytes) × (length bytes ≡ 8 * count)
+
 -- Each list that a record names is there, as long as its proxies need, and no two records name one.
 pub record IsTidy (held : Held) : Type 0 where
-  pub there : (place : RecordPlace) (count chain : ℕ) → NamesList held place count chain → (bytes : List ℕ) × (held.lists chain ≡ Some bytes) × (length bytes ≡ 8 * count)
+  pub there : (place : RecordPlace) → HasItsList held place
   pub once : (place other : RecordPlace) (count more chain : ℕ) → NamesList held place count chain → NamesList held other more chain → place ≡ other
 
 -- all records but those at these places stay

@@ -6,6 +6,7 @@ mod entry;
 pub mod laws;
 mod lists;
 mod pieces;
+mod updating;
 
 pub use entry::DocEntry;
 pub use pieces::{add_piece, read_piece, remove_piece, update_piece, view_piece};

@@ -137,19 +137,19 @@ pub(crate) fn free_proxies<D: Disk>(
     alloc: Global,
     records: &mut Records,
     disk: &mut D,
-    stored: &Stored,
+    stored: &StoredView,
     named: u32,
 ) -> Result<(), StoreError>
     requires { has_ended records.old ≡ false }
     ensures still { IsStill D.Disk disk.old disk.new }
-    ensures ok { OnOk result ((saved now : Held) → StandsFor D.Disk records.old disk.old saved now → HasList now stored.now
-        → (next : Held) × StandsFor D.Disk records.new disk.new saved next × FreesChain stored.now now next) }
+    ensures ok { OnOk result ((saved now : Held) → StandsFor D.Disk records.old disk.old saved now → HasList now (seen_stored stored.now)
+        → (next : Held) × StandsFor D.Disk records.new disk.new saved next × FreesChain (seen_stored stored.now) now next) }
     ensures keeps { OnOk result (RunsOn records.old records.new × KeepsSaved D.Disk records.old records.new disk.old disk.new × (HasChanges records.old → HasChanges records.new)) }
-    ensures refused { IfErr result (λ e. NotChanged D.Disk (λ was. HasList was stored.now → ⊥) named e records.old records.new disk.old disk.new) }
+    ensures refused { IfErr result (λ e. NotChanged D.Disk (λ was. HasList was (seen_stored stored.now) → ⊥) named e records.old records.new disk.old disk.new) }
 {
     match stored {
-        Stored::Inline(_) => Ok(()),
-        Stored::Chained { count, chain, .. } => {
+        StoredView::Inline(_) => Ok(()),
+        StoredView::Chained { count, chain, .. } => {
             match records.free_list(alloc, disk, *chain, 8 * u64::from(*count)) {
                 Ok(()) => Ok(()),
                 Err(error) => Err(at_page(error, named)),
@@ -159,7 +159,7 @@ pub(crate) fn free_proxies<D: Disk>(
 }
 
 // A refusal, told of this page where it is told of one.
-fn at_page(error: StoreError, page: u32) -> StoreError
+pub(crate) fn at_page(error: StoreError, page: u32) -> StoreError
     ensures { result ≡ told_at page error }
 {
     match error {

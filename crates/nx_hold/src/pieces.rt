@@ -8,9 +8,10 @@ ghost use Rattle.nx_piece.specs.declared.piece.Piece.{Piece};
 ghost use Rattle.nx_piece.specs.Gapped.{gapped_width};
 ghost use Rattle.nx_piece.specs.Valid.{IsValidPiece, HaveNumbers};
 ghost use Rattle.nx_hold.specs.Pieces.{HoldsPiece, HoldsNone, HasNamedList};
-ghost use Rattle.nx_hold.specs.Changes.{place_of, place_named, chain_pages, piece_needs, TakesPages, AddsPiece, UpdatesPiece, RemovesPiece, ComesTidy};
+ghost use Rattle.nx_hold.specs.Changes.{place_of, place_named, chain_pages, piece_needs, TakesPages, AddsPiece, UpdatesPiece, RemovesPiece, ComesOwn, ComesTidy};
 
 use crate::lists::{free_proxies, proxies_at, record_bytes, stored_at, viewed_at};
+use crate::updating::{list_kept, update_on_list};
 use nx_host::Disk;
 use nx_piece::{Piece, PieceView, Proxy, Stored, StoredView};
 use nx_records::{Records, Rid, StoreError};
@@ -111,8 +112,9 @@ pub fn add_piece<D: Disk>(
 }
 
 /// Puts a piece in the place of another, and answers its proxy, whose place is another one where the
-/// record doesn't fit there: a record that is no longer than the old one keeps its place. The list of the
-/// old piece goes, and that of the new one comes.
+/// record doesn't fit there: a record that is no longer than the old one keeps its place. Where both
+/// pieces have a list, on as many chain pages, the list stays, and of its pages those alone wait for the
+/// commit whose bytes changed; else the list of the old piece goes, and that of the new one comes.
 ///
 /// Errors: `Full`, over sound pages only where fewer pages were free than one, and one for each
 /// chain page of the new list; `Damaged` with the place's page, only where the pages aren't sound or
@@ -129,10 +131,17 @@ pub fn update_piece<D: Disk>(
     ensures still { IsStill D.Disk disk.old disk.new }
     ensures roots { IfOk result (λ proxy. proxy.roots ≡ gapped_width piece.now.body.roots) }
     ensures ok { IfOk result (λ proxy. ComesTidy D.Disk records.old records.new disk.old disk.new (λ was now. UpdatesPiece (place_of rid) (place_named proxy) piece.now was now)) }
+    // Also where lists that other records name are out of order.
+    ensures own { IfOk result (λ proxy. ComesOwn D.Disk records.old records.new disk.old disk.new (place_of rid) (λ was now. UpdatesPiece (place_of rid) (place_named proxy) piece.now was now)) }
     ensures keeps { IfOk result (λ proxy. RunsOn records.old records.new × KeepsSaved D.Disk records.old records.new disk.old disk.new × HasChanges records.new) }
     ensures refused { IfErr result (λ e. NotStored D.Disk (λ was. piece_needs piece.now) (λ was. HoldsNone was (place_of rid)) rid.page e records.old records.new disk.old disk.new) }
 {
-    let old = stored_at(alloc, records, disk, rid)?;
+    let mut had = Bytes::new(alloc);
+    let old = viewed_at(alloc, records, disk, rid, &mut had)?;
+    if let Some(list) = list_kept(&old, piece) {
+        let kept = update_on_list(alloc, records, disk, rid, piece, list)?;
+        return Ok(proxy_of(kept, piece));
+    }
     let bytes = record_bytes(alloc, records, disk, piece, rid.page)?;
     let place = records.update(disk, rid, bytes.as_slice())?;
     free_proxies(alloc, records, disk, &old, rid.page)?;
@@ -152,10 +161,13 @@ pub fn remove_piece<D: Disk>(
 ) -> Result<(), StoreError>
     ensures still { IsStill D.Disk disk.old disk.new }
     ensures ok { OnOk result (ComesTidy D.Disk records.old records.new disk.old disk.new (λ was now. RemovesPiece (place_of rid) was now)) }
+    // Also where lists that other records name are out of order.
+    ensures own { OnOk result (ComesOwn D.Disk records.old records.new disk.old disk.new (place_of rid) (λ was now. RemovesPiece (place_of rid) was now)) }
     ensures keeps { OnOk result (RunsOn records.old records.new × KeepsSaved D.Disk records.old records.new disk.old disk.new × HasChanges records.new) }
     ensures refused { IfErr result (λ e. NotChanged D.Disk (λ was. HoldsNone was (place_of rid)) rid.page e records.old records.new disk.old disk.new) }
 {
-    let old = stored_at(alloc, records, disk, rid)?;
+    let mut had = Bytes::new(alloc);
+    let old = viewed_at(alloc, records, disk, rid, &mut had)?;
     records.remove(disk, rid)?;
     free_proxies(alloc, records, disk, &old, rid.page)
 }

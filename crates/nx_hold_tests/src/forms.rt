@@ -1,5 +1,5 @@
 // Pieces that are held inline and that aren't, in both directions.
-use crate::made::{Form, check, made};
+use crate::made::{Form, check, made, made_but};
 use crate::pages::free_pages;
 use crate::stores::{LIMIT, Store, empty_host};
 use nx_memory::MemoryHost;
@@ -123,6 +123,54 @@ fn one_form_stays(rt: HostRuntime) -> Result<(), Fail> {
             go(&rt, alloc, &mut host, &mut store, *from, *to)?;
         }
     }
+    Ok(())
+}
+
+// Commits, and says how many pages the group has.
+fn pages_of_commit(
+    rt: &impl Abort,
+    host: &mut MemoryHost,
+    store: &mut Store,
+) -> Result<u64, StoreError> {
+    let before = store.log_length();
+    store.commit(rt, host)?;
+    let bytes = store.log_length().saturating_sub(before);
+    assert_eq!(rt; bytes % 8_196, 13);
+    Ok(bytes / 8_196)
+}
+
+// Of the three chain pages of 3,000 proxies those alone are written that change, beside the header's page and
+// that of the record where it changes.
+#[test]
+fn a_list_stays_in_place(rt: HostRuntime) -> Result<(), Fail> {
+    let alloc = rt.alloc();
+    let mut host = empty_host(alloc)?;
+    let mut store = Store::create(alloc, &mut host)?;
+    let form = Form {
+        slots: 3,
+        proxies: 3_000,
+        page: 4,
+    };
+    let fewer = Form {
+        proxies: 2_999,
+        ..form
+    };
+    let first = made(&rt, alloc, form)?;
+    let proxy = store.add(alloc, &mut host, &first)?;
+    assert_eq!(rt; pages_of_commit(&rt, &mut host, &mut store)?, 5);
+    let free = free_pages(&rt, alloc, &mut host)?;
+    for index in [0, 1_022, 1_023, 1_500, 2_999] {
+        for piece in [made_but(&rt, alloc, form, index)?, made(&rt, alloc, form)?] {
+            let again = store.update(alloc, &mut host, place(proxy), &piece)?;
+            assert_eq!(rt; again, proxy);
+            assert_eq!(rt; pages_of_commit(&rt, &mut host, &mut store)?, 2, "{index}");
+        }
+    }
+    check(&rt, &store.read(alloc, &mut host, place(proxy))?, form);
+    store.update(alloc, &mut host, place(proxy), &made(&rt, alloc, fewer)?)?;
+    assert_eq!(rt; pages_of_commit(&rt, &mut host, &mut store)?, 3);
+    check(&rt, &store.read(alloc, &mut host, place(proxy))?, fewer);
+    assert_eq!(rt; free_pages(&rt, alloc, &mut host)?, free);
     Ok(())
 }
 

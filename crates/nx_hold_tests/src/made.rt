@@ -96,8 +96,26 @@ fn proxies(alloc: Global, form: Form) -> Result<Vec<u8>, NoMemory> {
 pub fn made(rt: &impl Abort, alloc: Global, form: Form) -> Result<Piece, NoMemory>
     ensures { IfOk result (λ piece. IsValidPiece piece) }
 {
-    let mut record = nodes(alloc, form)?;
     let list = proxies(alloc, form)?;
+    made_of(rt, alloc, form, list)
+}
+
+/// The piece of this form but for the proxy with this index, which names another slot.
+pub fn made_but(rt: &impl Abort, alloc: Global, form: Form, index: usize) -> Result<Piece, NoMemory>
+    ensures { IfOk result (λ piece. IsValidPiece piece) }
+{
+    let mut list = proxies(alloc, form)?;
+    if let Some(byte) = list.get_mut(index.saturating_mul(8).saturating_add(5)) {
+        *byte ^= 1;
+    }
+    made_of(rt, alloc, form, list)
+}
+
+// The piece of this form with these proxies.
+fn made_of(rt: &impl Abort, alloc: Global, form: Form, list: Vec<u8>) -> Result<Piece, NoMemory>
+    ensures { IfOk result (λ piece. IsValidPiece piece) }
+{
+    let mut record = nodes(alloc, form)?;
     if form.chain_pages() == 0 {
         record.extend_from_slice(list.as_slice())?;
     }

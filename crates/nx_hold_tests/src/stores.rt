@@ -51,6 +51,10 @@ impl Store {
         self.records.has_free_page()
     }
 
+    pub fn log_length(&self) -> u64 {
+        self.records.log_length()
+    }
+
     pub fn is_ended(&self) -> bool {
         self.records.is_ended()
     }
