@@ -14,8 +14,7 @@ use Rattle.nx_records.specs.Refusals.{NotStored}
 use Rattle.nx_piece.specs.declared.piece.Piece.{Piece}
 use Rattle.nx_piece.specs.declared.piece.Proxy.{Proxy}
 use Rattle.nx_piece.specs.Gapped as gapped
-use Rattle.nx_piece.specs.Gapped.{Gapped, End, Grow, Gap, gapped_weight}
-use Rattle.nx_piece.specs.Valid.{AreTrees, IsPiece, IsValidPiece}
+use Rattle.nx_piece.specs.Gapped.{gapped_weight}
 use Rattle.nx_matrix.specs.declared.rule.Rule.{Rule}
 use Rattle.nx_cuts.specs.Cut.{Bare, Kept, width, part_weight, AreParts}
 use Rattle.nx_layouts.specs.Layout.{RecordPlace, Layout, AreHeld, ArePlacedOnce, piece_of, places_of, proxies_of, without_places}
@@ -42,28 +41,6 @@ use Rattle.nx_edit.proofs.OrderLemmas.{once_permuted}
 -- what is held has the settings that the records have
 pub settings_there : {D : Type 0} (d : Ghosts D) (records : Records) (disk : D) (saved now : Held) → StandsFor d records disk saved now → now.settings ≡ settings_of records
 settings_there d records disk saved now stands = ((stands.holds).behind).settings
-
-trees_light : (f : Gapped) → AreTrees f → gapped.gapped_width f ≤ gapped_weight f
-trees_light End trees = omega arith
-trees_light (Grow node below beside) trees = omega (arith, trees_light beside trees)
-trees_light (Gap count beside) trees = absurd trees
-
--- a piece in memory that isn't too heavy may be stored
-pub light_piece : (piece : Piece) (k : ℕ) → IsPiece piece → gapped_weight piece.body.roots ≤ k → k ≤ 256 → IsValidPiece piece
-light_piece piece k is light most =
-    let few = trees_light piece.body.roots is.body.trees in
-    record {
-      body = record {
-        trees = is.body.trees;
-        some = is.body.some;
-        few = omega (arith, few, light, most);
-        light = omega (arith, light, most);
-        apart = is.body.apart;
-        counted = is.body.counted;
-        few_proxies = is.body.few_proxies;
-      };
-      ranged = is.ranged;
-    }
 
 module _ (was : Held) (pieces : PieceMap was) (piece : Piece) (place : RecordPlace) (members : Layout) (g : IsGrownMembers was pieces piece place members) where
   below_there : (other : RecordPlace) → Contains (places_of members) other → (p : Piece) × HoldsPiece was other p

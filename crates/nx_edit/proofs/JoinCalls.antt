@@ -162,7 +162,7 @@ module _ {D : Type 0} (d : Ghosts D) (rules : List Rule) (node : Node) (piece : 
         upper_refused page store.NotAStore refused = absurd refused
 
         -- both were
-        pub joined_changed : (above : Option Node) (proxies : List Proxy) → ComesTidy d r2 r3 x2 x3 (λ was now. HoldsPiece was place piece → IsPutAlone place (piece_with_row index row piece) proxies was now) → ComesTidy d r0 r3 x0 x3 (ChangesKnown rules (Some piece) above (put.Child position node) place member path proxies)
+        pub joined_changed : (above : Option Node) (proxies : List Proxy) → ComesTidy d r2 r3 x2 x3 (IsPutAlone place (piece_with_row index row piece) proxies) → ComesTidy d r0 r3 x0 x3 (ChangesKnown rules (Some piece) above (put.Child position node) place member path proxies)
         joined_changed above proxies updates saved was stands tidy =
             let mid = puts saved was (later stands) tidy in
             let now = updates saved mid.0 mid.1 mid.2 in (
@@ -171,8 +171,7 @@ module _ {D : Type 0} (d : Ghosts D) (rules : List Rule) (node : Node) (piece : 
               now.2,
               λ pieces members i possible.
                   let t = mid.3 pieces (grown_below pieces members i) (grows pieces members stands i possible) in
-                  let there = joined_above_there rules node pieces piece place member path position proxy index before members i w parent at asks possible (most_weight small stands) row t tidy in
-                  let put_is = now.3 (subst (λ (p : Piece). HoldsPiece mid.0 place p) (sym i.is) there) in
+                  let put_is = now.3 in
                   subst (λ (ps : List Proxy). IsReplaced (was.settings).k (AreSplitOf was.settings rules above (changed_interval rules (put.Child position node) member path members)) place members (places_off true (member ∷ way_of (put.Child position node) path) members) ps was now.0) (sym put_is.1)
                   (joined_put rules node pieces piece place member path position proxy index before members i w parent at asks possible (most_weight small stands) row t above tidy mid.2 put_is.0 put_is.2 put_is.3),
             )

@@ -35,3 +35,4 @@ pub mod PartLemmas
 pub mod ApartLemmas
 pub mod PartedLemmas
 pub mod PartCalls
+pub mod SizeLemmas

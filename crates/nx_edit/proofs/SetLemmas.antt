@@ -16,6 +16,7 @@ use Rattle.nx_piece.specs.declared.piece.Piece.{Piece}
 use Rattle.nx_piece.specs.declared.piece.Proxy.{Proxy}
 use Rattle.nx_piece.specs.Gapped.{Gapped, GappedTree, End, Grow, Gap}
 use Rattle.nx_piece.specs.Locate.{Inside, reached_in}
+use Rattle.nx_piece.specs.Valid.{IsPiece, IsValidPiece}
 use Rattle.nx_piece_edits.specs.Setting.{with_tree, with_content, IsWithContent}
 use Rattle.nx_matrix.specs.declared.rule.Rule.{Rule}
 use Rattle.nx_cuts.specs.Cut.{CutForest, Bare, Grown, Kept, forest, width, part_weight}
@@ -42,6 +43,7 @@ use Rattle.nx_edit.proofs.ChangedLemmas.{content_interval}
 use Rattle.nx_edit.proofs.OffLemmas.{off_among}
 use Rattle.nx_edit.proofs.OwnLemmas.{nodes_bare, nodes_alone}
 use Rattle.nx_edit.proofs.PassedLemmas.{piece_same}
+use Rattle.nx_edit.proofs.SizeLemmas.{light_node}
 
 -- the first node of a forest with gaps
 abbrev node_in : Node → Gapped → Node
@@ -187,6 +189,15 @@ module _ (rules : List Rule) (piece changed : Piece) (place : RecordPlace) (posi
           now.2,
           λ pieces members i possible. replaced_own pieces members i above proxies (now.3 pieces (layout_with position path content members) (grown pieces members i possible)).0,
         )
+
+-- where it doesn't, the piece may be split then
+pub light_content : (piece changed : Piece) (position : ℕ) (path content : List ℕ) (node : Node) (k : ℕ) → IsNodeAt piece position path node → IsWithContent piece position path content changed → weight (record node { content = content }) ≤ k → k ≤ 256
+    → IsValidPiece piece → IsPiece changed
+light_content piece changed position path content node k at new light most valid =
+    let there : Inside at.0 at.1 ≡ Inside new.tree new.first = sym at.2 ∙ new.leads in
+    let tree : at.0 ≡ new.tree = cc in
+    let same : node ≡ (new.tree).node = at.3 ∙ ap (λ (t : GappedTree). t.node) tree in
+    new.heavy valid (light_node k (record (new.tree).node { content = content }) (subst (λ (n : Node). weight (record n { content = content }) ≤ k) same light) most)
 
 -- where the node outweighs k, the change may be made nowhere
 module _ (piece : Piece) (position : ℕ) (path content : List ℕ) (node : Node) (at : IsNodeAt piece position path node) where

@@ -25,9 +25,9 @@ piece_with_row index row piece = record {
   proxies = take index piece.proxies ++ row ++ drop (index + 1) piece.proxies;
 }
 
--- the row is the proxy that stands there in the piece
-abbrev pub IsRowThere : (index : ℕ) (row : List Proxy) (piece : Piece) → Type 0
-IsRowThere index row piece = (proxy : Proxy) × (slice_get piece.proxies index ≡ Some proxy) × (row ≡ proxy ∷ [])
+-- the row is the proxy that stands there among those of a piece
+abbrev pub IsRowThere : (index : ℕ) (row proxies : List Proxy) → Type 0
+IsRowThere index row proxies = (proxy : Proxy) × (slice_get proxies index ≡ Some proxy) × (row ≡ proxy ∷ [])
 
 -- the piece came in the place of a record, under one proxy
 abbrev pub IsPutAlone : (place : RecordPlace) (piece : Piece) (row : List Proxy) (was now : Held) → Type 0

@@ -14,13 +14,14 @@ ghost use Rattle.nx_edit.specs.Changing.{ChangesIn, ChangesKnown, NotChangedIn, 
 ghost use Rattle.nx_edit.specs.RowPut.{IsNodeAt, IsPutAlone, IsRowThere, MayHaveRow, piece_with_row};
 
 use crate::growing::put_grown;
-use crate::keeping::{put_changed, stays_at};
+use crate::keeping::{own_proxy, stays_at};
 use crate::planting::plant_own;
 use crate::removing::damaged;
-use nx_hold::read_piece;
+use nx_hold::{update_piece, view_piece};
 use nx_host::Disk;
+use nx_lists::NoMemory;
 use nx_matrix::Matrix;
-use nx_piece::{Located, Piece, Proxies, Proxy, locate};
+use nx_piece::{Located, LocatedView, Piece, PieceView, Proxies, Proxy, find, locate};
 use nx_piece_edits::{replace_by_row, set_content};
 use nx_records::{Records, Rid, StoreError};
 use nx_tree::{Bytes, Node};
@@ -56,15 +57,19 @@ pub(crate) fn change_in<D: Disk>(
     ensures keeps { OnOk result (RunsOn records.old records.new × KeepsSaved D.Disk records.old records.new disk.old disk.new × HasChanges records.new) }
     ensures refused { IfErr result (λ e. NotChangedIn D.Disk matrix.now change (place_of rid) member path.now e records.old records.new disk.old disk.new) }
 {
-    let piece = read_piece(alloc, records, disk, rid)?;
-    let (proxy, index, next, used) = match locate(&piece, member, path) {
-        Located::Nowhere => return Err(damaged(records, rid.page)),
-        Located::Here { .. } => {
+    let mut bytes = Bytes::new(alloc);
+    let piece = view_piece(alloc, records, disk, rid, &mut bytes)?;
+    let (proxy, index, next, used) = match find(&piece, member, path) {
+        LocatedView::Nowhere => return Err(damaged(records, rid.page)),
+        LocatedView::Here { .. } => {
+            let Ok(own) = piece.into_piece(alloc) else {
+                return Err(StoreError::Memory);
+            };
             return change_own(
-                alloc, records, disk, matrix, rid, above, piece, member, path, change,
+                alloc, records, disk, matrix, rid, above, own, member, path, change,
             );
         }
-        Located::Away {
+        LocatedView::Away {
             proxy,
             index,
             member: next,
@@ -76,19 +81,21 @@ pub(crate) fn change_in<D: Disk>(
         slot: proxy.slot,
     };
     let split = used as usize;
-    let node = node_at(&piece, member, &path[..split - 1]);
+    let Ok(node) = copy_node(alloc, &piece, member, &path[..split - 1]) else {
+        return Err(StoreError::Memory);
+    };
     let row = change_in(
         alloc,
         records,
         disk,
         matrix,
         below,
-        Some(node),
+        Some(&node),
         next,
         &path[split..],
         change,
     )?;
-    put_row(alloc, records, disk, rid, piece, index, row.as_slice())
+    pass_row(alloc, records, disk, rid, piece, index, row.as_slice())
 }
 
 // The same where the node is one of the record's own, whose piece this is.
@@ -166,6 +173,23 @@ pub(crate) fn node_at<'a>(piece: &'a Piece, member: u16, path: &[u32]) -> &'a No
     }
 }
 
+// A copy of the node that the path leads to in a view.
+fn copy_node(
+    alloc: Global,
+    piece: &PieceView<'_>,
+    member: u16,
+    path: &[u32],
+) -> Result<Node, NoMemory>
+    requires piece { IsPiece piece.now }
+    requires leads { LeadsInside piece.now member path.now }
+    ensures { IfOk result (λ node. IsNodeAt piece.now member path.now node) }
+{
+    match find(piece, member, path) {
+        LocatedView::Here { tree, .. } => tree.node.to_node(alloc),
+        LocatedView::Away { .. } | LocatedView::Nowhere => unreachable!(),
+    }
+}
+
 // The node doesn't outweigh `k` with this content.
 pub(crate) fn may_have(node: &Node, content: &[u8], k: u32) -> bool
     requires some { 1 ≤ k }
@@ -176,9 +200,41 @@ pub(crate) fn may_have(node: &Node, content: &[u8], k: u32) -> bool
     node.name.len() <= most && content.len() <= most - node.name.len()
 }
 
+// Puts a row of proxies in the place of one of the piece that a record holds; it answers the record's own proxy. Where
+// the row is the proxy that stands there, the record stays, and nothing of it is copied. Where the row can't stand there,
+// the records hold no document.
+fn pass_row<D: Disk>(
+    alloc: Global,
+    records: &mut Records,
+    disk: &mut D,
+    rid: Rid,
+    piece: PieceView<'_>,
+    index: u32,
+    row: &[Proxy],
+) -> Result<Proxies, StoreError>
+    requires runs { has_ended records.old ≡ false }
+    requires valid { IsValidPiece piece }
+    requires within { index < length piece.proxies }
+    ensures still { IsStill D.Disk disk.old disk.new }
+    ensures unwritten { OnOk result (IsRowThere index row.now piece.entry.proxies → (records.new ≡ records.old) × (disk.new ≡ disk.old)) }
+    ensures ok { IfOk result (λ put. MayHaveRow piece.entry row.now × ComesTidy D.Disk records.old records.new disk.old disk.new (λ was now. HoldsPiece was (place_of rid) piece.entry → IsPutAlone (place_of rid) (piece_with_row index row.now piece.entry) put was now)) }
+    ensures keeps { OnOk result (RunsOn records.old records.new × KeepsSaved D.Disk records.old records.new disk.old disk.new × (HasChanges records.old → HasChanges records.new)) }
+    ensures refused { IfErr result (λ e. NotStored D.Disk (λ was. piece_needs (piece_with_row index row.now piece.entry)) (λ was. MayHaveRow piece.entry row.now → HoldsNone was (place_of rid)) rid.page e records.old records.new disk.old disk.new) }
+{
+    if stays_at(piece.proxies.as_slice(), index, row) {
+        let Ok(put) = Proxies::from_slice(alloc, &[own_proxy(rid, &piece)]) else {
+            return Err(StoreError::Memory);
+        };
+        return Ok(put);
+    }
+    let Ok(piece) = piece.into_piece(alloc) else {
+        return Err(StoreError::Memory);
+    };
+    put_row(alloc, records, disk, rid, piece, index, row)
+}
+
 // Puts a row of proxies in the place of one of the piece, and the piece in the place of its record; it answers the
-// record's own proxy. Nothing is written where the row is the proxy that stands there, and the record holds the piece.
-// Where the row can't stand there, the records hold no document.
+// record's own proxy. Where the row can't stand there, the records hold no document.
 pub(crate) fn put_row<D: Disk>(
     alloc: Global,
     records: &mut Records,
@@ -192,19 +248,17 @@ pub(crate) fn put_row<D: Disk>(
     requires valid { IsValidPiece piece }
     requires within { index < length piece.proxies }
     ensures still { IsStill D.Disk disk.old disk.new }
-    ensures unwritten { OnOk result (IsRowThere index row.now piece → (records.new ≡ records.old) × (disk.new ≡ disk.old)) }
-    ensures ok { IfOk result (λ put. MayHaveRow piece row.now × ComesTidy D.Disk records.old records.new disk.old disk.new (λ was now. HoldsPiece was (place_of rid) piece → IsPutAlone (place_of rid) (piece_with_row index row.now piece) put was now)) }
-    ensures keeps { OnOk result (RunsOn records.old records.new × KeepsSaved D.Disk records.old records.new disk.old disk.new × (HasChanges records.old → HasChanges records.new)) }
+    ensures ok { IfOk result (λ put. MayHaveRow piece row.now × ComesTidy D.Disk records.old records.new disk.old disk.new (IsPutAlone (place_of rid) (piece_with_row index row.now piece) put)) }
+    ensures keeps { OnOk result (RunsOn records.old records.new × KeepsSaved D.Disk records.old records.new disk.old disk.new × HasChanges records.new) }
     ensures refused { IfErr result (λ e. NotStored D.Disk (λ was. piece_needs (piece_with_row index row.now piece)) (λ was. MayHaveRow piece row.now → HoldsNone was (place_of rid)) rid.page e records.old records.new disk.old disk.new) }
 {
     if !may_have_row(&piece, row) {
         return Err(damaged(records, rid.page));
     }
-    let stays = stays_at(&piece, index, row);
     let Ok(piece) = replace_by_row(alloc, piece, index, row) else {
         return Err(StoreError::Memory);
     };
-    let proxy = put_changed(alloc, records, disk, rid, &piece, stays)?;
+    let proxy = update_piece(alloc, records, disk, rid, &piece)?;
     let Ok(put) = Proxies::from_slice(alloc, &[proxy]) else {
         return Err(StoreError::Memory);
     };

@@ -3,7 +3,7 @@ ghost use Rattle.std.specs.Prelude.{◌≡◌, ◌≢◌, ◌++◌, ◌≤◌, f
 ghost use Rattle.nx_host.specs.Still.{IsStill};
 ghost use Rattle.nx_records.specs.Records.{KeepsSaved, HasChanges, has_ended};
 ghost use Rattle.nx_records.specs.Refusals.{RunsOn, EndNow, NotChanged};
-ghost use Rattle.nx_piece.specs.Gapped.{gapped_weight, gapped_nodes};
+ghost use Rattle.nx_piece.specs.Gapped.{gapped_size, gapped_nodes};
 ghost use Rattle.nx_layouts.specs.Layout.{Layout, piece_body, piece_of, proxies_of};
 ghost use Rattle.nx_hold.specs.Pieces.{HoldsPiece, HoldsNone};
 ghost use Rattle.nx_hold.specs.Changes.{ComesTidy, RemovesPiece, place_named};
@@ -106,7 +106,7 @@ fn remove_record<D: Disk>(
 // How many nodes a piece has.
 #[tactic(auto, using(nx_piece::proofs::WalkLemmas::nodes_most))]
 fn nodes_in(body: &Body) -> u32
-    requires { gapped_weight body.now.roots ≤ 256 }
+    requires { gapped_size body.now.roots ≤ 256 }
     ensures { result ≡ gapped_nodes body.now.roots }
 {
     let mut nodes = 0;

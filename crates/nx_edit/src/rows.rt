@@ -1,5 +1,6 @@
 // What comes in the place of an interval below which a tree is taken away.
-ghost use Rattle.std.specs.Prelude.{◌≡◌, ◌<◌, ◌≤◌, ℕ, Some, None, false, length, IfOk, IfErr, OnOk};
+ghost use Rattle.std.specs.Prelude.{◌≡◌, ◌<◌, ◌≤◌, ℕ, [], ◌∷◌, Some, None, false, length, IfOk, IfErr, OnOk};
+ghost use Rattle.std.specs.List.{slice_get};
 ghost use Rattle.std.specs.Option.{option_to_list};
 ghost use Rattle.nx_host.specs.Still.{IsStill};
 ghost use Rattle.nx_records.specs.Records.{KeepsSaved, HasChanges, has_ended};
@@ -7,17 +8,18 @@ ghost use Rattle.nx_records.specs.Refusals.{RunsOn, NotStored};
 ghost use Rattle.nx_piece.specs.Gapped.{GappedTree, gapped_width};
 ghost use Rattle.nx_piece.specs.Locate.{Inside, reached_in};
 ghost use Rattle.nx_piece.specs.Valid.{HaveRoots, IsValidPiece};
-ghost use Rattle.nx_hold.specs.Pieces.{HoldsNone};
-ghost use Rattle.nx_hold.specs.Changes.{ComesTidy, piece_needs, place_of};
+ghost use Rattle.nx_hold.specs.Pieces.{HoldsNone, HoldsPiece};
+ghost use Rattle.nx_hold.specs.Changes.{ComesTidy, UpdatesPiece, piece_needs, place_named, place_of};
 ghost use Rattle.nx_edit.specs.Rows.{DeletesIn, IsRestPut, NotDeletedIn, with_left};
 
-use crate::keeping::{is_left_same, put_changed};
+use crate::keeping::{is_left_same, own_proxy};
 use crate::removing::{damaged, remove_rows};
-use nx_hold::{read_piece, remove_piece, update_piece};
+use nx_hold::{remove_piece, update_piece, view_piece};
 use nx_host::Disk;
-use nx_piece::{Located, Piece, Proxy, count_nodes, locate};
+use nx_piece::{LocatedView, Piece, PieceView, Proxy, count_nodes, find};
 use nx_piece_edits::{remove_proxy, remove_tree, replace_proxy};
 use nx_records::{Records, Rid, StoreError};
+use nx_tree::Bytes;
 use std::alloc::Global;
 
 // What is left of an interval, and how many nodes went.
@@ -48,13 +50,17 @@ pub(crate) fn delete_in<D: Disk>(
     ensures keeps { OnOk result (RunsOn records.old records.new × KeepsSaved D.Disk records.old records.new disk.old disk.new × HasChanges records.new) }
     ensures refused { IfErr result (λ e. NotDeletedIn D.Disk None (place_of rid) member path.now limit e records.old records.new disk.old disk.new) }
 {
-    let piece = read_piece(alloc, records, disk, rid)?;
-    let (proxy, index, next, used) = match locate(&piece, member, path) {
-        Located::Nowhere => return Err(damaged(records, rid.page)),
-        Located::Here { .. } => {
-            return delete_own(alloc, records, disk, rid, piece, member, path, limit);
+    let mut bytes = Bytes::new(alloc);
+    let piece = view_piece(alloc, records, disk, rid, &mut bytes)?;
+    let (proxy, index, next, used) = match find(&piece, member, path) {
+        LocatedView::Nowhere => return Err(damaged(records, rid.page)),
+        LocatedView::Here { .. } => {
+            let Ok(own) = piece.into_piece(alloc) else {
+                return Err(StoreError::Memory);
+            };
+            return delete_own(alloc, records, disk, rid, own, member, path, limit);
         }
-        Located::Away {
+        LocatedView::Away {
             proxy,
             index,
             member: next,
@@ -74,9 +80,7 @@ pub(crate) fn delete_in<D: Disk>(
         &path[used as usize..],
         limit,
     )?;
-    let stays = is_left_same(taken.left, proxy);
-    let piece = put_left(alloc, piece, index, taken.left);
-    let left = put_changed(alloc, records, disk, rid, &piece, stays)?;
+    let left = pass_left(alloc, records, disk, rid, piece, index, proxy, taken.left)?;
     Ok(Taken {
         left: Some(left),
         gone: taken.gone,
@@ -150,6 +154,40 @@ fn put_rest<D: Disk>(
     }
     let proxy = update_piece(alloc, records, disk, rid, rest)?;
     Ok(Some(proxy))
+}
+
+// Puts what is left of an interval in the place of its proxy, in the piece that a record holds; it answers the record's
+// own proxy. Where the proxy stays, the record does so, and nothing of it is copied.
+fn pass_left<D: Disk>(
+    alloc: Global,
+    records: &mut Records,
+    disk: &mut D,
+    rid: Rid,
+    piece: PieceView<'_>,
+    index: u32,
+    proxy: Proxy,
+    left: Option<Proxy>,
+) -> Result<Proxy, StoreError>
+    requires runs { has_ended records.old ≡ false }
+    requires valid { IsValidPiece piece }
+    requires there { slice_get piece.proxies index ≡ Some proxy }
+    requires ranged { HaveRoots (option_to_list left) }
+    ensures still { IsStill D.Disk disk.old disk.new }
+    ensures unwritten { OnOk result (left ≡ Some proxy → (records.new ≡ records.old) × (disk.new ≡ disk.old)) }
+    ensures roots { IfOk result (λ own. own.roots ≡ gapped_width (with_left index left piece.entry).body.roots) }
+    ensures ranged { IfOk result (λ own. HaveRoots (own ∷ [])) }
+    ensures ok { IfOk result (λ own. ComesTidy D.Disk records.old records.new disk.old disk.new (λ was now. HoldsPiece was (place_of rid) piece.entry → UpdatesPiece (place_of rid) (place_named own) (with_left index left piece.entry) was now)) }
+    ensures keeps { OnOk result (RunsOn records.old records.new × KeepsSaved D.Disk records.old records.new disk.old disk.new × (HasChanges records.old → HasChanges records.new)) }
+    ensures refused { IfErr result (λ e. NotStored D.Disk (λ was. piece_needs (with_left index left piece.entry)) (λ was. HoldsNone was (place_of rid)) rid.page e records.old records.new disk.old disk.new) }
+{
+    if is_left_same(left, proxy) {
+        return Ok(own_proxy(rid, &piece));
+    }
+    let Ok(piece) = piece.into_piece(alloc) else {
+        return Err(StoreError::Memory);
+    };
+    let piece = put_left(alloc, piece, index, left);
+    update_piece(alloc, records, disk, rid, &piece)
 }
 
 // A piece in which what is left of an interval comes in the place of its proxy.

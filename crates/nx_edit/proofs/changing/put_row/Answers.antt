@@ -1,5 +1,4 @@
 use Rattle.std.proofs.Common.{◌≡◌, refl, sym, ap, ◌∙◌, subst}
-use Rattle.std.specs.Prelude.{IsTrue}
 use Rattle.std.proofs.lemmas.Result.{err_from_is_err_and}
 use Rattle.nx_piece.specs.declared.piece.Piece.{Piece}
 use Rattle.nx_piece.specs.Gapped.{gapped_width}
@@ -11,7 +10,6 @@ use Rattle.nx_hold.specs.Pieces.{HoldsNone}
 use Rattle.nx_edit.specs.RowPut.{MayHaveRow, piece_with_row}
 use Rattle.nx_edit.proofs.PassedLemmas.{piece_same}
 use Rattle.nx_edit.proofs.ChangeCalls.{only_lacks}
-use Rattle.nx_edit.proofs.StayLemmas.{comes_where_held, row_stays}
 use Rattle.nx_edit.proofs.changing.put_row.Goals as goal
 
 pub returns-then-not-may_have_row-clause-refused : goal.returns-then-not-may_have_row-clause-refused
@@ -22,20 +20,17 @@ returns-then-not-may_have_row-clause-refused g c =
 pub returns-in_err-proxy-clause-refused : goal.returns-in_err-proxy-clause-refused
 returns-in_err-proxy-clause-refused g c =
     let same : c.in-Ok.piece ≡ piece_with_row c.args.index c.args.row.now c.args.piece = piece_same c.in-Ok.piece (piece_with_row c.args.index c.args.row.now c.args.piece) (c.in-Ok.ensures).body (c.in-Ok.ensures).proxies in
-    err_passed c.from_residual.result (λ (e : StoreError). NotStored g.D.Disk (λ was. piece_needs (piece_with_row c.args.index c.args.row.now c.args.piece)) (λ was. MayHaveRow c.args.piece c.args.row.now → HoldsNone was (place_of c.args.rid)) c.args.rid.page e c.args.records.now c.put_changed.new.records c.args.disk.now c.put_changed.new.disk)
+    err_passed c.from_residual.result (λ (e : StoreError). NotStored g.D.Disk (λ was. piece_needs (piece_with_row c.args.index c.args.row.now c.args.piece)) (λ was. MayHaveRow c.args.piece c.args.row.now → HoldsNone was (place_of c.args.rid)) c.args.rid.page e c.args.records.now c.update_piece.new.records c.args.disk.now c.update_piece.new.disk)
     c.in_err-proxy.field-0.0 (err_from_is_err_and c.from_residual.result c.from_residual.ensures.1)
-    (only_lacks g.D.Disk (λ was. piece_needs (piece_with_row c.args.index c.args.row.now c.args.piece)) (λ was. HoldsNone was (place_of c.args.rid)) (MayHaveRow c.args.piece c.args.row.now) c.args.rid.page c.in_err-proxy.field-0.0 c.args.records.now c.put_changed.new.records c.args.disk.now c.put_changed.new.disk
-    (subst (λ (p : Piece). NotStored g.D.Disk (λ was. piece_needs p) (λ was. HoldsNone was (place_of c.args.rid)) c.args.rid.page c.in_err-proxy.field-0.0 c.args.records.now c.put_changed.new.records c.args.disk.now c.put_changed.new.disk) same c.in_err-proxy.ensures.refused))
+    (only_lacks g.D.Disk (λ was. piece_needs (piece_with_row c.args.index c.args.row.now c.args.piece)) (λ was. HoldsNone was (place_of c.args.rid)) (MayHaveRow c.args.piece c.args.row.now) c.args.rid.page c.in_err-proxy.field-0.0 c.args.records.now c.update_piece.new.records c.args.disk.now c.update_piece.new.disk
+    (subst (λ (p : Piece). NotStored g.D.Disk (λ was. piece_needs p) (λ was. HoldsNone was (place_of c.args.rid)) c.args.rid.page c.in_err-proxy.field-0.0 c.args.records.now c.update_piece.new.records c.args.disk.now c.update_piece.new.disk) same c.in_err-proxy.ensures.refused))
 
 pub returns-clause-ok : goal.returns-clause-ok
 returns-clause-ok g c =
     let same : c.in-Ok.piece ≡ piece_with_row c.args.index c.args.row.now c.args.piece = piece_same c.in-Ok.piece (piece_with_row c.args.index c.args.row.now c.args.piece) (c.in-Ok.ensures).body (c.in-Ok.ensures).proxies in (
       c.may_have_row.ensures.0 (let yes = c.if-not-may_have_row.false in yes),
       λ saved now stands tidy.
-          let next = comes_where_held g.D.Disk c.args.records.now c.put_changed.new.records c.args.disk.now c.put_changed.new.disk (place_of c.args.rid) (place_named c.in_ok-proxy.proxy) c.args.piece c.in-Ok.piece (IsTrue c.stays_at-stays.result) (λ stays. same ∙ row_stays c.args.piece c.args.index c.args.row.now (c.stays_at-stays.ensures.0 stays)) c.in_ok-proxy.ensures.ok saved now stands tidy in
+          let next = c.in_ok-proxy.ensures.ok saved now stands tidy in
           let roots : c.in_ok-proxy.proxy.roots ≡ gapped_width (piece_with_row c.args.index c.args.row.now c.args.piece).body.roots = c.in_ok-proxy.ensures.roots ∙ ap (λ (p : Piece). gapped_width p.body.roots) same in
-          (next.0, next.1, next.2, λ holds. (c.in_ok-proxy.proxy, c.in-Ok-from_slice.ensures, roots, subst (λ (p : Piece). UpdatesPiece (place_of c.args.rid) (place_named c.in_ok-proxy.proxy) p now next.0) same (next.3 holds))),
+          (next.0, next.1, next.2, (c.in_ok-proxy.proxy, c.in-Ok-from_slice.ensures, roots, subst (λ (p : Piece). UpdatesPiece (place_of c.args.rid) (place_named c.in_ok-proxy.proxy) p now next.0) same next.3)),
     )
-
-pub returns-clause-unwritten : goal.returns-clause-unwritten
-returns-clause-unwritten g c there = c.put_changed.ensures.unwritten (c.stays_at-stays.ensures.1 there)

@@ -8,7 +8,8 @@ use Rattle.nx_piece.specs.declared.piece.Proxy.{Proxy}
 use Rattle.nx_matrix.specs.declared.rule.Rule.{Rule}
 use Rattle.nx_hold.specs.Changes.{ComesTidy, place_of}
 use Rattle.nx_edit.specs.Growing.{NotGrown, PutsGrown}
-use Rattle.nx_edit.proofs.GrownLemmas.{light_piece, light_done, light_refused}
+use Rattle.nx_edit.proofs.GrownLemmas.{light_done, light_refused}
+use Rattle.nx_edit.proofs.SizeLemmas.{light_piece}
 use Rattle.nx_edit.proofs.growing.put_light.Goals as goal
 
 pub update_piece-requires : goal.update_piece-requires

@@ -1,4 +1,4 @@
-use Rattle.std.proofs.Common.{◌≡◌, ap, ◌∙◌, subst}
+use Rattle.std.proofs.Common.{◌≡◌, ap, ◌∙◌, subst, arith}
 use Rattle.std.proofs.lemmas.Result.{err_from_is_err_and}
 use Rattle.nx_piece.specs.declared.piece.Piece.{Piece}
 use Rattle.nx_piece.specs.Gapped.{gapped_width}
@@ -8,7 +8,11 @@ use Rattle.nx_records.proofs.RefusalLemmas.{err_passed}
 use Rattle.nx_hold.specs.Changes.{place_named, piece_needs, AddsPiece}
 use Rattle.nx_edit.specs.Parting.{alone_piece}
 use Rattle.nx_edit.proofs.PassedLemmas.{piece_same}
+use Rattle.nx_edit.proofs.SizeLemmas.{light_alone}
 use Rattle.nx_edit.proofs.parting.place_alone.Goals as goal
+
+pub add_piece-requires : goal.add_piece-requires
+add_piece-requires g c = light_alone 256 c.args.node c.in-Ok.alone c.in-Ok.ensures.0 c.in-Ok.ensures.1 c.requires.light (omega arith)
 
 pub returns-in_err-own-clause-refused : goal.returns-in_err-own-clause-refused
 returns-in_err-own-clause-refused g c =

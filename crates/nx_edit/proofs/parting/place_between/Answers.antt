@@ -1,6 +1,15 @@
+use Rattle.std.proofs.Common.{◌≤◌, arith}
 use Rattle.nx_edit.proofs.PartLemmas.{stands_between}
-use Rattle.nx_edit.proofs.RowCalls.{valid_piece}
+use Rattle.nx_edit.proofs.RowCalls.{ok_map, valid_piece}
+use Rattle.nx_edit.proofs.SizeLemmas.{light_node}
 use Rattle.nx_edit.proofs.parting.place_between.Goals as goal
+
+pub returns-clause-piece : goal.returns-clause-piece
+returns-clause-piece c =
+    let ranged = c.requires.ranged in
+    let some : 1 ≤ c.args.before = ((c.requires.within).1).some in
+    let valid = (c.in_ok-two.ensures).valid c.requires.valid (omega (arith, ranged.0, some), omega (arith, ranged.0, ranged.1), (ranged.2, ranged.3, tt)) (omega (arith, c.requires.few)) in
+    ok_map c.plant_node.result (λ placed planted. planted.heavy valid (light_node 256 c.args.node c.requires.light (omega arith))) c.plant_node.ensures
 
 pub plant_node-requires-clause-leads : goal.plant_node-requires-clause-leads
 plant_node-requires-clause-leads c =

@@ -1,6 +1,7 @@
 use Rattle.std.proofs.Common.{Some, sym, subst, arith}
 use Rattle.std.proofs.lemmas.Result.{err_from_is_err_and}
 use Rattle.nx_records.specs.declared.error.StoreError.{StoreError}
+use Rattle.nx_records.specs.Records.{settings_of}
 use Rattle.nx_records.proofs.RefusalLemmas.{err_passed}
 use Rattle.nx_records.proofs.StandLemmas.{on_ok_then}
 use Rattle.nx_hold.specs.Changes.{place_of}
@@ -10,7 +11,12 @@ use Rattle.nx_edit.specs.Changing.{NotChangedKnown}
 use Rattle.nx_edit.proofs.GrownThroughLemmas.{grown_changed, grown_refused}
 use Rattle.nx_edit.proofs.PlantCalls.{alone_grows, alone_unadded, too_many}
 use Rattle.nx_edit.proofs.RowCalls.{ok_map, err_map}
+use Rattle.nx_edit.proofs.SizeLemmas.{light_alone}
 use Rattle.nx_edit.proofs.planting.plant_alone.Goals as goal
+
+pub add_piece-requires : goal.add_piece-requires
+add_piece-requires g c =
+    light_alone (settings_of c.args.records.now).k c.args.node c.in-Ok.alone c.in-Ok.ensures.0 c.in-Ok.ensures.1 c.requires.light c.args.records.now.head_range.settings.k.1
 
 pub returns-then-len-ge524288-clause-refused : goal.returns-then-len-ge524288-clause-refused
 returns-then-len-ge524288-clause-refused g c =

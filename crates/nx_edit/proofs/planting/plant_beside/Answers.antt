@@ -1,10 +1,15 @@
 use Rattle.std.proofs.Common.{refl, arith}
+use Rattle.nx_records.specs.Records.{settings_of}
 use Rattle.nx_hold.specs.Changes.{place_of}
 use Rattle.nx_edit.specs.declared.changing.Change.TheVariants as put
 use Rattle.nx_edit.proofs.GrownThroughLemmas.{grown_changed, grown_refused}
 use Rattle.nx_edit.proofs.PlantCalls.{beside_grows}
 use Rattle.nx_edit.proofs.RowCalls.{ok_map, err_map}
+use Rattle.nx_edit.proofs.SizeLemmas.{light_node}
 use Rattle.nx_edit.proofs.planting.plant_beside.Goals as goal
+
+pub put_grown-requires-clause-piece : goal.put_grown-requires-clause-piece
+put_grown-requires-clause-piece g c = (c.in-Ok.ensures).heavy c.requires.valid (light_node (settings_of c.args.records.now).k c.args.node c.requires.light c.args.records.now.head_range.settings.k.1)
 
 pub returns-clause-ok : goal.returns-clause-ok
 returns-clause-ok g c =
