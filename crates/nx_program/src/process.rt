@@ -1,7 +1,11 @@
 // The program over the files of the system.
 use crate::program;
+use nx_cached_host::CachedHost;
 use nx_files::FileHost;
-use nx_front::run;
+use nx_front::{Status, Words, run};
+use nx_host::Host;
+use nx_lists::NoMemory;
+use std::alloc::Global;
 use std::env::Args;
 use std::fs::{File, Files};
 use std::io;
@@ -29,7 +33,16 @@ where
         process.alloc(),
         arguments,
         |name| FileHost::new(process.alloc(), process, name, reader, writer),
-        |words, mut host| run(process.alloc(), &words, &mut host),
+        |words, files| run_kept(process.alloc(), &words, files),
         say,
     )
+}
+
+// Carries out the words over this host, behind one that keeps the pages that were read lately. It is generic,
+// since the prover can't name what a `CachedHost` over the types of the system tells.
+fn run_kept<H: Host + Drop>(alloc: Global, words: &Words, host: H) -> Status {
+    match CachedHost::new(alloc, host) {
+        Ok(mut kept) => run(alloc, words, &mut kept),
+        Err(NoMemory) => Status::NoMemory,
+    }
 }

@@ -1,0 +1,4 @@
+pub mod AddressLemmas
+pub mod ListLemmas
+pub mod FrameLemmas
+pub mod CallerLemmas
