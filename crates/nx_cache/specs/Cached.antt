@@ -11,6 +11,10 @@ pub record Cached : Type 0 where
   pub pages : List (Address × PageBytes)
   pub capacity : ℕ
 
+-- a page with these bytes
+abbrev pub page_of : List ℕ → PageBytes
+page_of bytes = record { bytes = bytes }
+
 -- what is listed of a page
 abbrev pub bytes_listed : Address → List (Address × PageBytes) → Option PageBytes
 bytes_listed address [] = None

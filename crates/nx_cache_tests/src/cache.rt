@@ -1,14 +1,11 @@
 // A cache of three pages.
 use nx_cache::{Address, PageCache};
-use nx_slots::PageBytes;
 use std::process::Abort;
 use std::test::Fail;
 
 // A page of nothing but that byte.
-fn page(byte: u8) -> PageBytes {
-    PageBytes {
-        bytes: [byte; 8192],
-    }
+fn page(byte: u8) -> [u8; 8192] {
+    [byte; 8192]
 }
 
 // Of pages with an even number the address is in the pages area, of others in the log, two by two at one offset.

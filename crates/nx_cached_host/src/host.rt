@@ -2,15 +2,13 @@
 ghost use Rattle.std.specs.Prelude.{◌≡◌, ◌∷◌, length, take, true, Some, is_some, IfOk, OnOk};
 ghost use Rattle.nx_numbers.specs.Sizes.{page_size};
 ghost use Rattle.nx_host.specs.Disk.{Image, area_of, given_at};
-ghost use Rattle.nx_slots.specs.declared.page.PageBytes.{PageBytes};
-ghost use Rattle.nx_cache.specs.Cached.{bytes_listed, without_page};
+ghost use Rattle.nx_cache.specs.Cached.{bytes_listed, page_of, without_page};
 ghost use Rattle.nx_cached_host.specs.Kept.{address_in, most_kept, KeptStand, GivesPage};
 
 use crate::kept::{KeptPages, address_in};
 use nx_host::{Area, Disk, Failed, Host};
 use nx_lists::NoMemory;
 use nx_numbers::PAGE_SIZE;
-use nx_slots::PageBytes;
 use std::alloc::Global;
 
 /// A host that hands each call to the host behind it, but for a read of a whole page that it kept. It
@@ -55,13 +53,7 @@ impl<H: Disk> CachedHost<H> {
         ensures inner { self.new.inner ≡ self.old.inner }
         ensures copied { result ≡ true → (image : Image) → H.contents self.old.inner ≡ Some image → GivesPage area at into.new image }
     {
-        match self.kept.find(address_in(area, at)) {
-            Some(page) => {
-                into.copy_from_slice(&page.bytes);
-                true
-            }
-            None => false,
-        }
+        self.kept.copy(address_in(area, at), into)
     }
 
     // Keeps the page that a read gave at this offset of an area.
@@ -70,14 +62,10 @@ impl<H: Disk> CachedHost<H> {
     fn keep(&mut self, area: Area, at: u64, bytes: &[u8]) -> Result<(), NoMemory>
         requires page { length bytes.now ≡ page_size }
         requires given { (image : Image) → H.contents self.old.inner ≡ Some image → bytes.now ≡ given_at at page_size (area_of area image) }
-        ensures kept { OnOk result ((page : PageBytes) × (page.bytes ≡ bytes.now) × (self.new.kept.cache.pages ≡ take most_kept ((address_in area at, page) ∷ without_page (address_in area at) self.old.kept.cache.pages))) }
+        ensures kept { OnOk result (self.new.kept.cache.pages ≡ take most_kept ((address_in area at, page_of bytes.now) ∷ without_page (address_in area at) self.old.kept.cache.pages)) }
         ensures inner { self.new.inner ≡ self.old.inner }
     {
-        let mut page = PageBytes {
-            bytes: [0; PAGE_SIZE],
-        };
-        page.bytes.copy_from_slice(bytes);
-        self.kept.keep(area, at, &page)
+        self.kept.keep(area, at, bytes)
     }
 }
 

@@ -1,14 +1,13 @@
 // Pages that were read lately, each as a read gives it.
-ghost use Rattle.std.specs.Prelude.{◌≡◌, ◌⊎◌, ◌^◌, ◌+◌, ◌<◌, ◌≤◌, [], ◌∷◌, length, take, IfOk, OnOk, OnErr};
+ghost use Rattle.std.specs.Prelude.{◌≡◌, ◌⊎◌, ◌^◌, ◌+◌, ◌<◌, ◌≤◌, [], ◌∷◌, length, take, true, is_some, Some, IfOk, OnOk, OnErr};
 ghost use Rattle.nx_numbers.specs.Sizes.{page_size};
-ghost use Rattle.nx_cache.specs.Cached.{bytes_listed, brought_to_front, without_page, EachListed};
+ghost use Rattle.nx_cache.specs.Cached.{bytes_listed, brought_to_front, page_of, without_page, EachListed};
 ghost use Rattle.nx_cached_host.specs.Kept.{address_in, end_in, most_kept, EndsBy, LiesBefore};
 
 use nx_cache::{Address, PageCache};
 use nx_host::Area;
 use nx_lists::NoMemory;
 use nx_numbers::PAGE_SIZE;
-use nx_slots::PageBytes;
 use std::alloc::Global;
 
 // How many pages are kept at most.
@@ -48,19 +47,28 @@ impl KeptPages {
         })
     }
 
-    /// The page at this address, where it is kept. It is the most recently used then.
-    pub(crate) fn find(&mut self, address: Address) -> Option<PageBytes>
-        ensures bytes { result ≡ bytes_listed address self.old.cache.pages }
+    /// Copies the page at this address, where it is kept, and says whether it is. It is the most recently used then.
+    pub(crate) fn copy(&mut self, address: Address, into: &mut [u8]) -> bool
+        requires { length into.old ≡ page_size }
+        ensures found { result ≡ is_some (bytes_listed address self.old.cache.pages) }
+        ensures copied { result ≡ true → bytes_listed address self.old.cache.pages ≡ Some (page_of into.new) }
         ensures pages { self.new.cache.pages ≡ brought_to_front address self.old.cache.pages }
     {
-        self.cache.get(address)
+        match self.cache.get(address) {
+            Some(page) => {
+                into.copy_from_slice(&page.bytes);
+                true
+            }
+            None => false,
+        }
     }
 
     /// Keeps the page at this offset of an area. Where too many are kept then, the least recently used is let go.
     ///
     /// Errors: `NoMemory`, also where no area goes so far. The same pages are kept as before then.
-    pub(crate) fn keep(&mut self, area: Area, at: u64, page: &PageBytes) -> Result<(), NoMemory>
-        ensures ok { OnOk result (self.new.cache.pages ≡ take most_kept ((address_in area at, page.now) ∷ without_page (address_in area at) self.old.cache.pages)) }
+    pub(crate) fn keep(&mut self, area: Area, at: u64, page: &[u8]) -> Result<(), NoMemory>
+        requires { length page.now ≡ page_size }
+        ensures ok { OnOk result (self.new.cache.pages ≡ take most_kept ((address_in area at, page_of page.now) ∷ without_page (address_in area at) self.old.cache.pages)) }
         ensures err { OnErr result (self.new.cache.pages ≡ self.old.cache.pages) }
     {
         let Some(end) = at.checked_add(PAGE_SIZE as u64) else {

@@ -4,6 +4,10 @@ use Rattle.std.proofs.Math.ListN.{replicate}
 use Rattle.nx_numbers.specs.Sizes.{page_size, page_room}
 use Rattle.nx_numbers.specs.Numbers.{number_bytes}
 
+-- what stands in front of the content: a page's kind and a zero byte, the number of content bytes, and the next page
+unfoldable pub chain_head : ℕ → ℕ → List ℕ
+chain_head next len = (2 ∷ 0 ∷ number_bytes 2 len) ++ number_bytes 4 next
+
 -- a page's kind and a zero byte, the number of content bytes, the next page, the content, and zero bytes to the end
 unfoldable pub chain_bytes : ℕ → List ℕ → List ℕ
 chain_bytes next content =

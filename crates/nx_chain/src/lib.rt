@@ -4,9 +4,10 @@
 //! The form of a chain page is said in `specs/Chain.antt`.
 #![tactic(auto)]
 
-ghost use Rattle.nx_chain.specs.Chain.{chain_bytes, IsBegun, IsChainPage, IsNoChainPage};
+ghost use Rattle.nx_chain.specs.Chain.{chain_bytes, chain_head, IsBegun, IsChainPage, IsNoChainPage};
 ghost use Rattle.nx_numbers.specs.Numbers.{number_at};
 ghost use Rattle.std.specs.Prelude.{◌≡◌, ◌+◌, ◌<◌, ◌≤◌, length, take, drop, IfOk, MatchOption, true, false};
+ghost use Rattle.std.proofs.Math.ListN.{replicate};
 ghost use Rattle.nx_numbers.specs.Sizes.{page_room};
 
 use nx_lists::{List, NoMemory};
@@ -48,6 +49,18 @@ fn begun() -> PageBytes
     page
 }
 
+/// The next page and the content of the chain page of these bytes, as they lie there, and none exactly where they
+/// are no chain page. It takes no memory.
+pub fn view_chain_page(bytes: &PageBytes) -> Option<(u32, &[u8])>
+    ensures { MatchOption result (IsNoChainPage bytes.now.bytes) (λ page. IsChainPage bytes.now.bytes page.0 page.1.now) }
+{
+    let len = u16_at(&bytes.bytes, 2) as usize;
+    if !is_chain_page(bytes, len) {
+        return None;
+    }
+    Some((u32_at(&bytes.bytes, 4), &bytes.bytes[8..8 + len]))
+}
+
 /// What the chain page of these bytes says, and none exactly where they are no chain page.
 ///
 /// Errors: `NoMemory`.
@@ -55,12 +68,10 @@ pub fn read_chain_page(alloc: Global, bytes: &PageBytes) -> Result<Option<ChainP
     ensures { IfOk result (λ found. MatchOption found (IsNoChainPage bytes.now.bytes)
         (λ page. IsChainPage bytes.now.bytes page.next page.content)) }
 {
-    let len = u16_at(&bytes.bytes, 2) as usize;
-    if !is_chain_page(bytes, len) {
+    let Some((next, content)) = view_chain_page(bytes) else {
         return Ok(None);
-    }
-    let next = u32_at(&bytes.bytes, 4);
-    let content = List::from_slice(alloc, &bytes.bytes[8..8 + len])?;
+    };
+    let content = List::from_slice(alloc, content)?;
     Ok(Some(ChainPage { next, content }))
 }
 
@@ -74,6 +85,28 @@ fn is_chain_page(bytes: &PageBytes, len: usize) -> bool
     if len < 1 || len > PAGE_ROOM {
         return false;
     }
-    let page = chain_page(u32_at(&bytes.bytes, 4), &bytes.bytes[8..8 + len]);
-    page.bytes == bytes.bytes
+    let head = chain_head(u32_at(&bytes.bytes, 4), len as u16);
+    bytes.bytes[..8] == head[..] && are_zero(&bytes.bytes[8 + len..])
+}
+
+// What stands in front of a content of so many bytes.
+fn chain_head(next: u32, len: u16) -> [u8; 8]
+    ensures { result ≡ chain_head next len }
+{
+    let mut head = [2u8, 0, 0, 0, 0, 0, 0, 0];
+    set_u16_at(&mut head, 2, len);
+    set_u32_at(&mut head, 4, next);
+    head
+}
+
+// Whether these are zero bytes. All are looked at, so that a processor can look at many at once.
+fn are_zero(bytes: &[u8]) -> bool
+    ensures yes { result ≡ true → bytes.now ≡ replicate (length bytes.now) 0 }
+    ensures no { result ≡ false → bytes.now ≡ replicate (length bytes.now) 0 → ⊥ }
+{
+    let mut found = 0u8;
+    for i in 0..bytes.len() {
+        found |= bytes[i];
+    }
+    found == 0
 }

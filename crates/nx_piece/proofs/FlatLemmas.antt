@@ -6,9 +6,9 @@ use Rattle.nx_piece.specs.declared.viewing.Flat.{Flat}
 use Rattle.nx_piece.specs.declared.viewing.Flat.TheVariants.{Tree, Run}
 use Rattle.nx_tree.specs.declared.node.Node.{Node}
 use Rattle.nx_weights.specs.Weight.{weight}
-use Rattle.nx_piece.specs.Gapped.{Gapped, Grow, Gap, gapped_width, gapped_size, gapped_weight, item_slots, proxies_in}
+use Rattle.nx_piece.specs.Gapped.{Gapped, Grow, Gap, gapped_width, gapped_nodes, gapped_size, gapped_weight, item_slots, proxies_in}
 use Rattle.nx_piece.specs.Flat.{seen_node, forest_within, unflattened}
-use Rattle.nx_piece.proofs.SizeLemmas.{gapped_sum, sum_is_weight, sum_is_size}
+use Rattle.nx_piece.proofs.SizeLemmas.{gapped_sum, one_each, sum_is_weight, sum_is_size, sum_is_nodes}
 
 take_few : (n : ℕ) (items : List Flat) → length (take n items) ≤ length items
 take_few zero items = omega arith
@@ -133,3 +133,6 @@ weights_in items = sym (sum_within weight (length items) items (omega arith)) �
 
 pub sizes_in : (items : List Flat) → flat_sum item_slots items ≡ gapped_size (unflattened items)
 sizes_in items = sym (sum_within item_slots (length items) items (omega arith)) ∙ sum_is_size (unflattened items)
+
+pub nodes_in : (items : List Flat) → flat_sum one_each items ≡ gapped_nodes (unflattened items)
+nodes_in items = sym (sum_within one_each (length items) items (omega arith)) ∙ sum_is_nodes (unflattened items)

@@ -3,7 +3,7 @@ use Rattle.std.proofs.Common.{◌≡◌, ℕ, ◌+◌, ◌≤◌, length, refl, 
 use Rattle.nx_tree.specs.declared.node.Node.{Node}
 use Rattle.nx_weights.specs.Weight.{weight}
 use Rattle.nx_weights.proofs.SumLemmas.{weight_of_most}
-use Rattle.nx_piece.specs.Gapped.{Gapped, GappedTree, End, Grow, Gap, item_slots, gapped_size, gapped_weight}
+use Rattle.nx_piece.specs.Gapped.{Gapped, GappedTree, End, Grow, Gap, item_slots, gapped_nodes, gapped_size, gapped_weight}
 
 -- no node weighs more than the slots that its item takes
 pub item_heavy : (n : Node) → weight n ≤ item_slots n
@@ -32,6 +32,15 @@ pub sum_is_size : (f : Gapped) → gapped_sum item_slots f ≡ gapped_size f
 sum_is_size End = refl
 sum_is_size (Grow n b s) = let p = sum_is_size b in let q = sum_is_size s in omega (arith, p, q)
 sum_is_size (Gap c s) = sum_is_size s
+
+-- what counts nodes
+abbrev pub one_each : Node → ℕ
+one_each node = 1
+
+pub sum_is_nodes : (f : Gapped) → gapped_sum one_each f ≡ gapped_nodes f
+sum_is_nodes End = refl
+sum_is_nodes (Grow n b s) = let p = sum_is_nodes b in let q = sum_is_nodes s in omega (arith, p, q)
+sum_is_nodes (Gap c s) = sum_is_nodes s
 
 -- today the two are the same
 pub slots_are_weight : (n : Node) → item_slots n ≡ weight n

@@ -1,7 +1,7 @@
 // The nodes of a record as they lie in its bytes, as one flat list.
 ghost use Rattle.std.specs.Prelude.{◌≡◌, ◌≤◌, IfOk, MatchOption};
 ghost use Rattle.nx_weights.specs.Weight.{weight, IsShort};
-ghost use Rattle.nx_piece.specs.Gapped.{End, gapped_width, gapped_size, gapped_weight, item_slots, proxies_in};
+ghost use Rattle.nx_piece.specs.Gapped.{End, gapped_width, gapped_nodes, gapped_size, gapped_weight, item_slots, proxies_in};
 ghost use Rattle.nx_piece.specs.Flat.{seen_node, unflattened};
 ghost use Rattle.nx_piece.specs.Viewing.{seen_items, begun_with};
 
@@ -204,6 +204,19 @@ impl<'a> BodyView<'a> {
             }
         }
         weight
+    }
+
+    /// How many nodes there are. It looks at each, and takes no memory.
+    pub fn nodes(&self) -> u32
+        ensures { result ≡ gapped_nodes self.now.roots }
+    {
+        let mut nodes = 0;
+        for item in self.items.as_slice() {
+            if let Flat::Tree { .. } = item {
+                nodes += 1;
+            }
+        }
+        nodes
     }
 
     /// How many slots of 8 bytes the items of the nodes take in the record; runs and proxies aren't counted.
