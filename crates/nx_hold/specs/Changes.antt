@@ -8,8 +8,10 @@ use Rattle.nx_records.specs.declared.records.Rid.{Rid}
 use Rattle.nx_piece.specs.declared.piece.Piece.{Piece}
 use Rattle.nx_piece.specs.declared.piece.Proxy.{Proxy}
 use Rattle.nx_piece.specs.declared.piece.Stored.{Stored}
+use Rattle.nx_piece.specs.Gapped.{gapped_nodes}
 use Rattle.nx_piece.specs.Valid.{is_inline}
 use Rattle.nx_layouts.specs.Layout.{RecordPlace}
+use Rattle.nx_hold.specs.declared.taking.TakenPiece.{TakenPiece}
 use Rattle.nx_hold.specs.Pieces.{record_at, IsStored, HoldsPiece, HoldsNone, NamesList, HasItsList, IsTidy, ChangesOneRecord, PieceMap}
 
 abbrev pub place_of : Rid → RecordPlace
@@ -53,6 +55,11 @@ pub record UpdatesPiece (old new : RecordPlace) (piece : Piece) (was now : Held)
 pub record RemovesPiece (place : RecordPlace) (was now : Held) : Type 0 where
   pub was_there : IsPieceRecord was place
   pub alone : ChangesOneRecord (Some place) None 0 was now
+
+-- what was taken away is this piece: its proxies, and how many nodes it had
+pub record IsTakenOf (piece : Piece) (taken : TakenPiece) : Type 0 where
+  pub proxies : taken.proxies ≡ piece.proxies
+  pub nodes : taken.nodes ≡ gapped_nodes piece.body.roots
 
 -- Of what they stood for, where its lists are in order, the records now stand for something that came of it so, and its lists are in order.
 abbrev pub ComesTidy : {D : Type 0} → Ghosts D → Records → Records → D → D → (Held → Held → Type 0) → Type 0

@@ -31,6 +31,11 @@ abbrev pub chain_of : Stored → Option ℕ
 chain_of (Inline piece) = None
 chain_of (Chained body count chain) = Some chain
 
+-- the piece that is stored so, where the list that it names has these proxies
+abbrev pub piece_with : Stored → List Proxy → Piece
+piece_with (Inline piece) listed = piece
+piece_with (Chained body count chain) listed = record { body = body; proxies = listed }
+
 -- it is there, as long as its proxies need
 abbrev pub HasList : Held → Stored → Type 0
 HasList held (Inline piece) = Unit {0}

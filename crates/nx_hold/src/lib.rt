@@ -6,7 +6,9 @@ mod entry;
 pub mod laws;
 mod lists;
 mod pieces;
+mod taking;
 mod updating;
 
 pub use entry::DocEntry;
 pub use pieces::{add_piece, read_piece, remove_piece, update_piece, view_piece};
+pub use taking::{TakenPiece, take_piece};

@@ -11,6 +11,7 @@ ghost use Rattle.nx_hold.specs.Pieces.{HoldsPiece, HoldsNone, HasNamedList};
 ghost use Rattle.nx_hold.specs.Changes.{place_of, place_named, chain_pages, piece_needs, TakesPages, AddsPiece, UpdatesPiece, RemovesPiece, ComesOwn, ComesTidy};
 
 use crate::lists::{free_proxies, proxies_at, record_bytes, stored_at, viewed_at};
+use crate::taking::take_piece;
 use crate::updating::{list_kept, update_on_list};
 use nx_host::Disk;
 use nx_piece::{Piece, PieceView, Proxy, Stored, StoredView};
@@ -166,10 +167,8 @@ pub fn remove_piece<D: Disk>(
     ensures keeps { OnOk result (RunsOn records.old records.new × KeepsSaved D.Disk records.old records.new disk.old disk.new × HasChanges records.new) }
     ensures refused { IfErr result (λ e. NotChanged D.Disk (λ was. HoldsNone was (place_of rid)) rid.page e records.old records.new disk.old disk.new) }
 {
-    let mut had = Bytes::new(alloc);
-    let old = viewed_at(alloc, records, disk, rid, &mut had)?;
-    records.remove(disk, rid)?;
-    free_proxies(alloc, records, disk, &old, rid.page)
+    take_piece(alloc, records, disk, rid)?;
+    Ok(())
 }
 
 // The proxy of a piece at a place.

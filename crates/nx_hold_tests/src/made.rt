@@ -2,8 +2,9 @@
 ghost use Rattle.std.specs.Prelude.{IfOk};
 ghost use Rattle.nx_piece.specs.Valid.{IsValidPiece};
 
+use nx_hold::TakenPiece;
 use nx_lists::NoMemory;
-use nx_piece::{Item, Piece, Stored, decode, decode_proxies};
+use nx_piece::{Item, Piece, Proxy, Stored, decode, decode_proxies};
 use std::alloc::Global;
 use std::process::Abort;
 
@@ -150,8 +151,18 @@ pub fn check(rt: &impl Abort, piece: &Piece, form: Form) {
         [Item::Run { count }] => assert_eq!(rt; *count, form.proxies),
         _ => panic!(rt; "there is more than one run"),
     }
-    assert_eq!(rt; piece.proxies.len(), form.proxies as usize);
-    for (index, proxy) in piece.proxies.as_slice().iter().enumerate() {
+    check_proxies(rt, piece.proxies.as_slice(), form);
+}
+
+/// Checks that what was taken away is a piece of this form, which has two nodes.
+pub fn check_taken(rt: &impl Abort, taken: &TakenPiece, form: Form) {
+    assert_eq!(rt; taken.nodes, 2);
+    check_proxies(rt, taken.proxies.as_slice(), form);
+}
+
+fn check_proxies(rt: &impl Abort, proxies: &[Proxy], form: Form) {
+    assert_eq!(rt; proxies.len(), form.proxies as usize);
+    for (index, proxy) in proxies.iter().enumerate() {
         let (page, slot, roots) = form.proxy((index % 4_294_967_296) as u32);
         assert_eq!(rt; proxy.page, page);
         assert_eq!(rt; u32::from(proxy.slot), slot);

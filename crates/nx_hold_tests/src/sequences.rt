@@ -1,5 +1,5 @@
 // Many pieces beside each other, changed in random order.
-use crate::made::{Form, check, made};
+use crate::made::{Form, check, check_taken, made};
 use crate::pages::free_pages;
 use crate::random::Random;
 use crate::stores::{LIMIT, Store, empty_host};
@@ -90,10 +90,11 @@ impl Trial<'_> {
         Ok(())
     }
 
-    fn remove(&mut self, alloc: Global, index: usize) -> Result<(), Fail> {
+    fn take(&mut self, rt: &impl Abort, alloc: Global, index: usize) -> Result<(), Fail> {
         if index < self.entries.len() {
             let entry = self.entries.swap_remove(index);
-            self.store.remove(alloc, self.host, entry.place)?;
+            let taken = self.store.take(alloc, self.host, entry.place)?;
+            check_taken(rt, &taken, entry.form);
         }
         Ok(())
     }
@@ -150,7 +151,7 @@ fn many_pieces(rt: HostRuntime) -> Result<(), Fail> {
         match random.below(6) {
             0..=2 => trial.add(&rt, alloc, form)?,
             3 | 4 => trial.update(&rt, alloc, index, form)?,
-            _ => trial.remove(alloc, index)?,
+            _ => trial.take(&rt, alloc, index)?,
         }
         trial.commit(&rt)?;
         if step % 30 == 0 {

@@ -3,7 +3,7 @@ ghost use Rattle.std.specs.Prelude.{◌≡◌, ◌≢◌, [], true};
 ghost use Rattle.nx_piece.specs.Valid.{IsValidPiece};
 ghost use Rattle.nx_wal.specs.Wal.{pending};
 
-use nx_hold::{add_piece, read_piece, remove_piece, update_piece};
+use nx_hold::{TakenPiece, add_piece, read_piece, remove_piece, take_piece, update_piece};
 use nx_lists::{List, NoMemory};
 use nx_memory::{Image, MemoryHost};
 use nx_piece::{Piece, Proxy};
@@ -128,6 +128,25 @@ impl Store {
             Ok(()) => {
                 self.changed = true;
                 Ok(())
+            }
+            Err(error) => {
+                self.changed = false;
+                self.records.abandon();
+                Err(error)
+            }
+        }
+    }
+
+    pub fn take(
+        &mut self,
+        alloc: Global,
+        host: &mut MemoryHost,
+        place: Rid,
+    ) -> Result<TakenPiece, StoreError> {
+        match take_piece(alloc, &mut self.records, host, place) {
+            Ok(taken) => {
+                self.changed = true;
+                Ok(taken)
             }
             Err(error) => {
                 self.changed = false;

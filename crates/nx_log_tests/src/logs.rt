@@ -2,7 +2,7 @@
 use crate::stores::{bytes_of, commit_two, empty_host, host_of, page};
 use nx_memory::{Choice, Image};
 use nx_tree::{Bytes, NoMemory};
-use nx_wal::{Wal, WalError};
+use nx_wal::{PageBytes, Wal, WalError};
 use std::alloc::Global;
 use std::test::Fail;
 
@@ -57,6 +57,39 @@ fn two_pages_are_committed_and_moved(rt: HostRuntime) -> Result<(), Fail> {
     assert_eq!(rt; image.pages.len(), 16_384);
     assert_eq!(rt; Wal::create(&mut host, alloc).err(), Some(WalError::Exists));
     assert_eq!(rt; bytes_of(alloc, image)?.as_slice(), [1u8, 1].as_slice());
+    Ok(())
+}
+
+// A slotted page with the records 7 and 9 of one byte each, at its end.
+fn two_records() -> PageBytes {
+    let mut page = PageBytes { bytes: [0; 8192] };
+    page.bytes[..4].copy_from_slice(&[1, 0, 0, 2]);
+    page.bytes[8..16].copy_from_slice(&[31, 255, 0, 1, 31, 254, 0, 1]);
+    page.bytes[8_190..].copy_from_slice(&[9, 7]);
+    page
+}
+
+#[test]
+fn a_record_goes_out_in_place(rt: HostRuntime) -> Result<(), Fail> {
+    let alloc = rt.alloc();
+    let mut host = empty_host(alloc)?;
+    let mut wal = Wal::create(&mut host, alloc)?;
+    wal.put(1, &two_records())?;
+    wal.put(2, &page(2, 5))?;
+    for (page, slot) in [(0, 0), (1, 2), (2, 0)] {
+        assert!(rt; !wal.clear_record(page, slot), "{page} {slot}");
+    }
+    assert!(rt; wal.clear_record(1, 0));
+    let Some(waits) = wal.waiting(1) else {
+        panic!(rt; "page 1 doesn't wait");
+    };
+    assert_eq!(rt; &waits.bytes[..4], [1u8, 0, 0, 2].as_slice());
+    assert_eq!(rt;
+        &waits.bytes[8..16],
+        [0u8, 0, 0, 0, 31, 254, 0, 1].as_slice()
+    );
+    assert_eq!(rt; waits.bytes[8_190], 9);
+    assert!(rt; !wal.clear_record(1, 1));
     Ok(())
 }
 

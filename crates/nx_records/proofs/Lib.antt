@@ -11,3 +11,4 @@ pub mod RewritingLemmas
 pub mod FreedLemmas
 pub mod InPlaceLemmas
 pub mod RoomLemmas
+pub mod SeenLemmas

@@ -35,14 +35,14 @@ keeps_self r0 r1 runs same = subst (λ (r : Records). KeepsLog r0 r) (sym same) 
 pub runs_on : {r0 r1 : Records} → has_ended r0 ≡ false → KeepsLog r0 r1 → RunsOn r0 r1
 runs_on runs keeps = record { before = runs; after = keeps.runs; length_stays = keeps.length_stays; settings_stay = keeps.settings_stay }
 
-none_some : {x : List ℕ} → ◌≡◌ {A = Option (List ℕ)} None (Some x) → ⊥
+pub none_some : {x : List ℕ} → ◌≡◌ {A = Option (List ℕ)} None (Some x) → ⊥
 none_some same = cc
 
 pub some_same : {x y : List ℕ} → ◌≡◌ {A = Option (List ℕ)} (Some x) (Some y) → x ≡ y
 some_same same = cc
 
 -- a page of which no record is read in a slot holds none there
-unread_none : {pages : Pages} {h : Header} {held : Held} → HoldsBehind pages h held → (page slot : ℕ) (bytes : List ℕ) → pages page ≡ Some bytes
+pub unread_none : {pages : Pages} {h : Header} {held : Held} → HoldsBehind pages h held → (page slot : ℕ) (bytes : List ℕ) → pages page ≡ Some bytes
     → (IsSlotted bytes → slice_index_or (slots_of bytes) slot None ≡ None) → (there : Option (List ℕ)) → held.records page slot ≡ there → held.records page slot ≡ None
 unread_none holds page slot bytes is empty None there = there
 unread_none {pages = pages} holds page slot bytes is empty (Some record_bytes) there = unslotted_none holds page slot (λ low other other_is slotted.
@@ -154,15 +154,6 @@ module _ {D : Type 0} (d : Ghosts D) (r0 r1 : Records) (x0 x1 : D) (named : ℕ)
   pub missing_slots : (page : ℕ) (e : StoreError) → NotFound d (λ pages. page < r0.head.pages → pages page ≡ None) named e r0 r1 x0 x1 → NotFound d (NoSlots page r0) named e r0 r1 x0 x1
   missing_slots page e = found_wider (λ pages. page < r0.head.pages → pages page ≡ None) (NoSlots page r0) e
       (λ pages none low slots has. none_some (sym (none low) ∙ has.there))
-
-  -- what the call names isn't there, since its page isn't slotted or the slot is empty
-  pub record_damaged : (page slot : ℕ) (bytes : List ℕ) (e : StoreError) → e ≡ error.Damaged named → EndNow r0 r1 → SeesSo d r0 x0 (λ pages. pages page ≡ Some bytes)
-      → (IsSlotted bytes → slice_index_or (slots_of bytes) slot None ≡ None) → NotRead d (λ now. now.records page slot ≡ None) named e r0 r1 x0 x1
-  record_damaged page slot bytes e same ends sees empty = subst (λ (x : StoreError). NotRead d (λ now. now.records page slot ≡ None) named x r0 r1 x0 x1) (sym same) (record {
-    page = refl;
-    ends = ends;
-    lacks = λ saved now stands. unread_none (stands.holds).behind page slot bytes (sees (stands.keeps).image (stands.keeps).step) empty (now.records page slot) refl;
-  })
 
   -- a put that gave up, told of what is held now
   pub put_stored : (needs : Held → ℕ) (Few : Held → Type 0) (Lacks : Held → Type 0) (e : StoreError) → has_ended r0 ≡ false → IsStill d x0 x1 → ((held : Held) → Few held → held.free < needs held)

@@ -11,7 +11,7 @@ use Rattle.nx_host.proofs.DiskLemmas.{settled_still, written_alone_weaker}
 use Rattle.nx_replay.specs.Log.{Pages, Entry, over, entry_pages, replay, groups, HasGroup, HasSame, Stays}
 use Rattle.nx_replay.proofs.ReplayLemmas.{over-over, replay-more, replay-same}
 use Rattle.nx_wal.specs.declared.wal.Wal.{Wal}
-use Rattle.nx_wal.specs.Wal.{IsInStep, Follows, PutsRecord, current, pending, next_group, length_of, wal_ended}
+use Rattle.nx_wal.specs.Wal.{IsInStep, Follows, PutsRecord, ClearsRecord, current, pending, next_group, length_of, wal_ended}
 use Rattle.nx_holdings.specs.declared.header.Header.{Header}
 use Rattle.nx_holdings.specs.Header.{header_bytes, newest_format, IsInRange}
 use Rattle.nx_holdings.specs.Holdings.{with_page, Held, HoldsBehind, HoldsBy, Holds}
@@ -280,6 +280,12 @@ pub header_beside : (P : Type 0) (known : Option Header) (old new : Wal) (page :
     → IfSome known (λ h. entry_pages (pending old) 0 ≡ Some (header_bytes h)) → IfSome known (λ h. entry_pages (pending new) 0 ≡ Some (header_bytes h))
 header_beside P known old new page bytes (Some slot) other put none waits = header_stays known old new page put.now put.waits other waits
 header_beside P known old new page bytes None other put none waits = subst (λ (w : Wal). IfSome known (λ h. entry_pages (pending w) 0 ≡ Some (header_bytes h))) (sym none.0) waits
+
+-- a record is taken out of another page, or none is
+pub header_apart : (P : Type 0) (known : Option Header) (old new : Wal) (page slot : ℕ) (done : Bool) → (page ≡ 0 → ⊥) → (done ≡ true → ClearsRecord page slot old new) → (done ≡ false → (new ≡ old) × P)
+    → IfSome known (λ h. entry_pages (pending old) 0 ≡ Some (header_bytes h)) → IfSome known (λ h. entry_pages (pending new) 0 ≡ Some (header_bytes h))
+header_apart P known old new page slot true other cleared none waits = let clears = cleared refl in header_stays known old new page clears.now clears.waits other waits
+header_apart P known old new page slot false other cleared none waits = subst (λ (w : Wal). IfSome known (λ h. entry_pages (pending w) 0 ≡ Some (header_bytes h))) (sym (none refl).0) waits
 
 -- the same records, whose log was asked alone
 pub same_wal : (r : Records) (wal : Wal) → wal ≡ r.wal → (saved_range : IsInRange r.saved) (head_range : IsInRange r.head)

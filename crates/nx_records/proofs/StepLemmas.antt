@@ -14,7 +14,7 @@ use Rattle.nx_slots.specs.declared.page.SlotsError.TheVariants.{NoRoom}
 use Rattle.nx_slots.proofs.MapLemmas.{first_empty-within, first_empty-empty, with_record-here, with_record-other, without_record-here, without_record-other}
 use Rattle.nx_host.specs.Disk.{Image}
 use Rattle.nx_wal.specs.declared.wal.Wal.{Wal}
-use Rattle.nx_wal.specs.Wal.{IsInStep, PutsRecord, current}
+use Rattle.nx_wal.specs.Wal.{IsInStep, PutsRecord, ClearsRecord, current}
 use Rattle.nx_holdings.specs.declared.header.Header.{Header}
 use Rattle.nx_holdings.specs.Header.{newest_format}
 use Rattle.nx_holdings.specs.Holdings.{with_page, free_bytes, record_in, Held, HoldsBehind, times, IsFreeList, Shares, IsShared}
@@ -409,3 +409,14 @@ room_put d head old new disk slot bytes some put was held step holds =
     record { bytes = put.was; there = ap (λ (o : Option (List ℕ)). option_or o (replay was head.room)) put.waited; slotted = put.puts.slotted_before; are = refl } in
     let next = put_holds holds head.room slot (slots_of put.was) bytes put.now (holds.shared.room some).0 has put.puts.slotted put.puts.put in
     (next.0, subst (λ (p : Pages). HoldsBehind p head next.0) (sym (put_current old new head.room put.now put.waits was)) next.1, next.2)
+
+-- a record is taken out of a page that waits, and has another one
+pub waiting_clear : {D : Type 0} (d : Ghosts D) (head : Header) (old new : Wal) (disk : D) (page slot : ℕ) → page < head.pages → ClearsRecord page slot old new
+    → (was : Image) (held : Held) → IsInStep d old disk was → HoldsBehind (current old was) head held
+    → (next : Held) × HoldsBehind (current new was) head next × RemovesRecord page slot held next
+waiting_clear d head old new disk page slot low clears was held step holds =
+    let takes = clears.takes in
+    let has : HasSlots (current old was) page (slots_of clears.was) =
+    record { bytes = clears.was; there = ap (λ (o : Option (List ℕ)). option_or o (replay was page)) clears.waited; slotted = takes.slotted_before; are = refl } in
+    let next = clear_holds holds page slot (slots_of clears.was) clears.now low has takes.several.there takes.slotted takes.clear (λ none. takes.several.others (sym takes.clear ∙ none)) in
+    (next.0, subst (λ (p : Pages). HoldsBehind p head next.0) (sym (put_current old new page clears.now clears.waits was)) next.1, next.2)

@@ -1,5 +1,5 @@
 -- What the steps of a call read of pages, and make of them.
-use Rattle.std.specs.Prelude.{◌≡◌, ◌≢◌, ◌⊎◌, ◌==◌, if◌then◌else◌, ℕ, ◌+◌, ◌<◌, ◌^◌, false, List, Option, Some}
+use Rattle.std.specs.Prelude.{◌≡◌, ◌≢◌, ◌⊎◌, ◌==◌, if◌then◌else◌, ℕ, ◌+◌, ◌<◌, ◌^◌, false, List, Option, Some, None, MatchOption, slice_index_or}
 use Rattle.nx_host.specs.Disk.{Image, Rose}
 use Rattle.nx_host.specs.declared.disk.Disk.{Ghosts}
 use Rattle.nx_replay.specs.Log.{Pages}
@@ -29,6 +29,25 @@ pub record IsFreeAt (pages : Pages) (page next : ℕ) : Type 0 where
 -- Of the pages that the object sees this holds, whatever they are.
 abbrev pub SeesSo : {D : Type 0} → Ghosts D → Records → D → (Pages → Type 0) → Type 0
 SeesSo d records disk P = (was : Image) → IsInStep d records.wal disk was → P (current records.wal was)
+
+-- the page is slotted and its slot has this record, or it isn't or has none
+abbrev pub SlotGives : (page : List ℕ) → (slot : ℕ) → Option (List ℕ) → Type 0
+SlotGives page slot found = MatchOption found (IsSlotted page → slice_index_or (slots_of page) slot None ≡ None)
+    (λ bytes. IsSlotted page × (slice_index_or (slots_of page) slot None ≡ Some bytes))
+
+-- ... where such a page is there at all
+abbrev pub PlaceGives : Pages → (page slot : ℕ) → Option (List ℕ) → Type 0
+PlaceGives pages page slot found = MatchOption (pages page) (found ≡ None) (λ bytes. SlotGives bytes slot found)
+
+-- Why no record was looked for.
+abbrev pub NotSeen : {D : Type 0} → Ghosts D → StoreError → Records → Records → D → D → Type 0
+NotSeen d error.Disk old new before after = Rose (d.faults before) (d.faults after) × EndNow old new
+NotSeen d error.Memory old new before after = new ≡ old
+NotSeen d error.Ended old new before after = ⊥
+NotSeen d error.Exists old new before after = ⊥
+NotSeen d error.NotAStore old new before after = ⊥
+NotSeen d error.Full old new before after = ⊥
+NotSeen d (error.Damaged page) old new before after = ⊥
 
 -- Why a page wasn't read.
 abbrev pub NotLoaded : {D : Type 0} → Ghosts D → StoreError → Records → Records → D → D → Type 0

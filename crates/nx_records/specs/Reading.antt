@@ -1,11 +1,11 @@
 -- Reading byte lists page by page.
-use Rattle.std.specs.Prelude.{◌≡◌, ◌≢◌, ℕ, ◌+◌, ◌≤◌, false, List, length}
+use Rattle.std.specs.Prelude.{◌≡◌, ◌≢◌, ℕ, ◌+◌, ◌≤◌, false, List, ◌++◌, length}
 use Rattle.nx_numbers.specs.Sizes.{page_room}
 use Rattle.nx_host.specs.Disk.{Image, Rose}
 use Rattle.nx_host.specs.declared.disk.Disk.{Ghosts}
 use Rattle.nx_replay.specs.Log.{Pages}
 use Rattle.nx_holdings.specs.declared.header.Header.{Header}
-use Rattle.nx_links.specs.Lists.{IsReadTo}
+use Rattle.nx_links.specs.Lists.{IsListStep, IsReadTo}
 use Rattle.nx_records.specs.Records.{has_ended, page_count_of, current_pages, IsInStepWith, LeavesRecords}
 use Rattle.nx_records.specs.Changes.{HasListFrom}
 use Rattle.nx_records.specs.Refusals.{EndNow, HadEnded}
@@ -27,6 +27,13 @@ pub record IsBlock (was now : ListReader) (block : List ℕ) : Type 0 where
   pub full : now.left ≢ 0 → length block ≡ page_room
   pub left : length block + now.left ≡ was.left
   pub first : now.first ≡ was.first
+
+-- The bytes on the next page of a chain, as the records see it, were put behind others.
+pub record AppendsBlock {D : Type 0} (d : Ghosts D) (records : Records) (disk : D) (was now : ListReader) (before after : List ℕ) : Type 0 where
+  pub block : List ℕ
+  pub appended : after ≡ before ++ block
+  pub is : IsBlock was now block
+  pub step : (image : Image) → IsInStepWith d records disk image → IsListStep (page_count_of records) (current_pages records image) was.next now.next block
 
 -- These bytes were read of a list of this length, which isn't the catalog: they are its first, and what is left of it stands from the reader's page on.
 pub record AreReadBy (head : Header) (pages : Pages) (reader : ListReader) (len : ℕ) (bytes : List ℕ) : Type 0 where

@@ -1,5 +1,5 @@
 // Reading chains, page by page.
-ghost use Rattle.std.specs.Prelude.{List as Items, ◌≡◌, ◌≢◌, ◌⊎◌, ◌+◌, ◌*◌, ◌<◌, ◌≤◌, ℕ, length, true, false, IfOk, IfErr, IfSome, IfNone};
+ghost use Rattle.std.specs.Prelude.{List as Items, ◌≡◌, ◌≢◌, ◌⊎◌, ◌+◌, ◌*◌, ◌++◌, ◌<◌, ◌≤◌, ℕ, length, true, false, IfOk, IfErr, IfSome, IfNone, OnOk};
 ghost use Rattle.nx_numbers.specs.Sizes.{page_room};
 ghost use Rattle.nx_host.specs.Still.{IsStill};
 ghost use Rattle.nx_holdings.specs.Holdings.{chain_count};
@@ -8,7 +8,7 @@ ghost use Rattle.nx_replay.specs.Log.{Pages};
 
 use crate::reading::ListReader;
 use crate::{Records, StoreError};
-use nx_chain::{ChainPage, read_chain_page};
+use nx_chain::{ChainPage, view_chain_page};
 use nx_host::Disk;
 use nx_lists::List;
 use nx_numbers::{PAGE_ROOM, PAGE_SIZE};
@@ -26,7 +26,7 @@ pub(crate) fn may_stand(next: u32, len: usize) -> bool
 impl Records {
     ghost use Rattle.nx_records.specs.Records.{has_ended, page_count_of};
     ghost use Rattle.nx_records.specs.Pages.{SeesSo};
-    ghost use Rattle.nx_records.specs.Reading.{Opens, IsBlock};
+    ghost use Rattle.nx_records.specs.Reading.{AppendsBlock, Opens, IsBlock};
     ghost use Rattle.nx_records.specs.Chains.{HasLink, NoLink, NoListFrom, NotListed};
 
     // Whether a list of so many bytes may begin at a page: it has a byte, and isn't the catalog.
@@ -45,6 +45,37 @@ impl Records {
         len <= u64::from(self.head.pages) * PAGE_ROOM as u64
     }
 
+    // The next page and the content of the chain page with this number, as they lie in the room for it.
+    fn see_link<'a, D: Disk>(
+        &mut self,
+        disk: &mut D,
+        page: u32,
+        named: u32,
+        room: &'a mut PageBytes,
+    ) -> Result<(u32, &'a [u8]), StoreError>
+        requires { has_ended self.old ≡ false }
+        ensures still { IsStill D.Disk disk.old disk.new }
+        ensures reads { D.reads disk.new ≤ D.reads disk.old + 1 }
+        ensures ok { IfOk result (λ link. (self.new ≡ self.old) × (page < self.old.head.pages) × (1 ≤ length link.1.now) × (link.0 ≢ 0 → length link.1.now ≡ page_room)
+            × SeesSo D.Disk self.old disk.old (λ pages. HasLink pages page link.0 link.1.now)) }
+        ensures few { IfOk result (λ link. length link.1.now ≤ page_room) }
+        ensures refused { IfErr result (λ e. NotListed D.Disk (NoLink self.old.head.pages page) named e self.old self.new disk.old disk.new) }
+    {
+        if page >= self.head.pages {
+            return Err(self.damaged(named));
+        }
+        if !self.load(disk, page, room)? {
+            return Err(self.damaged(named));
+        }
+        let Some((next, content)) = view_chain_page(room) else {
+            return Err(self.damaged(named));
+        };
+        if !may_stand(next, content.len()) {
+            return Err(self.damaged(named));
+        }
+        Ok((next, content))
+    }
+
     // The chain page with this number.
     pub(crate) fn link<D: Disk>(
         &mut self,
@@ -61,25 +92,14 @@ impl Records {
         ensures few { IfOk result (λ link. length link.content ≤ page_room) }
         ensures refused { IfErr result (λ e. NotListed D.Disk (NoLink self.old.head.pages page) named e self.old self.new disk.old disk.new) }
     {
-        if page >= self.head.pages {
-            return Err(self.damaged(named));
-        }
-        let mut bytes = PageBytes {
+        let mut room = PageBytes {
             bytes: [0; PAGE_SIZE],
         };
-        if !self.load(disk, page, &mut bytes)? {
-            return Err(self.damaged(named));
-        }
-        let Ok(found) = read_chain_page(alloc, &bytes) else {
+        let (next, content) = self.see_link(disk, page, named, &mut room)?;
+        let Ok(content) = List::from_slice(alloc, content) else {
             return Err(StoreError::Memory);
         };
-        let Some(link) = found else {
-            return Err(self.damaged(named));
-        };
-        if !may_stand(link.next, link.content.len()) {
-            return Err(self.damaged(named));
-        }
-        Ok(link)
+        Ok(ChainPage { next, content })
     }
 
     // How a chain of so many bytes is read from a page on, where there may be one. No page is read yet.
@@ -120,6 +140,35 @@ impl Records {
         Ok(link.content)
     }
 
+    // Appends the bytes on the next page of a chain of which some are left.
+    fn append_on<D: Disk>(
+        &mut self,
+        disk: &mut D,
+        reader: &mut ListReader,
+        into: &mut List<u8>,
+        named: u32,
+    ) -> Result<(), StoreError>
+        requires runs { has_ended self.old ≡ false }
+        requires some { reader.old.left ≢ 0 }
+        ensures still { IsStill D.Disk disk.old disk.new }
+        ensures reads { D.reads disk.new ≤ D.reads disk.old + 1 }
+        ensures ok { OnOk result ((self.new ≡ self.old) × AppendsBlock D.Disk self.old disk.old reader.old reader.new into.old into.new) }
+        ensures refused { IfErr result (λ e. NotListed D.Disk (NoListFrom self.old.head.pages reader.old.next reader.old.left) named e self.old self.new disk.old disk.new) }
+    {
+        let mut room = PageBytes {
+            bytes: [0; PAGE_SIZE],
+        };
+        let (next, content) = self.see_link(disk, reader.next, named, &mut room)?;
+        let Some(behind) = reader.behind(next, content.len() as u64) else {
+            return Err(self.damaged(named));
+        };
+        let Ok(_) = into.extend_from_slice(content) else {
+            return Err(StoreError::Memory);
+        };
+        *reader = behind;
+        Ok(())
+    }
+
     // The bytes on the chain pages from one on, which are so many. Also where pages run in a circle, it reads
     // no more of them than there are.
     pub(crate) fn read_chain<D: Disk>(
@@ -144,10 +193,7 @@ impl Records {
             return Err(StoreError::Memory);
         };
         while reader.left > 0 {
-            let block = self.read_on(alloc, disk, &mut reader, named)?;
-            let Ok(_) = bytes.extend_from_slice(block.as_slice()) else {
-                return Err(StoreError::Memory);
-            };
+            self.append_on(disk, &mut reader, &mut bytes, named)?;
         }
         Ok(bytes)
     }

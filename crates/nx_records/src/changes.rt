@@ -23,7 +23,8 @@ fn is_there(page: &Page, slot: u16, bytes: &[u8]) -> bool
 }
 
 impl Records {
-    ghost use Rattle.nx_records.specs.Records.{has_ended, KeepsLog};
+    ghost use Rattle.nx_records.specs.Records.{has_ended, KeepsLog, KeepsSaved, ComesTo, HasChanges};
+    ghost use Rattle.nx_records.specs.Refusals.{NotChanged, RunsOn};
     ghost use Rattle.nx_records.specs.Changes.{AddsRecord, RemovesRecord, UpdatesRecord, update_needs};
     ghost use Rattle.nx_records.specs.Room.{FitsRoom, HasRoomFor, TakesNoPage};
     ghost use Rattle.nx_records.specs.Pages.{HasSlots, SeesSo, StepsTo, NotPut};
@@ -48,6 +49,38 @@ impl Records {
         } else {
             self.store(rid.page, page.bytes())
         }
+    }
+
+    // Takes a record out in place, where its page waits for a commit and has another one.
+    pub(crate) fn clear_waiting<D: Disk>(&mut self, disk: &D, rid: Rid) -> bool
+        requires { has_ended self.old ≡ false }
+        ensures cleared { result ≡ true → KeepsLog self.old self.new × StepsTo D.Disk self.old self.new disk.now (λ was now. RemovesRecord rid.page rid.slot was now) }
+        ensures none { result ≡ false → self.new ≡ self.old }
+    {
+        if rid.page == 0 || rid.page >= self.head.pages {
+            return false;
+        }
+        self.wal.clear_record(rid.page, rid.slot)
+    }
+
+    // Reads the page of a record, takes the record out, and makes the page and the header wait.
+    pub(crate) fn remove_loaded<D: Disk>(
+        &mut self,
+        disk: &mut D,
+        rid: Rid,
+    ) -> Result<(), StoreError>
+        requires { has_ended self.old ≡ false }
+        ensures still { IsStill D.Disk disk.old disk.new }
+        ensures ok { OnOk result (ComesTo D.Disk self.old self.new disk.old disk.new (λ was now. RemovesRecord rid.page rid.slot was now)) }
+        ensures keeps { OnOk result (RunsOn self.old self.new × KeepsSaved D.Disk self.old self.new disk.old disk.new × HasChanges self.new) }
+        ensures refused { IfErr result (λ e. NotChanged D.Disk (λ was. was.records rid.page rid.slot ≡ None) rid.page e self.old self.new disk.old disk.new) }
+    {
+        let page = self.slotted(disk, rid.page, rid.page)?;
+        let Some(_) = page.read(rid.slot) else {
+            return Err(self.damaged(rid.page));
+        };
+        self.drop_record(disk, page, rid)?;
+        self.store_header()
     }
 
     // Puts a record into the room page in place, where that waits for a commit and the record fits.

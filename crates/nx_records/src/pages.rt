@@ -1,5 +1,5 @@
 // Reading pages, taking them and giving them back.
-ghost use Rattle.std.specs.Prelude.{◌≡◌, ◌≢◌, ◌+◌, ◌<◌, ◌≤◌, ℕ, [], true, false, Some, None, IsSome, IfOk, IfErr, OnOk};
+ghost use Rattle.std.specs.Prelude.{◌≡◌, ◌≢◌, ◌+◌, ◌<◌, ◌≤◌, ℕ, [], true, false, Some, None, IsSome, IfOk, IfErr, OnOk, MatchOption};
 ghost use Rattle.nx_numbers.specs.Sizes.{most_pages};
 ghost use Rattle.nx_host.specs.Disk.{Image};
 ghost use Rattle.nx_host.specs.Still.{IsStill};
@@ -10,13 +10,15 @@ ghost use Rattle.nx_holdings.specs.Header.{header_bytes};
 ghost use Rattle.nx_holdings.specs.Holdings.{with_page, free_bytes};
 ghost use Rattle.nx_slots.specs.Slots.{IsSlotted};
 ghost use Rattle.nx_records.specs.Numbering.{IsNextHeader, number_behind as behind};
-ghost use Rattle.nx_records.specs.Pages.{numbered};
+ghost use Rattle.nx_records.specs.Pages.{numbered, SlotGives};
 
-use crate::{Records, StoreError};
+use crate::{Records, Rid, StoreError};
 use nx_holdings::{Header, NEWEST_FORMAT, free_page, header_page, read_free_page};
 use nx_host::Disk;
+use nx_lists::List;
 use nx_numbers::PAGE_SIZE;
-use nx_slots::{Page, PageBytes, is_page};
+use nx_slots::{Page, PageBytes, is_page, record_in};
+use std::alloc::Global;
 
 // The number of the group behind one with this number.
 fn number_behind(number: u64) -> u64
@@ -52,9 +54,23 @@ fn known_beside(page: u32, known: Option<Header>) -> Option<Header>
     if page == 0 { None } else { known }
 }
 
+// A copy of the record of a slot of a page, where the page is slotted and the slot has one.
+fn copy_record(alloc: Global, page: &PageBytes, slot: u16) -> Result<Option<List<u8>>, StoreError>
+    ensures ok { IfOk result (λ found. SlotGives page.now.bytes slot found) }
+    ensures refused { IfErr result (λ e. e ≡ StoreError.Memory) }
+{
+    let Some(bytes) = record_in(page, slot) else {
+        return Ok(None);
+    };
+    match List::from_slice(alloc, bytes) {
+        Ok(bytes) => Ok(Some(bytes)),
+        Err(_) => Err(StoreError::Memory),
+    }
+}
+
 impl Records {
     ghost use Rattle.nx_records.specs.Records.{has_ended, KeepsLog, has_free, next_number, waiting};
-    ghost use Rattle.nx_records.specs.Pages.{HasSlots, IsFreeAt, SeesSo, NotLoaded, NotFound, NotTaken, IsPageTaken, IsFirstUnused, PutsPage, released};
+    ghost use Rattle.nx_records.specs.Pages.{HasSlots, IsFreeAt, SeesSo, PlaceGives, NotSeen, NotLoaded, NotFound, NotTaken, IsPageTaken, IsFirstUnused, PutsPage, released};
 
     // Ends the records, and answers that the page that a call names is damaged.
     pub(crate) fn damaged(&mut self, page: u32) -> StoreError
@@ -84,6 +100,32 @@ impl Records {
             return Err(StoreError::Disk);
         };
         Ok(found)
+    }
+
+    // A copy of the record of a place, where one is there. Of a page that waits for a commit nothing else is copied.
+    pub(crate) fn record_at<D: Disk>(
+        &mut self,
+        alloc: Global,
+        disk: &mut D,
+        rid: Rid,
+    ) -> Result<Option<List<u8>>, StoreError>
+        requires { has_ended self.old ≡ false }
+        ensures still { IsStill D.Disk disk.old disk.new }
+        ensures reads { D.reads disk.new ≤ D.reads disk.old + 1 }
+        ensures waits { IsSome (entry_pages (pending self.old.wal) rid.page) → disk.new ≡ disk.old }
+        ensures ok { IfOk result (λ found. (self.new ≡ self.old) × SeesSo D.Disk self.old disk.old (λ pages. PlaceGives pages rid.page rid.slot found)) }
+        ensures refused { IfErr result (λ e. NotSeen D.Disk e self.old self.new disk.old disk.new) }
+    {
+        if let Some(page) = self.wal.waiting(rid.page) {
+            return copy_record(alloc, page, rid.slot);
+        }
+        let mut page = PageBytes {
+            bytes: [0; PAGE_SIZE],
+        };
+        if !self.load(disk, rid.page, &mut page)? {
+            return Ok(None);
+        }
+        copy_record(alloc, &page, rid.slot)
     }
 
     // Reads the page with this number, which is there and which the header counts.

@@ -16,7 +16,7 @@ use nx_holdings::{Header, Settings, read_header};
 use nx_host::Disk;
 use nx_lists::List;
 use nx_numbers::PAGE_SIZE;
-use nx_slots::{PageBytes, record_in};
+use nx_slots::PageBytes;
 use nx_wal::{Wal, WalError};
 use std::alloc::Global;
 
@@ -204,16 +204,12 @@ impl Records {
         if self.ended {
             return Err(StoreError::Ended);
         }
-        let mut page = PageBytes {
-            bytes: [0; PAGE_SIZE],
-        };
-        self.load_used(disk, rid.page, rid.page, &mut page)?;
-        let Some(bytes) = record_in(&page, rid.slot) else {
+        if rid.page >= self.head.pages {
             return Err(self.damaged(rid.page));
-        };
-        match List::from_slice(alloc, bytes) {
-            Ok(bytes) => Ok(bytes),
-            Err(_) => Err(StoreError::Memory),
+        }
+        match self.record_at(alloc, disk, rid)? {
+            Some(bytes) => Ok(bytes),
+            None => Err(self.damaged(rid.page)),
         }
     }
 
@@ -288,12 +284,10 @@ impl Records {
         if self.ended {
             return Err(StoreError::Ended);
         }
-        let page = self.slotted(disk, rid.page, rid.page)?;
-        let Some(_) = page.read(rid.slot) else {
-            return Err(self.damaged(rid.page));
-        };
-        self.drop_record(disk, page, rid)?;
-        self.store_header()
+        if self.clear_waiting(disk, rid) {
+            return self.store_header();
+        }
+        self.remove_loaded(disk, rid)
     }
 
     /// Commits what was changed. Something was, since the last commit or `abandon`, and the log has at

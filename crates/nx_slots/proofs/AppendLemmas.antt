@@ -12,7 +12,7 @@ use Rattle.nx_slots.proofs.PackLemmas.{drop_same, same_byte, offset_some}
 use Rattle.nx_slots.proofs.EditLemmas.{length-edited, edited_here, edited_there}
 
 -- pages with the same rest have the same numbers in it
-number_at-same_rest : (size place m : ℕ) (one other : List ℕ) → drop m one ≡ drop m other → m ≤ place → m ≤ length one → m ≤ length other
+pub number_at-same_rest : (size place m : ℕ) (one other : List ℕ) → drop m one ≡ drop m other → m ≤ place → m ≤ length one → m ≤ length other
     → number_at size one place ≡ number_at size other place
 number_at-same_rest size place m one other same high fits fits' =
     let long = length-take-le m one fits in

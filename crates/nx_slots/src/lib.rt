@@ -7,11 +7,14 @@
 
 mod appending;
 mod changes;
+mod emptying;
 mod form;
 mod packing;
 mod page;
 mod reads;
 mod room;
 
-pub use page::{Page, PageBytes, SlotsError, is_page, put_at, put_in, record_in, room_in};
+pub use page::{
+    Page, PageBytes, SlotsError, clear_in, has_beside, is_page, put_at, put_in, record_in, room_in,
+};
 pub use room::Room;

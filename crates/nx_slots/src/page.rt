@@ -1,12 +1,12 @@
 // A slotted page.
-ghost use Rattle.nx_slots.specs.Edits.{free_in, growth_of, needed_for, without_record, HasRecord, IsPut, IsSet};
+ghost use Rattle.nx_slots.specs.Edits.{free_in, growth_of, needed_for, without_record, HasRecord, IsOneOfSeveral, IsPut, IsSet};
 ghost use Rattle.nx_slots.specs.Refusals.{LacksRoom};
 ghost use Rattle.nx_slots.specs.Rooms.{HasRoom};
 ghost use Rattle.nx_slots.specs.Slots.{slots_of, IsSlotted};
 ghost use Rattle.std.specs.Prelude.{◌≡◌, ◌≤◌, ℕ, true, false, List, [], Option, Some, None, length, slice_index_or, IfErr, IfOk, MatchOption};
 ghost use Rattle.nx_numbers.specs.Sizes.{longest_record};
 
-use crate::changes::{clear_record, put_by, put_record, set_record};
+use crate::changes::{clear_record, is_one_of_several, put_by, put_record, set_record};
 use crate::form::is_slotted;
 use crate::packing::begin;
 use crate::reads::{free_at, read_record};
@@ -78,6 +78,24 @@ pub fn put_in(page: &mut PageBytes, bytes: &[u8]) -> Result<u16, SlotsError>
         × (page.new ≡ page.old)) }
 {
     put_record(&mut page.bytes, bytes)
+}
+
+/// Whether a page with the given bytes is slotted, and has a record in a slot and another one besides.
+pub fn has_beside(page: &PageBytes, slot: u16) -> bool
+    ensures yes { result ≡ true → IsSlotted page.now.bytes × IsOneOfSeveral (slots_of page.now.bytes) slot }
+    ensures no { result ≡ false → IsSlotted page.now.bytes → IsOneOfSeveral (slots_of page.now.bytes) slot → ⊥ }
+{
+    is_slotted(&page.bytes) && is_one_of_several(&page.bytes, slot as usize)
+}
+
+/// As `Page::clear`, of a page with the given bytes, without a copy of the page.
+pub fn clear_in(page: &mut PageBytes, slot: u16)
+    requires slotted { IsSlotted page.old.bytes }
+    requires there { HasRecord (slots_of page.old.bytes) slot }
+    ensures slotted { IsSlotted page.new.bytes }
+    ensures now { slots_of page.new.bytes ≡ without_record (slots_of page.old.bytes) slot }
+{
+    clear_record(&mut page.bytes, slot as usize);
 }
 
 /// Why a page didn't take a record.

@@ -3,12 +3,12 @@ use Rattle.std.specs.Prelude.{◌≡◌, ℕ, ◌-◌, ◌<◌, ◌≤◌, Bool,
 use Rattle.nx_host.specs.Disk.{Image, Rose}
 use Rattle.nx_host.specs.declared.disk.Disk.{Ghosts}
 use Rattle.nx_host.specs.Still.{IsSettled}
-use Rattle.nx_slots.specs.Edits.{free_in, needed_for}
+use Rattle.nx_slots.specs.Edits.{free_in, needed_for, IsOneOfSeveral}
 use Rattle.nx_slots.specs.Slots.{slots_of, IsSlotted}
 use Rattle.nx_replay.specs.Log.{Pages, Entry, Group, over, replay, groups, entry_pages, IsLogEnd, HasMark}
 use Rattle.nx_wal.specs.Places.{LeadsTo, AreWithin, starts_from}
 use Rattle.nx_wal.specs.Writing.{entries_of, group_with}
-use Rattle.nx_wal.specs.InPlace.{PutsInto}
+use Rattle.nx_wal.specs.InPlace.{PutsInto, TakesOut}
 use Rattle.nx_wal.specs.declared.wal.Wal.{Wal}
 use Rattle.nx_wal.specs.declared.error.WalError.{WalError}
 use Rattle.nx_wal.specs.declared.error.WalError.TheVariants as error
@@ -69,6 +69,19 @@ pub record PutsRecord (page : ℕ) (bytes : List ℕ) (slot : ℕ) (old new : Wa
   pub waited : entry_pages (pending old) page ≡ Some was
   pub puts : PutsInto was bytes slot now
   pub waits : entry_pages (pending new) ≡ over (entry_pages (record { page = page; bytes = now } ∷ [])) (entry_pages (pending old))
+
+-- The page waits, and a record went out of a slot of it.
+pub record ClearsRecord (page slot : ℕ) (old new : Wal) : Type 0 where
+  pub runs : wal_ended old ≡ false
+  pub was : List ℕ
+  pub now : List ℕ
+  pub waited : entry_pages (pending old) page ≡ Some was
+  pub takes : TakesOut was slot now
+  pub waits : entry_pages (pending new) ≡ over (entry_pages (record { page = page; bytes = now } ∷ [])) (entry_pages (pending old))
+
+-- What waits under a number is no slotted page with a record in the slot and another one besides.
+abbrev pub HasNoneBeside : Option (List ℕ) → ℕ → Type 0
+HasNoneBeside waiting slot = (page : List ℕ) → waiting ≡ Some page → IsSlotted page → IsOneOfSeveral (slots_of page) slot → ⊥
 
 -- What waits under a number is no slotted page with room for the bytes.
 abbrev pub HasNoPageFor : Option (List ℕ) → List ℕ → Type 0

@@ -1,5 +1,5 @@
 // The pages that wait for a commit, and the room that earlier ones had.
-ghost use Rattle.std.specs.Prelude.{◌≡◌, ◌+◌, ◌<◌, ◌≤◌, ◌++◌, ◌∷◌, [], length, is_some, All, Some, IfNone, IfOk, IfSome, OnOk, OnErr, if◌then◌else◌};
+ghost use Rattle.std.specs.Prelude.{◌≡◌, ◌+◌, ◌<◌, ◌≤◌, ◌++◌, ◌∷◌, [], length, true, false, is_some, All, Some, IfNone, IfOk, IfSome, OnOk, OnErr, if◌then◌else◌};
 ghost use Rattle.std.specs.Option.{option_map, option_copied};
 ghost use Rattle.std.specs.Vec.{vec_capacity};
 ghost use Rattle.std.specs.BTreeMap.{get, insert_entry, btree_map_len, values, IsEmpty, IsUnchanged, Updates};
@@ -7,12 +7,13 @@ ghost use Rattle.std.specs.Ordering.{nat_cmp};
 ghost use Rattle.std.proofs.Props.{props};
 ghost use Rattle.nx_numbers.specs.Sizes.{page_size, longest_record};
 ghost use Rattle.nx_slots.specs.Rooms.{HasRoom};
-ghost use Rattle.nx_slots.specs.Slots.{IsSlotted};
+ghost use Rattle.nx_slots.specs.Edits.{IsOneOfSeveral};
+ghost use Rattle.nx_slots.specs.Slots.{slots_of, IsSlotted};
 ghost use Rattle.nx_wal.specs.Places.{Kept, IsWholePage};
-ghost use Rattle.nx_wal.specs.InPlace.{ChangesOnePage, WaitsWith};
+ghost use Rattle.nx_wal.specs.InPlace.{ChangesOnePage, PutsInto, TakesOut, WaitsBeside, WaitsWith};
 
 use crate::PageBytes;
-use nx_slots::{Room, put_at, room_in};
+use nx_slots::{Room, clear_in, has_beside, put_at, room_in};
 use std::alloc::{AllocError, Global};
 use std::collections::BTreeMap;
 
@@ -101,7 +102,7 @@ impl Waiting {
         requires some { 1 ≤ length bytes.now }
         requires few { length bytes.now ≤ longest_record }
         requires waits { WaitsWith self.old.pages page room bytes.now }
-        ensures { ChangesOnePage self.old.pages self.new.pages page bytes.now result }
+        ensures { ChangesOnePage self.old.pages self.new.pages page (λ was now. PutsInto was bytes.now result now) }
     {
         let Some(kept) = self.pages.get_mut(&page) else {
             unreachable!();
@@ -110,6 +111,28 @@ impl Waiting {
             unreachable!();
         };
         slot
+    }
+
+    // Whether a slotted page waits under a number, with a record in a slot and another one besides.
+    pub(crate) fn has_beside(&self, page: u32, slot: u16) -> bool
+        ensures yes { result ≡ true → WaitsBeside self.now.pages page slot }
+        ensures no { result ≡ false → (kept : Kept) → get nat_cmp self.now.pages page ≡ Some kept → IsSlotted kept.value.bytes → IsOneOfSeveral (slots_of kept.value.bytes) slot → ⊥ }
+    {
+        match self.pages.get(&page) {
+            Some(kept) => has_beside(kept.as_ref(), slot),
+            None => false,
+        }
+    }
+
+    // Takes a record out of the page that waits under a number, which has another one.
+    pub(crate) fn clear_record(&mut self, page: u32, slot: u16)
+        requires { WaitsBeside self.old.pages page slot }
+        ensures { ChangesOnePage self.old.pages self.new.pages page (λ was now. TakesOut was slot now) }
+    {
+        let Some(kept) = self.pages.get_mut(&page) else {
+            unreachable!();
+        };
+        clear_in(kept.as_mut(), slot);
     }
 
     // Lets no page wait any longer. It takes no memory.

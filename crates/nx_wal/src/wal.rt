@@ -49,7 +49,7 @@ pub struct Wal {
 }
 
 impl Wal {
-    ghost use Rattle.nx_wal.specs.Wal.{Follows, IsInStep, IsPageCount, EndsWal, group_count, NoGroupRead, pending, current, next_group, wal_ended, length_of, PutsRecord, HasNoPageFor, Refused, NoLogCreated, NoLogOpened};
+    ghost use Rattle.nx_wal.specs.Wal.{Follows, IsInStep, IsPageCount, EndsWal, group_count, NoGroupRead, pending, current, next_group, wal_ended, length_of, PutsRecord, HasNoPageFor, ClearsRecord, HasNoneBeside, Refused, NoLogCreated, NoLogOpened};
     ghost use Rattle.nx_wal.specs.Reading.{page_found};
 
     /// A log over a disk that has no pages. Nothing is written.
@@ -235,6 +235,28 @@ impl Wal {
         }
         let slot = self.waiting.put_record(page, room, bytes);
         Some(slot)
+    }
+
+    /// Takes the record of a slot out of the page that waits for a commit under this number, in place, where the
+    /// page has another record. It answers whether it did, and takes no memory.
+    ///
+    /// It answers `false` exactly where no page waits under the number, or one that isn't slotted, has no record in
+    /// the slot or none besides, or where an earlier call answered `Disk`. Nothing changes then.
+    pub fn clear_record(&mut self, page: u32, slot: u16) -> bool
+        ensures follows { (log : List ℕ) → Follows self.old log → Follows self.new log }
+        ensures cleared { result ≡ true → ClearsRecord page slot self.old self.new }
+        ensures none { result ≡ false → (self.new ≡ self.old) × (wal_ended self.old ≡ false → HasNoneBeside (entry_pages (pending self.old) page) slot) }
+        ensures count { length (pending self.new) ≡ length (pending self.old) }
+        ensures stays { (length_of self.new ≡ length_of self.old) × (wal_ended self.new ≡ wal_ended self.old) }
+    {
+        if self.ended {
+            return false;
+        }
+        if !self.waiting.has_beside(page, slot) {
+            return false;
+        }
+        self.waiting.clear_record(page, slot);
+        true
     }
 
     /// Writes the pages that wait as a group with this number at the log's end. At every moment the

@@ -1,63 +1,48 @@
-use Rattle.std.proofs.Common.{◌≡◌, refl, sym, subst}
-use Rattle.std.proofs.lemmas.Result.{err_from_is_err_and}
-use Rattle.std.specs.Prelude.{None, IsSome}
+use Rattle.std.proofs.Common.{◌≡◌, refl, subst}
+use Rattle.std.specs.Prelude.{None, IfErr, OnOk}
+use Rattle.nx_host.proofs.DiskLemmas.{none_still}
 use Rattle.nx_records.specs.declared.records.Records.{Records}
-use Rattle.nx_records.specs.declared.error.StoreError.{StoreError}
-use Rattle.nx_records.specs.Records.{KeepsLog}
+use Rattle.nx_records.specs.Records.{KeepsSaved, ComesTo, HasChanges}
 use Rattle.nx_records.specs.Changes.{RemovesRecord}
-use Rattle.nx_records.specs.Pages.{HasSlots}
-use Rattle.nx_records.specs.Refusals.{NotChanged}
-use Rattle.nx_records.proofs.StandLemmas.{keeps_then, saved_kept, steps_lead, later_steps, sees_later, on_ok_then, if_err_then}
-use Rattle.nx_records.proofs.RefusalLemmas.{err_passed, change_refused, slot_damaged, ended_now, memory_changed, runs_on}
+use Rattle.nx_records.specs.Refusals.{NotChanged, RunsOn}
+use Rattle.nx_records.proofs.StandLemmas.{keeps_then, saved_kept, steps_lead, on_ok_then, if_err_then}
+use Rattle.nx_records.proofs.RefusalLemmas.{memory_changed, runs_on}
 use Rattle.nx_records.proofs.LeaveLemmas.{had_ended}
 use Rattle.nx_records.proofs.records.Records.remove.Goals as goal
 
-pub returns-in_err-page-clause-refused : goal.returns-in_err-page-clause-refused
-returns-in_err-page-clause-refused g c =
-    err_passed c.from_residual.result (λ (e : StoreError). NotChanged g.D.Disk (λ now. now.records c.args.rid.page c.args.rid.slot ≡ None) c.args.rid.page e c.args.self.now c.slotted.new.self c.args.disk.now c.slotted.new.disk)
-    c.in_err-page.field-0.0 (err_from_is_err_and c.from_residual.result c.from_residual.ensures.1)
-    (change_refused g.D.Disk c.args.self.now c.slotted.new.self c.args.disk.now c.slotted.new.disk c.args.rid.page c.args.rid.page c.args.rid.slot c.in_err-page.field-0.0 c.in_err-page.ensures.refused)
+pub returns-then-self-clause-refused : goal.returns-then-self-clause-refused
+returns-then-self-clause-refused g c = had_ended c.if-self.true
 
-pub returns-in_default-clause-refused : goal.returns-in_default-clause-refused
-returns-in_default-clause-refused g c =
-    let same = c.in_ok-page.ensures.ok.0 in
-    let ends = ended_now {r0 = c.args.self.now} {r1 = c.slotted.new.self} {r2 = c.damaged.new.self} c.if-self.false same c.damaged.ensures.ended in
-    subst (λ (e : StoreError). NotChanged g.D.Disk (λ now. now.records c.args.rid.page c.args.rid.slot ≡ None) c.args.rid.page e c.args.self.now c.damaged.new.self c.args.disk.now c.slotted.new.disk) (sym c.damaged.ensures.result)
-    (slot_damaged g.D.Disk c.args.self.now c.damaged.new.self c.args.disk.now c.slotted.new.disk c.args.rid.page c.args.rid.page c.args.rid.slot c.in_ok-page.page ends c.in_ok-page.ensures.ok.2 c.in_default.ensures)
+pub returns-then-clear_waiting-clause-ok : goal.returns-then-clear_waiting-clause-ok
+returns-then-clear_waiting-clause-ok g c =
+    let cleared = c.if-clear_waiting.ensures.cleared refl in
+    on_ok_then c.store_header.result c.store_header.ensures.ok (λ ok.
+    steps_lead g.D.Disk c.args.self.now c.clear_waiting.new.self c.store_header.new.self c.args.disk.now c.args.disk.now (λ was now. RemovesRecord c.args.rid.page c.args.rid.slot was now)
+    cleared.0 c.store_header.ensures.keeps none_still c.store_header.new.self.head_range ok.0 ok.2 cleared.1)
 
-pub drop_record-requires-clause-there : goal.drop_record-requires-clause-there
-drop_record-requires-clause-there g c = subst IsSome (sym c.in-Some.ensures) refl
+pub returns-then-clear_waiting-clause-keeps : goal.returns-then-clear_waiting-clause-keeps
+returns-then-clear_waiting-clause-keeps g c =
+    let keeps = keeps_then {r0 = c.args.self.now} {r1 = c.clear_waiting.new.self} {r2 = c.store_header.new.self} (c.if-clear_waiting.ensures.cleared refl).0 c.store_header.ensures.keeps in
+    on_ok_then c.store_header.result c.store_header.ensures.ok (λ ok. (runs_on c.if-self.false keeps, saved_kept keeps none_still, ok.1))
 
-pub returns-in_err-drop_record-clause-refused : goal.returns-in_err-drop_record-clause-refused
-returns-in_err-drop_record-clause-refused g c =
-    err_passed c.from_residual-in_err-drop_record.result
-    (λ (e : StoreError). NotChanged g.D.Disk (λ now. now.records c.args.rid.page c.args.rid.slot ≡ None) c.args.rid.page e c.args.self.now c.drop_record.new.self c.args.disk.now c.slotted.new.disk)
-    c.in_err-drop_record.field-0.0 (err_from_is_err_and c.from_residual-in_err-drop_record.result c.from_residual-in_err-drop_record.ensures.1)
-    (memory_changed g.D.Disk c.args.self.now c.drop_record.new.self c.args.disk.now c.slotted.new.disk c.args.rid.page (λ now. now.records c.args.rid.page c.args.rid.slot ≡ None) c.in_err-drop_record.field-0.0
-    c.in_err-drop_record.ensures.refused c.if-self.false c.slotted.ensures.still (subst (λ (r : Records). KeepsLog r c.drop_record.new.self) c.in_ok-page.ensures.ok.0 c.drop_record.ensures.keeps))
+pub returns-then-clear_waiting-clause-refused : goal.returns-then-clear_waiting-clause-refused
+returns-then-clear_waiting-clause-refused g c =
+    let keeps = keeps_then {r0 = c.args.self.now} {r1 = c.clear_waiting.new.self} {r2 = c.store_header.new.self} (c.if-clear_waiting.ensures.cleared refl).0 c.store_header.ensures.keeps in
+    if_err_then c.store_header.result c.store_header.ensures.refused (λ e same.
+    memory_changed g.D.Disk c.args.self.now c.store_header.new.self c.args.disk.now c.args.disk.now c.args.rid.page (λ now. now.records c.args.rid.page c.args.rid.slot ≡ None) e
+    same c.if-self.false none_still keeps)
 
 pub returns-clause-ok : goal.returns-clause-ok
 returns-clause-ok g c =
-    let same = c.in_ok-page.ensures.ok.0 in
-    let still = c.slotted.ensures.still in
-    on_ok_then c.store_header.result c.store_header.ensures.ok (λ ok.
-    steps_lead g.D.Disk c.args.self.now c.drop_record.new.self c.store_header.new.self c.args.disk.now c.slotted.new.disk (λ was now. RemovesRecord c.args.rid.page c.args.rid.slot was now)
-    (subst (λ (r : Records). KeepsLog r c.drop_record.new.self) same c.drop_record.ensures.keeps) c.store_header.ensures.keeps still c.store_header.new.self.head_range ok.0 ok.2
-    (later_steps c.drop_record.new.self same still (c.in_ok-drop_record.ensures.ok (sees_later (λ pages. HasSlots pages c.args.rid.page c.in_ok-page.page) same still c.in_ok-page.ensures.ok.2))))
+    subst (λ (r : Records). OnOk c.remove_loaded.result (ComesTo g.D.Disk r c.remove_loaded.new.self c.args.disk.now c.remove_loaded.new.disk (λ was now. RemovesRecord c.args.rid.page c.args.rid.slot was now)))
+    (c.if-clear_waiting.ensures.none refl) c.remove_loaded.ensures.ok
 
 pub returns-clause-keeps : goal.returns-clause-keeps
 returns-clause-keeps g c =
-    let keeps = keeps_then {r0 = c.args.self.now} {r1 = c.drop_record.new.self} {r2 = c.store_header.new.self}
-    (subst (λ (r : Records). KeepsLog r c.drop_record.new.self) c.in_ok-page.ensures.ok.0 c.drop_record.ensures.keeps) c.store_header.ensures.keeps in
-    on_ok_then c.store_header.result c.store_header.ensures.ok (λ ok. (runs_on c.if-self.false keeps, saved_kept keeps c.slotted.ensures.still, ok.1))
+    subst (λ (r : Records). OnOk c.remove_loaded.result (RunsOn r c.remove_loaded.new.self × KeepsSaved g.D.Disk r c.remove_loaded.new.self c.args.disk.now c.remove_loaded.new.disk × HasChanges c.remove_loaded.new.self))
+    (c.if-clear_waiting.ensures.none refl) c.remove_loaded.ensures.keeps
 
 pub returns-clause-refused : goal.returns-clause-refused
 returns-clause-refused g c =
-    let keeps = keeps_then {r0 = c.args.self.now} {r1 = c.drop_record.new.self} {r2 = c.store_header.new.self}
-    (subst (λ (r : Records). KeepsLog r c.drop_record.new.self) c.in_ok-page.ensures.ok.0 c.drop_record.ensures.keeps) c.store_header.ensures.keeps in
-    if_err_then c.store_header.result c.store_header.ensures.refused (λ e same.
-    memory_changed g.D.Disk c.args.self.now c.store_header.new.self c.args.disk.now c.slotted.new.disk c.args.rid.page (λ now. now.records c.args.rid.page c.args.rid.slot ≡ None) e
-    same c.if-self.false c.slotted.ensures.still keeps)
-
-pub returns-then-self-clause-refused : goal.returns-then-self-clause-refused
-returns-then-self-clause-refused g c = had_ended c.if-self.true
+    subst (λ (r : Records). IfErr c.remove_loaded.result (λ e. NotChanged g.D.Disk (λ now. now.records c.args.rid.page c.args.rid.slot ≡ None) c.args.rid.page e r c.remove_loaded.new.self c.args.disk.now c.remove_loaded.new.disk))
+    (c.if-clear_waiting.ensures.none refl) c.remove_loaded.ensures.refused

@@ -38,6 +38,6 @@ returns-clause-put c =
       was = changes.was.value.bytes;
       now = changes.now.value.bytes;
       waited = pending_found c.args.self.now.waiting.pages.entries c.args.page changes.was changes.there;
-      puts = changes.puts;
+      puts = changes.changes;
       waits = λ i p. put_at c.args.self.now.waiting.pages c.put_record-slot.new.self.pages c.args.page changes.now changes.updates.0 p i;
     }

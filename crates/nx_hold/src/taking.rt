@@ -1,0 +1,99 @@
+// Taking a piece away, and telling what it was.
+ghost use Rattle.std.specs.Prelude.{◌≡◌, ◌≤◌, false, length, IfOk, IfErr, OnOk};
+ghost use Rattle.nx_host.specs.Still.{IsStill};
+ghost use Rattle.nx_records.specs.Words.{Held};
+ghost use Rattle.nx_records.specs.Records.{StandsFor, KeepsSaved, LeavesRecords, HasChanges, has_ended};
+ghost use Rattle.nx_records.specs.Refusals.{NotRead, NotChanged, RunsOn};
+ghost use Rattle.nx_piece.specs.declared.piece.Piece.{Piece};
+ghost use Rattle.nx_piece.specs.Valid.{IsValid};
+ghost use Rattle.nx_piece.specs.Viewing.{seen_stored};
+ghost use Rattle.nx_layouts.specs.Layout.{RecordPlace};
+ghost use Rattle.nx_hold.specs.Pieces.{IsStored, HoldsPiece, HoldsNone};
+ghost use Rattle.nx_hold.specs.Changes.{place_of, IsTakenOf, RemovesPiece, ComesOwn, ComesTidy};
+ghost use Rattle.nx_hold.specs.Putting.{piece_with};
+
+use crate::lists::{free_proxies, proxies_at, viewed_at};
+use nx_host::Disk;
+use nx_piece::{PieceView, Proxies, StoredView};
+use nx_records::{Records, Rid, StoreError};
+use nx_tree::Bytes;
+use std::alloc::Global;
+
+/// What a piece was that was taken away.
+#[derive(Drop)]
+pub struct TakenPiece {
+    /// Its proxies, in document order.
+    pub proxies: Proxies,
+    /// How many nodes it had.
+    pub nodes: u32,
+}
+
+/// Takes the piece of the record at a place away, and the list of its proxies, and tells what it was. The record is read
+/// once, and its nodes stay in its bytes.
+///
+/// Errors: `Damaged` with the place's page, only where the pages aren't sound or the record at the
+/// place holds no piece; `Disk`, only where `faults` rose; `Ended` exactly where the records had
+/// ended; `Memory`, after which the caller calls `abandon`.
+pub fn take_piece<D: Disk>(
+    alloc: Global,
+    records: &mut Records,
+    disk: &mut D,
+    rid: Rid,
+) -> Result<TakenPiece, StoreError>
+    ensures still { IsStill D.Disk disk.old disk.new }
+    ensures some { IfOk result (λ taken. 1 ≤ taken.nodes) }
+    ensures taken { IfOk result (λ taken. (saved now : Held) (held : Piece) → StandsFor D.Disk records.old disk.old saved now → HoldsPiece now (place_of rid) held → IsTakenOf held taken) }
+    ensures ok { OnOk result (ComesTidy D.Disk records.old records.new disk.old disk.new (λ was now. RemovesPiece (place_of rid) was now)) }
+    // Also where lists that other records name are out of order.
+    ensures own { OnOk result (ComesOwn D.Disk records.old records.new disk.old disk.new (place_of rid) (λ was now. RemovesPiece (place_of rid) was now)) }
+    ensures keeps { OnOk result (RunsOn records.old records.new × KeepsSaved D.Disk records.old records.new disk.old disk.new × HasChanges records.new) }
+    ensures refused { IfErr result (λ e. NotChanged D.Disk (λ was. HoldsNone was (place_of rid)) rid.page e records.old records.new disk.old disk.new) }
+{
+    let mut bytes = Bytes::new(alloc);
+    let stored = viewed_at(alloc, records, disk, rid, &mut bytes)?;
+    let listed = listed_proxies(alloc, records, disk, &stored, rid.page)?;
+    records.remove(disk, rid)?;
+    free_proxies(alloc, records, disk, &stored, rid.page)?;
+    Ok(taken_of(stored, listed))
+}
+
+// The proxies of the list that a record names, none where it names no list.
+fn listed_proxies<D: Disk>(
+    alloc: Global,
+    records: &mut Records,
+    disk: &mut D,
+    stored: &StoredView,
+    named: u32,
+) -> Result<Proxies, StoreError>
+    requires { has_ended records.old ≡ false }
+    ensures still { IsStill D.Disk disk.old disk.new }
+    ensures ok { IfOk result (λ listed. LeavesRecords records.old records.new
+        × ((saved now : Held) (place : RecordPlace) (held : Piece) → StandsFor D.Disk records.old disk.old saved now → IsStored now place (seen_stored stored.now) → HoldsPiece now place held
+        → piece_with (seen_stored stored.now) listed ≡ held)) }
+    ensures refused { IfErr result (λ e. NotRead D.Disk (λ now. (place : RecordPlace) → IsStored now place (seen_stored stored.now) → HoldsNone now place) named e records.old records.new disk.old disk.new) }
+{
+    match stored {
+        StoredView::Inline(_) => Ok(Proxies::new(alloc)),
+        StoredView::Chained { count, chain, .. } => {
+            proxies_at(alloc, records, disk, *count, *chain, named)
+        }
+    }
+}
+
+// What a record held whose list had these proxies.
+fn taken_of(stored: StoredView, listed: Proxies) -> TakenPiece
+    requires { IsValid (seen_stored stored) }
+    ensures some { 1 ≤ result.nodes }
+    ensures taken { IsTakenOf (piece_with (seen_stored stored.entry) listed) result }
+{
+    match stored {
+        StoredView::Inline(PieceView { body, proxies }) => TakenPiece {
+            proxies,
+            nodes: body.nodes(),
+        },
+        StoredView::Chained { body, .. } => TakenPiece {
+            proxies: listed,
+            nodes: body.nodes(),
+        },
+    }
+}
