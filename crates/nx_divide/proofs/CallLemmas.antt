@@ -1,43 +1,41 @@
 -- Calls that put records, one after the other.
-use Rattle.std.proofs.Common.{◌≡◌, ℕ, ◌+◌, ◌≤◌, ◌<◌, List, [], ◌∷◌, ◌++◌, false, refl, ◌∙◌, arith, append-nil}
+use Rattle.std.proofs.Common.{◌≡◌, ℕ, ◌+◌, ◌≤◌, ◌<◌, false, refl, arith}
 use Rattle.nx_host.specs.declared.disk.Disk.{Ghosts}
 use Rattle.nx_host.specs.Still.{IsStill}
 use Rattle.nx_host.proofs.DiskLemmas.{none_still, still_then}
 use Rattle.nx_tree.specs.declared.node.Node.{Node}
 use Rattle.nx_records.specs.declared.records.Records.{Records}
 use Rattle.nx_records.specs.declared.error.StoreError.{StoreError}
-use Rattle.nx_records.specs.Records.{HasChanges, has_ended, KeepsSaved, ComesTo}
+use Rattle.nx_records.specs.Records.{has_ended, LeavesRecords, KeepsSaved, ComesTo}
 use Rattle.nx_records.specs.Refusals.{RunsOn, NotStored}
 use Rattle.nx_layouts.specs.Layout.{RecordPlace, Layout, piece_of}
 use Rattle.nx_hold.specs.Changes.{piece_needs, AddsPiece, ComesTidy}
-use Rattle.nx_records.proofs.LeaveLemmas.{leaves_same, leaves_runs, leaves_saved}
+use Rattle.nx_records.proofs.LeaveLemmas.{leaves_same, leaves_runs, leaves_saved, leaves_stand}
 use Rattle.nx_hold.proofs.RefusalLemmas.{GoesOn, runs_then, saved_then, comes_then, later_stored}
-use Rattle.nx_drafts.specs.Draft.{Draft, Ends, Grows, Stands, Comes, layout_after, came, draft_needs}
+use Rattle.nx_drafts.specs.Draft.{Draft, Ends, Grows, Stands, Comes, layout_after, draft_needs}
 use Rattle.nx_divide.specs.Putting.{ArePut}
-use Rattle.nx_divide.proofs.RowLemmas.{joined_draft, came-joined, needs-joined}
+use Rattle.nx_divide.proofs.RowLemmas.{joined_draft, needs-joined}
 use Rattle.nx_divide.proofs.PutLemmas.{puts_none, puts_stands, puts_both, puts_grows, puts_comes, needs_comes}
 
 free_both : (was mid now a b all : ℕ) → was ≤ mid + a → mid ≤ now + b → a + b ≤ all → was ≤ now + all
 free_both was mid now a b all one two most = omega (arith, one, two, most)
 
-few_then : (was mid a more needs : ℕ) → was ≤ mid + a → mid < more → a + more ≤ needs → was < needs
+pub few_then : (was mid a more needs : ℕ) → was ≤ mid + a → mid < more → a + more ≤ needs → was < needs
 few_then was mid a more needs free few most = omega (arith, free, few, most)
 
--- of two lists of places one at least has some
-one_waits : (A B : Type 0) (xs ys : List RecordPlace) → ((xs ≡ [] → ⊥) → A) → ((ys ≡ [] → ⊥) → B) → (A → B) → (xs ++ ys ≡ [] → ⊥) → B
-one_waits A B xs [] one two on some = on (one (λ none. some (append-nil xs ∙ none)))
-one_waits A B xs (y ∷ ys) one two on some = two (λ e. cc)
-
 module _ {D : Type 0} {d : Ghosts D} where
-  pub put_none : (r : Records) (x : D) → has_ended r ≡ false → ArePut d r r x x Ends
-  put_none r x runs = record {
-    runs = leaves_runs runs (leaves_same {r0 = r} {r1 = r} refl);
-    keeps = leaves_saved {d = d} (leaves_same {r0 = r} {r1 = r} refl) none_still;
-    still = none_still;
-    takes = λ saved now stands. (now, stands, omega arith);
-    puts = λ saved now stands tidy. (now, stands, tidy, puts_none now);
-    waits = record { some = λ none. absurd (none refl); on = λ before. before };
+  -- a call that only read put nothing
+  pub put_read : {r0 r1 : Records} {x0 x1 : D} → has_ended r0 ≡ false → LeavesRecords r0 r1 → IsStill d x0 x1 → ArePut d r0 r1 x0 x1 Ends
+  put_read runs leaves still = record {
+    runs = leaves_runs runs leaves;
+    keeps = leaves_saved {d = d} leaves still;
+    still = still;
+    takes = λ saved now stands. (now, leaves_stand {d = d} leaves still stands, omega arith);
+    puts = λ saved now stands tidy. (now, leaves_stand {d = d} leaves still stands, tidy, puts_none now);
   }
+
+  pub put_none : (r : Records) (x : D) → has_ended r ≡ false → ArePut d r r x x Ends
+  put_none r x runs = put_read runs (leaves_same {r0 = r} {r1 = r} refl) none_still
 
   pub put_stands : (place : RecordPlace) (members : Layout) (r : Records) (x : D) → has_ended r ≡ false → ArePut d r r x x (Stands place members Ends)
   put_stands place members r x runs = record {
@@ -46,7 +44,6 @@ module _ {D : Type 0} {d : Ghosts D} where
     still = none_still;
     takes = λ saved now stands. (now, stands, omega arith);
     puts = λ saved now stands tidy. (now, stands, tidy, puts_stands place members now);
-    waits = record { some = λ none. absurd (none refl); on = λ before. before };
   }
 
   pub put_both : {r0 r1 r2 : Records} {x0 x1 x2 : D} (a b : Draft RecordPlace) → ArePut d r0 r1 x0 x1 a → ArePut d r1 r2 x1 x2 b → ArePut d r0 r2 x0 x2 (joined_draft a b)
@@ -60,10 +57,6 @@ module _ {D : Type 0} {d : Ghosts D} where
         let mid = one.puts saved was stands tidy in
         let now = two.puts saved mid.0 mid.1 mid.2 in
         (now.0, now.1, now.2, puts_both a b was mid.0 now.0 mid.3 now.3);
-    waits = record {
-      some = λ some. one_waits (HasChanges r1) (HasChanges r2) (came a) (came b) (one.waits).some (two.waits).some (two.waits).on (λ none. some (came-joined a b ∙ none));
-      on = λ before. (two.waits).on ((one.waits).on before);
-    };
   }
 
   pub put_grows : {r0 r1 : Records} {x0 x1 : D} (node : Node) (below : Draft RecordPlace) → ArePut d r0 r1 x0 x1 below → ArePut d r0 r1 x0 x1 (Grows node below Ends)
@@ -73,12 +66,11 @@ module _ {D : Type 0} {d : Ghosts D} where
     still = put.still;
     takes = λ saved was stands. let now = put.takes saved was stands in (now.0, now.1, free_both was.free (now.0).free (now.0).free (draft_needs below) 0 (draft_needs below + 0) now.2 (omega arith) (omega arith));
     puts = λ saved was stands tidy. let now = put.puts saved was stands tidy in (now.0, now.1, now.2, puts_grows node below was now.0 now.3);
-    waits = record { some = λ some. (put.waits).some (λ none. some (append-nil (came below) ∙ none)); on = (put.waits).on };
   }
 
-  pub put_comes : {r0 r1 r2 : Records} {x0 x1 x2 : D} (place : RecordPlace) (members : Draft RecordPlace) → ArePut d r0 r1 x0 x1 members → RunsOn r1 r2 → KeepsSaved d r1 r2 x1 x2 → HasChanges r2 → IsStill d x1 x2
+  pub put_comes : {r0 r1 r2 : Records} {x0 x1 x2 : D} (place : RecordPlace) (members : Draft RecordPlace) → ArePut d r0 r1 x0 x1 members → RunsOn r1 r2 → KeepsSaved d r1 r2 x1 x2 → IsStill d x1 x2
       → ComesTo d r1 r2 x1 x2 (λ was now. was.free ≤ now.free + piece_needs (piece_of (layout_after members))) → ComesTidy d r1 r2 x1 x2 (λ was now. AddsPiece place (piece_of (layout_after members)) was now) → ArePut d r0 r2 x0 x2 (Comes place members Ends)
-  put_comes {r0} {r1} {r2} {x0} {x1} {x2} place members one runs keeps changes still takes adds = record {
+  put_comes {r0} {r1} {r2} {x0} {x1} {x2} place members one runs keeps still takes adds = record {
     runs = runs_then {r0 = r0} {r1 = r1} {r2 = r2} one.runs runs;
     keeps = saved_then {d = d} {r0 = r0} {r1 = r1} {r2 = r2} one.keeps keeps;
     still = still_then one.still still;
@@ -88,7 +80,6 @@ module _ {D : Type 0} {d : Ghosts D} where
         let mid = one.puts saved was stands tidy in
         let now = adds saved mid.0 mid.1 mid.2 in
         (now.0, now.1, now.2, puts_comes place members was mid.0 now.0 mid.3 now.3);
-    waits = record { some = λ some. changes; on = λ before. changes };
   }
 
   -- a call that may need so many pages gave up behind those that put records

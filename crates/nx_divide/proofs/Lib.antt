@@ -3,6 +3,9 @@ pub mod RowLemmas
 pub mod PutLemmas
 pub mod CallLemmas
 pub mod MarkedLemmas
+pub mod PartedLemmas
+pub mod PlaceLemmas
+pub mod LastLemmas
 pub mod WalkLemmas
 pub mod AgreeLemmas
 pub mod RunLemmas

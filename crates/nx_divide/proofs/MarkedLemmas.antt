@@ -183,7 +183,7 @@ comes_gap (Grows n d s) b count others free some e = cc
 comes_gap (Stands r m s) b count others free some e = free
 comes_gap (Comes u m s) b count others free some e = free
 
-comes_end : (i : Plan) (b : Layout) → AreFree (drawn_forest i) → 1 ≤ width (drawn_forest i) → piece_body (joined_layout (layout_before i) b) ≡ End → ⊥
+pub comes_end : (i : Plan) (b : Layout) → AreFree (drawn_forest i) → 1 ≤ width (drawn_forest i) → piece_body (joined_layout (layout_before i) b) ≡ End → ⊥
 comes_end Ends b free some e = absurd (omega (arith, some))
 comes_end (Grows n d s) b free some e = cc
 comes_end (Stands r m s) b free some e = free
@@ -237,24 +237,24 @@ pub record BeginsKept (holder : List ℕ → Option ℕ) (position : ℕ) (items
   pub fits : width (drawn_forest members) ≤ length items
   pub ends : BeginsApart inside.index holder (position + width (drawn_forest members)) beside
 
-no_items : (items : List Item) → End ≡ gapped_of items → 1 ≤ length items → ⊥
+pub no_items : (items : List Item) → End ≡ gapped_of items → 1 ≤ length items → ⊥
 no_items [] e some = absurd (omega (arith, some))
 no_items (Tree t ∷ items) e some = cc
 no_items (Run count ∷ items) e some = cc
 
--- where an interval holds the first tree, it is the first member
-pub begins_kept : (h : List ℕ → Option ℕ) (position index : ℕ) (items : List Item) (olds : List Proxy) (c : Plan) → IsMarkedDraft None h position (gapped_of items) olds c → 1 ≤ length items → h (position ∷ []) ≡ Some index → BeginsKept h position items olds c
-begins_kept h position index items olds Ends m some held = absurd (no_items items m.items_are some)
-begins_kept h position index items olds (Grows n b s) m some held = absurd (no_value (sym held ∙ (m.agrees).0))
-begins_kept h position index items olds (Stands r i s) m some held = absurd (no_value (sym held ∙ (m.agrees).0))
-begins_kept h position index items olds (Comes u i s) m some held =
+-- The members of an interval that comes first of some items, and what is behind it.
+pub record FirstKept (holder : List ℕ → Option ℕ) (position : ℕ) (items : List Item) (olds : List Proxy) (members beside : Plan) : Type 0 where
+  pub inside : AreMarkedMembers holder position (gapped_of (take (width (drawn_forest members)) items)) olds members
+  pub along : IsMarkedDraft None holder (position + width (drawn_forest members)) (gapped_of (drop (width (drawn_forest members)) items)) (drop (proxies_in (gapped_of (take (width (drawn_forest members)) items))) olds) beside
+  pub fits : width (drawn_forest members) ≤ length items
+  pub ends : BeginsApart inside.index holder (position + width (drawn_forest members)) beside
+
+pub first_kept : (h : List ℕ → Option ℕ) (position : ℕ) (items : List Item) (olds : List Proxy) (u : Unit {0}) (i s : Plan) → IsMarkedDraft None h position (gapped_of items) olds (Comes u i s) → FirstKept h position items olds i s
+first_kept h position items olds u i s m =
     let rows = split_row i (layout_before s) items (m.light).1 m.items_are in
     let olds_are : olds ≡ proxies_of (layout_before i) ++ (proxies_of (layout_before s) ++ m.behind) =
     m.olds_are ∙ ap (λ (l : List Proxy). l ++ m.behind) (proxies-joined_layout (layout_before i) (layout_before s)) ∙ append_assoc (proxies_of (layout_before i)) (proxies_of (layout_before s)) m.behind in
     record {
-      members = i;
-      beside = s;
-      is = refl;
       inside = record {
         index = (m.agrees).0;
         marked = record { items_are = rows.0; behind = proxies_of (layout_before s) ++ m.behind; olds_are = olds_are; light = (m.light).3; agrees = (m.agrees).2 };
@@ -272,6 +272,15 @@ begins_kept h position index items olds (Comes u i s) m some held =
       fits = rows.2;
       ends = (m.agrees).1;
     }
+
+-- where an interval holds the first tree, it is the first member
+pub begins_kept : (h : List ℕ → Option ℕ) (position index : ℕ) (items : List Item) (olds : List Proxy) (c : Plan) → IsMarkedDraft None h position (gapped_of items) olds c → 1 ≤ length items → h (position ∷ []) ≡ Some index → BeginsKept h position items olds c
+begins_kept h position index items olds Ends m some held = absurd (no_items items m.items_are some)
+begins_kept h position index items olds (Grows n b s) m some held = absurd (no_value (sym held ∙ (m.agrees).0))
+begins_kept h position index items olds (Stands r i s) m some held = absurd (no_value (sym held ∙ (m.agrees).0))
+begins_kept h position index items olds (Comes u i s) m some held =
+    let first = first_kept h position items olds u i s m in
+    record { members = i; beside = s; is = refl; inside = first.inside; along = first.along; fits = first.fits; ends = first.ends }
 
 other_first : (index : ℕ) (h : List ℕ → Option ℕ) (position : ℕ) (c : Plan) (items : List Item) → BeginsApart index h position c → piece_body (layout_before c) ≡ gapped_of items → 1 ≤ length items → h (position ∷ []) ≡ Some index → ⊥
 other_first index h position Ends items other e some held = no_items items e some

@@ -23,8 +23,9 @@ use Rattle.nx_cuts.specs.Cut.{width, AreFree}
 use Rattle.nx_layouts.specs.Layout.{RecordPlace, piece_body, piece_of}
 use Rattle.nx_hold.specs.Changes.{place_named, piece_needs, AddsPiece, ComesTidy}
 use Rattle.nx_drafts.specs.Draft.{Draft, Ends, Grows, Stands, Comes, drawn_forest, layout_before, layout_after, unmarked, draft_count, draft_needs}
+use Rattle.nx_drafts.proofs.PlacesLemmas.{body-layout_after}
 use Rattle.nx_divide.specs.Marked.{IsMarkedDraft, AreMarkedMembers, HasMarkedDraft, HasMarkedMembers, many}
-use Rattle.nx_divide.specs.Putting.{PutsRow, PutsMembers}
+use Rattle.nx_divide.specs.Putting.{PutsRow, GathersPiece, PutsMembers}
 use Rattle.nx_build.specs.Rows.{with_proxy}
 use Rattle.nx_divide.proofs.RowLemmas.{joined_draft, needs-unmarked}
 use Rattle.nx_divide.proofs.PutLemmas.{needs_comes}
@@ -172,9 +173,8 @@ module _ {D : Type 0} {d : Ghosts D} (marks : List Mark) {index position : ℕ} 
     member_can = (next_member.below, member_marked)
 
     pub member_not : (r2 : Records) (x2 : D) (e : StoreError) → ((c : Plan) → IsMarkedDraft None (holder_by_marks below) 0 t.below olds c → NotStored d (λ was. draft_needs c) (λ was. ⊥) 0 e r1 r2 x1 x2)
-        → NotStored d (λ was. draft_needs (Comes tt members Ends)) (λ was. ⊥) 0 e r0 r2 x0 x2
-    member_not r2 x2 e refused =
-        needs_fewer d r0 r2 x0 x2 (draft_needs members) (draft_needs (Comes tt members Ends)) (omega arith) e (tree_refused w t others next_member r2 x2 e (refused next_member.below member_marked))
+        → NotStored d (λ was. draft_needs members) (λ was. ⊥) 0 e r0 r2 x0 x2
+    member_not r2 x2 e refused = tree_refused w t others next_member r2 x2 e (refused next_member.below member_marked)
 
     module _ {r2 : Records} {x2 : D} (made : GappedTree) (more : List Proxy) (node : made.node ≡ t.node) (puts : (c : Plan) → IsMarkedDraft None (holder_by_marks below) 0 t.below olds c → PutsRow d r1 r2 x1 x2 c made.below has more) where
       pub member_put : WalksOn d (Some index) (holder_by_marks marks) (position + 1) others (drop (proxies_in t.below) olds) members r0 r2 x0 x2 (with_last_tree roots made) [] more
@@ -185,29 +185,24 @@ module _ {D : Type 0} {d : Ghosts D} (marks : List Mark) {index position : ℕ} 
 
   -- where none is left
   module _ (w : WalksOn d (Some index) (holder_by_marks marks) position left olds members r0 r1 x0 x1 roots [] has) (none : left ≡ End) where
-    all_members : PutsRow d r0 r1 x0 x1 members roots [] has
-    all_members = walk_ends w none
-
-    gathered_is : gathered roots has ≡ piece_of (layout_after all_members.draft)
-    gathered_is = piece_is all_members.draft roots has all_members.body_is all_members.proxies_are
+    pub piece_gathered : GathersPiece d r0 r1 x0 x1 members (gathered roots has)
+    piece_gathered =
+        let all = walk_ends w none in
+        record { draft = all.draft; same = all.same; piece_is = piece_is all.draft roots has all.body_is all.proxies_are; put = all.put }
 
     pub piece_can : (first : ℕ) (all : Gapped) (whole : List Proxy) → AreMarkedMembers (holder_by_marks marks) first all whole members → many all ≤ 524288 → IsValidPiece (gathered roots has)
-    piece_can first all whole m few = subst IsValidPiece (sym gathered_is) (members_valid (holder_by_marks marks) first all whole members all_members.draft m all_members.same few)
+    piece_can first all whole m few =
+        let g = piece_gathered in
+        subst IsValidPiece (sym g.piece_is) (members_valid (holder_by_marks marks) first all whole members g.draft m g.same few)
 
-    pub piece_not : (r2 : Records) (x2 : D) (e : StoreError) → NotStored d (λ was. piece_needs (gathered roots has)) (λ was. ⊥) 0 e r1 r2 x1 x2 → NotStored d (λ was. draft_needs (Comes tt members Ends)) (λ was. ⊥) 0 e r0 r2 x0 x2
-    piece_not r2 x2 e refused =
-        let place : RecordPlace = record { page = 0; slot = 0 } in
-        let all : draft_needs (Comes place all_members.draft Ends) ≡ draft_needs (Comes tt members Ends) = sym (needs-unmarked (Comes place all_members.draft Ends)) ∙ ap (λ (c : Plan). draft_needs (Comes tt c Ends)) all_members.same in
-        let e1 = needs_comes place all_members.draft in
-        put_refused {d = d} {r0 = r0} {r1 = r1} {x0 = x0} {x1 = x1} all_members.draft r2 x2 (piece_needs (piece_of (layout_after all_members.draft))) (draft_needs (Comes tt members Ends)) all_members.put (omega (arith, all, e1)) e
-        (subst (λ (p : Piece). NotStored d (λ was. piece_needs p) (λ was. ⊥) 0 e r1 r2 x1 x2) gathered_is refused)
-
-    pub piece_put : (proxy : Proxy) (r2 : Records) (x2 : D) → AreFree (drawn_forest members) → proxy.roots ≡ gapped.gapped_width roots → RunsOn r1 r2 → KeepsSaved d r1 r2 x1 x2 → HasChanges r2 → IsStill d x1 x2
-        → ComesTo d r1 r2 x1 x2 (λ was now. was.free ≤ now.free + piece_needs (gathered roots has)) → ComesTidy d r1 r2 x1 x2 (λ was now. AddsPiece (place_named proxy) (gathered roots has) was now) → PutsMembers d r0 r2 x0 x2 members proxy
-    piece_put proxy r2 x2 free width runs keeps changes still takes adds =
-        puts_members {d = d} {r0 = r0} {r1 = r1} {r2 = r2} {x0 = x0} {x1 = x1} {x2 = x2} members all_members.draft proxy all_members.same all_members.put (width ∙ ap gapped.gapped_width all_members.body_is) free runs keeps changes still
-        (subst (λ (p : Piece). ComesTo d r1 r2 x1 x2 (λ was now. was.free ≤ now.free + piece_needs p)) gathered_is takes)
-        (subst (λ (p : Piece). ComesTidy d r1 r2 x1 x2 (λ was now. AddsPiece (place_named proxy) p was now)) gathered_is adds)
+-- what the records of a gathered piece and of all below it need
+pub gathered_needs : {D : Type 0} {d : Ghosts D} {r0 r1 : Records} {x0 x1 : D} {members : Plan} {piece : Piece} (g : GathersPiece d r0 r1 x0 x1 members piece) → draft_needs (Comes tt members Ends) ≡ draft_needs g.draft + piece_needs piece
+gathered_needs {members = members} {piece = piece} g =
+    let place : RecordPlace = record { page = 0; slot = 0 } in
+    let all : draft_needs (Comes place g.draft Ends) ≡ draft_needs (Comes tt members Ends) = sym (needs-unmarked (Comes place g.draft Ends)) ∙ ap (λ (c : Plan). draft_needs (Comes tt c Ends)) g.same in
+    let own : piece_needs piece ≡ piece_needs (piece_of (layout_after g.draft)) = ap piece_needs g.piece_is in
+    let e = needs_comes place g.draft in
+    omega (arith, all, own, e)
 
 -- the next of some members is a tree
 pub first_is_tree : (own : Option ℕ) (h : List ℕ → Option ℕ) (position : ℕ) (items left others : List Item) (x : Item) (olds : List Proxy) (rest : Plan) → AreFree (drawn_forest rest) → IsMarkedDraft own h position (gapped_of items) olds rest → items ≡ x ∷ others
@@ -230,16 +225,29 @@ module _ {D : Type 0} {d : Ghosts D} (marks : List Mark) {index position : ℕ} 
       (free_rest (unmarked w.done) w.rest (subst (λ (c : Plan). AreFree (drawn_forest c)) (sym w.whole) free)) w.left (take_next left first.1 first.0 position end low first.2) in
       (t.0, first.1, first.2 ∙ ap (λ (x : Item). x ∷ first.1) t.1)
 
--- the call that puts the record of an interval, once its members were gathered
-module _ {D : Type 0} (d : Ghosts D) (marks : List Mark) (all left : Gapped) (whole olds : List Proxy) (first position : ℕ) (roots : Gapped) (has : List Proxy) (r0 r1 r2 : Records) (x0 x1 x2 : D)
-    (walks : (members : Plan) (m : AreMarkedMembers (holder_by_marks marks) first all whole members) → WalksOn d (Some m.index) (holder_by_marks marks) position left olds members r0 r1 x0 x1 roots [] has) (none : left ≡ End) where
-  pub put_done : (r : Result Proxy StoreError) → IfOk r (λ proxy. proxy.roots ≡ gapped.gapped_width roots) → IfOk r (λ proxy. ComesTidy d r1 r2 x1 x2 (λ was now. AddsPiece (place_named proxy) (gathered roots has) was now))
-      → IfOk r (λ proxy. ComesTo d r1 r2 x1 x2 (λ was now. was.free ≤ now.free + piece_needs (gathered roots has))) → IfOk r (λ proxy. RunsOn r1 r2 × KeepsSaved d r1 r2 x1 x2 × (HasChanges r2)) → IsStill d x1 x2
+-- what the call answers that gathers the piece of an interval
+pub all_gathered : {D : Type 0} (d : Ghosts D) (marks : List Mark) (all left : Gapped) (whole olds : List Proxy) (first position : ℕ) (roots : Gapped) (has : List Proxy) (r0 r1 : Records) (x0 x1 : D)
+    → ((members : Plan) (m : AreMarkedMembers (holder_by_marks marks) first all whole members) → WalksOn d (Some m.index) (holder_by_marks marks) position left olds members r0 r1 x0 x1 roots [] has) → left ≡ End
+    → (members : Plan) → AreMarkedMembers (holder_by_marks marks) first all whole members → GathersPiece d r0 r1 x0 x1 members (gathered roots has)
+all_gathered d marks all left whole olds first position roots has r0 r1 x0 x1 walks none members m = piece_gathered {d = d} marks (walks members m) none
+
+-- the call that puts the record of an interval, once its piece was gathered
+module _ {D : Type 0} (d : Ghosts D) (marks : List Mark) (all : Gapped) (whole : List Proxy) (first : ℕ) (piece : Piece) (r0 r1 r2 : Records) (x0 x1 x2 : D)
+    (gathers : (members : Plan) → AreMarkedMembers (holder_by_marks marks) first all whole members → GathersPiece d r0 r1 x0 x1 members piece) where
+  pub put_done : (r : Result Proxy StoreError) → IfOk r (λ proxy. proxy.roots ≡ gapped.gapped_width piece.body.roots) → IfOk r (λ proxy. ComesTidy d r1 r2 x1 x2 (λ was now. AddsPiece (place_named proxy) piece was now))
+      → IfOk r (λ proxy. ComesTo d r1 r2 x1 x2 (λ was now. was.free ≤ now.free + piece_needs piece)) → IfOk r (λ proxy. RunsOn r1 r2 × KeepsSaved d r1 r2 x1 x2 × (HasChanges r2)) → IsStill d x1 x2
       → IfOk r (λ proxy. (members : Plan) → AreMarkedMembers (holder_by_marks marks) first all whole members → PutsMembers d r0 r2 x0 x2 members proxy)
-  put_done (Ok proxy) width adds takes keeps still = λ members m. piece_put {d = d} marks (walks members m) none proxy r2 x2 m.free width keeps.0 keeps.1 keeps.2 still takes adds
+  put_done (Ok proxy) width adds takes keeps still = λ members m.
+      let g = gathers members m in
+      puts_members {d = d} {r0 = r0} {r1 = r1} {r2 = r2} {x0 = x0} {x1 = x1} {x2 = x2} members g.draft proxy g.same g.put
+      (width ∙ ap (λ (p : Piece). gapped.gapped_width p.body.roots) g.piece_is ∙ ap gapped.gapped_width (body-layout_after g.draft)) m.free keeps.0 keeps.1 still
+      (subst (λ (p : Piece). ComesTo d r1 r2 x1 x2 (λ was now. was.free ≤ now.free + piece_needs p)) g.piece_is takes)
+      (subst (λ (p : Piece). ComesTidy d r1 r2 x1 x2 (λ was now. AddsPiece (place_named proxy) p was now)) g.piece_is adds)
   put_done (Err e) width adds takes keeps still = tt
 
-  pub put_not : (r : Result Proxy StoreError) → IfErr r (λ e. NotStored d (λ was. piece_needs (gathered roots has)) (λ was. ⊥) 0 e r1 r2 x1 x2)
+  pub put_not : (r : Result Proxy StoreError) → IfErr r (λ e. NotStored d (λ was. piece_needs piece) (λ was. ⊥) 0 e r1 r2 x1 x2)
       → IfErr r (λ e. (members : Plan) → AreMarkedMembers (holder_by_marks marks) first all whole members → NotStored d (λ was. draft_needs (Comes tt members Ends)) (λ was. ⊥) 0 e r0 r2 x0 x2)
   put_not (Ok proxy) refused = tt
-  put_not (Err e) refused = λ members m. piece_not {d = d} marks (walks members m) none r2 x2 e refused
+  put_not (Err e) refused = λ members m.
+      let g = gathers members m in
+      put_refused {d = d} {r0 = r0} {r1 = r1} {x0 = x0} {x1 = x1} g.draft r2 x2 (piece_needs piece) (draft_needs (Comes tt members Ends)) g.put (let e1 = gathered_needs g in omega (arith, e1)) e refused

@@ -12,13 +12,14 @@ use Rattle.nx_cuts.proofs.FeasibleLemmas.{length-intervals}
 use Rattle.nx_records.specs.Words.{Settings}
 use Rattle.nx_records.specs.declared.records.Records.{Records}
 use Rattle.nx_records.specs.declared.error.StoreError.{StoreError}
-use Rattle.nx_records.specs.declared.error.StoreError.TheVariants as error
-use Rattle.nx_records.specs.Records.{HasChanges}
-use Rattle.nx_records.specs.Refusals.{NotStored}
+use Rattle.nx_records.specs.Records.{HasChanges, KeepsSaved}
+use Rattle.nx_records.specs.Refusals.{RunsOn}
+use Rattle.nx_piece.specs.declared.piece.Item.{Item}
 use Rattle.nx_piece.specs.declared.piece.Piece.{Piece}
 use Rattle.nx_piece.specs.declared.piece.Proxy.{Proxy}
 use Rattle.nx_piece.specs.Gapped as gapped
 use Rattle.nx_piece.specs.Gapped.{Gapped, End, Grow, Gap, item_count, item_slots, gapped_size}
+use Rattle.nx_piece.specs.Items.{gapped_of}
 use Rattle.nx_piece.specs.Valid.{IsPiece, AreApart, AreTrees, BeginsNoGap}
 use Rattle.nx_parts.specs.declared.marks.Mark.{Mark}
 use Rattle.nx_parts.specs.Marks.{marked, marked_in, holder_by_marks}
@@ -36,10 +37,10 @@ use Rattle.nx_drafts.proofs.GatherLemmas.{forest-layout_before}
 use Rattle.nx_drawn.proofs.PieceLemmas.{piece_part}
 use Rattle.nx_drafts.proofs.PlacesLemmas.{body-layout_after, count-layout_after, drawn_forest-layout_after}
 use Rattle.nx_drafts.proofs.SomeLemmas.{piece_has_members}
-use Rattle.nx_divide.specs.Marked.{IsMarkedDraft, many}
+use Rattle.nx_divide.specs.Marked.{IsMarkedDraft, IsMarkedRow, many}
 use Rattle.nx_divide.proofs.MarkedLemmas.{marked_same}
-use Rattle.nx_divide.specs.Putting.{PutsRow}
-use Rattle.nx_divide.specs.Dividing.{AddsSome, DividesMembers, NeedsRoom, IsSplitOf}
+use Rattle.nx_divide.proofs.PartedLemmas.{all_come}
+use Rattle.nx_divide.specs.Dividing.{DividesMembers, IsSplitOf, NotPutAt, PutsRowAt, PutsSome}
 use Rattle.nx_hold.specs.Changes.{ComesTidy}
 use Rattle.nx_divide.proofs.RowLemmas.{drawn_forest-unmarked, layout_before-unmarked, many-gap_more, many-joined}
 use Rattle.nx_divide.proofs.AgreeLemmas.{plan_agrees}
@@ -105,14 +106,31 @@ module _ (settings : Settings) (rules : List Rule) (above : Option Node) (most :
     formed = made.light;
   }
 
+-- the roots of a piece that intervals hold are members of intervals that come
+row_come : (h : List ℕ → Option ℕ) (piece : Piece) (c : Draft (Unit {0})) → AreHeldAll c → IsPiece piece → IsMarkedDraft None h 0 piece.body.roots piece.proxies c → IsMarkedRow h piece.body.roots piece.proxies c
+row_come h piece c held valid m = record { marked = m; come = all_come c held (subst AreTrees (sym m.items_are) valid.body.trees) }
+
+-- A call gave up, and this is a split of these members whose records it was to put in the place of one.
+pub record GivesUpAt {D : Type 0} (d : Ghosts D) (settings : Settings) (rules : List Rule) (above : Option Node) (place : RecordPlace) (e : StoreError) (old new : Records) (before after : D) (members : Layout) : Type 0 where
+  pub draft : Draft (Unit {0})
+  pub stands : layout_before draft ≡ members
+  pub divides : Divides settings rules above (without_places members) (drawn_forest draft)
+  pub refused : NotPutAt d place (draft_needs draft) e old new before after
+
 module _ {D : Type 0} (d : Ghosts D) (settings : Settings) (rules : List Rule) (above : Option Node) (most : settings.k ≤ 256) (piece : Piece) (parts : List Interval) (split : IsSplit settings.k (placed_of rules above piece) settings.target settings.tolerance parts)
-    (some : 1 ≤ gapped.gapped_width piece.body.roots) (r0 r1 : Records) (x0 x1 : D) where
-  pub divides_ok : (r : Result (List Proxy) StoreError) → IfOk r (λ row. (drawn : Draft (Unit {0})) → IsMarkedDraft None (holder parts) 0 piece.body.roots piece.proxies drawn → (body : Gapped) × PutsRow d r0 r1 x0 x1 drawn body [] row)
-      → IfOk r (λ row. (members : Layout) → piece_of members ≡ piece → AreParts settings.k members → DividesMembers d settings rules above r0 r1 x0 x1 members row)
+    (valid : IsPiece piece) (place : RecordPlace) (r0 r1 : Records) (x0 x1 : D) where
+  made_row : (members : Layout) (is : piece_of members ≡ piece) (light : AreParts settings.k members)
+      → IsMarkedRow (holder parts) piece.body.roots piece.proxies (made settings rules above most piece parts split members is settings.k (omega arith) most light).draft
+  made_row members is light =
+      let m = made settings rules above most piece parts split members is settings.k (omega arith) most light in
+      row_come (holder parts) piece m.draft m.held valid (made_marked settings rules above most piece parts split members is settings.k (omega arith) most light)
+
+  pub divides_ok : (r : Result (List Proxy) StoreError) → IfOk r (λ row. (drawn : Draft (Unit {0})) → IsMarkedRow (holder parts) piece.body.roots piece.proxies drawn → PutsRowAt d place r0 r1 x0 x1 drawn row)
+      → IfOk r (λ row. (members : Layout) → piece_of members ≡ piece → AreParts settings.k members → DividesMembers d settings rules above place r0 r1 x0 x1 members row)
   divides_ok (Err e) h = tt
   divides_ok (Ok row) h = λ members is light.
       let m = made settings rules above most piece parts split members is settings.k (omega arith) most light in
-      let p = (h m.draft (made_marked settings rules above most piece parts split members is settings.k (omega arith) most light)).1 in
+      let p = h m.draft (made_row members is light) in
       let bare : without_places (layout_after p.draft) ≡ drawn_forest m.draft = drawn_forest-layout_after p.draft ∙ sym (drawn_forest-unmarked p.draft) ∙ ap drawn_forest p.same in
       let row_is : row ≡ proxies_of (layout_after p.draft) = p.proxies_are in
       record {
@@ -121,27 +139,21 @@ module _ {D : Type 0} (d : Ghosts D) (settings : Settings) (rules : List Rule) (
         divides = subst (Divides settings rules above (without_places members)) (sym bare) (made_divides settings rules above most piece parts split members is settings.k (omega arith) most light);
         light = parts_with settings.k (layout_after p.draft) (subst (AreParts settings.k) (sym bare) m.light);
         row_is = row_is;
-        gap = all_gap p.draft m.draft p.same m.held piece.body.roots (ap piece_body m.stands ∙ ap (λ (q : Piece). q.body.roots) is) some ∙ ap (λ (i : ℕ). Gap i End) (sym (count-layout_after p.draft) ∙ ap length (sym row_is));
+        gap = all_gap p.draft m.draft p.same m.held piece.body.roots (ap piece_body m.stands ∙ ap (λ (q : Piece). q.body.roots) is) valid.body.some ∙ ap (λ (i : ℕ). Gap i End) (sym (count-layout_after p.draft) ∙ ap length (sym row_is));
         put = p.put;
       }
 
-  pub needs_room : (r : Result (List Proxy) StoreError) → IfErr r (λ e. (drawn : Draft (Unit {0})) → IsMarkedDraft None (holder parts) 0 piece.body.roots piece.proxies drawn → NotStored d (λ was. draft_needs drawn) (λ was. ⊥) 0 e r0 r1 x0 x1)
-      → IfErr r (λ e. NeedsRoom d settings rules above piece e r0 r1 x0 x1)
-  needs_room (Ok row) h = tt
-  needs_room (Err error.Full) h = λ members is light.
+  pub gives_up : (r : Result (List Proxy) StoreError) → IfErr r (λ e. (drawn : Draft (Unit {0})) → IsMarkedRow (holder parts) piece.body.roots piece.proxies drawn → NotPutAt d place (draft_needs drawn) e r0 r1 x0 x1)
+      → IfErr r (λ e. (members : Layout) → piece_of members ≡ piece → AreParts settings.k members → GivesUpAt d settings rules above place e r0 r1 x0 x1 members)
+  gives_up (Ok row) h = tt
+  gives_up (Err e) h = λ members is light.
       let m = made settings rules above most piece parts split members is settings.k (omega arith) most light in
       record {
         draft = m.draft;
         stands = m.stands;
         divides = made_divides settings rules above most piece parts split members is settings.k (omega arith) most light;
-        refused = h m.draft (made_marked settings rules above most piece parts split members is settings.k (omega arith) most light);
+        refused = h m.draft (made_row members is light);
       }
-  needs_room (Err error.Disk) h = tt
-  needs_room (Err error.Exists) h = tt
-  needs_room (Err error.NotAStore) h = tt
-  needs_room (Err (error.Damaged page)) h = tt
-  needs_room (Err error.Ended) h = tt
-  needs_room (Err error.Memory) h = tt
 
 -- how many intervals come
 abbrev coming : Draft (Unit {0}) → ℕ
@@ -197,6 +209,9 @@ module _ (settings : Settings) (most : settings.k ≤ 256) (piece : Piece) (part
   pub some_marked : IsMarkedDraft None (holder parts) 0 piece.body.roots piece.proxies some_draft.draft
   some_marked = made_marked settings split.rules split.above most piece parts split.split (piece_has_members piece valid).members (piece_has_members piece valid).is 256 most (omega arith) (piece_has_members piece valid).light
 
+  pub some_row : IsMarkedRow (holder parts) piece.body.roots piece.proxies some_draft.draft
+  some_row = row_come (holder parts) piece some_draft.draft some_draft.held valid some_marked
+
   pub few_parts : many piece.body.roots ≤ 524288 → length parts < 2 ^ 32
   few_parts few =
       let p = parts_are_few 256 (piece_has_members piece valid).members parts some_draft in
@@ -205,10 +220,17 @@ module _ (settings : Settings) (most : settings.k ≤ 256) (piece : Piece) (part
 
 -- the marks of the roots say which interval of the split holds each node
 pub roots_marked : (mark : Mark) (below : List Mark) (parts : List Interval) (roots items : Gapped) (olds left : List Proxy) (c : Draft (Unit {0})) → ((path : List ℕ) → marked mark path ≡ holder parts path) → ((position : ℕ) (path : List ℕ) → marked_in below position path ≡ marked mark (position ∷ path))
-    → items ≡ roots → left ≡ olds → IsMarkedDraft None (holder parts) 0 roots olds c → IsMarkedDraft None (holder_by_marks below) 0 items left c
-roots_marked mark below parts roots items olds left c holds are items_are left_is m =
-    subst (λ (g : Gapped). IsMarkedDraft None (holder_by_marks below) 0 g left c) (sym items_are)
-    (marked_same None (holder parts) (holder_by_marks below) 0 roots olds left c (λ p path. sym (holds (p ∷ path)) ∙ sym (are p path)) (sym left_is) m)
+    → items ≡ roots → left ≡ olds → IsMarkedRow (holder parts) roots olds c → IsMarkedRow (holder_by_marks below) items left c
+roots_marked mark below parts roots items olds left c holds are items_are left_is m = record {
+  marked = subst (λ (g : Gapped). IsMarkedDraft None (holder_by_marks below) 0 g left c) (sym items_are)
+      (marked_same None (holder parts) (holder_by_marks below) 0 roots olds left c (λ p path. sym (holds (p ∷ path)) ∙ sym (are p path)) (sym left_is) m.marked);
+  come = m.come;
+}
+
+-- a piece has a root
+pub some_roots : (items : List Item) (roots : Gapped) → gapped_of items ≡ roots → 1 ≤ gapped.gapped_width roots → 1 ≤ length items
+some_roots [] roots e some = absurd (no_end roots e some)
+some_roots (x ∷ items) roots e some = omega arith
 
 -- nodes and gaps of a piece are few
 apart_few : (g : Gapped) → AreApart g → (BeginsNoGap g → item_count g ≤ 3 * gapped_size g) × (item_count g ≤ 3 * gapped_size g + 1)
@@ -226,31 +248,25 @@ items_few piece p =
     let y = p.body.light in
     omega (arith, x, y)
 
-no_kept : (r : RecordPlace) (rest : List RecordPlace) → r ∷ rest ≡ [] → ⊥
-no_kept r rest e = cc
+module _ {D : Type 0} (d : Ghosts D) (settings : Settings) (most : settings.k ≤ 256) (piece : Piece) (parts : List Interval) (split : IsSplitOf settings piece parts) (valid : IsPiece piece) (place : RecordPlace) (r0 r1 : Records) (x0 x1 : D) where
+  abbrev Rows : List Proxy → Type 0
+  Rows row = (drawn : Draft (Unit {0})) → IsMarkedRow (holder parts) piece.body.roots piece.proxies drawn → PutsRowAt d place r0 r1 x0 x1 drawn row
 
--- where all roots are held by intervals that come, one comes
-pub one_comes : (made : Draft RecordPlace) (c : Draft (Unit {0})) → unmarked made ≡ c → AreHeldAll c → (roots : Gapped) → piece_body (layout_before c) ≡ roots → AreTrees roots → 1 ≤ gapped.gapped_width roots → came made ≡ [] → ⊥
-one_comes Ends c same held roots are trees some e = no_end roots (ap (λ (x : Draft (Unit {0})). piece_body (layout_before x)) same ∙ are) some
-one_comes (Grows n b s) c same held roots are trees some e = subst AreHeldAll (sym same) held
-one_comes (Stands r m s) c same held roots are trees some e = no_trees (piece_body (layout_before (unmarked s))) (subst AreTrees (sym (ap (λ (x : Draft (Unit {0})). piece_body (layout_before x)) same' ∙ are)) trees)
-  where
-    same' : unmarked (Stands r m s) ≡ c
-    same' = same
+  row_put : (row : List Proxy) → Rows row → PutsRowAt d place r0 r1 x0 x1 (some_draft settings most piece parts split valid).draft row
+  row_put row puts = puts (some_draft settings most piece parts split valid).draft (some_row settings most piece parts split valid)
 
-    no_trees : (g : Gapped) → AreTrees (gap_more g) → ⊥
-    no_trees End t = t
-    no_trees (Grow n b s) t = t
-    no_trees (Gap count s) t = t
-one_comes (Comes r m s) c same held roots are trees some e = no_kept r (came m ++ came s) e
-
-module _ {D : Type 0} (d : Ghosts D) (settings : Settings) (most : settings.k ≤ 256) (piece : Piece) (parts : List Interval) (split : IsSplitOf settings piece parts) (valid : IsPiece piece) (r0 r1 : Records) (x0 x1 : D) where
-  pub parts_wait : (body : Gapped) (row : List Proxy) → PutsRow d r0 r1 x0 x1 (some_draft settings most piece parts split valid).draft body [] row → HasChanges r1
-  parts_wait body row p =
-      let m = some_draft settings most piece parts split valid in
-      ((p.put).waits).some (one_comes p.draft m.draft p.same m.held piece.body.roots (ap piece_body m.stands ∙ ap (λ (q : Piece). q.body.roots) (piece_has_members piece valid).is) valid.body.trees valid.body.some)
-
-  pub parts_come : (body : Gapped) (row : List Proxy) → PutsRow d r0 r1 x0 x1 (some_draft settings most piece parts split valid).draft body [] row → ComesTidy d r0 r1 x0 x1 AddsSome
-  parts_come body row p saved was stands tidy =
+  pub parts_come : (r : Result (List Proxy) StoreError) → IfOk r Rows → IfOk r (λ row. ComesTidy d r0 r1 x0 x1 (PutsSome place))
+  parts_come (Err e) puts = tt
+  parts_come (Ok row) puts = λ saved was stands tidy.
+      let p = row_put row puts in
       let now = (p.put).puts saved was stands tidy in
-      (now.0, now.1, now.2, (came p.draft, draft_needs p.draft, (now.3).adds))
+      (now.0, now.1, now.2, (came p.draft, draft_needs p.draft, (now.3).moves))
+
+  pub parts_keep : (r : Result (List Proxy) StoreError) → IfOk r Rows → IfOk r (λ row. RunsOn r0 r1 × KeepsSaved d r0 r1 x0 x1 × HasChanges r1)
+  parts_keep (Err e) puts = tt
+  parts_keep (Ok row) puts = let p = row_put row puts in ((p.put).runs, (p.put).keeps, (p.put).changes)
+
+  pub parts_cause : (r : Result (List Proxy) StoreError) → IfErr r (λ e. (drawn : Draft (Unit {0})) → IsMarkedRow (holder parts) piece.body.roots piece.proxies drawn → NotPutAt d place (draft_needs drawn) e r0 r1 x0 x1)
+      → IfErr r (λ e. (needs : ℕ) × NotPutAt d place needs e r0 r1 x0 x1)
+  parts_cause (Ok row) refused = tt
+  parts_cause (Err e) refused = let m = some_draft settings most piece parts split valid in (draft_needs m.draft, refused m.draft (some_row settings most piece parts split valid))

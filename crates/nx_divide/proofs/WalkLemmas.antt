@@ -5,7 +5,7 @@ use Rattle.nx_host.specs.Still.{IsStill}
 use Rattle.nx_tree.specs.declared.node.Node.{Node}
 use Rattle.nx_records.specs.declared.records.Records.{Records}
 use Rattle.nx_records.specs.declared.error.StoreError.{StoreError}
-use Rattle.nx_records.specs.Records.{HasChanges, has_ended, KeepsSaved, ComesTo}
+use Rattle.nx_records.specs.Records.{has_ended, KeepsSaved, ComesTo}
 use Rattle.nx_records.specs.Refusals.{RunsOn, NotStored}
 use Rattle.nx_piece.specs.declared.piece.Item.{Item}
 use Rattle.nx_piece.specs.declared.piece.Piece.{Piece}
@@ -43,7 +43,7 @@ pub record WalksOn {D : Type 0} (d : Ghosts D) (own : Option ℕ) (holder : List
   pub proxies_are : has ≡ had ++ proxies_of (layout_after done)
   pub put : ArePut d old new before after done
 
-proxy_is : (proxy : Proxy) (roots : ℕ) → proxy.roots ≡ roots → proxy ≡ record { page = proxy.page; slot = proxy.slot; roots = roots }
+pub proxy_is : (proxy : Proxy) (roots : ℕ) → proxy.roots ≡ roots → proxy ≡ record { page = proxy.page; slot = proxy.slot; roots = roots }
 proxy_is proxy roots e = ap (λ (n : ℕ). let p : Proxy = record { page = proxy.page; slot = proxy.slot; roots = n } in p) e
 
 module _ {D : Type 0} {d : Ghosts D} where
@@ -185,7 +185,7 @@ members_valid holder position items olds members draft m same few =
     (omega (arith, count, nodes, f, few)) in
     record { body = valid.0; ranged = valid.1 }
 
-free_width : (c : Draft RecordPlace) → AreFree (drawn_forest c) → gapped.gapped_width (draft_body c) ≡ width (drawn_forest c)
+pub free_width : (c : Draft RecordPlace) → AreFree (drawn_forest c) → gapped.gapped_width (draft_body c) ≡ width (drawn_forest c)
 free_width Ends free = refl
 free_width (Grows n d s) free = omega (arith, free_width s free)
 free_width (Stands r i s) free = absurd free
@@ -194,13 +194,13 @@ free_width (Comes u i s) free = absurd free
 module _ {D : Type 0} {d : Ghosts D} where
   -- the record of some members was put
   pub puts_members : {r0 r1 r2 : Records} {x0 x1 x2 : D} (members : Plan) (draft : Draft RecordPlace) (proxy : Proxy) → unmarked draft ≡ members → ArePut d r0 r1 x0 x1 draft → proxy.roots ≡ gapped.gapped_width (draft_body draft) → AreFree (drawn_forest members)
-      → RunsOn r1 r2 → KeepsSaved d r1 r2 x1 x2 → HasChanges r2 → IsStill d x1 x2
+      → RunsOn r1 r2 → KeepsSaved d r1 r2 x1 x2 → IsStill d x1 x2
       → ComesTo d r1 r2 x1 x2 (λ was now. was.free ≤ now.free + piece_needs (piece_of (layout_after draft))) → ComesTidy d r1 r2 x1 x2 (λ was now. AddsPiece (place_named proxy) (piece_of (layout_after draft)) was now) → PutsMembers d r0 r2 x0 x2 members proxy
-  puts_members {r0} {r1} {r2} {x0} {x1} {x2} members draft proxy same put roots free runs keeps changes still takes adds = record {
+  puts_members {r0} {r1} {r2} {x0} {x1} {x2} members draft proxy same put roots free runs keeps still takes adds = record {
     draft = draft;
     same = same;
     roots = roots ∙ free_width draft (subst AreFree (sym (sym (drawn_forest-unmarked draft) ∙ ap drawn_forest same)) free) ∙ sym (drawing_width draft) ∙ ap (λ (c : Plan). width (drawn_forest c)) same;
-    put = put_comes {d = d} {r0 = r0} {r1 = r1} {r2 = r2} {x0 = x0} {x1 = x1} {x2 = x2} (place_named proxy) draft put runs keeps changes still takes adds;
+    put = put_comes {d = d} {r0 = r0} {r1 = r1} {r2 = r2} {x0 = x0} {x1 = x1} {x2 = x2} (place_named proxy) draft put runs keeps still takes adds;
   }
     where
       drawing_width : (c : Draft RecordPlace) → width (drawn_forest (unmarked c)) ≡ width (drawn_forest c)

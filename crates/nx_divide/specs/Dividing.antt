@@ -9,7 +9,7 @@ use Rattle.nx_records.specs.Words.{Held, Settings}
 use Rattle.nx_records.specs.declared.records.Records.{Records}
 use Rattle.nx_records.specs.declared.error.StoreError.{StoreError}
 use Rattle.nx_records.specs.declared.error.StoreError.TheVariants as error
-use Rattle.nx_records.specs.Records.{StandsFor, KeepsSaved, has_free}
+use Rattle.nx_records.specs.Records.{HasChanges, StandsFor, KeepsSaved, has_free}
 use Rattle.nx_records.specs.Refusals.{EndNow, HadEnded, RunsOn, NotStored}
 use Rattle.nx_parts.specs.declared.interval.Interval.{Interval}
 use Rattle.nx_sketch.specs.Split.{IsSplit}
@@ -21,10 +21,9 @@ use Rattle.nx_layouts.specs.Layout.{RecordPlace, Layout, piece_of, piece_body, p
 use Rattle.nx_layouts.specs.Replace.{replaced_at}
 use Rattle.nx_hold.specs.Pieces.{HoldsNone, IsTidy, PieceMap}
 use Rattle.nx_hold.specs.Changes.{ComesTidy}
-use Rattle.nx_hold.specs.Documents.{AddsRecords, MovesRecords}
+use Rattle.nx_hold.specs.Documents.{MovesRecords}
 use Rattle.nx_drawn.specs.Splits.{Divides, SplitsRow}
-use Rattle.nx_drafts.specs.Draft.{Draft, drawn_forest, layout_before, layout_after, came, draft_needs}
-use Rattle.nx_divide.specs.Putting.{ArePut}
+use Rattle.nx_drafts.specs.Draft.{Draft, drawn_forest, layout_before, layout_after, came, unmarked, draft_needs}
 
 -- These intervals are a split of the piece, below some node.
 pub record IsSplitOf (settings : Settings) (piece : Piece) (parts : List Interval) : Type 0 where
@@ -32,45 +31,49 @@ pub record IsSplitOf (settings : Settings) (piece : Piece) (parts : List Interva
   pub above : Option Node
   pub split : IsSplit settings.k (placed_of rules above piece) settings.target settings.tolerance parts
 
--- The interval with these members is divided: what stood below its part stands, for each interval of a split of the part a record came, no part weighs more than k, and
--- these proxies stand in a row for all trees.
-pub record DividesMembers {D : Type 0} (d : Ghosts D) (settings : Settings) (rules : List Rule) (above : Option Node) (old new : Records) (before after : D) (members : Layout) (row : List Proxy) : Type 0 where
+-- no record of this layout stands at the place
+abbrev pub StandApart : RecordPlace → Layout → Type 0
+StandApart place layout = Contains (places_of layout) place → ⊥
+
+-- The record at a place went, and for each interval that was to come a record came, at a place of its own that was free or that one's, with the piece of its members. Where
+-- all that stood was held, in records of other places, all is held.
+pub record PutsDraftAt (place : RecordPlace) (draft : Draft RecordPlace) (was now : Held) : Type 0 where
+  pub moves : MovesRecords (place ∷ []) (came draft) (draft_needs draft) was now
+  pub held : (before : PieceMap was) (after : PieceMap now) → StandApart place (layout_before draft) → AreHeld before.piece_at (layout_before draft) → AreHeld after.piece_at (layout_after draft)
+  pub once : ArePlacedOnce (came draft)
+
+-- The records of these intervals were put in the place of one.
+pub record ArePutAt {D : Type 0} (d : Ghosts D) (place : RecordPlace) (old new : Records) (before after : D) (draft : Draft RecordPlace) : Type 0 where
+  pub runs : RunsOn old new
+  pub keeps : KeepsSaved d old new before after
+  pub changes : HasChanges new
+  pub puts : ComesTidy d old new before after (PutsDraftAt place draft)
+
+-- The intervals that hold all trees of a row were put so, and these are their proxies.
+pub record PutsRowAt {D : Type 0} (d : Ghosts D) (place : RecordPlace) (old new : Records) (before after : D) (drawn : Draft (Unit {0})) (row : List Proxy) : Type 0 where
+  pub draft : Draft RecordPlace
+  pub same : unmarked draft ≡ drawn
+  pub proxies_are : row ≡ proxies_of (layout_after draft)
+  pub put : ArePutAt d place old new before after draft
+
+-- Why they weren't put so: they may take so many pages, or no piece is at the place.
+abbrev pub NotPutAt : {D : Type 0} → Ghosts D → RecordPlace → ℕ → StoreError → Records → Records → D → D → Type 0
+NotPutAt d place needs e old new before after = (page : ℕ) × NotStored d (λ was. needs) (λ was. IsTidy was → HoldsNone was place) page e old new before after
+
+-- The interval with these members is divided: what stood below its part stands, for each interval of a split of the part a record came in the place of one, no part weighs more
+-- than k, and these proxies stand in a row for all trees.
+pub record DividesMembers {D : Type 0} (d : Ghosts D) (settings : Settings) (rules : List Rule) (above : Option Node) (place : RecordPlace) (old new : Records) (before after : D) (members : Layout) (row : List Proxy) : Type 0 where
   pub draft : Draft RecordPlace
   pub stands : layout_before draft ≡ members
   pub divides : Divides settings rules above (without_places members) (without_places (layout_after draft))
   pub light : AreParts settings.k (layout_after draft)
   pub row_is : row ≡ proxies_of (layout_after draft)
   pub gap : piece_body (layout_after draft) ≡ Gap (length row) End
-  pub put : ArePut d old new before after draft
-
--- Why it wasn't: the records of a split may take so many pages.
-pub record NotDivided {D : Type 0} (d : Ghosts D) (settings : Settings) (rules : List Rule) (above : Option Node) (e : StoreError) (old new : Records) (before after : D) (members : Layout) : Type 0 where
-  pub draft : Draft (Unit {0})
-  pub stands : layout_before draft ≡ members
-  pub divides : Divides settings rules above (without_places members) (drawn_forest draft)
-  pub refused : NotStored d (λ was. draft_needs draft) (λ was. ⊥) 0 e old new before after
-
--- Where a call gave up for want of room, a split of each interval with this piece may take as many pages as weren't free.
-abbrev pub NeedsRoom : {D : Type 0} → Ghosts D → Settings → List Rule → (above : Option Node) → Piece → StoreError → Records → Records → D → D → Type 0
-NeedsRoom d settings rules above piece error.Full old new before after = (members : Layout) → piece_of members ≡ piece → AreParts settings.k members → NotDivided d settings rules above error.Full old new before after members
-NeedsRoom d settings rules above piece error.Disk old new before after = Unit {0}
-NeedsRoom d settings rules above piece error.Exists old new before after = Unit {0}
-NeedsRoom d settings rules above piece error.NotAStore old new before after = Unit {0}
-NeedsRoom d settings rules above piece (error.Damaged page) old new before after = Unit {0}
-NeedsRoom d settings rules above piece error.Ended old new before after = Unit {0}
-NeedsRoom d settings rules above piece error.Memory old new before after = Unit {0}
-
--- records came at some places, which were free
-abbrev pub AddsSome : Held → Held → Type 0
-AddsSome was now = (places : List RecordPlace) × (needs : ℕ) × AddsRecords places needs was now
+  pub put : ArePutAt d place old new before after draft
 
 -- the record at a place went, and records came at some places, which were free or that one's
 abbrev pub PutsSome : RecordPlace → Held → Held → Type 0
 PutsSome place was now = (places : List RecordPlace) × (needs : ℕ) × MovesRecords (place ∷ []) places needs was now
-
--- no record of this layout stands at the place
-abbrev pub StandApart : RecordPlace → Layout → Type 0
-StandApart place layout = Contains (places_of layout) place → ⊥
 
 -- The interval of the proxy at an index of a row is replaced by others, which hold all its trees, with these proxies. Its record at this place went, and those that came stand once each. The row is split, and where all else was
 -- held, what stands below the part too, in records of other places, all is held.

@@ -38,6 +38,18 @@ pub record AreMarkedMembers (holder : List ℕ → Option ℕ) (position : ℕ) 
   pub free : AreFree (drawn_forest members)
   pub weighs : part_weight (drawn_forest members) ≤ 256
 
+-- each of these trees is a member of an interval that comes
+abbrev pub ComeAll : {P : Type 0} → Draft P → Type 0
+ComeAll Ends = Unit {0}
+ComeAll (Grows node below beside) = ⊥
+ComeAll (Stands place members beside) = ⊥
+ComeAll (Comes mark members beside) = ComeAll beside
+
+-- The draft is one of a row whose trees are all members of intervals that come.
+pub record IsMarkedRow (holder : List ℕ → Option ℕ) (items : Gapped) (olds : List Proxy) (drawn : Draft (Unit {0})) : Type 0 where
+  pub marked : IsMarkedDraft None holder 0 items olds drawn
+  pub come : ComeAll drawn
+
 -- the items can be drawn so
 abbrev pub HasMarkedDraft : (List ℕ → Option ℕ) → ℕ → Gapped → List Proxy → Type 0
 HasMarkedDraft holder position items olds = (drawn : Draft (Unit {0})) × IsMarkedDraft None holder position items olds drawn
@@ -45,6 +57,10 @@ HasMarkedDraft holder position items olds = (drawn : Draft (Unit {0})) × IsMark
 -- ... as the members of one interval
 abbrev pub HasMarkedMembers : (List ℕ → Option ℕ) → ℕ → Gapped → List Proxy → Type 0
 HasMarkedMembers holder position items olds = (members : Draft (Unit {0})) × AreMarkedMembers holder position items olds members
+
+-- ... as such a row
+abbrev pub HasMarkedRow : (List ℕ → Option ℕ) → Gapped → List Proxy → Type 0
+HasMarkedRow holder items olds = (drawn : Draft (Unit {0})) × IsMarkedRow holder items olds drawn
 
 -- how many nodes and proxies these items have
 abbrev pub many : Gapped → ℕ

@@ -1,15 +1,16 @@
 -- What putting the records of a draft makes of records.
-use Rattle.std.specs.Prelude.{◌≡◌, [], ◌+◌, ◌≤◌, List, ◌++◌}
+use Rattle.std.specs.Prelude.{◌≡◌, ◌+◌, ◌≤◌, List, ◌++◌}
 use Rattle.nx_host.specs.declared.disk.Disk.{Ghosts}
 use Rattle.nx_host.specs.Still.{IsStill}
 use Rattle.nx_records.specs.Words.{Held}
 use Rattle.nx_records.specs.declared.records.Records.{Records}
-use Rattle.nx_records.specs.Records.{HasChanges, KeepsSaved, ComesTo}
+use Rattle.nx_records.specs.Records.{KeepsSaved, ComesTo}
 use Rattle.nx_records.specs.Refusals.{RunsOn}
+use Rattle.nx_piece.specs.declared.piece.Piece.{Piece}
 use Rattle.nx_piece.specs.declared.piece.Proxy.{Proxy}
 use Rattle.nx_piece.specs.Gapped.{Gapped}
 use Rattle.nx_cuts.specs.Cut.{width}
-use Rattle.nx_layouts.specs.Layout.{RecordPlace, proxies_of, AreHeld, ArePlacedOnce}
+use Rattle.nx_layouts.specs.Layout.{RecordPlace, piece_of, proxies_of, AreHeld, ArePlacedOnce}
 use Rattle.nx_hold.specs.Pieces.{PieceMap}
 use Rattle.nx_hold.specs.Changes.{place_named, ComesTidy}
 use Rattle.nx_hold.specs.Documents.{AddsRecords}
@@ -21,11 +22,6 @@ pub record PutsDraft (draft : Draft RecordPlace) (was now : Held) : Type 0 where
   pub held : (before : PieceMap was) (after : PieceMap now) → AreHeld before.piece_at (layout_before draft) → AreHeld after.piece_at (layout_after draft)
   pub once : ArePlacedOnce (came draft)
 
--- What waits for the next commit: something, where a record came or something waited.
-pub record Waits (draft : Draft RecordPlace) (old new : Records) : Type 0 where
-  pub some : (came draft ≡ [] → ⊥) → HasChanges new
-  pub on : HasChanges old → HasChanges new
-
 -- The records of these intervals were put. Whatever lists records name, at most so many fewer pages are free.
 pub record ArePut {D : Type 0} (d : Ghosts D) (old new : Records) (before after : D) (draft : Draft RecordPlace) : Type 0 where
   pub runs : RunsOn old new
@@ -33,7 +29,6 @@ pub record ArePut {D : Type 0} (d : Ghosts D) (old new : Records) (before after 
   pub still : IsStill d before after
   pub takes : ComesTo d old new before after (λ was now. was.free ≤ now.free + draft_needs draft)
   pub puts : ComesTidy d old new before after (λ was now. PutsDraft draft was now)
-  pub waits : Waits draft old new
 
 -- A row was put so: this is what the piece that it stands in has of it, and these proxies came behind those that it had.
 pub record PutsRow {D : Type 0} (d : Ghosts D) (old new : Records) (before after : D) (drawn : Draft (Unit {0})) (body : Gapped) (had has : List Proxy) : Type 0 where
@@ -41,6 +36,13 @@ pub record PutsRow {D : Type 0} (d : Ghosts D) (old new : Records) (before after
   pub same : unmarked draft ≡ drawn
   pub body_is : body ≡ draft_body draft
   pub proxies_are : has ≡ had ++ proxies_of (layout_after draft)
+  pub put : ArePut d old new before after draft
+
+-- The records of all below the members of an interval that was to come were put so, and this is the piece of these members.
+pub record GathersPiece {D : Type 0} (d : Ghosts D) (old new : Records) (before after : D) (members : Draft (Unit {0})) (piece : Piece) : Type 0 where
+  pub draft : Draft RecordPlace
+  pub same : unmarked draft ≡ members
+  pub piece_is : piece ≡ piece_of (layout_after draft)
   pub put : ArePut d old new before after draft
 
 -- The members of an interval that was to come were put so, in the record of this proxy.

@@ -1,7 +1,8 @@
 // Steps of the walk.
-ghost use Rattle.std.specs.Prelude.{◌≡◌, ◌+◌, ◌*◌, ◌<◌, ◌≤◌, ◌++◌, ◌∷◌, [], ℕ, List, length, take, drop, Some, OnOk, IfOk};
+ghost use Rattle.std.specs.Prelude.{◌≡◌, ◌+◌, ◌-◌, ◌*◌, ◌<◌, ◌≤◌, ◌++◌, ◌∷◌, [], ℕ, List, length, take, drop, Some, OnOk, IfOk};
 ghost use Rattle.std.specs.List.{sum_by};
 ghost use Rattle.std.specs.Vec.Iter.{into_iter_items};
+ghost use Rattle.nx_parts.specs.Marks.{marked_in};
 ghost use Rattle.nx_piece.specs.declared.piece.Item.{Item as AnyItem};
 ghost use Rattle.nx_piece.specs.declared.piece.Item.TheVariants.{Tree};
 ghost use Rattle.nx_piece.specs.Gapped.{GappedTree, proxies_in};
@@ -9,6 +10,7 @@ ghost use Rattle.nx_piece.specs.Items.{gapped_of};
 ghost use Rattle.nx_divide.specs.Rows.{with_proxies};
 
 use nx_build::add_proxy;
+use nx_parts::{Mark, holder_in};
 use nx_piece::{Item, PieceTree, Proxies, Proxy};
 use nx_tree::NoMemory;
 use std::vec::IntoIter;
@@ -79,4 +81,19 @@ pub(crate) fn next_root(left: &mut IntoIter<PieceTree>) -> PieceTree
         unreachable!()
     };
     tree
+}
+
+// Where the members of the last interval begin, of so many trees that are members of intervals.
+pub(crate) fn last_begin(marks: &[Mark], len: usize) -> usize
+    requires { 1 ≤ len }
+    ensures within { result < len }
+    ensures held { (position : ℕ) → result ≤ position → position < len → marked_in marks.now position [] ≡ marked_in marks.now (len - 1) [] }
+    ensures begins { (position : ℕ) → position + 1 ≡ result → marked_in marks.now position [] ≡ marked_in marks.now (len - 1) [] → ⊥ }
+{
+    let holder = holder_in(marks, len - 1);
+    let mut first = len - 1;
+    while first > 0 && holder_in(marks, first - 1) == holder {
+        first -= 1;
+    }
+    first
 }

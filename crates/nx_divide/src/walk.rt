@@ -3,13 +3,14 @@ ghost use Rattle.std.specs.Prelude.{◌≡◌, ◌≢◌, ◌+◌, ◌-◌, ◌�
 ghost use Rattle.std.specs.Vec.Iter.{into_iter_items};
 ghost use Rattle.nx_host.specs.Still.{IsStill};
 ghost use Rattle.nx_parts.specs.Marks.{holder_by_marks};
-ghost use Rattle.nx_records.specs.Records.{HasChanges, has_ended};
+ghost use Rattle.nx_records.specs.Records.{has_ended};
 ghost use Rattle.nx_records.specs.Refusals.{NotStored};
 ghost use Rattle.nx_piece.specs.Gapped.{item_count, proxies_in};
 ghost use Rattle.nx_piece.specs.Items.{gapped_of};
+ghost use Rattle.nx_piece.specs.Valid.{IsValidPiece};
 ghost use Rattle.nx_drafts.specs.Draft.{Draft, Ends, Comes, draft_needs};
 ghost use Rattle.nx_divide.specs.Marked.{IsMarkedDraft, AreMarkedMembers, HasMarkedDraft, HasMarkedMembers, many};
-ghost use Rattle.nx_divide.specs.Putting.{PutsRow, PutsMembers};
+ghost use Rattle.nx_divide.specs.Putting.{PutsRow, GathersPiece, PutsMembers};
 
 use crate::row::{keep_run, next_item, next_tree};
 use nx_build::{add_proxy, members_end};
@@ -148,11 +149,43 @@ fn put_members<D: Disk>(
     ensures still { IsStill D.Disk disk.old disk.new }
     ensures left { OnOk result (into_iter_items left.new ≡ drop (end - first) (into_iter_items left.old)) }
     ensures olds { OnOk result (into_iter_items olds.new ≡ drop (proxies_in (gapped_of (take (end - first) (into_iter_items left.old)))) (into_iter_items olds.old)) }
-    ensures changes { IfOk result (λ proxy. HasChanges records.new) }
     ensures ok { IfOk result (λ proxy. (members : Draft (Unit {0})) → AreMarkedMembers (holder_by_marks marks.now) first (gapped_of (take (end - first) (into_iter_items left.old))) (into_iter_items olds.old) members →
         PutsMembers D.Disk records.old records.new disk.old disk.new members proxy) }
     ensures refused { IfErr result (λ e. (members : Draft (Unit {0})) → AreMarkedMembers (holder_by_marks marks.now) first (gapped_of (take (end - first) (into_iter_items left.old))) (into_iter_items olds.old) members →
         NotStored D.Disk (λ was. draft_needs (Comes tt members Ends)) (λ was. ⊥) 0 e records.old records.new disk.old disk.new) }
+{
+    let piece = gather_piece(alloc, records, disk, left, marks, first, end, olds)?;
+    add_piece(alloc, records, disk, &piece)
+}
+
+// The piece of an interval that comes, once the records of all below its members are put. They stand as those of
+// `put_members`.
+#[cycle(walk)]
+pub(crate) fn gather_piece<D: Disk>(
+    alloc: Global,
+    records: &mut Records,
+    disk: &mut D,
+    left: &mut IntoIter<Item>,
+    marks: &[Mark],
+    first: usize,
+    end: usize,
+    olds: &mut IntoIter<Proxy>,
+) -> Result<Piece, StoreError>
+    requires runs { has_ended records.old ≡ false }
+    requires few { many (gapped_of (into_iter_items left.old)) ≤ 524288 }
+    requires small { item_count (gapped_of (into_iter_items left.old)) ≤ 1048576 }
+    requires olds { length (into_iter_items olds.old) ≤ 524288 }
+    requires order { first ≤ end }
+    requires within { end ≤ first + length (into_iter_items left.old) }
+    requires marked { HasMarkedMembers (holder_by_marks marks.now) first (gapped_of (take (end - first) (into_iter_items left.old))) (into_iter_items olds.old) }
+    ensures still { IsStill D.Disk disk.old disk.new }
+    ensures left { OnOk result (into_iter_items left.new ≡ drop (end - first) (into_iter_items left.old)) }
+    ensures olds { OnOk result (into_iter_items olds.new ≡ drop (proxies_in (gapped_of (take (end - first) (into_iter_items left.old)))) (into_iter_items olds.old)) }
+    ensures valid { IfOk result (λ piece. IsValidPiece piece) }
+    ensures ok { IfOk result (λ piece. (members : Draft (Unit {0})) → AreMarkedMembers (holder_by_marks marks.now) first (gapped_of (take (end - first) (into_iter_items left.old))) (into_iter_items olds.old) members →
+        GathersPiece D.Disk records.old records.new disk.old disk.new members piece) }
+    ensures refused { IfErr result (λ e. (members : Draft (Unit {0})) → AreMarkedMembers (holder_by_marks marks.now) first (gapped_of (take (end - first) (into_iter_items left.old))) (into_iter_items olds.old) members →
+        NotStored D.Disk (λ was. draft_needs members) (λ was. ⊥) 0 e records.old records.new disk.old disk.new) }
 {
     let mut roots = PieceTrees::new(alloc);
     let mut proxies = Proxies::new(alloc);
@@ -172,5 +205,5 @@ fn put_members<D: Disk>(
         };
     }
     let body = Body { roots };
-    add_piece(alloc, records, disk, &Piece { body, proxies })
+    Ok(Piece { body, proxies })
 }

@@ -1,7 +1,7 @@
 -- A tree taken out of a document, by the row of its root's interval.
 use Rattle.std.proofs.Common.{◌≡◌, ℕ, ◌+◌, ◌-◌, ◌*◌, ◌<◌, List, [], ◌∷◌, ◌++◌, length, Option, None, Some, refl, sym, ap, ap₂, ◌∙◌, subst, arith, append-nil}
 use Rattle.std.specs.Prelude.{◌==◌, ◌&&◌, true, false, Bool, if◌then◌else◌, IsSome, is_some, option_and_then, Result, Err, IfErr}
-use Rattle.std.specs.Option.{option_map_or, option_or}
+use Rattle.std.specs.Option.{option_map_or, option_or, IsSomeAnd}
 use Rattle.std.proofs.lemmas.List.Elements.{Contains-append_left}
 use Rattle.nx_host.specs.declared.disk.Disk.{Ghosts}
 use Rattle.nx_host.specs.Still.{IsStill}
@@ -20,6 +20,7 @@ use Rattle.nx_records.specs.declared.error.StoreError.TheVariants as store
 use Rattle.nx_records.specs.Records.{has_ended, KeepsSaved, LeavesRecords}
 use Rattle.nx_records.proofs.LeaveLemmas.{leaves_stand}
 use Rattle.nx_records.specs.Refusals.{RunsOn}
+use Rattle.nx_piece.specs.declared.piece.Piece.{Piece}
 use Rattle.nx_piece.specs.declared.piece.Proxy.{Proxy}
 use Rattle.nx_cuts.specs.Cut.{CutForest, CutTree, Bare, Grown, Kept, forest, tree_of, AreParts}
 use Rattle.nx_layouts.specs.Layout.{RecordPlace, Layout, AreHeld, ArePlacedOnce, places_of, proxies_of, proxy_of, without_places, whole, IsLaidOutAs}
@@ -30,6 +31,8 @@ use Rattle.nx_hold.specs.Documents.{HasDocument, MovesRecords}
 use Rattle.nx_hold.proofs.RefusalLemmas.{runs_then, saved_then}
 use Rattle.nx_nav.specs.declared.error.NavError.{NavError}
 use Rattle.nx_nav.specs.declared.finding.Shown.{Shown}
+use Rattle.nx_nav.specs.declared.routing.PassedRecord.{PassedRecord}
+use Rattle.nx_nav.specs.Route.{HasRoute}
 use Rattle.nx_nav.specs.Refusals.{OfEach, HoldsNoDocument, IsRefused}
 use Rattle.nx_nav.specs.Shows.{ShowsNode}
 use Rattle.nx_state.specs.State.{document_size}
@@ -42,7 +45,7 @@ use Rattle.nx_edit.specs.declared.error.EditError.TheVariants as error
 use Rattle.nx_edit.specs.Removing.{document_places, OfEntry, HasNone}
 use Rattle.nx_edit.specs.Editing.{places_off, IsEdited, EditsDocument}
 use Rattle.nx_edit.specs.Refusals.{refused_by, deletion_fault, is_of_path, edit_needs, edit_error, seen_error, NotEdited}
-use Rattle.nx_edit.specs.Rows.{row_nodes, deleted_row, IsHeldInterval, IsReplaced, left_of, left_needs, IsLeftOf, DeletesIn, NotDeletedIn}
+use Rattle.nx_edit.specs.Rows.{row_nodes, deleted_row, IsHeldInterval, IsReplaced, left_of, left_needs, IsLeftOf, DeletesAlong, NotDeletedAlong}
 use Rattle.nx_edit.proofs.RemoveLemmas.{later_rose, ends_behind}
 use Rattle.nx_edit.proofs.DocumentLemmas.{left_there, seen_refused}
 
@@ -227,7 +230,7 @@ module _ {D : Type 0} (d : Ghosts D) (entry : DocEntry) (path : List ℕ) (some 
   NotDeleted e r x = NotEdited d is_of_path (deletion_fault path) (edit_needs (cut_at path)) entry e r0 r x0 x
 
   pub look_refused : (e : NavError) → IsRefused d (OfEach d r0 x0 (place_of entry.root) (λ document. at (tree_of document) path ≡ None)) ⊥ (HoldsNoDocument d r0 x0 (place_of entry.root)) e r0 r1 x0 x1
-      → NotDeleted (seen_error e) r1 x1
+      → IsSomeAnd (seen_error e) (λ told. NotDeleted told r1 x1)
   look_refused e refused =
       seen_refused d r0 r1 x0 x1 still is_of_path (deletion_fault path) (edit_needs (cut_at path)) entry refl (OfEach d r0 x0 (place_of entry.root) (λ document. at (tree_of document) path ≡ None))
       (λ none document has. fault_nowhere path (tree_of document) some (none document has)) e refused
@@ -255,8 +258,8 @@ module _ {D : Type 0} (d : Ghosts D) (entry : DocEntry) (path : List ℕ) (some 
           let there = shows document has in
           root_interval has.now has.pieces entry path document (has.laid).layout (has.laid).laid counted there.0 there.1
 
-      module _ (r2 : Records) (x2 : D) where
-        pub in_refused : (e : StoreError) → NotDeletedIn d None (place_of entry.root) 0 path entry.nodes e r1 r2 x1 x2 → NotDeleted (edit_error e) r2 x2
+      module _ (passed : List PassedRecord) (last : Piece) (route : (document : CutTree) (has : HasDocument d r0 x0 (place_of entry.root) document) → HasRoute has.now (place_of entry.root) 0 path passed last) (r2 : Records) (x2 : D) where
+        pub in_refused : (e : StoreError) → NotDeletedAlong d passed last (place_of entry.root) 0 path entry.nodes e r1 r2 x1 x2 → IsSomeAnd (edit_error e) (λ told. NotDeleted told r2 x2)
         in_refused store.Disk refused = (later_rose (d.faults x0) (d.faults x1) (d.faults x2) still.faults_later refused.0, ends_behind {r0 = r0} {r1 = r1} {r2 = r2} (left_there d r0 r1 x0 x1 still runs leaves).0 refused.1)
         in_refused store.Full refused = record {
           runs = runs_then {r0 = r0} {r1 = r1} {r2 = r2} (left_there d r0 r1 x0 x1 still runs leaves).0 refused.runs;
@@ -265,13 +268,13 @@ module _ {D : Type 0} (d : Ghosts D) (entry : DocEntry) (path : List ℕ) (some 
           few = λ document has tidy counted. (
             delete_allowed document has tidy counted,
             subst (λ (n : ℕ). (has.now).free < n) (root_needs has.now has.pieces entry path document (has.laid).layout (has.laid).laid counted some)
-                (refused.few has.saved has.now has.pieces (Grown document.node (has.laid).layout Bare) (leaves_stand {d = d} {r0 = r0} {r1 = r1} leaves still has.stands) tidy (interval_of document has counted)),
+                (refused.few has.saved has.now has.pieces (Grown document.node (has.laid).layout Bare) (leaves_stand {d = d} {r0 = r0} {r1 = r1} leaves still has.stands) tidy (interval_of document has counted) (route document has)),
           );
         }
         in_refused (store.Damaged page) refused = (
           ends_behind {r0 = r0} {r1 = r1} {r2 = r2} (left_there d r0 r1 x0 x1 still runs leaves).0 refused.0,
           λ document has tidy counted.
-              refused.1 has.saved has.now has.pieces (Grown document.node (has.laid).layout Bare) (leaves_stand {d = d} {r0 = r0} {r1 = r1} leaves still has.stands) tidy (interval_of document has counted),
+              refused.1 has.saved has.now has.pieces (Grown document.node (has.laid).layout Bare) (leaves_stand {d = d} {r0 = r0} {r1 = r1} leaves still has.stands) tidy (interval_of document has counted) (route document has),
         )
         in_refused store.Memory refused = (
           runs_then {r0 = r0} {r1 = r1} {r2 = r2} (left_there d r0 r1 x0 x1 still runs leaves).0 refused.0,
@@ -281,13 +284,13 @@ module _ {D : Type 0} (d : Ghosts D) (entry : DocEntry) (path : List ℕ) (some 
         in_refused store.Exists refused = absurd refused
         in_refused store.NotAStore refused = absurd refused
 
-        module _ (gone : ℕ) (proxies : List Proxy) (comes : ComesTidy d r1 r2 x1 x2 (DeletesIn None (place_of entry.root) 0 path entry.nodes gone proxies)) where
+        module _ (gone : ℕ) (proxies : List Proxy) (comes : ComesTidy d r1 r2 x1 x2 (DeletesAlong passed last (place_of entry.root) 0 path entry.nodes gone proxies)) where
           -- nothing is left of no document of the entry
           pub in_none : proxies ≡ [] → HasNone d r0 x0 entry
           in_none none document has tidy counted =
               let next = comes has.saved has.now (leaves_stand {d = d} {r0 = r0} {r1 = r1} leaves still has.stands) tidy in
               not_none has.now has.pieces entry path document (has.laid).layout (has.laid).laid counted some (refusal_none document has) gone proxies next.0
-              (next.3 has.pieces (Grown document.node (has.laid).layout Bare) (interval_of document has counted)) none
+              (next.3 (route document has) has.pieces (Grown document.node (has.laid).layout Bare) (interval_of document has counted)) none
 
           pub in_done : (proxy : Proxy) (new : DocEntry) → proxies ≡ proxy ∷ [] → place_of new.root ≡ place_named proxy → new.nodes ≡ entry.nodes - gone
               → ComesTidy d r0 r2 x0 x2 (EditsDocument (λ document edited. edited ≡ deleted path document) false path entry new)
@@ -299,7 +302,7 @@ module _ {D : Type 0} (d : Ghosts D) (entry : DocEntry) (path : List ℕ) (some 
                 λ pieces document layout laid counted.
                     let has : HasDocument d r0 x0 (place_of entry.root) document = record { saved = saved; now = now; stands = stands; pieces = pieces; laid = record { layout = layout; laid = laid } } in
                     edited_to now pieces entry path document layout laid counted some (refusal_none document has) gone proxies next.0
-                    (next.3 pieces (Grown document.node layout Bare) (interval_of document has counted)) proxy new one place count,
+                    (next.3 (route document has) pieces (Grown document.node layout Bare) (interval_of document has counted)) proxy new one place count,
               )
 
           pub in_keeps : RunsOn r1 r2 → KeepsSaved d r1 r2 x1 x2 → RunsOn r0 r2 × KeepsSaved d r0 r2 x0 x2

@@ -1,6 +1,7 @@
 -- A change in a document, by the row of its root's interval: for each edit that puts something.
 use Rattle.std.proofs.Common.{◌≡◌, ℕ, ◌+◌, ◌*◌, ◌<◌, List, [], ◌∷◌, ◌++◌, Option, None, Some, refl, sym, ap, ap₂, ◌∙◌, subst, arith, append-nil}
 use Rattle.std.specs.Prelude.{Bool, true, false, IsSome, IfSome}
+use Rattle.std.specs.Option.{IsSomeAnd}
 use Rattle.std.specs.List.{slice_get}
 use Rattle.std.proofs.lemmas.List.Elements.{Contains-append_left}
 use Rattle.nx_host.specs.declared.disk.Disk.{Ghosts}
@@ -17,6 +18,7 @@ use Rattle.nx_records.specs.declared.error.StoreError.TheVariants as store
 use Rattle.nx_records.specs.Records.{has_ended, KeepsSaved, LeavesRecords}
 use Rattle.nx_records.proofs.LeaveLemmas.{leaves_runs, leaves_saved, leaves_stand}
 use Rattle.nx_records.specs.Refusals.{RunsOn}
+use Rattle.nx_piece.specs.declared.piece.Piece.{Piece}
 use Rattle.nx_piece.specs.declared.piece.Proxy.{Proxy}
 use Rattle.nx_matrix.specs.declared.rule.Rule.{Rule}
 use Rattle.nx_cuts.specs.Cut.{CutForest, CutTree, Bare, Grown, Kept, forest, tree_of, AreFree, AreParts, joined}
@@ -28,6 +30,8 @@ use Rattle.nx_hold.specs.Changes.{place_of, place_named, ComesTidy}
 use Rattle.nx_hold.specs.Pieces.{PieceMap}
 use Rattle.nx_hold.specs.Documents.{HasDocument, MovesRecords}
 use Rattle.nx_hold.proofs.RefusalLemmas.{runs_then, saved_then}
+use Rattle.nx_nav.specs.declared.routing.PassedRecord.{PassedRecord}
+use Rattle.nx_nav.specs.Route.{HasRoute}
 use Rattle.nx_nav.specs.declared.error.NavError.{NavError}
 use Rattle.nx_nav.specs.declared.error.NavError.TheVariants as nav
 use Rattle.nx_nav.specs.Refusals.{HoldsNoDocument, IsRefused}
@@ -42,7 +46,7 @@ use Rattle.nx_edit.specs.Removing.{document_places, OfEntry, HasNone}
 use Rattle.nx_edit.specs.Editing.{places_off, IsEdited, EditsDocument}
 use Rattle.nx_edit.specs.Refusals.{edit_needs, edit_error, seen_error, LeavesLastCommit, NotEdited}
 use Rattle.nx_edit.specs.Rows.{row_nodes, IsHeldInterval, IsReplaced}
-use Rattle.nx_edit.specs.Changing.{changed, way_of, MayBeMade, changed_interval, IsPossibleIn, AreAllKept, AreSplitOf, ChangesIn, change_needs, NotChangedIn}
+use Rattle.nx_edit.specs.Changing.{changed, way_of, MayBeMade, changed_interval, IsPossibleIn, AreAllKept, AreSplitOf, ChangesAlong, change_needs, NotChangedAlong}
 use Rattle.nx_edit.proofs.RemoveLemmas.{later_rose, ends_behind}
 
 -- The change may be made of the node at the path, and makes of the document's tree another document, which is that of this edit.
@@ -222,6 +226,17 @@ module _ (was : Held) (pieces : PieceMap was) (entry : DocEntry) (document : Cut
           lists_stay = λ other count chain among. r.lists_stay other count chain (Contains-append_left (places_off true (way_of change path) layout) [] other among);
         }
 
+-- a change gives up as an edit does
+pub change_tells : {D : Type 0} (d : Ghosts D) (rules : List Rule) (change : Change) (place : RecordPlace) (position : ℕ) (path : List ℕ) (r0 r1 : Records) (x0 x1 : D)
+    → (passed : List PassedRecord) (last : Piece) (e : StoreError) → NotChangedAlong d passed last rules change place position path e r0 r1 x0 x1 → IsSome (edit_error e)
+change_tells d rules change place position path r0 r1 x0 x1 passed last store.Disk refused = refl
+change_tells d rules change place position path r0 r1 x0 x1 passed last store.Full refused = refl
+change_tells d rules change place position path r0 r1 x0 x1 passed last (store.Damaged page) refused = refl
+change_tells d rules change place position path r0 r1 x0 x1 passed last store.Memory refused = refl
+change_tells d rules change place position path r0 r1 x0 x1 passed last store.Ended refused = absurd refused
+change_tells d rules change place position path r0 r1 x0 x1 passed last store.Exists refused = absurd refused
+change_tells d rules change place position path r0 r1 x0 x1 passed last store.NotAStore refused = absurd refused
+
 -- looks at the document, and an edit behind them
 module _ {D : Type 0} (d : Ghosts D) (r0 r1 : Records) (x0 x1 : D) (still : IsStill d x0 x1) where
   pub left_there : has_ended r0 ≡ false → LeavesRecords r0 r1 → LeavesLastCommit d r0 r1 x0 x1
@@ -229,7 +244,7 @@ module _ {D : Type 0} (d : Ghosts D) (r0 r1 : Records) (x0 x1 : D) (still : IsSt
 
   pub seen_refused : (can : EditError → Bool) (fault : OrderedTree → Option EditError) (needs : CutTree → ℕ) (entry : DocEntry) → can error.NoNode ≡ true
       → (Nowhere : Type 0) → (Nowhere → (document : CutTree) → HasDocument d r0 x0 (place_of entry.root) document → fault (tree_of document) ≡ Some error.NoNode)
-      → (e : NavError) → IsRefused d Nowhere ⊥ (HoldsNoDocument d r0 x0 (place_of entry.root)) e r0 r1 x0 x1 → NotEdited d can fault needs entry (seen_error e) r0 r1 x0 x1
+      → (e : NavError) → IsRefused d Nowhere ⊥ (HoldsNoDocument d r0 x0 (place_of entry.root)) e r0 r1 x0 x1 → IsSomeAnd (seen_error e) (λ told. NotEdited d can fault needs entry told r0 r1 x0 x1)
   seen_refused can fault needs entry may Nowhere missing nav.NoNode refused = (may, left_there refused.1 refused.2, λ document has tidy counted. missing refused.0 document has)
   seen_refused can fault needs entry may Nowhere missing nav.Disk refused = refused
   seen_refused can fault needs entry may Nowhere missing nav.Write refused = absurd refused.0
@@ -260,8 +275,9 @@ module _ {D : Type 0} (d : Ghosts D) (r0 r1 : Records) (x0 x1 : D) (still : IsSt
   fault_passed can fault other needs entry pass (error.TooHeavy heavy) refused = (refused.0, refused.1, λ document has tidy counted. pass (tree_of document) (error.TooHeavy heavy) (refused.2 document has tidy counted))
 
   module _ (can : EditError → Bool) (fault : OrderedTree → Option EditError) (edit : OrderedTree → OrderedTree) (entry : DocEntry) (runs : has_ended r0 ≡ false) (leaves : LeavesRecords r0 r1) (free : OfEntry d r0 x0 entry (λ now document. fault (tree_of document) ≡ None)) (rules : List Rule) (change : Change) (path : List ℕ)
-      (fits : OfEntry d r0 x0 entry (λ now document. IsFitting (now.settings).k rules change path edit document)) (r2 : Records) (x2 : D) where
-    pub change_refused : (e : StoreError) → NotChangedIn d rules change (place_of entry.root) 0 path e r1 r2 x1 x2 → NotEdited d can fault (edit_needs edit) entry (edit_error e) r0 r2 x0 x2
+      (fits : OfEntry d r0 x0 entry (λ now document. IsFitting (now.settings).k rules change path edit document)) (passed : List PassedRecord) (last : Piece)
+      (route : (document : CutTree) (has : HasDocument d r0 x0 (place_of entry.root) document) → HasRoute has.now (place_of entry.root) 0 path passed last) (r2 : Records) (x2 : D) where
+    pub change_refused : (e : StoreError) → NotChangedAlong d passed last rules change (place_of entry.root) 0 path e r1 r2 x1 x2 → IsSomeAnd (edit_error e) (λ told. NotEdited d can fault (edit_needs edit) entry told r0 r2 x0 x2)
     change_refused store.Disk refused = (later_rose (d.faults x0) (d.faults x1) (d.faults x2) still.faults_later refused.0, ends_behind {r0 = r0} {r1 = r1} {r2 = r2} (left_there runs leaves).0 refused.1)
     change_refused store.Full refused = record {
       runs = runs_then {r0 = r0} {r1 = r1} {r2 = r2} (left_there runs leaves).0 refused.runs;
@@ -272,7 +288,7 @@ module _ {D : Type 0} (d : Ghosts D) (r0 r1 : Records) (x0 x1 : D) (still : IsSt
         subst (λ (n : ℕ). (has.now).free < n) (top_needs has.now has.pieces entry document (has.laid).layout (has.laid).laid rules change path edit (fits document has tidy counted))
             (refused.few has.saved has.now has.pieces (Grown document.node (has.laid).layout Bare) (leaves_stand {d = d} {r0 = r0} {r1 = r1} leaves still has.stands) tidy
             (top_interval has.now has.pieces entry document (has.laid).layout (has.laid).laid rules change path edit (fits document has tidy counted))
-            (top_possible has.now has.pieces entry document (has.laid).layout (has.laid).laid rules change path edit (fits document has tidy counted))),
+            (top_possible has.now has.pieces entry document (has.laid).layout (has.laid).laid rules change path edit (fits document has tidy counted)) (route document has)),
       );
     }
     change_refused (store.Damaged page) refused = (
@@ -280,7 +296,7 @@ module _ {D : Type 0} (d : Ghosts D) (r0 r1 : Records) (x0 x1 : D) (still : IsSt
       λ document has tidy counted.
           refused.1 has.saved has.now has.pieces (Grown document.node (has.laid).layout Bare) (leaves_stand {d = d} {r0 = r0} {r1 = r1} leaves still has.stands) tidy
           (top_interval has.now has.pieces entry document (has.laid).layout (has.laid).laid rules change path edit (fits document has tidy counted))
-          (top_possible has.now has.pieces entry document (has.laid).layout (has.laid).laid rules change path edit (fits document has tidy counted)),
+          (top_possible has.now has.pieces entry document (has.laid).layout (has.laid).laid rules change path edit (fits document has tidy counted)) (route document has),
     )
     change_refused store.Memory refused = (
       runs_then {r0 = r0} {r1 = r1} {r2 = r2} (left_there runs leaves).0 refused.0,
@@ -290,13 +306,13 @@ module _ {D : Type 0} (d : Ghosts D) (r0 r1 : Records) (x0 x1 : D) (still : IsSt
     change_refused store.Exists refused = absurd refused
     change_refused store.NotAStore refused = absurd refused
 
-    module _ (proxies : List Proxy) (comes : ComesTidy d r1 r2 x1 x2 (ChangesIn rules None change (place_of entry.root) 0 path proxies)) where
+    module _ (proxies : List Proxy) (comes : ComesTidy d r1 r2 x1 x2 (ChangesAlong passed last rules None change (place_of entry.root) 0 path proxies)) where
       -- no proxy comes for no document of the entry
       pub none_came : proxies ≡ [] → HasNone d r0 x0 entry
       none_came none document has tidy counted =
           let next = comes has.saved has.now (leaves_stand {d = d} {r0 = r0} {r1 = r1} leaves still has.stands) tidy in
           some_proxy has.now has.pieces entry document (has.laid).layout (has.laid).laid rules change path edit (fits document has tidy counted) proxies next.0
-          (next.3 has.pieces (Grown document.node (has.laid).layout Bare)
+          (next.3 (route document has) has.pieces (Grown document.node (has.laid).layout Bare)
           (top_interval has.now has.pieces entry document (has.laid).layout (has.laid).laid rules change path edit (fits document has tidy counted))
           (top_possible has.now has.pieces entry document (has.laid).layout (has.laid).laid rules change path edit (fits document has tidy counted))) none
 
@@ -311,7 +327,7 @@ module _ {D : Type 0} (d : Ghosts D) (r0 r1 : Records) (x0 x1 : D) (still : IsSt
             λ pieces document layout laid counted.
                 let has : HasDocument d r0 x0 (place_of entry.root) document = record { saved = saved; now = now; stands = stands; pieces = pieces; laid = record { layout = layout; laid = laid } } in
                 changed_to now pieces entry document layout laid rules change path edit (fits document has tidy counted) proxies next.0
-                (next.3 pieces (Grown document.node layout Bare)
+                (next.3 (route document has) pieces (Grown document.node layout Bare)
                 (top_interval now pieces entry document layout laid rules change path edit (fits document has tidy counted))
                 (top_possible now pieces entry document layout laid rules change path edit (fits document has tidy counted))) proxy rest new one place (count document has counted),
           )

@@ -1,3 +1,4 @@
+pub mod ToldLemmas
 pub mod RemoveLemmas
 pub mod CountLemmas
 pub mod ThroughLemmas
@@ -12,6 +13,7 @@ pub mod StayLemmas
 pub mod RefillLemmas
 pub mod UpLemmas
 pub mod RowCalls
+pub mod PassCalls
 pub mod ChangeCalls
 pub mod SetLemmas
 pub mod DeleteLemmas

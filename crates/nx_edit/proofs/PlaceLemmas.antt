@@ -1,7 +1,7 @@
 -- Whether a node may come to a place of a document, by looks at its parent and the parent's children.
 use Rattle.std.proofs.Common.{◌≡◌, ℕ, suc, zero, ◌+◌, ◌-◌, ◌<◌, ◌≤◌, Bool, true, false, List, [], ◌∷◌, ◌++◌, length, drop, take, Option, None, Some, refl, sym, ap, ◌∙◌, subst, arith}
 use Rattle.std.specs.Prelude.{not, ◌||◌, ◌&&◌, if◌then◌else◌, slice_get, nat_lt, option_and_then}
-use Rattle.std.specs.Option.{option_map_or}
+use Rattle.std.specs.Option.{option_map, option_map_or}
 use Rattle.std.specs.List.{list_any}
 use Rattle.std.specs.Str.{bytes_eq}
 use Rattle.std.proofs.lemmas.Bool.{false≢true}
@@ -27,6 +27,7 @@ use Rattle.nx_hold.specs.Documents.{HasDocument}
 use Rattle.nx_nav.specs.declared.error.NavError.{NavError}
 use Rattle.nx_nav.specs.declared.error.NavError.TheVariants as nav
 use Rattle.nx_nav.specs.Refusals.{OfEach, HoldsNoDocument, IsRefused}
+use Rattle.nx_nav.specs.Shows.{kind_below}
 use Rattle.nx_edit.specs.declared.error.EditError.{EditError}
 use Rattle.nx_edit.specs.declared.error.EditError.TheVariants as error
 use Rattle.nx_edit.specs.Refusals.{refused_by}
@@ -70,11 +71,6 @@ at_child (p ∷ path) position t x e =
       | Some y ↦ λ h. at_child path position y x h
     ]) e
 
-pub none_behind : (ts : List OrderedTree) (i : ℕ) → i ≡ length ts → slice_get ts i ≡ None
-none_behind [] i e = refl
-none_behind (t ∷ ts) zero e = absurd (omega (arith, e))
-none_behind (t ∷ ts) (suc i) e = none_behind ts i (omega (arith, e))
-
 -- a position below the length has a child
 within_not_none : (ts : List OrderedTree) (i : ℕ) → i < length ts → slice_get ts i ≡ None → ⊥
 within_not_none [] i le e = omega (arith, le)
@@ -94,34 +90,49 @@ drop_end (t ∷ ts) (suc i) e = drop_end ts i (omega (arith, e))
 
 -- ---- what the order forbids
 
-module _ (kind : Kind) (position : ℕ) (tree : OrderedTree) (parent : List ℕ) (is_document : IsDocument tree) where
-  pub first_attribute : is_attribute kind ≡ true → position ≡ 0 → (children : ℕ) → OfParent tree parent children (λ t. false ≡ is_unordered kind position (trees_of t.below))
-  first_attribute is none children t there counted =
-      subst (λ (n : ℕ). false ≡ is_unordered kind n (trees_of t.below)) (sym none)
+attribute_there : (o : Option OrderedTree) → option_map_or is_attribute (option_map (λ (x : OrderedTree). x.node.kind) o) false ≡ option_map_or (λ (x : OrderedTree). is_attribute x.node.kind) o false
+attribute_there None = refl
+attribute_there (Some x) = refl
+
+-- one neighbour's kind tells of it: for an attribute that of the child before the position, else that of the one there
+module _ (kind : Kind) (position asked : ℕ) (beside : Option Kind) (unordered : Bool) (before : is_attribute kind ≡ true → asked ≡ position - 1) (there : is_attribute kind ≡ false → asked ≡ position)
+    (first : is_attribute kind ≡ true → position ≡ 0 → unordered ≡ false) (later : is_attribute kind ≡ true → 1 ≤ position → unordered ≡ not (option_map_or is_attribute beside false))
+    (other : is_attribute kind ≡ false → unordered ≡ option_map_or is_attribute beside false) (tree : OrderedTree) (parent : List ℕ) (is_document : IsDocument tree) (told : beside ≡ kind_below tree parent asked) where
+  beside_is : (t : OrderedTree) → at tree parent ≡ Some t → (i : ℕ) → asked ≡ i → option_map_or is_attribute beside false ≡ option_map_or (λ (x : OrderedTree). is_attribute x.node.kind) (slice_get (trees_of t.below) i) false
+  beside_is t here i same =
+      ap (λ (o : Option Kind). option_map_or is_attribute o false) told ∙ attribute_there (at tree (parent ++ asked ∷ []))
+      ∙ ap (λ (o : Option OrderedTree). option_map_or (λ (x : OrderedTree). is_attribute x.node.kind) o false) (at_child parent asked tree t here ∙ ap (λ (n : ℕ). slice_get (trees_of t.below) n) same)
+
+  of_attribute : (n : ℕ) → position ≡ n → is_attribute kind ≡ true → (children : ℕ) → position ≤ children → OfParent tree parent children (λ t. unordered ≡ is_unordered kind position (trees_of t.below))
+  of_attribute zero none is children within t here counted =
+      first is none
+      ∙ subst (λ (n : ℕ). false ≡ is_unordered kind n (trees_of t.below)) (sym none)
       (ap (λ (b : Bool). if b then list_any (λ (x : OrderedTree). not (is_attribute x.node.kind)) (take 0 (trees_of t.below)) else list_any (λ (x : OrderedTree). is_attribute x.node.kind) (drop 0 (trees_of t.below))) (sym is))
+  of_attribute (suc n) more is children within t here counted =
+      later is (omega (arith, more)) ∙ ap not (beside_is t here (position - 1) (before is))
+      ∙ unordered_attribute kind position (trees_of t.below) is (omega (arith, more)) (omega (arith, within, counted)) (children_ordered parent tree t is_document here)
 
-  pub later_attribute : (node : Node) (children : ℕ) → is_attribute kind ≡ true → 1 ≤ position → position ≤ children → IsChild tree parent (position - 1) node
-      → OfParent tree parent children (λ t. not (is_attribute node.kind) ≡ is_unordered kind position (trees_of t.below))
-  later_attribute node children is some within below t there counted =
-      ap (λ (n : Node). not (is_attribute n.kind)) below.2
-      ∙ ap (λ (o : Option OrderedTree). not (option_map_or (λ (x : OrderedTree). is_attribute x.node.kind) o false)) (sym below.1 ∙ at_child parent (position - 1) tree t there)
-      ∙ unordered_attribute kind position (trees_of t.below) is (omega (arith, some)) (omega (arith, within, counted)) (children_ordered parent tree t is_document there)
+  of_other : is_attribute kind ≡ false → (children : ℕ) → OfParent tree parent children (λ t. unordered ≡ is_unordered kind position (trees_of t.below))
+  of_other is children t here counted = other is ∙ beside_is t here position (there is) ∙ unordered_other kind position (trees_of t.below) is (children_ordered parent tree t is_document here)
 
-  pub last_other : (children : ℕ) → is_attribute kind ≡ false → position ≡ children → OfParent tree parent children (λ t. false ≡ is_unordered kind position (trees_of t.below))
-  last_other children is last t there counted =
-      ap (λ (o : Option OrderedTree). option_map_or (λ (x : OrderedTree). is_attribute x.node.kind) o false) (sym (none_behind (trees_of t.below) position (last ∙ counted)))
-      ∙ unordered_other kind position (trees_of t.below) is (children_ordered parent tree t is_document there)
+  by_kind : (b : Bool) → is_attribute kind ≡ b → (children : ℕ) → position ≤ children → OfParent tree parent children (λ t. unordered ≡ is_unordered kind position (trees_of t.below))
+  by_kind true is children within = of_attribute position refl is children within
+  by_kind false is children within = of_other is children
 
-  pub earlier_other : (node : Node) (children : ℕ) → is_attribute kind ≡ false → IsChild tree parent position node → OfParent tree parent children (λ t. is_attribute node.kind ≡ is_unordered kind position (trees_of t.below))
-  earlier_other node children is below t there counted =
-      ap (λ (n : Node). is_attribute n.kind) below.2
-      ∙ ap (λ (o : Option OrderedTree). option_map_or (λ (x : OrderedTree). is_attribute x.node.kind) o false) (sym below.1 ∙ at_child parent position tree t there)
-      ∙ unordered_other kind position (trees_of t.below) is (children_ordered parent tree t is_document there)
+  pub order_told : (children : ℕ) → position ≤ children → OfParent tree parent children (λ t. unordered ≡ is_unordered kind position (trees_of t.below))
+  order_told children within = by_kind (is_attribute kind) refl children within
 
 -- a child that is missing where there are more children
 pub missing_child : (tree : OrderedTree) (parent : List ℕ) (position children : ℕ) → position < children → at tree (parent ++ position ∷ []) ≡ None → OfParent tree parent children (λ t. ⊥)
 missing_child tree parent position children less none t there counted =
     within_not_none (trees_of t.below) position (omega (arith, less, counted)) (sym (at_child parent position tree t there) ∙ none)
+
+no_child : (tree : OrderedTree) (parent : List ℕ) (children : ℕ) (t : OrderedTree) → at tree parent ≡ Some t → children ≡ length (trees_of t.below) → at tree (parent ++ 0 ∷ []) ≡ None → 0 ≡ children
+no_child tree parent children t there counted none = nothing (trees_of t.below) children counted (sym (at_child parent 0 tree t there) ∙ none)
+  where
+    nothing : (ts : List OrderedTree) (n : ℕ) → n ≡ length ts → slice_get ts 0 ≡ None → 0 ≡ n
+    nothing [] n e none = sym e
+    nothing (t ∷ ts) n e none = absurd (cc)
 
 -- ---- whether an attribute's name is there
 
@@ -161,6 +172,19 @@ module _ (node : Node) (tree : OrderedTree) (parent : List ℕ) (children : ℕ)
 
   pub last_repeated : IsLookedAt node.name tree parent children children → OfParent tree parent children (λ t. false ≡ is_repeated node t)
   last_repeated left t there counted = by_names t false (among_last node.name (trees_of t.below) children (left t there counted) (drop_end (trees_of t.below) children counted))
+
+  -- where the first child is no attribute, or there is none, no attribute is there
+  pub first_repeated : IsDocument tree → (beside : Option Kind) → beside ≡ kind_below tree parent 0 → option_map_or is_attribute beside false ≡ false → OfParent tree parent children (λ t. false ≡ is_repeated node t)
+  first_repeated is_document beside told other t there counted =
+      let begins = looked_at_first node.name tree parent children is_document in
+      let none : option_map_or (λ (x : OrderedTree). is_attribute x.node.kind) (at tree (parent ++ 0 ∷ [])) false ≡ false =
+      sym (attribute_there (at tree (parent ++ 0 ∷ []))) ∙ ap (λ (o : Option Kind). option_map_or is_attribute o false) (sym told) ∙ other in
+      (elim (at tree (parent ++ 0 ∷ [])) as (λ o. at tree (parent ++ 0 ∷ []) ≡ o → option_map_or (λ (x : OrderedTree). is_attribute x.node.kind) o false ≡ false → false ≡ is_repeated node t) [
+        | None ↦ λ here h.
+            let empty : 0 ≡ children = no_child tree parent children t there counted here in
+            last_repeated (subst (λ (n : ℕ). IsLookedAt node.name tree parent children n) empty begins) t there counted
+        | Some x ↦ λ here h. none_repeated 0 x.node begins (x, here, refl) h t there counted
+      ]) refl none
 
 -- ---- why the node may not stand there
 

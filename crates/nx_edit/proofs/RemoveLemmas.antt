@@ -1,6 +1,7 @@
 -- The records of a row of intervals, taken away one after the other.
 use Rattle.std.proofs.Common.{◌≡◌, ℕ, ◌+◌, ◌-◌, ◌<◌, ◌≤◌, List, [], ◌∷◌, ◌++◌, length, map, Option, Some, inl, inr, refl, sym, ap, ap₂, ◌∙◌, subst, arith, append-nil, append_assoc}
 use Rattle.std.specs.Prelude.{◌⊎◌, ◌==◌, true, false, IsSome, Contains}
+use Rattle.std.specs.Option.{IsSomeAnd}
 use Rattle.std.proofs.lemmas.Bool.{false≢true}
 use Rattle.std.proofs.lemmas.Bool.Decides.{eqb_tells}
 use Rattle.std.proofs.lemmas.List.{map-append}
@@ -17,8 +18,7 @@ use Rattle.nx_records.specs.Records.{has_ended, KeepsSaved, HasChanges}
 use Rattle.nx_records.specs.Refusals.{RunsOn, EndNow, NotChanged}
 use Rattle.nx_piece.specs.declared.piece.Piece.{Piece}
 use Rattle.nx_piece.specs.declared.piece.Proxy.{Proxy}
-use Rattle.nx_piece.specs.Gapped.{Gapped, End, Grow, Gap, gapped_width, gapped_nodes}
-use Rattle.nx_piece.specs.Valid.{AreTrees}
+use Rattle.nx_piece.specs.Gapped.{Gapped, End, Grow, Gap, gapped_nodes}
 use Rattle.nx_cuts.specs.Cut.{CutTree, CutForest, Bare, Grown, Kept, forest}
 use Rattle.nx_tree.specs.Forest.{nodes}
 use Rattle.nx_layouts.specs.Layout.{RecordPlace, Layout, AreHeld, gap_more, piece_body, places_of, proxies_of, proxy_of, piece_of, ArePlacedOnce, IsLaidOutAs, whole}
@@ -36,6 +36,7 @@ use Rattle.nx_state.specs.State.{document_size}
 use Rattle.nx_state.proofs.StayLemmas.{one_map}
 use Rattle.nx_nav.proofs.PartLemmas.{forest-without_places}
 use Rattle.nx_nav.proofs.SplitLemmas.{nodes-joined}
+use Rattle.nx_edit.specs.Refusals.{edit_error}
 use Rattle.nx_edit.specs.Removing.{kept_nodes, IsRow, RemovesRow, OfRow, NotRemovedRow, RemovesDocument, NotRemoved}
 
 -- a record that is still there: its place, and the members of its interval
@@ -107,12 +108,6 @@ nodes_more : (x : Gapped) → gapped_nodes (gap_more x) ≡ gapped_nodes x
 nodes_more End = refl
 nodes_more (Grow n b s) = refl
 nodes_more (Gap c s) = refl
-
--- a piece with roots has nodes
-pub some_nodes : (g : Gapped) → AreTrees g → 1 ≤ gapped_width g → 1 ≤ gapped_nodes g
-some_nodes End trees some = absurd (omega (arith, some))
-some_nodes (Grow n b s) trees some = omega arith
-some_nodes (Gap c s) trees some = absurd trees
 
 -- the nodes of a row are those of its piece, and those in intervals
 pub own_and_kept : (a : Layout) → gapped_nodes (piece_body a) + kept_nodes a ≡ nodes (forest a)
@@ -431,7 +426,7 @@ module _ {D : Type 0} (d : Ghosts D) (entry : DocEntry) (proxy : Proxy) (is : pr
       let now = comes saved was stands tidy in
       (now.0, now.1, now.2, λ pieces document layout laid counted. (now.3 pieces (whole (place_of entry.root) document.node layout) (document_row was pieces entry document layout proxy is laid counted)).0)
 
-  pub document_refused : (e : StoreError) → NotRemovedRow d (proxy ∷ []) entry.nodes e r0 r1 x0 x1 → NotRemoved d entry e r0 r1 x0 x1
+  pub document_refused : (e : StoreError) → NotRemovedRow d (proxy ∷ []) entry.nodes e r0 r1 x0 x1 → IsSomeAnd (edit_error e) (λ told. NotRemoved d entry told r0 r1 x0 x1)
   document_refused store.Disk refused = refused
   document_refused (store.Damaged page) refused = (
     refused.0,

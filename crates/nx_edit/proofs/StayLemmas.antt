@@ -1,5 +1,5 @@
 -- A record whose piece stays, and a piece in which the same proxy comes in the place of one.
-use Rattle.std.proofs.Common.{◌≡◌, ℕ, zero, suc, ◌+◌, ◌-◌, ◌<◌, ◌≤◌, false, List, [], ◌∷◌, ◌++◌, length, take, drop, slice_index_or, Some, inl, inr, refl, sym, ap, ◌∙◌, subst, arith}
+use Rattle.std.proofs.Common.{◌≡◌, ℕ, zero, suc, ◌+◌, ◌-◌, ◌≤◌, false, List, [], ◌∷◌, ◌++◌, length, take, drop, slice_index_or, Option, Some, inl, inr, refl, sym, ap, ◌∙◌, subst, arith}
 use Rattle.std.proofs.lemmas.List.{append_assoc}
 use Rattle.std.specs.List.{slice_get}
 use Rattle.std.proofs.lemmas.Bool.{cases_lt}
@@ -16,9 +16,10 @@ use Rattle.nx_piece_edits.specs.Cutting.{with_row}
 use Rattle.nx_piece_edits.proofs.LeftLemmas.{less_is, not_less}
 use Rattle.nx_layouts.specs.Layout.{RecordPlace}
 use Rattle.nx_hold.specs.Pieces.{HoldsPiece}
-use Rattle.nx_hold.specs.Changes.{ComesTidy, IsPieceRecord, UpdatesPiece, place_named}
-use Rattle.nx_edit.specs.RowPut.{IsPutAlone, IsRowThere, MayHaveRow, piece_with_row}
-use Rattle.nx_edit.specs.Rows.{with_left}
+use Rattle.nx_hold.specs.Changes.{IsPieceRecord, UpdatesPiece, place_named}
+use Rattle.nx_nav.specs.declared.routing.PassedRecord.{PassedRecord}
+use Rattle.nx_edit.specs.RowPut.{PassesRow, piece_with_row}
+use Rattle.nx_edit.specs.Rows.{PassesLeft, with_left}
 use Rattle.nx_edit.proofs.PassedLemmas.{piece_same}
 
 has_record : (was : Held) (place : RecordPlace) (piece : Piece) → HoldsPiece was place piece → IsPieceRecord was place
@@ -68,8 +69,8 @@ put_back : (xs : List Proxy) (i : ℕ) (x : Proxy) → slice_get xs i ≡ Some x
 put_back xs i x e = ap (λ (n : ℕ). take i xs ++ (x ∷ drop n xs)) (let s : i + 1 ≡ suc i = omega arith in s) ∙ back_there xs i x e
 
 -- a piece is the same where a proxy comes in its own place
-pub row_stays : (piece : Piece) (index : ℕ) (row : List Proxy) → IsRowThere index row piece.proxies → piece_with_row index row piece ≡ piece
-row_stays piece index row (proxy, there, is) =
+pub row_stays : (piece : Piece) (index : ℕ) (row : List Proxy) (proxy : Proxy) → slice_get piece.proxies index ≡ Some proxy → row ≡ proxy ∷ [] → piece_with_row index row piece ≡ piece
+row_stays piece index row proxy there is =
     ap (λ (ps : List Proxy). piece_with_row index ps piece) is
     ∙ piece_same (piece_with_row index (proxy ∷ []) piece) piece (row_of_one index piece.body.roots)
     (append_assoc (take index piece.proxies) (proxy ∷ []) (drop (index + 1) piece.proxies) ∙ put_back piece.proxies index proxy there)
@@ -77,64 +78,29 @@ row_stays piece index row (proxy, there, is) =
 pub left_stays : (piece : Piece) (index : ℕ) (proxy : Proxy) → slice_get piece.proxies index ≡ Some proxy → with_left index (Some proxy) piece ≡ piece
 left_stays piece index proxy there = piece_same (with_left index (Some proxy) piece) piece refl (put_back piece.proxies index proxy there)
 
-got : (xs : List Proxy) (i : ℕ) (other : Proxy) → i < length xs → slice_get xs i ≡ Some (slice_index_or xs i other)
-got [] i other within = absurd (omega (arith, within))
-got (x ∷ xs) zero other within = refl
-got (x ∷ xs) (suc i) other within = got xs i other (omega (arith, within))
+-- a row of one proxy
+pub one_alone : (row : List Proxy) (proxy other : Proxy) → length row ≡ 1 → slice_index_or row 0 other ≡ proxy → row ≡ proxy ∷ []
+one_alone [] proxy other one same = absurd (omega (arith, one))
+one_alone (x ∷ []) proxy other one same = ap (λ (p : Proxy). p ∷ []) same
+one_alone (x ∷ y ∷ row) proxy other one same = absurd (omega (arith, one))
 
--- a row of one is there where its proxy is that at the index, and only there
-pub one_is_there : (proxies : List Proxy) (index : ℕ) (row : List Proxy) (other : Proxy) → index < length proxies → length row ≡ 1 → slice_index_or row 0 other ≡ slice_index_or proxies index other → IsRowThere index row proxies
-one_is_there proxies index [] other within one same = absurd (omega (arith, one))
-one_is_there proxies index (x ∷ []) other within one same = (x, got proxies index other within ∙ ap (λ (p : Proxy). Some p) (sym same), refl)
-one_is_there proxies index (x ∷ y ∷ row) other within one same = absurd (omega (arith, one))
-
-pub there_is_one : (proxies : List Proxy) (index : ℕ) (row : List Proxy) (other : Proxy) → index < length proxies → IsRowThere index row proxies → slice_index_or row 0 other ≡ slice_index_or proxies index other
-there_is_one proxies index row other within (proxy, there, is) =
-    let same = got proxies index other within in
-    ap (λ (ps : List Proxy). slice_index_or ps 0 other) is ∙ (let e : proxy ≡ slice_index_or proxies index other = cc in e)
-
-got_ranged : (xs : List Proxy) (i : ℕ) (x : Proxy) → slice_get xs i ≡ Some x → HaveRoots xs → HaveRoots (x ∷ [])
-got_ranged [] zero x e ranged = absurd (cc)
-got_ranged [] (suc i) x e ranged = absurd (cc)
-got_ranged (y ∷ xs) zero x e ranged = subst (λ (p : Proxy). HaveRoots (p ∷ [])) (let same : y ≡ x = cc in same) (ranged.0, ranged.1, tt)
-got_ranged (y ∷ xs) (suc i) x e ranged = got_ranged xs i x e ranged.2
-
--- a row that is there may stay
-pub row_may_stay : (piece : Piece) (index : ℕ) (row : List Proxy) → IsValidPiece piece → IsRowThere index row piece.proxies → MayHaveRow piece row
-row_may_stay piece index row valid (proxy, there, is) =
-    let long = ap length is in
-    let few = valid.body.few_proxies in
-    record {
-      some = omega (arith, long);
-      few = omega (arith, long, few);
-      ranged = subst HaveRoots (sym is) (got_ranged piece.proxies index proxy there valid.ranged);
-    }
-
--- the record of a row that is there stays under its proxy
-pub row_kept : {D : Type 0} (d : Ghosts D) (records : Records) (disk : D) (place : RecordPlace) (piece : Piece) (index : ℕ) (row put : List Proxy) (own : Proxy) → IsRowThere index row piece.proxies → place_named own ≡ place → own.roots ≡ gapped_width piece.body.roots → put ≡ own ∷ []
-    → ComesTidy d records records disk disk (λ was now. HoldsPiece was place piece → IsPutAlone place (piece_with_row index row piece) put was now)
-row_kept d records disk place piece index row put own there named roots is saved was stands tidy =
-    let same = sym (row_stays piece index row there) in (
-      was,
-      stands,
-      tidy,
-      λ holds. (
-        own,
-        is,
-        roots ∙ ap (λ (p : Piece). gapped_width p.body.roots) same,
-        subst (λ (p : Piece). UpdatesPiece place (place_named own) p was was) same (subst (λ (new : RecordPlace). UpdatesPiece place new piece was was) (sym named) (stays_updated was place piece holds)),
-      ),
+-- the record of a piece that a path leaves by a proxy stays, where the row is this proxy
+pub row_kept : (was : Held) (place : RecordPlace) (passed : PassedRecord) (row put : List Proxy) (own : Proxy) → row ≡ passed.proxy ∷ [] → place_named own ≡ place → own.roots ≡ passed.roots → put ≡ own ∷ [] → PassesRow place passed row put was was
+row_kept was place passed row put own alone named roots is piece holds at =
+    let same = sym (row_stays piece passed.index row passed.proxy at.0 alone) in (
+      own,
+      is,
+      roots ∙ at.1 ∙ ap (λ (p : Piece). gapped_width p.body.roots) same,
+      subst (λ (p : Piece). UpdatesPiece place (place_named own) p was was) same (subst (λ (new : RecordPlace). UpdatesPiece place new piece was was) (sym named) (stays_updated was place piece holds)),
     )
 
 -- so does the record where what is left of an interval has the proxy that it had
-pub left_kept : {D : Type 0} (d : Ghosts D) (records : Records) (disk : D) (place : RecordPlace) (piece : Piece) (index : ℕ) (proxy own : Proxy) → slice_get piece.proxies index ≡ Some proxy → place_named own ≡ place
-    → ComesTidy d records records disk disk (λ was now. HoldsPiece was place piece → UpdatesPiece place (place_named own) (with_left index (Some proxy) piece) was now)
-left_kept d records disk place piece index proxy own there named saved was stands tidy = (
-  was,
-  stands,
-  tidy,
-  λ holds. subst (λ (p : Piece). UpdatesPiece place (place_named own) p was was) (sym (left_stays piece index proxy there)) (subst (λ (new : RecordPlace). UpdatesPiece place new piece was was) (sym named) (stays_updated was place piece holds)),
-)
+pub left_kept : (was : Held) (place : RecordPlace) (passed : PassedRecord) (left : Option Proxy) (own : Proxy) → left ≡ Some passed.proxy → place_named own ≡ place → own.roots ≡ passed.roots → PassesLeft place passed left own was was
+left_kept was place passed left own is named roots piece holds at =
+    let same : piece ≡ with_left passed.index left piece = sym (ap (λ (o : Option Proxy). with_left passed.index o piece) is ∙ left_stays piece passed.index passed.proxy at.0) in (
+      roots ∙ at.1 ∙ ap (λ (p : Piece). gapped_width p.body.roots) same,
+      subst (λ (p : Piece). UpdatesPiece place (place_named own) p was was) same (subst (λ (new : RecordPlace). UpdatesPiece place new piece was was) (sym named) (stays_updated was place piece holds)),
+    )
 
 -- records that nothing was done with run on
 pub left_alone : {D : Type 0} (d : Ghosts D) (records : Records) (disk : D) → has_ended records ≡ false → RunsOn records records × KeepsSaved d records records disk disk
@@ -149,22 +115,8 @@ own_ranged piece own valid roots =
     let high : own.roots ≤ 256 = omega (arith, few, roots) in
     (low, high, tt)
 
--- a row that was put into the piece itself was put into the one that the record holds
-pub row_passed : {D : Type 0} (d : Ghosts D) (r0 r1 : Records) (x0 x1 : D) (place : RecordPlace) (own piece : Piece) (index : ℕ) (row put : List Proxy) → own ≡ piece
-    → MayHaveRow own row × ComesTidy d r0 r1 x0 x1 (IsPutAlone place (piece_with_row index row own) put)
-    → MayHaveRow piece row × ComesTidy d r0 r1 x0 x1 (λ was now. HoldsPiece was place piece → IsPutAlone place (piece_with_row index row piece) put was now)
-row_passed d r0 r1 x0 x1 place own piece index row put same done =
-    let comes = subst (λ (p : Piece). MayHaveRow p row × ComesTidy d r0 r1 x0 x1 (IsPutAlone place (piece_with_row index row p) put)) same done in (
-      comes.0,
-      λ saved was stands tidy.
-          let next = comes.1 saved was stands tidy in
-          (next.0, next.1, next.2, λ holds. next.3),
-    )
-
--- so was what is left of an interval
-pub left_passed : {D : Type 0} (d : Ghosts D) (r0 r1 : Records) (x0 x1 : D) (place : RecordPlace) (put new piece : Piece) (own : Proxy) → put ≡ new
-    → ComesTidy d r0 r1 x0 x1 (λ was now. UpdatesPiece place (place_named own) put was now)
-    → ComesTidy d r0 r1 x0 x1 (λ was now. HoldsPiece was place piece → UpdatesPiece place (place_named own) new was now)
-left_passed d r0 r1 x0 x1 place put new piece own same comes saved was stands tidy =
-    let next = comes saved was stands tidy in
-    (next.0, next.1, next.2, λ holds. subst (λ (p : Piece). UpdatesPiece place (place_named own) p was next.0) same next.3)
+pub roots_ranged : (own : Proxy) (roots : ℕ) → own.roots ≡ roots → 1 ≤ roots → roots ≤ 256 → HaveRoots (own ∷ [])
+roots_ranged own roots is some few =
+    let low : 1 ≤ own.roots = omega (arith, some, is) in
+    let high : own.roots ≤ 256 = omega (arith, few, is) in
+    (low, high, tt)

@@ -22,6 +22,8 @@ use Rattle.nx_layouts.specs.Cutting.{member_tree}
 use Rattle.nx_hold.specs.Pieces.{IsTidy, PieceMap}
 use Rattle.nx_drawn.specs.Edits.{inserted, retexted}
 use Rattle.nx_drawn.specs.Splits.{SplitsRow}
+use Rattle.nx_nav.specs.declared.routing.PassedRecord.{PassedRecord}
+use Rattle.nx_nav.specs.Route.{HasRoute}
 use Rattle.nx_edit.specs.declared.changing.Change.{Change}
 use Rattle.nx_edit.specs.declared.changing.Change.TheVariants as put
 use Rattle.nx_edit.specs.Editing.{places_off}
@@ -68,9 +70,9 @@ ChangesKnown rules known above change place position path proxies was now =
     (pieces : PieceMap was) (members : Layout) → IsHeldInterval was pieces known place position path most_nodes members → IsPossibleIn (was.settings).k rules change position path members
     → IsReplaced (was.settings).k (AreSplitOf was.settings rules above (changed_interval rules change position path members)) place members (places_off true (position ∷ way_of change path) members) proxies was now
 
--- the same where nothing is known of the piece
-abbrev pub ChangesIn : List Rule → (above : Option Node) → Change → (place : RecordPlace) (position : ℕ) (path : List ℕ) (proxies : List Proxy) (was now : Held) → Type 0
-ChangesIn rules above change place position path proxies was now = ChangesKnown rules None above change place position path proxies was now
+-- the same where the path passes these records and ends in this last piece
+abbrev pub ChangesAlong : List PassedRecord → (last : Piece) → List Rule → (above : Option Node) → Change → (place : RecordPlace) (position : ℕ) (path : List ℕ) (proxies : List Proxy) (was now : Held) → Type 0
+ChangesAlong passed last rules above change place position path proxies was now = HasRoute was place position path passed last → ChangesKnown rules None above change place position path proxies was now
 
 -- how many pages may be needed
 abbrev pub change_needs : List Rule → Change → (position : ℕ) (path : List ℕ) (members : Layout) → ℕ
@@ -82,23 +84,31 @@ OfChanged d records disk rules known change place position path P =
     (saved now : Held) (pieces : PieceMap now) (members : Layout) → StandsFor d records disk saved now → IsTidy now → IsHeldInterval now pieces known place position path most_nodes members
     → IsPossibleIn (now.settings).k rules change position path members → P now members
 
--- No page is free now, and fewer were free than it may need.
-pub record FindsFewToChange {D : Type 0} (d : Ghosts D) (rules : List Rule) (known : Option Piece) (change : Change) (place : RecordPlace) (position : ℕ) (path : List ℕ) (old new : Records) (before after : D) : Type 0 where
+-- ... and through whose record the path passes so
+abbrev pub OfChangedAlong : {D : Type 0} → Ghosts D → Records → D → List PassedRecord → (last : Piece) → List Rule → Change → RecordPlace → (position : ℕ) (path : List ℕ) → (Held → Layout → Type 0) → Type 0
+OfChangedAlong d records disk passed last rules change place position path P = OfChanged d records disk rules None change place position path (λ now members. HasRoute now place position path passed last → P now members)
+
+-- No page is free now, and fewer were free than it may need, of each interval that is spoken of.
+pub record FindsFewToChange {D : Type 0} (d : Ghosts D) (Of : (Held → Layout → Type 0) → Type 0) (rules : List Rule) (change : Change) (position : ℕ) (path : List ℕ) (old new : Records) (before after : D) : Type 0 where
   pub runs : RunsOn old new
   pub keeps : KeepsSaved d old new before after
   pub none_free : has_free new ≡ false
-  pub few : OfChanged d old before rules known change place position path (λ now members. now.free < change_needs rules change position path members)
+  pub few : Of (λ now members. now.free < change_needs rules change position path members)
 
--- Why the change wasn't made, and what that leaves.
+-- Why the change wasn't made of the intervals that are spoken of, and what that leaves.
+abbrev pub NotChangedOf : {D : Type 0} → Ghosts D → (Of : (Held → Layout → Type 0) → Type 0) → List Rule → Change → (position : ℕ) (path : List ℕ) → StoreError → Records → Records → D → D → Type 0
+NotChangedOf d Of rules change position path store.Disk old new before after = Rose (d.faults before) (d.faults after) × EndNow old new
+NotChangedOf d Of rules change position path store.Full old new before after = FindsFewToChange d Of rules change position path old new before after
+NotChangedOf d Of rules change position path (store.Damaged page) old new before after = EndNow old new × Of (λ now members. ⊥)
+NotChangedOf d Of rules change position path store.Memory old new before after = RunsOn old new × KeepsSaved d old new before after
+NotChangedOf d Of rules change position path store.Ended old new before after = ⊥
+NotChangedOf d Of rules change position path store.Exists old new before after = ⊥
+NotChangedOf d Of rules change position path store.NotAStore old new before after = ⊥
+
+-- ... of those whose piece may be known
 abbrev pub NotChangedKnown : {D : Type 0} → Ghosts D → List Rule → (known : Option Piece) → Change → RecordPlace → (position : ℕ) (path : List ℕ) → StoreError → Records → Records → D → D → Type 0
-NotChangedKnown d rules known change place position path store.Disk old new before after = Rose (d.faults before) (d.faults after) × EndNow old new
-NotChangedKnown d rules known change place position path store.Full old new before after = FindsFewToChange d rules known change place position path old new before after
-NotChangedKnown d rules known change place position path (store.Damaged page) old new before after = EndNow old new × OfChanged d old before rules known change place position path (λ now members. ⊥)
-NotChangedKnown d rules known change place position path store.Memory old new before after = RunsOn old new × KeepsSaved d old new before after
-NotChangedKnown d rules known change place position path store.Ended old new before after = ⊥
-NotChangedKnown d rules known change place position path store.Exists old new before after = ⊥
-NotChangedKnown d rules known change place position path store.NotAStore old new before after = ⊥
+NotChangedKnown d rules known change place position path e old new before after = NotChangedOf d (OfChanged d old before rules known change place position path) rules change position path e old new before after
 
--- the same where nothing is known of the piece
-abbrev pub NotChangedIn : {D : Type 0} → Ghosts D → List Rule → Change → RecordPlace → (position : ℕ) (path : List ℕ) → StoreError → Records → Records → D → D → Type 0
-NotChangedIn d rules change place position path e old new before after = NotChangedKnown d rules None change place position path e old new before after
+-- ... of those through whose record the path passes so
+abbrev pub NotChangedAlong : {D : Type 0} → Ghosts D → List PassedRecord → (last : Piece) → List Rule → Change → RecordPlace → (position : ℕ) (path : List ℕ) → StoreError → Records → Records → D → D → Type 0
+NotChangedAlong d passed last rules change place position path e old new before after = NotChangedOf d (OfChangedAlong d old before passed last rules change place position path) rules change position path e old new before after

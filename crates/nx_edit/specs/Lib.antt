@@ -6,6 +6,7 @@ pub mod Cutting
 pub mod Retexting
 pub mod Changing
 pub mod Growing
+pub mod Passing
 pub mod RowPut
 pub mod Planting
 pub mod Parting

@@ -68,21 +68,21 @@ NotEdited d can fault needs entry error.Ended old new before after = HadEnded ol
 NotEdited d can fault needs entry error.Memory old new before after = LeavesLastCommit d old new before after
 NotEdited d can fault needs entry e old new before after = (can e ≡ true) × LeavesLastCommit d old new before after × IsAtFault d fault entry e old before
 
--- the refusal of a call on one record
-abbrev pub edit_error : StoreError → EditError
-edit_error store.Disk = error.Disk
-edit_error store.Full = error.Full
-edit_error (store.Damaged page) = error.Damaged page
-edit_error store.Ended = error.Ended
-edit_error store.Memory = error.Memory
-edit_error store.Exists = error.Memory
-edit_error store.NotAStore = error.Memory
+-- the refusal of an edit whose call on one record was refused so; none speaks of a whole store
+abbrev pub edit_error : StoreError → Option EditError
+edit_error store.Disk = Some error.Disk
+edit_error store.Full = Some error.Full
+edit_error (store.Damaged page) = Some (error.Damaged page)
+edit_error store.Ended = Some error.Ended
+edit_error store.Memory = Some error.Memory
+edit_error store.Exists = None
+edit_error store.NotAStore = None
 
--- the refusal of a look at the document
-abbrev pub seen_error : NavError → EditError
-seen_error nav.NoNode = error.NoNode
-seen_error nav.Disk = error.Disk
-seen_error nav.Write = error.Memory
-seen_error (nav.Damaged page) = error.Damaged page
-seen_error nav.Ended = error.Ended
-seen_error nav.Memory = error.Memory
+-- ... and of one whose look at the document was; it gives no output
+abbrev pub seen_error : NavError → Option EditError
+seen_error nav.NoNode = Some error.NoNode
+seen_error nav.Disk = Some error.Disk
+seen_error nav.Write = None
+seen_error (nav.Damaged page) = Some (error.Damaged page)
+seen_error nav.Ended = Some error.Ended
+seen_error nav.Memory = Some error.Memory

@@ -17,6 +17,8 @@ use Rattle.nx_hold.specs.Pieces.{IsTidy, PieceMap}
 use Rattle.nx_hold.specs.Changes.{place_of}
 use Rattle.nx_hold.specs.Documents.{MovesRecords, HasDocument}
 use Rattle.nx_state.specs.State.{document_size}
+use Rattle.nx_edit.specs.declared.error.EditError.{EditError}
+use Rattle.nx_edit.specs.declared.error.EditError.TheVariants as told
 
 -- the places of the records of a document
 abbrev pub document_places : DocEntry → CutTree → Layout → List RecordPlace
@@ -70,11 +72,9 @@ abbrev pub HasNone : {D : Type 0} → Ghosts D → Records → D → DocEntry �
 HasNone d records disk entry = OfEntry d records disk entry (λ now document. ⊥)
 
 -- Why a document wasn't taken away, and what that leaves.
-abbrev pub NotRemoved : {D : Type 0} → Ghosts D → DocEntry → StoreError → Records → Records → D → D → Type 0
-NotRemoved d entry error.Disk old new before after = Rose (d.faults before) (d.faults after) × EndNow old new
-NotRemoved d entry (error.Damaged page) old new before after = EndNow old new × HasNone d old before entry
-NotRemoved d entry error.Ended old new before after = HadEnded old new before after
-NotRemoved d entry error.Memory old new before after = RunsOn old new × KeepsSaved d old new before after
-NotRemoved d entry error.Full old new before after = ⊥
-NotRemoved d entry error.Exists old new before after = ⊥
-NotRemoved d entry error.NotAStore old new before after = ⊥
+abbrev pub NotRemoved : {D : Type 0} → Ghosts D → DocEntry → EditError → Records → Records → D → D → Type 0
+NotRemoved d entry told.Disk old new before after = Rose (d.faults before) (d.faults after) × EndNow old new
+NotRemoved d entry (told.Damaged page) old new before after = EndNow old new × HasNone d old before entry
+NotRemoved d entry told.Ended old new before after = HadEnded old new before after
+NotRemoved d entry told.Memory old new before after = RunsOn old new × KeepsSaved d old new before after
+NotRemoved d entry _ old new before after = ⊥

@@ -1,6 +1,5 @@
 -- A row of proxies that comes in the place of one, in the piece of a record.
-use Rattle.std.specs.Prelude.{◌≡◌, ℕ, ◌+◌, ◌≤◌, List, [], ◌∷◌, ◌++◌, length, take, drop, Some}
-use Rattle.std.specs.List.{slice_get}
+use Rattle.std.specs.Prelude.{◌≡◌, ℕ, ◌+◌, ◌≤◌, List, [], ◌∷◌, ◌++◌, length, take, drop}
 use Rattle.nx_tree.specs.declared.node.Node.{Node}
 use Rattle.nx_records.specs.Words.{Held}
 use Rattle.nx_piece.specs.declared.piece.Piece.{Piece}
@@ -10,7 +9,10 @@ use Rattle.nx_piece_edits.specs.Cutting.{with_row}
 use Rattle.nx_piece.specs.Locate.{Inside, reached_in}
 use Rattle.nx_piece.specs.Valid.{HaveRoots}
 use Rattle.nx_layouts.specs.Layout.{RecordPlace}
+use Rattle.nx_hold.specs.Pieces.{HoldsPiece}
 use Rattle.nx_hold.specs.Changes.{place_named, UpdatesPiece}
+use Rattle.nx_nav.specs.declared.routing.PassedRecord.{PassedRecord}
+use Rattle.nx_edit.specs.Passing.{IsPassedAs}
 
 -- the row may come in the place of a proxy of the piece
 pub record MayHaveRow (piece : Piece) (row : List Proxy) : Type 0 where
@@ -25,10 +27,6 @@ piece_with_row index row piece = record {
   proxies = take index piece.proxies ++ row ++ drop (index + 1) piece.proxies;
 }
 
--- the row is the proxy that stands there among those of a piece
-abbrev pub IsRowThere : (index : ℕ) (row proxies : List Proxy) → Type 0
-IsRowThere index row proxies = (proxy : Proxy) × (slice_get proxies index ≡ Some proxy) × (row ≡ proxy ∷ [])
-
 -- the piece came in the place of a record, under one proxy
 abbrev pub IsPutAlone : (place : RecordPlace) (piece : Piece) (row : List Proxy) (was now : Held) → Type 0
 IsPutAlone place piece row was now = (proxy : Proxy) × (row ≡ proxy ∷ []) × (proxy.roots ≡ gapped_width piece.body.roots) × UpdatesPiece place (place_named proxy) piece was now
@@ -36,3 +34,7 @@ IsPutAlone place piece row was now = (proxy : Proxy) × (row ≡ proxy ∷ []) �
 -- the path leads to a tree of the piece, whose node this is
 abbrev pub IsNodeAt : Piece → ℕ → List ℕ → Node → Type 0
 IsNodeAt piece member path node = (tree : GappedTree) × (first : ℕ) × (reached_in piece member path ≡ Inside tree first) × (node ≡ tree.node)
+
+-- Whatever piece the record has that was passed: the row came in the place of its proxy, and the piece in the place of its record.
+abbrev pub PassesRow : (place : RecordPlace) → PassedRecord → (row put : List Proxy) → (was now : Held) → Type 0
+PassesRow place passed row put was now = (piece : Piece) → HoldsPiece was place piece → IsPassedAs passed piece → IsPutAlone place (piece_with_row passed.index row piece) put was now

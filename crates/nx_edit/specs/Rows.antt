@@ -15,13 +15,16 @@ use Rattle.nx_piece.specs.Gapped.{gapped_width}
 use Rattle.nx_cuts.specs.Cut.{CutForest, Bare, Kept, forest, AreParts}
 use Rattle.nx_cuts.specs.Rows.{changed_row}
 use Rattle.nx_layouts.specs.Layout.{RecordPlace, Layout, AreHeld, ArePlacedOnce, piece_of, places_of, proxies_of, without_places}
-use Rattle.nx_hold.specs.Pieces.{record_at, NamesList, IsTidy, PieceMap}
+use Rattle.nx_hold.specs.Pieces.{record_at, HoldsPiece, NamesList, IsTidy, PieceMap}
 use Rattle.nx_hold.specs.Changes.{place_named, UpdatesPiece, RemovesPiece}
 use Rattle.nx_hold.specs.Documents.{MovesRecords}
 use Rattle.nx_drawn.specs.Edits.{removed_row, deleted}
 use Rattle.nx_piece_edits.specs.Cutting.{without_proxy}
 use Rattle.nx_layouts.specs.Cutting.{member_tree}
+use Rattle.nx_nav.specs.declared.routing.PassedRecord.{PassedRecord}
+use Rattle.nx_nav.specs.Route.{HasRoute}
 use Rattle.nx_edit.specs.Editing.{places_off}
+use Rattle.nx_edit.specs.Passing.{IsPassedAs}
 
 -- a row without the tree at the path, whose first position is that of a tree of the row
 abbrev pub deleted_row : List ℕ → CutForest → CutForest
@@ -73,6 +76,10 @@ DeletesIn known place position path limit gone proxies was now =
     (pieces : PieceMap was) (members : Layout) → IsHeldInterval was pieces known place position path limit members
     → IsReplaced (was.settings).k (IsLeftOf position path gone members) place members (places_off false (position ∷ path) members) proxies was now
 
+-- the same where the path passes these records and ends in this last piece
+abbrev pub DeletesAlong : List PassedRecord → (last : Piece) → (place : RecordPlace) (position : ℕ) (path : List ℕ) (limit gone : ℕ) (proxies : List Proxy) → (was now : Held) → Type 0
+DeletesAlong passed last place position path limit gone proxies was now = HasRoute was place position path passed last → DeletesIn None place position path limit gone proxies was now
+
 -- of each such interval that the record at the place may be that of
 abbrev pub OfInterval : {D : Type 0} → Ghosts D → Records → D → (known : Option Piece) → RecordPlace → (position : ℕ) → (path : List ℕ) → (limit : ℕ) → (Held → Layout → Type 0) → Type 0
 OfInterval d records disk known place position path limit P =
@@ -82,22 +89,34 @@ OfInterval d records disk known place position path limit P =
 abbrev pub left_needs : (position : ℕ) (path : List ℕ) (members : Layout) → ℕ
 left_needs position path members = row_nodes (without_places members) + 2 * row_nodes (left_of position path members)
 
--- No page is free now, and fewer were free than it may need.
-pub record FindsFewIn {D : Type 0} (d : Ghosts D) (known : Option Piece) (place : RecordPlace) (position : ℕ) (path : List ℕ) (limit : ℕ) (old new : Records) (before after : D) : Type 0 where
+-- ... and through whose record the path passes so
+abbrev pub OfIntervalAlong : {D : Type 0} → Ghosts D → Records → D → List PassedRecord → (last : Piece) → RecordPlace → (position : ℕ) → (path : List ℕ) → (limit : ℕ) → (Held → Layout → Type 0) → Type 0
+OfIntervalAlong d records disk passed last place position path limit P = OfInterval d records disk None place position path limit (λ now members. HasRoute now place position path passed last → P now members)
+
+-- No page is free now, and fewer were free than it may need, of each interval that is spoken of.
+pub record FindsFewIn {D : Type 0} (d : Ghosts D) (Of : (Held → Layout → Type 0) → Type 0) (position : ℕ) (path : List ℕ) (old new : Records) (before after : D) : Type 0 where
   pub runs : RunsOn old new
   pub keeps : KeepsSaved d old new before after
   pub none_free : has_free new ≡ false
-  pub few : OfInterval d old before known place position path limit (λ now members. now.free < left_needs position path members)
+  pub few : Of (λ now members. now.free < left_needs position path members)
 
--- Why a tree wasn't taken out of an interval, and what that leaves.
+-- Why a tree wasn't taken out of the intervals that are spoken of, and what that leaves.
+abbrev pub NotDeletedOf : {D : Type 0} → Ghosts D → (Of : (Held → Layout → Type 0) → Type 0) → (position : ℕ) → (path : List ℕ) → StoreError → Records → Records → D → D → Type 0
+NotDeletedOf d Of position path store.Disk old new before after = Rose (d.faults before) (d.faults after) × EndNow old new
+NotDeletedOf d Of position path store.Full old new before after = FindsFewIn d Of position path old new before after
+NotDeletedOf d Of position path (store.Damaged page) old new before after = EndNow old new × Of (λ now members. ⊥)
+NotDeletedOf d Of position path store.Memory old new before after = RunsOn old new × KeepsSaved d old new before after
+NotDeletedOf d Of position path store.Ended old new before after = ⊥
+NotDeletedOf d Of position path store.Exists old new before after = ⊥
+NotDeletedOf d Of position path store.NotAStore old new before after = ⊥
+
+-- ... of those whose piece may be known
 abbrev pub NotDeletedIn : {D : Type 0} → Ghosts D → (known : Option Piece) → RecordPlace → (position : ℕ) → (path : List ℕ) → (limit : ℕ) → StoreError → Records → Records → D → D → Type 0
-NotDeletedIn d known place position path limit store.Disk old new before after = Rose (d.faults before) (d.faults after) × EndNow old new
-NotDeletedIn d known place position path limit store.Full old new before after = FindsFewIn d known place position path limit old new before after
-NotDeletedIn d known place position path limit (store.Damaged page) old new before after = EndNow old new × OfInterval d old before known place position path limit (λ now members. ⊥)
-NotDeletedIn d known place position path limit store.Memory old new before after = RunsOn old new × KeepsSaved d old new before after
-NotDeletedIn d known place position path limit store.Ended old new before after = ⊥
-NotDeletedIn d known place position path limit store.Exists old new before after = ⊥
-NotDeletedIn d known place position path limit store.NotAStore old new before after = ⊥
+NotDeletedIn d known place position path limit e old new before after = NotDeletedOf d (OfInterval d old before known place position path limit) position path e old new before after
+
+-- ... of those through whose record the path passes so
+abbrev pub NotDeletedAlong : {D : Type 0} → Ghosts D → List PassedRecord → (last : Piece) → RecordPlace → (position : ℕ) → (path : List ℕ) → (limit : ℕ) → StoreError → Records → Records → D → D → Type 0
+NotDeletedAlong d passed last place position path limit e old new before after = NotDeletedOf d (OfIntervalAlong d old before passed last place position path limit) position path e old new before after
 
 -- what is left of a piece came in the place of its record, under this proxy; nothing did where it has no root
 abbrev pub IsRestPut : (place : RecordPlace) (rest : Piece) (left : Option Proxy) (was now : Held) → Type 0
@@ -111,3 +130,8 @@ with_left index None piece = record {
   proxies = take index piece.proxies ++ drop (index + 1) piece.proxies;
 }
 with_left index (Some proxy) piece = record { body = piece.body; proxies = take index piece.proxies ++ proxy ∷ drop (index + 1) piece.proxies }
+
+-- Whatever piece the record has that was passed: what is left of the interval came in the place of its proxy, and the piece in the place of its record.
+abbrev pub PassesLeft : (place : RecordPlace) → PassedRecord → (left : Option Proxy) (own : Proxy) → (was now : Held) → Type 0
+PassesLeft place passed left own was now =
+    (piece : Piece) → HoldsPiece was place piece → IsPassedAs passed piece → (own.roots ≡ gapped_width (with_left passed.index left piece).body.roots) × UpdatesPiece place (place_named own) (with_left passed.index left piece) was now

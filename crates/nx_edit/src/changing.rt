@@ -1,5 +1,5 @@
 // What comes in the place of an interval below which a node gets another content or another child.
-ghost use Rattle.std.specs.Prelude.{◌≡◌, ◌<◌, ◌≤◌, Some, false, length, IfOk, IfErr, OnOk, IsTrue, ◌↔◌};
+ghost use Rattle.std.specs.Prelude.{◌≡◌, ◌<◌, ◌≤◌, ◌∷◌, [], None, Some, false, length, IfOk, IfErr, OnOk, IsTrue, ◌↔◌};
 ghost use Rattle.std.specs.Option.{option_copied};
 ghost use Rattle.nx_host.specs.Still.{IsStill};
 ghost use Rattle.nx_weights.specs.Weight.{weight};
@@ -7,21 +7,23 @@ ghost use Rattle.nx_records.specs.Records.{KeepsSaved, HasChanges, has_ended};
 ghost use Rattle.nx_records.specs.Refusals.{RunsOn, NotStored};
 ghost use Rattle.nx_piece_edits.specs.Setting.{LeadsInside};
 ghost use Rattle.nx_piece.specs.Valid.{HaveRoots, IsPiece, IsValidPiece};
-ghost use Rattle.nx_hold.specs.Pieces.{HoldsNone, HoldsPiece};
+ghost use Rattle.nx_hold.specs.Pieces.{HoldsNone};
 ghost use Rattle.nx_hold.specs.Changes.{ComesTidy, piece_needs, place_of};
 ghost use Rattle.nx_edit.specs.declared.changing.Change.TheVariants as put;
-ghost use Rattle.nx_edit.specs.Changing.{ChangesIn, ChangesKnown, NotChangedIn, NotChangedKnown};
-ghost use Rattle.nx_edit.specs.RowPut.{IsNodeAt, IsPutAlone, IsRowThere, MayHaveRow, piece_with_row};
+ghost use Rattle.nx_nav.specs.Route.{EndsInside};
+ghost use Rattle.nx_edit.specs.Changing.{ChangesAlong, ChangesKnown, NotChangedAlong, NotChangedKnown};
+ghost use Rattle.nx_edit.specs.Passing.{NotPassed};
+ghost use Rattle.nx_edit.specs.RowPut.{IsNodeAt, IsPutAlone, MayHaveRow, PassesRow, piece_with_row};
 
 use crate::growing::put_grown;
-use crate::keeping::{own_proxy, stays_at};
+use crate::keeping::{is_alone, own_proxy};
 use crate::planting::plant_own;
 use crate::removing::damaged;
-use nx_hold::{update_piece, view_piece};
+use nx_hold::{read_piece, update_piece};
 use nx_host::Disk;
-use nx_lists::NoMemory;
 use nx_matrix::Matrix;
-use nx_piece::{Located, LocatedView, Piece, PieceView, Proxies, Proxy, find, locate};
+use nx_nav::{PassedRecord, Route};
+use nx_piece::{Located, Piece, Proxies, Proxy, locate};
 use nx_piece_edits::{replace_by_row, set_content};
 use nx_records::{Records, Rid, StoreError};
 use nx_tree::{Bytes, Node};
@@ -36,10 +38,44 @@ pub(crate) enum Change {
     Child { position: u32, node: Node },
 }
 
+// Makes a change of the node of a document that the path leads to, by the way that was kept, as `change_in`.
+pub(crate) fn change_at<D: Disk>(
+    alloc: Global,
+    records: &mut Records,
+    disk: &mut D,
+    matrix: &Matrix,
+    root: Rid,
+    path: &[u32],
+    route: Route,
+    change: Change,
+) -> Result<Proxies, StoreError>
+    requires runs { has_ended records.old ≡ false }
+    requires ends { EndsInside 0 path.now route.passed.items route.last }
+    ensures still { IsStill D.Disk disk.old disk.new }
+    ensures ok { IfOk result (λ row. ComesTidy D.Disk records.old records.new disk.old disk.new (ChangesAlong route.passed.items route.last matrix.now None change (place_of root) 0 path.now row)) }
+    ensures keeps { OnOk result (RunsOn records.old records.new × KeepsSaved D.Disk records.old records.new disk.old disk.new × HasChanges records.new) }
+    ensures refused { IfErr result (λ e. NotChangedAlong D.Disk route.passed.items route.last matrix.now change (place_of root) 0 path.now e records.old records.new disk.old disk.new) }
+{
+    let Route { passed, last } = route;
+    change_in(
+        alloc,
+        records,
+        disk,
+        matrix,
+        root,
+        None,
+        0,
+        path,
+        passed.as_slice(),
+        last,
+        change,
+    )
+}
+
 // Makes a change of the node that the path leads to, which begins with the position of a member of the interval whose
-// record stands there. It answers the proxies of the intervals that come in its place: one, where its part doesn't
-// outweigh K, or those of a split. `above` is the node above the interval. It speaks of intervals where the path leads to
-// a node of which the change may be made.
+// record stands there, passes these records, and ends in the record of the last piece. It answers the proxies of the
+// intervals that come in its place: one, where its part doesn't outweigh K, or those of a split. `above` is the node above
+// the interval. It speaks of intervals of whose node the change may be made.
 pub(crate) fn change_in<D: Disk>(
     alloc: Global,
     records: &mut Records,
@@ -49,40 +85,25 @@ pub(crate) fn change_in<D: Disk>(
     above: Option<&Node>,
     member: u16,
     path: &[u32],
+    passed: &[PassedRecord],
+    last: Piece,
     change: Change,
 ) -> Result<Proxies, StoreError>
-    requires { has_ended records.old ≡ false }
+    requires runs { has_ended records.old ≡ false }
+    requires ends { EndsInside member path.now passed.now last }
     ensures still { IsStill D.Disk disk.old disk.new }
-    ensures ok { IfOk result (λ row. ComesTidy D.Disk records.old records.new disk.old disk.new (ChangesIn matrix.now (option_copied above.entry) change (place_of rid) member path.now row)) }
+    ensures ok { IfOk result (λ row. ComesTidy D.Disk records.old records.new disk.old disk.new (ChangesAlong passed.now last matrix.now (option_copied above.entry) change (place_of rid) member path.now row)) }
     ensures keeps { OnOk result (RunsOn records.old records.new × KeepsSaved D.Disk records.old records.new disk.old disk.new × HasChanges records.new) }
-    ensures refused { IfErr result (λ e. NotChangedIn D.Disk matrix.now change (place_of rid) member path.now e records.old records.new disk.old disk.new) }
+    ensures refused { IfErr result (λ e. NotChangedAlong D.Disk passed.now last matrix.now change (place_of rid) member path.now e records.old records.new disk.old disk.new) }
 {
-    let mut bytes = Bytes::new(alloc);
-    let piece = view_piece(alloc, records, disk, rid, &mut bytes)?;
-    let (proxy, index, next, used) = match find(&piece, member, path) {
-        LocatedView::Nowhere => return Err(damaged(records, rid.page)),
-        LocatedView::Here { .. } => {
-            let Ok(own) = piece.into_piece(alloc) else {
-                return Err(StoreError::Memory);
-            };
-            return change_own(
-                alloc, records, disk, matrix, rid, above, own, member, path, change,
-            );
-        }
-        LocatedView::Away {
-            proxy,
-            index,
-            member: next,
-            used,
-        } => (proxy, index, next, used),
+    let Some((first, more)) = passed.split_first() else {
+        return change_own(
+            alloc, records, disk, matrix, rid, above, last, member, path, change,
+        );
     };
     let below = Rid {
-        page: proxy.page,
-        slot: proxy.slot,
-    };
-    let split = used as usize;
-    let Ok(node) = copy_node(alloc, &piece, member, &path[..split - 1]) else {
-        return Err(StoreError::Memory);
+        page: first.proxy.page,
+        slot: first.proxy.slot,
     };
     let row = change_in(
         alloc,
@@ -90,12 +111,14 @@ pub(crate) fn change_in<D: Disk>(
         disk,
         matrix,
         below,
-        Some(&node),
-        next,
-        &path[split..],
+        Some(&first.above),
+        first.member,
+        &path[first.used as usize..],
+        more,
+        last,
         change,
     )?;
-    pass_row(alloc, records, disk, rid, piece, index, row.as_slice())
+    pass_row(alloc, records, disk, rid, first, row.as_slice())
 }
 
 // The same where the node is one of the record's own, whose piece this is.
@@ -173,23 +196,6 @@ pub(crate) fn node_at<'a>(piece: &'a Piece, member: u16, path: &[u32]) -> &'a No
     }
 }
 
-// A copy of the node that the path leads to in a view.
-fn copy_node(
-    alloc: Global,
-    piece: &PieceView<'_>,
-    member: u16,
-    path: &[u32],
-) -> Result<Node, NoMemory>
-    requires piece { IsPiece piece.now }
-    requires leads { LeadsInside piece.now member path.now }
-    ensures { IfOk result (λ node. IsNodeAt piece.now member path.now node) }
-{
-    match find(piece, member, path) {
-        LocatedView::Here { tree, .. } => tree.node.to_node(alloc),
-        LocatedView::Away { .. } | LocatedView::Nowhere => unreachable!(),
-    }
-}
-
 // The node doesn't outweigh `k` with this content.
 pub(crate) fn may_have(node: &Node, content: &[u8], k: u32) -> bool
     requires some { 1 ≤ k }
@@ -200,37 +206,35 @@ pub(crate) fn may_have(node: &Node, content: &[u8], k: u32) -> bool
     node.name.len() <= most && content.len() <= most - node.name.len()
 }
 
-// Puts a row of proxies in the place of one of the piece that a record holds; it answers the record's own proxy. Where
-// the row is the proxy that stands there, the record stays, and nothing of it is copied. Where the row can't stand there,
-// the records hold no document.
+// Puts a row of proxies in the place of the one by which the path left a record's piece; it answers the record's own proxy.
+// Where the row is that proxy, the record stays, and isn't read again. Where the row can't stand there, the records hold no
+// document.
 fn pass_row<D: Disk>(
     alloc: Global,
     records: &mut Records,
     disk: &mut D,
     rid: Rid,
-    piece: PieceView<'_>,
-    index: u32,
+    passed: &PassedRecord,
     row: &[Proxy],
 ) -> Result<Proxies, StoreError>
-    requires runs { has_ended records.old ≡ false }
-    requires valid { IsValidPiece piece }
-    requires within { index < length piece.proxies }
+    requires { has_ended records.old ≡ false }
     ensures still { IsStill D.Disk disk.old disk.new }
-    ensures unwritten { OnOk result (IsRowThere index row.now piece.entry.proxies → (records.new ≡ records.old) × (disk.new ≡ disk.old)) }
-    ensures ok { IfOk result (λ put. MayHaveRow piece.entry row.now × ComesTidy D.Disk records.old records.new disk.old disk.new (λ was now. HoldsPiece was (place_of rid) piece.entry → IsPutAlone (place_of rid) (piece_with_row index row.now piece.entry) put was now)) }
+    ensures unwritten { OnOk result (row.now ≡ passed.now.proxy ∷ [] → (records.new ≡ records.old) × (disk.new ≡ disk.old)) }
+    ensures ok { IfOk result (λ put. ComesTidy D.Disk records.old records.new disk.old disk.new (PassesRow (place_of rid) passed.now row.now put)) }
     ensures keeps { OnOk result (RunsOn records.old records.new × KeepsSaved D.Disk records.old records.new disk.old disk.new × (HasChanges records.old → HasChanges records.new)) }
-    ensures refused { IfErr result (λ e. NotStored D.Disk (λ was. piece_needs (piece_with_row index row.now piece.entry)) (λ was. MayHaveRow piece.entry row.now → HoldsNone was (place_of rid)) rid.page e records.old records.new disk.old disk.new) }
+    ensures refused { IfErr result (λ e. NotPassed D.Disk (place_of rid) passed.now (piece_with_row passed.now.index row.now) (λ piece. MayHaveRow piece row.now) e records.old records.new disk.old disk.new) }
 {
-    if stays_at(piece.proxies.as_slice(), index, row) {
-        let Ok(put) = Proxies::from_slice(alloc, &[own_proxy(rid, &piece)]) else {
+    if is_alone(row, passed.proxy) {
+        let Ok(put) = Proxies::from_slice(alloc, &[own_proxy(rid, passed.roots)]) else {
             return Err(StoreError::Memory);
         };
         return Ok(put);
     }
-    let Ok(piece) = piece.into_piece(alloc) else {
-        return Err(StoreError::Memory);
-    };
-    put_row(alloc, records, disk, rid, piece, index, row)
+    let piece = read_piece(alloc, records, disk, rid)?;
+    if piece.proxies.len() <= passed.index as usize {
+        return Err(damaged(records, rid.page));
+    }
+    put_row(alloc, records, disk, rid, piece, passed.index, row)
 }
 
 // Puts a row of proxies in the place of one of the piece, and the piece in the place of its record; it answers the

@@ -13,10 +13,11 @@ ghost use Rattle.nx_edit.specs.Editing.{EditsDocument};
 ghost use Rattle.nx_edit.specs.Refusals.{NotEdited, deletion_fault, is_of_path, edit_needs};
 
 use crate::EditError;
-use crate::rows::delete_in;
+use crate::error::{edit_error, seen_error};
+use crate::rows::delete_at;
 use nx_hold::DocEntry;
 use nx_host::Disk;
-use nx_nav::get;
+use nx_nav::{Routed, get_route};
 use nx_records::{Records, Rid};
 use nx_tree::Kind;
 use std::alloc::Global;
@@ -48,11 +49,19 @@ pub fn delete<D: Disk>(
     if path.is_empty() {
         return Err(EditError::BadPlace);
     }
-    let shown = get(alloc, records, disk, entry.root, path)?;
+    let found = match get_route(alloc, records, disk, entry.root, path, None) {
+        Ok(found) => found,
+        Err(error) => return Err(seen_error(error)),
+    };
+    let Routed { shown, route, .. } = found;
     if is_root_element(path, shown.node.kind) {
         return Err(EditError::BadPlace);
     }
-    let taken = delete_in(alloc, records, disk, entry.root, 0, path, entry.nodes)?;
+    let limit = entry.nodes;
+    let taken = match delete_at(alloc, records, disk, entry.root, path, route, limit) {
+        Ok(taken) => taken,
+        Err(error) => return Err(edit_error(error)),
+    };
     match taken.left {
         None => Err(no_document(records, entry.root.page)),
         Some(proxy) => Ok(DocEntry {

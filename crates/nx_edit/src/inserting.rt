@@ -15,8 +15,9 @@ ghost use Rattle.nx_edit.specs.Refusals.{NotEdited, edit_needs};
 ghost use Rattle.nx_edit.specs.Inserting.{insertion_fault, is_of_insertion};
 
 use crate::EditError;
-use crate::changing::{Change, change_in};
+use crate::changing::{Change, change_at};
 use crate::deleting::no_document;
+use crate::error::edit_error;
 use crate::placing::check_place;
 use crate::retexting::first_of;
 use nx_hold::DocEntry;
@@ -63,7 +64,7 @@ pub fn insert<D: Disk>(
     let depth = path.len() - 1;
     let parent = &path[..depth];
     let position = path[depth];
-    check_place(alloc, records, disk, entry, parent, position, &node)?;
+    let route = check_place(alloc, records, disk, entry, parent, position, &node)?;
     if path.len() > DEEPEST {
         return Err(EditError::TooDeep);
     }
@@ -75,9 +76,12 @@ pub fn insert<D: Disk>(
         return Err(EditError::TooHeavy { weight: heavy });
     }
     let change = Change::Child { position, node };
-    let row = change_in(
-        alloc, records, disk, matrix, entry.root, None, 0, parent, change,
-    )?;
+    let row = match change_at(
+        alloc, records, disk, matrix, entry.root, parent, route, change,
+    ) {
+        Ok(row) => row,
+        Err(error) => return Err(edit_error(error)),
+    };
     match first_of(&row) {
         None => Err(no_document(records, entry.root.page)),
         Some(proxy) => Ok(DocEntry {

@@ -19,7 +19,7 @@ mod retexting;
 mod rows;
 
 pub use deleting::delete;
-pub use error::EditError;
+pub use error::{EditError, edit_error};
 pub use inserting::insert;
 pub use removing::remove_document;
 pub use retexting::retext;

@@ -3,15 +3,17 @@ ghost use Rattle.std.specs.Prelude.{◌≡◌, ◌≢◌, ◌++◌, ◌≤◌, f
 ghost use Rattle.nx_host.specs.Still.{IsStill};
 ghost use Rattle.nx_records.specs.Records.{KeepsSaved, HasChanges, has_ended};
 ghost use Rattle.nx_records.specs.Refusals.{RunsOn, EndNow, NotChanged};
-ghost use Rattle.nx_piece.specs.Gapped.{gapped_size, gapped_nodes};
+ghost use Rattle.nx_piece.specs.Gapped.{gapped_nodes};
 ghost use Rattle.nx_layouts.specs.Layout.{Layout, piece_body, piece_of, proxies_of};
 ghost use Rattle.nx_hold.specs.Pieces.{HoldsPiece, HoldsNone};
 ghost use Rattle.nx_hold.specs.Changes.{ComesTidy, RemovesPiece, place_named};
 ghost use Rattle.nx_edit.specs.Removing.{RemovesRow, NotRemovedRow, RemovesDocument, NotRemoved};
 
-use nx_hold::{DocEntry, read_piece, remove_piece};
+use crate::EditError;
+use crate::error::edit_error;
+use nx_hold::{DocEntry, take_piece};
 use nx_host::Disk;
-use nx_piece::{Body, Proxy, count_nodes};
+use nx_piece::Proxy;
 use nx_records::{Records, Rid, StoreError};
 use std::alloc::Global;
 
@@ -26,22 +28,24 @@ pub fn remove_document<D: Disk>(
     records: &mut Records,
     disk: &mut D,
     entry: DocEntry,
-) -> Result<(), StoreError>
+) -> Result<(), EditError>
     ensures still { IsStill D.Disk disk.old disk.new }
     ensures ok { OnOk result (ComesTidy D.Disk records.old records.new disk.old disk.new (RemovesDocument entry)) }
     ensures keeps { OnOk result (RunsOn records.old records.new × KeepsSaved D.Disk records.old records.new disk.old disk.new × HasChanges records.new) }
     ensures refused { IfErr result (λ e. NotRemoved D.Disk entry e records.old records.new disk.old disk.new) }
 {
     if records.is_ended() {
-        return Err(StoreError::Ended);
+        return Err(EditError::Ended);
     }
     let root = Proxy {
         page: entry.root.page,
         slot: entry.root.slot,
         roots: 1,
     };
-    remove_rows(alloc, records, disk, &[root], entry.nodes)?;
-    Ok(())
+    match remove_rows(alloc, records, disk, &[root], entry.nodes) {
+        Ok(_) => Ok(()),
+        Err(error) => Err(edit_error(error)),
+    }
 }
 
 // Takes the records that the proxies name away, and all below them, and answers how many nodes they had. It speaks of
@@ -95,25 +99,11 @@ fn remove_record<D: Disk>(
         page: proxy.page,
         slot: proxy.slot,
     };
-    let piece = read_piece(alloc, records, disk, rid)?;
-    remove_piece(alloc, records, disk, rid)?;
-    let Ok(()) = stack.extend_from_slice(piece.proxies.as_slice()) else {
+    let taken = take_piece(alloc, records, disk, rid)?;
+    let Ok(()) = stack.extend_from_slice(taken.proxies.as_slice()) else {
         return Err(StoreError::Memory);
     };
-    Ok(nodes_in(&piece.body))
-}
-
-// How many nodes a piece has.
-#[tactic(auto, using(nx_piece::proofs::WalkLemmas::nodes_most))]
-fn nodes_in(body: &Body) -> u32
-    requires { gapped_size body.now.roots ≤ 256 }
-    ensures { result ≡ gapped_nodes body.now.roots }
-{
-    let mut nodes = 0;
-    for root in body.roots.as_slice() {
-        nodes += count_nodes(root);
-    }
-    nodes
+    Ok(taken.nodes)
 }
 
 // Ends the records, and answers that a page is damaged.

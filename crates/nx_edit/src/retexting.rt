@@ -16,13 +16,14 @@ ghost use Rattle.nx_edit.specs.Refusals.{NotEdited, edit_needs};
 ghost use Rattle.nx_edit.specs.Retexting.{content_fault, is_of_content};
 
 use crate::EditError;
-use crate::changing::{Change, change_in};
+use crate::changing::{Change, change_at};
 use crate::deleting::no_document;
+use crate::error::{edit_error, seen_error};
 use nx_hold::DocEntry;
 use nx_host::Disk;
 use nx_lists::LONGEST_NODE;
 use nx_matrix::Matrix;
-use nx_nav::get;
+use nx_nav::{Routed, get_route};
 use nx_piece::{Proxies, Proxy};
 use nx_records::{Records, Rid};
 use nx_tree::{Bytes, Kind, Node};
@@ -58,7 +59,11 @@ pub fn retext<D: Disk>(
     if records.is_ended() {
         return Err(EditError::Ended);
     }
-    let shown = get(alloc, records, disk, entry.root, path)?;
+    let found = match get_route(alloc, records, disk, entry.root, path, None) {
+        Ok(found) => found,
+        Err(error) => return Err(seen_error(error)),
+    };
+    let Routed { shown, route, .. } = found;
     let node = with_content(shown.node, content);
     if !is_short(&node) {
         return Err(EditError::TooLong);
@@ -70,17 +75,13 @@ pub fn retext<D: Disk>(
     if heavy > records.settings().k {
         return Err(EditError::TooHeavy { weight: heavy });
     }
-    let row = change_in(
-        alloc,
-        records,
-        disk,
-        matrix,
-        entry.root,
-        None,
-        0,
-        path,
-        Change::Content(node.content),
-    )?;
+    let change = Change::Content(node.content);
+    let row = match change_at(
+        alloc, records, disk, matrix, entry.root, path, route, change,
+    ) {
+        Ok(row) => row,
+        Err(error) => return Err(edit_error(error)),
+    };
     match first_of(&row) {
         None => Err(no_document(records, entry.root.page)),
         Some(proxy) => Ok(DocEntry {

@@ -1,6 +1,5 @@
 // What comes in the place of an interval below which a tree is taken away.
-ghost use Rattle.std.specs.Prelude.{◌≡◌, ◌<◌, ◌≤◌, ℕ, [], ◌∷◌, Some, None, false, length, IfOk, IfErr, OnOk};
-ghost use Rattle.std.specs.List.{slice_get};
+ghost use Rattle.std.specs.Prelude.{◌≡◌, ◌<◌, ◌≤◌, ℕ, [], ◌∷◌, Some, false, length, IfOk, IfErr, OnOk};
 ghost use Rattle.std.specs.Option.{option_to_list};
 ghost use Rattle.nx_host.specs.Still.{IsStill};
 ghost use Rattle.nx_records.specs.Records.{KeepsSaved, HasChanges, has_ended};
@@ -8,18 +7,20 @@ ghost use Rattle.nx_records.specs.Refusals.{RunsOn, NotStored};
 ghost use Rattle.nx_piece.specs.Gapped.{GappedTree, gapped_width};
 ghost use Rattle.nx_piece.specs.Locate.{Inside, reached_in};
 ghost use Rattle.nx_piece.specs.Valid.{HaveRoots, IsValidPiece};
-ghost use Rattle.nx_hold.specs.Pieces.{HoldsNone, HoldsPiece};
-ghost use Rattle.nx_hold.specs.Changes.{ComesTidy, UpdatesPiece, piece_needs, place_named, place_of};
-ghost use Rattle.nx_edit.specs.Rows.{DeletesIn, IsRestPut, NotDeletedIn, with_left};
+ghost use Rattle.nx_hold.specs.Pieces.{HoldsNone};
+ghost use Rattle.nx_hold.specs.Changes.{ComesTidy, piece_needs, place_of};
+ghost use Rattle.nx_nav.specs.Route.{EndsInside};
+ghost use Rattle.nx_edit.specs.Passing.{NotPassed};
+ghost use Rattle.nx_edit.specs.Rows.{DeletesAlong, DeletesIn, IsRestPut, NotDeletedAlong, NotDeletedIn, PassesLeft, with_left};
 
 use crate::keeping::{is_left_same, own_proxy};
 use crate::removing::{damaged, remove_rows};
-use nx_hold::{remove_piece, update_piece, view_piece};
+use nx_hold::{read_piece, remove_piece, update_piece};
 use nx_host::Disk;
-use nx_piece::{LocatedView, Piece, PieceView, Proxy, count_nodes, find};
+use nx_nav::{PassedRecord, Route};
+use nx_piece::{Piece, Proxy, count_nodes};
 use nx_piece_edits::{remove_proxy, remove_tree, replace_proxy};
 use nx_records::{Records, Rid, StoreError};
-use nx_tree::Bytes;
 use std::alloc::Global;
 
 // What is left of an interval, and how many nodes went.
@@ -30,57 +31,81 @@ pub(crate) struct Taken {
     pub(crate) gone: u32,
 }
 
+// Takes the tree of a document away that the path leads to, by the way that was kept, as `delete_in`.
+pub(crate) fn delete_at<D: Disk>(
+    alloc: Global,
+    records: &mut Records,
+    disk: &mut D,
+    root: Rid,
+    path: &[u32],
+    route: Route,
+    limit: u32,
+) -> Result<Taken, StoreError>
+    requires runs { has_ended records.old ≡ false }
+    requires ends { EndsInside 0 path.now route.passed.items route.last }
+    ensures still { IsStill D.Disk disk.old disk.new }
+    ensures few { IfOk result (λ taken. taken.gone ≤ limit) }
+    ensures ok { IfOk result (λ taken. ComesTidy D.Disk records.old records.new disk.old disk.new (DeletesAlong route.passed.items route.last (place_of root) 0 path.now limit taken.gone (option_to_list taken.left))) }
+    ensures keeps { OnOk result (RunsOn records.old records.new × KeepsSaved D.Disk records.old records.new disk.old disk.new × HasChanges records.new) }
+    ensures refused { IfErr result (λ e. NotDeletedAlong D.Disk route.passed.items route.last (place_of root) 0 path.now limit e records.old records.new disk.old disk.new) }
+{
+    let Route { passed, last } = route;
+    delete_in(
+        alloc,
+        records,
+        disk,
+        root,
+        0,
+        path,
+        passed.as_slice(),
+        last,
+        limit,
+    )
+}
+
 // Takes the tree away that the path leads to, which begins with the position of a member of the interval whose record
-// stands there. It answers the proxy of what is left of the interval, and none where it lost its last member, and how
-// many nodes went. It speaks of intervals where the path leads to a tree, and of at most so many nodes.
-pub(crate) fn delete_in<D: Disk>(
+// stands there, passes these records, and ends in the record of the last piece. It answers the proxy of what is left of
+// the interval, and none where it lost its last member, and how many nodes went. It speaks of intervals of at most so many
+// nodes.
+fn delete_in<D: Disk>(
     alloc: Global,
     records: &mut Records,
     disk: &mut D,
     rid: Rid,
     member: u16,
     path: &[u32],
+    passed: &[PassedRecord],
+    last: Piece,
     limit: u32,
 ) -> Result<Taken, StoreError>
-    requires { has_ended records.old ≡ false }
+    requires runs { has_ended records.old ≡ false }
+    requires ends { EndsInside member path.now passed.now last }
     ensures still { IsStill D.Disk disk.old disk.new }
     ensures few { IfOk result (λ taken. taken.gone ≤ limit) }
     ensures ranged { IfOk result (λ taken. HaveRoots (option_to_list taken.left)) }
-    ensures ok { IfOk result (λ taken. ComesTidy D.Disk records.old records.new disk.old disk.new (DeletesIn None (place_of rid) member path.now limit taken.gone (option_to_list taken.left))) }
+    ensures ok { IfOk result (λ taken. ComesTidy D.Disk records.old records.new disk.old disk.new (DeletesAlong passed.now last (place_of rid) member path.now limit taken.gone (option_to_list taken.left))) }
     ensures keeps { OnOk result (RunsOn records.old records.new × KeepsSaved D.Disk records.old records.new disk.old disk.new × HasChanges records.new) }
-    ensures refused { IfErr result (λ e. NotDeletedIn D.Disk None (place_of rid) member path.now limit e records.old records.new disk.old disk.new) }
+    ensures refused { IfErr result (λ e. NotDeletedAlong D.Disk passed.now last (place_of rid) member path.now limit e records.old records.new disk.old disk.new) }
 {
-    let mut bytes = Bytes::new(alloc);
-    let piece = view_piece(alloc, records, disk, rid, &mut bytes)?;
-    let (proxy, index, next, used) = match find(&piece, member, path) {
-        LocatedView::Nowhere => return Err(damaged(records, rid.page)),
-        LocatedView::Here { .. } => {
-            let Ok(own) = piece.into_piece(alloc) else {
-                return Err(StoreError::Memory);
-            };
-            return delete_own(alloc, records, disk, rid, own, member, path, limit);
-        }
-        LocatedView::Away {
-            proxy,
-            index,
-            member: next,
-            used,
-        } => (proxy, index, next, used),
+    let Some((first, more)) = passed.split_first() else {
+        return delete_own(alloc, records, disk, rid, last, member, path, limit);
     };
     let below = Rid {
-        page: proxy.page,
-        slot: proxy.slot,
+        page: first.proxy.page,
+        slot: first.proxy.slot,
     };
     let taken = delete_in(
         alloc,
         records,
         disk,
         below,
-        next,
-        &path[used as usize..],
+        first.member,
+        &path[first.used as usize..],
+        more,
+        last,
         limit,
     )?;
-    let left = pass_left(alloc, records, disk, rid, piece, index, proxy, taken.left)?;
+    let left = pass_left(alloc, records, disk, rid, first, taken.left)?;
     Ok(Taken {
         left: Some(left),
         gone: taken.gone,
@@ -156,37 +181,34 @@ fn put_rest<D: Disk>(
     Ok(Some(proxy))
 }
 
-// Puts what is left of an interval in the place of its proxy, in the piece that a record holds; it answers the record's
-// own proxy. Where the proxy stays, the record does so, and nothing of it is copied.
+// Puts what is left of an interval in the place of the proxy by which the path left a record's piece; it answers the
+// record's own proxy. Where the proxy stays, the record does so, and isn't read again.
 fn pass_left<D: Disk>(
     alloc: Global,
     records: &mut Records,
     disk: &mut D,
     rid: Rid,
-    piece: PieceView<'_>,
-    index: u32,
-    proxy: Proxy,
+    passed: &PassedRecord,
     left: Option<Proxy>,
 ) -> Result<Proxy, StoreError>
     requires runs { has_ended records.old ≡ false }
-    requires valid { IsValidPiece piece }
-    requires there { slice_get piece.proxies index ≡ Some proxy }
+    requires rooted { (1 ≤ passed.now.roots) × (passed.now.roots ≤ 256) }
     requires ranged { HaveRoots (option_to_list left) }
     ensures still { IsStill D.Disk disk.old disk.new }
-    ensures unwritten { OnOk result (left ≡ Some proxy → (records.new ≡ records.old) × (disk.new ≡ disk.old)) }
-    ensures roots { IfOk result (λ own. own.roots ≡ gapped_width (with_left index left piece.entry).body.roots) }
+    ensures unwritten { OnOk result (left ≡ Some passed.now.proxy → (records.new ≡ records.old) × (disk.new ≡ disk.old)) }
     ensures ranged { IfOk result (λ own. HaveRoots (own ∷ [])) }
-    ensures ok { IfOk result (λ own. ComesTidy D.Disk records.old records.new disk.old disk.new (λ was now. HoldsPiece was (place_of rid) piece.entry → UpdatesPiece (place_of rid) (place_named own) (with_left index left piece.entry) was now)) }
+    ensures ok { IfOk result (λ own. ComesTidy D.Disk records.old records.new disk.old disk.new (PassesLeft (place_of rid) passed.now left own)) }
     ensures keeps { OnOk result (RunsOn records.old records.new × KeepsSaved D.Disk records.old records.new disk.old disk.new × (HasChanges records.old → HasChanges records.new)) }
-    ensures refused { IfErr result (λ e. NotStored D.Disk (λ was. piece_needs (with_left index left piece.entry)) (λ was. HoldsNone was (place_of rid)) rid.page e records.old records.new disk.old disk.new) }
+    ensures refused { IfErr result (λ e. NotPassed D.Disk (place_of rid) passed.now (with_left passed.now.index left) (λ piece. Unit {0}) e records.old records.new disk.old disk.new) }
 {
-    if is_left_same(left, proxy) {
-        return Ok(own_proxy(rid, &piece));
+    if is_left_same(left, passed.proxy) {
+        return Ok(own_proxy(rid, passed.roots));
     }
-    let Ok(piece) = piece.into_piece(alloc) else {
-        return Err(StoreError::Memory);
-    };
-    let piece = put_left(alloc, piece, index, left);
+    let piece = read_piece(alloc, records, disk, rid)?;
+    if piece.proxies.len() <= passed.index as usize {
+        return Err(damaged(records, rid.page));
+    }
+    let piece = put_left(alloc, piece, passed.index, left);
     update_piece(alloc, records, disk, rid, &piece)
 }
 

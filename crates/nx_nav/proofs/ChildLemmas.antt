@@ -77,6 +77,12 @@ at_front front x rest all n e l =
     let place : n ≡ length front + 0 = omega arith in
     ap (λ ys. slice_get ys n) e ∙ ap (slice_get (front ++ x ∷ rest)) place ∙ get_behind front (x ∷ rest) 0
 
+-- there is a child at each position below their number
+pub child_there : (f : Forest) (p : ℕ) → p < trees f → at_member f p [] ≡ None → ⊥
+child_there Empty p h e = omega (arith, h)
+child_there (Plant n b s) zero h e = cc
+child_there (Plant n b s) (suc p) h e = child_there s p (omega (arith, h)) e
+
 pub at_here : (o : Option OrderedTree) → option_and_then (λ t. at t []) o ≡ o
 at_here None = refl
 at_here (Some t) = refl
@@ -99,6 +105,7 @@ module _ (pieces : RecordPlace → Option Piece) (k : ℕ) (all : List Proxy) wh
     pub place : RecordPlace
     pub members : Layout
     pub proxy : slice_get all index ≡ Some (proxy_of place (width members))
+    pub within : member < width members
     pub is : o ≡ at_member (forest members) member path
     pub held : AreHeld pieces (Kept place members Bare)
     pub light : AreParts k (Kept place members Bare)
@@ -148,6 +155,7 @@ module _ (pieces : RecordPlace → Option Piece) (k : ℕ) (all : List Proxy) wh
               place = p;
               members = m;
               proxy = at_front front proxy (proxies_of s ++ back) all first e f;
+              within = less;
               is = child_prefix (forest m) (forest s) i within ∙ sym (at_here (child (forest m) i));
               held = (held.0, held.1, tt);
               light = (light.0, light.1, light.2, light.3, tt);
@@ -181,6 +189,7 @@ module _ (pieces : RecordPlace → Option Piece) (k : ℕ) (all : List Proxy) wh
         place = h.place;
         members = h.members;
         proxy = h.proxy;
+        within = h.within;
         is = ap (option_and_then (λ t. at t p)) (h.is ∙ at_here (child (forest h.members) member));
         held = h.held;
         light = h.light;

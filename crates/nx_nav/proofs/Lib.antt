@@ -2,6 +2,8 @@ pub mod PartLemmas
 pub mod RefusalLemmas
 pub mod ChildLemmas
 pub mod SeekLemmas
+pub mod BesideLemmas
+pub mod RouteLemmas
 pub mod WayLemmas
 pub mod SplitLemmas
 pub mod TellLemmas

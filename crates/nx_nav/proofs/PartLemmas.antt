@@ -24,7 +24,6 @@ use Rattle.nx_hold.specs.Documents.{HasDocument}
 use Rattle.nx_hold.specs.Pieces.{HoldsPiece, HoldsNone}
 use Rattle.nx_nav.specs.Parts.{HasLayout, HasInterval, HasNoInterval}
 use Rattle.nx_nav.specs.declared.error.NavError.{NavError}
-use Rattle.nx_nav.specs.declared.error.NavError.TheVariants as error
 use Rattle.nx_nav.specs.Refusals.{IsRefused, StopsReading, IsPassedOn}
 
 -- trees none of which is a member of an interval are as many in their piece

@@ -1,5 +1,5 @@
 -- The way to a node of a document, from one record to the next.
-use Rattle.std.proofs.Common.{◌≡◌, true, false, ℕ, ◌+◌, ◌-◌, ◌≤◌, List, [], ◌∷◌, Option, None, Some, length, take, drop, refl, sym, ap, ◌∙◌, subst, arith}
+use Rattle.std.proofs.Common.{◌≡◌, true, false, ℕ, ◌+◌, ◌-◌, ◌<◌, ◌≤◌, List, [], ◌∷◌, Option, None, Some, length, take, drop, refl, sym, ap, ◌∙◌, subst, arith}
 use Rattle.std.specs.List.{slice_get}
 use Rattle.std.proofs.lemmas.List.{take_all, length-drop}
 use Rattle.nx_host.specs.declared.disk.Disk.{Ghosts}
@@ -46,6 +46,7 @@ pub record LeadsOn {D : Type 0} (d : Ghosts D) (records : Records) (disk : D) (h
   pub there : HasInterval d records disk place members
   pub of : there.now ≡ held
   pub as_many : width members ≡ roots
+  pub within : member < width members
   pub same : found ≡ at_member (forest members) member rest
 
 -- Where the path leads through records from here on, it leads through them from the root on, with so many records and pages before them.
@@ -76,6 +77,7 @@ module _ {D : Type 0} {d : Ghosts D} {r0 : Records} {x0 : D} {root : RecordPlace
       there = document_held h;
       of = document_same h;
       as_many = refl;
+      within = omega arith;
       same = ap (λ (f : Forest). let t : OrderedTree = record { node = document.node; below = f } in at t path) (sym (document_forest h));
     };
     pages = 0;
@@ -107,7 +109,7 @@ module _ {D : Type 0} {d : Ghosts D} {r0 : Records} {x0 : D} {root : RecordPlace
         (subst (λ o. Ends (reached_in (piece_of on.members) member rest) o) (sym on.same) ends)
 
     -- each document has it there
-    piece_held : (document : CutTree) (h : HasDocument d r0 x0 root document) → HoldsPiece h.now place piece
+    pub piece_held : (document : CutTree) (h : HasDocument d r0 x0 root document) → HoldsPiece h.now place piece
     piece_held document h =
         let on = seeking.on document h in
         subst (λ (now : Held). HoldsPiece now place piece) on.of
@@ -169,6 +171,7 @@ module _ {D : Type 0} {d : Ghosts D} {r0 : Records} {x0 : D} {root : RecordPlace
             there = moved.0;
             of = moved.1;
             as_many = ap (λ (p : Proxy). p.roots) (sym named);
+            within = inner.within;
             same = inner.is ∙ ap (λ (n : ℕ). at_member (forest inner.members) next (drop n rest)) steps;
           };
       pages = seeking.pages + own.0;
@@ -197,22 +200,23 @@ module _ {D : Type 0} {d : Ghosts D} {r0 : Records} {x0 : D} {root : RecordPlace
     seek_falls index next used valid e = path_falls piece member rest index next used valid e
 
   -- no page was read but those on the path, with those of the next piece
-  pub seek_reads : {r1 : Records} {x1 : D} (x2 : D) {place : RecordPlace} {roots member : ℕ} {rest : List ℕ} → IsSeeking d r0 r1 x0 x1 root path place roots member rest → length path ≤ deepest → ReadsPiece d r1 x1 x2 place
+  pub seek_reads_within : {r1 : Records} {x1 : D} (x2 : D) {place : RecordPlace} {roots member : ℕ} {rest : List ℕ} (seeking : IsSeeking d r0 r1 x0 x1 root path place roots member rest) → seeking.levels ≤ deepest → ReadsPiece d r1 x1 x2 place
       → (document : CutTree) (h : HasDocument d r0 x0 root document) → ReadsAlong h.now root path (d.reads x0) (d.reads x2)
-  seek_reads {x1 = x1} x2 {place = place} {rest = rest} seeking short own document h =
+  seek_reads_within {x1 = x1} x2 {place = place} {rest = rest} seeking short own document h =
       let takes : TakesPages h.now place own.0 = own_pages seeking document h own in
       let all = seeking.through document h [] own.0 refl (own.0, 0, takes, refl, let none : own.0 ≡ own.0 + 0 = omega arith in none) in
       record {
         places = root ∷ all.0;
         lead = all.1;
-        levels =
-            let long : length all.0 ≡ seeking.levels + 0 = all.3 in
-            let few = seeking.fewer in
-            omega (arith, long, few, short);
+        levels = let long : length all.0 ≡ seeking.levels + 0 = all.3 in omega (arith, long, short);
         pages = seeking.pages + own.0;
         are = all.2;
         few = let was : d.reads x1 ≤ d.reads x0 + seeking.pages = seeking.few in let now : d.reads x2 ≤ d.reads x1 + own.0 = own.1 in omega (arith, was, now);
       }
+
+  pub seek_reads : {r1 : Records} {x1 : D} (x2 : D) {place : RecordPlace} {roots member : ℕ} {rest : List ℕ} → IsSeeking d r0 r1 x0 x1 root path place roots member rest → length path ≤ deepest → ReadsPiece d r1 x1 x2 place
+      → (document : CutTree) (h : HasDocument d r0 x0 root document) → ReadsAlong h.now root path (d.reads x0) (d.reads x2)
+  seek_reads x2 seeking short own document h = seek_reads_within x2 seeking (let few = seeking.fewer in omega (arith, few, short)) own document h
 
   -- the record wasn't read
   pub seek_refused : {r1 : Records} (r2 : Records) {x1 : D} (x2 : D) {place : RecordPlace} {roots member : ℕ} {rest : List ℕ} → IsSeeking d r0 r1 x0 x1 root path place roots member rest → (Nowhere : Type 0) (e : NavError)
@@ -224,3 +228,7 @@ module _ {D : Type 0} {d : Ghosts D} {r0 : Records} {x0 : D} {root : RecordPlace
 -- a call that asked nothing read nothing
 pub none_read : (held : Held) (root : RecordPlace) (path : List ℕ) (count : ℕ) → ReadsAlong held root path count count
 none_read held root path count = record { places = []; lead = tt; levels = omega arith; pages = 0; are = refl; few = omega arith }
+
+-- nor did one that read no further
+pub reads_no_more : {held : Held} {root : RecordPlace} {path : List ℕ} {old new : ℕ} (last : ℕ) → last ≤ new → ReadsAlong held root path old new → ReadsAlong held root path old last
+reads_no_more {new = new} last less reads = record { places = reads.places; lead = reads.lead; levels = reads.levels; pages = reads.pages; are = reads.are; few = let few = reads.few in omega (arith, few, less) }

@@ -2,6 +2,8 @@ pub mod Refusals
 pub mod Shows
 pub mod Parts
 pub mod Along
+pub mod Beside
+pub mod Route
 pub mod Steps
 pub mod Walk
 pub mod Told

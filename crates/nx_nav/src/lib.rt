@@ -12,12 +12,14 @@ mod finding;
 mod judging;
 mod laid;
 mod reading;
+mod routing;
 mod telling;
 mod visited;
 mod walking;
 
 pub use error::NavError;
 pub use exporting::export;
-pub use finding::{Shown, get};
+pub use finding::{Routed, Shown, get, get_route, get_with_child};
 pub use laid::{Laid, layout};
+pub use routing::{PassedRecord, Route};
 pub use telling::text_of;

@@ -15,7 +15,6 @@ use Rattle.nx_script.specs.declared.reply.Reply.TheVariants as reply
 use Rattle.nx_script.specs.declared.reply.ReplyError.{ReplyError}
 use Rattle.nx_script.specs.declared.reply.ReplyError.TheVariants as refused
 use Rattle.nx_state.specs.State.{State}
-use Rattle.nx_records.specs.declared.error.StoreError.{StoreError}
 use Rattle.nx_records.specs.declared.error.StoreError.TheVariants as below
 use Rattle.nx_catalog.specs.declared.saving.RuleError.{RuleError}
 use Rattle.nx_catalog.specs.declared.saving.RuleError.TheVariants as rule
@@ -23,7 +22,7 @@ use Rattle.nx_edit.specs.declared.error.EditError.{EditError}
 use Rattle.nx_edit.specs.declared.error.EditError.TheVariants as edit
 use Rattle.nx_steps.specs.Step.{Step}
 use Rattle.nx_store.specs.Store.{longest_log, GoesOn, IsAt, IsOfEither, Shows, ShowsBegun, IsApplied, NotApplied}
-use Rattle.nx_store.specs.Loading.{IsStoreLeft, reply_of, HasReplyText, IsToldOrNot, IsRefusal}
+use Rattle.nx_store.specs.Loading.{IsStoreLeft, reply_of, HasReplyText, IsToldOrNot}
 use Rattle.nx_store.specs.Changing.{Prepares, StepsRefused, NotPrepared, RuleNotPrepared, IsRuleRefusal}
 use Rattle.nx_store.specs.Editing.{edit_reply, EditNotPrepared, IsEditRefusal}
 use Rattle.nx_store.specs.declared.store.Store.{Store}
@@ -82,29 +81,29 @@ module _ {D : Type 0} (d : Ghosts D) (command : Command) (other : command ≢ Ch
         (state, steps state at, left_at d s0 s1 s2 x0 x1 left follows none heads ended catalog state at, shows_weaker d (λ i of. inl of) (shows_still still at), log_stays d command state x0 x1 other)
     refused_left e (Err x) is left steps state at = subst (λ (y : EngineError). IsApplied d (Err y) state command s2 x0 x1) (sym is) (memory_left left state at)
 
-    pub refusal_applied : (e : StoreError) (r : Result (Reply × List ℕ) EngineError) → IsRefusal e r → NotPrepared d e s0 s1 x0 x1 → (state : State) → IsAt d s0 x0 state → IsApplied d (reply_of r) state command s2 x0 x1
-    refusal_applied below.Memory r is why state at = subst (λ x. IsApplied d (reply_of x) state command s2 x0 x1) (sym is) (memory_left why state at)
-    refusal_applied below.Disk r is why state at = subst (λ x. IsApplied d (reply_of x) state command s2 x0 x1) (sym is) (inl (shows_still still at))
-    refusal_applied (below.Damaged page) r is why state at = absurd (why.1 state at)
-    refusal_applied below.Full r is why state at = absurd why
-    refusal_applied below.Ended r is why state at = absurd why
-    refusal_applied below.Exists r is why state at = absurd why
-    refusal_applied below.NotAStore r is why state at = absurd why
+    pub refusal_applied : (e : EngineError) (r : Result (Reply × List ℕ) EngineError) → r ≡ Err e → NotPrepared d e s0 s1 x0 x1 → (state : State) → IsAt d s0 x0 state → IsApplied d (reply_of r) state command s2 x0 x1
+    refusal_applied error.Memory r is why state at = subst (λ x. IsApplied d (reply_of x) state command s2 x0 x1) (sym is) (memory_left why state at)
+    refusal_applied error.Disk r is why state at = subst (λ x. IsApplied d (reply_of x) state command s2 x0 x1) (sym is) (inl (shows_still still at))
+    refusal_applied (error.Damaged page) r is why state at = absurd (why.1 state at)
+    refusal_applied error.Write r is why state at = absurd why
+    refusal_applied error.Ended r is why state at = absurd why
+    refusal_applied error.Exists r is why state at = absurd why
+    refusal_applied error.NotAStore r is why state at = absurd why
 
     pub rule_applied : (e : RuleError) (r : Result (Reply × List ℕ) EngineError) → IsRuleRefusal e r → RuleNotPrepared d command e s0 s1 x0 x1 → (state : State) → IsAt d s0 x0 state → IsApplied d (reply_of r) state command s2 x0 x1
     rule_applied rule.TooManyRules r is why state at = refused_left refused.TooManyRules r is why.0 why.1 state at
     rule_applied (rule.Store below.Full) r is why state at = refused_left refused.Full r is why.0 why.1 state at
-    rule_applied (rule.Store below.Memory) r is why state at = refusal_applied below.Memory r is why state at
-    rule_applied (rule.Store below.Disk) r is why state at = refusal_applied below.Disk r is why state at
-    rule_applied (rule.Store (below.Damaged page)) r is why state at = refusal_applied (below.Damaged page) r is why state at
+    rule_applied (rule.Store below.Memory) r is why state at = refusal_applied error.Memory r is why state at
+    rule_applied (rule.Store below.Disk) r is why state at = refusal_applied error.Disk r is why state at
+    rule_applied (rule.Store (below.Damaged page)) r is why state at = refusal_applied (error.Damaged page) r is why state at
     rule_applied (rule.Store below.Ended) r is why state at = absurd why
     rule_applied (rule.Store below.Exists) r is why state at = absurd why
     rule_applied (rule.Store below.NotAStore) r is why state at = absurd why
 
     pub edit_applied : (path : List ℕ) (e : EditError) (r : Result (Reply × List ℕ) EngineError) → IsEditRefusal path e r → EditNotPrepared d command path e s0 s1 x0 x1 → (state : State) → IsAt d s0 x0 state → IsApplied d (reply_of r) state command s2 x0 x1
-    edit_applied path edit.Memory r is why state at = refusal_applied below.Memory r is why state at
-    edit_applied path edit.Disk r is why state at = refusal_applied below.Disk r is why state at
-    edit_applied path (edit.Damaged page) r is why state at = refusal_applied (below.Damaged page) r is why state at
+    edit_applied path edit.Memory r is why state at = refusal_applied error.Memory r is why state at
+    edit_applied path edit.Disk r is why state at = refusal_applied error.Disk r is why state at
+    edit_applied path (edit.Damaged page) r is why state at = refusal_applied (error.Damaged page) r is why state at
     edit_applied path edit.Ended r is why state at = absurd why
     edit_applied path edit.NoNode r is why state at = refused_left (edit_reply path edit.NoNode) r is why.0 why.1 state at
     edit_applied path edit.BadPlace r is why state at = refused_left (edit_reply path edit.BadPlace) r is why.0 why.1 state at
@@ -120,29 +119,29 @@ module _ {D : Type 0} (d : Ghosts D) (command : Command) (other : command ≢ Ch
     told_ok e (Ok answer) is left = (stays_on left, subst (λ (a : Reply × List ℕ). HasReplyText a) (sym is) refl)
     told_ok e (Err x) is left = tt
 
-    pub refusal_ok : (e : StoreError) (r : Result (Reply × List ℕ) EngineError) → IsRefusal e r → NotPrepared d e s0 s1 x0 x1 → IfOk r (λ answer. GoesOn s0 s2 × HasReplyText answer)
-    refusal_ok below.Memory r is why = subst (λ x. IfOk x (λ answer. GoesOn s0 s2 × HasReplyText answer)) (sym is) tt
-    refusal_ok below.Disk r is why = subst (λ x. IfOk x (λ answer. GoesOn s0 s2 × HasReplyText answer)) (sym is) tt
-    refusal_ok (below.Damaged page) r is why = subst (λ x. IfOk x (λ answer. GoesOn s0 s2 × HasReplyText answer)) (sym is) tt
-    refusal_ok below.Full r is why = absurd why
-    refusal_ok below.Ended r is why = absurd why
-    refusal_ok below.Exists r is why = absurd why
-    refusal_ok below.NotAStore r is why = absurd why
+    pub refusal_ok : (e : EngineError) (r : Result (Reply × List ℕ) EngineError) → r ≡ Err e → NotPrepared d e s0 s1 x0 x1 → IfOk r (λ answer. GoesOn s0 s2 × HasReplyText answer)
+    refusal_ok error.Memory r is why = subst (λ x. IfOk x (λ answer. GoesOn s0 s2 × HasReplyText answer)) (sym is) tt
+    refusal_ok error.Disk r is why = subst (λ x. IfOk x (λ answer. GoesOn s0 s2 × HasReplyText answer)) (sym is) tt
+    refusal_ok (error.Damaged page) r is why = subst (λ x. IfOk x (λ answer. GoesOn s0 s2 × HasReplyText answer)) (sym is) tt
+    refusal_ok error.Write r is why = absurd why
+    refusal_ok error.Ended r is why = absurd why
+    refusal_ok error.Exists r is why = absurd why
+    refusal_ok error.NotAStore r is why = absurd why
 
     pub rule_ok : (e : RuleError) (r : Result (Reply × List ℕ) EngineError) → IsRuleRefusal e r → RuleNotPrepared d command e s0 s1 x0 x1 → IfOk r (λ answer. GoesOn s0 s2 × HasReplyText answer)
     rule_ok rule.TooManyRules r is why = told_ok refused.TooManyRules r is why.0
     rule_ok (rule.Store below.Full) r is why = told_ok refused.Full r is why.0
-    rule_ok (rule.Store below.Memory) r is why = refusal_ok below.Memory r is why
-    rule_ok (rule.Store below.Disk) r is why = refusal_ok below.Disk r is why
-    rule_ok (rule.Store (below.Damaged page)) r is why = refusal_ok (below.Damaged page) r is why
+    rule_ok (rule.Store below.Memory) r is why = refusal_ok error.Memory r is why
+    rule_ok (rule.Store below.Disk) r is why = refusal_ok error.Disk r is why
+    rule_ok (rule.Store (below.Damaged page)) r is why = refusal_ok (error.Damaged page) r is why
     rule_ok (rule.Store below.Ended) r is why = absurd why
     rule_ok (rule.Store below.Exists) r is why = absurd why
     rule_ok (rule.Store below.NotAStore) r is why = absurd why
 
     pub edit_ok : (path : List ℕ) (e : EditError) (r : Result (Reply × List ℕ) EngineError) → IsEditRefusal path e r → EditNotPrepared d command path e s0 s1 x0 x1 → IfOk r (λ answer. GoesOn s0 s2 × HasReplyText answer)
-    edit_ok path edit.Memory r is why = refusal_ok below.Memory r is why
-    edit_ok path edit.Disk r is why = refusal_ok below.Disk r is why
-    edit_ok path (edit.Damaged page) r is why = refusal_ok (below.Damaged page) r is why
+    edit_ok path edit.Memory r is why = refusal_ok error.Memory r is why
+    edit_ok path edit.Disk r is why = refusal_ok error.Disk r is why
+    edit_ok path (edit.Damaged page) r is why = refusal_ok (error.Damaged page) r is why
     edit_ok path edit.Ended r is why = absurd why
     edit_ok path edit.NoNode r is why = told_ok (edit_reply path edit.NoNode) r is why.0
     edit_ok path edit.BadPlace r is why = told_ok (edit_reply path edit.BadPlace) r is why.0
@@ -158,29 +157,29 @@ module _ {D : Type 0} (d : Ghosts D) (command : Command) (other : command ≢ Ch
     told_refused e (Ok answer) is left = tt
     told_refused e (Err x) is left = subst (λ (y : EngineError). NotApplied d y s0 s2 x0 x1) (sym is) (stays_on left)
 
-    pub refusal_refused : (e : StoreError) (r : Result (Reply × List ℕ) EngineError) → IsRefusal e r → NotPrepared d e s0 s1 x0 x1 → IfErr r (λ y. NotApplied d y s0 s2 x0 x1)
-    refusal_refused below.Memory r is why = subst (λ x. IfErr x (λ y. NotApplied d y s0 s2 x0 x1)) (sym is) (stays_on why)
-    refusal_refused below.Disk r is why = subst (λ x. IfErr x (λ y. NotApplied d y s0 s2 x0 x1)) (sym is) (why.0, ((why.1).0, ended ∙ (why.1).1))
-    refusal_refused (below.Damaged page) r is why = subst (λ x. IfErr x (λ y. NotApplied d y s0 s2 x0 x1)) (sym is) (((why.0).0, ended ∙ (why.0).1), λ told. why.1)
-    refusal_refused below.Full r is why = absurd why
-    refusal_refused below.Ended r is why = absurd why
-    refusal_refused below.Exists r is why = absurd why
-    refusal_refused below.NotAStore r is why = absurd why
+    pub refusal_refused : (e : EngineError) (r : Result (Reply × List ℕ) EngineError) → r ≡ Err e → NotPrepared d e s0 s1 x0 x1 → IfErr r (λ y. NotApplied d y s0 s2 x0 x1)
+    refusal_refused error.Memory r is why = subst (λ x. IfErr x (λ y. NotApplied d y s0 s2 x0 x1)) (sym is) (stays_on why)
+    refusal_refused error.Disk r is why = subst (λ x. IfErr x (λ y. NotApplied d y s0 s2 x0 x1)) (sym is) (why.0, ((why.1).0, ended ∙ (why.1).1))
+    refusal_refused (error.Damaged page) r is why = subst (λ x. IfErr x (λ y. NotApplied d y s0 s2 x0 x1)) (sym is) (((why.0).0, ended ∙ (why.0).1), λ told. why.1)
+    refusal_refused error.Write r is why = absurd why
+    refusal_refused error.Ended r is why = absurd why
+    refusal_refused error.Exists r is why = absurd why
+    refusal_refused error.NotAStore r is why = absurd why
 
     pub rule_refused : (e : RuleError) (r : Result (Reply × List ℕ) EngineError) → IsRuleRefusal e r → RuleNotPrepared d command e s0 s1 x0 x1 → IfErr r (λ y. NotApplied d y s0 s2 x0 x1)
     rule_refused rule.TooManyRules r is why = told_refused refused.TooManyRules r is why.0
     rule_refused (rule.Store below.Full) r is why = told_refused refused.Full r is why.0
-    rule_refused (rule.Store below.Memory) r is why = refusal_refused below.Memory r is why
-    rule_refused (rule.Store below.Disk) r is why = refusal_refused below.Disk r is why
-    rule_refused (rule.Store (below.Damaged page)) r is why = refusal_refused (below.Damaged page) r is why
+    rule_refused (rule.Store below.Memory) r is why = refusal_refused error.Memory r is why
+    rule_refused (rule.Store below.Disk) r is why = refusal_refused error.Disk r is why
+    rule_refused (rule.Store (below.Damaged page)) r is why = refusal_refused (error.Damaged page) r is why
     rule_refused (rule.Store below.Ended) r is why = absurd why
     rule_refused (rule.Store below.Exists) r is why = absurd why
     rule_refused (rule.Store below.NotAStore) r is why = absurd why
 
     pub edit_refused : (path : List ℕ) (e : EditError) (r : Result (Reply × List ℕ) EngineError) → IsEditRefusal path e r → EditNotPrepared d command path e s0 s1 x0 x1 → IfErr r (λ y. NotApplied d y s0 s2 x0 x1)
-    edit_refused path edit.Memory r is why = refusal_refused below.Memory r is why
-    edit_refused path edit.Disk r is why = refusal_refused below.Disk r is why
-    edit_refused path (edit.Damaged page) r is why = refusal_refused (below.Damaged page) r is why
+    edit_refused path edit.Memory r is why = refusal_refused error.Memory r is why
+    edit_refused path edit.Disk r is why = refusal_refused error.Disk r is why
+    edit_refused path (edit.Damaged page) r is why = refusal_refused (error.Damaged page) r is why
     edit_refused path edit.Ended r is why = absurd why
     edit_refused path edit.NoNode r is why = told_refused (edit_reply path edit.NoNode) r is why.0
     edit_refused path edit.BadPlace r is why = told_refused (edit_reply path edit.BadPlace) r is why.0

@@ -1,7 +1,7 @@
 -- A document of a store edited, before the commit.
 use Rattle.std.proofs.Common.{◌≡◌, ℕ, ◌+◌, ◌*◌, ◌<◌, ◌≤◌, cond, inl, inr, List, [], ◌∷◌, ◌++◌, length, map, Option, None, Some, Bool, true, false, Less, Equal, Greater, is_eq, refl, sym, ap, ◌∙◌, subst, arith, append-nil}
 use Rattle.std.specs.Prelude.{◌≢◌, All, if◌then◌else◌, nat_lt, option_and_then, Ok, Err}
-use Rattle.std.specs.Option.{is_some, option_map, option_map_or, option_or}
+use Rattle.std.specs.Option.{is_some, option_map, option_map_or, option_or, IsSomeAnd}
 use Rattle.std.specs.List.{sum}
 use Rattle.std.specs.FinMap.{entries, find, get, insert, get-entries}
 use Rattle.std.proofs.lemmas.Bool.{false≢true, le-ltb}
@@ -486,7 +486,7 @@ module _ {D : Type 0} (d : Ghosts D) (s0 s1 : Store) (x0 x1 : D) (name : List �
     }
 
     pub entry_unsaved : (error : StoreError) → NotStored d (λ was. catalog_needs (catalog_bytes (record { documents = insert (s0.catalog).documents name new; rules = (s0.catalog).rules })) was) (λ was. ⊥) 0 error s1.records s2.records x1 x2
-        → EditNotPrepared d (edit_command name path e) path (edit_error error) s0 s2 x0 x2
+        → IsSomeAnd (edit_error error) (λ told. EditNotPrepared d (edit_command name path e) path told s0 s2 x0 x2)
     entry_unsaved below.Disk refused = (later_rose (d.faults x0) (d.faults x1) (d.faults x2) still.faults_later refused.0, (goes.before, (refused.1).after))
     entry_unsaved below.Full refused = (left_unsaved refused.runs refused.keeps, λ state at. absurd (entry_fits d s0 x0 state at name entry there s1.records x1 new Becomes stays along comes refused.few))
     entry_unsaved (below.Damaged page) refused = (

@@ -1,7 +1,7 @@
 -- A store whose document was given to an output, record by record.
 use Rattle.std.proofs.Common.{◌≡◌, ℕ, List, [], ◌∷◌, ◌++◌, None, Some, false, refl, sym, ap, ◌∙◌, subst, append_assoc}
 use Rattle.std.specs.Prelude.{IsSome, Result, Ok, Err}
-use Rattle.std.specs.Option.{option_map_or}
+use Rattle.std.specs.Option.{option_map_or, IsSomeAnd}
 use Rattle.std.specs.FinMap.{get}
 use Rattle.std.proofs.lemmas.Bool.{false≢true}
 use Rattle.nx_host.specs.Disk.{Rose}
@@ -92,7 +92,7 @@ module _ {D : Type 0} (d : Ghosts D) where
 
       pub refused_exported : (Unwritten : Type 0) (e : NavError) → s1.catalog ≡ s0.catalog → AsksAndGives d x0 x1 → IsSome (d.contents x1)
           → IsRefused d ⊥ Unwritten (IsSome (d.contents x1) → HoldsNoneWith d s0.records x0 (place_of entry.root) entry.nodes) e s0.records s1.records x0 x1
-          → IsExported d (Err (told_by e)) state name block left s1 x0 x1
+          → IsSomeAnd (told_by e) (λ told. IsExported d (Err told) state name block left s1 x0 x1)
       refused_exported Unwritten nav.NoNode catalog gives told refused = absurd refused.0
       refused_exported Unwritten nav.Disk catalog gives told refused = found_exported (Err error.Disk) tt
       refused_exported Unwritten nav.Write catalog gives told refused = found_exported (Err error.Write) (at_given s0 s1 x0 x1 state refused.2 catalog gives told at)
@@ -115,7 +115,7 @@ module _ {D : Type 0} (d : Ghosts D) where
   -- why it wasn't given
   pub not_exported : (s0 s1 : Store) (x0 x1 : D) (name : List ℕ) (entry : DocEntry) (e : NavError) → is_ended s0 ≡ false → get (s0.catalog).documents name ≡ Some entry
       → IsRefused d ⊥ (Rose (d.beside x0).out_faults (d.beside x1).out_faults) (IsSome (d.contents x1) → HoldsNoneWith d s0.records x0 (place_of entry.root) entry.nodes) e s0.records s1.records x0 x1
-      → NotAnswered d (told_by e) s0 s1 x0 x1
+      → IsSomeAnd (told_by e) (λ told. NotAnswered d told s0 s1 x0 x1)
   not_exported s0 s1 x0 x1 name entry nav.NoNode runs is refused = absurd refused.0
   not_exported s0 s1 x0 x1 name entry nav.Disk runs is refused = (refused.0, (runs, (refused.1).after))
   not_exported s0 s1 x0 x1 name entry nav.Write runs is refused = (refused.0, (runs, (refused.2).ended_stays ∙ runs))

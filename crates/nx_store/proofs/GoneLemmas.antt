@@ -1,7 +1,7 @@
 -- A document of a store taken away, before the commit.
 use Rattle.std.proofs.Common.{◌≡◌, ℕ, ◌+◌, ◌<◌, ◌≤◌, cond, List, [], ◌∷◌, ◌++◌, length, map, Option, None, Some, false, Less, Equal, Greater, is_eq, refl, sym, ap, ◌∙◌, subst, arith, append-nil}
 use Rattle.std.specs.Prelude.{All, option_map}
-use Rattle.std.specs.Option.{is_some, option_map_or}
+use Rattle.std.specs.Option.{is_some, option_map_or, IsSomeAnd}
 use Rattle.std.specs.FinMap.{entries, get, remove}
 use Rattle.std.proofs.Math.Nat.{mul-div-le}
 use Rattle.std.proofs.lemmas.Nat.{le-div}
@@ -35,10 +35,13 @@ use Rattle.nx_state.specs.State.{State}
 use Rattle.nx_state.specs.Stands.{StoredDocument, IsStoredIn, HoldsDocuments, record_places}
 use Rattle.nx_state.proofs.ChangeLemmas.{document_goes, catalog_comes}
 use Rattle.nx_steps.specs.Step.{Step}
+use Rattle.nx_edit.specs.declared.error.EditError.{EditError}
+use Rattle.nx_edit.specs.declared.error.EditError.TheVariants as edit
 use Rattle.nx_edit.specs.Removing.{document_places, RemovesDocument, OfEntry, NotRemoved}
 use Rattle.nx_store.specs.Store.{IsAt}
 use Rattle.nx_store.specs.Staying.{IsLeftBy, RecordsStay}
 use Rattle.nx_store.specs.Changing.{Prepares, NotPrepared}
+use Rattle.nx_store.specs.Told.{told_error, told_removal}
 use Rattle.nx_store.specs.declared.store.Store.{Store}
 use Rattle.nx_store.proofs.FoundLemmas.{found, get_found, map_some, same_some}
 use Rattle.nx_store.proofs.StayingLemmas.{change_leaves, catalog_leaves}
@@ -193,18 +196,24 @@ module _ {D : Type 0} (d : Ghosts D) (s0 : Store) (x0 : D) (state : State) (at :
 
 -- Why a document wasn't taken away.
 module _ {D : Type 0} (d : Ghosts D) (s0 s1 : Store) (x0 x1 : D) (name : List ℕ) (entry : DocEntry) (runs : has_ended s0.records ≡ false) (there : get (s0.catalog).documents name ≡ Some entry) where
-  pub stays_there : s1.catalog ≡ s0.catalog → (e : StoreError) → NotRemoved d entry e s0.records s1.records x0 x1 → NotPrepared d e s0 s1 x0 x1
-  stays_there catalog below.Disk refused = (refused.0, ((refused.1).before, (refused.1).after))
-  stays_there catalog (below.Damaged page) refused = (((refused.0).before, (refused.0).after), λ state at. told_entry d s0 x0 state at name entry there (λ now document. ⊥) refused.1)
-  stays_there catalog below.Memory refused = record { runs = refused.0; saved = refused.1; catalog = catalog }
-  stays_there catalog below.Ended refused = absurd (no_end s0.records runs refused.0)
-  stays_there catalog below.Full refused = absurd refused
-  stays_there catalog below.Exists refused = absurd refused
-  stays_there catalog below.NotAStore refused = absurd refused
+  pub stays_there : s1.catalog ≡ s0.catalog → (e : EditError) → NotRemoved d entry e s0.records s1.records x0 x1 → IsSomeAnd (told_removal e) (λ told. NotPrepared d told s0 s1 x0 x1)
+  stays_there catalog edit.Disk refused = (refused.0, ((refused.1).before, (refused.1).after))
+  stays_there catalog (edit.Damaged page) refused = (((refused.0).before, (refused.0).after), λ state at. told_entry d s0 x0 state at name entry there (λ now document. ⊥) refused.1)
+  stays_there catalog edit.Memory refused = record { runs = refused.0; saved = refused.1; catalog = catalog }
+  stays_there catalog edit.Ended refused = absurd (no_end s0.records runs refused.0)
+  stays_there catalog edit.NoNode refused = absurd refused
+  stays_there catalog edit.BadPlace refused = absurd refused
+  stays_there catalog edit.Twice refused = absurd refused
+  stays_there catalog edit.NoContent refused = absurd refused
+  stays_there catalog edit.TooLong refused = absurd refused
+  stays_there catalog edit.TooDeep refused = absurd refused
+  stays_there catalog edit.TooMany refused = absurd refused
+  stays_there catalog (edit.TooHeavy weight) refused = absurd refused
+  stays_there catalog edit.Full refused = absurd refused
 
   -- ... or the catalog without it not saved
   pub stays_entered : (s2 : Store) (x2 : D) → IsStill d x0 x1 → RunsOn s0.records s1.records → KeepsSaved d s0.records s1.records x0 x1 → ComesTidy d s0.records s1.records x0 x1 (RemovesDocument entry) → s2.catalog ≡ s0.catalog → (e : StoreError)
-      → NotChanged d (λ was. was.free < catalog_needs (catalog_bytes (record { documents = remove (s0.catalog).documents name; rules = (s0.catalog).rules })) was) 0 e s1.records s2.records x1 x2 → NotPrepared d e s0 s2 x0 x2
+      → NotChanged d (λ was. was.free < catalog_needs (catalog_bytes (record { documents = remove (s0.catalog).documents name; rules = (s0.catalog).rules })) was) 0 e s1.records s2.records x1 x2 → IsSomeAnd (told_error e) (λ told. NotPrepared d told s0 s2 x0 x2)
   stays_entered s2 x2 still goes keeps comes same below.Disk refused = (later_rose (d.faults x0) (d.faults x1) (d.faults x2) still.faults_later refused.0, (goes.before, (refused.1).after))
   stays_entered s2 x2 still goes keeps comes same (below.Damaged page) refused = ((goes.before, (refused.ends).after), λ state at. room_behind d s0 x0 state at name entry there s1.records x1 comes refused.lacks)
   stays_entered s2 x2 still goes keeps comes same below.Memory refused = record {

@@ -22,7 +22,6 @@ use Rattle.nx_layouts.specs.Layout.{RecordPlace, places_of}
 use Rattle.nx_layouts.proofs.PlaceLemmas.{later_among}
 use Rattle.nx_hold.specs.Changes.{place_of}
 use Rattle.nx_hold.specs.Documents.{MovesRecords}
-use Rattle.nx_edit.specs.Editing.{places_off}
 use Rattle.nx_edit.specs.declared.error.EditError.{EditError}
 use Rattle.nx_edit.specs.declared.error.EditError.TheVariants as edit
 use Rattle.nx_edit.proofs.OffLemmas.{off_among}
@@ -39,6 +38,8 @@ use Rattle.nx_store.specs.Loading.{IsStoreLeft, NotKept}
 use Rattle.nx_store.specs.Changing.{IsPrepared, NotPrepared, RuleNotPrepared}
 use Rattle.nx_store.specs.Editing.{EditNotPrepared}
 use Rattle.nx_store.specs.declared.store.Store.{Store}
+use Rattle.nx_store.specs.declared.error.EngineError.{EngineError}
+use Rattle.nx_store.specs.declared.error.EngineError.TheVariants as told
 use Rattle.nx_store.proofs.AtLemmas.{at_runs}
 use Rattle.nx_store.proofs.FoundLemmas.{same_some}
 use Rattle.nx_store.proofs.LogLemmas.{some_value}
@@ -240,21 +241,21 @@ module _ {D : Type 0} (d : Ghosts D) where
     kept_holds tree below.Exists why runs = absurd why
     kept_holds tree below.NotAStore why runs = absurd why
 
-    pub drop_holds : (e : StoreError) → NotPrepared d e s0 s1 x0 x1 → is_ended s2 ≡ false → HoldsOn d s0 s2 x0 x1
-    drop_holds below.Memory why runs = left_holds why
-    drop_holds below.Disk why runs = absurd (ends_here (why.1).1 runs)
-    drop_holds (below.Damaged page) why runs = absurd (ends_here (why.0).1 runs)
-    drop_holds below.Full why runs = absurd why
-    drop_holds below.Ended why runs = absurd why
-    drop_holds below.Exists why runs = absurd why
-    drop_holds below.NotAStore why runs = absurd why
+    pub drop_holds : (e : EngineError) → NotPrepared d e s0 s1 x0 x1 → is_ended s2 ≡ false → HoldsOn d s0 s2 x0 x1
+    drop_holds told.Memory why runs = left_holds why
+    drop_holds told.Disk why runs = absurd (ends_here (why.1).1 runs)
+    drop_holds (told.Damaged page) why runs = absurd (ends_here (why.0).1 runs)
+    drop_holds told.Write why runs = absurd why
+    drop_holds told.Ended why runs = absurd why
+    drop_holds told.Exists why runs = absurd why
+    drop_holds told.NotAStore why runs = absurd why
 
     pub rule_holds : (command : Command) (e : RuleError) → RuleNotPrepared d command e s0 s1 x0 x1 → is_ended s2 ≡ false → HoldsOn d s0 s2 x0 x1
     rule_holds command rule.TooManyRules why runs = left_holds why.0
     rule_holds command (rule.Store below.Full) why runs = left_holds why.0
     rule_holds command (rule.Store below.Memory) why runs = left_holds why
-    rule_holds command (rule.Store below.Disk) why runs = drop_holds below.Disk why runs
-    rule_holds command (rule.Store (below.Damaged page)) why runs = drop_holds (below.Damaged page) why runs
+    rule_holds command (rule.Store below.Disk) why runs = drop_holds told.Disk why runs
+    rule_holds command (rule.Store (below.Damaged page)) why runs = drop_holds (told.Damaged page) why runs
     rule_holds command (rule.Store below.Ended) why runs = absurd why
     rule_holds command (rule.Store below.Exists) why runs = absurd why
     rule_holds command (rule.Store below.NotAStore) why runs = absurd why

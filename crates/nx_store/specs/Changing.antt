@@ -1,10 +1,10 @@
 -- What a command that changes a store in another way than `load` makes of it before its commit.
 use Rattle.std.specs.Prelude.{ℕ, List, Result}
+use Rattle.std.specs.Option.{IsSomeAnd}
 use Rattle.nx_host.specs.Disk.{Rose}
 use Rattle.nx_host.specs.declared.disk.Disk.{Ghosts}
 use Rattle.nx_records.specs.Words.{Held}
 use Rattle.nx_records.specs.Records.{StandsFor}
-use Rattle.nx_records.specs.declared.error.StoreError.{StoreError}
 use Rattle.nx_records.specs.declared.error.StoreError.TheVariants as below
 use Rattle.nx_catalog.specs.Catalog.{IsCatalog}
 use Rattle.nx_catalog.specs.declared.saving.RuleError.{RuleError}
@@ -18,9 +18,11 @@ use Rattle.nx_state.specs.State.{State}
 use Rattle.nx_state.specs.Stands.{HoldsState}
 use Rattle.nx_steps.specs.Step.{Step}
 use Rattle.nx_store.specs.Store.{IsAt, IsNowhere, EndsNow}
+use Rattle.nx_store.specs.Told.{told_error}
 use Rattle.nx_store.specs.Loading.{IsStoreLeft, IsToldOrNot, IsRefusal}
 use Rattle.nx_store.specs.declared.store.Store.{Store}
 use Rattle.nx_store.specs.declared.error.EngineError.{EngineError}
+use Rattle.nx_store.specs.declared.error.EngineError.TheVariants as error
 
 -- The records and the catalog hold the next state. The last commit holds the state before.
 pub record IsPrepared {D : Type 0} (d : Ghosts D) (store : Store) (disk : D) (state next : State) : Type 0 where
@@ -42,20 +44,17 @@ abbrev pub StepsRefused : {D : Type 0} → Ghosts D → Command → ReplyError �
 StepsRefused d command error store disk = (state : State) → IsAt d store disk state → Step state command (reply.Refused error) state
 
 -- Why a command that may need no page wasn't prepared, and what that leaves.
-abbrev pub NotPrepared : {D : Type 0} → Ghosts D → StoreError → Store → Store → D → D → Type 0
-NotPrepared d below.Disk old new before after = Rose (d.faults before) (d.faults after) × EndsNow old new
-NotPrepared d (below.Damaged page) old new before after = EndsNow old new × IsNowhere d old before
-NotPrepared d below.Memory old new before after = IsStoreLeft d old new before after
-NotPrepared d below.Full old new before after = ⊥
-NotPrepared d below.Ended old new before after = ⊥
-NotPrepared d below.Exists old new before after = ⊥
-NotPrepared d below.NotAStore old new before after = ⊥
+abbrev pub NotPrepared : {D : Type 0} → Ghosts D → EngineError → Store → Store → D → D → Type 0
+NotPrepared d error.Disk old new before after = Rose (d.faults before) (d.faults after) × EndsNow old new
+NotPrepared d (error.Damaged page) old new before after = EndsNow old new × IsNowhere d old before
+NotPrepared d error.Memory old new before after = IsStoreLeft d old new before after
+NotPrepared d _ old new before after = ⊥
 
 -- why a rule wasn't prepared
 abbrev pub RuleNotPrepared : {D : Type 0} → Ghosts D → Command → RuleError → Store → Store → D → D → Type 0
 RuleNotPrepared d command rule.TooManyRules old new before after = IsStoreLeft d old new before after × StepsRefused d command refused.TooManyRules old before
 RuleNotPrepared d command (rule.Store below.Full) old new before after = IsStoreLeft d old new before after × StepsRefused d command refused.Full old before
-RuleNotPrepared d command (rule.Store error) old new before after = NotPrepared d error old new before after
+RuleNotPrepared d command (rule.Store error) old new before after = IsSomeAnd (told_error error) (λ told. NotPrepared d told old new before after)
 
 -- what a `rule` is answered that wasn't prepared
 abbrev pub IsRuleRefusal : RuleError → Result (Reply × List ℕ) EngineError → Type 0

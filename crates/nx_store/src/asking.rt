@@ -11,9 +11,9 @@ ghost use Rattle.nx_steps.specs.Step.{Step};
 ghost use Rattle.nx_store.specs.Staying.{LeavesOthers, HoldsOn};
 ghost use Rattle.nx_store.specs.Store.{is_ended, LeavesStore, EndsNow, GoesOn, IsAt, IsOf, IsApplied, NotApplied};
 
+use crate::error::{is_no_node, told_by};
 use crate::{EngineError, Store};
 use nx_host::Disk;
-use nx_nav::NavError;
 use nx_script::{DocLine, DocLines, Reply, ReplyError};
 use nx_tree::{Bytes, Path};
 
@@ -61,8 +61,10 @@ impl Store {
         let Some(entry) = self.catalog.find(name.as_slice()) else {
             return Ok(Reply::Refused(ReplyError::NoDocument));
         };
-        let text = nx_nav::text_of(self.alloc, &mut self.records, disk, entry.root, entry.nodes)?;
-        Ok(Reply::Exported(text))
+        match nx_nav::text_of(self.alloc, &mut self.records, disk, entry.root, entry.nodes) {
+            Ok(text) => Ok(Reply::Exported(text)),
+            Err(error) => Err(told_by(error)),
+        }
     }
 
     // Gives the node at a path of a document.
@@ -94,8 +96,12 @@ impl Store {
                 node: shown.node,
                 children: shown.children,
             }),
-            Err(NavError::NoNode) => Ok(Reply::Refused(ReplyError::NoNode)),
-            Err(error) => Err(EngineError::from(error)),
+            Err(error) => {
+                if is_no_node(error) {
+                    return Ok(Reply::Refused(ReplyError::NoNode));
+                }
+                Err(told_by(error))
+            }
         }
     }
 
@@ -116,11 +122,13 @@ impl Store {
         let Some(entry) = self.catalog.find(name.as_slice()) else {
             return Ok(Reply::Refused(ReplyError::NoDocument));
         };
-        let laid = nx_nav::layout(self.alloc, &mut self.records, disk, entry.root, entry.nodes)?;
-        Ok(Reply::Laid {
-            parts: laid.parts,
-            weights: laid.weights,
-        })
+        match nx_nav::layout(self.alloc, &mut self.records, disk, entry.root, entry.nodes) {
+            Ok(laid) => Ok(Reply::Laid {
+                parts: laid.parts,
+                weights: laid.weights,
+            }),
+            Err(error) => Err(told_by(error)),
+        }
     }
 
     // Empties the log. What was changed and never committed is dropped first.

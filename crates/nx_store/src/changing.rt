@@ -12,6 +12,7 @@ ghost use Rattle.nx_store.specs.Staying.{IsLeftBy, RecordsStay, LeavesOthers};
 ghost use Rattle.nx_store.specs.Loading.{reply_of, HasReplyText};
 ghost use Rattle.nx_store.specs.Changing.{Prepares, NotPrepared, RuleNotPrepared, IsRuleRefusal};
 
+use crate::error::{told_error, told_removal};
 use crate::loading::{refused, told};
 use crate::{EngineError, Store};
 use nx_catalog::RuleError;
@@ -19,7 +20,6 @@ use nx_edit::remove_document;
 use nx_hold::DocEntry;
 use nx_host::Disk;
 use nx_matrix::Rule;
-use nx_records::StoreError;
 use nx_script::{Reply, ReplyError};
 use nx_tree::Bytes;
 use std::alloc::Global;
@@ -127,7 +127,7 @@ impl Store {
             Ok(()) => {}
             Err(error) => {
                 self.records.abandon();
-                return refused(self.alloc, error);
+                return Err(error);
             }
         }
         let Ok(()) = self.records.commit(disk) else {
@@ -142,7 +142,7 @@ impl Store {
         disk: &mut D,
         name: &Bytes,
         entry: DocEntry,
-    ) -> Result<(), StoreError>
+    ) -> Result<(), EngineError>
         requires runs { is_ended self.old ≡ false }
         requires found { get (self.old.catalog).documents name.now ≡ Some entry }
         ensures still { IsStill D.Disk disk.old disk.new }
@@ -151,10 +151,17 @@ impl Store {
             × RecordsStay (IsLeftBy (command.Discard name.now)) (at.state_is).stored at.held (made.prepared).now) }
         ensures refused { IfErr result (λ e. NotPrepared D.Disk e self.old self.new disk.old disk.new) }
     {
-        remove_document(self.alloc, &mut self.records, disk, entry)?;
-        self.catalog
-            .save_removed(&mut self.records, disk, name.as_slice())?;
-        Ok(())
+        match remove_document(self.alloc, &mut self.records, disk, entry) {
+            Ok(()) => {}
+            Err(error) => return Err(told_removal(error)),
+        }
+        match self
+            .catalog
+            .save_removed(&mut self.records, disk, name.as_slice())
+        {
+            Ok(()) => Ok(()),
+            Err(error) => Err(told_error(error)),
+        }
     }
 }
 

@@ -19,7 +19,7 @@ ghost use Rattle.nx_store.specs.Editing.{edit_command, CanBeMade, edit_fault, is
 
 use crate::loading::told;
 use crate::{EngineError, Store};
-use nx_edit::{EditError, delete, insert, retext};
+use nx_edit::{EditError, delete, edit_error, insert, retext};
 use nx_hold::DocEntry;
 use nx_host::Disk;
 use nx_matrix::Matrix;
@@ -126,9 +126,13 @@ impl Store {
             path.as_slice(),
             edit,
         )?;
-        self.catalog
-            .save_entry(&mut self.records, disk, name.as_slice(), new)?;
-        Ok(())
+        match self
+            .catalog
+            .save_entry(&mut self.records, disk, name.as_slice(), new)
+        {
+            Ok(()) => Ok(()),
+            Err(error) => Err(edit_error(error)),
+        }
     }
 }
 

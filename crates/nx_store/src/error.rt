@@ -1,8 +1,9 @@
 // Why a call of a store gives up.
-ghost use Rattle.std.specs.Prelude.{◌≡◌};
+ghost use Rattle.std.specs.Prelude.{◌≡◌, Some, IsSome};
 ghost use Rattle.nx_store.specs.declared.error.EngineError.TheVariants.{Memory};
-ghost use Rattle.nx_store.specs.Told.{told_error, told_by};
+ghost use Rattle.nx_store.specs.Told.{told_error, told_by, is_no_node, told_removal};
 
+use nx_edit::EditError;
 use nx_nav::NavError;
 use nx_records::StoreError;
 use nx_tree::NoMemory;
@@ -45,31 +46,62 @@ impl From<NoMemory> for EngineError {
     }
 }
 
-impl From<StoreError> for EngineError {
-    ghost from_gives = { λ below error. error ≡ told_error below };
-
-    fn from(error: StoreError) -> EngineError {
-        match error {
-            StoreError::Disk => EngineError::Disk,
-            StoreError::Exists => EngineError::Exists,
-            StoreError::NotAStore => EngineError::NotAStore,
-            StoreError::Full | StoreError::Memory => EngineError::Memory,
-            StoreError::Damaged { page } => EngineError::Damaged { page },
-            StoreError::Ended => EngineError::Ended,
-        }
+// Why a call gives up whose call of records gave up so. That no page is free is a reply, or doesn't come.
+pub(crate) fn told_error(error: StoreError) -> EngineError
+    requires { IsSome (told_error error) }
+    ensures { told_error error ≡ Some result }
+{
+    match error {
+        StoreError::Disk => EngineError::Disk,
+        StoreError::Exists => EngineError::Exists,
+        StoreError::NotAStore => EngineError::NotAStore,
+        StoreError::Damaged { page } => EngineError::Damaged { page },
+        StoreError::Ended => EngineError::Ended,
+        StoreError::Memory => EngineError::Memory,
+        StoreError::Full => unreachable!(),
     }
 }
 
-impl From<NavError> for EngineError {
-    ghost from_gives = { λ looking error. error ≡ told_by looking };
+// ... and whose look at a document gave up so. That no node is there is a reply.
+pub(crate) fn told_by(error: NavError) -> EngineError
+    requires { IsSome (told_by error) }
+    ensures { told_by error ≡ Some result }
+{
+    match error {
+        NavError::Disk => EngineError::Disk,
+        NavError::Write => EngineError::Write,
+        NavError::Damaged { page } => EngineError::Damaged { page },
+        NavError::Ended => EngineError::Ended,
+        NavError::Memory => EngineError::Memory,
+        NavError::NoNode => unreachable!(),
+    }
+}
 
-    fn from(error: NavError) -> EngineError {
-        match error {
-            NavError::Disk => EngineError::Disk,
-            NavError::Write => EngineError::Write,
-            NavError::Damaged { page } => EngineError::Damaged { page },
-            NavError::Ended => EngineError::Ended,
-            NavError::NoNode | NavError::Memory => EngineError::Memory,
-        }
+// The path leads nowhere.
+pub(crate) fn is_no_node(error: NavError) -> bool
+    ensures { result ≡ is_no_node error }
+{
+    matches!(error, NavError::NoNode)
+}
+
+// Why a call gives up whose call that takes a document away gave up so.
+pub(crate) fn told_removal(error: EditError) -> EngineError
+    requires { IsSome (told_removal error) }
+    ensures { told_removal error ≡ Some result }
+{
+    match error {
+        EditError::Disk => EngineError::Disk,
+        EditError::Damaged { page } => EngineError::Damaged { page },
+        EditError::Ended => EngineError::Ended,
+        EditError::Memory => EngineError::Memory,
+        EditError::NoNode
+        | EditError::BadPlace
+        | EditError::Twice
+        | EditError::NoContent
+        | EditError::TooLong
+        | EditError::TooDeep
+        | EditError::TooMany
+        | EditError::TooHeavy { .. }
+        | EditError::Full => unreachable!(),
     }
 }

@@ -12,6 +12,7 @@ ghost use Rattle.nx_steps.specs.Step.{may_change};
 
 use crate::EngineError;
 use crate::edits::EditBody;
+use crate::error::{told_by, told_error};
 use nx_catalog::{Catalog, load_catalog};
 use nx_host::{Disk, Host};
 use nx_records::{Records, Settings};
@@ -53,7 +54,10 @@ impl Store {
         ensures fresh { IfOk result (λ store. is_ended store ≡ false) }
         ensures refused { IfErr result (λ e. NotMade D.Disk e disk.old disk.new) }
     {
-        let records = Records::create(alloc, disk, settings)?;
+        let records = match Records::create(alloc, disk, settings) {
+            Ok(records) => records,
+            Err(error) => return Err(told_error(error)),
+        };
         Ok(Store {
             alloc,
             records,
@@ -73,8 +77,14 @@ impl Store {
         ensures marked { OnOk result ((was : Image) → IsSettled D.Disk disk.old was → HasHeader was) }
         ensures refused { IfErr result (λ e. NotOpened D.Disk e disk.old disk.new) }
     {
-        let mut records = Records::open(alloc, disk)?;
-        let catalog = load_catalog(alloc, &mut records, disk)?;
+        let mut records = match Records::open(alloc, disk) {
+            Ok(records) => records,
+            Err(error) => return Err(told_error(error)),
+        };
+        let catalog = match load_catalog(alloc, &mut records, disk) {
+            Ok(catalog) => catalog,
+            Err(error) => return Err(told_error(error)),
+        };
         Ok(Store {
             alloc,
             records,
@@ -231,14 +241,17 @@ impl Store {
             push_reply(block, &Reply::Refused(ReplyError::NoDocument))?;
             return Ok(());
         };
-        nx_nav::export(
+        match nx_nav::export(
             self.alloc,
             &mut self.records,
             host,
             entry.root,
             entry.nodes,
             block,
-        )?;
+        ) {
+            Ok(()) => {}
+            Err(error) => return Err(told_by(error)),
+        }
         block.extend_from_slice(b".\n")?;
         Ok(())
     }

@@ -312,6 +312,39 @@ fn nodes_are_refused(rt: HostRuntime) -> Result<(), Fail> {
     check_light(&rt, rt.alloc(), &INSERTS, NOT_INSERTED)
 }
 
+// Two of three attributes and the three children behind them stand in a record of their own.
+const PLACES: [&[u8]; 20] = [
+    b"load d\n(a\nAp 1234567890123456789012345678\nAq 1234567890123456789012345678\nAr 1234567890123456789012345678\n-12345678\n-12345678\n(b\n)b\n-12345678\n-12345678\n)a\n.\n",
+    b"layout d\n",
+    b"insert d /0/0 -x\n",
+    b"insert d /0/1 -x\n",
+    b"insert d /0/2 -x\n",
+    b"insert d /0/4 As x\n",
+    b"insert d /0/6 As x\n",
+    b"insert d /0/8 As x\n",
+    b"insert d /0/9 -x\n",
+    b"insert d /0/3 Ar x\n",
+    b"insert d /0/0 Aq x\n",
+    b"insert d /0/3 As x\n",
+    b"insert d /0/4 -x\n",
+    b"insert d /0/10 -x\n",
+    b"insert d /0/0 Ao x\n",
+    b"insert d /0/8/0 -x\n",
+    b"insert d /0/8/1 Ap x\n",
+    b"insert d /0/8/0 Ap x\n",
+    b"layout d\n",
+    b"export d\n",
+];
+
+const PLACED: &[u8] =
+    b"ok 10 2\nroot 12\nrun /0 1 5 16\n.\nerror bad-place\nerror bad-place\nerror bad-place\nerror bad-place\nerror bad-place\nerror bad-place\nerror bad-place\nerror twice\nerror twice\nok\nok\nok\nok\nok\nerror bad-place\nok\nroot 16\nrun /0 2 2 5\nrun /0 3 3 5\nrun /0 4 8 14\n.\n(a\nAo x\nAp 1234567890123456789012345678\nAq 1234567890123456789012345678\nAr 1234567890123456789012345678\nAs x\n-x\n-12345678\n-12345678\n(b\nAp x\n-x\n)b\n-12345678\n-12345678\n-x\n)a\n.\n";
+
+// The order of attributes forbids a node whichever record its neighbour stands in.
+#[test]
+fn places_are_judged_by_neighbours(rt: HostRuntime) -> Result<(), Fail> {
+    check_light(&rt, rt.alloc(), &PLACES, PLACED)
+}
+
 const RETEXTS: [&[u8]; 8] = [
     b"retext e /0/1 x\n",
     b"load e\n(a\nAx 1\n-hi\n)a\n.\n",

@@ -17,7 +17,7 @@ use Rattle.nx_divide.specs.Putting.{PutsRow}
 use Rattle.nx_divide.proofs.LeftLemmas.{proxies-parted, many-drop, many-take, count-drop, olds_then, fewer_olds, tree_gapped, run_gapped, tree_many, tree_count, run_many, run_count, member_left, take_next, take_none, none_left}
 use Rattle.nx_divide.proofs.WalkLemmas.{WalksOn, walk_begins, walk_ends}
 use Rattle.nx_divide.proofs.RunLemmas.{run_there, run_room, run_step}
-use Rattle.nx_divide.proofs.StepLemmas.{tree_can, tree_not, tree_put, tree_memory, tree_pushed, interval_can, interval_not, interval_room, interval_memory, interval_added, next_is_tree, member_can, member_not, member_put, member_memory, piece_can, put_done, put_not}
+use Rattle.nx_divide.proofs.StepLemmas.{tree_can, tree_not, tree_put, tree_memory, tree_pushed, interval_can, interval_not, interval_room, interval_memory, interval_added, next_is_tree, member_can, member_not, member_put, member_memory, piece_can, all_gathered, needs_fewer, put_done, put_not}
 use Rattle.nx_divide.proofs.walk.+walk.Goals as goal
 
 pub items_of-loop-count-init : goal.items_of-loop-count-init
@@ -226,8 +226,8 @@ items_of-returns-clause-ok g t c =
     subst (λ (b : Gapped). PutsRow g.D.Disk c.args.records.now c.loop-count.records c.args.disk.now c.loop-count.disk drawn b c.args.proxies.now c.loop-count.proxies) (sym c.from_vec.ensures)
     (walk_ends {d = g.D.Disk} (c.loop-count.invariant.6 drawn marked) (ap gapped_of (none_left (into_iter_items c.loop-count.left) (omega (arith, count, test)))))
 
-pub put_members-loop-position-init : goal.put_members-loop-position-init
-put_members-loop-position-init g t c = (
+pub gather_piece-loop-position-init : goal.gather_piece-loop-position-init
+gather_piece-loop-position-init g t c = (
   omega arith,
   c.requires.order,
   ap (λ (n : ℕ). drop n (into_iter_items c.args.left.now)) (let none : 0 ≡ c.args.first - c.args.first = omega arith in none),
@@ -241,8 +241,8 @@ put_members-loop-position-init g t c = (
       (walk_begins {d = g.D.Disk} (Some m.index) (holder_by_marks c.args.marks.now) c.args.first (gapped_of (take (c.args.end - c.args.first) (into_iter_items c.args.left.now))) (into_iter_items c.args.olds.now) members c.args.records.now c.args.disk.now [] c.requires.runs m.marked)),
 )
 
-pub put_members-next_tree-requires : goal.put_members-next_tree-requires
-put_members-next_tree-requires g t c =
+pub gather_piece-next_tree-requires : goal.gather_piece-next_tree-requires
+gather_piece-next_tree-requires g t c =
     let members = c.requires.marked.0 in
     let m = c.requires.marked.1 in
     let w : WalksOn g.D.Disk (Some m.index) (holder_by_marks c.args.marks.now) c.loop-position.position (gapped_of (take (c.args.end - c.loop-position.position) (into_iter_items c.loop-position.left))) (into_iter_items c.loop-position.olds) members c.args.records.now c.loop-position.records c.args.disk.now c.loop-position.disk c.loop-position.roots [] c.loop-position.proxies = c.loop-position.invariant.5 members m in
@@ -253,8 +253,8 @@ put_members-next_tree-requires g t c =
     let test : c.loop-position.position < c.args.end = c.loop-position-test.true in
     next_is_tree {d = g.D.Disk} c.args.marks.now c.args.end (into_iter_items c.loop-position.left) w m.free test (omega (arith, long, dropped, within, low, test))
 
-pub put_members-piece_tree-requires : goal.put_members-piece_tree-requires
-put_members-piece_tree-requires g t c κs within =
+pub gather_piece-piece_tree-requires : goal.gather_piece-piece_tree-requires
+gather_piece-piece_tree-requires g t c κs within =
     let members = c.requires.marked.0 in
     let m = c.requires.marked.1 in
     let w : WalksOn g.D.Disk (Some m.index) (holder_by_marks c.args.marks.now) c.loop-position.position (gapped_of (take (c.args.end - c.loop-position.position) (into_iter_items c.loop-position.left))) (into_iter_items c.loop-position.olds) members c.args.records.now c.loop-position.records c.args.disk.now c.loop-position.disk c.loop-position.roots [] c.loop-position.proxies = c.loop-position.invariant.5 members m in
@@ -274,25 +274,25 @@ put_members-piece_tree-requires g t c κs within =
       (within, (((w.put).runs).after, (omega (arith, next, all, all_less, few), (omega (arith, less, small), (omega (arith, fewer, olds), member_can {d = g.D.Disk} c.args.marks.now (w) m.free c.next_tree.result (gapped_of (take (c.args.end - (c.loop-position.position + 1)) (into_iter_items c.next_tree.new.left))) c.below_in-below.result.now (ap gapped_of (take_next (into_iter_items c.loop-position.left) (into_iter_items c.next_tree.new.left) (Tree c.next_tree.result) c.loop-position.position c.args.end c.loop-position-test.true c.next_tree.ensures)) c.below_in-below.ensures))))),
     )
 
-pub put_members-returns-in_err-made-clause-still : goal.put_members-returns-in_err-made-clause-still
-put_members-returns-in_err-made-clause-still g t c = still_then ((c.loop-position.invariant.5 c.requires.marked.0 c.requires.marked.1).put).still c.piece_tree.ensures.still
+pub gather_piece-returns-in_err-made-clause-still : goal.gather_piece-returns-in_err-made-clause-still
+gather_piece-returns-in_err-made-clause-still g t c = still_then ((c.loop-position.invariant.5 c.requires.marked.0 c.requires.marked.1).put).still c.piece_tree.ensures.still
 
-pub put_members-returns-in_err-made-clause-refused : goal.put_members-returns-in_err-made-clause-refused
-put_members-returns-in_err-made-clause-refused g t c =
+pub gather_piece-returns-in_err-made-clause-refused : goal.gather_piece-returns-in_err-made-clause-refused
+gather_piece-returns-in_err-made-clause-refused g t c =
     err_passed c.from_residual.result
     (λ (e : StoreError). (members : Draft (Unit {0})) → AreMarkedMembers (holder_by_marks c.args.marks.now) c.args.first (gapped_of (take (c.args.end - c.args.first) (into_iter_items c.args.left.now))) (into_iter_items c.args.olds.now) members
-    → NotStored g.D.Disk (λ was. draft_needs (Comes tt members Ends)) (λ was. ⊥) 0 e c.args.records.now c.piece_tree.new.records c.args.disk.now c.piece_tree.new.disk)
+    → NotStored g.D.Disk (λ was. draft_needs members) (λ was. ⊥) 0 e c.args.records.now c.piece_tree.new.records c.args.disk.now c.piece_tree.new.disk)
     c.in_err-made.field-0.0 (err_from_is_err_and c.from_residual.result c.from_residual.ensures.1)
     (λ members m. member_not {d = g.D.Disk} c.args.marks.now (c.loop-position.invariant.5 members m) m.free c.next_tree.result (gapped_of (take (c.args.end - (c.loop-position.position + 1)) (into_iter_items c.next_tree.new.left))) c.below_in-below.result.now (ap gapped_of (take_next (into_iter_items c.loop-position.left) (into_iter_items c.next_tree.new.left) (Tree c.next_tree.result) c.loop-position.position c.args.end c.loop-position-test.true c.next_tree.ensures)) c.below_in-below.ensures c.piece_tree.new.records c.piece_tree.new.disk c.in_err-made.field-0.0 c.in_err-made.ensures.refused)
 
-pub put_members-returns-in_default-clause-still : goal.put_members-returns-in_default-clause-still
-put_members-returns-in_default-clause-still g t c = still_then ((c.loop-position.invariant.5 c.requires.marked.0 c.requires.marked.1).put).still c.piece_tree.ensures.still
+pub gather_piece-returns-in_default-clause-still : goal.gather_piece-returns-in_default-clause-still
+gather_piece-returns-in_default-clause-still g t c = still_then ((c.loop-position.invariant.5 c.requires.marked.0 c.requires.marked.1).put).still c.piece_tree.ensures.still
 
-pub put_members-returns-in_default-clause-refused : goal.put_members-returns-in_default-clause-refused
-put_members-returns-in_default-clause-refused g t c = λ members m. member_memory {d = g.D.Disk} c.args.marks.now (c.loop-position.invariant.5 members m) m.free c.next_tree.result (gapped_of (take (c.args.end - (c.loop-position.position + 1)) (into_iter_items c.next_tree.new.left))) c.below_in-below.result.now (ap gapped_of (take_next (into_iter_items c.loop-position.left) (into_iter_items c.next_tree.new.left) (Tree c.next_tree.result) c.loop-position.position c.args.end c.loop-position-test.true c.next_tree.ensures)) c.below_in-below.ensures c.in_ok-made.made c.piece_tree.new.proxies c.in_ok-made.ensures.node c.in_ok-made.ensures.ok
+pub gather_piece-returns-in_default-clause-refused : goal.gather_piece-returns-in_default-clause-refused
+gather_piece-returns-in_default-clause-refused g t c = λ members m. member_memory {d = g.D.Disk} c.args.marks.now (c.loop-position.invariant.5 members m) m.free c.next_tree.result (gapped_of (take (c.args.end - (c.loop-position.position + 1)) (into_iter_items c.next_tree.new.left))) c.below_in-below.result.now (ap gapped_of (take_next (into_iter_items c.loop-position.left) (into_iter_items c.next_tree.new.left) (Tree c.next_tree.result) c.loop-position.position c.args.end c.loop-position-test.true c.next_tree.ensures)) c.below_in-below.ensures c.in_ok-made.made c.piece_tree.new.proxies c.in_ok-made.ensures.node c.in_ok-made.ensures.ok
 
-pub put_members-loop-position-preserved : goal.put_members-loop-position-preserved
-put_members-loop-position-preserved g t c =
+pub gather_piece-loop-position-preserved : goal.gather_piece-loop-position-preserved
+gather_piece-loop-position-preserved g t c =
     let low : c.args.first ≤ c.loop-position.position = c.loop-position.invariant.0 in
     let high : c.loop-position.position < c.args.end = c.loop-position-test.true in
     let olds_are : into_iter_items c.piece_tree.new.olds ≡ drop (proxies_in c.next_tree.result.below) (into_iter_items c.loop-position.olds) = c.in_ok-made.ensures.olds in
@@ -310,8 +310,11 @@ put_members-loop-position-preserved g t c =
           (member_put {d = g.D.Disk} c.args.marks.now (c.loop-position.invariant.5 members m) m.free c.next_tree.result (gapped_of (take (c.args.end - (c.loop-position.position + 1)) (into_iter_items c.next_tree.new.left))) c.below_in-below.result.now (ap gapped_of (take_next (into_iter_items c.loop-position.left) (into_iter_items c.next_tree.new.left) (Tree c.next_tree.result) c.loop-position.position c.args.end c.loop-position-test.true c.next_tree.ensures)) c.below_in-below.ensures c.in_ok-made.made c.piece_tree.new.proxies c.in_ok-made.ensures.node c.in_ok-made.ensures.ok)),
     )
 
-pub put_members-add_piece-requires : goal.put_members-add_piece-requires
-put_members-add_piece-requires g t c =
+pub gather_piece-returns-clause-still : goal.gather_piece-returns-clause-still
+gather_piece-returns-clause-still g t c = ((c.loop-position.invariant.5 c.requires.marked.0 c.requires.marked.1).put).still
+
+pub gather_piece-returns-clause-valid : goal.gather_piece-returns-clause-valid
+gather_piece-returns-clause-valid g t c =
     let members = c.requires.marked.0 in
     let m = c.requires.marked.1 in
     let w : WalksOn g.D.Disk (Some m.index) (holder_by_marks c.args.marks.now) c.loop-position.position (gapped_of (take (c.args.end - c.loop-position.position) (into_iter_items c.loop-position.left))) (into_iter_items c.loop-position.olds) members c.args.records.now c.loop-position.records c.args.disk.now c.loop-position.disk c.loop-position.roots [] c.loop-position.proxies = c.loop-position.invariant.5 members m in
@@ -319,15 +322,28 @@ put_members-add_piece-requires g t c =
     let less = many-take (c.args.end - c.args.first) (into_iter_items c.args.left.now) in
     piece_can {d = g.D.Disk} c.args.marks.now w (ap gapped_of (take_none (into_iter_items c.loop-position.left) c.loop-position.position c.args.end c.loop-position-test.false)) c.args.first (gapped_of (take (c.args.end - c.args.first) (into_iter_items c.args.left.now))) (into_iter_items c.args.olds.now) m (omega (arith, few, less))
 
+pub gather_piece-returns-clause-ok : goal.gather_piece-returns-clause-ok
+gather_piece-returns-clause-ok g t c =
+    all_gathered g.D.Disk c.args.marks.now (gapped_of (take (c.args.end - c.args.first) (into_iter_items c.args.left.now))) (gapped_of (take (c.args.end - c.loop-position.position) (into_iter_items c.loop-position.left))) (into_iter_items c.args.olds.now) (into_iter_items c.loop-position.olds) c.args.first c.loop-position.position c.loop-position.roots c.loop-position.proxies c.args.records.now c.loop-position.records c.args.disk.now c.loop-position.disk
+    c.loop-position.invariant.5 (ap gapped_of (take_none (into_iter_items c.loop-position.left) c.loop-position.position c.args.end c.loop-position-test.false))
+
+pub put_members-returns-in_err-piece-clause-refused : goal.put_members-returns-in_err-piece-clause-refused
+put_members-returns-in_err-piece-clause-refused g t c =
+    err_passed c.from_residual.result
+    (λ (e : StoreError). (members : Draft (Unit {0})) → AreMarkedMembers (holder_by_marks c.args.marks.now) c.args.first (gapped_of (take (c.args.end - c.args.first) (into_iter_items c.args.left.now))) (into_iter_items c.args.olds.now) members
+    → NotStored g.D.Disk (λ was. draft_needs (Comes tt members Ends)) (λ was. ⊥) 0 e c.args.records.now c.gather_piece.new.records c.args.disk.now c.gather_piece.new.disk)
+    c.in_err-piece.field-0.0 (err_from_is_err_and c.from_residual.result c.from_residual.ensures.1)
+    (λ members m. needs_fewer g.D.Disk c.args.records.now c.gather_piece.new.records c.args.disk.now c.gather_piece.new.disk (draft_needs members) (draft_needs (Comes tt members Ends)) (omega arith) c.in_err-piece.field-0.0 (c.in_err-piece.ensures.refused members m))
+
 pub put_members-returns-clause-still : goal.put_members-returns-clause-still
-put_members-returns-clause-still g t c = still_then ((c.loop-position.invariant.5 c.requires.marked.0 c.requires.marked.1).put).still c.add_piece.ensures.still
+put_members-returns-clause-still g t c = still_then c.gather_piece.ensures.still c.add_piece.ensures.still
 
 pub put_members-returns-clause-ok : goal.put_members-returns-clause-ok
 put_members-returns-clause-ok g t c =
-    put_done g.D.Disk c.args.marks.now (gapped_of (take (c.args.end - c.args.first) (into_iter_items c.args.left.now))) (gapped_of (take (c.args.end - c.loop-position.position) (into_iter_items c.loop-position.left))) (into_iter_items c.args.olds.now) (into_iter_items c.loop-position.olds) c.args.first c.loop-position.position c.loop-position.roots c.loop-position.proxies c.args.records.now c.loop-position.records c.add_piece.new.records c.args.disk.now c.loop-position.disk
-    c.add_piece.new.disk c.loop-position.invariant.5 (ap gapped_of (take_none (into_iter_items c.loop-position.left) c.loop-position.position c.args.end c.loop-position-test.false)) c.add_piece.result c.add_piece.ensures.roots c.add_piece.ensures.ok c.add_piece.ensures.takes c.add_piece.ensures.keeps c.add_piece.ensures.still
+    put_done g.D.Disk c.args.marks.now (gapped_of (take (c.args.end - c.args.first) (into_iter_items c.args.left.now))) (into_iter_items c.args.olds.now) c.args.first c.in_ok-piece.piece c.args.records.now c.gather_piece.new.records c.add_piece.new.records c.args.disk.now c.gather_piece.new.disk c.add_piece.new.disk
+    c.in_ok-piece.ensures.ok c.add_piece.result c.add_piece.ensures.roots c.add_piece.ensures.ok c.add_piece.ensures.takes c.add_piece.ensures.keeps c.add_piece.ensures.still
 
 pub put_members-returns-clause-refused : goal.put_members-returns-clause-refused
 put_members-returns-clause-refused g t c =
-    put_not g.D.Disk c.args.marks.now (gapped_of (take (c.args.end - c.args.first) (into_iter_items c.args.left.now))) (gapped_of (take (c.args.end - c.loop-position.position) (into_iter_items c.loop-position.left))) (into_iter_items c.args.olds.now) (into_iter_items c.loop-position.olds) c.args.first c.loop-position.position c.loop-position.roots c.loop-position.proxies c.args.records.now c.loop-position.records c.add_piece.new.records c.args.disk.now c.loop-position.disk
-    c.add_piece.new.disk c.loop-position.invariant.5 (ap gapped_of (take_none (into_iter_items c.loop-position.left) c.loop-position.position c.args.end c.loop-position-test.false)) c.add_piece.result c.add_piece.ensures.refused
+    put_not g.D.Disk c.args.marks.now (gapped_of (take (c.args.end - c.args.first) (into_iter_items c.args.left.now))) (into_iter_items c.args.olds.now) c.args.first c.in_ok-piece.piece c.args.records.now c.gather_piece.new.records c.add_piece.new.records c.args.disk.now c.gather_piece.new.disk c.add_piece.new.disk
+    c.in_ok-piece.ensures.ok c.add_piece.result c.add_piece.ensures.refused

@@ -9,13 +9,16 @@ use Rattle.nx_divide.proofs.WalkLemmas.{WalksOn}
 use Rattle.nx_divide.proofs.walk.+walk.Given as goal
 
 abbrev pub decreases-piece_tree : goal.decreases-piece_tree
-decreases-piece_tree g l = 3 * (1 + item_count l.tree.below)
+decreases-piece_tree g l = 4 * (1 + item_count l.tree.below)
 
 abbrev pub decreases-items_of : goal.decreases-items_of
-decreases-items_of g l = 3 * item_count (gapped_of l.items.items) + 2
+decreases-items_of g l = 4 * item_count (gapped_of l.items.items) + 3
 
 abbrev pub decreases-put_members : goal.decreases-put_members
-decreases-put_members g l = 3 * item_count (gapped_of (into_iter_items l.left.now)) + 1
+decreases-put_members g l = 4 * item_count (gapped_of (into_iter_items l.left.now)) + 2
+
+abbrev pub decreases-gather_piece : goal.decreases-gather_piece
+decreases-gather_piece g l = 4 * item_count (gapped_of (into_iter_items l.left.now)) + 1
 
 abbrev pub invariant-items_of-loop-count : goal.invariant-items_of-loop-count
 invariant-items_of-loop-count g l =
@@ -30,8 +33,8 @@ invariant-items_of-loop-count g l =
 abbrev pub decreases-items_of-loop-count : goal.decreases-items_of-loop-count
 decreases-items_of-loop-count g l = l.count
 
-abbrev pub invariant-put_members-loop-position : goal.invariant-put_members-loop-position
-invariant-put_members-loop-position g l =
+abbrev pub invariant-gather_piece-loop-position : goal.invariant-gather_piece-loop-position
+invariant-gather_piece-loop-position g l =
     (l.first ≤ l.position) × (l.position ≤ l.end) × (into_iter_items l.left ≡ drop (l.position - l.first) (into_iter_items l.fn.left))
     × (drop (proxies_in (gapped_of (take (l.end - l.position) (into_iter_items l.left)))) (into_iter_items l.olds) ≡ drop (proxies_in (gapped_of (take (l.end - l.first) (into_iter_items l.fn.left)))) (into_iter_items l.fn.olds))
     × (length (into_iter_items l.olds) ≤ length (into_iter_items l.fn.olds))

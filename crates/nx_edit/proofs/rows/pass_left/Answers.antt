@@ -1,71 +1,80 @@
-use Rattle.std.proofs.Common.{◌≡◌, ◌<◌, Option, Some, length, sym, ap, ◌∙◌, subst, arith}
+use Rattle.std.proofs.Common.{◌≡◌, sym, ◌∙◌, subst, arith}
 use Rattle.std.proofs.lemmas.Bool.{false≢true}
-use Rattle.std.specs.Prelude.{IfOk, IfErr}
+use Rattle.std.proofs.lemmas.Result.{err_from_is_err_and}
+use Rattle.nx_holdings.specs.Holdings.{Held}
 use Rattle.nx_piece.specs.declared.piece.Piece.{Piece}
-use Rattle.nx_piece.specs.declared.piece.Proxy.{Proxy}
 use Rattle.nx_piece.specs.Gapped.{gapped_width}
-use Rattle.nx_piece.specs.Valid.{IsValidPiece}
 use Rattle.nx_records.specs.declared.error.StoreError.{StoreError}
 use Rattle.nx_records.specs.Refusals.{NotStored}
-use Rattle.nx_hold.specs.Pieces.{HoldsNone, HoldsPiece}
+use Rattle.nx_records.proofs.RefusalLemmas.{err_passed}
+use Rattle.nx_hold.specs.Pieces.{HoldsNone}
 use Rattle.nx_hold.specs.Changes.{place_of, place_named, piece_needs, ComesTidy, UpdatesPiece}
+use Rattle.nx_edit.specs.Passing.{NotPassed}
 use Rattle.nx_edit.specs.Rows.{with_left}
-use Rattle.nx_edit.proofs.RowCalls.{get_within, ok_map}
-use Rattle.nx_edit.proofs.StayLemmas.{left_alone, left_kept, left_passed, left_stays, own_ranged}
+use Rattle.nx_edit.proofs.RowCalls.{ok_map, ok_both, err_map}
+use Rattle.nx_edit.proofs.ChangeCalls.{only_lacks}
+use Rattle.nx_edit.proofs.StayLemmas.{left_alone, left_kept, own_ranged, roots_ranged}
+use Rattle.nx_edit.proofs.PassCalls.{unread_passed, short_passed, unstored_passed, stored_passed, keeps_passed}
 use Rattle.nx_edit.proofs.rows.pass_left.Goals as goal
 
-pub into_piece-requires : goal.into_piece-requires
-into_piece-requires g c = ((c.requires.valid).body).trees
-
-pub returns-then-is_left_same-clause-roots : goal.returns-then-is_left_same-clause-roots
-returns-then-is_left_same-clause-roots g c =
-    let same : c.args.left ≡ Some c.args.proxy = c.is_left_same.ensures.0 c.if-is_left_same.true in
-    c.own_proxy.ensures.roots ∙ ap (λ (p : Piece). gapped_width p.body.roots) (sym (left_stays c.args.piece c.args.index c.args.proxy c.requires.there)) ∙ ap (λ (o : Option Proxy). gapped_width (with_left c.args.index o c.args.piece).body.roots) (sym same)
-
 pub returns-then-is_left_same-clause-ranged : goal.returns-then-is_left_same-clause-ranged
-returns-then-is_left_same-clause-ranged g c = own_ranged c.args.piece c.own_proxy.result c.requires.valid c.own_proxy.ensures.roots
+returns-then-is_left_same-clause-ranged g c = roots_ranged c.own_proxy.result c.args.passed.now.roots c.own_proxy.ensures.roots c.requires.rooted.0 c.requires.rooted.1
 
 pub returns-then-is_left_same-clause-ok : goal.returns-then-is_left_same-clause-ok
-returns-then-is_left_same-clause-ok g c =
-    let same : c.args.left ≡ Some c.args.proxy = c.is_left_same.ensures.0 c.if-is_left_same.true in
-    subst (λ (o : Option Proxy). ComesTidy g.D.Disk c.args.records.now c.args.records.now c.args.disk.now c.args.disk.now (λ was now. HoldsPiece was (place_of c.args.rid) c.args.piece → UpdatesPiece (place_of c.args.rid) (place_named c.own_proxy.result) (with_left c.args.index o c.args.piece) was now)) (sym same)
-    (left_kept g.D.Disk c.args.records.now c.args.disk.now (place_of c.args.rid) c.args.piece c.args.index c.args.proxy c.own_proxy.result c.requires.there c.own_proxy.ensures.place)
+returns-then-is_left_same-clause-ok g c = λ saved was stands tidy. (
+  was,
+  stands,
+  tidy,
+  left_kept was (place_of c.args.rid) c.args.passed.now c.args.left c.own_proxy.result (c.is_left_same.ensures.0 c.if-is_left_same.true) c.own_proxy.ensures.place c.own_proxy.ensures.roots,
+)
 
 pub returns-then-is_left_same-clause-keeps : goal.returns-then-is_left_same-clause-keeps
 returns-then-is_left_same-clause-keeps g c =
     let alone = left_alone g.D.Disk c.args.records.now c.args.disk.now c.requires.runs in
     (alone.0, alone.1, λ has. has)
 
-pub returns-in_default-clause-refused : goal.returns-in_default-clause-refused
-returns-in_default-clause-refused g c = left_alone g.D.Disk c.args.records.now c.args.disk.now c.requires.runs
+pub returns-in_err-piece-clause-refused : goal.returns-in_err-piece-clause-refused
+returns-in_err-piece-clause-refused g c =
+    err_passed c.from_residual.result (λ (e : StoreError). NotPassed g.D.Disk (place_of c.args.rid) c.args.passed.now (with_left c.args.passed.now.index c.args.left) (λ (piece : Piece). Unit {0}) e c.args.records.now c.read_piece.new.records c.args.disk.now c.read_piece.new.disk)
+    c.in_err-piece.field-0.0 (err_from_is_err_and c.from_residual.result c.from_residual.ensures.1)
+    (unread_passed g.D.Disk (place_of c.args.rid) c.args.passed.now (with_left c.args.passed.now.index c.args.left) (λ (piece : Piece). Unit {0}) c.args.records.now c.read_piece.new.records c.args.disk.now c.read_piece.new.disk c.requires.runs c.read_piece.ensures.still c.args.rid.page c.in_err-piece.field-0.0 c.in_err-piece.ensures.refused)
+
+pub returns-then-len-passed-clause-refused : goal.returns-then-len-passed-clause-refused
+returns-then-len-passed-clause-refused g c =
+    subst (λ (e : StoreError). NotPassed g.D.Disk (place_of c.args.rid) c.args.passed.now (with_left c.args.passed.now.index c.args.left) (λ (piece : Piece). Unit {0}) e c.args.records.now c.damaged.new.records c.args.disk.now c.read_piece.new.disk) (sym c.damaged.ensures.result)
+    (short_passed g.D.Disk (place_of c.args.rid) c.args.passed.now (with_left c.args.passed.now.index c.args.left) (λ (piece : Piece). Unit {0}) c.args.records.now c.read_piece.new.records c.args.disk.now c.read_piece.new.disk c.requires.runs c.read_piece.ensures.still c.in_ok-piece.piece c.in_ok-piece.ensures.ok.1 c.in_ok-piece.ensures.ok.2 c.damaged.new.records (let short = c.if-len-passed.true in let len = c.len.ensures in omega (arith, short, len)) (c.damaged.ensures.ends ((c.in_ok-piece.ensures.ok.1).ended_stays ∙ c.requires.runs)))
 
 pub put_left-piece-requires-clause-valid : goal.put_left-piece-requires-clause-valid
-put_left-piece-requires-clause-valid g c = subst IsValidPiece (sym c.in-Ok.ensures) c.requires.valid
+put_left-piece-requires-clause-valid g c = c.in_ok-piece.ensures.valid.0
 
 pub put_left-piece-requires-clause-within : goal.put_left-piece-requires-clause-within
-put_left-piece-requires-clause-within g c = subst (λ (p : Piece). c.args.index < length p.proxies) (sym c.in-Ok.ensures) (get_within c.args.piece.proxies c.args.index c.args.proxy c.requires.there)
+put_left-piece-requires-clause-within g c = let not = c.if-len-passed.false in let len = c.len.ensures in omega (arith, not, len)
 
 pub returns-clause-unwritten : goal.returns-clause-unwritten
 returns-clause-unwritten g c = ok_map c.update_piece.result (λ own keeps same. absurd (false≢true (sym c.if-is_left_same.false ∙ c.is_left_same.ensures.1 same))) c.update_piece.ensures.keeps
-
-pub returns-clause-roots : goal.returns-clause-roots
-returns-clause-roots g c =
-    let same : c.put_left-piece.result ≡ with_left c.args.index c.args.left c.args.piece = c.put_left-piece.ensures.same ∙ ap (λ (p : Piece). with_left c.args.index c.args.left p) c.in-Ok.ensures in
-    subst (λ (p : Piece). IfOk c.update_piece.result (λ (own : Proxy). own.roots ≡ gapped_width p.body.roots)) same c.update_piece.ensures.roots
 
 pub returns-clause-ranged : goal.returns-clause-ranged
 returns-clause-ranged g c = ok_map c.update_piece.result (λ own roots. own_ranged c.put_left-piece.result own c.put_left-piece.ensures.valid roots) c.update_piece.ensures.roots
 
 pub returns-clause-ok : goal.returns-clause-ok
 returns-clause-ok g c =
-    let same : c.put_left-piece.result ≡ with_left c.args.index c.args.left c.args.piece = c.put_left-piece.ensures.same ∙ ap (λ (p : Piece). with_left c.args.index c.args.left p) c.in-Ok.ensures in
-    ok_map c.update_piece.result (λ own comes. left_passed g.D.Disk c.args.records.now c.update_piece.new.records c.args.disk.now c.update_piece.new.disk (place_of c.args.rid) c.put_left-piece.result (with_left c.args.index c.args.left c.args.piece) c.args.piece own same comes) c.update_piece.ensures.ok
+    ok_map c.update_piece.result (λ own both.
+    stored_passed g.D.Disk (place_of c.args.rid) c.args.passed.now (with_left c.args.passed.now.index c.args.left) (λ (piece : Piece). Unit {0}) c.args.records.now c.read_piece.new.records c.args.disk.now c.read_piece.new.disk c.requires.runs c.read_piece.ensures.still c.in_ok-piece.piece c.in_ok-piece.ensures.ok.1 c.in_ok-piece.ensures.ok.2 c.update_piece.new.records c.update_piece.new.disk
+    (λ (piece : Piece) (was now : Held). (own.roots ≡ gapped_width (with_left c.args.passed.now.index c.args.left piece).body.roots) × UpdatesPiece (place_of c.args.rid) (place_named own) (with_left c.args.passed.now.index c.args.left piece) was now)
+    (subst (λ (p : Piece). ComesTidy g.D.Disk c.read_piece.new.records c.update_piece.new.records c.read_piece.new.disk c.update_piece.new.disk (λ (was now : Held). (own.roots ≡ gapped_width p.body.roots) × UpdatesPiece (place_of c.args.rid) (place_named own) p was now)) c.put_left-piece.ensures.same
+    (λ saved was stands tidy. let next = both.1 saved was stands tidy in (next.0, next.1, next.2, (both.0, next.3)))))
+    (ok_both _ _ c.update_piece.result c.update_piece.ensures.roots c.update_piece.ensures.ok)
 
 pub returns-clause-keeps : goal.returns-clause-keeps
-returns-clause-keeps g c = ok_map c.update_piece.result (λ own keeps. (keeps.0, keeps.1, λ had. keeps.2)) c.update_piece.ensures.keeps
+returns-clause-keeps g c =
+    ok_map c.update_piece.result (λ own keeps.
+    let on = keeps_passed g.D.Disk (place_of c.args.rid) c.args.passed.now (with_left c.args.passed.now.index c.args.left) (λ (piece : Piece). Unit {0}) c.args.records.now c.read_piece.new.records c.args.disk.now c.read_piece.new.disk c.requires.runs c.read_piece.ensures.still c.in_ok-piece.piece c.in_ok-piece.ensures.ok.1 c.in_ok-piece.ensures.ok.2 c.update_piece.new.records c.update_piece.new.disk keeps.0 keeps.1 in
+    (on.0, on.1, λ had. keeps.2)) c.update_piece.ensures.keeps
 
 pub returns-clause-refused : goal.returns-clause-refused
 returns-clause-refused g c =
-    let same : c.put_left-piece.result ≡ with_left c.args.index c.args.left c.args.piece = c.put_left-piece.ensures.same ∙ ap (λ (p : Piece). with_left c.args.index c.args.left p) c.in-Ok.ensures in
-    subst (λ (p : Piece). IfErr c.update_piece.result (λ (e : StoreError). NotStored g.D.Disk (λ was. piece_needs p) (λ was. HoldsNone was (place_of c.args.rid)) c.args.rid.page e c.args.records.now c.update_piece.new.records c.args.disk.now c.update_piece.new.disk)) same
+    err_map c.update_piece.result (λ e refused.
+    unstored_passed g.D.Disk (place_of c.args.rid) c.args.passed.now (with_left c.args.passed.now.index c.args.left) (λ (piece : Piece). Unit {0}) c.args.records.now c.read_piece.new.records c.args.disk.now c.read_piece.new.disk c.requires.runs c.read_piece.ensures.still c.in_ok-piece.piece c.in_ok-piece.ensures.ok.1 c.in_ok-piece.ensures.ok.2 c.update_piece.new.records c.update_piece.new.disk c.args.rid.page e
+    (only_lacks g.D.Disk (λ was. piece_needs (with_left c.args.passed.now.index c.args.left c.in_ok-piece.piece)) (λ was. HoldsNone was (place_of c.args.rid)) (Unit {0}) c.args.rid.page e c.read_piece.new.records c.update_piece.new.records c.read_piece.new.disk c.update_piece.new.disk
+    (subst (λ (p : Piece). NotStored g.D.Disk (λ was. piece_needs p) (λ was. HoldsNone was (place_of c.args.rid)) c.args.rid.page e c.read_piece.new.records c.update_piece.new.records c.read_piece.new.disk c.update_piece.new.disk) c.put_left-piece.ensures.same refused)))
     c.update_piece.ensures.refused

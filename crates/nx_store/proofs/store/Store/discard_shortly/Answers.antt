@@ -1,11 +1,12 @@
 use Rattle.std.proofs.Common.{List, ℕ, ap, refl}
+use Rattle.std.specs.Prelude.{Err}
 use Rattle.nx_wal.specs.Wal.{next_group}
 use Rattle.nx_records.specs.Records.{next_number}
 use Rattle.nx_script.specs.declared.reply.Reply.{Reply}
 use Rattle.nx_script.specs.declared.reply.Reply.TheVariants.{Done}
 use Rattle.nx_script.specs.declared.command.Command.TheVariants.{Discard}
 use Rattle.nx_store.specs.declared.store.Store.{Store}
-use Rattle.nx_store.proofs.CommitLemmas.{commit_begun, commit_applied, refusal_applied, refusal_ok, refusal_refused}
+use Rattle.nx_store.proofs.CommitLemmas.{commit_begun, commit_applied, refusal_applied, refusal_refused}
 use Rattle.nx_store.proofs.ShowLemmas.{still_areas}
 use Rattle.nx_store.proofs.AppliedLemmas.{commit_refused}
 use Rattle.nx_store.proofs.StayingLemmas.{unasked_leaves, held_leaves, ended_leaves, committed_leaves, drop_holds}
@@ -15,19 +16,13 @@ pub returns-in-Err-clause-applies : goal.returns-in-Err-clause-applies
 returns-in-Err-clause-applies g c state at told =
     let now : Store = record { alloc = c.prepare_discard.new.self.alloc; records = c.abandon.new.self; catalog = c.prepare_discard.new.self.catalog } in
     refusal_applied g.D.Disk (Discard c.args.name.now) (λ is. cc) c.args.self.now c.prepare_discard.new.self now c.args.disk.now c.prepare_discard.new.disk c.abandon.ensures.follows c.abandon.ensures.none_left c.abandon.ensures.saved c.abandon.ensures.stays.0 refl
-    c.in-Err.ensures.still c.in-Err.error c.refused.result c.refused.ensures c.in-Err.ensures.refused state at
-
-pub returns-in-Err-clause-ok : goal.returns-in-Err-clause-ok
-returns-in-Err-clause-ok g c =
-    let now : Store = record { alloc = c.prepare_discard.new.self.alloc; records = c.abandon.new.self; catalog = c.prepare_discard.new.self.catalog } in
-    refusal_ok g.D.Disk (Discard c.args.name.now) (λ is. cc) c.args.self.now c.prepare_discard.new.self now c.args.disk.now c.prepare_discard.new.disk c.abandon.ensures.follows c.abandon.ensures.none_left c.abandon.ensures.saved c.abandon.ensures.stays.0 refl
-    c.in-Err.ensures.still c.in-Err.error c.refused.result c.refused.ensures c.in-Err.ensures.refused
+    c.in-Err.ensures.still c.in-Err.error (Err c.in-Err.error) refl c.in-Err.ensures.refused state at
 
 pub returns-in-Err-clause-refused : goal.returns-in-Err-clause-refused
 returns-in-Err-clause-refused g c =
     let now : Store = record { alloc = c.prepare_discard.new.self.alloc; records = c.abandon.new.self; catalog = c.prepare_discard.new.self.catalog } in
     refusal_refused g.D.Disk (Discard c.args.name.now) (λ is. cc) c.args.self.now c.prepare_discard.new.self now c.args.disk.now c.prepare_discard.new.disk c.abandon.ensures.follows c.abandon.ensures.none_left c.abandon.ensures.saved c.abandon.ensures.stays.0 refl
-    c.in-Err.ensures.still c.in-Err.error c.refused.result c.refused.ensures c.in-Err.ensures.refused
+    c.in-Err.ensures.still c.in-Err.error (Err c.in-Err.error) refl c.in-Err.ensures.refused
 
 pub returns-in-Err-clause-areas : goal.returns-in-Err-clause-areas
 returns-in-Err-clause-areas g c = still_areas g.D.Disk c.in-Err.ensures.still

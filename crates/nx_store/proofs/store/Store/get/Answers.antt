@@ -1,4 +1,5 @@
 use Rattle.std.proofs.Common.{◌≡◌, ℕ, List, sym, ap, subst, ◌∙◌, refl}
+use Rattle.std.proofs.lemmas.Bool.{false≢true}
 use Rattle.std.specs.Prelude.{Some, None}
 use Rattle.std.specs.Option.{option_map_or}
 use Rattle.std.specs.FinMap.{get}
@@ -11,6 +12,8 @@ use Rattle.nx_script.specs.declared.reply.Reply.{Reply}
 use Rattle.nx_script.specs.declared.reply.Reply.TheVariants.{Shown, Refused}
 use Rattle.nx_script.specs.declared.reply.ReplyError.TheVariants.{NoNode}
 use Rattle.nx_engine.specs.Step.{shown}
+use Rattle.nx_edit.proofs.ToldLemmas.{told_so}
+use Rattle.nx_store.specs.Told.{told_by}
 use Rattle.nx_store.specs.Store.{NotApplied}
 use Rattle.nx_store.specs.declared.store.Store.{Store}
 use Rattle.nx_store.specs.declared.error.EngineError.{EngineError}
@@ -44,11 +47,11 @@ returns-in-Ok-clause-ok g c =
       )),
     )
 
-pub returns-in-Err-NoNode-clause-ok : goal.returns-in-Err-NoNode-clause-ok
-returns-in-Err-NoNode-clause-ok g c =
+pub returns-then-is_no_node-clause-ok : goal.returns-then-is_no_node-clause-ok
+returns-then-is_no_node-clause-ok g c =
     let nowhere = is_nowhere g.D.Disk (OfEach g.D.Disk c.args.self.now.records c.args.disk.now (place_of c.in-Some.entry.root) (λ document. at_path (tree_of document) c.as_slice-2.result.now ≡ None)) ⊥
-    (HoldsNoDocument g.D.Disk c.args.self.now.records c.args.disk.now (place_of c.in-Some.entry.root)) c.args.self.now.records c.get.new.records c.args.disk.now c.get.new.disk c.in-Err-NoNode.field-0
-    c.in-Err-NoNode.field-0-is c.in-Err-NoNode.ensures.refused in
+    (HoldsNoDocument g.D.Disk c.args.self.now.records c.args.disk.now (place_of c.in-Some.entry.root)) c.args.self.now.records c.get.new.records c.args.disk.now c.get.new.disk c.in-Err.error
+    (sym c.is_no_node.ensures ∙ c.if-is_no_node.true) c.in-Err.ensures.refused in
     let after : Store = record c.args.self.now { records = c.get.new.records } in
     let is : get (c.args.self.now.catalog).documents c.args.name.now ≡ Some c.in-Some.entry = ap (get (c.args.self.now.catalog).documents) (sym c.as_slice.ensures) ∙ sym c.in-Some.ensures in (
       (nowhere.1, (nowhere.2).ended_stays ∙ nowhere.1),
@@ -59,23 +62,23 @@ returns-in-Err-NoNode-clause-ok g c =
       )),
     )
 
-pub returns-in-Err-clause-refused : goal.returns-in-Err-clause-refused
-returns-in-Err-clause-refused g c =
+pub returns-else-is_no_node-clause-refused : goal.returns-else-is_no_node-clause-refused
+returns-else-is_no_node-clause-refused g c =
     let after : Store = record c.args.self.now { records = c.get.new.records } in
     let is : get (c.args.self.now.catalog).documents c.args.name.now ≡ Some c.in-Some.entry = ap (get (c.args.self.now.catalog).documents) (sym c.as_slice.ensures) ∙ sym c.in-Some.ensures in
-    subst (λ (e : EngineError). NotApplied g.D.Disk e c.args.self.now after c.args.disk.now c.get.new.disk) (sym c.from.ensures)
+    told_so (told_by c.in-Err.error) (λ (e : EngineError). NotApplied g.D.Disk e c.args.self.now after c.args.disk.now c.get.new.disk) c.told_by.result c.told_by.ensures
     (look_refused g.D.Disk c.args.self.now after (OfEach g.D.Disk c.args.self.now.records c.args.disk.now (place_of c.in-Some.entry.root) (λ document. at_path (tree_of document) c.as_slice-2.result.now ≡ None)) c.in-Err.error
-    (lacks_nowhere c.args.name.now c.in-Some.entry is) c.get.ensures.still refl c.in-Err.ensures.refused)
+    (λ is nowhere. false≢true (sym (sym c.is_no_node.ensures ∙ c.if-is_no_node.false) ∙ is)) (lacks_nowhere c.args.name.now c.in-Some.entry is) c.get.ensures.still refl c.in-Err.ensures.refused)
 
-pub returns-in-Err-NoNode-clause-same : goal.returns-in-Err-NoNode-clause-same
-returns-in-Err-NoNode-clause-same g c runs = record {
+pub returns-then-is_no_node-clause-same : goal.returns-then-is_no_node-clause-same
+returns-then-is_no_node-clause-same g c runs = record {
   records = look_same g.D.Disk (OfEach g.D.Disk c.args.self.now.records c.args.disk.now (place_of c.in-Some.entry.root) (λ document. at_path (tree_of document) c.as_slice-2.result.now ≡ None))
-      (HoldsNoDocument g.D.Disk c.args.self.now.records c.args.disk.now (place_of c.in-Some.entry.root)) c.args.self.now.records c.get.new.records c.args.disk.now c.get.new.disk c.in-Err-NoNode.field-0 c.in-Err-NoNode.ensures.refused runs;
+      (HoldsNoDocument g.D.Disk c.args.self.now.records c.args.disk.now (place_of c.in-Some.entry.root)) c.args.self.now.records c.get.new.records c.args.disk.now c.get.new.disk c.in-Err.error c.in-Err.ensures.refused runs;
   catalog = refl;
 }
 
-pub returns-in-Err-clause-same : goal.returns-in-Err-clause-same
-returns-in-Err-clause-same g c runs = record {
+pub returns-else-is_no_node-clause-same : goal.returns-else-is_no_node-clause-same
+returns-else-is_no_node-clause-same g c runs = record {
   records = look_same g.D.Disk (OfEach g.D.Disk c.args.self.now.records c.args.disk.now (place_of c.in-Some.entry.root) (λ document. at_path (tree_of document) c.as_slice-2.result.now ≡ None))
       (HoldsNoDocument g.D.Disk c.args.self.now.records c.args.disk.now (place_of c.in-Some.entry.root)) c.args.self.now.records c.get.new.records c.args.disk.now c.get.new.disk c.in-Err.error c.in-Err.ensures.refused runs;
   catalog = refl;

@@ -1,5 +1,4 @@
 use Rattle.std.proofs.Common.{◌≡◌, sym, ap, ◌∙◌, refl}
-use Rattle.std.proofs.lemmas.Result.{err_from_is_err_and}
 use Rattle.std.specs.Prelude.{Some}
 use Rattle.std.specs.FinMap.{get}
 use Rattle.nx_cuts.specs.Cut.{parts_of}
@@ -7,12 +6,13 @@ use Rattle.nx_script.specs.declared.reply.Reply.TheVariants.{Laid}
 use Rattle.nx_hold.specs.Changes.{place_of}
 use Rattle.nx_nav.specs.Refusals.{HoldsNoneWith}
 use Rattle.nx_steps.specs.Answers.{laid}
+use Rattle.nx_edit.proofs.ToldLemmas.{told_so}
 use Rattle.nx_store.specs.Told.{told_by}
 use Rattle.nx_store.specs.Store.{NotApplied}
 use Rattle.nx_store.specs.declared.store.Store.{Store}
 use Rattle.nx_store.specs.declared.error.EngineError.{EngineError}
 use Rattle.nx_store.proofs.CaseLemmas.{layout_case}
-use Rattle.nx_store.proofs.RefusalLemmas.{told_passed, look_refused, look_same}
+use Rattle.nx_store.proofs.RefusalLemmas.{look_refused, look_same}
 use Rattle.nx_store.proofs.LookLemmas.{absent_answer, found_answer_with, lacks_nowhere_with}
 use Rattle.nx_store.proofs.store.Store.layout.Goals as goal
 
@@ -22,26 +22,25 @@ returns-in_default-clause-ok g c =
     let none = ap (get (c.args.self.now.catalog).documents) (sym c.as_slice.ensures) ∙ sym c.in_default.ensures in
     ((runs, runs), (λ state at. layout_case state c.args.name.now _ state (absent_answer c.args.name.now laid none at, refl)))
 
-pub returns-in_err-laid-clause-refused : goal.returns-in_err-laid-clause-refused
-returns-in_err-laid-clause-refused g c =
+pub returns-in-Err-clause-refused : goal.returns-in-Err-clause-refused
+returns-in-Err-clause-refused g c =
     let after : Store = record c.args.self.now { records = c.layout.new.records } in
     let is : get (c.args.self.now.catalog).documents c.args.name.now ≡ Some c.in-Some.entry = ap (get (c.args.self.now.catalog).documents) (sym c.as_slice.ensures) ∙ sym c.in-Some.ensures in
-    told_passed c.from_residual.result (λ (e : EngineError). NotApplied g.D.Disk e c.args.self.now after c.args.disk.now c.layout.new.disk) (told_by c.in_err-laid.field-0.0)
-    (err_from_is_err_and c.from_residual.result c.from_residual.ensures.1)
-    (look_refused g.D.Disk c.args.self.now after ⊥ c.in_err-laid.field-0.0 (lacks_nowhere_with c.args.name.now c.in-Some.entry is) c.layout.ensures.still refl
-    c.in_err-laid.ensures.refused)
+    told_so (told_by c.in-Err.error) (λ (e : EngineError). NotApplied g.D.Disk e c.args.self.now after c.args.disk.now c.layout.new.disk) c.told_by.result c.told_by.ensures
+    (look_refused g.D.Disk c.args.self.now after ⊥ c.in-Err.error (λ is none. none) (lacks_nowhere_with c.args.name.now c.in-Some.entry is) c.layout.ensures.still refl
+    c.in-Err.ensures.refused)
 
-pub returns-clause-ok : goal.returns-clause-ok
-returns-clause-ok g c =
-    let ok = c.in_ok-laid.ensures.ok in
+pub returns-in-Ok-clause-ok : goal.returns-in-Ok-clause-ok
+returns-in-Ok-clause-ok g c =
+    let ok = c.in-Ok.ensures.ok in
     let after : Store = record c.args.self.now { records = c.layout.new.records } in
     let is : get (c.args.self.now.catalog).documents c.args.name.now ≡ Some c.in-Some.entry = ap (get (c.args.self.now.catalog).documents) (sym c.as_slice.ensures) ∙ sym c.in-Some.ensures in (
       (ok.0, (ok.1).ended_stays ∙ ok.0),
-      (λ state at. layout_case state c.args.name.now _ state (found_answer_with c.args.name.now c.in-Some.entry laid (Laid c.in_ok-laid.laid.parts c.in_ok-laid.laid.weights) is (λ document has count. let all = ok.2 document has in ap (λ ps. Laid ps c.in_ok-laid.laid.weights) all.1 ∙ ap (Laid (parts_of document)) all.2) at, refl)),
+      (λ state at. layout_case state c.args.name.now _ state (found_answer_with c.args.name.now c.in-Some.entry laid (Laid c.in-Ok.laid.parts c.in-Ok.laid.weights) is (λ document has count. let all = ok.2 document has in ap (λ ps. Laid ps c.in-Ok.laid.weights) all.1 ∙ ap (Laid (parts_of document)) all.2) at, refl)),
     )
 
-pub returns-in_err-laid-clause-same : goal.returns-in_err-laid-clause-same
-returns-in_err-laid-clause-same g c runs = record {
-  records = look_same g.D.Disk ⊥ (HoldsNoneWith g.D.Disk c.args.self.now.records c.args.disk.now (place_of c.in-Some.entry.root) c.in-Some.entry.nodes) c.args.self.now.records c.layout.new.records c.args.disk.now c.layout.new.disk c.in_err-laid.field-0.0 c.in_err-laid.ensures.refused runs;
+pub returns-in-Err-clause-same : goal.returns-in-Err-clause-same
+returns-in-Err-clause-same g c runs = record {
+  records = look_same g.D.Disk ⊥ (HoldsNoneWith g.D.Disk c.args.self.now.records c.args.disk.now (place_of c.in-Some.entry.root) c.in-Some.entry.nodes) c.args.self.now.records c.layout.new.records c.args.disk.now c.layout.new.disk c.in-Err.error c.in-Err.ensures.refused runs;
   catalog = refl;
 }

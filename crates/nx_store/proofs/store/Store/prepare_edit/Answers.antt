@@ -15,6 +15,7 @@ use Rattle.nx_edit.specs.Editing.{EditsDocument}
 use Rattle.nx_edit.specs.Removing.{OfEntry}
 use Rattle.nx_edit.specs.Refusals.{edit_needs, edit_error, NotEdited}
 use Rattle.nx_edit.specs.declared.error.EditError.{EditError}
+use Rattle.nx_edit.proofs.ToldLemmas.{told_so}
 use Rattle.nx_store.specs.Editing.{edit_command, edit_fault, is_of_edit, tree_edit, EditBecomes, stays_below, EditNotPrepared}
 use Rattle.nx_store.specs.declared.store.Store.{Store}
 use Rattle.nx_store.proofs.ShowLemmas.{handed}
@@ -39,24 +40,23 @@ returns-in_err-new-clause-refused g c =
     (subst (λ (p : List ℕ). NotEdited g.D.Disk (is_of_edit e) (edit_fault e p k) (edit_needs (tree_edit e p)) c.args.entry c.in_err-new.field-0.0 c.args.self.now.records c.make_edit.new.records c.args.disk.now c.make_edit.new.disk) c.as_slice.ensures
     c.in_err-new.ensures.refused))
 
-pub returns-in_err-save_entry-clause-refused : goal.returns-in_err-save_entry-clause-refused
-returns-in_err-save_entry-clause-refused g c =
+pub returns-in-Err-clause-refused : goal.returns-in-Err-clause-refused
+returns-in-Err-clause-refused g c =
     let path = c.args.path.now in
     let e = c.args.edit in
     let mid : Store = record { alloc = c.args.self.now.alloc; records = c.make_edit.new.records; catalog = c.args.self.now.catalog } in
     let after : Store = record { alloc = c.args.self.now.alloc; records = c.save_entry.new.records; catalog = c.save_entry.new.self } in
     let comes = by_settings g.D.Disk c.args.self.now.records c.make_edit.new.records c.args.disk.now c.make_edit.new.disk (λ settings. EditBecomes settings c.matrix.result.now e c.as_slice.result.now) (stays_below e) c.as_slice.result.now
     c.args.entry c.in_ok-new.new c.in_ok-new.ensures.ok in
-    handed c.from_residual-in_err-save_entry.result (λ (r : Result (Unit {0}) EditError). IfErr r (λ (x : EditError). EditNotPrepared g.D.Disk (edit_command c.args.name.now path e) path x c.args.self.now after c.args.disk.now c.save_entry.new.disk))
-    (edit_error c.in_err-save_entry.field-0.0) (err_from_is_err_and c.from_residual-in_err-save_entry.result c.from_residual-in_err-save_entry.ensures.1)
+    told_so (edit_error c.in-Err.error) (λ (x : EditError). EditNotPrepared g.D.Disk (edit_command c.args.name.now path e) path x c.args.self.now after c.args.disk.now c.save_entry.new.disk) c.edit_error.result c.edit_error.ensures
     (entry_unsaved g.D.Disk c.args.self.now mid c.args.disk.now c.make_edit.new.disk c.args.name.now c.args.entry path e c.requires.runs c.requires.found c.requires.can
     after c.save_entry.new.disk c.in_ok-new.new (EditBecomes (settings_of c.args.self.now.records) c.matrix.result.now e c.as_slice.result.now) (stays_below e) c.as_slice.result.now
-    c.make_edit.ensures.still c.in_ok-new.ensures.keeps.0 c.in_ok-new.ensures.keeps.1 comes c.in_err-save_entry.ensures.err c.in_err-save_entry.field-0.0
+    c.make_edit.ensures.still c.in_ok-new.ensures.keeps.0 c.in_ok-new.ensures.keeps.1 comes c.in-Err.ensures.err c.in-Err.error
     (subst (λ (n : List ℕ). NotStored g.D.Disk (λ was. catalog_needs (catalog_bytes (record { documents = insert c.args.self.now.catalog.documents n c.in_ok-new.new; rules = c.args.self.now.catalog.rules })) was) (λ was. ⊥) 0
-    c.in_err-save_entry.field-0.0 c.make_edit.new.records c.save_entry.new.records c.make_edit.new.disk c.save_entry.new.disk) c.as_slice-2.ensures c.in_err-save_entry.ensures.refused))
+    c.in-Err.error c.make_edit.new.records c.save_entry.new.records c.make_edit.new.disk c.save_entry.new.disk) c.as_slice-2.ensures c.in-Err.ensures.refused))
 
-pub returns-clause-ok : goal.returns-clause-ok
-returns-clause-ok g c state at =
+pub returns-in-Ok-clause-ok : goal.returns-in-Ok-clause-ok
+returns-in-Ok-clause-ok g c state at =
     let path = c.args.path.now in
     let e = c.args.edit in
     let k = (settings_of c.args.self.now.records).k in
@@ -70,5 +70,5 @@ returns-clause-ok g c state at =
     c.as_slice.ensures
     (subst (λ (rs : List Rule). ComesTidy g.D.Disk c.args.self.now.records c.make_edit.new.records c.args.disk.now c.make_edit.new.disk (EditsDocument (EditBecomes (settings_of c.args.self.now.records) rs e c.as_slice.result.now) (stays_below e) c.as_slice.result.now c.args.entry c.in_ok-new.new))
     c.matrix.ensures comes))
-    (subst (λ (n : List ℕ). c.save_entry.new.self.documents ≡ insert c.args.self.now.catalog.documents n c.in_ok-new.new) c.as_slice-2.ensures c.in_ok-save_entry.ensures.documents)
-    c.save_entry.ensures.rules c.in_ok-save_entry.ensures.form c.in_ok-save_entry.ensures.ok
+    (subst (λ (n : List ℕ). c.save_entry.new.self.documents ≡ insert c.args.self.now.catalog.documents n c.in_ok-new.new) c.as_slice-2.ensures c.in-Ok.ensures.documents)
+    c.save_entry.ensures.rules c.in-Ok.ensures.form c.in-Ok.ensures.ok
