@@ -1,5 +1,6 @@
 //! The two files of a store, and its log.
 
+use crate::cache::Cache;
 use crate::page::{MOST_PAGES, PAGE, Page, u32_at};
 use std::collections::BTreeMap;
 use std::fs::{File, OpenOptions};
@@ -9,6 +10,8 @@ use std::os::unix::fs::FileExt;
 /// Bytes of a page in the log, with its number.
 const ENTRY: u64 = 4 + PAGE as u64;
 const HEAD: u64 = 13;
+/// Set in the places of the log, for the cache.
+const IN_LOG: u64 = 1 << 63;
 /// Once so many bytes of a group wait, they are written.
 const BLOCK: usize = 262_144;
 
@@ -22,6 +25,8 @@ pub struct Log {
     shut: bool,
     /// Bytes that wait to be written, kept for their room.
     block: Vec<u8>,
+    /// Pages that were read. A commit writes behind all of the log that was read, so that they stay.
+    cache: Cache,
 }
 
 fn open_file(path: &str) -> io::Result<File> {
@@ -66,6 +71,7 @@ impl Log {
             end: 0,
             shut: false,
             block: Vec::with_capacity(BLOCK + PAGE + 4),
+            cache: Cache::new(),
         };
         log.pages.sync_data()?;
         log.log.sync_data()?;
@@ -116,13 +122,14 @@ impl Log {
         Ok(!self.places.is_empty() || self.pages.metadata()?.len() >= PAGE as u64)
     }
 
-    /// Reads a page, where one is there.
-    pub fn read(&self, page: u32, into: &mut Page) -> io::Result<bool> {
-        let count = match self.places.get(&page) {
-            Some(&at) => read_at(&self.log, into, at)?,
-            None => read_at(&self.pages, into, offset(page))?,
+    /// A page, where one is there.
+    pub fn read(&mut self, page: u32) -> io::Result<Option<&Page>> {
+        let (file, at, place) = match self.places.get(&page) {
+            Some(&at) => (&self.log, at, at | IN_LOG),
+            None => (&self.pages, offset(page), offset(page)),
         };
-        Ok(count == PAGE)
+        let read = |into: &mut Page| Ok(read_at(file, into, at)? == PAGE);
+        self.cache.get_or(place, read)
     }
 
     /// Adds a group of these pages.
@@ -163,6 +170,7 @@ impl Log {
         if self.end == 0 {
             return Ok(());
         }
+        self.cache.forget();
         let mut bytes = [0; PAGE];
         for (&page, &at) in &self.places {
             self.log.read_exact_at(&mut bytes, at)?;

@@ -3,6 +3,7 @@
 //! records on its path that change, and of a list of proxies and of the catalog the chain pages that change.
 
 mod building;
+mod cache;
 mod catalog;
 mod dividing;
 mod draft;

@@ -29,8 +29,6 @@ pub struct Records {
     /// The header of the last commit, and that of the next one.
     saved: Header,
     pub head: Header,
-    /// The page that was read last.
-    page: Box<Page>,
 }
 
 impl Records {
@@ -46,12 +44,10 @@ impl Records {
     }
 
     pub fn open(name: &str) -> Result<Records, Failure> {
-        let log = Log::open(name)?;
-        let mut page = [0; PAGE];
-        if !log.read(0, &mut page)? {
-            return Err(Failure::NotAStore);
-        }
-        Ok(Records::new(log, Header::read(&page)?))
+        let mut log = Log::open(name)?;
+        let page = log.read(0)?.ok_or(Failure::NotAStore)?;
+        let head = Header::read(page)?;
+        Ok(Records::new(log, head))
     }
 
     fn new(log: Log, head: Header) -> Records {
@@ -61,7 +57,6 @@ impl Records {
             spare: Vec::new(),
             saved: head,
             head,
-            page: Box::new([0; PAGE]),
         }
     }
 
@@ -74,10 +69,10 @@ impl Records {
         if let Some(waits) = self.waiting.get(&page) {
             return Ok(waits);
         }
-        if page >= self.head.pages || !self.log.read(page, &mut self.page)? {
+        if page >= self.head.pages {
             return Err(Failure::Damaged(page));
         }
-        Ok(&self.page)
+        self.log.read(page)?.ok_or(Failure::Damaged(page))
     }
 
     /// A page that waits for the next commit, to be filled.
