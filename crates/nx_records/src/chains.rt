@@ -46,7 +46,7 @@ impl Records {
     }
 
     // The next page and the content of the chain page with this number, as they lie in the room for it.
-    fn see_link<'a, D: Disk>(
+    pub(crate) fn see_link<'a, D: Disk>(
         &mut self,
         disk: &mut D,
         page: u32,
@@ -140,13 +140,14 @@ impl Records {
         Ok(link.content)
     }
 
-    // Appends the bytes on the next page of a chain of which some are left.
+    // Appends the bytes on the next page of a chain of which some are left, by way of this room for the page.
     fn append_on<D: Disk>(
         &mut self,
         disk: &mut D,
         reader: &mut ListReader,
         into: &mut List<u8>,
         named: u32,
+        room: &mut PageBytes,
     ) -> Result<(), StoreError>
         requires runs { has_ended self.old ≡ false }
         requires some { reader.old.left ≢ 0 }
@@ -155,10 +156,7 @@ impl Records {
         ensures ok { OnOk result ((self.new ≡ self.old) × AppendsBlock D.Disk self.old disk.old reader.old reader.new into.old into.new) }
         ensures refused { IfErr result (λ e. NotListed D.Disk (NoListFrom self.old.head.pages reader.old.next reader.old.left) named e self.old self.new disk.old disk.new) }
     {
-        let mut room = PageBytes {
-            bytes: [0; PAGE_SIZE],
-        };
-        let (next, content) = self.see_link(disk, reader.next, named, &mut room)?;
+        let (next, content) = self.see_link(disk, reader.next, named, room)?;
         let Some(behind) = reader.behind(next, content.len() as u64) else {
             return Err(self.damaged(named));
         };
@@ -192,9 +190,13 @@ impl Records {
         let Ok(mut bytes) = List::with_capacity(alloc, len as usize) else {
             return Err(StoreError::Memory);
         };
+        let Some(mut room) = self.take_spare(alloc) else {
+            return Err(StoreError::Memory);
+        };
         while reader.left > 0 {
-            self.append_on(disk, &mut reader, &mut bytes, named)?;
+            self.append_on(disk, &mut reader, &mut bytes, named, &mut room)?;
         }
+        self.give_spare(room);
         Ok(bytes)
     }
 }

@@ -5,18 +5,20 @@ ghost use Rattle.nx_host.specs.Disk.{Image};
 ghost use Rattle.nx_host.specs.Still.{IsStill};
 ghost use Rattle.nx_wal.specs.Wal.{current};
 ghost use Rattle.nx_slots.specs.Edits.{HasRecord};
+ghost use Rattle.nx_slots.specs.Slots.{slots_of, IsSlotted};
 
 use crate::{Records, Rid, StoreError};
 use nx_host::Disk;
 use nx_numbers::{PAGE_ROOM, PAGE_SIZE};
-use nx_slots::{Page, PageBytes, put_in};
+use nx_slots::{Page, PageBytes, clear_in, free_bytes_in, put_in, read_in, set_in};
 
-// Whether these bytes are the record of a slot.
-fn is_there(page: &Page, slot: u16, bytes: &[u8]) -> bool
-    ensures yes { result ≡ true → slice_index_or page.now slot None ≡ Some bytes.now }
-    ensures no { result ≡ false → slice_index_or page.now slot None ≢ Some bytes.now }
+// Whether these bytes are the record of a slot of a page.
+fn is_there(page: &PageBytes, slot: u16, bytes: &[u8]) -> bool
+    requires { IsSlotted page.now.bytes }
+    ensures yes { result ≡ true → slice_index_or (slots_of page.now.bytes) slot None ≡ Some bytes.now }
+    ensures no { result ≡ false → slice_index_or (slots_of page.now.bytes) slot None ≢ Some bytes.now }
 {
-    match page.read(slot) {
+    match read_in(page, slot) {
         Some(old) => old == bytes,
         None => false,
     }
@@ -33,21 +35,22 @@ impl Records {
     pub(crate) fn drop_record<D: Disk>(
         &mut self,
         disk: &D,
-        mut page: Page,
+        page: &mut PageBytes,
         rid: Rid,
     ) -> Result<(), StoreError>
         requires runs { has_ended self.old ≡ false }
         requires low { rid.page < self.old.head.pages }
-        requires there { HasRecord page rid.slot }
+        requires slotted { IsSlotted page.old.bytes }
+        requires there { HasRecord (slots_of page.old.bytes) rid.slot }
         ensures keeps { KeepsLog self.old self.new }
-        ensures ok { OnOk result (SeesSo D.Disk self.old disk.now (λ pages. HasSlots pages rid.page page) → StepsTo D.Disk self.old self.new disk.now (λ was now. RemovesRecord rid.page rid.slot was now)) }
+        ensures ok { OnOk result (SeesSo D.Disk self.old disk.now (λ pages. HasSlots pages rid.page (slots_of page.old.bytes)) → StepsTo D.Disk self.old self.new disk.now (λ was now. RemovesRecord rid.page rid.slot was now)) }
         ensures refused { IfErr result (λ e. e ≡ StoreError.Memory) }
     {
-        page.clear(rid.slot);
-        if page.free_bytes() == PAGE_ROOM as u32 {
+        clear_in(page, rid.slot);
+        if free_bytes_in(page) == PAGE_ROOM as u32 {
             self.release(rid.page)
         } else {
-            self.store(rid.page, page.bytes())
+            self.store(rid.page, page)
         }
     }
 
@@ -75,11 +78,14 @@ impl Records {
         ensures keeps { OnOk result (RunsOn self.old self.new × KeepsSaved D.Disk self.old self.new disk.old disk.new × HasChanges self.new) }
         ensures refused { IfErr result (λ e. NotChanged D.Disk (λ was. was.records rid.page rid.slot ≡ None) rid.page e self.old self.new disk.old disk.new) }
     {
-        let page = self.slotted(disk, rid.page, rid.page)?;
-        let Some(_) = page.read(rid.slot) else {
+        let mut page = PageBytes {
+            bytes: [0; PAGE_SIZE],
+        };
+        self.load_slotted(disk, rid.page, rid.page, &mut page)?;
+        let Some(_) = read_in(&page, rid.slot) else {
             return Err(self.damaged(rid.page));
         };
-        self.drop_record(disk, page, rid)?;
+        self.drop_record(disk, &mut page, rid)?;
         self.store_header()
     }
 
@@ -196,29 +202,30 @@ impl Records {
     pub(crate) fn replace<D: Disk>(
         &mut self,
         disk: &mut D,
-        mut page: Page,
+        page: &mut PageBytes,
         rid: Rid,
         bytes: &[u8],
     ) -> Result<Rid, StoreError>
         requires runs { has_ended self.old ≡ false }
         requires low { rid.page < self.old.head.pages }
-        requires there { HasRecord page rid.slot }
+        requires slotted { IsSlotted page.old.bytes }
+        requires there { HasRecord (slots_of page.old.bytes) rid.slot }
         requires some { 1 ≤ length bytes.now }
         requires few { length bytes.now ≤ longest_record }
         ensures still { IsStill D.Disk disk.old disk.new }
         ensures keeps { IfOk result (λ place. KeepsLog self.old self.new) }
-        ensures alone { IfOk result (λ place. slice_index_or page rid.slot None ≡ Some bytes.now → self.new ≡ self.old) }
-        ensures ok { IfOk result (λ place. SeesSo D.Disk self.old disk.old (λ pages. HasSlots pages rid.page page)
+        ensures alone { IfOk result (λ place. slice_index_or (slots_of page.old.bytes) rid.slot None ≡ Some bytes.now → self.new ≡ self.old) }
+        ensures ok { IfOk result (λ place. SeesSo D.Disk self.old disk.old (λ pages. HasSlots pages rid.page (slots_of page.old.bytes))
             → StepsTo D.Disk self.old self.new disk.old (λ was now. UpdatesRecord rid.page rid.slot bytes.now place.page place.slot was now)) }
-        ensures refused { IfErr result (λ e. SeesSo D.Disk self.old disk.old (λ pages. HasSlots pages rid.page page)
+        ensures refused { IfErr result (λ e. SeesSo D.Disk self.old disk.old (λ pages. HasSlots pages rid.page (slots_of page.old.bytes))
             → NotPut D.Disk (λ held. held.free < update_needs rid.page rid.slot bytes.now held) rid.page e self.old self.new disk.old disk.new) }
     {
-        if is_there(&page, rid.slot, bytes) {
+        if is_there(page, rid.slot, bytes) {
             return Ok(rid);
         }
-        match page.set(rid.slot, bytes) {
+        match set_in(page, rid.slot, bytes) {
             Ok(()) => {
-                self.store(rid.page, page.bytes())?;
+                self.store(rid.page, page)?;
                 Ok(rid)
             }
             Err(_) => {

@@ -8,7 +8,7 @@ ghost use Rattle.nx_wal.specs.Wal.{IsInStep, current, pending};
 ghost use Rattle.nx_wal.specs.Reading.{page_found};
 ghost use Rattle.nx_holdings.specs.Header.{header_bytes};
 ghost use Rattle.nx_holdings.specs.Holdings.{with_page, free_bytes};
-ghost use Rattle.nx_slots.specs.Slots.{IsSlotted};
+ghost use Rattle.nx_slots.specs.Slots.{slots_of, IsSlotted};
 ghost use Rattle.nx_records.specs.Numbering.{IsNextHeader, number_behind as behind};
 ghost use Rattle.nx_records.specs.Pages.{numbered, SlotGives};
 
@@ -17,7 +17,7 @@ use nx_holdings::{Header, NEWEST_FORMAT, free_page, header_page, read_free_page}
 use nx_host::Disk;
 use nx_lists::List;
 use nx_numbers::PAGE_SIZE;
-use nx_slots::{Page, PageBytes, is_page, record_in};
+use nx_slots::{PageBytes, is_page, record_in};
 use std::alloc::Global;
 
 // The number of the group behind one with this number.
@@ -68,6 +68,14 @@ fn copy_record(alloc: Global, page: &PageBytes, slot: u16) -> Result<Option<List
     }
 }
 
+// New room for a page, where there is memory.
+fn new_page(alloc: Global) -> Option<Box<PageBytes>> {
+    let page = PageBytes {
+        bytes: [0; PAGE_SIZE],
+    };
+    Box::new(alloc, page).ok()
+}
+
 impl Records {
     ghost use Rattle.nx_records.specs.Records.{has_ended, KeepsLog, has_free, next_number, waiting};
     ghost use Rattle.nx_records.specs.Pages.{HasSlots, IsFreeAt, SeesSo, PlaceGives, NotSeen, NotLoaded, NotFound, NotTaken, IsPageTaken, IsFirstUnused, PutsPage, released};
@@ -79,6 +87,19 @@ impl Records {
     {
         self.ended = true;
         StoreError::Damaged { page }
+    }
+
+    // Room for a page, whatever stands there: what was given back last, else new room. There is none for want of memory.
+    pub(crate) fn take_spare(&self, alloc: Global) -> Option<Box<PageBytes>> {
+        match self.spare.take() {
+            Some(page) => Some(page),
+            None => new_page(alloc),
+        }
+    }
+
+    // Gives room for a page back.
+    pub(crate) fn give_spare(&self, page: Box<PageBytes>) {
+        self.spare.set(Some(page));
     }
 
     // Reads a page, where one is there.
@@ -119,13 +140,16 @@ impl Records {
         if let Some(page) = self.wal.waiting(rid.page) {
             return copy_record(alloc, page, rid.slot);
         }
-        let mut page = PageBytes {
-            bytes: [0; PAGE_SIZE],
+        let Some(mut page) = self.take_spare(alloc) else {
+            return Err(StoreError::Memory);
         };
-        if !self.load(disk, rid.page, &mut page)? {
+        let room = page.as_mut();
+        if !self.load(disk, rid.page, room)? {
             return Ok(None);
         }
-        copy_record(alloc, &page, rid.slot)
+        let found = copy_record(alloc, room, rid.slot);
+        self.give_spare(page);
+        found
     }
 
     // Reads the page with this number, which is there and which the header counts.
@@ -165,6 +189,7 @@ impl Records {
         ensures reads { D.reads disk.new ≤ D.reads disk.old + 1 }
         ensures ok { OnOk result ((self.new ≡ self.old) × (page < self.old.head.pages) × IsSlotted into.new.bytes
             × SeesSo D.Disk self.old disk.old (λ pages. pages page ≡ Some into.new.bytes)) }
+        ensures slots { OnOk result (SeesSo D.Disk self.old disk.old (λ pages. HasSlots pages page (slots_of into.new.bytes))) }
         ensures refused { IfErr result (λ e. NotFound D.Disk (λ pages. page < self.old.head.pages → (slots : _) → HasSlots pages page slots → ⊥) named e self.old self.new disk.old disk.new) }
     {
         self.load_used(disk, page, named, into)?;
@@ -172,29 +197,6 @@ impl Records {
             return Err(self.damaged(named));
         }
         Ok(())
-    }
-
-    // The slotted page with this number.
-    pub(crate) fn slotted<D: Disk>(
-        &mut self,
-        disk: &mut D,
-        page: u32,
-        named: u32,
-    ) -> Result<Page, StoreError>
-        requires { has_ended self.old ≡ false }
-        ensures still { IsStill D.Disk disk.old disk.new }
-        ensures reads { D.reads disk.new ≤ D.reads disk.old + 1 }
-        ensures ok { IfOk result (λ slots. (self.new ≡ self.old) × (page < self.old.head.pages) × SeesSo D.Disk self.old disk.old (λ pages. HasSlots pages page slots)) }
-        ensures refused { IfErr result (λ e. NotFound D.Disk (λ pages. page < self.old.head.pages → (slots : _) → HasSlots pages page slots → ⊥) named e self.old self.new disk.old disk.new) }
-    {
-        let mut bytes = PageBytes {
-            bytes: [0; PAGE_SIZE],
-        };
-        self.load_used(disk, page, named, &mut bytes)?;
-        let Some(slotted) = Page::from_bytes(&bytes) else {
-            return Err(self.damaged(named));
-        };
-        Ok(slotted)
     }
 
     // Makes a page wait for the next commit, and the header that commit's.

@@ -16,9 +16,10 @@ use nx_holdings::{Header, Settings, read_header};
 use nx_host::Disk;
 use nx_lists::List;
 use nx_numbers::PAGE_SIZE;
-use nx_slots::PageBytes;
+use nx_slots::{PageBytes, read_in};
 use nx_wal::{Wal, WalError};
 use std::alloc::Global;
+use std::cell::Cell;
 
 /// The place of a record.
 #[derive(Clone, Copy, Debug, PartialEq, Eq)]
@@ -42,6 +43,9 @@ pub struct Records {
     // The header whose page waits for a commit, where it is known.
     pub(crate) waiting_head: Option<Header>,
     pub(crate) ended: bool,
+    // Room for a page that is read, whatever stands there.
+    pub(crate) spare: Cell<Option<Box<PageBytes>>>,
+    pub(crate) alloc: Global,
     ghost saved_range: { IsInRange saved } by { Prim.hlevel props },
     ghost head_range: { IsInRange head } by { Prim.hlevel props },
     ghost numbered: { pending wal ≢ [] → IsNextHeader saved head } by { Prim.hlevel props },
@@ -92,6 +96,8 @@ impl Records {
             head: header,
             waiting_head: None,
             ended: false,
+            spare: Cell::new(None),
+            alloc,
         })
     }
 
@@ -134,6 +140,8 @@ impl Records {
             head: header,
             waiting_head: None,
             ended: false,
+            spare: Cell::new(None),
+            alloc,
         })
     }
 
@@ -261,11 +269,16 @@ impl Records {
         if self.ended {
             return Err(StoreError::Ended);
         }
-        let page = self.slotted(disk, rid.page, rid.page)?;
-        let Some(_) = page.read(rid.slot) else {
+        let Some(mut page) = self.take_spare(self.alloc) else {
+            return Err(StoreError::Memory);
+        };
+        let room = page.as_mut();
+        self.load_slotted(disk, rid.page, rid.page, room)?;
+        let Some(_) = read_in(room, rid.slot) else {
             return Err(self.damaged(rid.page));
         };
-        let place = self.replace(disk, page, rid, bytes)?;
+        let place = self.replace(disk, room, rid, bytes)?;
+        self.give_spare(page);
         self.store_header()?;
         Ok(place)
     }

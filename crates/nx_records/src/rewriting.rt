@@ -7,9 +7,10 @@ ghost use Rattle.nx_holdings.specs.Holdings.{chain_count, next_of};
 use crate::chains::may_stand;
 use crate::writing::content_at;
 use crate::{Records, StoreError};
-use nx_chain::{ChainPage, chain_page};
+use nx_chain::chain_page;
 use nx_host::Disk;
 use nx_numbers::PAGE_ROOM;
+use nx_slots::PageBytes;
 use std::alloc::Global;
 
 /// Whether byte lists of so many bytes and of so many take as many chain pages, one for each 8,184
@@ -28,51 +29,57 @@ impl Records {
     ghost use Rattle.nx_records.specs.Pages.{SeesSo};
     ghost use Rattle.nx_records.specs.Chains.{HasLink, LinksStepTo, NotLed, NotGivenBack, SetsLink, MayChange, IsChainOf, IsRewritten};
 
-    // Puts a chain page with this content, where it has another.
-    fn put_over(&mut self, page: u32, link: &ChainPage, content: &[u8]) -> Result<(), StoreError>
+    // Puts a chain page with this next page and this content, where it has another content.
+    fn put_over(
+        &mut self,
+        page: u32,
+        next: u32,
+        had: &[u8],
+        content: &[u8],
+    ) -> Result<(), StoreError>
         requires runs { has_ended self.old ≡ false }
         requires low { page < most_pages }
         requires some { 1 ≤ length content.now }
         requires few { length content.now ≤ page_room }
         ensures keeps { KeepsLog self.old self.new }
-        ensures ok { OnOk result (SetsLink page link.now.next link.now.content content.now self.old self.new) }
+        ensures ok { OnOk result (SetsLink page next had.now content.now self.old self.new) }
         ensures refused { IfErr result (λ e. e ≡ StoreError.Memory) }
     {
-        if link.content.as_slice() == content {
+        if had == content {
             return Ok(());
         }
-        let bytes = chain_page(link.next, content);
+        let bytes = chain_page(next, content);
         self.store(page, &bytes)
     }
 
-    // Puts other content on a page of a chain, and answers what it said.
-    fn set_link<D: Disk>(
+    // Puts other content on a page of a chain, and answers what it said, as that lies in the room for it.
+    fn set_link<'a, D: Disk>(
         &mut self,
-        alloc: Global,
         disk: &mut D,
         page: u32,
         content: &[u8],
         named: u32,
-    ) -> Result<ChainPage, StoreError>
+        room: &'a mut PageBytes,
+    ) -> Result<(u32, &'a [u8]), StoreError>
         requires runs { has_ended self.old ≡ false }
         requires there { page ≢ 0 }
         requires some { 1 ≤ length content.now }
         requires few { length content.now ≤ page_room }
         ensures still { IsStill D.Disk disk.old disk.new }
         ensures reads { D.reads disk.new ≤ D.reads disk.old + 1 }
-        ensures keeps { IfOk result (λ link. KeepsLog self.old self.new × (1 ≤ length link.content)) }
+        ensures keeps { IfOk result (λ link. KeepsLog self.old self.new × (1 ≤ length link.1.now)) }
         ensures low { IfOk result (λ link. page < page_count_of self.old) }
-        ensures full { IfOk result (λ link. link.next ≢ 0 → (length link.content ≡ page_room) × (length content.now ≡ page_room)) }
-        ensures ok { IfOk result (λ link. SeesSo D.Disk self.old disk.old (λ pages. HasLink pages page link.next link.content)
-            × SetsLink page link.next link.content content.now self.old self.new) }
+        ensures full { IfOk result (λ link. link.0 ≢ 0 → (length link.1.now ≡ page_room) × (length content.now ≡ page_room)) }
+        ensures ok { IfOk result (λ link. SeesSo D.Disk self.old disk.old (λ pages. HasLink pages page link.0 link.1.now)
+            × SetsLink page link.0 link.1.now content.now self.old self.new) }
         ensures refused { IfErr result (λ e. NotGivenBack D.Disk (MayChange page content.now) named e self.old self.new disk.old disk.new) }
     {
-        let link = self.link(alloc, disk, page, named)?;
-        if !may_stand(link.next, content.len()) {
+        let (next, had) = self.see_link(disk, page, named, room)?;
+        if !may_stand(next, content.len()) {
             return Err(self.damaged(named));
         }
-        self.put_over(page, &link, content)?;
-        Ok(link)
+        self.put_over(page, next, had, content)?;
+        Ok((next, had))
     }
 
     // Puts bytes in the place of those of a chain, which are so many, on its pages.
@@ -99,6 +106,9 @@ impl Records {
         if !self.may_have(len) {
             return Err(self.damaged(named));
         }
+        let Some(mut room) = self.take_spare(alloc) else {
+            return Err(StoreError::Memory);
+        };
         let mut left = len;
         let mut index = 0;
         let mut page = first;
@@ -106,18 +116,20 @@ impl Records {
             if left == 0 {
                 return Err(self.damaged(named));
             }
-            let link = self.set_link(alloc, disk, page, content_at(bytes, index), named)?;
-            let taken = link.content.len() as u64;
+            let content = content_at(bytes, index);
+            let (next, had) = self.set_link(disk, page, content, named, &mut room)?;
+            let taken = had.len() as u64;
             if taken > left {
                 return Err(self.damaged(named));
             }
             left -= taken;
             index += 1;
-            page = link.next;
+            page = next;
         }
         if left != 0 {
             return Err(self.damaged(named));
         }
+        self.give_spare(room);
         Ok(())
     }
 

@@ -15,6 +15,7 @@ mod reads;
 mod room;
 
 pub use page::{
-    Page, PageBytes, SlotsError, clear_in, has_beside, is_page, put_at, put_in, record_in, room_in,
+    Page, PageBytes, SlotsError, clear_in, free_bytes_in, has_beside, is_page, put_at, put_in,
+    read_in, record_in, room_in, set_in,
 };
 pub use room::Room;

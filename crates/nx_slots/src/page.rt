@@ -3,7 +3,7 @@ ghost use Rattle.nx_slots.specs.Edits.{free_in, growth_of, needed_for, without_r
 ghost use Rattle.nx_slots.specs.Refusals.{LacksRoom};
 ghost use Rattle.nx_slots.specs.Rooms.{HasRoom};
 ghost use Rattle.nx_slots.specs.Slots.{slots_of, IsSlotted};
-ghost use Rattle.std.specs.Prelude.{◌≡◌, ◌≤◌, ℕ, true, false, List, [], Option, Some, None, length, slice_index_or, IfErr, IfOk, MatchOption};
+ghost use Rattle.std.specs.Prelude.{◌≡◌, ◌≤◌, ℕ, true, false, List, [], Option, Some, None, length, slice_index_or, IfErr, IfOk, OnOk, MatchOption};
 ghost use Rattle.nx_numbers.specs.Sizes.{longest_record};
 
 use crate::changes::{clear_record, is_one_of_several, put_by, put_record, set_record};
@@ -78,6 +78,38 @@ pub fn put_in(page: &mut PageBytes, bytes: &[u8]) -> Result<u16, SlotsError>
         × (page.new ≡ page.old)) }
 {
     put_record(&mut page.bytes, bytes)
+}
+
+/// As `Page::read`, of a page with the given bytes, without a copy of the page.
+pub fn read_in(page: &PageBytes, slot: u16) -> Option<&[u8]>
+    requires { IsSlotted page.now.bytes }
+    ensures { MatchOption result (slice_index_or (slots_of page.now.bytes) slot None ≡ None)
+        (λ bytes. slice_index_or (slots_of page.now.bytes) slot None ≡ Some bytes.now) }
+{
+    read_record(&page.bytes, slot as usize)
+}
+
+/// As `Page::set`, of a page with the given bytes, without a copy of the page.
+pub fn set_in(page: &mut PageBytes, slot: u16, bytes: &[u8]) -> Result<(), SlotsError>
+    requires slotted { IsSlotted page.old.bytes }
+    requires there { HasRecord (slots_of page.old.bytes) slot }
+    requires some { 1 ≤ length bytes.now }
+    requires few { length bytes.now ≤ longest_record }
+    ensures slotted { IsSlotted page.new.bytes }
+    ensures ok { OnOk result (IsSet (slots_of page.old.bytes) slot bytes.now (slots_of page.new.bytes)) }
+    ensures no_room { IfErr result (λ e.
+        LacksRoom (slots_of page.old.bytes) (growth_of (slots_of page.old.bytes) slot bytes.now) e
+        × (page.new ≡ page.old)) }
+{
+    set_record(&mut page.bytes, slot as usize, bytes)
+}
+
+/// How many bytes of a page with the given bytes are free, as `Page::free_bytes` has it.
+pub fn free_bytes_in(page: &PageBytes) -> u32
+    requires { IsSlotted page.now.bytes }
+    ensures { result ≡ free_in (slots_of page.now.bytes) }
+{
+    free_at(&page.bytes) as u32
 }
 
 /// Whether a page with the given bytes is slotted, and has a record in a slot and another one besides.

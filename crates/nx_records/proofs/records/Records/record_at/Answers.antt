@@ -15,5 +15,5 @@ returns-in-Some-clause-ok g c =
 
 pub returns-clause-ok : goal.returns-clause-ok
 returns-clause-ok g c =
-    seen_page g.D.Disk c.args.self.now c.load.new.self c.args.disk.now c.load.new.disk c.args.rid.page c.args.rid.slot c.copy_record-2.result c.load.new.into.bytes c.in_ok-load.ensures.ok.0
-    (λ was step. c.in_ok-load.ensures.ok.1 was step ∙ ap (λ (found : Bool). page_found found c.load.new.into.bytes) c.if-not-branch.false) c.copy_record-2.ensures.ok
+    seen_page g.D.Disk c.args.self.now c.load.new.self c.args.disk.now c.load.new.disk c.args.rid.page c.args.rid.slot c.copy_record-found.result c.load.new.into.bytes c.in_ok-load.ensures.ok.0
+    (λ was step. c.in_ok-load.ensures.ok.1 was step ∙ ap (λ (found : Bool). page_found found c.load.new.into.bytes) c.if-not-branch.false) c.copy_record-found.ensures.ok

@@ -1,4 +1,4 @@
-use Rattle.std.proofs.Common.{◌≡◌, ◌∙◌, ◌+◌, ◌-◌, ◌<◌, ◌≤◌, List, [], ◌++◌, ℕ, length, refl, sym, subst, arith, length-append}
+use Rattle.std.proofs.Common.{◌≡◌, ◌∙◌, ◌<◌, ◌≤◌, List, [], ◌++◌, ℕ, length, refl, sym, subst, arith, length-append}
 use Rattle.std.proofs.lemmas.Result.{err_from_is_err_and}
 use Rattle.nx_host.proofs.DiskLemmas.{none_still, still_then}
 use Rattle.nx_holdings.specs.Holdings.{Link, next_of, content_of}
@@ -7,7 +7,7 @@ use Rattle.nx_links.specs.Lists.{IsReadTo}
 use Rattle.nx_links.proofs.ListLemmas.{read_none, read_whole}
 use Rattle.nx_links.proofs.BesideLemmas.{chain_from, chain_count_of}
 use Rattle.nx_records.specs.declared.error.StoreError.{StoreError}
-use Rattle.nx_records.specs.Chains.{MayChange, IsChainOf, IsPassed, IsOver, Nowhere, NotGivenBack, LinksStepTo}
+use Rattle.nx_records.specs.Chains.{MayChange, IsChainOf, IsPassed, IsOver, Nowhere, NotGivenBack}
 use Rattle.nx_records.proofs.StandLemmas.{keeps_then, step_kept}
 use Rattle.nx_records.proofs.RefusalLemmas.{err_passed, ended_now, keeps_self}
 use Rattle.nx_records.proofs.ChainLemmas.{no_list_past, few_pages, read_link}
@@ -48,79 +48,76 @@ returns-then-left-eq0-clause-refused g c =
     let mid = one.steps was links held step holds starts.begins in
     over_none_left links mid.more (mid.comes).passed starts mid.holds c.loop-page-test.true c.if-left-eq0.true)
 
-pub content_at-requires : goal.content_at-requires
-content_at-requires g c =
+pub content_at-content-requires : goal.content_at-content-requires
+content_at-content-requires g c =
     let full = c.loop-page.invariant.full c.loop-page-test.true in
     let some = c.if-left-eq0.false in
     let pages = c.requires.pages in
     omega (arith, full, some, pages)
 
-pub returns-in_err-link-clause-refused : goal.returns-in_err-link-clause-refused
-returns-in_err-link-clause-refused g c =
+pub returns-in_err-next-clause-refused : goal.returns-in_err-next-clause-refused
+returns-in_err-next-clause-refused g c =
     let one = c.loop-page.invariant in
     err_passed c.from_residual.result (λ (e : StoreError). NotGivenBack g.D.Disk (IsChainOf c.args.first c.args.len) c.args.named e c.args.self.now c.set_link.new.self c.args.disk.now c.set_link.new.disk)
-    c.in_err-link.field-0.0 (err_from_is_err_and c.from_residual.result c.from_residual.ensures.1) (
+    c.in_err-next.field-0.0 (err_from_is_err_and c.from_residual.result c.from_residual.ensures.1) (
       led_later g.D.Disk c.args.self.now c.loop-page.self c.set_link.new.self c.args.disk.now c.loop-page.disk c.set_link.new.disk c.args.named (IsChainOf c.args.first c.args.len)
-          (λ (links more : List Link). IsPassed c.args.bytes.now c.loop-page.index c.loop-page.page c.loop-page.left c.args.len links more) (MayChange c.loop-page.page c.content_at.result.now) Nowhere Nowhere c.in_err-link.field-0.0
+          (λ (links more : List Link). IsPassed c.args.bytes.now c.loop-page.index c.loop-page.page c.loop-page.left c.args.len links more) (MayChange c.loop-page.page c.content_at-content.result.now) Nowhere Nowhere c.in_err-next.field-0.0
           c.requires.runs (one.keeps, one.still, over_passed g.D.Disk c.args.self.now c.loop-page.self c.args.disk.now c.args.bytes.now c.loop-page.index c.loop-page.page c.loop-page.left c.args.first c.args.len one.steps)
-          (λ links mid starts comes. passed_may links mid c.requires.pages c.content_at.ensures starts comes, λ links mid held next starts comes keeps none. none) c.in_err-link.ensures.refused.0,
-      c.in_err-link.ensures.refused.1,
+          (λ links mid starts comes. passed_may links mid c.requires.pages c.content_at-content.ensures starts comes, λ links mid held next starts comes keeps none. none) c.in_err-next.ensures.refused.0,
+      c.in_err-next.ensures.refused.1,
     )
 
-pub returns-in_err-link-clause-still : goal.returns-in_err-link-clause-still
-returns-in_err-link-clause-still g c = still_then c.loop-page.invariant.still c.set_link.ensures.still
+pub returns-in_err-next-clause-still : goal.returns-in_err-next-clause-still
+returns-in_err-next-clause-still g c = still_then c.loop-page.invariant.still c.set_link.ensures.still
 
 pub loop-page-preserved : goal.loop-page-preserved
 loop-page-preserved g c =
     let one = c.loop-page.invariant in
-    let taken = c.len-taken.ensures in
-    let low : length c.in_ok-link.link.content ≤ c.loop-page.left = let low = c.if-taken-left.false in omega (arith, low, taken) in
+    let low : length c.in_ok-next.had.now ≤ c.loop-page.left = let low = c.if-taken-left.false in omega (arith, low) in
     let some = c.if-left-eq0.false in
     let so_far = one.full c.loop-page-test.true in
     let once = c.set_link.ensures.reads in
     record {
-      keeps = keeps_then {r0 = c.args.self.now} {r1 = c.loop-page.self} {r2 = c.set_link.new.self} one.keeps c.in_ok-link.ensures.keeps.0;
+      keeps = keeps_then {r0 = c.args.self.now} {r1 = c.loop-page.self} {r2 = c.set_link.new.self} one.keeps c.in_ok-next.ensures.keeps.0;
       still = still_then one.still c.set_link.ensures.still;
       within = let within = one.within in omega (arith, within);
-      full = λ goes_on. let whole = (c.in_ok-link.ensures.full goes_on).0 in omega (arith, so_far, whole, taken, low);
+      full = λ goes_on. let whole = (c.in_ok-next.ensures.full goes_on).0 in omega (arith, so_far, whole, low);
       few = omega (arith, so_far, some);
       reads = let reads = one.reads in omega (arith, reads, once);
-      in_place = takes_none_then c.args.self.now c.loop-page.self c.set_link.new.self one.in_place (set_takes_none c.in_ok-link.link.next c.in_ok-link.ensures.ok.1);
+      in_place = takes_none_then c.args.self.now c.loop-page.self c.set_link.new.self one.in_place (set_takes_none c.in_ok-next.next c.in_ok-next.ensures.ok.1);
       links = λ goes_on was step.
-          let has = c.in_ok-link.ensures.ok.0 was (step_kept {r0 = c.args.self.now} {r1 = c.loop-page.self} one.keeps one.still step) in
-          let full = c.in_ok-link.ensures.full goes_on in
+          let has = c.in_ok-next.ensures.ok.0 was (step_kept {r0 = c.args.self.now} {r1 = c.loop-page.self} one.keeps one.still step) in
+          let full = c.in_ok-next.ensures.full goes_on in
           kept_then (one.links c.loop-page-test.true was step)
-          (set_keeps_links {r1 = c.loop-page.self} {r2 = c.set_link.new.self} was has c.in_ok-link.ensures.ok.1 c.content_at.ensures.some c.content_at.ensures.few (full.0 ∙ sym full.1));
+          (set_keeps_links {r1 = c.loop-page.self} {r2 = c.set_link.new.self} was has c.in_ok-next.ensures.ok.1 c.content_at-content.ensures.some c.content_at-content.ensures.few (full.0 ∙ sym full.1));
       read = λ was step.
-          let has = c.in_ok-link.ensures.ok.0 was (step_kept {r0 = c.args.self.now} {r1 = c.loop-page.self} one.keeps one.still step) in
-          let stood = one.links c.loop-page-test.true was step c.loop-page.page c.in_ok-link.link.next c.in_ok-link.link.content has in
+          let has = c.in_ok-next.ensures.ok.0 was (step_kept {r0 = c.args.self.now} {r1 = c.loop-page.self} one.keeps one.still step) in
+          let stood = one.links c.loop-page-test.true was step c.loop-page.page c.in_ok-next.next c.in_ok-next.had.now has in
           let so_far_is = one.read was step in
           let counted = so_far_is.1 in
           let long = length-append so_far_is.0 stood.0 in
           let same = stood.2 in
-          let under = c.in_ok-link.ensures.low in
+          let under = c.in_ok-next.ensures.low in
           let pages = one.in_place.1 in (
             so_far_is.0 ++ stood.0,
-            omega (arith, long, counted, same, taken, low),
+            omega (arith, long, counted, same, low),
             read_link (few_pages c.args.self.now.head c.args.self.now.head_range) c.loop-page-test.true so_far_is.2 (omega (arith, under, pages)) stood.1,
           );
-      steps = subst (λ (n : ℕ). LinksStepTo g.D.Disk c.args.self.now c.set_link.new.self c.args.disk.now (λ links. next_of links ≡ c.args.first)
-          (λ was links more. IsOver c.args.self.now c.set_link.new.self was c.args.bytes.now (c.loop-page.index + 1) c.in_ok-link.link.next (c.loop-page.left - n) c.args.len links more)) (sym taken)
-          (over_steps g.D.Disk c.args.self.now c.loop-page.self c.set_link.new.self c.args.disk.now c.loop-page.disk one.keeps one.still one.steps c.in_ok-link.ensures.ok.0 c.in_ok-link.ensures.ok.1
-          c.loop-page-test.true (λ more. (c.in_ok-link.ensures.full more).1) low c.content_at.ensures);
+      steps = over_steps g.D.Disk c.args.self.now c.loop-page.self c.set_link.new.self c.args.disk.now c.loop-page.disk one.keeps one.still one.steps c.in_ok-next.ensures.ok.0 c.in_ok-next.ensures.ok.1
+          c.loop-page-test.true (λ more. (c.in_ok-next.ensures.full more).1) low c.content_at-content.ensures;
     }
 
 pub returns-then-taken-left-clause-refused : goal.returns-then-taken-left-clause-refused
 returns-then-taken-left-clause-refused g c =
     let one = c.loop-page.invariant in
-    let keeps = keeps_then {r0 = c.args.self.now} {r1 = c.loop-page.self} {r2 = c.set_link.new.self} one.keeps c.in_ok-link.ensures.keeps.0 in
-    let past : c.loop-page.left < length c.in_ok-link.link.content = let more = c.if-taken-left.true in let taken = c.len-taken.ensures in omega (arith, more, taken) in
+    let keeps = keeps_then {r0 = c.args.self.now} {r1 = c.loop-page.self} {r2 = c.set_link.new.self} one.keeps c.in_ok-next.ensures.keeps.0 in
+    let past : c.loop-page.left < length c.in_ok-next.had.now = let more = c.if-taken-left.true in omega (arith, more) in
     given_damaged g.D.Disk c.args.self.now c.damaged-then-taken-left.new.self c.args.disk.now c.set_link.new.disk c.args.named (IsChainOf c.args.first c.args.len)
     c.damaged-then-taken-left.result c.damaged-then-taken-left.ensures.result (ended_behind {r0 = c.args.self.now} {r1 = c.set_link.new.self} {r2 = c.damaged-then-taken-left.new.self} c.requires.runs keeps c.damaged-then-taken-left.ensures.ended)
     (λ was links held step holds starts.
     let mid = one.steps was links held step holds starts.begins in
     over_past links mid.more (mid.comes).passed starts mid.holds (few_pages c.loop-page.self.head c.loop-page.self.head_range) c.loop-page-test.true
-    (c.in_ok-link.ensures.ok.0 was (step_kept {r0 = c.args.self.now} {r1 = c.loop-page.self} one.keeps one.still step)) past)
+    (c.in_ok-next.ensures.ok.0 was (step_kept {r0 = c.args.self.now} {r1 = c.loop-page.self} one.keeps one.still step)) past)
 
 pub returns-then-taken-left-clause-still : goal.returns-then-taken-left-clause-still
 returns-then-taken-left-clause-still g c = still_then c.loop-page.invariant.still c.set_link.ensures.still
