@@ -3,24 +3,25 @@ use Rattle.std.proofs.Common.{◌≡◌, ℕ, ◌+◌, ◌-◌, ◌*◌, ◌<◌
 use Rattle.std.proofs.lemmas.List.{length-append, append-nil, nil_from_length}
 use Rattle.std.proofs.lemmas.Grind.{div_ceil_times}
 use Rattle.std.specs.Bool.{MatchBool}
-use Rattle.nx_tree.specs.declared.node.Node.{Node}
 use Rattle.nx_piece.specs.declared.reading.Left.{Left}
 use Rattle.std.specs.Prelude.{None}
 use Rattle.nx_piece.specs.declared.piece.Proxy.{Proxy}
 use Rattle.nx_piece.specs.declared.piece.Stored.TheVariants.{Inline, Chained}
 use Rattle.nx_piece.specs.Decoded.{IsDecoded}
-use Rattle.nx_piece.specs.Gapped.{Gapped, GappedTree, End, Grow, Gap, item_count, gapped_width, gapped_size, proxies_in, slots_in, item_slots}
+use Rattle.nx_piece.specs.PieceNode.{PieceNode, item_content, item_slots}
+use Rattle.nx_piece.specs.Gapped.{Gapped, GappedTree, End, Grow, Gap, item_count, gapped_width, gapped_size, proxies_in, slots_in}
 use Rattle.nx_piece.specs.Encoding.{four_bytes, node_bytes, items_bytes, proxy_bytes, proxies_bytes, items_head_bytes, head_bytes, body_bytes}
-use Rattle.nx_piece.specs.Valid.{AreTrees, BeginsNoGap, IsValidBody, IsValidInline, IsValidChained, HaveRoots, HaveNumbers, longest_inline}
+use Rattle.nx_piece.specs.Valid.{AreTrees, BeginsNoGap, HavePages, IsValidBody, IsValidInline, IsValidChained, HaveRoots, HaveNumbers, longest_inline}
 use Rattle.nx_piece.specs.Reading.{alone, HasReadItems, BeginsWithItems, BeginsNoTree, BeginsNoTrees, BeginsNoBody, BeginsNoHead, BeginsNoProxiesHead, IsReadBody, IsLeft}
 use Rattle.nx_piece.proofs.WalkLemmas.{item_count_most}
-use Rattle.nx_piece.proofs.ApartLemmas.{two_unique, four_unique, row, width_row, IsStorable, one_row, content_length}
+use Rattle.nx_piece.proofs.ApartLemmas.{two_unique, four_unique, row, width_row, IsStorable, one_row, length-content}
+use Rattle.nx_piece.proofs.PageLemmas.{paged, paged_bytes, paged_valid}
 use Rattle.nx_piece.proofs.ReadLemmas.{read_more, read_none, remains, nothing_begins}
 
-node_length : (n : Node) (i : ℕ) → length (node_bytes n i) ≡ 8 * item_slots n
+node_length : (n : PieceNode) (i : ℕ) → length (node_bytes n i) ≡ 8 * item_slots n
 node_length n i =
-    let times = div_ceil_times (length n.name + length n.content) 8 (omega arith) in
-    let c = content_length n in
+    let times = div_ceil_times (length n.node.name + length (item_content n)) 8 (omega arith) in
+    let c = length-content n.node.name (item_content n) in
     omega arith
 
 -- items take 8 bytes for each word
@@ -37,8 +38,8 @@ pub proxies_length : (proxies : List Proxy) → length (proxies_bytes proxies) �
 proxies_length [] = refl
 proxies_length (p ∷ proxies) = let h = proxies_length proxies in omega arith
 
-pub valid_storable : (f : Gapped) (p : ℕ) → IsValidBody f p → IsStorable f
-valid_storable f p h = let c = h.counted in let q = h.few_proxies in record { light = h.light; few = omega arith; apart = h.apart }
+pub valid_storable : (f : Gapped) (p : ℕ) → IsValidBody f p → HavePages f → IsStorable f
+valid_storable f p h k = let c = h.counted in let q = h.few_proxies in record { small = h.small; few = omega arith; apart = h.apart; far = h.far; pages = k }
 
 -- what two bodies with one beginning of bytes in common have in common
 pub record IsSameBody (form form' : ℕ) (f g : Gapped) (p q c d : ℕ) (x y : List ℕ) : Type 0 where
@@ -48,11 +49,11 @@ pub record IsSameBody (form form' : ℕ) (f g : Gapped) (p q c d : ℕ) (x y : L
   pub chain : four_bytes c ≡ four_bytes d
   pub behind : x ≡ y
 
-pub body_unique : {form form' p q c d : ℕ} {f g : Gapped} {x y : List ℕ} → IsValidBody f p → IsValidBody g q → body_bytes form f p c ++ x ≡ body_bytes form' g q d ++ y → IsSameBody form form' f g p q c d x y
-body_unique {form} {form'} {p} {q} {c} {d} {f} {g} {x} {y} hf hg e =
+pub body_unique : {form form' p q c d : ℕ} {f g : Gapped} {x y : List ℕ} → IsValidBody f p → IsValidBody g q → HavePages f → HavePages g → body_bytes form f p c ++ x ≡ body_bytes form' g q d ++ y → IsSameBody form form' f g p q c d x y
+body_unique {form} {form'} {p} {q} {c} {d} {f} {g} {x} {y} hf hg pf pg e =
     let w : gapped_width f ≡ gapped_width g = two_unique (gapped_width f) (gapped_width g) (let a = hf.few in omega arith) (let a = hg.few in omega arith) (ap (λ (l : List ℕ). take 2 (drop 2 l)) e) in
     let n : p ≡ q = four_unique p q (let a = hf.few_proxies in omega arith) (let a = hg.few_proxies in omega arith) (ap (λ (l : List ℕ). take 4 (drop 8 l)) e) in
-    let r = one_row f g x y (valid_storable f p hf) (valid_storable g q hg) w (ap (drop 16) e) in
+    let r = one_row f g x y (valid_storable f p hf pf) (valid_storable g q hg pg) w (ap (drop 16) e) in
     record {
       form_same = ap (λ (l : List ℕ). get_or l 0 0) e;
       roots = r.0;
@@ -192,7 +193,7 @@ head_unique {bytes} {behind} {form} {roots} {items} {proxies} {chain} head form'
     let e = sym head.0 ∙ is in
     record {
       wide = two_unique roots (gapped_width f) head.1 (let a = valid.few in omega arith) (ap (λ (l : List ℕ). take 2 (drop 2 l)) e);
-      many = four_unique items (item_count f) head.2 (let s = item_count_most f valid.apart in let l = valid.light in omega arith) (ap (λ (l : List ℕ). take 4 (drop 4 l)) e);
+      many = four_unique items (item_count f) head.2 (let s = item_count_most f valid.apart in let l = valid.small in omega arith) (ap (λ (l : List ℕ). take 4 (drop 4 l)) e);
       all = four_unique proxies p head.3 (let a = valid.few_proxies in omega arith) (ap (λ (l : List ℕ). take 4 (drop 8 l)) e);
       same = ap (drop 16) e;
     }
@@ -203,7 +204,7 @@ Head bytes behind form roots items proxies chain =
 
 -- a head whose numbers are too small or too large begins no body
 pub bad_numbers : {bytes behind : List ℕ} {form roots items proxies chain : ℕ} → Head bytes behind form roots items proxies chain → ((1 ≤ roots) × (roots ≤ 256) × (proxies ≤ 524288) → ⊥) → BeginsNoBody bytes
-bad_numbers {bytes} {behind} {form} {roots} {items} {proxies} {chain} head bad form' f p c rest valid is =
+bad_numbers {bytes} {behind} {form} {roots} {items} {proxies} {chain} head bad form' f p c rest valid pages is =
     let t = head_unique head form' f p c rest valid is in
     let w = t.wide in let a = t.all in
     let s = valid.some in let m = valid.few in let q = valid.few_proxies in
@@ -213,20 +214,22 @@ abbrev pub start : (proxies items : ℕ) → Left
 start proxies items = record { room = 256; proxies = proxies; items = items }
 
 -- what is left where a body begins
-begins_roots : {behind rest : List ℕ} {roots items proxies p : ℕ} {f : Gapped} → IsHeadOf roots items proxies behind f p rest → IsValidBody f p → BeginsWithItems behind (start proxies items) f rest
-begins_roots {behind} {rest} {roots} {items} {proxies} {p} {f} t valid =
+begins_roots : {behind rest : List ℕ} {roots items proxies p : ℕ} {f : Gapped} → IsHeadOf roots items proxies behind f p rest → IsValidBody f p → HavePages f → BeginsWithItems behind (start proxies items) f rest
+begins_roots {behind} {rest} {roots} {items} {proxies} {p} {f} t valid pages =
     record {
       same = t.same;
-      room = valid.light;
+      room = valid.small;
       proxies = let a = t.all in let k = valid.counted in omega arith;
       items = let a = t.many in omega arith;
       apart = valid.apart;
+      far = valid.far;
+      pages = pages;
     }
 
 pub bad_roots : {bytes behind : List ℕ} {form roots items proxies chain : ℕ} → Head bytes behind form roots items proxies chain → BeginsNoTrees behind (start proxies items) roots → BeginsNoBody bytes
-bad_roots {bytes} {behind} {form} {roots} {items} {proxies} {chain} head bad form' f p c rest valid is =
+bad_roots {bytes} {behind} {form} {roots} {items} {proxies} {chain} head bad form' f p c rest valid pages is =
     let t = head_unique head form' f p c rest valid is in
-    bad f rest valid.trees (sym t.wide) (begins_roots t valid)
+    bad f rest valid.trees (sym t.wide) (begins_roots t valid pages)
 
 -- each item takes 8 bytes at least
 items_few : (f : Gapped) → item_count f ≤ slots_in f
@@ -236,18 +239,18 @@ items_few (Gap c s) = omega (arith, items_few s)
 
 -- a head with more items than the bytes behind it can hold begins no body
 pub bad_items : {bytes behind : List ℕ} {form roots items proxies chain : ℕ} → Head bytes behind form roots items proxies chain → length behind < 8 * items → BeginsNoBody bytes
-bad_items {bytes} {behind} {form} {roots} {items} {proxies} {chain} head many form' f p c rest valid is =
+bad_items {bytes} {behind} {form} {roots} {items} {proxies} {chain} head many form' f p c rest valid pages is =
     let t = head_unique head form' f p c rest valid is in
     let n = t.many in let long = ap length t.same ∙ length-append (items_bytes f) rest in
     omega (arith, items_length f, items_few f)
 
 pub bad_sums : {bytes behind rest : List ℕ} {form roots items proxies chain : ℕ} {g : Gapped} {left : Left} → Head bytes behind form roots items proxies chain → HasReadItems behind (start proxies items) g rest left × AreTrees g × (gapped_width g ≡ roots) → proxies ≤ 524288
     → ((left.proxies ≡ 0) × (left.items ≡ 0) → ⊥) → BeginsNoBody bytes
-bad_sums {bytes} {behind} {rest} {form} {roots} {items} {proxies} {chain} {g} {left} head read few bad form' f p c last valid is =
+bad_sums {bytes} {behind} {rest} {form} {roots} {items} {proxies} {chain} {g} {left} head read few bad form' f p c last valid pages is =
     let t = head_unique head form' f p c last valid is in
     let r = one_row g f rest last
-    (record { light = let a = read.0.room in omega arith; few = let a = read.0.proxies in omega arith; apart = read.0.apart })
-    (valid_storable f p valid) (read.2 ∙ t.wide) (sym read.0.same ∙ t.same) in
+    (record { small = let a = read.0.room in omega arith; few = let a = read.0.proxies in omega arith; apart = read.0.apart; far = read.0.far; pages = read.0.pages })
+    (valid_storable f p valid pages) (read.2 ∙ t.wide) (sym read.0.same ∙ t.same) in
     let x : proxies ≡ left.proxies + proxies_in g = read.0.proxies in let y : items ≡ left.items + item_count g = read.0.items in
     let a = ap proxies_in r.0 in let b = ap item_count r.0 in
     let m = t.many in let n = t.all in let k = valid.counted in
@@ -266,27 +269,37 @@ body_read {bytes} {behind} {rest} {form} {roots} {items} {proxies} {chain} {size
       same = head.0 ∙ ap (λ (r : List ℕ). head_bytes form roots items proxies chain ++ r) read.0.same
           ∙ ap (λ (k : ℕ). head_bytes form k items proxies chain ++ (items_bytes g ++ rest)) (sym w)
           ∙ ap (λ (k : ℕ). head_bytes form (gapped_width g) k proxies chain ++ (items_bytes g ++ rest)) many;
-      valid = record { trees = read.1; some = omega arith; few = omega arith; light = omega arith; apart = read.0.apart; counted = omega arith; few_proxies = fits };
+      valid = record { trees = read.1; some = omega arith; few = omega arith; small = omega arith; apart = read.0.apart; far = read.0.far; counted = omega arith; few_proxies = fits };
+      pages = read.0.pages;
       chain_fits = head.4;
       inline_size = omega arith;
     }
 
 -- bytes that begin with no body are those of no piece
 pub no_body : (bytes : List ℕ) → BeginsNoBody bytes → IsDecoded bytes None
-no_body bytes none (Inline piece) valid is = none 1 piece.body.roots (length piece.proxies) 0 (proxies_bytes piece.proxies) valid.body is
-no_body bytes none (Chained body count chain) valid is = none 2 body.roots count chain [] valid.body (is ∙ sym (append-nil (body_bytes 2 body.roots count chain)))
+no_body bytes none (Inline piece) valid is =
+    let f : Gapped = piece.body.roots in
+    none 1 (paged f).now (length piece.proxies) 0 (proxies_bytes piece.proxies) (paged_valid f valid.body) (paged f).pages
+    (is ∙ ap (λ (l : List ℕ). l ++ proxies_bytes piece.proxies) (sym (paged_bytes f 1 (length piece.proxies) 0)))
+no_body bytes none (Chained body count chain) valid is =
+    let f : Gapped = body.roots in
+    none 2 (paged f).now count chain [] (paged_valid f valid.body) (paged f).pages (is ∙ sym (append-nil (body_bytes 2 f count chain)) ∙ ap (λ (l : List ℕ). l ++ []) (sym (paged_bytes f 2 count chain)))
 
 -- no piece has these bytes, where neither form's rest follows
 pub no_stored : {bytes rest : List ℕ} {form p c size : ℕ} {f : Gapped} → IsReadBody bytes form f p c rest size
     → ((ps : List Proxy) → form ≡ 1 → c ≡ 0 → size ≤ longest_inline → length ps ≡ p → HaveRoots ps → rest ≡ proxies_bytes ps → ⊥)
     → (form ≡ 2 → longest_inline < size → rest ≡ [] → ⊥) → IsDecoded bytes None
 no_stored {bytes} {rest} {form} {p} {c} {size} {f} read inline chained (Inline piece) valid is =
-    let t = body_unique {d = 0} read.valid valid.body (sym read.same ∙ is) in
-    let i = read.inline_size in let r = ap slots_in t.roots in let n = t.proxies in let k = valid.fits in
+    let g : Gapped = piece.body.roots in
+    let same = ap (λ (l : List ℕ). l ++ proxies_bytes piece.proxies) (sym (paged_bytes g 1 (length piece.proxies) 0)) in
+    let t = body_unique {d = 0} read.valid (paged_valid g valid.body) read.pages (paged g).pages (sym read.same ∙ is ∙ same) in
+    let i = read.inline_size in let r = ap slots_in t.roots in let s = (paged g).slots in let n = t.proxies in let k = valid.fits in
     inline piece.proxies t.form_same (four_unique c 0 read.chain_fits (omega arith) t.chain) (omega arith) (sym t.proxies) valid.ranged t.behind
 no_stored {bytes} {rest} {form} {p} {c} {size} {f} read inline chained (Chained body count chain) valid is =
-    let t = body_unique read.valid valid.body (sym read.same ∙ is ∙ sym (append-nil (body_bytes 2 body.roots count chain))) in
-    let i = read.inline_size in let r = ap slots_in t.roots in let n = t.proxies in let k = valid.long in
+    let g : Gapped = body.roots in
+    let same = sym (append-nil (body_bytes 2 g count chain)) ∙ ap (λ (l : List ℕ). l ++ []) (sym (paged_bytes g 2 count chain)) in
+    let t = body_unique read.valid (paged_valid g valid.body) read.pages (paged g).pages (sym read.same ∙ is ∙ same) in
+    let i = read.inline_size in let r = ap slots_in t.roots in let s = (paged g).slots in let n = t.proxies in let k = valid.long in
     chained t.form_same (omega arith) t.behind
 
 pub inline_read : {bytes rest : List ℕ} {form p c size : ℕ} {f : Gapped} {ps : List Proxy} → IsReadBody bytes form f p c rest size → form ≡ 1 → c ≡ 0 → size ≤ longest_inline → (rest ≡ proxies_bytes ps) × HaveRoots ps × (length ps ≡ p)

@@ -4,10 +4,10 @@ use Rattle.std.proofs.lemmas.List.{length-drop}
 use Rattle.nx_piece.specs.declared.viewing.NodeView.{NodeView}
 use Rattle.nx_piece.specs.declared.viewing.Flat.{Flat}
 use Rattle.nx_piece.specs.declared.viewing.Flat.TheVariants.{Tree, Run}
-use Rattle.nx_tree.specs.declared.node.Node.{Node}
-use Rattle.nx_weights.specs.Weight.{weight}
-use Rattle.nx_piece.specs.Gapped.{Gapped, Grow, Gap, gapped_width, gapped_nodes, gapped_size, gapped_weight, item_slots, proxies_in}
+use Rattle.nx_piece.specs.PieceNode.{PieceNode, node_weight, item_slots, MayBeFar}
+use Rattle.nx_piece.specs.Gapped.{Gapped, Grow, Gap, gapped_width, gapped_nodes, gapped_size, gapped_weight, proxies_in}
 use Rattle.nx_piece.specs.Flat.{seen_node, forest_within, unflattened}
+use Rattle.nx_piece.specs.Valid.{AreFar}
 use Rattle.nx_piece.proofs.SizeLemmas.{gapped_sum, one_each, sum_is_weight, sum_is_size, sum_is_nodes}
 
 take_few : (n : ℕ) (items : List Flat) → length (take n items) ≤ length items
@@ -105,18 +105,18 @@ pub runs_in : (items : List Flat) → proxies_in (unflattened items) ≡ runs_su
 runs_in items = runs_within (length items) items (omega arith)
 
 -- the sum of a measure of the nodes of a flat list
-abbrev pub flat_sum : (Node → ℕ) → List Flat → ℕ
+abbrev pub flat_sum : (PieceNode → ℕ) → List Flat → ℕ
 flat_sum measure [] = 0
 flat_sum measure (Tree node below ∷ items) = measure (seen_node node) + flat_sum measure items
 flat_sum measure (Run count ∷ items) = flat_sum measure items
 
-sum_cut : (measure : Node → ℕ) (n : ℕ) (items : List Flat) → flat_sum measure (take n items) + flat_sum measure (drop n items) ≡ flat_sum measure items
+sum_cut : (measure : PieceNode → ℕ) (n : ℕ) (items : List Flat) → flat_sum measure (take n items) + flat_sum measure (drop n items) ≡ flat_sum measure items
 sum_cut measure zero items = omega arith
 sum_cut measure (suc n) [] = omega arith
 sum_cut measure (suc n) (Tree node below ∷ items) = let h = sum_cut measure n items in omega (arith, h)
 sum_cut measure (suc n) (Run count ∷ items) = sum_cut measure n items
 
-sum_within : (measure : Node → ℕ) (n : ℕ) (items : List Flat) → length items ≤ n → gapped_sum measure (forest_within n items) ≡ flat_sum measure items
+sum_within : (measure : PieceNode → ℕ) (n : ℕ) (items : List Flat) → length items ≤ n → gapped_sum measure (forest_within n items) ≡ flat_sum measure items
 sum_within measure zero [] h = refl
 sum_within measure zero (item ∷ items) h = absurd (omega arith)
 sum_within measure (suc n) [] h = refl
@@ -128,11 +128,35 @@ sum_within measure (suc n) (Tree node below ∷ items) h =
     let c = sum_cut measure below items in
     omega arith
 
-pub weights_in : (items : List Flat) → flat_sum weight items ≡ gapped_weight (unflattened items)
-weights_in items = sym (sum_within weight (length items) items (omega arith)) ∙ sum_is_weight (unflattened items)
+pub weights_in : (items : List Flat) → flat_sum node_weight items ≡ gapped_weight (unflattened items)
+weights_in items = sym (sum_within node_weight (length items) items (omega arith)) ∙ sum_is_weight (unflattened items)
 
 pub sizes_in : (items : List Flat) → flat_sum item_slots items ≡ gapped_size (unflattened items)
 sizes_in items = sym (sum_within item_slots (length items) items (omega arith)) ∙ sum_is_size (unflattened items)
+
+-- each far node of a flat list is as one may be
+abbrev pub AreFlatFar : List Flat → Type 0
+AreFlatFar [] = Unit {0}
+AreFlatFar (Tree node below ∷ items) = MayBeFar (seen_node node) × AreFlatFar items
+AreFlatFar (Run count ∷ items) = AreFlatFar items
+
+far_joined : (n : ℕ) (items : List Flat) → AreFlatFar (take n items) → AreFlatFar (drop n items) → AreFlatFar items
+far_joined zero items h k = k
+far_joined (suc n) [] h k = tt
+far_joined (suc n) (Tree node below ∷ items) h k = (h.0, far_joined n items h.1 k)
+far_joined (suc n) (Run count ∷ items) h k = far_joined n items h k
+
+far_within : (n : ℕ) (items : List Flat) → length items ≤ n → AreFar (forest_within n items) → AreFlatFar items
+far_within zero [] h k = tt
+far_within zero (item ∷ items) h k = absurd (omega arith)
+far_within (suc n) [] h k = tt
+far_within (suc n) (Run count ∷ items) h k = far_within n items (omega arith) k
+far_within (suc n) (Tree node below ∷ items) h k =
+    let t = take_few below items in let d = length-drop below items in
+    (k.0, far_joined below items (far_within n (take below items) (omega arith) k.1) (far_within n (drop below items) (omega arith) k.2))
+
+pub far_in : (items : List Flat) → AreFar (unflattened items) → AreFlatFar items
+far_in items h = far_within (length items) items (omega arith) h
 
 pub nodes_in : (items : List Flat) → flat_sum one_each items ≡ gapped_nodes (unflattened items)
 nodes_in items = sym (sum_within one_each (length items) items (omega arith)) ∙ sum_is_nodes (unflattened items)

@@ -8,9 +8,12 @@ use Rattle.nx_piece.specs.declared.piece.Piece.{Piece}
 use Rattle.nx_piece.specs.declared.piece.Stored.{Stored}
 use Rattle.nx_piece.specs.declared.piece.Stored.TheVariants.{Inline, Chained}
 use Rattle.nx_piece.specs.Decoded.{IsDecoded}
+use Rattle.nx_piece.specs.declared.piece.Far.{Far}
+use Rattle.nx_tree.specs.Document.{longest_node}
+use Rattle.nx_piece.specs.PieceNode.{PieceNode, content_with, length_with, item_slots, IsFarWith, MayBeFar, IsShortNode}
 use Rattle.nx_piece.specs.Gapped.{Gapped, End, Grow, Gap, gapped_width, gapped_size, gapped_weight, slots_in}
 use Rattle.nx_piece.specs.Encoding.{proxy_bytes, proxies_bytes, body_bytes, encoding}
-use Rattle.nx_piece.specs.Valid.{AreApart, AreTrees, BeginsNoGap, IsValid, IsValidBody, IsValidInline, IsValidChained, IsPiece, HaveRoots, HaveNumbers, HasNumbers, inline_length}
+use Rattle.nx_piece.specs.Valid.{AreApart, AreFar, AreTrees, BeginsNoGap, IsValid, IsValidBody, IsValidInline, IsValidChained, IsPiece, HaveRoots, HaveNumbers, HasNumbers, inline_length}
 use Rattle.nx_piece.specs.Weight.{HaveShortNodes}
 use Rattle.nx_piece.proofs.SizeLemmas.{weight_within}
 use Rattle.nx_piece.proofs.ApartLemmas.{two_unique, four_unique}
@@ -38,17 +41,17 @@ proxies_unique (p ∷ ps) (q ∷ qs) hp hq np nq e =
 -- no two pieces have the same bytes
 pub one_stored : (a b : Stored) → IsValid a → IsValid b → HasNumbers a → HasNumbers b → encoding a ≡ encoding b → a ≡ b
 one_stored (Inline piece) (Inline other) va vb na nb e =
-    let t = body_unique {c = 0} {d = 0} va.body vb.body e in
-    let ps = proxies_unique piece.proxies other.proxies va.ranged vb.ranged na nb t.behind in
+    let t = body_unique {c = 0} {d = 0} va.body vb.body na.1 nb.1 e in
+    let ps = proxies_unique piece.proxies other.proxies va.ranged vb.ranged na.0 nb.0 t.behind in
     ap (λ (f : Gapped). Inline (record { body = record { roots = f }; proxies = piece.proxies })) (sym t.roots)
     ∙ ap (λ (xs : List Proxy). Inline (record { body = other.body; proxies = xs })) ps
 one_stored (Inline piece) (Chained body count chain) va vb na nb e = absurd (cc)
 one_stored (Chained body count chain) (Inline piece) va vb na nb e = absurd (cc)
 one_stored (Chained body count chain) (Chained other sum first) va vb na nb e =
-    let t = body_unique va.body vb.body (append-nil _ ∙ e ∙ sym (append-nil _)) in
+    let t = body_unique va.body vb.body na.1 nb.1 (append-nil _ ∙ e ∙ sym (append-nil _)) in
     ap (λ (f : Gapped). Chained (record { roots = f }) count chain) (sym t.roots)
     ∙ ap (λ (k : ℕ). Chained other k chain) t.proxies
-    ∙ ap (λ (k : ℕ). Chained other sum k) (four_unique chain first na nb t.chain)
+    ∙ ap (λ (k : ℕ). Chained other sum k) (four_unique chain first na.0 nb.0 t.chain)
 
 -- bytes are decoded in one way
 pub one_decoded : (bytes : List ℕ) (a b : Option Stored) → IsDecoded bytes a → IsDecoded bytes b → a ≡ b
@@ -70,9 +73,9 @@ chained_bytes body count chain = let i = items_length body.roots in omega arith
 piece_within : (piece : Piece) → IsValidBody piece.body.roots (length piece.proxies) → HaveRoots piece.proxies → IsPiece piece
 piece_within piece h ranged =
     let roots : gapped_width piece.body.roots ≤ 256 = h.few in
-    let slots : gapped_size piece.body.roots ≤ 256 = h.light in
+    let slots : gapped_size piece.body.roots ≤ 256 = h.small in
     record {
-      body = record { trees = h.trees; some = h.some; few = omega arith; light = omega arith; apart = h.apart; counted = h.counted; few_proxies = h.few_proxies };
+      body = record { trees = h.trees; some = h.some; few = omega arith; small = omega arith; apart = h.apart; far = h.far; counted = h.counted; few_proxies = h.few_proxies };
       ranged = ranged;
     }
 
@@ -85,14 +88,21 @@ pub chained_is_piece : (piece : Piece) → IsValidChained piece.body.roots (leng
 chained_is_piece piece h ranged = piece_within piece h.body ranged
 
 -- the nodes of a piece have short names and contents
-pub are_short : (f : Gapped) → gapped_size f ≤ 512 → HaveShortNodes f
-are_short End h = tt
-are_short (Grow n b s) h = (omega arith, are_short b (omega arith), are_short s (omega arith))
-are_short (Gap c s) h = are_short s h
+short_length : (name : ℕ) (own : List ℕ) (far : Option Far) → name + length (content_with own far) ≤ 4088 → IsFarWith own far → length_with (length own) far ≤ longest_node
+short_length name own None h k = omega arith
+short_length name own (Some far) h k = k.2
+
+pub is_short : (n : PieceNode) → item_slots n ≤ 512 → MayBeFar n → IsShortNode n
+is_short n h k = (omega arith, short_length (length n.node.name) n.node.content n.far (omega arith) k)
+
+pub are_short : (f : Gapped) → gapped_size f ≤ 512 → AreFar f → HaveShortNodes f
+are_short End h k = tt
+are_short (Grow n b s) h k = (is_short n (omega arith) k.0, are_short b (omega arith) k.1, are_short s (omega arith) k.2)
+are_short (Gap c s) h k = are_short s h k
 
 -- nor do they weigh much together
-pub little_weight : (f : Gapped) → gapped_size f ≤ 512 → gapped_weight f ≤ 4294967295
-little_weight f h = omega (arith, weight_within f)
+pub little_weight : (f : Gapped) → gapped_size f ≤ 512 → AreFar f → gapped_weight f ≤ 4294967295
+little_weight f h k = omega (arith, weight_within f k)
 
 slots_apart : (f : Gapped) → AreApart f → (slots_in f ≤ 3 * gapped_size f + 1) × (BeginsNoGap f → slots_in f ≤ 3 * gapped_size f)
 slots_apart End h = (omega arith, λ _. omega arith)
@@ -113,6 +123,6 @@ begins_no_gap (Gap c s) h = absurd h
 -- without its proxies a piece fits in a record
 pub body_fits : (f : Gapped) (count : ℕ) → IsValidBody f count → 16 + 8 * slots_in f ≤ 6160
 body_fits f count h =
-    let light : gapped_size f ≤ 256 = h.light in
+    let small : gapped_size f ≤ 256 = h.small in
     let few : slots_in f ≤ 3 * gapped_size f = (slots_apart f h.apart).1 (begins_no_gap f h.trees) in
-    omega (arith, light, few)
+    omega (arith, small, few)

@@ -3,6 +3,7 @@ pub mod SizeLemmas
 pub mod FlatLemmas
 pub mod WalkLemmas
 pub mod ApartLemmas
+pub mod PageLemmas
 pub mod ContentLemmas
 pub mod ReadLemmas
 pub mod BodyLemmas

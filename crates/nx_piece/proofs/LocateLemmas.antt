@@ -5,7 +5,8 @@ use Rattle.std.proofs.lemmas.List.{length-append, length-drop, drop_all}
 use Rattle.std.proofs.lemmas.List.Sums.{sum_by-cons}
 use Rattle.nx_piece.specs.declared.piece.Piece.{Piece}
 use Rattle.nx_piece.specs.declared.piece.Proxy.{Proxy}
-use Rattle.nx_piece.specs.Gapped.{Gapped, GappedTree, End, Grow, Gap, gapped_size, proxies_in, item_slots}
+use Rattle.nx_piece.specs.PieceNode.{item_slots}
+use Rattle.nx_piece.specs.Gapped.{Gapped, GappedTree, End, Grow, Gap, gapped_size, proxies_in}
 use Rattle.nx_piece.specs.Valid.{AreTrees, HaveRoots, IsPiece}
 use Rattle.nx_piece.specs.Locate.{PieceChild, Own, Kept, roots_from, kept_from, children_of, Inside, Outside, Missing, reached, reached_in, IsPartOf}
 
@@ -298,7 +299,7 @@ gap_counted {proxies} {first} {before} {count} {c} {more} {all} {rest} {beside} 
 -- and there are not many of them
 pub counted_few : {proxies : List Proxy} {first before count : ℕ} {all rest : Gapped} → IsCounted proxies first all before count rest → HaveRoots proxies → proxies_in all ≤ 524288 → gapped_size all ≤ 512
     → count + length (children_of proxies before rest) ≤ 134218240
-counted_few {proxies} {first} {before} {count} {all} {rest} h ranged few light = let a = h.sum in let b = children_most proxies first all ranged in omega arith
+counted_few {proxies} {first} {before} {count} {all} {rest} h ranged few small = let a = h.sum in let b = children_most proxies first all ranged in omega arith
 
 pub all_counted : {proxies : List Proxy} {first before count : ℕ} {all rest : Gapped} → IsCounted proxies first all before count rest → rest ≡ End → count ≡ length (children_of proxies first all)
 all_counted {proxies} {first} {before} {count} {all} {rest} h e =
@@ -315,11 +316,11 @@ way_begins piece member path tree first valid e =
     let own = own_child piece.proxies 0 piece.body.roots member tree first e in
     let w : item_slots tree.node + gapped_size tree.below ≤ gapped_size piece.body.roots = own.0 in
     let p : first + proxies_in tree.below ≤ 0 + proxies_in piece.body.roots = own.1 in
-    let l : gapped_size piece.body.roots ≤ 512 = valid.body.light in
+    let l : gapped_size piece.body.roots ≤ 512 = valid.body.small in
     let c : proxies_in piece.body.roots ≡ length piece.proxies = valid.body.counted in
     record {
       same = ap (reached piece.proxies 0 path) e;
-      part = record { fits = omega arith; light = omega arith };
+      part = record { fits = omega arith; small = omega arith };
       deep = omega arith;
     }
 
@@ -338,7 +339,7 @@ way_goes_on {piece} {member} {path} {used} {tree} {first} position child before 
     let l : used + item_slots tree.node + gapped_size tree.below ≤ 512 = h.deep in
     record {
       same = step position h d ∙ ap (reached piece.proxies (used + 1) (drop (used + 1) path)) e;
-      part = record { fits = omega arith; light = omega arith };
+      part = record { fits = omega arith; small = omega arith };
       deep = omega arith;
     }
 

@@ -2,7 +2,7 @@
 use Rattle.std.proofs.Common.{◌≡◌, ℕ, ◌+◌, ◌-◌, Bool, true, false, List, [], ◌∷◌, ◌++◌, length, drop, slice_set, refl, sym, ap, ◌∙◌, subst, arith, append_assoc}
 use Rattle.std.proofs.lemmas.List.{length-append, append-nil}
 use Rattle.std.proofs.Math.Seq.{take-append_seam, drop-append_seam, set-append_seam}
-use Rattle.nx_tree.specs.declared.node.Node.{Node}
+use Rattle.nx_piece.specs.PieceNode.{PieceNode}
 use Rattle.nx_piece.specs.declared.viewing.NodeView.{NodeView}
 use Rattle.nx_piece.specs.declared.viewing.Flat.{Flat}
 use Rattle.nx_piece.specs.declared.viewing.Flat.TheVariants.{Tree, Run}
@@ -38,7 +38,7 @@ spells_forest items (Grow n b s) h =
     ∙ first_tree h.0 (length h.1) (h.1 ++ h.2)
     ∙ ap (λ (l : List Flat). Grow (seen_node h.0) (unflattened l) (unflattened (drop (length h.1) (h.1 ++ h.2)))) (take-append_seam h.1 h.2)
     ∙ ap (λ (l : List Flat). Grow (seen_node h.0) (unflattened h.1) (unflattened l)) (drop-append_seam h.1 h.2)
-    ∙ ap (λ (m : Node). Grow m (unflattened h.1) (unflattened h.2)) h.4
+    ∙ ap (λ (m : PieceNode). Grow m (unflattened h.1) (unflattened h.2)) h.4
     ∙ ap (λ (g : Gapped). Grow n g (unflattened h.2)) (spells_forest h.1 b h.5)
     ∙ ap (Grow n b) (spells_forest h.2 s h.6)
 

@@ -1,10 +1,10 @@
 -- Items read one after another.
 use Rattle.std.proofs.Common.{◌≡◌, ℕ, ◌+◌, ◌<◌, ◌≤◌, Bool, true, false, List, ◌++◌, refl, sym, ap, ◌∙◌, subst, arith, append_assoc}
-use Rattle.nx_tree.specs.declared.node.Node.{Node}
 use Rattle.nx_piece.specs.declared.reading.Left.{Left}
-use Rattle.nx_piece.specs.Gapped.{Gapped, GappedTree, End, Grow, Gap, item_count, gapped_width, gapped_size, proxies_in, item_slots}
+use Rattle.nx_piece.specs.PieceNode.{PieceNode, item_slots, MayBeFar}
+use Rattle.nx_piece.specs.Gapped.{Gapped, GappedTree, End, Grow, Gap, item_count, gapped_width, gapped_size, proxies_in}
 use Rattle.nx_piece.specs.Encoding.{node_bytes, run_bytes, items_bytes}
-use Rattle.nx_piece.specs.Valid.{AreApart, BeginsNoGap}
+use Rattle.nx_piece.specs.Valid.{AreApart, AreFar, BeginsNoGap, HavePages}
 use Rattle.nx_piece.specs.Reading.{alone, HasReadItems, BeginsWithItems, BeginsNoTree, BeginsNoRun, HasTakenNode, IsLeft}
 use Rattle.nx_piece.proofs.WalkLemmas.{item_count_most, width_most}
 use Rattle.nx_piece.proofs.ApartLemmas.{row, width_row, IsStorable, node_unique, grow_bytes, goes_on}
@@ -59,6 +59,26 @@ apart_row (Gap d End) g h = (h.2, λ e. h.1)
 apart_row (Gap d (Grow m c s)) g h = apart_row (Grow m c s) g h.2
 apart_row (Gap d (Gap c s)) g h = absurd h.1
 
+row_far : (f g : Gapped) → AreFar f → AreFar g → AreFar (row f g)
+row_far End g h k = k
+row_far (Grow n b s) g h k = (h.0, h.1, row_far s g h.2 k)
+row_far (Gap c s) g h k = row_far s g h k
+
+row_pages : (f g : Gapped) → HavePages f → HavePages g → HavePages (row f g)
+row_pages End g h k = k
+row_pages (Grow n b s) g h k = (h.0, h.1, row_pages s g h.2 k)
+row_pages (Gap c s) g h k = row_pages s g h k
+
+far_row : (f g : Gapped) → AreFar (row f g) → AreFar g
+far_row End g h = h
+far_row (Grow n b s) g h = far_row s g h.2
+far_row (Gap c s) g h = far_row s g h
+
+pages_row : (f g : Gapped) → HavePages (row f g) → HavePages g
+pages_row End g h = h
+pages_row (Grow n b s) g h = pages_row s g h.2
+pages_row (Gap c s) g h = pages_row s g h
+
 -- more is read behind what is read
 pub read_more : {bytes rest behind : List ℕ} {before between after : Left} {f g : Gapped} → HasReadItems bytes before f rest between → HasReadItems rest between g behind after → (ends_in_gap f ≡ true → BeginsNoGap g) → HasReadItems bytes before (row f g) behind after
 read_more {bytes} {rest} {behind} {before} {between} {after} {f} {g} h k next = record {
@@ -67,21 +87,23 @@ read_more {bytes} {rest} {behind} {before} {between} {after} {f} {g} h k next = 
   proxies = let a = h.proxies in let b = k.proxies in let c = row_proxies f g in omega arith;
   items = let a = h.items in let b = k.items in let c = row_item_count f g in omega arith;
   apart = row_apart f g h.apart k.apart next;
+  far = row_far f g h.far k.far;
+  pages = row_pages f g h.pages k.pages;
 }
 
 -- nothing is read yet
 pub read_none : (bytes : List ℕ) (left : Left) → HasReadItems bytes left End bytes left
-read_none bytes left = record { same = refl; room = omega arith; proxies = omega arith; items = omega arith; apart = tt }
+read_none bytes left = record { same = refl; room = omega arith; proxies = omega arith; items = omega arith; apart = tt; far = tt; pages = tt }
 
 pub read_storable : (bytes behind : List ℕ) (before after : Left) (f : Gapped) → HasReadItems bytes before f behind after → IsLeft before → IsStorable f
 read_storable bytes behind before after f h l =
     let a = h.room in let b = h.proxies in let r = l.room in let p = l.proxies in
-    record { light = omega arith; few = omega arith; apart = h.apart }
+    record { small = omega arith; few = omega arith; apart = h.apart; far = h.far; pages = h.pages }
 
 pub begins_storable : (bytes behind : List ℕ) (left : Left) (f : Gapped) → BeginsWithItems bytes left f behind → IsLeft left → IsStorable f
 begins_storable bytes behind left f h l =
     let a = h.room in let b = h.proxies in let r = l.room in let p = l.proxies in
-    record { light = omega arith; few = omega arith; apart = h.apart }
+    record { small = omega arith; few = omega arith; apart = h.apart; far = h.far; pages = h.pages }
 
 -- what the bytes begin with goes on behind what is read of it
 pub record Remains (rest : List ℕ) (left : Left) (f g : Gapped) (behind : List ℕ) : Type 0 where
@@ -102,7 +124,15 @@ remains {bytes} {rest} {behind} {before} {left} {f} {g} h k l w =
     record {
       last = on.rest;
       is = on.is;
-      begins = record { same = on.bytes; room = omega arith; proxies = omega arith; items = omega arith; apart = parts.0 };
+      begins = record {
+        same = on.bytes;
+        room = omega arith;
+        proxies = omega arith;
+        items = omega arith;
+        apart = parts.0;
+        far = far_row f on.rest (subst AreFar on.is k.far);
+        pages = pages_row f on.rest (subst HavePages on.is k.pages);
+      };
       next = parts.1;
     }
 
@@ -117,6 +147,8 @@ nothing_begins {rest} {behind} {left} {last = (Grow n b s)} {after_run} h w tree
       proxies = omega arith;
       items = omega arith;
       apart = (h.apart.0, tt);
+      far = (h.far.0, h.far.1, tt);
+      pages = (h.pages.0, h.pages.1, tt);
     })
 nothing_begins {rest} {behind} {left} {last = (Gap c s)} {after_run = true} h w trees runs next = next refl
 nothing_begins {rest} {behind} {left} {last = (Gap c s)} {after_run = false} h w trees runs next =
@@ -127,6 +159,8 @@ nothing_begins {rest} {behind} {left} {last = (Gap c s)} {after_run = false} h w
       proxies = omega arith;
       items = omega arith;
       apart = (h.apart.0, tt, tt);
+      far = tt;
+      pages = tt;
     })
 
 -- what a loop has read, and whether a run was the last
@@ -135,7 +169,7 @@ pub record ItemsRead (bytes : List ℕ) (before : Left) (f : Gapped) (rest : Lis
   pub counted : gapped_width f ≡ i
   pub run : ends_in_gap f ≡ after_run
 
-ends_one : (f : Gapped) (n : Node) (b : Gapped) → ends_in_gap (row f (Grow n b End)) ≡ false
+ends_one : (f : Gapped) (n : PieceNode) (b : Gapped) → ends_in_gap (row f (Grow n b End)) ≡ false
 ends_one End n b = refl
 ends_one (Grow m c End) n b = refl
 ends_one (Grow m c (Grow k d s)) n b = ends_one (Grow k d s) n b
@@ -169,12 +203,12 @@ run_read {bytes} {rest} {behind} {before} {between} {after} {f} {c} {i} {after_r
     let none : ends_in_gap f ≡ false = h.run ∙ k.0 in
     record { read = read_more h.read k.1 (λ y. absurd (cc)); counted = omega arith; run = ends_gap f c }
 
-pub head_left : (bytes behind : List ℕ) (before left : Left) (node : Node) (count : ℕ) → HasTakenNode bytes before node count behind left → IsLeft before → IsLeft left
+pub head_left : (bytes behind : List ℕ) (before left : Left) (node : PieceNode) (count : ℕ) → HasTakenNode bytes before node count behind left → IsLeft before → IsLeft left
 head_left bytes behind before left node count h l =
     let a = h.room in let b = h.proxies in let r = l.room in let p = l.proxies in record { room = omega arith; proxies = omega arith }
 
 -- a head and all its items are a tree
-pub whole_tree : {bytes behind rest : List ℕ} {before left after : Left} {node : Node} {count i : ℕ} {f : Gapped} {after_run : Bool} → HasTakenNode bytes before node count behind left → ItemsRead behind left f rest after i after_run → i ≡ count
+pub whole_tree : {bytes behind rest : List ℕ} {before left after : Left} {node : PieceNode} {count i : ℕ} {f : Gapped} {after_run : Bool} → HasTakenNode bytes before node count behind left → ItemsRead behind left f rest after i after_run → i ≡ count
     → HasReadItems bytes before (Grow node f End) rest after
 whole_tree {bytes} {behind} {rest} {before} {left} {after} {node} {count} {i} {f} {after_run} h k e =
     let w : count ≡ gapped_width f = sym e ∙ sym k.counted in
@@ -184,19 +218,21 @@ whole_tree {bytes} {behind} {rest} {before} {left} {after} {node} {count} {i} {f
       proxies = let a = h.proxies in let b = k.read.proxies in omega arith;
       items = let a = h.items in let b = k.read.items in omega arith;
       apart = (k.read.apart, tt);
+      far = (h.far, k.read.far, tt);
+      pages = (h.page, k.read.pages, tt);
     }
 
-pub lone_node : {bytes behind : List ℕ} {before left : Left} {node : Node} {count : ℕ} → HasTakenNode bytes before node count behind left → count ≡ 0 → HasReadItems bytes before (Grow node End End) behind left
+pub lone_node : {bytes behind : List ℕ} {before left : Left} {node : PieceNode} {count : ℕ} → HasTakenNode bytes before node count behind left → count ≡ 0 → HasReadItems bytes before (Grow node End End) behind left
 lone_node {bytes} {behind} {before} {left} {node} {count} h none = whole_tree h (no_item_read behind left) (sym none)
 
 -- where an item of a tree doesn't begin there is no tree
-pub no_tree : {bytes behind rest : List ℕ} {before left between : Left} {node : Node} {count i : ℕ} {f : Gapped} {after_run : Bool} → HasTakenNode bytes before node count behind left → IsLeft before → count < 65536
+pub no_tree : {bytes behind rest : List ℕ} {before left between : Left} {node : PieceNode} {count i : ℕ} {f : Gapped} {after_run : Bool} → HasTakenNode bytes before node count behind left → IsLeft before → count < 65536
     → ItemsRead behind left f rest between i after_run → i < count → BeginsNoTree rest between → BeginsNoRun rest between after_run → BeginsNoTree bytes before
 no_tree {bytes} {behind} {rest} {before} {left} {between} {node} {count} {i} {f} {after_run} h l fits k within trees runs t last b =
     let own : item_slots t.node ≤ 256 = let r = b.room in let q = l.room in omega arith in
     let mine : item_slots node ≤ 256 = let r = h.room in let q = l.room in omega arith in
     let few : gapped_width t.below < 65536 = let r = b.room in let q = l.room in let s = item_count_most t.below b.apart.0 in let w = width_most t.below in omega arith in
-    let told = node_unique mine own fits few (sym h.same ∙ b.same ∙ sym (grow_bytes t.node t.below End last)) in
+    let told = node_unique mine own h.far b.far.0 h.page b.pages.0 fits few (sym h.same ∙ b.same ∙ sym (grow_bytes t.node t.below End last)) in
     let same_count : count ≡ gapped_width t.below = told.1 in
     let same_size : item_slots node ≡ item_slots t.node = ap item_slots told.0 in
     let w = k.counted in
@@ -208,12 +244,14 @@ no_tree {bytes} {behind} {rest} {before} {left} {between} {node} {count} {i} {f}
       proxies = let x = b.proxies in let y = h.proxies in omega arith;
       items = let x = b.items in let y = h.items in omega arith;
       apart = b.apart.0;
+      far = b.far.1;
+      pages = b.pages.1;
     }) left_is (omega arith) in
     let wide : 0 < gapped_width r.last = let x = ap gapped_width r.is ∙ width_row f r.last in omega arith in
     nothing_begins r.begins wide trees runs (λ e. r.next (k.run ∙ e))
 
 -- where no node begins there is no tree
-pub no_head : (bytes : List ℕ) (left : Left) → IsLeft left → ((node : Node) (items : ℕ) (behind : List ℕ) → item_slots node ≤ left.room → items < 65536 → bytes ≡ node_bytes node items ++ behind → ⊥) → BeginsNoTree bytes left
+pub no_head : (bytes : List ℕ) (left : Left) → IsLeft left → ((node : PieceNode) (items : ℕ) (behind : List ℕ) → item_slots node ≤ left.room → MayBeFar node → items < 65536 → bytes ≡ node_bytes node items ++ behind → ⊥) → BeginsNoTree bytes left
 no_head bytes left l none t behind b =
     let r = b.room in let q = l.room in let s = item_count_most t.below b.apart.0 in let w = width_most t.below in
-    none t.node (gapped_width t.below) (items_bytes t.below ++ behind) (omega arith) (omega arith) (b.same ∙ sym (grow_bytes t.node t.below End behind))
+    none t.node (gapped_width t.below) (items_bytes t.below ++ behind) (omega arith) b.far.0 (omega arith) (b.same ∙ sym (grow_bytes t.node t.below End behind))

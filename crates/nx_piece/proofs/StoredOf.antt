@@ -1,5 +1,5 @@
 -- The piece of a record's bytes, as a function of them.
-use Rattle.std.proofs.Common.{◌≡◌, ℕ, zero, suc, ◌+◌, ◌*◌, ◌<◌, ◌≤◌, Bool, true, false, List, [], ◌∷◌, ◌++◌, length, take, drop, get_or, refl, sym, ap, ◌∙◌, subst, arith, append_assoc, inl, inr, nat_eq}
+use Rattle.std.proofs.Common.{◌≡◌, ℕ, zero, suc, ◌+◌, ◌*◌, ◌<◌, ◌≤◌, Bool, true, false, List, [], ◌∷◌, ◌++◌, length, take, drop, get_or, refl, sym, ap, ap₂, ◌∙◌, subst, arith, append_assoc, inl, inr, nat_eq}
 use Rattle.std.specs.Prelude.{Option, None, Some, ◌⊎◌}
 use Rattle.std.specs.Int.{w16, w32, from_be_bytes, div_ceil}
 use Rattle.std.proofs.Math.ListN.{replicate}
@@ -11,36 +11,47 @@ use Rattle.std.proofs.lemmas.Bool.{cases_lt}
 use Rattle.std.proofs.lemmas.Bool.Decides.{eqb_tells}
 use Rattle.nx_tree.specs.declared.node.Kind.{Kind}
 use Rattle.nx_tree.specs.declared.node.Kind.TheVariants.{Doc, Element, Attribute, Text, Instruction}
-use Rattle.nx_tree.specs.declared.node.Node.{Node}
 use Rattle.nx_piece.specs.declared.piece.Proxy.{Proxy}
 use Rattle.nx_piece.specs.declared.piece.Stored.{Stored}
 use Rattle.nx_piece.specs.declared.piece.Stored.TheVariants.{Inline, Chained}
 use Rattle.nx_piece.specs.Decoded.{IsDecoded}
+use Rattle.nx_piece.specs.declared.piece.Far.{Far}
+use Rattle.nx_tree.specs.Document.{longest_node}
+use Rattle.nx_weights.specs.Weight.{longest_near}
+use Rattle.nx_piece.specs.PieceNode.{PieceNode, item_content, content_with, IsFarWith, MayBeFar, HasFarPage}
 use Rattle.nx_piece.specs.Gapped.{Gapped, End, Grow, Gap, item_count, gapped_width, gapped_size, proxies_in}
-use Rattle.nx_piece.specs.Encoding.{two_bytes, four_bytes, kind_byte, padding, content_bytes, node_bytes, items_bytes, proxies_bytes, encoding}
-use Rattle.nx_piece.specs.Valid.{AreApart, AreTrees, BeginsNoGap, IsValid, IsValidBody, IsValidInline, IsValidChained, HaveRoots, HaveNumbers, HasNumbers, inline_length, longest_inline}
+use Rattle.nx_piece.specs.Encoding.{two_bytes, four_bytes, kind_byte, far_byte, padding, content_bytes, node_bytes, items_bytes, proxies_bytes, encoding}
+use Rattle.nx_piece.specs.Valid.{AreApart, AreFar, AreTrees, HavePages, BeginsNoGap, IsValid, IsValidBody, IsValidInline, IsValidChained, HaveRoots, HaveNumbers, HasNumbers, inline_length, longest_inline}
 use Rattle.nx_piece.proofs.WalkLemmas.{item_count_most}
-use Rattle.nx_piece.proofs.ApartLemmas.{kind_from, kind_back, IsLight, light_name, IsStorable, storable_node, storable_gap, grow_bytes, content_length}
+use Rattle.nx_piece.proofs.ApartLemmas.{kind_from, kind_back, IsSmallNode, small_lengths, IsStorable, storable_node, storable_gap, grow_bytes, length-content}
 use Rattle.nx_piece.proofs.BodyLemmas.{valid_storable}
 
--- the node with a name and a content of so many bytes
-abbrev node_of : Kind → ℕ → ℕ → List ℕ → Node
-node_of kind name content bytes = record { kind = kind; name = take name bytes; content = take content (drop name bytes) }
+-- the node with a name and these bytes in its content's place, by the byte that says whether it is far
+abbrev placed_node : ℕ → Kind → List ℕ → List ℕ → PieceNode
+placed_node zero kind name place = record { node = record { kind = kind; name = name; content = place }; far = None }
+placed_node (suc more) kind name place = record {
+  node = record { kind = kind; name = name; content = [] };
+  far = Some (record { first = from_be_bytes w32 (take 4 place); length = from_be_bytes w32 (take 4 (drop 4 place)) });
+}
+
+-- the node with a name and a content's place of so many bytes
+abbrev node_of : ℕ → Kind → ℕ → ℕ → List ℕ → PieceNode
+node_of far kind name content bytes = placed_node far kind (take name bytes) (take content (drop name bytes))
 
 abbrev size_of : ℕ → ℕ → ℕ
 size_of name content = 8 * div_ceil (name + content) 8
 
 -- the item that the bytes begin with, and those beside it, by what reads rows
-abbrev item_of : Bool → (ℕ → List ℕ → Gapped × List ℕ) → ℕ → Kind → ℕ → ℕ → ℕ → ℕ → List ℕ → Gapped × List ℕ
-item_of true rows count kind name content items run behind = (Gap run (rows count behind).0, (rows count behind).1)
-item_of false rows count kind name content items run behind = (
-  Grow (node_of kind name content behind) (rows items (drop (size_of name content) behind)).0 (rows count (rows items (drop (size_of name content) behind)).1).0,
+abbrev item_of : Bool → (ℕ → List ℕ → Gapped × List ℕ) → ℕ → Kind → ℕ → ℕ → ℕ → ℕ → ℕ → List ℕ → Gapped × List ℕ
+item_of true rows count kind far name content items run behind = (Gap run (rows count behind).0, (rows count behind).1)
+item_of false rows count kind far name content items run behind = (
+  Grow (node_of far kind name content behind) (rows items (drop (size_of name content) behind)).0 (rows count (rows items (drop (size_of name content) behind)).1).0,
   (rows count (rows items (drop (size_of name content) behind)).1).1,
 )
 
 abbrev item_at : (ℕ → List ℕ → Gapped × List ℕ) → ℕ → List ℕ → Gapped × List ℕ
 item_at rows count bytes =
-    item_of (nat_eq (get_or bytes 0 0) 6) rows count (kind_from (get_or bytes 0 0)) (from_be_bytes w16 (take 2 (drop 2 bytes))) (from_be_bytes w16 (take 2 (drop 4 bytes)))
+    item_of (nat_eq (get_or bytes 0 0) 6) rows count (kind_from (get_or bytes 0 0)) (get_or bytes 1 0) (from_be_bytes w16 (take 2 (drop 2 bytes))) (from_be_bytes w16 (take 2 (drop 4 bytes)))
     (from_be_bytes w16 (take 2 (drop 6 bytes))) (from_be_bytes w32 (take 4 (drop 4 bytes))) (drop 8 bytes)
 
 -- so many items, and what stands behind them, in at most so many steps
@@ -56,41 +67,59 @@ not_six Attribute = refl
 not_six Text = refl
 not_six Instruction = refl
 
-parts : (n : Node) (r : List ℕ) → content_bytes n ++ r ≡ n.name ++ (n.content ++ (replicate (padding (length n.name + length n.content)) 0 ++ r))
-parts n r =
-    append_assoc (n.name ++ n.content) (replicate (padding (length n.name + length n.content)) 0) r
-    ∙ append_assoc n.name n.content (replicate (padding (length n.name + length n.content)) 0 ++ r)
+parts : (a b r : List ℕ) → content_bytes a b ++ r ≡ a ++ (b ++ (replicate (padding (length a + length b)) 0 ++ r))
+parts a b r =
+    append_assoc (a ++ b) (replicate (padding (length a + length b)) 0) r
+    ∙ append_assoc a b (replicate (padding (length a + length b)) 0 ++ r)
 
-node_back : (n : Node) (r : List ℕ) → node_of n.kind (length n.name) (length n.content) (content_bytes n ++ r) ≡ n
-node_back n r =
-    ap (node_of n.kind (length n.name) (length n.content)) (parts n r)
-    ∙ ap (λ (x : List ℕ). record { kind = n.kind; name = x; content = take (length n.content) (drop (length n.name) (n.name ++ (n.content ++ (replicate (padding (length n.name + length n.content)) 0 ++ r)))) })
-    (take-append_seam n.name (n.content ++ (replicate (padding (length n.name + length n.content)) 0 ++ r)))
-    ∙ ap (λ (x : List ℕ). record { kind = n.kind; name = n.name; content = take (length n.content) x })
-    (drop-append_seam n.name (n.content ++ (replicate (padding (length n.name + length n.content)) 0 ++ r)))
-    ∙ ap (λ (x : List ℕ). record { kind = n.kind; name = n.name; content = x })
-    (take-append_seam n.content (replicate (padding (length n.name + length n.content)) 0 ++ r))
+-- the name and the content's place are cut out again
+name_back : (a b r : List ℕ) → take (length a) (content_bytes a b ++ r) ≡ a
+name_back a b r = ap (take (length a)) (parts a b r) ∙ take-append_seam a (b ++ (replicate (padding (length a + length b)) 0 ++ r))
 
-behind_back : (n : Node) (r : List ℕ) → drop (size_of (length n.name) (length n.content)) (content_bytes n ++ r) ≡ r
+place_back : (a b r : List ℕ) → take (length b) (drop (length a) (content_bytes a b ++ r)) ≡ b
+place_back a b r =
+    ap (λ (l : List ℕ). take (length b) (drop (length a) l)) (parts a b r)
+    ∙ ap (take (length b)) (drop-append_seam a (b ++ (replicate (padding (length a + length b)) 0 ++ r)))
+    ∙ take-append_seam b (replicate (padding (length a + length b)) 0 ++ r)
+
+-- and the place tells the content, or where it is
+far_back : (kind : Kind) (name own : List ℕ) (far : Option Far) → IsFarWith own far → HasFarPage far
+    → placed_node (far_byte far) kind name (content_with own far) ≡ record { node = record { kind = kind; name = name; content = own }; far = far }
+far_back kind name own None h k = refl
+far_back kind name own (Some far) h k =
+    let long : far.length ≤ 1048576 = h.2 in
+    ap (λ (n : ℕ). record { node = record { kind = kind; name = name; content = [] }; far = Some (record { first = n; length = from_be_bytes w32 (four_bytes far.length) }) }) (from_be_bytes-to_be_bytes_4 far.first k)
+    ∙ ap (λ (n : ℕ). record { node = record { kind = kind; name = name; content = [] }; far = Some (record { first = far.first; length = n }) }) (from_be_bytes-to_be_bytes_4 far.length (omega arith))
+    ∙ ap (λ (l : List ℕ). record { node = record { kind = kind; name = name; content = l }; far = Some far }) (sym h.0)
+
+node_back : (n : PieceNode) (r : List ℕ) → MayBeFar n → HasFarPage n.far → node_of (far_byte n.far) n.node.kind (length n.node.name) (length (item_content n)) (content_bytes n.node.name (item_content n) ++ r) ≡ n
+node_back n r may page =
+    ap₂ (placed_node (far_byte n.far) n.node.kind) (name_back n.node.name (item_content n) r) (place_back n.node.name (item_content n) r)
+    ∙ far_back n.node.kind n.node.name n.node.content n.far may page
+
+behind_back : (n : PieceNode) (r : List ℕ) → drop (size_of (length n.node.name) (length (item_content n))) (content_bytes n.node.name (item_content n) ++ r) ≡ r
 behind_back n r =
-    let times = div_ceil_times (length n.name + length n.content) 8 (omega arith) in
-    let size : size_of (length n.name) (length n.content) ≡ length (content_bytes n) = let c = content_length n in omega arith in
-    ap (λ (k : ℕ). drop k (content_bytes n ++ r)) size ∙ drop-append_seam (content_bytes n) r
+    let times = div_ceil_times (length n.node.name + length (item_content n)) 8 (omega arith) in
+    let size : size_of (length n.node.name) (length (item_content n)) ≡ length (content_bytes n.node.name (item_content n)) = let c = length-content n.node.name (item_content n) in omega arith in
+    ap (λ (k : ℕ). drop k (content_bytes n.node.name (item_content n) ++ r)) size ∙ drop-append_seam (content_bytes n.node.name (item_content n)) r
 
-node_item : (rows : ℕ → List ℕ → Gapped × List ℕ) (count : ℕ) (n : Node) (i : ℕ) (r : List ℕ) → IsLight n → i < 65536
+node_item : (rows : ℕ → List ℕ → Gapped × List ℕ) (count : ℕ) (n : PieceNode) (i : ℕ) (r : List ℕ) → IsSmallNode n → MayBeFar n → HasFarPage n.far → i < 65536
     → item_at rows count (node_bytes n i ++ r) ≡ (Grow n (rows i r).0 (rows count (rows i r).1).0, (rows count (rows i r).1).1)
-node_item rows count n i r light fits =
+node_item rows count n i r small may page fits =
     let run = from_be_bytes w32 (take 4 (drop 4 (node_bytes n i ++ r))) in
-    let behind = content_bytes n ++ r in
-    ap (λ (t : Bool). item_of t rows count (kind_from (kind_byte n.kind)) (from_be_bytes w16 (two_bytes (length n.name))) (from_be_bytes w16 (two_bytes (length n.content))) (from_be_bytes w16 (two_bytes i)) run behind) (not_six n.kind)
-    ∙ ap (λ (k : Kind). item_of false rows count k (from_be_bytes w16 (two_bytes (length n.name))) (from_be_bytes w16 (two_bytes (length n.content))) (from_be_bytes w16 (two_bytes i)) run behind) (kind_back n.kind)
-    ∙ ap (λ (k : ℕ). item_of false rows count n.kind k (from_be_bytes w16 (two_bytes (length n.content))) (from_be_bytes w16 (two_bytes i)) run behind) (from_be_bytes-to_be_bytes_2 (length n.name) (light_name n light).0)
-    ∙ ap (λ (k : ℕ). item_of false rows count n.kind (length n.name) k (from_be_bytes w16 (two_bytes i)) run behind) (from_be_bytes-to_be_bytes_2 (length n.content) (light_name n light).1)
-    ∙ ap (λ (k : ℕ). item_of false rows count n.kind (length n.name) (length n.content) k run behind) (from_be_bytes-to_be_bytes_2 i fits)
-    ∙ ap (λ (m : Node). (
-      Grow m (rows i (drop (size_of (length n.name) (length n.content)) behind)).0 (rows count (rows i (drop (size_of (length n.name) (length n.content)) behind)).1).0,
-      (rows count (rows i (drop (size_of (length n.name) (length n.content)) behind)).1).1,
-    )) (node_back n r)
+    let far = far_byte n.far in
+    let name = length n.node.name in
+    let place = length (item_content n) in
+    let behind = content_bytes n.node.name (item_content n) ++ r in
+    ap (λ (t : Bool). item_of t rows count (kind_from (kind_byte n.node.kind)) far (from_be_bytes w16 (two_bytes name)) (from_be_bytes w16 (two_bytes place)) (from_be_bytes w16 (two_bytes i)) run behind) (not_six n.node.kind)
+    ∙ ap (λ (k : Kind). item_of false rows count k far (from_be_bytes w16 (two_bytes name)) (from_be_bytes w16 (two_bytes place)) (from_be_bytes w16 (two_bytes i)) run behind) (kind_back n.node.kind)
+    ∙ ap (λ (k : ℕ). item_of false rows count n.node.kind far k (from_be_bytes w16 (two_bytes place)) (from_be_bytes w16 (two_bytes i)) run behind) (from_be_bytes-to_be_bytes_2 name (small_lengths n small).0)
+    ∙ ap (λ (k : ℕ). item_of false rows count n.node.kind far name k (from_be_bytes w16 (two_bytes i)) run behind) (from_be_bytes-to_be_bytes_2 place (small_lengths n small).1)
+    ∙ ap (λ (k : ℕ). item_of false rows count n.node.kind far name place k run behind) (from_be_bytes-to_be_bytes_2 i fits)
+    ∙ ap (λ (m : PieceNode). (
+      Grow m (rows i (drop (size_of name place) behind)).0 (rows count (rows i (drop (size_of name place) behind)).1).0,
+      (rows count (rows i (drop (size_of name place) behind)).1).1,
+    )) (node_back n r may page)
     ∙ ap (λ (bs : List ℕ). (Grow n (rows i bs).0 (rows count (rows i bs).1).0, (rows count (rows i bs).1).1)) (behind_back n r)
 
 row_back : (steps : ℕ) (f : Gapped) (x : List ℕ) → IsStorable f → item_count f < steps → row_of steps (gapped_width f) (items_bytes f ++ x) ≡ (f, x)
@@ -103,7 +132,7 @@ row_back (suc steps) (Grow n b s) x h few =
     let beside = row_back steps s x p.3 (omega arith) in
     ap (λ (k : ℕ). row_of (suc steps) k (items_bytes (Grow n b s) ++ x)) one
     ∙ ap (λ (bs : List ℕ). item_at (λ k cs. row_of steps k cs) (gapped_width s) bs) (sym (grow_bytes n b s x))
-    ∙ node_item (λ k cs. row_of steps k cs) (gapped_width s) n (gapped_width b) (items_bytes b ++ (items_bytes s ++ x)) p.0 p.1
+    ∙ node_item (λ k cs. row_of steps k cs) (gapped_width s) n (gapped_width b) (items_bytes b ++ (items_bytes s ++ x)) p.0 h.far.0 h.pages.0 p.1
     ∙ ap (λ (r : Gapped × List ℕ). (Grow n r.0 (row_of steps (gapped_width s) r.1).0, (row_of steps (gapped_width s) r.1).1)) below
     ∙ ap (λ (r : Gapped × List ℕ). (Grow n b r.0, r.1)) beside
 row_back (suc steps) (Gap c s) x h few =
@@ -142,27 +171,27 @@ looked bytes =
     (from_be_bytes w32 (take 4 (drop 8 bytes))) (from_be_bytes w32 (take 4 (drop 12 bytes)))
 
 -- what is read of a head and of the items behind it
-row_read : (f : Gapped) (p : ℕ) (x : List ℕ) → IsValidBody f p → row_of (suc (from_be_bytes w32 (four_bytes (item_count f)))) (from_be_bytes w16 (two_bytes (gapped_width f))) (items_bytes f ++ x) ≡ (f, x)
-row_read f p x h =
+row_read : (f : Gapped) (p : ℕ) (x : List ℕ) → IsValidBody f p → HavePages f → row_of (suc (from_be_bytes w32 (four_bytes (item_count f)))) (from_be_bytes w16 (two_bytes (gapped_width f))) (items_bytes f ++ x) ≡ (f, x)
+row_read f p x h k =
     let few : gapped_width f ≤ 256 = h.few in
-    let s = item_count_most f h.apart in let l = h.light in
+    let s = item_count_most f h.apart in let l = h.small in
     ap (λ (k : ℕ). row_of (suc k) (from_be_bytes w16 (two_bytes (gapped_width f))) (items_bytes f ++ x)) (from_be_bytes-to_be_bytes_4 (item_count f) (omega arith))
     ∙ ap (λ (k : ℕ). row_of (suc (item_count f)) k (items_bytes f ++ x)) (from_be_bytes-to_be_bytes_2 (gapped_width f) (omega arith))
-    ∙ row_back (suc (item_count f)) f x (valid_storable f p h) (omega arith)
+    ∙ row_back (suc (item_count f)) f x (valid_storable f p h k) (omega arith)
 
 count_read : (f : Gapped) (p : ℕ) → IsValidBody f p → from_be_bytes w32 (four_bytes p) ≡ p
 count_read f p h = let a = h.few_proxies in from_be_bytes-to_be_bytes_4 p (omega arith)
 
 pub looked_back : (s : Stored) → IsValid s → HasNumbers s → looked (encoding s) ≡ s
 looked_back (Inline piece) h k =
-    ap (λ (r : Gapped × List ℕ). stored_by true r (from_be_bytes w32 (four_bytes (length piece.proxies))) (from_be_bytes w32 (four_bytes 0))) (row_read piece.body.roots (length piece.proxies) (proxies_bytes piece.proxies) h.body)
+    ap (λ (r : Gapped × List ℕ). stored_by true r (from_be_bytes w32 (four_bytes (length piece.proxies))) (from_be_bytes w32 (four_bytes 0))) (row_read piece.body.roots (length piece.proxies) (proxies_bytes piece.proxies) h.body k.1)
     ∙ ap (λ (n : ℕ). stored_by true (piece.body.roots, proxies_bytes piece.proxies) n (from_be_bytes w32 (four_bytes 0))) (count_read piece.body.roots (length piece.proxies) h.body)
-    ∙ ap (λ (ps : List Proxy). Inline (record { body = piece.body; proxies = ps })) (proxies_back piece.proxies h.ranged k)
+    ∙ ap (λ (ps : List Proxy). Inline (record { body = piece.body; proxies = ps })) (proxies_back piece.proxies h.ranged k.0)
 looked_back (Chained body count chain) h k =
     ap (λ (bs : List ℕ). stored_by false (row_of (suc (from_be_bytes w32 (four_bytes (item_count body.roots)))) (from_be_bytes w16 (two_bytes (gapped_width body.roots))) bs) (from_be_bytes w32 (four_bytes count)) (from_be_bytes w32 (four_bytes chain))) (sym (append-nil (items_bytes body.roots)))
-    ∙ ap (λ (r : Gapped × List ℕ). stored_by false r (from_be_bytes w32 (four_bytes count)) (from_be_bytes w32 (four_bytes chain))) (row_read body.roots count [] h.body)
+    ∙ ap (λ (r : Gapped × List ℕ). stored_by false r (from_be_bytes w32 (four_bytes count)) (from_be_bytes w32 (four_bytes chain))) (row_read body.roots count [] h.body k.1)
     ∙ ap (λ (n : ℕ). Chained body n (from_be_bytes w32 (four_bytes chain))) (count_read body.roots count h.body)
-    ∙ ap (λ (n : ℕ). Chained body count n) (from_be_bytes-to_be_bytes_4 chain k)
+    ∙ ap (λ (n : ℕ). Chained body count n) (from_be_bytes-to_be_bytes_4 chain k.0)
 
 -- each of the conditions holds or doesn't:
 
@@ -210,6 +239,30 @@ apart_decided (Gap c s) =
     as_decided (λ (h : (1 ≤ c) × (BeginsNoGap s × AreApart s)). (h.0, h.1.0, h.1.1)) (λ h. (h.0, (h.1, h.2)))
     (both (at_most 1 c) (both (begins_decided s) (apart_decided s)))
 
+node_far_decided : (own : List ℕ) (far : Option Far) → Decided (IsFarWith own far)
+node_far_decided own None = inl tt
+node_far_decided own (Some far) =
+    as_decided (λ (h : (own ≡ []) × ((longest_near < far.length) × (far.length ≤ longest_node))). (h.0, h.1.0, h.1.1)) (λ h. (h.0, (h.1, h.2)))
+    (both (same_list own []) (both (at_most (suc longest_near) far.length) (at_most far.length longest_node)))
+
+far_decided : (f : Gapped) → Decided (AreFar f)
+far_decided End = inl tt
+far_decided (Grow n b s) =
+    as_decided (λ (h : IsFarWith n.node.content n.far × (AreFar b × AreFar s)). (h.0, h.1.0, h.1.1)) (λ h. (h.0, (h.1, h.2)))
+    (both (node_far_decided n.node.content n.far) (both (far_decided b) (far_decided s)))
+far_decided (Gap c s) = far_decided s
+
+page_decided : (far : Option Far) → Decided (HasFarPage far)
+page_decided None = inl tt
+page_decided (Some far) = at_most (suc far.first) 4294967296
+
+pages_decided : (f : Gapped) → Decided (HavePages f)
+pages_decided End = inl tt
+pages_decided (Grow n b s) =
+    as_decided (λ (h : HasFarPage n.far × (HavePages b × HavePages s)). (h.0, h.1.0, h.1.1)) (λ h. (h.0, (h.1, h.2)))
+    (both (page_decided n.far) (both (pages_decided b) (pages_decided s)))
+pages_decided (Gap c s) = pages_decided s
+
 roots_decided : (ps : List Proxy) → Decided (HaveRoots ps)
 roots_decided [] = inl tt
 roots_decided (p ∷ ps) =
@@ -225,11 +278,11 @@ numbers_decided (p ∷ ps) =
 body_decided : (f : Gapped) (p : ℕ) → Decided (IsValidBody f p)
 body_decided f p =
     as_decided
-    (λ (h : (AreTrees f × ((1 ≤ gapped_width f) × (gapped_width f ≤ 256))) × (((gapped_size f ≤ 256) × AreApart f) × ((proxies_in f ≡ p) × (p ≤ 524288)))).
-    record { trees = h.0.0; some = h.0.1.0; few = h.0.1.1; light = h.1.0.0; apart = h.1.0.1; counted = h.1.1.0; few_proxies = h.1.1.1 })
-    (λ (b : IsValidBody f p). ((b.trees, (b.some, b.few)), ((b.light, b.apart), (b.counted, b.few_proxies))))
+    (λ (h : (AreTrees f × ((1 ≤ gapped_width f) × (gapped_width f ≤ 256))) × (((gapped_size f ≤ 256) × (AreApart f × AreFar f)) × ((proxies_in f ≡ p) × (p ≤ 524288)))).
+    record { trees = h.0.0; some = h.0.1.0; few = h.0.1.1; small = h.1.0.0; apart = h.1.0.1.0; far = h.1.0.1.1; counted = h.1.1.0; few_proxies = h.1.1.1 })
+    (λ (b : IsValidBody f p). ((b.trees, (b.some, b.few)), ((b.small, (b.apart, b.far)), (b.counted, b.few_proxies))))
     (both (both (trees_decided f) (both (at_most 1 (gapped_width f)) (at_most (gapped_width f) 256)))
-    (both (both (at_most (gapped_size f) 256) (apart_decided f)) (both (same_number (proxies_in f) p) (at_most p 524288))))
+    (both (both (at_most (gapped_size f) 256) (both (apart_decided f) (far_decided f))) (both (same_number (proxies_in f) p) (at_most p 524288))))
 
 valid_decided : (s : Stored) → Decided (IsValid s)
 valid_decided (Inline piece) =
@@ -245,8 +298,8 @@ valid_decided (Chained body count chain) =
     (both (body_decided body.roots count) (at_most (suc longest_inline) (inline_length body.roots count)))
 
 fields_decided : (s : Stored) → Decided (HasNumbers s)
-fields_decided (Inline piece) = numbers_decided piece.proxies
-fields_decided (Chained body count chain) = at_most (suc chain) 4294967296
+fields_decided (Inline piece) = both (numbers_decided piece.proxies) (pages_decided piece.body.roots)
+fields_decided (Chained body count chain) = both (at_most (suc chain) 4294967296) (pages_decided body.roots)
 
 decided : (bytes : List ℕ) (s : Stored) → Decided (IsDecoded bytes (Some s))
 decided bytes s =

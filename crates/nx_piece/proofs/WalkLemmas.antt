@@ -5,10 +5,11 @@ use Rattle.std.proofs.Math.Seq.{drop-cons}
 use Rattle.nx_piece.specs.declared.piece.Item.{Item}
 use Rattle.nx_piece.specs.declared.piece.Item.TheVariants.{Tree, Run}
 use Rattle.nx_piece.specs.declared.piece.Proxy.{Proxy}
-use Rattle.nx_piece.specs.Gapped.{Gapped, GappedTree, End, Grow, Gap, item_count, grown_of, gapped_width, gapped_size, gapped_nodes, slots_in, item_slots}
+use Rattle.nx_piece.specs.PieceNode.{item_slots, HasFarPage}
+use Rattle.nx_piece.specs.Gapped.{Gapped, GappedTree, End, Grow, Gap, item_count, grown_of, gapped_width, gapped_size, gapped_nodes, slots_in}
 use Rattle.nx_piece.specs.Items.{gapped_of}
 use Rattle.nx_piece.specs.Encoding.{node_bytes, run_bytes, tree_bytes, items_bytes, proxy_bytes, proxies_bytes, head_bytes, body_bytes}
-use Rattle.nx_piece.specs.Valid.{HaveNumbers, AreApart, BeginsNoGap, IsSmall, IsSmallTree}
+use Rattle.nx_piece.specs.Valid.{HaveNumbers, HavePages, AreApart, BeginsNoGap, IsSmall, IsSmallTree}
 
 -- what a loop looks at is the first of what is left
 pub next_left : {A : Type 0} (xs : List A) (i : ℕ) (x : A) → i < length xs → x ≡ get_or xs i x → drop i xs ≡ x ∷ drop (i + 1) xs
@@ -76,20 +77,20 @@ width_trees f trees e = sym (width_length_trees trees) ∙ ap gapped_width e
 
 -- a piece's trees and gaps are few
 pub small_width : (t : GappedTree) → IsSmallTree t → gapped_width t.below < 65536
-small_width t h = let l = h.light in let s = item_count_most t.below h.apart in omega (arith, width_most t.below)
+small_width t h = let l = h.small in let s = item_count_most t.below h.apart in omega (arith, width_most t.below)
 
 -- what is left of the trees and gaps is as small
 pub next_small : (f g : Gapped) → f ≡ g → IsSmall f → IsSmall g
 next_small f g e h = subst IsSmall e h
 
 pub first_small : (t : GappedTree) (beside : Gapped) → IsSmall (Grow t.node t.below beside) → IsSmallTree t
-first_small t beside h = let l = h.light in record { light = omega arith; apart = h.apart.0 }
+first_small t beside h = let l = h.small in record { small = omega arith; apart = h.apart.0 }
 
 pub behind_small : (t : GappedTree) (beside : Gapped) → IsSmall (Grow t.node t.below beside) → IsSmall beside
-behind_small t beside h = let l = h.light in record { light = omega arith; apart = h.apart.1 }
+behind_small t beside h = let l = h.small in record { small = omega arith; apart = h.apart.1 }
 
 pub behind_gap_small : (c : ℕ) (beside : Gapped) → IsSmall (Gap c beside) → IsSmall beside
-behind_gap_small c beside h = record { light = h.light; apart = h.apart.2 }
+behind_gap_small c beside h = record { small = h.small; apart = h.apart.2 }
 
 -- so many items and slots are counted, and the rest is left
 pub record IsMeasured (items slots : ℕ) (rest : Gapped) (all_items all_slots : ℕ) : Type 0 where
@@ -98,21 +99,22 @@ pub record IsMeasured (items slots : ℕ) (rest : Gapped) (all_items all_slots :
   pub small : IsSmall rest
 
 -- so many bytes are written, and those of the rest are left
-pub record IsWritten (now : List ℕ) (rest : Gapped) (all : List ℕ) : Type 0 where
+pub record IsWritten (now : List ℕ) (rest : Gapped) (all : List ℕ) (whole : Gapped) : Type 0 where
   pub bytes : now ++ items_bytes rest ≡ all
+  pub pages : HavePages rest → HavePages whole
   pub small : IsSmall rest
 
 pub tree_most : (t : GappedTree) → IsSmallTree t → (1 + item_count t.below ≤ 1000) × (item_slots t.node + slots_in t.below ≤ 2000)
-tree_most t h = let l = h.light in let s = item_count_most t.below h.apart in let w = slots_in_most t.below in (omega arith, omega arith)
+tree_most t h = let l = h.small in let s = item_count_most t.below h.apart in let w = slots_in_most t.below in (omega arith, omega arith)
 
 pub all_most : (f : Gapped) → IsSmall f → (item_count f ≤ 1000) × (slots_in f ≤ 2000)
-all_most f h = let l = h.light in let s = item_count_most f h.apart in let w = slots_in_most f in (omega arith, omega arith)
+all_most f h = let l = h.small in let s = item_count_most f h.apart in let w = slots_in_most f in (omega arith, omega arith)
 
 pub measured_start : (w : ℕ) (f : Gapped) (t : GappedTree) → w ≡ item_slots t.node → f ≡ t.below → IsSmallTree t → IsMeasured 1 w f (1 + item_count t.below) (item_slots t.node + slots_in t.below)
 measured_start w f t is e h = record {
   item_sum = ap (λ (g : Gapped). 1 + item_count g) e;
   slot_sum = let p = ap slots_in e in omega arith;
-  small = let l = h.light in next_small t.below f (sym e) (record { light = omega arith; apart = h.apart });
+  small = let l = h.small in next_small t.below f (sym e) (record { small = omega arith; apart = h.apart });
 }
 
 pub measured_tree : {items slots more_items more_slots n w : ℕ} {rest beside : Gapped} {t : GappedTree} → IsMeasured items slots rest n w → rest ≡ Grow t.node t.below beside → more_items ≡ 1 + item_count t.below → more_slots ≡ item_slots t.node + slots_in t.below
@@ -130,32 +132,35 @@ pub measured_end : (items slots n w : ℕ) (rest : Gapped) → IsMeasured items 
 measured_end items slots n w rest h e =
     let a = h.item_sum in let b = h.slot_sum in let p = ap item_count e in let q = ap slots_in e in (omega arith, omega arith)
 
-pub written_start : (now old : List ℕ) (f : Gapped) (t : GappedTree) → now ≡ old ++ node_bytes t.node (gapped_width t.below) → f ≡ t.below → IsSmallTree t → IsWritten now f (old ++ tree_bytes t)
+pub written_start : (now old : List ℕ) (f : Gapped) (t : GappedTree) → now ≡ old ++ node_bytes t.node (gapped_width t.below) → f ≡ t.below → IsSmallTree t → IsWritten now f (old ++ tree_bytes t) t.below
 written_start now old f t is e h = record {
   bytes = ap (λ (r : List ℕ). r ++ items_bytes f) is ∙ append_assoc old (node_bytes t.node (gapped_width t.below)) (items_bytes f) ∙ ap (λ (g : Gapped). old ++ (node_bytes t.node (gapped_width t.below) ++ items_bytes g)) e;
-  small = let l = h.light in next_small t.below f (sym e) (record { light = omega arith; apart = h.apart });
+  pages = subst HavePages e;
+  small = let l = h.small in next_small t.below f (sym e) (record { small = omega arith; apart = h.apart });
 }
 
-pub written_tree : {now next all : List ℕ} {rest beside : Gapped} {t : GappedTree} → IsWritten now rest all → rest ≡ Grow t.node t.below beside → next ≡ now ++ tree_bytes t → IsWritten next beside all
-written_tree {now} {next} {all} {rest} {beside} {t} h e is = record {
+pub written_tree : {now next all : List ℕ} {rest beside whole : Gapped} {t : GappedTree} → IsWritten now rest all whole → rest ≡ Grow t.node t.below beside → next ≡ now ++ tree_bytes t → HasFarPage t.node.far → HavePages t.below → IsWritten next beside all whole
+written_tree {now} {next} {all} {rest} {beside} {whole} {t} h e is page pages = record {
   bytes = ap (λ (r : List ℕ). r ++ items_bytes beside) is
       ∙ append_assoc now (tree_bytes t) (items_bytes beside)
       ∙ sym (ap (λ (f : Gapped). now ++ items_bytes f) e)
       ∙ h.bytes;
+  pages = λ k. h.pages (subst HavePages (sym e) (page, pages, k));
   small = behind_small t beside (next_small _ _ e h.small);
 }
 
-pub written_gap : {now next all : List ℕ} {c : ℕ} {rest beside : Gapped} → IsWritten now rest all → rest ≡ Gap c beside → next ≡ now ++ run_bytes c → IsWritten next beside all
-written_gap {now} {next} {all} {c} {rest} {beside} h e is = record {
+pub written_gap : {now next all : List ℕ} {c : ℕ} {rest beside whole : Gapped} → IsWritten now rest all whole → rest ≡ Gap c beside → next ≡ now ++ run_bytes c → IsWritten next beside all whole
+written_gap {now} {next} {all} {c} {rest} {beside} {whole} h e is = record {
   bytes = ap (λ (r : List ℕ). r ++ items_bytes beside) is
       ∙ append_assoc now (run_bytes c) (items_bytes beside)
       ∙ sym (ap (λ (f : Gapped). now ++ items_bytes f) e)
       ∙ h.bytes;
+  pages = λ k. h.pages (subst HavePages (sym e) k);
   small = behind_gap_small c beside (next_small _ _ e h.small);
 }
 
-pub written_end : (now all : List ℕ) (rest : Gapped) → IsWritten now rest all → rest ≡ End → now ≡ all
-written_end now all rest h e = sym (append-nil now) ∙ sym (ap (λ (f : Gapped). now ++ items_bytes f) e) ∙ h.bytes
+pub written_end : (now all : List ℕ) (rest whole : Gapped) → IsWritten now rest all whole → rest ≡ End → (now ≡ all) × HavePages whole
+written_end now all rest whole h e = (sym (append-nil now) ∙ sym (ap (λ (f : Gapped). now ++ items_bytes f) e) ∙ h.bytes, h.pages (subst HavePages (sym e) tt))
 
 -- what is counted with the next is still little
 pub fits_tree : {items slots more_items more_slots n w : ℕ} {rest beside : Gapped} {t : GappedTree} → IsMeasured items slots rest n w → rest ≡ Grow t.node t.below beside → more_items ≡ 1 + item_count t.below → more_slots ≡ item_slots t.node + slots_in t.below

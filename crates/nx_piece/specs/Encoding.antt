@@ -1,13 +1,14 @@
 -- The bytes of a stored piece: a head, the items in document order, and for the inline form the proxies.
-use Rattle.std.specs.Prelude.{ℕ, ◌+◌, ◌-◌, ◌*◌, List, [], ◌∷◌, ◌++◌, length}
+use Rattle.std.specs.Prelude.{ℕ, ◌+◌, ◌-◌, ◌*◌, List, [], ◌∷◌, ◌++◌, length, Option, None, Some}
 use Rattle.std.specs.Int.{w16, w32, to_be_bytes, div_ceil}
 use Rattle.std.proofs.Math.ListN.{replicate}
 use Rattle.nx_tree.specs.declared.node.Kind.{Kind}
 use Rattle.nx_tree.specs.declared.node.Kind.TheVariants.{Doc, Element, Attribute, Text, Instruction}
-use Rattle.nx_tree.specs.declared.node.Node.{Node}
+use Rattle.nx_piece.specs.declared.piece.Far.{Far}
 use Rattle.nx_piece.specs.declared.piece.Proxy.{Proxy}
 use Rattle.nx_piece.specs.declared.piece.Stored.{Stored}
 use Rattle.nx_piece.specs.declared.piece.Stored.TheVariants.{Inline, Chained}
+use Rattle.nx_piece.specs.PieceNode.{PieceNode, item_content}
 use Rattle.nx_piece.specs.Gapped.{Gapped, GappedTree, End, Grow, Gap, gapped_width, item_count}
 
 -- a number in two bytes, the highest first
@@ -30,17 +31,23 @@ kind_byte Instruction = 5
 abbrev pub padding : ℕ → ℕ
 padding n = 8 * div_ceil n 8 - n
 
--- a name and a content, with zero bytes behind them
-abbrev pub content_bytes : Node → List ℕ
-content_bytes node = node.name ++ node.content ++ replicate (padding (length node.name + length node.content)) 0
+-- a name and what stands in the content's place, with zero bytes behind them
+abbrev pub content_bytes : (name content : List ℕ) → List ℕ
+content_bytes name content = name ++ content ++ replicate (padding (length name + length content)) 0
 
--- the numbers of a node: its kind, how many bytes its name and its content have, and how many child items it has
-abbrev pub node_head_bytes : (kind : Kind) (name content items : ℕ) → List ℕ
-node_head_bytes kind name content items = kind_byte kind ∷ 0 ∷ two_bytes name ++ two_bytes content ++ two_bytes items
+-- whether the content is far, as a byte
+abbrev pub far_byte : Option Far → ℕ
+far_byte None = 0
+far_byte (Some far) = 1
+
+-- the numbers of a node: its kind, whether its content is far, how many bytes its name and its content's place have, and how many child items it has
+abbrev pub node_head_bytes : (kind : Kind) (far name content items : ℕ) → List ℕ
+node_head_bytes kind far name content items = kind_byte kind ∷ far ∷ two_bytes name ++ two_bytes content ++ two_bytes items
 
 -- a node with its number of child items
-abbrev pub node_bytes : Node → ℕ → List ℕ
-node_bytes node items = node_head_bytes node.kind (length node.name) (length node.content) items ++ content_bytes node
+abbrev pub node_bytes : PieceNode → ℕ → List ℕ
+node_bytes node items =
+    node_head_bytes node.node.kind (far_byte node.far) (length node.node.name) (length (item_content node)) items ++ content_bytes node.node.name (item_content node)
 
 -- a run of proxies
 abbrev pub run_bytes : ℕ → List ℕ

@@ -1,14 +1,14 @@
 -- The forest with gaps that a flat list says: each node before the items below it, with their number at every depth.
 use Rattle.std.specs.Prelude.{◌≡◌, ◌++◌, ℕ, zero, suc, List, [], ◌∷◌, length, take, drop}
-use Rattle.nx_tree.specs.declared.node.Node.{Node}
+use Rattle.nx_piece.specs.PieceNode.{PieceNode}
 use Rattle.nx_piece.specs.declared.viewing.NodeView.{NodeView}
 use Rattle.nx_piece.specs.declared.viewing.Flat.{Flat}
 use Rattle.nx_piece.specs.declared.viewing.Flat.TheVariants.{Tree, Run}
 use Rattle.nx_piece.specs.Gapped.{Gapped, End, Grow, Gap}
 
--- the node, with its name and its content
-abbrev pub seen_node : NodeView → Node
-seen_node node = record { kind = node.kind; name = node.name.now; content = node.content.now }
+-- the node, with its name and its content, or with where that stands
+abbrev pub seen_node : NodeView → PieceNode
+seen_node node = record { node = record { kind = node.kind; name = node.name.now; content = node.content.now }; far = node.far }
 
 -- of no more than so many items
 abbrev pub forest_within : ℕ → List Flat → Gapped

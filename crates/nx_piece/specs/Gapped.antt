@@ -1,20 +1,17 @@
 -- A forest with gaps. A gap stands for so many intervals, which are kept elsewhere.
-use Rattle.std.specs.Prelude.{◌≡◌, ℕ, ◌+◌, List, [], ◌∷◌, length, Option, None, Some, refl, ◌⊎◌}
-use Rattle.std.specs.Int.{div_ceil}
+use Rattle.std.specs.Prelude.{◌≡◌, ℕ, ◌+◌, List, [], ◌∷◌, Option, None, Some, refl, ◌⊎◌}
 use Rattle.std.specs.Coded.{Coded, code_by, coded×, coded_ℕ, coded_list, coded_option, coded⊎}
 use Rattle.std.proofs.Common.{inl, inr, ap, ◌∙◌}
-use Rattle.nx_tree.specs.declared.node.Node.{Node}
-use Rattle.nx_tree.specs.Forest.{node_code}
-use Rattle.nx_weights.specs.Weight.{weight}
+use Rattle.nx_piece.specs.PieceNode.{PieceNode, piece_node_code, node_weight, item_slots}
 
 -- the forest below a node, where some of the trees may be kept elsewhere
 pub data Gapped : Type 0 where
   End : Gapped
-  Grow : (node : Node) (below beside : Gapped) → Gapped
+  Grow : (node : PieceNode) (below beside : Gapped) → Gapped
   Gap : (count : ℕ) (beside : Gapped) → Gapped
 
 pub record GappedTree : Type 0 where
-  pub node : Node
+  pub node : PieceNode
   pub below : Gapped
 
 -- how many nodes and gaps
@@ -35,10 +32,6 @@ gapped_nodes End = 0
 gapped_nodes (Grow node below beside) = 1 + gapped_nodes below + gapped_nodes beside
 gapped_nodes (Gap count beside) = gapped_nodes beside
 
--- the size of a node's item, in slots of 8 bytes: one for its numbers, and those that its name and its content fill together
-abbrev pub item_slots : Node → ℕ
-item_slots node = 1 + div_ceil (length node.name + length node.content) 8
-
 -- the sum of the sizes of the nodes' items
 abbrev pub gapped_size : Gapped → ℕ
 gapped_size End = 0
@@ -48,7 +41,7 @@ gapped_size (Gap count beside) = gapped_size beside
 -- the sum of the weights of the nodes
 abbrev pub gapped_weight : Gapped → ℕ
 gapped_weight End = 0
-gapped_weight (Grow node below beside) = weight node + gapped_weight below + gapped_weight beside
+gapped_weight (Grow node below beside) = node_weight node + gapped_weight below + gapped_weight beside
 gapped_weight (Gap count beside) = gapped_weight beside
 
 -- how many proxies the gaps stand for
@@ -75,12 +68,12 @@ grown_of [] = End
 grown_of (t ∷ ts) = Grow t.node t.below (grown_of ts)
 
 -- as a list: a node or a gap before what follows it, and a mark at each end
-abbrev pub spelled_gapped : Gapped → List (Option (Node ⊎ ℕ)) → List (Option (Node ⊎ ℕ))
+abbrev pub spelled_gapped : Gapped → List (Option (PieceNode ⊎ ℕ)) → List (Option (PieceNode ⊎ ℕ))
 spelled_gapped End rest = None ∷ rest
 spelled_gapped (Grow node below beside) rest = Some (inl node) ∷ spelled_gapped below (spelled_gapped beside rest)
 spelled_gapped (Gap count beside) rest = Some (inr count) ∷ spelled_gapped beside rest
 
-abbrev pub grow_first : Node → List Gapped → List Gapped
+abbrev pub grow_first : PieceNode → List Gapped → List Gapped
 grow_first node (below ∷ beside ∷ rest) = Grow node below beside ∷ rest
 grow_first node _ = []
 
@@ -88,13 +81,13 @@ abbrev pub gap_first : ℕ → List Gapped → List Gapped
 gap_first count (beside ∷ rest) = Gap count beside ∷ rest
 gap_first count [] = []
 
-abbrev pub unspelled_gapped : List (Option (Node ⊎ ℕ)) → List Gapped
+abbrev pub unspelled_gapped : List (Option (PieceNode ⊎ ℕ)) → List Gapped
 unspelled_gapped [] = []
 unspelled_gapped (None ∷ rest) = End ∷ unspelled_gapped rest
 unspelled_gapped (Some (inl node) ∷ rest) = grow_first node (unspelled_gapped rest)
 unspelled_gapped (Some (inr count) ∷ rest) = gap_first count (unspelled_gapped rest)
 
-pub unspelled_gapped-spelled : (f : Gapped) (rest : List (Option (Node ⊎ ℕ))) → unspelled_gapped (spelled_gapped f rest) ≡ f ∷ unspelled_gapped rest
+pub unspelled_gapped-spelled : (f : Gapped) (rest : List (Option (PieceNode ⊎ ℕ))) → unspelled_gapped (spelled_gapped f rest) ≡ f ∷ unspelled_gapped rest
 unspelled_gapped-spelled End rest = refl
 unspelled_gapped-spelled (Grow node below beside) rest =
     ap (grow_first node) (unspelled_gapped-spelled below (spelled_gapped beside rest) ∙ ap (λ r. below ∷ r) (unspelled_gapped-spelled beside rest))
@@ -105,9 +98,9 @@ first_gapped [] = End
 first_gapped (f ∷ fs) = f
 
 abbrev pub gapped_code : Coded Gapped
-gapped_code = code_by (List (Option (Node ⊎ ℕ))) (coded_list (coded_option (coded⊎ node_code coded_ℕ))) (λ f. spelled_gapped f [])
+gapped_code = code_by (List (Option (PieceNode ⊎ ℕ))) (coded_list (coded_option (coded⊎ piece_node_code coded_ℕ))) (λ f. spelled_gapped f [])
     (λ s. first_gapped (unspelled_gapped s)) (λ f. ap first_gapped (unspelled_gapped-spelled f []))
 
 abbrev pub gapped_tree_code : Coded GappedTree
-gapped_tree_code = code_by (Node × Gapped) (coded× node_code gapped_code) (λ t. (t.node, t.below))
+gapped_tree_code = code_by (PieceNode × Gapped) (coded× piece_node_code gapped_code) (λ t. (t.node, t.below))
     (λ p. record { node = p.0; below = p.1 }) (λ _. refl)

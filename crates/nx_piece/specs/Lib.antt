@@ -1,4 +1,6 @@
+pub mod PieceNode
 pub mod Gapped
+pub mod Contents
 pub mod Items
 pub mod Code
 pub mod Flat

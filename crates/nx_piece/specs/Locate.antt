@@ -5,7 +5,8 @@ use Rattle.nx_piece.specs.declared.piece.Piece.{Piece}
 use Rattle.nx_piece.specs.declared.piece.Proxy.{Proxy}
 use Rattle.nx_piece.specs.declared.locating.Located.{Located}
 use Rattle.nx_piece.specs.declared.locating.Located.TheVariants.{Here, Away, Nowhere}
-use Rattle.nx_piece.specs.Gapped.{Gapped, GappedTree, End, Grow, Gap, item_slots, gapped_size, proxies_in}
+use Rattle.nx_piece.specs.PieceNode.{item_slots}
+use Rattle.nx_piece.specs.Gapped.{Gapped, GappedTree, End, Grow, Gap, gapped_size, proxies_in}
 
 -- how many trees these proxies stand for
 abbrev pub roots_of : List Proxy → ℕ
@@ -54,7 +55,7 @@ reached_in piece member path = reached piece.proxies 0 path (slice_get (children
 -- the tree may stand in the piece, with so many proxies before its own items
 pub record IsPartOf (piece : Piece) (tree : GappedTree) (first : ℕ) : Type 0 where
   pub fits : first + proxies_in tree.below ≤ length piece.proxies
-  pub light : item_slots tree.node + gapped_size tree.below ≤ 512
+  pub small : item_slots tree.node + gapped_size tree.below ≤ 512
 
 -- the answer says where the path leads, and of a proxy besides what it is
 abbrev pub IsLocated : Piece → Reached → Located → Type 0

@@ -4,7 +4,8 @@ use Rattle.nx_piece.specs.declared.piece.Piece.{Piece}
 use Rattle.nx_piece.specs.declared.piece.Proxy.{Proxy}
 use Rattle.nx_piece.specs.declared.piece.Stored.{Stored}
 use Rattle.nx_piece.specs.declared.piece.Stored.TheVariants.{Inline, Chained}
-use Rattle.nx_piece.specs.Gapped.{Gapped, GappedTree, End, Grow, Gap, gapped_width, item_slots, gapped_size, proxies_in, slots_in}
+use Rattle.nx_piece.specs.PieceNode.{item_slots, IsNearWith, MayBeFar, HasFarPage}
+use Rattle.nx_piece.specs.Gapped.{Gapped, GappedTree, End, Grow, Gap, gapped_width, gapped_size, proxies_in, slots_in}
 
 -- no gap is the first
 abbrev pub BeginsNoGap : Gapped → Type 0
@@ -24,13 +25,26 @@ AreTrees End = Unit {0}
 AreTrees (Grow node below beside) = AreTrees beside
 AreTrees (Gap count beside) = ⊥
 
+-- each far node is as one may be
+abbrev pub AreFar : Gapped → Type 0
+AreFar End = Unit {0}
+AreFar (Grow node below beside) = MayBeFar node × AreFar below × AreFar beside
+AreFar (Gap count beside) = AreFar beside
+
+-- no near content is longer than one that is written near
+abbrev pub AreNear : Gapped → Type 0
+AreNear End = Unit {0}
+AreNear (Grow node below beside) = IsNearWith node.node.content node.far × AreNear below × AreNear beside
+AreNear (Gap count beside) = AreNear beside
+
 -- the nodes of a piece with so many proxies, which has at most so many roots and whose nodes' items take at most so many slots
 pub record IsBodyWithin (most_roots most_slots : ℕ) (roots : Gapped) (proxies : ℕ) : Type 0 where
   pub trees : AreTrees roots
   pub some : 1 ≤ gapped_width roots
   pub few : gapped_width roots ≤ most_roots
-  pub light : gapped_size roots ≤ most_slots
+  pub small : gapped_size roots ≤ most_slots
   pub apart : AreApart roots
+  pub far : AreFar roots
   pub counted : proxies_in roots ≡ proxies
   pub few_proxies : proxies ≤ 524288
 
@@ -79,19 +93,25 @@ abbrev pub HaveNumbers : List Proxy → Type 0
 HaveNumbers [] = Unit {0}
 HaveNumbers (proxy ∷ proxies) = (proxy.page < 4294967296) × (proxy.slot < 65536) × HaveNumbers proxies
 
+-- the pages of far contents fit their fields
+abbrev pub HavePages : Gapped → Type 0
+HavePages End = Unit {0}
+HavePages (Grow node below beside) = HasFarPage node.far × HavePages below × HavePages beside
+HavePages (Gap count beside) = HavePages beside
+
 -- the numbers fit their fields, as those of a program's values do
 abbrev pub HasNumbers : Stored → Type 0
-HasNumbers (Inline piece) = HaveNumbers piece.proxies
-HasNumbers (Chained body count chain) = chain < 4294967296
+HasNumbers (Inline piece) = HaveNumbers piece.proxies × HavePages piece.body.roots
+HasNumbers (Chained body count chain) = (chain < 4294967296) × HavePages body.roots
 
 -- trees and gaps of a piece
 pub record IsSmall (f : Gapped) : Type 0 where
-  pub light : gapped_size f ≤ 256
+  pub small : gapped_size f ≤ 256
   pub apart : AreApart f
 
 -- a tree of a piece
 pub record IsSmallTree (tree : GappedTree) : Type 0 where
-  pub light : item_slots tree.node + gapped_size tree.below ≤ 256
+  pub small : item_slots tree.node + gapped_size tree.below ≤ 256
   pub apart : AreApart tree.below
 
 -- a piece as it may be in memory: one that is about to be split may have one root more, and its items may take twice as many slots

@@ -67,7 +67,7 @@ fn copy_body(alloc: Global, body: &BodyView<'_>) -> Result<Body, NoMemory>
 fn copy_tree(alloc: Global, tree: TreeView<'_>) -> Result<PieceTree, NoMemory>
     ensures { IfOk result (λ copy. copy ≡ seen_tree tree.entry) }
 {
-    let node = tree.node.to_node(alloc)?;
+    let node = tree.node.copy(alloc)?;
     let mut children = Vec::with_capacity(alloc, tree.children.len())?;
     let mut rest = tree.children;
     while let Some((item, behind)) = rest.split_first() {
@@ -79,6 +79,7 @@ fn copy_tree(alloc: Global, tree: TreeView<'_>) -> Result<PieceTree, NoMemory>
     }
     Ok(PieceTree {
         node,
+        far: tree.node.far,
         children: Items::from_vec(children),
     })
 }

@@ -19,7 +19,7 @@ mod writing;
 pub use copying::decode;
 pub use finding::{FoundView, LocatedView, count_children, find, find_child, member_at};
 pub use locating::{FoundChild, Located, child_at, children, locate, proxies_below, root_at};
-pub use piece::{Body, Item, Items, Piece, PieceTree, PieceTrees, Proxies, Proxy, Stored};
+pub use piece::{Body, Far, Item, Items, Piece, PieceTree, PieceTrees, Proxies, Proxy, Stored};
 pub use reading::{decode_proxies, view};
 pub use viewing::{BodyView, ItemView, ItemsView, NodeView, PieceView, StoredView, TreeView};
 pub use weighing::{count_nodes, size, weight};

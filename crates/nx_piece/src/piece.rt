@@ -19,11 +19,22 @@ pub struct Proxy {
     pub roots: u16,
 }
 
-/// A node of a piece and what is below it. Contracts see the node and the forest with gaps below it.
+/// Where a content stands that is kept outside its record.
+#[derive(Clone, Copy, Debug, PartialEq, Eq)]
+pub struct Far {
+    /// The first page of the list of bytes that holds it.
+    pub first: u32,
+    /// How many bytes it has, 1,025 to 1,048,576.
+    pub length: u32,
+}
+
+/// A node of a piece and what is below it. Where `far` is there, the content of the node stands elsewhere, and is empty
+/// here. Contracts see the node with where its content stands, and the forest with gaps below it.
 #[cycle(piece)]
 #[derive(Drop)]
 pub struct PieceTree {
     pub node: Node,
+    pub far: Option<Far>,
     pub children: Items,
 }
 
@@ -54,7 +65,7 @@ impl Model for PieceTree {
 
     ghost coded = { gapped_tree_code };
 
-    ghost view = { λ a. record { node = a.node; below = a.children } };
+    ghost view = { λ a. record { node = record { node = a.node; far = a.far }; below = a.children } };
 
     ghost size = { λ t. 3 * (1 + item_count t.below) };
 

@@ -3,20 +3,21 @@ ghost use Rattle.std.specs.Prelude.{◌≡◌, ℕ, false, ◌+◌, ◌*◌, ◌
 ghost use Rattle.std.proofs.Math.ListN.{replicate};
 ghost use Rattle.std.specs.Bool.{MatchBool};
 ghost use Rattle.std.specs.Vec.{vec_len, vec_capacity};
-ghost use Rattle.nx_tree.specs.declared.node.Node.{Node};
 ghost use Rattle.nx_tree.specs.declared.node.Kind.{Kind};
 ghost use Rattle.nx_piece.specs.Encoding.{kind_byte, node_head_bytes, node_bytes, content_bytes, run_bytes, items_head_bytes, proxies_head_bytes, head_bytes, proxy_bytes, proxies_bytes};
-ghost use Rattle.nx_piece.specs.Gapped.{Gapped, GappedTree, End, Grow, Gap, gapped_width, item_slots};
+ghost use Rattle.nx_piece.specs.PieceNode.{item_slots, MayBeFar, HasFarPage};
+ghost use Rattle.nx_piece.specs.Gapped.{Gapped, GappedTree, End, Grow, Gap, gapped_width};
 ghost use Rattle.nx_piece.specs.declared.piece.Proxy.{Proxy};
 ghost use Rattle.nx_piece.specs.Valid.{AreTrees, HaveRoots, HaveNumbers};
 ghost use Rattle.nx_piece.specs.Decoded.{IsDecoded};
 ghost use Rattle.nx_piece.specs.Flat.{seen_node};
 ghost use Rattle.nx_piece.specs.Viewing.{viewed};
-ghost use Rattle.nx_piece.specs.Reading.{alone, HasReadItems, HasPushed, AreNoProxies, BeginsNoTree, BeginsNoRun, BeginsNoTrees, BeginsNoBody, BeginsNoNode, BeginsNoNodeHead, BeginsNoContent, BeginsNoRunItem, BeginsNoHead, BeginsNoItemsHead, BeginsNoProxiesHead, IsHeadRead, IsReadBody, HasTakenNode, IsLeft};
+ghost use Rattle.nx_piece.specs.Reading.{alone, HasReadItems, HasPushed, AreNoProxies, BeginsNoTree, BeginsNoRun, BeginsNoTrees, BeginsNoBody, BeginsNoNode, BeginsNoNodeHead, BeginsNoContent, AreNoContent, IsContent, BeginsNoRunItem, BeginsNoHead, BeginsNoItemsHead, BeginsNoProxiesHead, IsHeadRead, IsReadBody, HasTakenNode, IsLeft};
 
 use crate::viewing::Flat;
-use crate::{BodyView, NodeView, PieceView, Proxies, Proxy, StoredView};
+use crate::{BodyView, Far, NodeView, PieceView, Proxies, Proxy, StoredView};
 use nx_tree::{Kind, NoMemory};
+use nx_weights::LONGEST_NEAR;
 use std::alloc::Global;
 
 // The most bytes of a record with its proxies.
@@ -258,34 +259,66 @@ fn take_run(bytes: &[u8], left: Left, after_run: bool) -> Option<(u32, &[u8], Le
 // A node with its number of child items, and what stands behind it.
 fn read_node(bytes: &[u8], room: u32) -> Option<(NodeView<'_>, u16, &[u8])>
     requires { room ≤ 256 }
-    ensures { MatchOption result (BeginsNoNode bytes.now room) (λ found. (bytes.now ≡ node_bytes (seen_node found.0) found.1 ++ found.2.now) × (item_slots (seen_node found.0) ≤ room) × (found.1 < 65536)) }
+    ensures { MatchOption result (BeginsNoNode bytes.now room) (λ found. (bytes.now ≡ node_bytes (seen_node found.0) found.1 ++ found.2.now) × (item_slots (seen_node found.0) ≤ room) × MayBeFar (seen_node found.0) × HasFarPage found.0.far × (found.1 < 65536)) }
 {
-    let Some((kind, name, content, items, behind)) = read_node_head(bytes) else {
+    let Some((kind, far, name, content, items, behind)) = read_node_head(bytes) else {
         return None;
     };
     let slots = (usize::from(name) + usize::from(content)).div_ceil(8);
     if slots as u32 >= room {
         return None;
     }
-    let Some((node, rest)) = read_content(behind, kind, name, content) else {
+    let Some((name, content, rest)) = read_content(behind, name, content) else {
+        return None;
+    };
+    let Some(node) = node_with(kind, far, name, content) else {
         return None;
     };
     Some((node, items, rest))
 }
 
-fn read_node_head(bytes: &[u8]) -> Option<(Kind, u16, u16, u16, &[u8])>
-    ensures { MatchOption result (BeginsNoNodeHead bytes.now) (λ read. (bytes.now ≡ node_head_bytes read.0 read.1 read.2 read.3 ++ read.4.now) × (read.1 < 65536) × (read.2 < 65536) × (read.3 < 65536)) }
+// The node with these bytes in its content's place: a far one says there where the content stands.
+fn node_with<'a>(kind: Kind, far: u8, name: &'a [u8], content: &'a [u8]) -> Option<NodeView<'a>>
+    requires { far ≤ 1 }
+    ensures { MatchOption result (AreNoContent far content.now) (λ node. IsContent far content.now (seen_node node) × (node.kind ≡ kind) × (node.name.now ≡ name.now)) }
 {
-    match bytes {
-        [byte, 0, n1, n0, c1, c0, i1, i0, rest @ ..] => Some((
-            kind_from(*byte)?,
-            u16::from_be_bytes([*n1, *n0]),
-            u16::from_be_bytes([*c1, *c0]),
-            u16::from_be_bytes([*i1, *i0]),
-            rest,
-        )),
-        _ => None,
+    if far == 0 {
+        return Some(NodeView {
+            kind,
+            name,
+            content,
+            far: None,
+        });
     }
+    let [p3, p2, p1, p0, l3, l2, l1, l0] = content else {
+        return None;
+    };
+    let first = u32::from_be_bytes([*p3, *p2, *p1, *p0]);
+    let length = u32::from_be_bytes([*l3, *l2, *l1, *l0]);
+    if length <= LONGEST_NEAR || length > 1_048_576 {
+        return None;
+    }
+    Some(NodeView {
+        kind,
+        name,
+        content: &content[..0],
+        far: Some(Far { first, length }),
+    })
+}
+
+fn read_node_head(bytes: &[u8]) -> Option<(Kind, u8, u16, u16, u16, &[u8])>
+    ensures { MatchOption result (BeginsNoNodeHead bytes.now) (λ read. (bytes.now ≡ node_head_bytes read.0 read.1 read.2 read.3 read.4 ++ read.5.now) × (read.1 ≤ 1) × (read.2 < 65536) × (read.3 < 65536) × (read.4 < 65536)) }
+{
+    let [byte, far, n1, n0, c1, c0, i1, i0, rest @ ..] = bytes else {
+        return None;
+    };
+    if *far > 1 {
+        return None;
+    }
+    let name = u16::from_be_bytes([*n1, *n0]);
+    let content = u16::from_be_bytes([*c1, *c0]);
+    let items = u16::from_be_bytes([*i1, *i0]);
+    Some((kind_from(*byte)?, *far, name, content, items, rest))
 }
 
 fn kind_from(byte: u8) -> Option<Kind>
@@ -301,9 +334,9 @@ fn kind_from(byte: u8) -> Option<Kind>
     }
 }
 
-// The name, the content and the zero bytes behind them.
-fn read_content(bytes: &[u8], kind: Kind, name: u16, content: u16) -> Option<(NodeView<'_>, &[u8])>
-    ensures { MatchOption result (BeginsNoContent bytes.now name content) (λ found. (bytes.now ≡ content_bytes (seen_node found.0) ++ found.1.now) × (found.0.kind ≡ kind) × (length found.0.name.now ≡ name) × (length found.0.content.now ≡ content)) }
+// The name and the content's place, and what stands behind them and their zero bytes.
+fn read_content(bytes: &[u8], name: u16, content: u16) -> Option<(&[u8], &[u8], &[u8])>
+    ensures { MatchOption result (BeginsNoContent bytes.now name content) (λ found. (bytes.now ≡ content_bytes found.0.now found.1.now ++ found.2.now) × (length found.0.now ≡ name) × (length found.1.now ≡ content)) }
 {
     let name = usize::from(name);
     let end = name + usize::from(content);
@@ -314,12 +347,7 @@ fn read_content(bytes: &[u8], kind: Kind, name: u16, content: u16) -> Option<(No
     if !is_zero(&bytes[end..size]) {
         return None;
     }
-    let node = NodeView {
-        kind,
-        name: &bytes[..name],
-        content: &bytes[name..end],
-    };
-    Some((node, &bytes[size..]))
+    Some((&bytes[..name], &bytes[name..end], &bytes[size..]))
 }
 
 fn is_zero(bytes: &[u8]) -> bool

@@ -1,30 +1,42 @@
 // The nodes of a record as they lie in its bytes, as one flat list.
 ghost use Rattle.std.specs.Prelude.{◌≡◌, ◌≤◌, IfOk, MatchOption};
-ghost use Rattle.nx_weights.specs.Weight.{weight, IsShort};
-ghost use Rattle.nx_piece.specs.Gapped.{End, gapped_width, gapped_nodes, gapped_size, gapped_weight, item_slots, proxies_in};
+ghost use Rattle.std.specs.Prelude.{None};
+ghost use Rattle.nx_piece.specs.PieceNode.{near, content_length, item_slots, node_weight, IsShortNode};
+ghost use Rattle.nx_piece.specs.Gapped.{End, gapped_width, gapped_nodes, gapped_size, gapped_weight, proxies_in};
+ghost use Rattle.nx_piece.specs.Valid.{AreFar};
 ghost use Rattle.nx_piece.specs.Flat.{seen_node, unflattened};
 ghost use Rattle.nx_piece.specs.Viewing.{seen_items, begun_with};
 
-use crate::Proxies;
+use crate::{Far, Proxies};
 use nx_tree::{Bytes, Kind, NoMemory, Node};
 use nx_weights::weight_of;
 use std::alloc::Global;
 use std::marker::Model;
 
-/// A node whose name and content lie in the bytes of a record.
+/// A node whose name and content lie in the bytes of a record. Where `far` is there, the content stands elsewhere, and is
+/// empty here.
 #[derive(Clone, Copy)]
 pub struct NodeView<'a> {
     pub kind: Kind,
     pub name: &'a [u8],
     pub content: &'a [u8],
+    pub far: Option<Far>,
 }
 
 impl NodeView<'_> {
-    /// A copy of the node.
+    /// A copy of the node, whose content stands in the record.
     ///
     /// Errors: `NoMemory`.
     pub fn to_node(self, alloc: Global) -> Result<Node, NoMemory>
-        ensures { IfOk result (λ node. node ≡ seen_node self.entry) }
+        requires { self.far ≡ None }
+        ensures { IfOk result (λ node. near node ≡ seen_node self.entry) }
+    {
+        self.copy(alloc)
+    }
+
+    // A copy of the node, without a content that stands elsewhere.
+    pub(crate) fn copy(self, alloc: Global) -> Result<Node, NoMemory>
+        ensures { IfOk result (λ node. node ≡ (seen_node self.entry).node) }
     {
         Ok(Node {
             kind: self.kind,
@@ -33,12 +45,23 @@ impl NodeView<'_> {
         })
     }
 
+    /// How many bytes the content has, wherever it stands. There are at most 4,294,967,295. It takes no memory.
+    pub fn content_len(self) -> u32
+        requires { content_length (seen_node self) ≤ 4294967295 }
+        ensures { result ≡ content_length (seen_node self.entry) }
+    {
+        match self.far {
+            None => self.content.len() as u32,
+            Some(far) => far.length,
+        }
+    }
+
     /// What the node weighs, in slots of 8 bytes. It has to be within the limits of a document. It takes no memory.
     pub fn weight(self) -> u32
-        requires { IsShort (seen_node self) }
-        ensures { result ≡ weight (seen_node self.entry) }
+        requires { IsShortNode (seen_node self) }
+        ensures { result ≡ node_weight (seen_node self.entry) }
     {
-        weight_of(self.name.len() as u32, self.content.len() as u32)
+        weight_of(self.name.len() as u32, self.content_len())
     }
 
     // How many slots the node's item takes.
@@ -46,7 +69,11 @@ impl NodeView<'_> {
         requires { item_slots (seen_node self) ≤ 256 }
         ensures { result ≡ item_slots (seen_node self.entry) }
     {
-        1 + (self.name.len() + self.content.len()).div_ceil(8) as u32
+        let content = match self.far {
+            None => self.content.len(),
+            Some(_) => 8,
+        };
+        1 + (self.name.len() + content).div_ceil(8) as u32
     }
 }
 
@@ -158,11 +185,12 @@ impl<'a> Model for BodyView<'a> {
 
     ghost use Rattle.std.specs.Prelude.{◌≡◌, ◌≤◌};
     ghost use Rattle.nx_piece.specs.Gapped.{gapped_width, gapped_size};
+    ghost use Rattle.nx_piece.specs.Valid.{AreFar};
     ghost use Rattle.nx_piece.specs.Flat.{unflattened};
 
     ghost view = { λ a. record { roots = unflattened a.items.items } };
 
-    ghost invariant = { λ a. (a.roots ≡ gapped_width (unflattened a.items.items)) × (a.size ≡ gapped_size (unflattened a.items.items)) × (a.size ≤ 256) };
+    ghost invariant = { λ a. (a.roots ≡ gapped_width (unflattened a.items.items)) × (a.size ≡ gapped_size (unflattened a.items.items)) × (a.size ≤ 256) × AreFar (unflattened a.items.items) };
 }
 
 impl<'a> BodyView<'a> {
@@ -171,6 +199,7 @@ impl<'a> BodyView<'a> {
         requires roots { roots ≡ gapped_width (unflattened items.items) }
         requires size { size ≡ gapped_size (unflattened items.items) }
         requires small { size ≤ 256 }
+        requires far { AreFar (unflattened items.items) }
         ensures { result.roots ≡ unflattened items.entry.items }
     {
         BodyView { items, roots, size }

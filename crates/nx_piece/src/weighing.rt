@@ -1,18 +1,30 @@
 // What the nodes of a piece weigh, and how many slots their items take in its record.
 ghost use Rattle.std.specs.Prelude.{◌≡◌, ◌+◌, ◌≤◌};
-ghost use Rattle.nx_weights.specs.Weight.{weight as node_weight, IsShort};
-ghost use Rattle.nx_piece.specs.Gapped.{gapped_nodes, gapped_size, gapped_weight, item_slots};
+ghost use Rattle.nx_piece.specs.PieceNode.{content_length, item_slots, node_weight, IsShortNode};
+ghost use Rattle.nx_piece.specs.Gapped.{gapped_nodes, gapped_size, gapped_weight};
 ghost use Rattle.nx_piece.specs.Weight.{HaveShortNodes, HasShortNodes};
 
 use crate::{Body, Item, PieceTree};
+use nx_weights::weight_of;
 
 impl PieceTree {
     /// What the node itself weighs, in slots of 8 bytes. It has to be within the limits of a document. It takes no memory.
     pub fn weight(&self) -> u32
-        requires { IsShort self.now.node }
+        requires { IsShortNode self.now.node }
         ensures { result ≡ node_weight self.now.node }
     {
-        nx_weights::weight(&self.node)
+        weight_of(self.node.name.len() as u32, self.content_len())
+    }
+
+    /// How many bytes the content of the node has, wherever it stands. There are at most 4,294,967,295. It takes no memory.
+    pub fn content_len(&self) -> u32
+        requires { content_length self.now.node ≤ 4294967295 }
+        ensures { result ≡ content_length self.now.node }
+    {
+        match self.far {
+            None => self.node.content.len() as u32,
+            Some(far) => far.length,
+        }
     }
 
     /// How many slots of 8 bytes the item of the node itself takes in a record. There are at most 4,294,967,295. It takes
@@ -21,7 +33,11 @@ impl PieceTree {
         requires { item_slots self.now.node ≤ 4294967295 }
         ensures { result ≡ item_slots self.now.node }
     {
-        1 + (self.node.name.len() + self.node.content.len()).div_ceil(8) as u32
+        let content = match self.far {
+            None => self.node.content.len(),
+            Some(_) => 8,
+        };
+        1 + (self.node.name.len() + content).div_ceil(8) as u32
     }
 }
 

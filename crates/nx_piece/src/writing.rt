@@ -1,13 +1,14 @@
 // The bytes of a stored piece, written.
 ghost use Rattle.std.specs.Prelude.{◌≡◌, ◌+◌, ◌*◌, ◌<◌, ◌≤◌, ◌∷◌, ◌++◌, length, IfOk, OnOk};
 ghost use Rattle.std.proofs.Math.ListN.{replicate};
-ghost use Rattle.nx_piece.specs.Gapped.{item_count, item_slots, grown_of, gapped_width, slots_in};
-ghost use Rattle.nx_piece.specs.Encoding.{two_bytes, four_bytes, kind_byte, items_head_bytes, proxies_head_bytes, node_head_bytes, node_bytes, run_bytes, tree_bytes, items_bytes, proxies_bytes, head_bytes, body_bytes, encoding};
-ghost use Rattle.nx_piece.specs.Valid.{IsValid, IsValidPiece, is_inline, HasNumbers, HaveNumbers, IsValidBody, IsSmall, IsSmallTree};
+ghost use Rattle.nx_piece.specs.PieceNode.{item_slots, HasFarPage};
+ghost use Rattle.nx_piece.specs.Gapped.{item_count, grown_of, gapped_width, slots_in};
+ghost use Rattle.nx_piece.specs.Encoding.{two_bytes, four_bytes, kind_byte, items_head_bytes, proxies_head_bytes, content_bytes, node_head_bytes, node_bytes, run_bytes, tree_bytes, items_bytes, proxies_bytes, head_bytes, body_bytes, encoding};
+ghost use Rattle.nx_piece.specs.Valid.{IsValid, IsValidPiece, is_inline, HasNumbers, HaveNumbers, HavePages, IsValidBody, IsSmall, IsSmallTree};
 
 use crate::reading::LONGEST_INLINE;
 use crate::{Body, Item, Piece, PieceTree, Proxy, Stored};
-use nx_tree::{Bytes, Kind, NoMemory, Node};
+use nx_tree::{Bytes, Kind, NoMemory};
 use std::alloc::Global;
 
 /// The bytes of the record that holds the piece, which has to be valid.
@@ -91,15 +92,16 @@ fn encode_body(
 ) -> Result<Bytes, NoMemory>
     requires valid { IsValidBody body.now.roots proxies }
     requires room { beside ≤ 524288 }
-    ensures { IfOk result (λ bytes. bytes ≡ body_bytes form body.now.roots proxies chain) }
+    ensures bytes { IfOk result (λ bytes. bytes ≡ body_bytes form body.now.roots proxies chain) }
+    ensures pages { IfOk result (λ _. HavePages body.now.roots) }
 {
     let roots = body.roots.as_slice();
-    let size = measure_all(roots);
-    let mut out = Bytes::with_capacity(alloc, 16 + 8 * size.slots as usize + 8 * beside)?;
+    let extent = measure_all(roots);
+    let mut out = Bytes::with_capacity(alloc, 16 + 8 * extent.slots as usize + 8 * beside)?;
     push_head(
         form,
         roots.len() as u16,
-        size.items,
+        extent.items,
         proxies,
         chain,
         &mut out,
@@ -110,31 +112,31 @@ fn encode_body(
 
 // The items of a tree, and how many groups of 8 bytes they take.
 #[derive(Clone, Copy)]
-struct Size {
+struct Extent {
     items: u32,
     slots: u32,
 }
 
-fn measure_all(trees: &[PieceTree]) -> Size
+fn measure_all(trees: &[PieceTree]) -> Extent
     requires { IsSmall (grown_of trees.now) }
     ensures items { result.items ≡ item_count (grown_of trees.now) }
     ensures slots { result.slots ≡ slots_in (grown_of trees.now) }
 {
-    let mut size = Size { items: 0, slots: 0 };
+    let mut extent = Extent { items: 0, slots: 0 };
     for tree in trees {
         let more = measure(tree);
-        size.items += more.items;
-        size.slots += more.slots;
+        extent.items += more.items;
+        extent.slots += more.slots;
     }
-    size
+    extent
 }
 
-fn measure(tree: &PieceTree) -> Size
+fn measure(tree: &PieceTree) -> Extent
     requires { IsSmallTree tree.now }
     ensures items { result.items ≡ 1 + item_count tree.now.below }
     ensures slots { result.slots ≡ item_slots tree.now.node + slots_in tree.now.below }
 {
-    let mut size = Size {
+    let mut extent = Extent {
         items: 1,
         slots: tree.size(),
     };
@@ -142,16 +144,16 @@ fn measure(tree: &PieceTree) -> Size
         match item {
             Item::Tree(child) => {
                 let more = measure(child);
-                size.items += more.items;
-                size.slots += more.slots;
+                extent.items += more.items;
+                extent.slots += more.slots;
             }
             Item::Run { .. } => {
-                size.items += 1;
-                size.slots += 1;
+                extent.items += 1;
+                extent.slots += 1;
             }
         }
     }
-    size
+    extent
 }
 
 fn push_head(
@@ -186,7 +188,8 @@ fn push_chain(proxies: u32, chain: u32, out: &mut Bytes) -> Result<(), NoMemory>
 
 fn push_trees(trees: &[PieceTree], out: &mut Bytes) -> Result<(), NoMemory>
     requires { IsSmall (grown_of trees.now) }
-    ensures { OnOk result (out.new ≡ out.old ++ items_bytes (grown_of trees.now)) }
+    ensures bytes { OnOk result (out.new ≡ out.old ++ items_bytes (grown_of trees.now)) }
+    ensures pages { OnOk result (HavePages (grown_of trees.now)) }
 {
     for tree in trees {
         push_tree(tree, out)?;
@@ -197,10 +200,12 @@ fn push_trees(trees: &[PieceTree], out: &mut Bytes) -> Result<(), NoMemory>
 // A node before its child items, to any depth.
 fn push_tree(tree: &PieceTree, out: &mut Bytes) -> Result<(), NoMemory>
     requires { IsSmallTree tree.now }
-    ensures { OnOk result (out.new ≡ out.old ++ tree_bytes tree.now) }
+    ensures bytes { OnOk result (out.new ≡ out.old ++ tree_bytes tree.now) }
+    ensures page { OnOk result (HasFarPage tree.now.node.far) }
+    ensures pages { OnOk result (HavePages tree.now.below) }
 {
     let items = tree.children.as_slice();
-    push_node(&tree.node, items.len() as u16, out)?;
+    push_node(tree, items.len() as u16, out)?;
     for item in items {
         match item {
             Item::Tree(child) => push_tree(child, out)?,
@@ -210,36 +215,77 @@ fn push_tree(tree: &PieceTree, out: &mut Bytes) -> Result<(), NoMemory>
     Ok(())
 }
 
-fn push_node(node: &Node, items: u16, out: &mut Bytes) -> Result<(), NoMemory>
-    requires { item_slots node.now ≤ 256 }
-    ensures { OnOk result (out.new ≡ out.old ++ node_bytes node.now items) }
+// The node itself. In the place of a content that stands elsewhere it is said where.
+fn push_node(tree: &PieceTree, items: u16, out: &mut Bytes) -> Result<(), NoMemory>
+    requires { item_slots tree.now.node ≤ 256 }
+    ensures bytes { OnOk result (out.new ≡ out.old ++ node_bytes tree.now.node items) }
+    ensures page { OnOk result (HasFarPage tree.now.node.far) }
+{
+    let kind = tree.node.kind;
+    let name = tree.node.name.as_slice();
+    match tree.far {
+        None => push_item(kind, 0, name, tree.node.content.as_slice(), items, out),
+        Some(far) => push_far(kind, name, far.first, far.length, items, out),
+    }
+}
+
+// The node whose content of so many bytes stands elsewhere, from this page on.
+fn push_far(
+    kind: Kind,
+    name: &[u8],
+    first: u32,
+    bytes: u32,
+    items: u16,
+    out: &mut Bytes,
+) -> Result<(), NoMemory>
+    requires { length name.now + 8 ≤ 2040 }
+    ensures bytes { OnOk result (out.new ≡ out.old ++ (node_head_bytes kind 1 (length name.now) 8 items ++ content_bytes name.now (four_bytes first ++ four_bytes bytes))) }
+    ensures page { OnOk result (first < 4294967296) }
+{
+    let [p3, p2, p1, p0] = first.to_be_bytes();
+    let [l3, l2, l1, l0] = bytes.to_be_bytes();
+    push_item(kind, 1, name, &[p3, p2, p1, p0, l3, l2, l1, l0], items, out)
+}
+
+fn push_item(
+    kind: Kind,
+    far: u8,
+    name: &[u8],
+    content: &[u8],
+    items: u16,
+    out: &mut Bytes,
+) -> Result<(), NoMemory>
+    requires { length name.now + length content.now ≤ 2040 }
+    ensures { OnOk result (out.new ≡ out.old ++ (node_head_bytes kind far (length name.now) (length content.now) items ++ content_bytes name.now content.now)) }
 {
     push_node_head(
-        node.kind,
-        node.name.len() as u16,
-        node.content.len() as u16,
+        kind,
+        far,
+        name.len() as u16,
+        content.len() as u16,
         items,
         out,
     )?;
-    out.extend_from_slice(node.name.as_slice())?;
-    out.extend_from_slice(node.content.as_slice())?;
-    let bytes = node.name.len() + node.content.len();
+    out.extend_from_slice(name)?;
+    out.extend_from_slice(content)?;
+    let bytes = name.len() + content.len();
     push_zeros(8 * bytes.div_ceil(8) - bytes, out)
 }
 
 fn push_node_head(
     kind: Kind,
+    far: u8,
     name: u16,
     content: u16,
     items: u16,
     out: &mut Bytes,
 ) -> Result<(), NoMemory>
-    ensures { OnOk result (out.new ≡ out.old ++ node_head_bytes kind name content items) }
+    ensures { OnOk result (out.new ≡ out.old ++ node_head_bytes kind far name content items) }
 {
     let [n1, n0] = name.to_be_bytes();
     let [c1, c0] = content.to_be_bytes();
     let [i1, i0] = items.to_be_bytes();
-    out.extend_from_slice(&[kind_byte(kind), 0, n1, n0, c1, c0, i1, i0])
+    out.extend_from_slice(&[kind_byte(kind), far, n1, n0, c1, c0, i1, i0])
 }
 
 fn push_zeros(count: usize, out: &mut Bytes) -> Result<(), NoMemory>

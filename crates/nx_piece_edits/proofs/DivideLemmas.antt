@@ -2,12 +2,11 @@
 use Rattle.std.proofs.Common.{◌≡◌, ℕ, zero, suc, ◌+◌, ◌<◌, ◌≤◌, List, [], ◌∷◌, None, Some, length, take, drop, refl, sym, ap, ◌∙◌, subst, arith}
 use Rattle.std.specs.List.{slice_get, insert}
 use Rattle.std.proofs.lemmas.List.{length-drop, length-take-le}
-use Rattle.nx_tree.specs.declared.node.Node.{Node}
-use Rattle.nx_weights.specs.Weight.{weight}
+use Rattle.nx_piece.specs.PieceNode.{MayBeFar, PieceNode, node_weight, item_slots}
 use Rattle.nx_piece.specs.declared.piece.Piece.{Piece}
 use Rattle.nx_piece.specs.declared.piece.Proxy.{Proxy}
-use Rattle.nx_piece.specs.Gapped.{Gapped, GappedTree, End, Grow, Gap, gapped_width, item_slots, gapped_size, proxies_in, grown_of}
-use Rattle.nx_piece.specs.Valid.{AreApart, AreTrees, HaveRoots, IsBodyWithin}
+use Rattle.nx_piece.specs.Gapped.{Gapped, GappedTree, End, Grow, Gap, gapped_width, gapped_size, proxies_in, grown_of}
+use Rattle.nx_piece.specs.Valid.{AreApart, AreFar, AreTrees, HaveRoots, IsBodyWithin}
 use Rattle.nx_piece.specs.Locate.{Own, children_of}
 use Rattle.nx_piece.proofs.SizeLemmas.{gapped_sum, sum_is_weight, sum_is_size}
 use Rattle.nx_piece.proofs.LocateLemmas.{ranged_drop, ranged_take}
@@ -18,21 +17,22 @@ use Rattle.nx_piece_edits.proofs.PassedLemmas.{index_at}
 -- A root planted:
 
 -- roots with a leaf among them
-pub record HasLeaf (f g : Gapped) (node : Node) : Type 0 where
+pub record HasLeaf (f g : Gapped) (node : PieceNode) : Type 0 where
   pub trees : AreTrees g
   pub width : gapped_width g ≡ gapped_width f + 1
-  pub sums : (measure : Node → ℕ) → gapped_sum measure g ≡ gapped_sum measure f + measure node
+  pub sums : (measure : PieceNode → ℕ) → gapped_sum measure g ≡ gapped_sum measure f + measure node
   pub counted : proxies_in g ≡ proxies_in f
   pub apart : AreApart f → AreApart g
+  pub far : MayBeFar node → AreFar f → AreFar g
 
-leaf_keeps : (node : Node) (i : ℕ) (f : Gapped) (ps : List Proxy) → AreTrees f → i ≤ gapped_width f → HasLeaf f (put_at (λ g. Grow node End g) i f ps) node
-leaf_keeps node zero f ps trees within = record { trees = trees; width = omega arith; sums = λ measure. omega arith; counted = omega arith; apart = λ h. (tt, h) }
+leaf_keeps : (node : PieceNode) (i : ℕ) (f : Gapped) (ps : List Proxy) → AreTrees f → i ≤ gapped_width f → HasLeaf f (put_at (λ g. Grow node End g) i f ps) node
+leaf_keeps node zero f ps trees within = record { trees = trees; width = omega arith; sums = λ measure. omega arith; counted = omega arith; apart = λ h. (tt, h); far = λ m h. (m, tt, h) }
 leaf_keeps node (suc i) End ps trees within = absurd (omega (arith, within))
 leaf_keeps node (suc i) (Grow n b s) ps trees within =
     let h = leaf_keeps node i s (drop (proxies_in b) ps) trees (omega (arith, within)) in
     let width = h.width in
     let counted = h.counted in
-    record { trees = h.trees; width = omega (arith, width); sums = λ measure. let w = h.sums measure in omega (arith, w); counted = omega (arith, counted); apart = λ a. (a.0, h.apart a.1) }
+    record { trees = h.trees; width = omega (arith, width); sums = λ measure. let w = h.sums measure in omega (arith, w); counted = omega (arith, counted); apart = λ a. (a.0, h.apart a.1); far = λ m a. (a.0, a.1, h.far m a.2) }
 leaf_keeps node (suc i) (Gap c s) ps trees within = absurd trees
 
 grown_trees : (roots : List GappedTree) → AreTrees (grown_of roots)
@@ -48,8 +48,8 @@ leaf_put roots zero leaf ps within = refl
 leaf_put [] (suc i) leaf ps within = absurd (omega (arith, within))
 leaf_put (t ∷ roots) (suc i) leaf ps within = ap (Grow t.node t.below) (leaf_put roots i leaf (drop (proxies_in t.below) ps) (omega (arith, within)))
 
-leaf_within : {most_roots slots more_roots more_slots n : ℕ} {f g : Gapped} {node : Node} → IsBodyWithin most_roots slots f n → HasLeaf f g node → gapped_width g ≤ more_roots → gapped_size g ≤ more_slots → IsBodyWithin more_roots more_slots g n
-leaf_within {most_roots} {slots} {more_roots} {more_slots} {n} {f} {g} {node} h k narrow light =
+leaf_within : {most_roots slots more_roots more_slots n : ℕ} {f g : Gapped} {node : PieceNode} → IsBodyWithin most_roots slots f n → HasLeaf f g node → MayBeFar node → gapped_width g ≤ more_roots → gapped_size g ≤ more_slots → IsBodyWithin more_roots more_slots g n
+leaf_within {most_roots} {slots} {more_roots} {more_slots} {n} {f} {g} {node} h k may narrow small =
     let width = k.width in
     let counts = k.counted in
     let counted = h.counted in
@@ -57,13 +57,14 @@ leaf_within {most_roots} {slots} {more_roots} {more_slots} {n} {f} {g} {node} h 
       trees = k.trees;
       some = omega (arith, width);
       few = narrow;
-      light = light;
+      small = small;
       apart = k.apart h.apart;
+      far = k.far may h.far;
       counted = omega (arith, counts, counted);
       few_proxies = h.few_proxies;
     }
 
-pub root_is : (piece : Piece) (member : ℕ) (node : Node) (trees : List GappedTree) (roots : Gapped) → grown_of trees ≡ piece.body.roots → member ≤ gapped_width piece.body.roots → roots ≡ grown_of (insert trees member (record { node = node; below = End }))
+pub root_is : (piece : Piece) (member : ℕ) (node : PieceNode) (trees : List GappedTree) (roots : Gapped) → grown_of trees ≡ piece.body.roots → member ≤ gapped_width piece.body.roots → roots ≡ grown_of (insert trees member (record { node = node; below = End }))
     → IsWithRoot piece member node (record { body = record { roots = roots }; proxies = piece.proxies })
 root_is piece member node trees roots all within is =
     let leaf : GappedTree = record { node = node; below = End } in
@@ -74,7 +75,7 @@ root_is piece member node trees roots all within is =
     is ∙ leaf_put trees member leaf piece.proxies (omega (arith, within, count, wide)) ∙ ap (λ (f : Gapped). put_at (λ g. Grow node End g) member f piece.proxies) all in
     let k : HasLeaf old roots node = subst (λ g. HasLeaf old g node) (sym body) (leaf_keeps node member old piece.proxies (subst AreTrees all (grown_trees trees)) within) in
     let width = k.width in
-    let weights = k.sums weight in
+    let weights = k.sums node_weight in
     let sizes = k.sums item_slots in
     let sized : gapped_size roots ≡ gapped_size old + item_slots node = omega (arith, sizes, sum_is_size roots, sum_is_size old) in
     record {
@@ -83,11 +84,11 @@ root_is piece member node trees roots all within is =
       weighs = omega (arith, weights, sum_is_weight roots, sum_is_weight old);
       sized = sized;
       width = width;
-      heavy = λ v most.
+      large = λ v may most.
           let few = v.body.few in
-          let light = v.body.light in
-          record { body = leaf_within v.body k (omega (arith, width, few)) (omega (arith, sized, light, most)); ranged = v.ranged };
-      valid = λ v most narrow. record { body = leaf_within v.body k narrow most; ranged = v.ranged };
+          let small = v.body.small in
+          record { body = leaf_within v.body k may (omega (arith, width, few)) (omega (arith, sized, small, most)); ranged = v.ranged };
+      valid = λ v may most narrow. record { body = leaf_within v.body k may narrow most; ranged = v.ranged };
     }
 
 -- Roots divided:
@@ -122,9 +123,10 @@ pub record IsInTwo (f g h : Gapped) (i : ℕ) : Type 0 where
   pub sized : gapped_size g + gapped_size h ≡ gapped_size f
   pub counted : proxies_in g + proxies_in h ≡ proxies_in f
   pub apart : AreApart f → AreApart g × AreApart h
+  pub far : AreFar f → AreFar g × AreFar h
 
 pub in_two : (f : Gapped) (i : ℕ) → AreTrees f → i ≤ gapped_width f → IsInTwo f (first_roots i f) (roots_behind i f) i
-in_two f zero trees within = record { front_trees = tt; back_trees = trees; front_width = refl; back_width = omega arith; sized = omega arith; counted = omega arith; apart = λ h. (tt, h) }
+in_two f zero trees within = record { front_trees = tt; back_trees = trees; front_width = refl; back_width = omega arith; sized = omega arith; counted = omega arith; apart = λ h. (tt, h); far = λ h. (tt, h) }
 in_two End (suc i) trees within = absurd (omega (arith, within))
 in_two (Grow n b s) (suc i) trees within =
     let h = in_two s i trees (omega (arith, within)) in
@@ -140,6 +142,7 @@ in_two (Grow n b s) (suc i) trees within =
       sized = omega (arith, sized);
       counted = omega (arith, counted);
       apart = λ a. ((a.0, (h.apart a.1).0), (h.apart a.1).1);
+      far = λ a. ((a.0, a.1, (h.far a.2).0), (h.far a.2).1);
     }
 in_two (Gap c s) (suc i) trees within = absurd trees
 
@@ -150,15 +153,16 @@ halves_within {most_roots} {slots} {n} {f} {g} {h} i p q b k some more own sum =
     let sized = k.sized in
     let counted = k.counted in
     let few = b.few in
-    let light = b.light in
+    let small = b.small in
     let all = b.counted in
     let most = b.few_proxies in (
       record {
         trees = k.front_trees;
         some = omega (arith, front, some);
         few = omega (arith, front, more, few);
-        light = omega (arith, sized, light);
+        small = omega (arith, sized, small);
         apart = (k.apart b.apart).0;
+        far = (k.far b.far).0;
         counted = omega (arith, own);
         few_proxies = omega (arith, sum, most);
       },
@@ -166,8 +170,9 @@ halves_within {most_roots} {slots} {n} {f} {g} {h} i p q b k some more own sum =
         trees = k.back_trees;
         some = omega (arith, back, more);
         few = omega (arith, back, few);
-        light = omega (arith, sized, light);
+        small = omega (arith, sized, small);
         apart = (k.apart b.apart).1;
+        far = (k.far b.far).1;
         counted = omega (arith, counted, all, own, sum);
         few_proxies = omega (arith, sum, most);
       },

@@ -4,11 +4,11 @@ use Rattle.std.specs.List.{slice_get}
 use Rattle.std.proofs.lemmas.Bool.{cases_lt}
 use Rattle.std.proofs.lemmas.Bool.Decides.{nat_tests}
 use Rattle.std.proofs.lemmas.List.{drop-drop, length-drop, length-set, length-take-le, set_split}
-use Rattle.nx_tree.specs.declared.node.Node.{Node}
+use Rattle.nx_piece.specs.PieceNode.{PieceNode, item_slots}
 use Rattle.nx_piece.specs.declared.piece.Piece.{Piece}
 use Rattle.nx_piece.specs.declared.piece.Proxy.{Proxy}
-use Rattle.nx_piece.specs.Gapped.{Gapped, GappedTree, End, Grow, Gap, gapped_width, gapped_size, item_slots, proxies_in, with_gap}
-use Rattle.nx_piece.specs.Valid.{AreApart, AreTrees, BeginsNoGap, HaveRoots, IsBodyWithin}
+use Rattle.nx_piece.specs.Gapped.{Gapped, GappedTree, End, Grow, Gap, gapped_width, gapped_size, proxies_in, with_gap}
+use Rattle.nx_piece.specs.Valid.{AreApart, AreFar, AreTrees, BeginsNoGap, HaveRoots, IsBodyWithin}
 use Rattle.nx_piece.specs.Locate.{PieceChild, Own, Kept, Reached, Inside, Outside, Missing, roots_of, roots_from, kept_from, children_of, reached, reached_in, IsPartOf}
 use Rattle.nx_piece_edits.specs.Cutting.{without_tree, smaller_gap, without_proxy, IsWithoutTree, IsWithoutProxy, IsWithProxy}
 use Rattle.nx_piece_edits.specs.Taking.{led, IsTakenOut}
@@ -28,7 +28,7 @@ size_gap count End = refl
 size_gap count (Grow n b s) = refl
 size_gap count (Gap c s) = refl
 
-pub sum_gap : (measure : Node → ℕ) (count : ℕ) (f : Gapped) → gapped_sum measure (with_gap count f) ≡ gapped_sum measure f
+pub sum_gap : (measure : PieceNode → ℕ) (count : ℕ) (f : Gapped) → gapped_sum measure (with_gap count f) ≡ gapped_sum measure f
 sum_gap measure count End = refl
 sum_gap measure count (Grow n b s) = refl
 sum_gap measure count (Gap c s) = refl
@@ -42,6 +42,11 @@ pub apart_gap : (count : ℕ) (f : Gapped) → 1 ≤ count → AreApart f → Ar
 apart_gap count End some h = (some, tt, tt)
 apart_gap count (Grow n b s) some h = (some, tt, h)
 apart_gap count (Gap c s) some h = (omega arith, h.1, h.2)
+
+pub far_gap : (count : ℕ) (f : Gapped) → AreFar f → AreFar (with_gap count f)
+far_gap count End h = tt
+far_gap count (Grow n b s) h = h
+far_gap count (Gap c s) h = h
 
 -- Without a tree:
 
@@ -72,6 +77,13 @@ size_left position path (Gap c s) proxies =
     let h = size_left (position - roots_of (take c proxies)) path s (drop c proxies) in
     let g = size_gap c (without_tree (position - roots_of (take c proxies)) path s (drop c proxies)) in
     omega (arith, h, g)
+
+far_left : (position : ℕ) (path : List ℕ) (f : Gapped) (proxies : List Proxy) → AreFar f → AreFar (without_tree position path f proxies)
+far_left position path End proxies h = tt
+far_left zero [] (Grow n b s) proxies h = h.2
+far_left zero (next ∷ path) (Grow n b s) proxies h = (h.0, far_left next path b proxies h.1, h.2)
+far_left (suc position) path (Grow n b s) proxies h = (h.0, h.1, far_left position path s (drop (proxies_in b) proxies) h.2)
+far_left position path (Gap c s) proxies h = far_gap c (without_tree (position - roots_of (take c proxies)) path s (drop c proxies)) (far_left (position - roots_of (take c proxies)) path s (drop c proxies) h)
 
 apart_left : (position : ℕ) (path : List ℕ) (f : Gapped) (proxies : List Proxy) → AreApart f → AreApart (without_tree position path f proxies)
 apart_left position path End proxies h = tt
@@ -146,7 +158,7 @@ pub within_left : {most_roots most_slots : ℕ} {roots : Gapped} {n m : ℕ} (po
     → m + proxies_in t.below ≡ n → 1 ≤ gapped_width (without_tree position path roots proxies) → IsBodyWithin most_roots most_slots (without_tree position path roots proxies) m
 within_left {most_roots} {most_slots} {roots} {n} {m} position path proxies t before h led_is sum some =
     let few = h.few in
-    let light = h.light in
+    let small = h.small in
     let counted = h.counted in
     let few_proxies = h.few_proxies in
     let w = width_left position path roots proxies in
@@ -156,8 +168,9 @@ within_left {most_roots} {most_slots} {roots} {n} {m} position path proxies t be
       trees = trees_left position path roots proxies h.trees;
       some = some;
       few = omega arith;
-      light = omega arith;
+      small = omega arith;
       apart = apart_left position path roots proxies h.apart;
+      far = far_left position path roots proxies h.far;
       counted = omega arith;
       few_proxies = omega arith;
     }
@@ -264,6 +277,9 @@ apart_smaller count f b h =
       | inr one ↦ subst AreApart (sym (not_less 1 count (Gap (count - 1) f) f one)) h
     ]
 
+far_smaller : (count : ℕ) (f : Gapped) → AreFar f → AreFar (smaller_gap count f)
+far_smaller count f h = elim (nat_lt 1 count) as (λ t. AreFar (if t then Gap (count - 1) f else f)) [ true ↦ h | false ↦ h ]
+
 apart_fewer : (index : ℕ) (f : Gapped) → AreApart f → AreApart (without_proxy index f)
 apart_fewer index End h = tt
 apart_fewer index (Grow n b s) h =
@@ -275,6 +291,19 @@ apart_fewer index (Gap c s) h =
     elim (nat_lt index c) as (λ t. AreApart (if t then smaller_gap c s else Gap c (without_proxy (index - c) s))) [
       | true ↦ apart_smaller c s h.1 h.2
       | false ↦ (h.0, begins_fewer (index - c) s h.1, apart_fewer (index - c) s h.2)
+    ]
+
+far_fewer : (index : ℕ) (f : Gapped) → AreFar f → AreFar (without_proxy index f)
+far_fewer index End h = tt
+far_fewer index (Grow n b s) h =
+    elim (nat_lt index (proxies_in b)) as (λ t. AreFar (if t then Grow n (without_proxy index b) s else Grow n b (without_proxy (index - proxies_in b) s))) [
+      | true ↦ (h.0, far_fewer index b h.1, h.2)
+      | false ↦ (h.0, h.1, far_fewer (index - proxies_in b) s h.2)
+    ]
+far_fewer index (Gap c s) h =
+    elim (nat_lt index c) as (λ t. AreFar (if t then smaller_gap c s else Gap c (without_proxy (index - c) s))) [
+      | true ↦ far_smaller c s h
+      | false ↦ far_fewer (index - c) s h
     ]
 
 counted_smaller : (count : ℕ) (f : Gapped) → 1 ≤ count → proxies_in (smaller_gap count f) + 1 ≡ count + proxies_in f
@@ -309,7 +338,7 @@ pub within_fewer : {most_roots most_slots : ℕ} {roots : Gapped} {n m : ℕ} (i
 within_fewer {most_roots} {most_slots} {roots} {n} {m} index h less sum =
     let some = h.some in
     let few = h.few in
-    let light = h.light in
+    let small = h.small in
     let counted = h.counted in
     let few_proxies = h.few_proxies in
     let w = width_fewer index roots h.trees in
@@ -319,8 +348,9 @@ within_fewer {most_roots} {most_slots} {roots} {n} {m} index h less sum =
       trees = trees_fewer index roots h.trees;
       some = omega arith;
       few = omega arith;
-      light = omega arith;
+      small = omega arith;
       apart = apart_fewer index roots h.apart;
+      far = far_fewer index roots h.far;
       counted = omega arith;
       few_proxies = omega arith;
     }

@@ -9,3 +9,4 @@ pub mod SpotLemmas
 pub mod PlantLemmas
 pub mod FallLemmas
 pub mod DivideLemmas
+pub mod ContentsLemmas

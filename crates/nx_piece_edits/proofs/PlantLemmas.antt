@@ -3,12 +3,11 @@ use Rattle.std.proofs.Common.{◌≡◌, ℕ, zero, suc, ◌+◌, ◌-◌, ◌�
 use Rattle.std.specs.List.{slice_get, insert}
 use Rattle.std.proofs.lemmas.Bool.{cases_lt}
 use Rattle.std.proofs.lemmas.List.{drop-drop, length-append, length-drop, length-take-le}
-use Rattle.nx_tree.specs.declared.node.Node.{Node}
-use Rattle.nx_weights.specs.Weight.{weight}
+use Rattle.nx_piece.specs.PieceNode.{MayBeFar, PieceNode, node_weight, item_slots}
 use Rattle.nx_piece.specs.declared.piece.Piece.{Piece}
 use Rattle.nx_piece.specs.declared.piece.Proxy.{Proxy}
-use Rattle.nx_piece.specs.Gapped.{Gapped, GappedTree, End, Grow, Gap, gapped_width, item_slots, gapped_size, gapped_weight, proxies_in, with_gap}
-use Rattle.nx_piece.specs.Valid.{AreApart, AreTrees, HaveRoots, IsBodyWithin, IsPiece}
+use Rattle.nx_piece.specs.Gapped.{Gapped, GappedTree, End, Grow, Gap, gapped_width, gapped_size, proxies_in, with_gap}
+use Rattle.nx_piece.specs.Valid.{AreApart, AreFar, AreTrees, HaveRoots, IsBodyWithin, IsPiece}
 use Rattle.nx_piece.specs.Locate.{PieceChild, Kept, Inside, roots_of, kept_from, children_of, reached, reached_in}
 use Rattle.nx_piece.proofs.SizeLemmas.{gapped_sum, sum_is_weight, sum_is_size}
 use Rattle.nx_piece.proofs.LocateLemmas.{get_in_front, get_behind, kept_length, ranged_drop, ranged_take}
@@ -18,51 +17,54 @@ use Rattle.nx_piece_edits.specs.Planting.{passed, put_at, put_below, FallsApart,
 use Rattle.nx_piece_edits.specs.declared.setting.NodeEdit.{NodeEdit}
 use Rattle.nx_piece_edits.specs.Editing.{node_edited}
 use Rattle.nx_piece_edits.proofs.TakeLemmas.{led_nowhere}
-use Rattle.nx_piece_edits.proofs.LeftLemmas.{all_kept, passes_kept, tree_reached, first_reached, apart_gap, proxies_gap, sum_gap, ranged_append}
+use Rattle.nx_piece_edits.proofs.LeftLemmas.{all_kept, passes_kept, tree_reached, first_reached, apart_gap, proxies_gap, sum_gap, far_gap, ranged_append}
 use Rattle.nx_piece_edits.proofs.SetLemmas.{KeepsForm, set_keeps, within_more}
 use Rattle.nx_piece_edits.proofs.PassedLemmas.{all_are_passed, passes_one, put_inside, put_beyond}
 
 -- what is put adds so much by each measure of nodes, and so many proxies, and leaves gaps apart
-pub record PutsMore (put : Gapped → Gapped) (added : (Node → ℕ) → ℕ) (more : ℕ) : Type 0 where
-  pub sums : (measure : Node → ℕ) (f : Gapped) → gapped_sum measure (put f) ≡ gapped_sum measure f + added measure
+pub record PutsMore (put : Gapped → Gapped) (added : (PieceNode → ℕ) → ℕ) (more : ℕ) (May : Type 0) : Type 0 where
+  pub sums : (measure : PieceNode → ℕ) (f : Gapped) → gapped_sum measure (put f) ≡ gapped_sum measure f + added measure
   pub counted : (f : Gapped) → proxies_in (put f) ≡ proxies_in f + more
   pub apart : (f : Gapped) → AreApart f → AreApart (put f)
+  pub far : May → (f : Gapped) → AreFar f → AreFar (put f)
 
 -- what a node and a proxy add
-abbrev leaf : Node → (Node → ℕ) → ℕ
+abbrev leaf : PieceNode → (PieceNode → ℕ) → ℕ
 leaf node measure = measure node
 
-abbrev nothing : (Node → ℕ) → ℕ
+abbrev nothing : (PieceNode → ℕ) → ℕ
 nothing measure = 0
 
-leaf_more : (node : Node) → PutsMore (λ f. Grow node End f) (leaf node) 0
-leaf_more node = record { sums = λ measure f. omega arith; counted = λ f. omega arith; apart = λ f h. (tt, h) }
+leaf_more : (node : PieceNode) → PutsMore (λ f. Grow node End f) (leaf node) 0 (MayBeFar node)
+leaf_more node = record { sums = λ measure f. omega arith; counted = λ f. omega arith; apart = λ f h. (tt, h); far = λ m f h. (m, tt, h) }
 
-proxy_more : PutsMore (λ f. with_gap 1 f) nothing 1
+proxy_more : PutsMore (λ f. with_gap 1 f) nothing 1 (Unit {0})
 proxy_more = record {
   sums = λ measure f. let w = sum_gap measure 1 f in omega (arith, w);
   counted = λ f. let c = proxies_gap 1 f in omega (arith, c);
   apart = λ f h. apart_gap 1 f (omega arith) h;
+  far = λ m f h. far_gap 1 f h;
 }
 
 -- how trees and gaps change
-pub record IsMore (f g : Gapped) (added : (Node → ℕ) → ℕ) (more : ℕ) : Type 0 where
-  pub sums : (measure : Node → ℕ) → gapped_sum measure g ≡ gapped_sum measure f + added measure
+pub record IsMore (f g : Gapped) (added : (PieceNode → ℕ) → ℕ) (more : ℕ) (May : Type 0) : Type 0 where
+  pub sums : (measure : PieceNode → ℕ) → gapped_sum measure g ≡ gapped_sum measure f + added measure
   pub counted : proxies_in g ≡ proxies_in f + more
   pub apart : AreApart g
+  pub far : May → AreFar f → AreFar g
 
-pub put_keeps : {put : Gapped → Gapped} {added : (Node → ℕ) → ℕ} {more : ℕ} → PutsMore put added more → (ps : List Proxy) (first : ℕ) (f : Gapped) (n : ℕ) → FallsApart (children_of ps first f) n → AreApart f → HaveRoots ps → first + proxies_in f ≤ length ps
-    → IsMore f (put_at put n f (drop first ps)) added more
-put_keeps m ps first f zero between apart ranged fits = record { sums = λ measure. m.sums measure f; counted = m.counted f; apart = m.apart f apart }
+pub put_keeps : {put : Gapped → Gapped} {added : (PieceNode → ℕ) → ℕ} {more : ℕ} {May : Type 0} → PutsMore put added more May → (ps : List Proxy) (first : ℕ) (f : Gapped) (n : ℕ) → FallsApart (children_of ps first f) n → AreApart f → HaveRoots ps → first + proxies_in f ≤ length ps
+    → IsMore f (put_at put n f (drop first ps)) added more May
+put_keeps m ps first f zero between apart ranged fits = record { sums = λ measure. m.sums measure f; counted = m.counted f; apart = m.apart f apart; far = λ y h. m.far y f h }
 put_keeps m ps first End (suc n) between apart ranged fits = let w = between.within in absurd (omega (arith, w))
-put_keeps {put} {added} {more} m ps first (Grow node b s) (suc n) between apart ranged fits =
+put_keeps {put} {added} {more} {May} m ps first (Grow node b s) (suc n) between apart ranged fits =
     let within = between.within in
     let rest : FallsApart (children_of ps (first + proxies_in b) s) n = record { within = omega (arith, within); apart = λ k i e. between.apart k i e } in
-    let h : IsMore s (put_at put n s (drop (proxies_in b) (drop first ps))) added more =
-    subst (λ qs. IsMore s (put_at put n s qs) added more) (sym (drop-drop (proxies_in b) first ps)) (put_keeps m ps (first + proxies_in b) s n rest apart.1 ranged (omega (arith, fits))) in
+    let h : IsMore s (put_at put n s (drop (proxies_in b) (drop first ps))) added more May =
+    subst (λ qs. IsMore s (put_at put n s qs) added more May) (sym (drop-drop (proxies_in b) first ps)) (put_keeps m ps (first + proxies_in b) s n rest apart.1 ranged (omega (arith, fits))) in
     let c = h.counted in
-    record { sums = λ measure. let w = h.sums measure in omega (arith, w); counted = omega (arith, c); apart = (apart.0, h.apart) }
-put_keeps {put} {added} {more} m ps first (Gap c s) (suc n) between apart ranged fits =
+    record { sums = λ measure. let w = h.sums measure in omega (arith, w); counted = omega (arith, c); apart = (apart.0, h.apart); far = λ y k. (k.0, k.1, h.far y k.2) }
+put_keeps {put} {added} {more} {May} m ps first (Gap c s) (suc n) between apart ranged fits =
     let own : List Proxy = take c (drop first ps) in
     let others : List PieceChild = children_of ps (first + c) s in
     let some : 1 ≤ c = apart.0 in
@@ -76,10 +78,11 @@ put_keeps {put} {added} {more} m ps first (Gap c s) (suc n) between apart ranged
           let rest : Gapped = Gap (c - q) s in
           let p = m.counted rest in
           let y = proxies_gap q (put rest) in
-          subst (λ g. IsMore (Gap c s) g added more) (sym (put_inside put (suc n) c s (drop first ps) (omega arith) inside)) (record {
+          subst (λ g. IsMore (Gap c s) g added more May) (sym (put_inside put (suc n) c s (drop first ps) (omega arith) inside)) (record {
             sums = λ measure. let w = m.sums measure rest in let x = sum_gap measure q (put rest) in omega (arith, w, x);
             counted = omega (arith, p, y, inside);
             apart = apart_gap q (put rest) one (m.apart rest ((omega (arith, inside)), apart.1, apart.2));
+            far = λ y k. far_gap q (put rest) (m.far y rest k);
           })
       | inr beyond ↦
           let roots = all_are_passed (suc n) own (omega (arith, beyond, taken)) in
@@ -90,54 +93,56 @@ put_keeps {put} {added} {more} m ps first (Gap c s) (suc n) between apart ranged
           let there = ap (slice_get (kept_from first own ++ others)) place ∙ get_behind (kept_from first own) others left in
           let rest : FallsApart others left = record { within = omega (arith, within, sum, place); apart = λ k i e. between.apart k i (there ∙ e) } in
           let g : Gapped = put_at put left s (drop c (drop first ps)) in
-          let h : IsMore s g added more =
-          subst (λ qs. IsMore s (put_at put left s qs) added more) (sym (drop-drop c first ps)) (put_keeps m ps (first + c) s left rest apart.2 ranged (omega (arith, fits))) in
+          let h : IsMore s g added more May =
+          subst (λ qs. IsMore s (put_at put left s qs) added more May) (sym (drop-drop c first ps)) (put_keeps m ps (first + c) s left rest apart.2 ranged (omega (arith, fits))) in
           let p = h.counted in
           let y = proxies_gap c g in
-          subst (λ f. IsMore (Gap c s) f added more) (sym (put_beyond put (suc n) c s (drop first ps) (omega arith) beyond)) (record {
+          subst (λ f. IsMore (Gap c s) f added more May) (sym (put_beyond put (suc n) c s (drop first ps) (omega arith) beyond)) (record {
             sums = λ measure. let w = h.sums measure in let x = sum_gap measure c g in omega (arith, w, x);
             counted = omega (arith, p, y);
             apart = apart_gap c g some h.apart;
+            far = λ y k. far_gap c g (h.far y k);
           })
     ]
 
 -- a tree that a path leads to has its proxies among those of the whole, and its gaps apart
 pub led_part : (ps : List Proxy) (first used position : ℕ) (path : List ℕ) (f : Gapped) (t : GappedTree) (before : ℕ) → led ps first f used position path ≡ Inside t before
-    → (before + proxies_in t.below ≤ first + proxies_in f) × (AreApart f → AreApart t.below)
+    → (before + proxies_in t.below ≤ first + proxies_in f) × (AreApart f → AreApart t.below) × (AreFar f → MayBeFar t.node × AreFar t.below)
 led_part ps first used position path End t before e = absurd (led_nowhere ps used path t before e)
 led_part ps first used zero [] (Grow n b s) t before e =
     let own : GappedTree = record { node = n; below = b } in
     let same : own ≡ t = ap (tree_reached own) e in
     let place : first ≡ before = ap first_reached e in
     let below = ap (λ (u : GappedTree). proxies_in u.below) same in
-    (omega (arith, place, below), λ h. subst (λ (u : GappedTree). AreApart u.below) same h.0)
+    (omega (arith, place, below), λ h. subst (λ (u : GappedTree). AreApart u.below) same h.0, λ h. subst (λ (u : GappedTree). MayBeFar u.node × AreFar u.below) same (h.0, h.1))
 led_part ps first used zero (next ∷ path) (Grow n b s) t before e =
     let h = led_part ps first (used + 1) next path b t before e in
     let fits : before + proxies_in t.below ≤ first + proxies_in b = h.0 in
-    (omega (arith, fits), λ a. h.1 a.0)
+    (omega (arith, fits), λ a. h.1 a.0, λ a. h.2 a.1)
 led_part ps first used (suc position) path (Grow n b s) t before e =
     let h = led_part ps (first + proxies_in b) used position path s t before e in
     let fits : before + proxies_in t.below ≤ first + proxies_in b + proxies_in s = h.0 in
-    (omega (arith, fits), λ a. h.1 a.1)
+    (omega (arith, fits), λ a. h.1 a.1, λ a. h.2 a.2)
 led_part ps first used position path (Gap c s) t before e =
     let kept : List PieceChild = kept_from first (take c (drop first ps)) in
     let p = passes_kept ps used path kept (children_of ps (first + c) s) position t before (all_kept first (take c (drop first ps))) e in
     let h = led_part ps (first + c) used p.0 path s t before p.2 in
     let fits : before + proxies_in t.below ≤ first + c + proxies_in s = h.0 in
-    (omega (arith, fits), λ a. h.1 a.2)
+    (omega (arith, fits), λ a. h.1 a.2, λ a. h.2 a)
 
 -- trees and gaps in which something is put below a node
-pub record IsGrown (f g : Gapped) (added : (Node → ℕ) → ℕ) (more : ℕ) : Type 0 where
-  pub sums : (measure : Node → ℕ) → gapped_sum measure g ≡ gapped_sum measure f + added measure
+pub record IsGrown (f g : Gapped) (added : (PieceNode → ℕ) → ℕ) (more : ℕ) (May : Type 0) : Type 0 where
+  pub sums : (measure : PieceNode → ℕ) → gapped_sum measure g ≡ gapped_sum measure f + added measure
   pub counted : proxies_in g ≡ proxies_in f + more
   pub apart : AreApart g
+  pub far : May → AreFar g
   pub width : gapped_width g ≡ gapped_width f
   pub trees : AreTrees f → AreTrees g
 
-below_grown : {put : Gapped → Gapped} {added : (Node → ℕ) → ℕ} {more : ℕ} → PutsMore put added more → (piece : Piece) (member : ℕ) (path : List ℕ) (position : ℕ) (tree : GappedTree) (first : ℕ) → IsPiece piece → reached_in piece member path ≡ Inside tree first
+below_grown : {put : Gapped → Gapped} {added : (PieceNode → ℕ) → ℕ} {more : ℕ} {May : Type 0} → PutsMore put added more May → (piece : Piece) (member : ℕ) (path : List ℕ) (position : ℕ) (tree : GappedTree) (first : ℕ) → IsPiece piece → reached_in piece member path ≡ Inside tree first
     → FallsApart (children_of piece.proxies first tree.below) position
-    → IsGrown piece.body.roots (with_tree member path (put_below put position tree (drop first piece.proxies)) piece.body.roots piece.proxies) added more
-below_grown {put} {added} {more} m piece member path position tree first h leads between =
+    → IsGrown piece.body.roots (with_tree member path (put_below put position tree (drop first piece.proxies)) piece.body.roots piece.proxies) added more May
+below_grown {put} {added} {more} {May} m piece member path position tree first h leads between =
     let new : GappedTree = put_below put position tree (drop first piece.proxies) in
     let part = led_part piece.proxies 0 0 member path piece.body.roots tree first leads in
     let within : first + proxies_in tree.below ≤ 0 + proxies_in piece.body.roots = part.0 in
@@ -150,12 +155,13 @@ below_grown {put} {added} {more} m piece member path position tree first h leads
       sums = λ measure. let w = k.sums measure in let x = own.sums measure in omega (arith, w, x);
       counted = omega (arith, c, y);
       apart = k.apart h.body.apart (λ _. own.apart);
+      far = λ y. k.far h.body.far (part.2 h.body.far).0 (λ _. own.far y (part.2 h.body.far).1);
       width = k.width;
       trees = k.trees;
     }
 
-grown_within : {most_roots slots more_slots n more : ℕ} {added : (Node → ℕ) → ℕ} {f g : Gapped} → IsBodyWithin most_roots slots f n → IsGrown f g added more → gapped_size g ≤ more_slots → n + more ≤ 524288 → IsBodyWithin most_roots more_slots g (n + more)
-grown_within {most_roots} {slots} {more_slots} {n} {more} {added} {f} {g} h k light room =
+grown_within : {most_roots slots more_slots n more : ℕ} {added : (PieceNode → ℕ) → ℕ} {May : Type 0} {f g : Gapped} → IsBodyWithin most_roots slots f n → IsGrown f g added more May → May → gapped_size g ≤ more_slots → n + more ≤ 524288 → IsBodyWithin most_roots more_slots g (n + more)
+grown_within {most_roots} {slots} {more_slots} {n} {more} {added} {May} {f} {g} h k may small room =
     let width = k.width in
     let counts = k.counted in
     let some = h.some in
@@ -165,8 +171,9 @@ grown_within {most_roots} {slots} {more_slots} {n} {more} {added} {f} {g} h k li
       trees = k.trees h.trees;
       some = omega (arith, width, some);
       few = omega (arith, width, few);
-      light = light;
+      small = small;
       apart = k.apart;
+      far = k.far may;
       counted = omega (arith, counts, counted);
       few_proxies = room;
     }
@@ -174,12 +181,12 @@ grown_within {most_roots} {slots} {more_slots} {n} {more} {added} {f} {g} h k li
 no_more : {most_roots slots n : ℕ} {f : Gapped} → IsBodyWithin most_roots slots f (n + 0) → IsBodyWithin most_roots slots f n
 no_more {most_roots} {slots} {n} {f} h = subst (λ (k : ℕ). IsBodyWithin most_roots slots f k) (let e : n + 0 ≡ n = omega arith in e) h
 
-pub node_is : (piece : Piece) (member : ℕ) (path : List ℕ) (position : ℕ) (node : Node) (roots : Gapped) (tree : GappedTree) (first : ℕ) → IsPiece piece → reached_in piece member path ≡ Inside tree first
+pub node_is : (piece : Piece) (member : ℕ) (path : List ℕ) (position : ℕ) (node : PieceNode) (roots : Gapped) (tree : GappedTree) (first : ℕ) → IsPiece piece → reached_in piece member path ≡ Inside tree first
     → FallsApart (children_of piece.proxies first tree.below) position → roots ≡ with_tree member path (put_below (λ f. Grow node End f) position tree (drop first piece.proxies)) piece.body.roots piece.proxies
     → IsWithNode piece member path position node (record { body = record { roots = roots }; proxies = piece.proxies })
 node_is piece member path position node roots tree first h leads between is =
-    let k : IsGrown piece.body.roots roots (leaf node) 0 = subst (λ g. IsGrown piece.body.roots g (leaf node) 0) (sym is) (below_grown (leaf_more node) piece member path position tree first h leads between) in
-    let weights = k.sums weight in
+    let k : IsGrown piece.body.roots roots (leaf node) 0 (MayBeFar node) = subst (λ g. IsGrown piece.body.roots g (leaf node) 0 (MayBeFar node)) (sym is) (below_grown (leaf_more node) piece member path position tree first h leads between) in
+    let weights = k.sums node_weight in
     let sizes = k.sums item_slots in
     let sized : gapped_size roots ≡ gapped_size piece.body.roots + item_slots node = omega (arith, sizes, sum_is_size roots, sum_is_size piece.body.roots) in
     record {
@@ -190,11 +197,11 @@ node_is piece member path position node roots tree first h leads between is =
       proxies = refl;
       weighs = omega (arith, weights, sum_is_weight roots, sum_is_weight piece.body.roots);
       sized = sized;
-      heavy = λ v most.
-          let light = v.body.light in
+      large = λ v may most.
+          let small = v.body.small in
           let few = v.body.few_proxies in
-          record { body = within_more (no_more (grown_within {more_slots = 512} v.body k (omega (arith, sized, light, most)) (omega (arith, few)))) (omega arith) (omega arith); ranged = v.ranged };
-      valid = λ v most. let few = v.body.few_proxies in record { body = no_more (grown_within v.body k most (omega (arith, few))); ranged = v.ranged };
+          record { body = within_more (no_more (grown_within {more_slots = 512} v.body k may (omega (arith, sized, small, most)) (omega (arith, few)))) (omega arith) (omega arith); ranged = v.ranged };
+      valid = λ v may most. let few = v.body.few_proxies in record { body = no_more (grown_within v.body k may most (omega (arith, few))); ranged = v.ranged };
     }
 
 one_longer : (ps : List Proxy) (index : ℕ) (proxy : Proxy) → index ≤ length ps → length (insert ps index proxy) ≡ length ps + 1
@@ -209,8 +216,8 @@ pub proxy_is : (piece : Piece) (member : ℕ) (path : List ℕ) (position index 
     → roots ≡ with_tree member path (put_below (λ f. with_gap 1 f) position tree (drop first piece.proxies)) piece.body.roots piece.proxies → proxies ≡ insert piece.proxies index proxy
     → IsWithProxyAt piece member path position index proxy (record { body = record { roots = roots }; proxies = proxies })
 proxy_is piece member path position index proxy roots proxies tree first h leads between within is now =
-    let k : IsGrown piece.body.roots roots nothing 1 = subst (λ g. IsGrown piece.body.roots g nothing 1) (sym is) (below_grown proxy_more piece member path position tree first h leads between) in
-    let weights = k.sums weight in
+    let k : IsGrown piece.body.roots roots nothing 1 (Unit {0}) = subst (λ g. IsGrown piece.body.roots g nothing 1 (Unit {0})) (sym is) (below_grown proxy_more piece member path position tree first h leads between) in
+    let weights = k.sums node_weight in
     let sizes = k.sums item_slots in
     let long : length piece.proxies + 1 ≡ length proxies = sym (ap length now ∙ one_longer piece.proxies index proxy within) in
     let ranged : 1 ≤ proxy.roots → proxy.roots ≤ 256 → HaveRoots proxies = λ some most.
@@ -225,11 +232,11 @@ proxy_is piece member path position index proxy roots proxies tree first h leads
       weighs = omega (arith, weights, sum_is_weight roots, sum_is_weight piece.body.roots);
       sized = same;
       stays = λ some most room.
-          let light = h.body.light in
-          record { body = subst (λ (n : ℕ). IsBodyWithin 257 512 roots n) long (grown_within h.body k (omega (arith, same, light)) (omega (arith, room))); ranged = ranged some most };
+          let small = h.body.small in
+          record { body = subst (λ (n : ℕ). IsBodyWithin 257 512 roots n) long (grown_within h.body k tt (omega (arith, same, small)) (omega (arith, room))); ranged = ranged some most };
       valid = λ v some most room.
-          let light = v.body.light in
-          record { body = subst (λ (n : ℕ). IsBodyWithin 256 256 roots n) long (grown_within v.body k (omega (arith, same, light)) (omega (arith, room))); ranged = ranged some most };
+          let small = v.body.small in
+          record { body = subst (λ (n : ℕ). IsBodyWithin 256 256 roots n) long (grown_within v.body k tt (omega (arith, same, small)) (omega (arith, room))); ranged = ranged some most };
     }
 
 -- roots in which the node that a path leads to was edited

@@ -2,7 +2,7 @@
 use Rattle.std.proofs.Common.{◌≡◌, ℕ, zero, suc, ◌+◌, ◌<◌, ◌≤◌, List, [], ◌∷◌, ◌++◌, Option, None, Some, length, take, drop, set, refl, sym, ap, ap₂, ◌∙◌, subst, arith}
 use Rattle.std.specs.List.{slice_get}
 use Rattle.std.proofs.lemmas.List.{drop-drop, set_split}
-use Rattle.nx_tree.specs.declared.node.Node.{Node}
+use Rattle.nx_piece.specs.PieceNode.{PieceNode}
 use Rattle.nx_piece.specs.declared.piece.Proxy.{Proxy}
 use Rattle.nx_piece.specs.Gapped.{Gapped, GappedTree, End, Grow, Gap, proxies_in, grown_of}
 use Rattle.nx_piece.specs.Valid.{AreApart}
@@ -83,7 +83,7 @@ root_taken_on {roots} {proxies} {first} {member} {before} {t} next path (Some cu
   below.0,
   (λ used. led_on proxies first member before used next path (grown_of roots) t e ∙ below.1 (used + 1)),
   grown_set roots member new (there_within roots member t (root_there h))
-      ∙ ap₂ (λ (n : Node) (b : Gapped). grown_before (take member roots) (Grow n b (grown_of (drop (suc member) roots)))) node below.2
+      ∙ ap₂ (λ (n : PieceNode) (b : Gapped). grown_before (take member roots) (Grow n b (grown_of (drop (suc member) roots)))) node below.2
       ∙ sym (h.cut (next ∷ path)),
 )
 

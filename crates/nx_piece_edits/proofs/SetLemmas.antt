@@ -1,15 +1,16 @@
 -- Another tree in the place of one of a piece.
 use Rattle.std.proofs.Common.{◌≡◌, ℕ, zero, suc, ◌+◌, ◌-◌, ◌≤◌, List, [], ◌∷◌, length, take, drop, set, refl, sym, ap, ap₂, ◌∙◌, subst, arith}
 use Rattle.std.proofs.lemmas.List.{drop-drop}
-use Rattle.nx_tree.specs.declared.node.Node.{Node}
-use Rattle.nx_weights.specs.Weight.{weight}
+use Rattle.std.specs.Prelude.{Option}
+use Rattle.nx_piece.specs.declared.piece.Far.{Far}
+use Rattle.nx_piece.specs.PieceNode.{MayBeFar, PieceNode, node_weight, item_slots}
 use Rattle.nx_piece.specs.declared.piece.Item.{Item}
 use Rattle.nx_piece.specs.declared.piece.Item.TheVariants.{Tree}
 use Rattle.nx_piece.specs.declared.piece.Piece.{Piece}
 use Rattle.nx_piece.specs.declared.piece.Proxy.{Proxy}
-use Rattle.nx_piece.specs.Gapped.{Gapped, GappedTree, End, Grow, Gap, gapped_width, item_slots, gapped_size, proxies_in, grown_of}
+use Rattle.nx_piece.specs.Gapped.{Gapped, GappedTree, End, Grow, Gap, gapped_width, gapped_size, proxies_in, grown_of}
 use Rattle.nx_piece.specs.Items.{gapped_of}
-use Rattle.nx_piece.specs.Valid.{AreApart, AreTrees, BeginsNoGap, IsBodyWithin}
+use Rattle.nx_piece.specs.Valid.{AreApart, AreFar, AreTrees, BeginsNoGap, IsBodyWithin}
 use Rattle.nx_piece.specs.Locate.{PieceChild, Inside, roots_of, kept_from, children_of, reached_in}
 use Rattle.nx_piece.specs.Found.{StandsAmong}
 use Rattle.nx_piece_edits.specs.Taking.{led}
@@ -24,12 +25,13 @@ use Rattle.nx_piece_edits.proofs.ShortLemmas.{item_set}
 
 -- What stays of trees and gaps in which one tree is replaced, and how much more each measure of nodes says of them.
 pub record KeepsForm (f g : Gapped) (t new : GappedTree) : Type 0 where
-  pub sums : (measure : Node → ℕ) → gapped_sum measure g + (measure t.node + gapped_sum measure t.below) ≡ gapped_sum measure f + (measure new.node + gapped_sum measure new.below)
+  pub sums : (measure : PieceNode → ℕ) → gapped_sum measure g + (measure t.node + gapped_sum measure t.below) ≡ gapped_sum measure f + (measure new.node + gapped_sum measure new.below)
   pub width : gapped_width g ≡ gapped_width f
   pub trees : AreTrees f → AreTrees g
   pub begins : BeginsNoGap f → BeginsNoGap g
   pub apart : AreApart f → (AreApart t.below → AreApart new.below) → AreApart g
   pub counted : proxies_in g + proxies_in t.below ≡ proxies_in f + proxies_in new.below
+  pub far : AreFar f → MayBeFar new.node → (AreFar t.below → AreFar new.below) → AreFar g
 
 form_here : (t new : GappedTree) (s : Gapped) → KeepsForm (Grow t.node t.below s) (Grow new.node new.below s) t new
 form_here t new s = record {
@@ -38,26 +40,29 @@ form_here t new s = record {
   trees = λ h. h;
   begins = λ h. tt;
   apart = λ h k. (k h.0, h.1);
+  far = λ h m k. (m, k h.1, h.2);
   counted = omega arith;
 }
 
-form_below : (n : Node) (b g s : Gapped) (t new : GappedTree) → KeepsForm b g t new → KeepsForm (Grow n b s) (Grow n g s) t new
+form_below : (n : PieceNode) (b g s : Gapped) (t new : GappedTree) → KeepsForm b g t new → KeepsForm (Grow n b s) (Grow n g s) t new
 form_below n b g s t new h = record {
   sums = λ measure. let w = h.sums measure in omega arith;
   width = refl;
   trees = λ x. x;
   begins = λ x. tt;
   apart = λ x k. (h.apart x.0 k, x.1);
+  far = λ x m k. (x.0, h.far x.1 m k, x.2);
   counted = let c = h.counted in omega arith;
 }
 
-form_beside : (n : Node) (b s g : Gapped) (t new : GappedTree) → KeepsForm s g t new → KeepsForm (Grow n b s) (Grow n b g) t new
+form_beside : (n : PieceNode) (b s g : Gapped) (t new : GappedTree) → KeepsForm s g t new → KeepsForm (Grow n b s) (Grow n b g) t new
 form_beside n b s g t new h = record {
   sums = λ measure. let w = h.sums measure in omega arith;
   width = ap (λ (w : ℕ). 1 + w) h.width;
   trees = λ x. h.trees x;
   begins = λ x. tt;
   apart = λ x k. (x.0, h.apart x.1 k);
+  far = λ x m k. (x.0, x.1, h.far x.2 m k);
   counted = let c = h.counted in omega arith;
 }
 
@@ -68,6 +73,7 @@ form_gap count s g t new h = record {
   trees = λ x. absurd x;
   begins = λ x. absurd x;
   apart = λ x k. (x.0, h.begins x.1, h.apart x.2 k);
+  far = h.far;
   counted = let c = h.counted in omega arith;
 }
 
@@ -95,8 +101,8 @@ set_keeps proxies first used position path (Gap c s) t before new e =
 
 -- A piece in which a node has another content:
 
-pub content_within : {most_roots slots more : ℕ} {roots g : Gapped} {n : ℕ} {t new : GappedTree} → IsBodyWithin most_roots slots roots n → KeepsForm roots g t new → new.below ≡ t.below → gapped_size g ≤ more → IsBodyWithin most_roots more g n
-content_within {most_roots} {slots} {more} {roots} {g} {n} {t} {new} h k same light =
+pub content_within : {most_roots slots more : ℕ} {roots g : Gapped} {n : ℕ} {t new : GappedTree} → IsBodyWithin most_roots slots roots n → KeepsForm roots g t new → new.below ≡ t.below → MayBeFar new.node → gapped_size g ≤ more → IsBodyWithin most_roots more g n
+content_within {most_roots} {slots} {more} {roots} {g} {n} {t} {new} h k same may small =
     let width = k.width in
     let counts = k.counted in
     let some = h.some in
@@ -107,32 +113,34 @@ content_within {most_roots} {slots} {more} {roots} {g} {n} {t} {new} h k same li
       trees = k.trees h.trees;
       some = omega (arith, width, some);
       few = omega (arith, width, few);
-      light = light;
+      small = small;
       apart = k.apart h.apart (λ a. subst AreApart (sym same) a);
+      far = k.far h.far may (λ a. subst AreFar (sym same) a);
       counted = omega (arith, counts, counted, below);
       few_proxies = h.few_proxies;
     }
 
 pub within_more : {roots slots most more : ℕ} {f : Gapped} {n : ℕ} → IsBodyWithin roots slots f n → roots ≤ most → slots ≤ more → IsBodyWithin most more f n
-within_more {roots} {slots} {most} {more} {f} {n} h wide heavy =
+within_more {roots} {slots} {most} {more} {f} {n} h wide large =
     let few = h.few in
-    let light = h.light in
+    let small = h.small in
     record {
       trees = h.trees;
       some = h.some;
       few = omega (arith, few, wide);
-      light = omega (arith, light, heavy);
+      small = omega (arith, small, large);
       apart = h.apart;
+      far = h.far;
       counted = h.counted;
       few_proxies = h.few_proxies;
     }
 
-pub content_is : (piece : Piece) (member : ℕ) (path content : List ℕ) (roots : Gapped) (tree : GappedTree) (first : ℕ) → reached_in piece member path ≡ Inside tree first
-    → roots ≡ with_tree member path (with_content content tree) piece.body.roots piece.proxies → IsWithContent piece member path content (record { body = record { roots = roots }; proxies = piece.proxies })
-content_is piece member path content roots tree first e is =
-    let new : GappedTree = with_content content tree in
+pub content_is : (piece : Piece) (member : ℕ) (path content : List ℕ) (far : Option Far) (roots : Gapped) (tree : GappedTree) (first : ℕ) → reached_in piece member path ≡ Inside tree first
+    → roots ≡ with_tree member path (with_content content far tree) piece.body.roots piece.proxies → IsWithContent piece member path content far (record { body = record { roots = roots }; proxies = piece.proxies })
+content_is piece member path content far roots tree first e is =
+    let new : GappedTree = with_content content far tree in
     let k : KeepsForm piece.body.roots roots tree new = subst (λ g. KeepsForm piece.body.roots g tree new) (sym is) (set_keeps piece.proxies 0 0 member path piece.body.roots tree first new e) in
-    let weights = k.sums weight in
+    let weights = k.sums node_weight in
     let sizes = k.sums item_slots in
     let sized : gapped_size roots + item_slots tree.node ≡ gapped_size piece.body.roots + item_slots new.node =
     omega (arith, sizes, sum_is_size roots, sum_is_size piece.body.roots) in
@@ -144,15 +152,15 @@ content_is piece member path content roots tree first e is =
       proxies = refl;
       weighs = omega (arith, weights, sum_is_weight roots, sum_is_weight piece.body.roots);
       sized = sized;
-      heavy = λ v most.
-          let light = v.body.light in
-          record { body = within_more (content_within {more = 512} v.body k refl (omega (arith, sized, light, most))) (omega arith) (omega arith); ranged = v.ranged };
-      valid = λ v most. record { body = content_within v.body k refl most; ranged = v.ranged };
+      large = λ v may most.
+          let small = v.body.small in
+          record { body = within_more (content_within {more = 512} v.body k refl may (omega (arith, sized, small, most))) (omega arith) (omega arith); ranged = v.ranged };
+      valid = λ v may most. record { body = content_within v.body k refl may most; ranged = v.ranged };
     }
 
 -- Where it was set:
 
-abbrev pub pair : Node → Gapped → GappedTree
+abbrev pub pair : PieceNode → Gapped → GappedTree
 pair node below = record { node = node; below = below }
 
 with_first : (path : List ℕ) (new t : GappedTree) (s : Gapped) (proxies : List Proxy) → with_tree 0 path new (Grow t.node t.below s) proxies ≡ (let u : GappedTree = tree_with path new t proxies in Grow u.node u.below s)

@@ -1,7 +1,7 @@
 -- Runs that get one proxy shorter.
 use Rattle.std.proofs.Common.{◌≡◌, ℕ, zero, suc, ◌+◌, ◌-◌, ◌<◌, ◌≤◌, List, [], ◌∷◌, ◌++◌, length, take, drop, set, refl, sym, ap, ap₂, ◌∙◌, arith}
 use Rattle.std.proofs.lemmas.List.{drop_all, set_split}
-use Rattle.nx_tree.specs.declared.node.Node.{Node}
+use Rattle.nx_piece.specs.PieceNode.{PieceNode}
 use Rattle.nx_piece.specs.declared.piece.Item.{Item}
 use Rattle.nx_piece.specs.declared.piece.Item.TheVariants.{Tree, Run}
 use Rattle.nx_piece.specs.Gapped.{Gapped, GappedTree, Grow, Gap, proxies_in, grown_of}
@@ -95,7 +95,7 @@ pub tree_shorter : {items : List Item} {index : ℕ} {found : ℕ × ℕ} (t new
 tree_shorter {items} {index} {found} t new h d less node below =
     let rest : Gapped = gapped_of (drop (found.0 + 1) items) in
     item_set items found.0 (Tree new) (there_within items found.0 (Tree t) d)
-    ∙ ap₂ (λ (n : Node) (b : Gapped). items_before (take found.0 items) (Grow n b rest)) node below
+    ∙ ap₂ (λ (n : PieceNode) (b : Gapped). items_before (take found.0 items) (Grow n b rest)) node below
     ∙ ap (λ (f : Gapped). items_before (take found.0 items) f) (sym (less_is found.1 (proxies_in t.below) (Grow t.node (without_proxy found.1 t.below) rest) (Grow t.node t.below (without_proxy (found.1 - proxies_in t.below) rest)) less))
     ∙ ap (λ (xs : List Item). items_before (take found.0 items) (without_proxy found.1 (gapped_of xs))) (sym d)
     ∙ sym h.same
@@ -203,7 +203,7 @@ root_shorter {roots} {index} {found} new h node below =
     let next : suc found.0 ≡ found.0 + 1 = omega arith in
     grown_set roots found.0 new (there_within roots found.0 t h.there)
     ∙ ap (λ (n : ℕ). grown_before (take found.0 roots) (Grow new.node new.below (grown_of (drop n roots)))) next
-    ∙ ap₂ (λ (n : Node) (b : Gapped). grown_before (take found.0 roots) (Grow n b rest)) node below
+    ∙ ap₂ (λ (n : PieceNode) (b : Gapped). grown_before (take found.0 roots) (Grow n b rest)) node below
     ∙ ap (λ (f : Gapped). grown_before (take found.0 roots) f) (sym (less_is found.1 (proxies_in t.below) (Grow t.node (without_proxy found.1 t.below) rest) (Grow t.node t.below (without_proxy (found.1 - proxies_in t.below) rest)) h.within))
     ∙ ap (λ (xs : List GappedTree). grown_before (take found.0 roots) (without_proxy found.1 (grown_of xs))) (sym h.there)
     ∙ sym h.same
@@ -215,7 +215,7 @@ pub tree_wider : {items : List Item} {index : ℕ} {found : ℕ × ℕ} (count :
 tree_wider {items} {index} {found} count t new h d less node below =
     let rest : Gapped = gapped_of (drop (found.0 + 1) items) in
     item_set items found.0 (Tree new) (there_within items found.0 (Tree t) d)
-    ∙ ap₂ (λ (n : Node) (b : Gapped). items_before (take found.0 items) (Grow n b rest)) node below
+    ∙ ap₂ (λ (n : PieceNode) (b : Gapped). items_before (take found.0 items) (Grow n b rest)) node below
     ∙ ap (λ (f : Gapped). items_before (take found.0 items) f)
     (sym (less_is found.1 (proxies_in t.below) (Grow t.node (with_row found.1 count t.below) rest) (Grow t.node t.below (with_row (found.1 - proxies_in t.below) count rest)) less))
     ∙ ap (λ (xs : List Item). items_before (take found.0 items) (with_row found.1 count (gapped_of xs))) (sym d)
@@ -239,7 +239,7 @@ root_wider {roots} {index} {found} count new h node below =
     let next : suc found.0 ≡ found.0 + 1 = omega arith in
     grown_set roots found.0 new (there_within roots found.0 t h.there)
     ∙ ap (λ (n : ℕ). grown_before (take found.0 roots) (Grow new.node new.below (grown_of (drop n roots)))) next
-    ∙ ap₂ (λ (n : Node) (b : Gapped). grown_before (take found.0 roots) (Grow n b rest)) node below
+    ∙ ap₂ (λ (n : PieceNode) (b : Gapped). grown_before (take found.0 roots) (Grow n b rest)) node below
     ∙ ap (λ (f : Gapped). grown_before (take found.0 roots) f)
     (sym (less_is found.1 (proxies_in t.below) (Grow t.node (with_row found.1 count t.below) rest) (Grow t.node t.below (with_row (found.1 - proxies_in t.below) count rest)) h.within))
     ∙ ap (λ (xs : List GappedTree). grown_before (take found.0 roots) (with_row found.1 count (grown_of xs))) (sym h.there)

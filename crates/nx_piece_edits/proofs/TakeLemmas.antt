@@ -2,7 +2,7 @@
 use Rattle.std.proofs.Common.{◌≡◌, ℕ, zero, suc, ◌+◌, ◌-◌, ◌<◌, ◌≤◌, List, [], ◌∷◌, ◌++◌, Option, None, Some, length, take, drop, get_or, set, refl, sym, ap, ap₂, ◌∙◌, subst, arith, append_assoc}
 use Rattle.std.specs.List.{slice_get}
 use Rattle.std.proofs.lemmas.List.{drop-drop, drop_all, length-drop, get_or-drop, take-append-drop, take_more_set, drop-set-lt, set_split}
-use Rattle.nx_tree.specs.declared.node.Node.{Node}
+use Rattle.nx_piece.specs.PieceNode.{PieceNode}
 use Rattle.nx_piece.specs.declared.piece.Item.{Item}
 use Rattle.nx_piece.specs.declared.piece.Item.TheVariants.{Tree, Run}
 use Rattle.nx_piece.specs.declared.piece.Proxy.{Proxy}
@@ -224,7 +224,7 @@ tree_changes {items} {proxies} {first} {position} {before} {index} {t} {new} nex
     let front : AreApart (gapped_of (take index items)) = apart_front (take index items) (drop index items) (subst (λ xs. AreApart (gapped_of xs)) (sym (take-append-drop index items)) apart) in
     ap gapped_of (set_split items index (Tree new) within ∙ ap (λ (n : ℕ). take index items ++ Tree new ∷ drop n items) one)
     ∙ sym (with_items_apart (take index items) (Tree new ∷ beside) front (tree_behind (take index items) (gapped_of (Tree new ∷ beside)) tt))
-    ∙ ap₂ (λ (n : Node) (b : Gapped). with_items (take index items) (Grow n b (gapped_of beside))) node below
+    ∙ ap₂ (λ (n : PieceNode) (b : Gapped). with_items (take index items) (Grow n b (gapped_of beside))) node below
     ∙ sym (stands_cut (next ∷ path) h ∙ ap (λ (xs : List Item). with_items (take index items) (without_tree 0 (next ∷ path) (gapped_of xs) (drop before proxies))) h.there)
 
 -- Where a path leads that leads to a tree first:

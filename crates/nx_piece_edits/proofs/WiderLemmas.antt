@@ -5,7 +5,7 @@ use Rattle.std.proofs.lemmas.List.{length-drop, length-take-le}
 use Rattle.nx_piece.specs.declared.piece.Piece.{Piece}
 use Rattle.nx_piece.specs.declared.piece.Proxy.{Proxy}
 use Rattle.nx_piece.specs.Gapped.{Gapped, End, Grow, Gap, gapped_width, gapped_size, proxies_in}
-use Rattle.nx_piece.specs.Valid.{AreApart, AreTrees, BeginsNoGap, HaveRoots}
+use Rattle.nx_piece.specs.Valid.{AreApart, AreFar, AreTrees, BeginsNoGap, HaveRoots}
 use Rattle.nx_piece_edits.specs.Cutting.{with_row, IsWithRow}
 use Rattle.nx_piece.proofs.LocateLemmas.{ranged_take, ranged_drop}
 use Rattle.nx_piece_edits.proofs.LeftLemmas.{less_is, not_less, ranged_append}
@@ -17,10 +17,11 @@ pub record KeepsWider (index count : ℕ) (f g : Gapped) : Type 0 where
   pub sized : gapped_size g ≡ gapped_size f
   pub begins : BeginsNoGap f → BeginsNoGap g
   pub apart : 1 ≤ count → AreApart f → AreApart g
+  pub far : AreFar f → AreFar g
   pub counted : index < proxies_in f → proxies_in g + 1 ≡ proxies_in f + count
 
 pub wider_keeps : (index count : ℕ) (f : Gapped) → KeepsWider index count f (with_row index count f)
-wider_keeps index count End = record { trees = λ h. h; width = refl; sized = refl; begins = λ h. h; apart = λ some h. h; counted = λ less. absurd (omega (arith, less)) }
+wider_keeps index count End = record { trees = λ h. h; width = refl; sized = refl; begins = λ h. h; apart = λ some h. h; far = λ h. h; counted = λ less. absurd (omega (arith, less)) }
 wider_keeps index count (Grow n b s) =
     elim (cases_lt index (proxies_in b)) [
       | inl here ↦
@@ -31,6 +32,7 @@ wider_keeps index count (Grow n b s) =
             sized = let w = r.sized in omega (arith, w);
             begins = λ h. tt;
             apart = λ some h. (r.apart some h.0, h.1);
+            far = λ h. (h.0, r.far h.1, h.2);
             counted = λ less. let c = r.counted here in omega (arith, c);
           })
       | inr behind ↦
@@ -41,6 +43,7 @@ wider_keeps index count (Grow n b s) =
             sized = let w = r.sized in omega (arith, w);
             begins = λ h. tt;
             apart = λ some h. (h.0, r.apart some h.1);
+            far = λ h. (h.0, h.1, r.far h.2);
             counted = λ less. let c = r.counted (omega (arith, less, behind)) in omega (arith, c);
           })
     ]
@@ -53,6 +56,7 @@ wider_keeps index count (Gap had s) =
             sized = refl;
             begins = λ h. absurd h;
             apart = λ some h. ((omega (arith, some)), h.1, h.2);
+            far = λ h. h;
             counted = λ less. omega (arith, here);
           })
       | inr behind ↦
@@ -63,6 +67,7 @@ wider_keeps index count (Gap had s) =
             sized = r.sized;
             begins = λ h. absurd h;
             apart = λ some h. (h.0, r.begins h.1, r.apart some h.2);
+            far = r.far;
             counted = λ less. let c = r.counted (omega (arith, less, behind)) in omega (arith, c);
           })
     ]
@@ -85,14 +90,15 @@ row_put piece index row roots proxies within some body is = record {
       let sized = k.sized in
       let one = v.body.some in
       let few = v.body.few in
-      let light = v.body.light in
+      let small = v.body.small in
       record {
         body = record {
           trees = k.trees v.body.trees;
           some = omega (arith, width, one);
           few = omega (arith, width, few);
-          light = omega (arith, sized, light);
+          small = omega (arith, sized, small);
           apart = k.apart some v.body.apart;
+          far = k.far v.body.far;
           counted = omega (arith, now, counted, sum);
           few_proxies = omega (arith, sum, room);
         };

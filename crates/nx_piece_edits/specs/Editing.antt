@@ -13,20 +13,20 @@ use Rattle.nx_piece_edits.specs.Planting.{put_in_gap, put_at, put_below, FallsAp
 
 -- the tree with it done; the proxies are those of its gaps
 abbrev pub node_edited : NodeEdit → GappedTree → List Proxy → GappedTree
-node_edited (Content content) tree proxies = with_content content tree
-node_edited (Leaf position node) tree proxies = put_below (λ f. Grow node End f) position tree proxies
+node_edited (Content content far) tree proxies = with_content content far tree
+node_edited (Leaf position node far) tree proxies = put_below (λ f. Grow (record { node = node; far = far }) End f) position tree proxies
 node_edited (OneProxy position) tree proxies = put_below (λ f. with_gap 1 f) position tree proxies
 
 -- where something is planted, it falls between children
 abbrev pub HasPlace : NodeEdit → List PieceChild → Type 0
-HasPlace (Content content) children = Unit {0}
-HasPlace (Leaf position node) children = FallsApart children position
+HasPlace (Content content far) children = Unit {0}
+HasPlace (Leaf position node far) children = FallsApart children position
 HasPlace (OneProxy position) children = FallsApart children position
 
 -- it may take memory
 abbrev pub MayGrow : NodeEdit → Type 0
-MayGrow (Content content) = ⊥
-MayGrow (Leaf position node) = Unit {0}
+MayGrow (Content content far) = ⊥
+MayGrow (Leaf position node far) = Unit {0}
 MayGrow (OneProxy position) = Unit {0}
 
 -- the path leads to a tree with a place for it

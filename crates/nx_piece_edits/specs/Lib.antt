@@ -5,3 +5,4 @@ pub mod Setting
 pub mod Planting
 pub mod Dividing
 pub mod Editing
+pub mod Contents

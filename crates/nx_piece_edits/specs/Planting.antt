@@ -1,11 +1,10 @@
 -- A node or a proxy planted into a piece.
 use Rattle.std.specs.Prelude.{◌≡◌, ℕ, zero, suc, ◌+◌, ◌-◌, ◌<◌, ◌≤◌, nat_le, nat_lt, if◌then◌else◌, List, [], ◌∷◌, ◌++◌, length, take, drop, Some}
 use Rattle.std.specs.List.{slice_get}
-use Rattle.nx_tree.specs.declared.node.Node.{Node}
-use Rattle.nx_weights.specs.Weight.{weight}
+use Rattle.nx_piece.specs.PieceNode.{MayBeFar, PieceNode, node_weight, item_slots}
 use Rattle.nx_piece.specs.declared.piece.Piece.{Piece}
 use Rattle.nx_piece.specs.declared.piece.Proxy.{Proxy}
-use Rattle.nx_piece.specs.Gapped.{Gapped, GappedTree, End, Grow, Gap, gapped_width, item_slots, gapped_size, gapped_weight, proxies_in, with_gap}
+use Rattle.nx_piece.specs.Gapped.{Gapped, GappedTree, End, Grow, Gap, gapped_width, gapped_size, gapped_weight, proxies_in, with_gap}
 use Rattle.nx_piece.specs.Valid.{IsPiece, IsValidPiece}
 use Rattle.nx_piece.specs.Locate.{PieceChild, Kept, Inside, roots_of, children_of, reached_in}
 use Rattle.nx_piece_edits.specs.declared.falling.Fall.{Fall}
@@ -62,16 +61,16 @@ LeadsBetween piece member path position =
     (tree : GappedTree) × (first : ℕ) × (reached_in piece member path ≡ Inside tree first) × FallsApart (children_of piece.proxies first tree.below) position
 
 -- The node stands at the position below the one that the path leads to. A valid piece may be split then, where the node's item takes no more slots than a piece's may, and is valid where all of them take no more.
-pub record IsWithNode (piece : Piece) (member : ℕ) (path : List ℕ) (position : ℕ) (node : Node) (grown : Piece) : Type 0 where
+pub record IsWithNode (piece : Piece) (member : ℕ) (path : List ℕ) (position : ℕ) (node : PieceNode) (grown : Piece) : Type 0 where
   pub tree : GappedTree
   pub first : ℕ
   pub leads : reached_in piece member path ≡ Inside tree first
   pub body : grown.body.roots ≡ with_tree member path (put_below (λ f. Grow node End f) position tree (drop first piece.proxies)) piece.body.roots piece.proxies
   pub proxies : grown.proxies ≡ piece.proxies
-  pub weighs : gapped_weight grown.body.roots ≡ gapped_weight piece.body.roots + weight node
+  pub weighs : gapped_weight grown.body.roots ≡ gapped_weight piece.body.roots + node_weight node
   pub sized : gapped_size grown.body.roots ≡ gapped_size piece.body.roots + item_slots node
-  pub heavy : IsValidPiece piece → item_slots node ≤ 256 → IsPiece grown
-  pub valid : IsValidPiece piece → gapped_size grown.body.roots ≤ 256 → IsValidPiece grown
+  pub large : IsValidPiece piece → MayBeFar node → item_slots node ≤ 256 → IsPiece grown
+  pub valid : IsValidPiece piece → MayBeFar node → gapped_size grown.body.roots ≤ 256 → IsValidPiece grown
 
 -- The proxy stands at the position below the node that the path leads to, and at the index among all.
 pub record IsWithProxyAt (piece : Piece) (member : ℕ) (path : List ℕ) (position index : ℕ) (proxy : Proxy) (grown : Piece) : Type 0 where
@@ -86,11 +85,11 @@ pub record IsWithProxyAt (piece : Piece) (member : ℕ) (path : List ℕ) (posit
   pub valid : IsValidPiece piece → 1 ≤ proxy.roots → proxy.roots ≤ 256 → length piece.proxies < 524288 → IsValidPiece grown
 
 -- The node is a root at the index. A valid piece may be split then, where the node's item takes no more slots than a piece's may, and is valid where all of them take no more and it has a place for one root more.
-pub record IsWithRoot (piece : Piece) (member : ℕ) (node : Node) (grown : Piece) : Type 0 where
+pub record IsWithRoot (piece : Piece) (member : ℕ) (node : PieceNode) (grown : Piece) : Type 0 where
   pub body : grown.body.roots ≡ put_at (λ f. Grow node End f) member piece.body.roots piece.proxies
   pub proxies : grown.proxies ≡ piece.proxies
-  pub weighs : gapped_weight grown.body.roots ≡ gapped_weight piece.body.roots + weight node
+  pub weighs : gapped_weight grown.body.roots ≡ gapped_weight piece.body.roots + node_weight node
   pub sized : gapped_size grown.body.roots ≡ gapped_size piece.body.roots + item_slots node
   pub width : gapped_width grown.body.roots ≡ gapped_width piece.body.roots + 1
-  pub heavy : IsValidPiece piece → item_slots node ≤ 256 → IsPiece grown
-  pub valid : IsValidPiece piece → gapped_size grown.body.roots ≤ 256 → gapped_width grown.body.roots ≤ 256 → IsValidPiece grown
+  pub large : IsValidPiece piece → MayBeFar node → item_slots node ≤ 256 → IsPiece grown
+  pub valid : IsValidPiece piece → MayBeFar node → gapped_size grown.body.roots ≤ 256 → gapped_width grown.body.roots ≤ 256 → IsValidPiece grown

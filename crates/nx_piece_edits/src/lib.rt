@@ -7,6 +7,7 @@
 
 mod cutting;
 mod falling;
+mod laws;
 mod planting;
 mod roots;
 mod setting;
@@ -15,6 +16,7 @@ mod widening;
 
 pub use cutting::{Removed, remove_tree};
 pub use falling::{Fall, fall_at};
+pub use laws::{edits_bring_content, edits_keep_contents};
 pub use planting::{plant_node, plant_proxy};
 pub use roots::{divide_roots, plant_root};
 pub use setting::set_content;

@@ -13,14 +13,15 @@ ghost use Rattle.nx_piece_edits.specs.Editing.{HasLongerRun};
 use crate::falling::spot_at;
 use crate::setting::{NodeEdit, edit_root};
 use nx_lists::NoMemory;
-use nx_piece::{Body, Item, Items, Piece, PieceTree, PieceTrees, Proxies, Proxy};
+use nx_piece::{Body, Far, Item, Items, Piece, PieceTree, PieceTrees, Proxies, Proxy};
 use nx_tree::Node;
 use std::alloc::Global;
 use std::mem;
 
 /// The piece with the node as a leaf at the position among the children of the node that the path leads to, which begins at
-/// the root `member`. The position falls between children there, as `fall_at` tells. A valid piece stays one where its
-/// nodes take 256 slots at most then, and may be split where the node takes no more than that.
+/// the root `member`. The position falls between children there, as `fall_at` tells. Where `far` is there, the node's
+/// content stands elsewhere, and is empty here. A valid piece stays one where its nodes take 256 slots at most then, and
+/// may be split where the node takes no more than that; a far content has to be as one may be.
 ///
 /// Errors: `NoMemory`. The piece and the node are dropped then.
 pub fn plant_node(
@@ -30,14 +31,15 @@ pub fn plant_node(
     path: &[u32],
     position: u32,
     node: Node,
+    far: Option<Far>,
 ) -> Result<Piece, NoMemory>
     requires piece { IsPiece piece }
     requires leads { LeadsBetween piece member path.now position }
-    ensures { IfOk result (λ grown. IsWithNode piece member path.now position node grown) }
+    ensures { IfOk result (λ grown. IsWithNode piece member path.now position (record { node = node; far = far }) grown) }
 {
     let Piece { body, proxies } = piece;
     let mut roots = body.roots.into_vec();
-    let edit = NodeEdit::Leaf(position, node);
+    let edit = NodeEdit::Leaf(position, node, far);
     edit_root(alloc, &mut roots, proxies.as_slice(), member, path, edit)?;
     Ok(Piece {
         body: Body {
@@ -89,13 +91,14 @@ pub(crate) fn put_leaf(
     first: u32,
     position: u32,
     node: Node,
+    far: Option<Far>,
 ) -> Result<(), NoMemory>
     requires fits { first + proxies_in tree.old.below ≤ length proxies.now }
     requires few { length proxies.now ≤ 524288 }
     requires apart { AreApart tree.old.below }
     requires ranged { HaveRoots proxies.now }
     requires between { FallsApart (children_of proxies.now first tree.old.below) position }
-    ensures { OnOk result (tree.new ≡ put_below (λ f. Gapped.Grow node Gapped.End f) position tree.old (drop first proxies.now)) }
+    ensures { OnOk result (tree.new ≡ put_below (λ f. Gapped.Grow (record { node = node; far = far }) Gapped.End f) position tree.old (drop first proxies.now)) }
 {
     let (index, before) = spot_at(tree.children.as_slice(), proxies, first, position);
     let mut items = mem::replace(&mut tree.children, Items::new(alloc)).into_vec();
@@ -104,7 +107,11 @@ pub(crate) fn put_leaf(
         &mut items,
         index,
         before,
-        Item::Tree(PieceTree { node, children }),
+        Item::Tree(PieceTree {
+            node,
+            far,
+            children,
+        }),
     )?;
     tree.children = Items::from_vec(items);
     Ok(())

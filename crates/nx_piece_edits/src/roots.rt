@@ -6,22 +6,36 @@ ghost use Rattle.nx_piece_edits.specs.Planting.{IsWithRoot};
 ghost use Rattle.nx_piece_edits.specs.Dividing.{AreDivided};
 
 use nx_lists::NoMemory;
-use nx_piece::{Body, Items, Piece, PieceTree, PieceTrees, Proxies, root_at};
+use nx_piece::{Body, Far, Items, Piece, PieceTree, PieceTrees, Proxies, root_at};
 use nx_tree::Node;
 use std::alloc::Global;
 
-/// The piece with the node as a root at the index `member`, which is a leaf. A valid piece stays one where its nodes
-/// take 256 slots at most then and it has 256 roots at most, and may be split where the node takes no more than that.
+/// The piece with the node as a root at the index `member`, which is a leaf. Where `far` is there, the node's content
+/// stands elsewhere, and is empty here. A valid piece stays one where its nodes take 256 slots at most then and it has 256
+/// roots at most, and may be split where the node takes no more than that; a far content has to be as one may be.
 ///
 /// Errors: `NoMemory`. The piece and the node are dropped then.
-pub fn plant_root(alloc: Global, piece: Piece, member: u16, node: Node) -> Result<Piece, NoMemory>
+pub fn plant_root(
+    alloc: Global,
+    piece: Piece,
+    member: u16,
+    node: Node,
+    far: Option<Far>,
+) -> Result<Piece, NoMemory>
     requires { member ≤ gapped_width piece.body.roots }
-    ensures { IfOk result (λ grown. IsWithRoot piece member node grown) }
+    ensures { IfOk result (λ grown. IsWithRoot piece member (record { node = node; far = far }) grown) }
 {
     let Piece { body, proxies } = piece;
     let mut roots = body.roots.into_vec();
     let children = Items::new(alloc);
-    roots.insert(usize::from(member), PieceTree { node, children })?;
+    roots.insert(
+        usize::from(member),
+        PieceTree {
+            node,
+            far,
+            children,
+        },
+    )?;
     Ok(Piece {
         body: Body {
             roots: PieceTrees::from_vec(roots),

@@ -10,7 +10,7 @@ ghost use Rattle.nx_piece_edits.specs.Editing.{node_edited, HasPlace, LeadsToPla
 use crate::planting::{put_leaf, put_proxy};
 use nx_lists::NoMemory;
 use nx_piece::{
-    Body, FoundChild, Item, Items, Piece, PieceTree, PieceTrees, Proxy, child_at, root_at,
+    Body, Far, FoundChild, Item, Items, Piece, PieceTree, PieceTrees, Proxy, child_at, root_at,
 };
 use nx_tree::{Bytes, Node};
 use std::alloc::Global;
@@ -19,24 +19,33 @@ use std::mem;
 // What is done with a node.
 #[derive(Drop)]
 pub(crate) enum NodeEdit {
-    Content(Bytes),
+    // The content stands elsewhere where that is said.
+    Content(Bytes, Option<Far>),
     // A leaf comes before the child at the position.
-    Leaf(u32, Node),
+    Leaf(u32, Node, Option<Far>),
     // So does a proxy.
     OneProxy(u32),
 }
 
 /// The piece with this content of the node that the path leads to, which begins at the root `member`: to a tree of the
-/// piece, as `locate` tells. A valid piece stays one where its nodes take 256 slots at most then, and may be split where
-/// that node does. It takes no memory.
-pub fn set_content(alloc: Global, piece: Piece, member: u16, path: &[u32], content: Bytes) -> Piece
+/// piece, as `locate` tells. Where `far` is there, the content stands elsewhere, and is empty here. A valid piece stays one
+/// where its nodes take 256 slots at most then, and may be split where that node does; a far content has to be as one may
+/// be. It takes no memory.
+pub fn set_content(
+    alloc: Global,
+    piece: Piece,
+    member: u16,
+    path: &[u32],
+    content: Bytes,
+    far: Option<Far>,
+) -> Piece
     requires piece { IsPiece piece }
     requires leads { LeadsInside piece member path.now }
-    ensures { IsWithContent piece member path.now content result }
+    ensures { IsWithContent piece member path.now content far result }
 {
     let Piece { body, proxies } = piece;
     let mut roots = body.roots.into_vec();
-    let edit = NodeEdit::Content(content);
+    let edit = NodeEdit::Content(content, far);
     match edit_root(alloc, &mut roots, proxies.as_slice(), member, path, edit) {
         Ok(()) => Piece {
             body: Body {
@@ -137,11 +146,14 @@ fn edit_node(
     ensures err { IfErr result (λ _. MayGrow edit) }
 {
     match edit {
-        NodeEdit::Content(content) => {
+        NodeEdit::Content(content, far) => {
             tree.node.content = content;
+            tree.far = far;
             Ok(())
         }
-        NodeEdit::Leaf(position, node) => put_leaf(alloc, tree, proxies, first, position, node),
+        NodeEdit::Leaf(position, node, far) => {
+            put_leaf(alloc, tree, proxies, first, position, node, far)
+        }
         NodeEdit::OneProxy(position) => put_proxy(alloc, tree, proxies, first, position),
     }
 }

@@ -24,3 +24,4 @@ pub mod PrefixLemmas
 pub mod WriterLemmas
 pub mod FieldLemmas
 pub mod PathLemmas
+pub mod StartLemmas

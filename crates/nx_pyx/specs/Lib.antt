@@ -5,6 +5,7 @@ pub mod Open
 pub mod Word
 pub mod Reading
 pub mod Text
+pub mod LineStart
 pub mod Line
 pub mod Names
 pub mod Builder

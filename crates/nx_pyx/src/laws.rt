@@ -1,7 +1,9 @@
 //! What holds of the notation itself, apart from the code that reads and writes it.
-ghost use Rattle.std.specs.Prelude.{ℕ, ◌+◌, ◌≤◌, All, List, ◌⊎◌, ◌≡◌, ◌↔◌, ◌∷◌, [], true, None, Some, is_some};
+ghost use Rattle.std.specs.Prelude.{ℕ, ◌+◌, ◌≤◌, All, List, ◌⊎◌, ◌≡◌, ◌↔◌, ◌∷◌, ◌++◌, [], length, true, false, None, Some, is_some};
 ghost use Rattle.std.specs.List.{list_any, count_by};
+ghost use Rattle.nx_tree.specs.declared.node.Kind.{Kind};
 ghost use Rattle.nx_tree.specs.Document.{IsDocument};
+ghost use Rattle.nx_tree.specs.Edit.{has_children};
 ghost use Rattle.nx_tree.specs.Forest.{OrderedTree};
 ghost use Rattle.nx_pyx.specs.Event.{Event, event_by};
 ghost use Rattle.nx_pyx.specs.Fault.{early_fault, events_of, first_fault, makes_node, standing};
@@ -9,13 +11,21 @@ ghost use Rattle.nx_pyx.specs.Open.{OpenAre, is_start, EndWithAttributes};
 ghost use Rattle.nx_pyx.specs.Outcome.{HasOneReading, HasOneFault, StaysTooLong};
 ghost use Rattle.nx_pyx.specs.declared.error.PyxFault.TheVariants.{LongLine};
 ghost use Rattle.nx_pyx.specs.Reading.{Reads};
-ghost use Rattle.nx_pyx.specs.Text.{text};
+ghost use Rattle.nx_pyx.specs.Text.{text, escaped, node_line};
+ghost use Rattle.nx_pyx.specs.LineStart.{line_start};
 ghost use Rattle.nx_pyx.specs.Field.{greatest_position, is_path, positions_of};
 ghost use Rattle.nx_pyx.specs.Path.{path_text};
 
 /// The canonical text of a document reads as that document.
 pub fn writing()
     ensures { (tree : OrderedTree) → IsDocument tree → Reads (text tree) tree }
+{}
+
+/// The line of a node with a content is how it begins and then the content with its escapes, which are those of its
+/// parts one after the other.
+pub fn line_in_parts()
+    ensures line { (kind : Kind) (name content : List ℕ) → has_children kind ≡ false → 1 ≤ length content → node_line kind name content ≡ line_start kind name ++ escaped content }
+    ensures parts { (front back : List ℕ) → escaped (front ++ back) ≡ escaped front ++ escaped back }
 {}
 
 /// Every byte list either reads as exactly one document or has exactly one fault.

@@ -3,6 +3,7 @@ ghost use Rattle.std.specs.Prelude.{◌≡◌, ◌≢◌, ◌<◌, ◌≤◌, �
 ghost use Rattle.std.specs.List.{list_any};
 ghost use Rattle.nx_pyx.specs.Event.{Event};
 ghost use Rattle.nx_pyx.specs.Text.{text, text_of, escape, escaped, node_line};
+ghost use Rattle.nx_pyx.specs.LineStart.{line_start};
 ghost use Rattle.nx_pyx.specs.Escape.{needs_escape};
 
 use crate::scan::{self, Escaped};
@@ -193,6 +194,33 @@ pub fn push_parts_line(
     Ok(())
 }
 
+/// Adds the line of a node of this kind and with this name to the block, up to its content. That comes behind it, as a whole
+/// or in parts, by `push_escaped`. A node without a content has a line of its own, by `push_node_line`.
+///
+/// Errors: `NoMemory`. The first of these bytes may then stand behind what the block had.
+pub fn push_line_start(block: &mut Bytes, kind: Kind, name: &[u8]) -> Result<(), NoMemory>
+    ensures ok { OnOk result (block.new ≡ block.old ++ line_start kind name.now) }
+    ensures prefix { (n : ℕ) × (block.new ≡ block.old ++ take n (line_start kind name.now)) }
+{
+    match kind {
+        Kind::Doc => block.extend_from_slice(b"#doc"),
+        Kind::Element => push_name(block, b'(', name),
+        Kind::Attribute => push_name_before_content(block, b'A', name),
+        Kind::Text => block.push(b'-'),
+        Kind::Instruction => push_name_before_content(block, b'?', name),
+    }
+}
+
+// Adds a byte, a name behind it, and a space.
+fn push_name_before_content(block: &mut Bytes, before: u8, name: &[u8]) -> Result<(), NoMemory>
+    ensures ok { OnOk result (block.new ≡ block.old ++ before ∷ name.now ++ 32 ∷ []) }
+    ensures prefix { (n : ℕ) × (block.new ≡ block.old ++ take n (before ∷ name.now ++ 32 ∷ [])) }
+{
+    push_name(block, before, name)?;
+    block.push(b' ')?;
+    Ok(())
+}
+
 // Adds a byte and a name behind it.
 fn push_name(block: &mut Bytes, before: u8, name: &[u8]) -> Result<(), NoMemory>
     ensures ok { OnOk result (block.new ≡ block.old ++ before ∷ name.now) }
@@ -212,8 +240,10 @@ fn push_content(block: &mut Bytes, before: u8, content: &[u8]) -> Result<(), NoM
     push_escaped(block, content)
 }
 
-// Adds a content with its escapes.
-fn push_escaped(block: &mut Bytes, content: &[u8]) -> Result<(), NoMemory>
+/// Adds a content, or a part of one, with its escapes.
+///
+/// Errors: `NoMemory`. The first of these bytes may then stand behind what the block had.
+pub fn push_escaped(block: &mut Bytes, content: &[u8]) -> Result<(), NoMemory>
     ensures ok { OnOk result (block.new ≡ block.old ++ escaped content.now) }
     ensures prefix { (n : ℕ) × (block.new ≡ block.old ++ take n (escaped content.now)) }
 {

@@ -6,10 +6,10 @@ use Rattle.std.proofs.lemmas.List.{map-append}
 use Rattle.std.proofs.lemmas.List.Sums.{sum-map}
 use Rattle.std.proofs.lemmas.Simd.{map-map}
 use Rattle.nx_tree.specs.declared.node.Node.{Node}
-use Rattle.nx_weights.specs.Weight.{weight}
 use Rattle.nx_matrix.specs.declared.rule.Entry.{Entry}
 use Rattle.nx_matrix.specs.declared.rule.Entry.TheVariants.{Free}
 use Rattle.nx_matrix.specs.declared.rule.Rule.{Rule}
+use Rattle.nx_piece.specs.PieceNode.{node_weight}
 use Rattle.nx_piece.specs.declared.piece.Piece.{Piece}
 use Rattle.nx_piece.specs.declared.piece.Proxy.{Proxy}
 use Rattle.nx_piece.specs.Gapped.{Gapped, End, Grow, Gap, proxies_in}
@@ -47,11 +47,11 @@ bare-placed : (rules : List Rule) (proxies : List Proxy) (asks : Node → Entry)
 bare-placed rules proxies asks first position End path = refl
 bare-placed rules proxies asks first position (Grow n b s) path =
     let here = path ++ position ∷ [] in
-    let own : Placed = record { path = here; weight = weight n; entry = Free } in
-    let inner = placed_in here (sketch_in rules proxies (asked rules n) first 0 b) in
+    let own : Placed = record { path = here; weight = node_weight n; entry = Free } in
+    let inner = placed_in here (sketch_in rules proxies (asked rules n.node) first 0 b) in
     let others = placed_in path (sketch_in rules proxies asks (first + proxies_in b) (position + 1) s) in
     ap (λ l. own ∷ l) (map-append bare inner others
-    ∙ (λ i. bare-placed rules proxies (asked rules n) first 0 b here i ++ bare-placed rules proxies asks (first + proxies_in b) (position + 1) s path i))
+    ∙ (λ i. bare-placed rules proxies (asked rules n.node) first 0 b here i ++ bare-placed rules proxies asks (first + proxies_in b) (position + 1) s path i))
 bare-placed rules proxies asks first position (Gap c s) path = bare-placed rules proxies asks (first + c) (position + positions proxies first c) s path
 
 bare-piece : (rules : List Rule) (above : Option Node) (piece : Piece) → map bare (placed_of rules above piece) ≡ placed_of [] None piece

@@ -5,9 +5,9 @@ use Rattle.std.proofs.lemmas.Bool.{cases_lt}
 use Rattle.std.proofs.lemmas.List.Elements.{Contains-append_left, Contains-append_right, Contains-append_cases}
 use Rattle.nx_lists.proofs.ListLemmas.{contains_here, contains_there}
 use Rattle.nx_tree.specs.declared.node.Node.{Node}
-use Rattle.nx_weights.specs.Weight.{weight}
 use Rattle.nx_matrix.specs.declared.rule.Entry.{Entry}
 use Rattle.nx_matrix.specs.declared.rule.Rule.{Rule}
+use Rattle.nx_piece.specs.PieceNode.{node_weight, PieceNode}
 use Rattle.nx_piece.specs.declared.piece.Proxy.{Proxy}
 use Rattle.nx_piece.specs.Gapped.{Gapped, GappedTree, End, Grow, Gap, proxies_in}
 use Rattle.nx_piece.specs.Locate.{PieceChild, Own, Kept, roots_from, kept_from, children_of, Inside, reached}
@@ -28,10 +28,10 @@ record IsLed (proxies : List Proxy) (first position : ℕ) (f : Gapped) (prefix 
   before : ℕ
   path_is : node.path ≡ prefix ++ (position + index) ∷ way
   leads : (used : ℕ) → reached proxies used way (slice_get (children_of proxies first f) index) ≡ Inside tree before
-  weight_is : node.weight ≡ weight tree.node
+  weight_is : node.weight ≡ node_weight tree.node
 
 -- it is the first of them, or stands below that, or beside it
-led_first : (proxies : List Proxy) (first position : ℕ) (n : Node) (b s : Gapped) (prefix : List ℕ) (node : Placed) → node.path ≡ prefix ++ position ∷ [] → node.weight ≡ weight n → IsLed proxies first position (Grow n b s) prefix node
+led_first : (proxies : List Proxy) (first position : ℕ) (n : PieceNode) (b s : Gapped) (prefix : List ℕ) (node : Placed) → node.path ≡ prefix ++ position ∷ [] → node.weight ≡ node_weight n → IsLed proxies first position (Grow n b s) prefix node
 led_first proxies first position n b s prefix node path w = record {
   index = 0;
   way = [];
@@ -42,7 +42,7 @@ led_first proxies first position n b s prefix node path w = record {
   weight_is = w;
 }
 
-led_below : (proxies : List Proxy) (first position : ℕ) (n : Node) (b s : Gapped) (prefix : List ℕ) (node : Placed) → IsLed proxies first 0 b (prefix ++ position ∷ []) node → IsLed proxies first position (Grow n b s) prefix node
+led_below : (proxies : List Proxy) (first position : ℕ) (n : PieceNode) (b s : Gapped) (prefix : List ℕ) (node : Placed) → IsLed proxies first 0 b (prefix ++ position ∷ []) node → IsLed proxies first position (Grow n b s) prefix node
 led_below proxies first position n b s prefix node h = record {
   index = 0;
   way = h.index ∷ h.way;
@@ -55,7 +55,7 @@ led_below proxies first position n b s prefix node h = record {
   weight_is = h.weight_is;
 }
 
-led_beside : (proxies : List Proxy) (first position : ℕ) (n : Node) (b s : Gapped) (prefix : List ℕ) (node : Placed) → IsLed proxies (first + proxies_in b) (position + 1) s prefix node → IsLed proxies first position (Grow n b s) prefix node
+led_beside : (proxies : List Proxy) (first position : ℕ) (n : PieceNode) (b s : Gapped) (prefix : List ℕ) (node : Placed) → IsLed proxies (first + proxies_in b) (position + 1) s prefix node → IsLed proxies first position (Grow n b s) prefix node
 led_beside proxies first position n b s prefix node h = record {
   index = suc h.index;
   way = h.way;
@@ -90,15 +90,15 @@ placed_led : (rules : List Rule) (proxies : List Proxy) (asks : Node → Entry) 
 placed_led rules proxies asks first position End prefix node (n, within, e) = absurd (omega arith)
 placed_led rules proxies asks first position (Grow n b s) prefix node h =
     let here = prefix ++ position ∷ [] in
-    let own : Placed = record { path = here; weight = weight n; entry = asks n } in
-    let inner = placed_in here (sketch_in rules proxies (asked rules n) first 0 b) in
+    let own : Placed = record { path = here; weight = node_weight n; entry = asks n.node } in
+    let inner = placed_in here (sketch_in rules proxies (asked rules n.node) first 0 b) in
     let others = placed_in prefix (sketch_in rules proxies asks (first + proxies_in b) (position + 1) s) in
     elim (Contains-append_cases (own ∷ []) (inner ++ others) node h) [
       | inl at ↦
           let is = one_of own node at in
           led_first proxies first position n b s prefix node (ap (λ (x : Placed). x.path) (sym is)) (ap (λ (x : Placed). x.weight) (sym is))
       | inr more ↦ elim (Contains-append_cases inner others node more) [
-        | inl below ↦ led_below proxies first position n b s prefix node (placed_led rules proxies (asked rules n) first 0 b here node below)
+        | inl below ↦ led_below proxies first position n b s prefix node (placed_led rules proxies (asked rules n.node) first 0 b here node below)
         | inr beside ↦ led_beside proxies first position n b s prefix node (placed_led rules proxies asks (first + proxies_in b) (position + 1) s prefix node beside)
       ]
     ]
@@ -148,7 +148,7 @@ module _ (proxies : List Proxy) (used : ℕ) (way : List ℕ) (tree : GappedTree
 abbrev ArePlaced : List Rule → List Proxy → (Node → Entry) → (first position : ℕ) → Gapped → List ℕ → Type 0
 ArePlaced rules proxies asks first position f prefix =
     (used index : ℕ) (way : List ℕ) (tree : GappedTree) (before : ℕ) → LeadsTo proxies used way (slice_get (children_of proxies first f) index) tree before
-    → (entry : Entry) × Contains (placed_in prefix (sketch_in rules proxies asks first position f)) (record { path = prefix ++ (position + index) ∷ way; weight = weight tree.node; entry = entry })
+    → (entry : Entry) × Contains (placed_in prefix (sketch_in rules proxies asks first position f)) (record { path = prefix ++ (position + index) ∷ way; weight = node_weight tree.node; entry = entry })
 
 moved : (nodes : List Placed) (p q : List ℕ) (w : ℕ) → p ≡ q → (entry : Entry) × Contains nodes (record { path = p; weight = w; entry = entry }) → (entry : Entry) × Contains nodes (record { path = q; weight = w; entry = entry })
 moved nodes p q w is h = (h.0, subst (λ r. Contains nodes (record { path = r; weight = w; entry = h.0 })) is h.1)
@@ -159,26 +159,26 @@ led_placed rules proxies asks first position (Grow n b s) prefix used zero [] tr
     let both : Inside (record { node = n; below = b }) first ≡ Inside tree before = h in
     let same : record { node = n; below = b } ≡ tree = cc in
     let here : prefix ++ position ∷ [] ≡ prefix ++ (position + 0) ∷ [] = ap (λ (p : ℕ). prefix ++ p ∷ []) (let q : position ≡ position + 0 = omega arith in q) in
-    (asks n, contains_here _ _ _ (λ i. record { path = here i; weight = ap (λ (t : GappedTree). weight t.node) same i; entry = asks n }))
+    (asks n.node, contains_here _ _ _ (λ i. record { path = here i; weight = ap (λ (t : GappedTree). node_weight t.node) same i; entry = asks n.node }))
 led_placed rules proxies asks first position (Grow n b s) prefix used zero (step ∷ way) tree before h =
     let here = prefix ++ position ∷ [] in
-    let own : Placed = record { path = here; weight = weight n; entry = asks n } in
-    let inner = placed_in here (sketch_in rules proxies (asked rules n) first 0 b) in
+    let own : Placed = record { path = here; weight = node_weight n; entry = asks n.node } in
+    let inner = placed_in here (sketch_in rules proxies (asked rules n.node) first 0 b) in
     let others = placed_in prefix (sketch_in rules proxies asks (first + proxies_in b) (position + 1) s) in
-    let found = led_placed rules proxies (asked rules n) first 0 b here (used + 1) step way tree before h in
-    let node : Placed = record { path = here ++ (0 + step) ∷ way; weight = weight tree.node; entry = found.0 } in
-    moved (own ∷ inner ++ others) (here ++ (0 + step) ∷ way) (prefix ++ (position + 0) ∷ step ∷ way) (weight tree.node)
+    let found = led_placed rules proxies (asked rules n.node) first 0 b here (used + 1) step way tree before h in
+    let node : Placed = record { path = here ++ (0 + step) ∷ way; weight = node_weight tree.node; entry = found.0 } in
+    moved (own ∷ inner ++ others) (here ++ (0 + step) ∷ way) (prefix ++ (position + 0) ∷ step ∷ way) (node_weight tree.node)
     (append_assoc prefix (position ∷ []) ((0 + step) ∷ way)
     ∙ (let p : position ≡ position + 0 = omega arith in let i : 0 + step ≡ step = omega arith in λ k. prefix ++ p k ∷ i k ∷ way))
     (found.0, contains_there own (inner ++ others) node (Contains-append_left inner others node found.1))
 led_placed rules proxies asks first position (Grow n b s) prefix used (suc index) way tree before h =
     let here = prefix ++ position ∷ [] in
-    let own : Placed = record { path = here; weight = weight n; entry = asks n } in
-    let inner = placed_in here (sketch_in rules proxies (asked rules n) first 0 b) in
+    let own : Placed = record { path = here; weight = node_weight n; entry = asks n.node } in
+    let inner = placed_in here (sketch_in rules proxies (asked rules n.node) first 0 b) in
     let others = placed_in prefix (sketch_in rules proxies asks (first + proxies_in b) (position + 1) s) in
     let found = led_placed rules proxies asks (first + proxies_in b) (position + 1) s prefix used index way tree before h in
-    let node : Placed = record { path = prefix ++ (position + 1 + index) ∷ way; weight = weight tree.node; entry = found.0 } in
-    moved (own ∷ inner ++ others) (prefix ++ (position + 1 + index) ∷ way) (prefix ++ (position + suc index) ∷ way) (weight tree.node)
+    let node : Placed = record { path = prefix ++ (position + 1 + index) ∷ way; weight = node_weight tree.node; entry = found.0 } in
+    moved (own ∷ inner ++ others) (prefix ++ (position + 1 + index) ∷ way) (prefix ++ (position + suc index) ∷ way) (node_weight tree.node)
     (ap (λ (p : ℕ). prefix ++ p ∷ way) (let q : position + 1 + index ≡ position + suc index = omega arith in q))
     (found.0, contains_there own (inner ++ others) node (Contains-append_right inner others node found.1))
 led_placed rules proxies asks first position (Gap c s) prefix used index way tree before h =
@@ -190,7 +190,7 @@ led_placed rules proxies asks first position (Gap c s) prefix used index way tre
       | inr ge ↦
           let place : index ≡ positions proxies first c + (index - positions proxies first c) = omega arith in
           let next = ap (λ (i : ℕ). slice_get (children_of proxies first (Gap c s)) i) place ∙ behind_gap proxies first c (index - positions proxies first c) s in
-          moved (placed_in prefix (sketch_in rules proxies asks (first + c) (position + positions proxies first c) s)) (prefix ++ (position + positions proxies first c + (index - positions proxies first c)) ∷ way) (prefix ++ (position + index) ∷ way) (weight tree.node)
+          moved (placed_in prefix (sketch_in rules proxies asks (first + c) (position + positions proxies first c) s)) (prefix ++ (position + positions proxies first c + (index - positions proxies first c)) ∷ way) (prefix ++ (position + index) ∷ way) (node_weight tree.node)
           (ap (λ (p : ℕ). prefix ++ p ∷ way) (let q : position + positions proxies first c + (index - positions proxies first c) ≡ position + index = omega arith in q))
           (led_placed rules proxies asks (first + c) (position + positions proxies first c) s prefix used (index - positions proxies first c) way tree before
           (sym (ap (λ (x : Option PieceChild). reached proxies used way x) next) ∙ h))
@@ -198,7 +198,7 @@ led_placed rules proxies asks first position (Gap c s) prefix used index way tre
 
 pub listed_where_reached : IsListedWhereReached
 listed_where_reached rules above piece member path tree first h =
-    moved (placed_of rules above piece) ((0 + member) ∷ path) (member ∷ path) (weight tree.node) (ap (λ (m : ℕ). m ∷ path) (let q : 0 + member ≡ member = omega arith in q))
+    moved (placed_of rules above piece) ((0 + member) ∷ path) (member ∷ path) (node_weight tree.node) (ap (λ (m : ℕ). m ∷ path) (let q : 0 + member ≡ member = omega arith in q))
     (led_placed rules piece.proxies (asked_of_root rules above) 0 0 piece.body.roots [] 0 member path tree first h)
 
 pub reached_where_listed : IsReachedWhereListed

@@ -1,9 +1,9 @@
 -- Where the nodes of a piece stand, as a split sees it.
 use Rattle.std.specs.Prelude.{◌≡◌, ℕ, List, ◌∷◌, Option, Contains}
 use Rattle.nx_tree.specs.declared.node.Node.{Node}
-use Rattle.nx_weights.specs.Weight.{weight}
 use Rattle.nx_matrix.specs.declared.rule.Entry.{Entry}
 use Rattle.nx_matrix.specs.declared.rule.Rule.{Rule}
+use Rattle.nx_piece.specs.PieceNode.{node_weight}
 use Rattle.nx_piece.specs.declared.piece.Piece.{Piece}
 use Rattle.nx_piece.specs.Gapped.{GappedTree}
 use Rattle.nx_piece.specs.Locate.{Inside, reached_in}
@@ -14,10 +14,10 @@ use Rattle.nx_split.specs.Piece.{placed_of}
 abbrev pub IsListedWhereReached : Type 0
 IsListedWhereReached =
     (rules : List Rule) (above : Option Node) (piece : Piece) (member : ℕ) (path : List ℕ) (tree : GappedTree) (first : ℕ) → reached_in piece member path ≡ Inside tree first
-    → (entry : Entry) × Contains (placed_of rules above piece) (record { path = member ∷ path; weight = weight tree.node; entry = entry })
+    → (entry : Entry) × Contains (placed_of rules above piece) (record { path = member ∷ path; weight = node_weight tree.node; entry = entry })
 
 -- to each node that is listed its path leads in the piece
 abbrev pub IsReachedWhereListed : Type 0
 IsReachedWhereListed =
     (rules : List Rule) (above : Option Node) (piece : Piece) (node : Placed) → Contains (placed_of rules above piece) node
-    → (member : ℕ) × (path : List ℕ) × (tree : GappedTree) × (first : ℕ) × (node.path ≡ member ∷ path) × (reached_in piece member path ≡ Inside tree first) × (node.weight ≡ weight tree.node)
+    → (member : ℕ) × (path : List ℕ) × (tree : GappedTree) × (first : ℕ) × (node.path ≡ member ∷ path) × (reached_in piece member path ≡ Inside tree first) × (node.weight ≡ node_weight tree.node)

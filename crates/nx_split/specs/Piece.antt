@@ -2,12 +2,12 @@
 use Rattle.std.specs.Prelude.{ℕ, ◌+◌, ◌≤◌, List, take, drop, Option, None, Some}
 use Rattle.std.specs.List.{sum_by}
 use Rattle.nx_tree.specs.declared.node.Node.{Node}
-use Rattle.nx_weights.specs.Weight.{weight}
 use Rattle.nx_matrix.specs.declared.rule.Entry.{Entry}
 use Rattle.nx_matrix.specs.declared.rule.Entry.TheVariants.{Standalone, Cluster, Free}
 use Rattle.nx_matrix.specs.declared.rule.Rule.{Rule}
 use Rattle.nx_matrix.specs.Label.{label}
 use Rattle.nx_matrix.specs.Rules.{entry_of}
+use Rattle.nx_piece.specs.PieceNode.{node_weight}
 use Rattle.nx_piece.specs.declared.piece.Piece.{Piece}
 use Rattle.nx_piece.specs.declared.piece.Proxy.{Proxy}
 use Rattle.nx_piece.specs.Gapped.{Gapped, GappedTree, End, Grow, Gap, proxies_in}
@@ -36,14 +36,14 @@ positions proxies first count = sum_by (λ proxy. proxy.roots) (take count (drop
 abbrev pub sketch_in : List Rule → List Proxy → (Node → Entry) → (first position : ℕ) → Gapped → Sketch
 sketch_in rules proxies asks first position End = Empty
 sketch_in rules proxies asks first position (Grow node below beside) =
-    Plant position (weight node) (asks node) (sketch_in rules proxies (asked rules node) first 0 below)
+    Plant position (node_weight node) (asks node.node) (sketch_in rules proxies (asked rules node.node) first 0 below)
     (sketch_in rules proxies asks (first + proxies_in below) (position + 1) beside)
 sketch_in rules proxies asks first position (Gap count beside) =
     sketch_in rules proxies asks (first + count) (position + positions proxies first count) beside
 
 -- a tree with this position and entry, with nothing beside it
 abbrev pub tree_sketch : List Rule → List Proxy → Entry → (first position : ℕ) → GappedTree → Sketch
-tree_sketch rules proxies entry first position tree = Plant position (weight tree.node) entry (sketch_in rules proxies (asked rules tree.node) first 0 tree.below) Empty
+tree_sketch rules proxies entry first position tree = Plant position (node_weight tree.node) entry (sketch_in rules proxies (asked rules tree.node.node) first 0 tree.below) Empty
 
 -- a piece below the node above it
 abbrev pub sketch_of : List Rule → Option Node → Piece → Sketch
@@ -56,5 +56,5 @@ placed_of rules above piece = placed (sketch_of rules above piece)
 -- none of the nodes weighs more than k
 abbrev pub AreGappedAtMost : ℕ → Gapped → Type 0
 AreGappedAtMost k End = Unit {0}
-AreGappedAtMost k (Grow node below beside) = (weight node ≤ k) × AreGappedAtMost k below × AreGappedAtMost k beside
+AreGappedAtMost k (Grow node below beside) = (node_weight node ≤ k) × AreGappedAtMost k below × AreGappedAtMost k beside
 AreGappedAtMost k (Gap count beside) = AreGappedAtMost k beside

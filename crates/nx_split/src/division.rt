@@ -31,7 +31,7 @@ pub fn separator(
     target: u32,
     tolerance: u32,
 ) -> Result<Marks, NoMemory>
-    requires { IsPiece piece.now }
+    requires piece { IsPiece piece.now }
     ensures { IfOk result (λ found. (rules : List Rule) (above : Option Node) → found ≡ marks (placed_of rules above piece.now) (point (placed_of rules above piece.now) target) tolerance) }
 {
     let matrix = Matrix::new(alloc);
@@ -52,7 +52,7 @@ pub fn separator(
 /// are a `Run` with the empty path.
 ///
 /// The piece has to be one that may be stored, but its nodes may take up to 512 slots, and it may have up to 257
-/// roots; it has to weigh more than `k`, and none of its nodes may.
+/// roots; it has to weigh more than `k`, and none of its nodes may weigh more than `k`.
 ///
 /// Errors: `NoMemory`.
 pub fn split(

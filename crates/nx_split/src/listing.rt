@@ -2,9 +2,9 @@
 ghost use Rattle.std.specs.Prelude.{◌≡◌, ◌+◌, ◌<◌, ◌≤◌, ◌^◌, ◌++◌, length, IfOk};
 ghost use Rattle.std.specs.List.{sum_by};
 ghost use Rattle.std.specs.Option.{option_copied};
-ghost use Rattle.nx_weights.specs.Weight.{weight};
-ghost use Rattle.nx_piece.specs.Gapped.{gapped_size, gapped_weight, item_slots, proxies_in};
-ghost use Rattle.nx_piece.specs.Valid.{HaveRoots, IsPiece};
+ghost use Rattle.nx_piece.specs.PieceNode.{item_slots, node_weight, MayBeFar};
+ghost use Rattle.nx_piece.specs.Gapped.{gapped_size, gapped_weight, proxies_in};
+ghost use Rattle.nx_piece.specs.Valid.{AreFar, HaveRoots, IsPiece};
 ghost use Rattle.nx_sketch.specs.Sketch.{spots_of};
 ghost use Rattle.nx_split.specs.Piece.{asked_of_root, sketch_of, tree_sketch};
 
@@ -70,9 +70,10 @@ fn push_tree(
     requires fits { first + proxies_in tree.now.below ≤ length proxies.now }
     requires few { length proxies.now ≤ 524288 }
     requires ranged { HaveRoots proxies.now }
+    requires far { MayBeFar tree.now.node × AreFar tree.now.below }
     requires small { item_slots tree.now.node + gapped_size tree.now.below ≤ 512 }
     ensures spots { IfOk result (λ _. spots.new.items ≡ spots.old.items ++ spots_of (tree_sketch matrix.now proxies.now entry first position tree.now)) }
-    ensures weight { IfOk result (λ passed. passed.weight ≡ weight tree.now.node + gapped_weight tree.now.below) }
+    ensures weight { IfOk result (λ passed. passed.weight ≡ node_weight tree.now.node + gapped_weight tree.now.below) }
     ensures proxies { IfOk result (λ passed. passed.proxies ≡ first + proxies_in tree.now.below) }
 {
     let place = spots.len();

@@ -1,19 +1,42 @@
 -- The sums of weights, and the list of them as it grows.
 use Rattle.std.specs.Int.{div_ceil}
-use Rattle.std.proofs.Common.{◌≡◌, ℕ, ◌+◌, ◌*◌, ◌<◌, ◌≤◌, List, [], ◌∷◌, ◌++◌, length, drop, sym, ap, ◌∙◌, arith, append_assoc, slice_set}
+use Rattle.std.proofs.Common.{◌≡◌, ℕ, ◌+◌, ◌*◌, ◌<◌, ◌≤◌, nat_le, Bool, true, false, if◌then◌else◌, List, [], ◌∷◌, ◌++◌, length, drop, inl, inr, refl, sym, ap, ◌∙◌, subst, arith, append_assoc, slice_set}
+use Rattle.std.proofs.lemmas.Bool.{cases_lt}
+use Rattle.std.proofs.lemmas.Bool.Decides.{nat_tests}
 use Rattle.std.proofs.lemmas.List.{append-nil, length-append}
 use Rattle.std.proofs.Math.Seq.{set-append_seam}
 use Rattle.nx_tree.specs.declared.node.Node.{Node}
 use Rattle.nx_tree.specs.Forest.{OrderedTree, Forest, Empty, Plant, forest_of, nodes}
-use Rattle.nx_weights.specs.Weight.{weight, weight_of, total, weights_in, tree_weight, tree_weights, IsShort, AreShort, IsWithinLimits}
+use Rattle.nx_weights.specs.Weight.{longest_near, counted, weight, weight_of, total, weights_in, tree_weight, tree_weights, IsShort, AreShort, IsWithinLimits}
 
--- a node takes one slot at least
+-- a content counts for all of its bytes where it stands beside its node
+pub counted_near : (content : ℕ) → content ≤ longest_near → counted content ≡ content
+unfolding counted
+counted_near content near =
+    let e : nat_le content longest_near ≡ true = grind (arith, nat_tests) in
+    subst (λ (b : Bool). (if b then content else 8) ≡ content) (sym e) refl
+
+-- and else for 8
+pub counted_far : (content : ℕ) → longest_near < content → counted content ≡ 8
+unfolding counted
+counted_far content far =
+    let e : nat_le content longest_near ≡ false = grind (arith, nat_tests) in
+    subst (λ (b : Bool). (if b then content else 8) ≡ 8) (sym e) refl
+
+-- so for no more than its bytes
+pub counted_most : (content : ℕ) → counted content ≤ content
+counted_most content = elim (cases_lt longest_near content) [
+  | inl far ↦ omega (arith, counted_far content far)
+  | inr near ↦ omega (arith, counted_near content near)
+]
+
+-- a node counts for one slot at least
 pub weight_least : (n : Node) → 1 ≤ weight n
 weight_least n = omega arith
 
 -- and no more than one and those that its name and its content fill together
 pub weight_of_most : (name content : ℕ) → weight_of name content ≤ 1 + div_ceil (name + content) 8
-weight_of_most name content = omega arith
+weight_of_most name content = omega (arith, counted_most content)
 
 pub weight_most : (n : Node) → IsShort n → weight n ≤ 131073
 weight_most n h = omega (arith, weight_of_most (length n.name) (length n.content))

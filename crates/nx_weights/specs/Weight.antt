@@ -1,5 +1,5 @@
 -- How much room nodes and subtrees take, and what comes first in document order.
-use Rattle.std.specs.Prelude.{◌≡◌, ℕ, ◌+◌, ◌<◌, ◌≤◌, Bool, nat_lt, List, [], ◌∷◌, ◌++◌, length, Option, Some}
+use Rattle.std.specs.Prelude.{◌≡◌, ℕ, ◌+◌, ◌<◌, ◌≤◌, Bool, nat_lt, nat_le, if◌then◌else◌, List, [], ◌∷◌, ◌++◌, length, Option, Some}
 use Rattle.std.specs.Int.{div_ceil}
 use Rattle.std.specs.List.{find}
 use Rattle.std.specs.Option.{option_map}
@@ -8,11 +8,19 @@ use Rattle.nx_tree.specs.Forest.{OrderedTree, Forest, Empty, Plant, nodes}
 use Rattle.nx_tree.specs.Edit.{at}
 use Rattle.nx_tree.specs.Document.{longest_node, most_nodes, deepest, depth}
 
--- the slots of 8 bytes that a node takes whose name and content have so many bytes: one, and those that they fill together
-abbrev pub weight_of : (name content : ℕ) → ℕ
-weight_of name content = 1 + div_ceil (name + content) 8
+-- the most bytes of a content that stands beside its node; a longer one stands elsewhere
+abbrev pub longest_near : ℕ
+longest_near = 1024
 
--- the slots of 8 bytes that a node takes
+-- the bytes that a content of so many bytes counts for: its own, or the 8 that say where a longer one stands
+unfoldable pub counted : ℕ → ℕ
+counted content = if nat_le content longest_near then content else 8
+
+-- the slots of 8 bytes that a node counts for whose name and content have so many bytes: one, and those that they fill together as they count
+abbrev pub weight_of : (name content : ℕ) → ℕ
+weight_of name content = 1 + div_ceil (name + counted content) 8
+
+-- the slots of 8 bytes that a node counts for
 abbrev pub weight : Node → ℕ
 weight node = weight_of (length node.name) (length node.content)
 

@@ -1,4 +1,4 @@
-//! How much room the nodes and subtrees of a document take, in slots of 8 bytes.
+//! What the nodes and subtrees of a document count for, in slots of 8 bytes.
 //!
 //! What a node weighs, what a subtree weighs and what document order is stands in
 //! `specs/Weight.antt`.
@@ -10,6 +10,6 @@ mod sums;
 mod weights;
 
 pub use heavy::{HeavyNode, first_heavy};
-pub use node::{weight, weight_of};
+pub use node::{LONGEST_NEAR, weight, weight_of};
 pub use sums::subtree_weights;
 pub use weights::Weights;

@@ -37,5 +37,5 @@ pub returns : goal.returns
 returns t c =
     let below : c.from_vec.result ≡ seen_items c.args.tree.children =
     c.from_vec.ensures ∙ sym (row_end (gapped_of c.loop-item.children.items)) ∙ ap (row (gapped_of c.loop-item.children.items)) (sym c.in_default.ensures) ∙ c.loop-item.invariant.same in
-    ap (λ (f : Gapped). record { node = c.in_ok-node.node; below = f }) below
-    ∙ ap (λ (n : Node). record { node = n; below = seen_items c.args.tree.children }) c.in_ok-node.ensures
+    ap (λ (f : Gapped). record { node = record { node = c.in_ok-node.node; far = c.args.tree.node.far }; below = f }) below
+    ∙ ap (λ (n : Node). record { node = record { node = n; far = c.args.tree.node.far }; below = seen_items c.args.tree.children }) c.in_ok-node.ensures

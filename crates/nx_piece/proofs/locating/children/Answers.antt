@@ -15,7 +15,7 @@ overflow_add-children c =
     let ranged = subst HaveRoots (sym c.as_slice-proxies.ensures) c.requires.piece.ranged in
     let room : c.args.first + proxies_in c.args.at.now.below ≤ length c.args.piece.now.proxies = c.requires.node.fits in
     let few : length c.args.piece.now.proxies ≤ 524288 = c.requires.piece.body.few_proxies in
-    let light = c.requires.node.light in
+    let small = c.requires.node.small in
     let most = counted_few c.loop-item.invariant ranged (omega arith) (omega arith) in
     let next = ap (λ (f : Gapped). length (children_of c.as_slice-proxies.result.now c.loop-item.before f)) (ap gapped_of d) in
     omega arith
@@ -32,7 +32,7 @@ overflow_add-children-in-Run c =
     let ranged = subst HaveRoots (sym c.as_slice-proxies.ensures) c.requires.piece.ranged in
     let room : c.args.first + proxies_in c.args.at.now.below ≤ length c.args.piece.now.proxies = c.requires.node.fits in
     let few : length c.args.piece.now.proxies ≤ 524288 = c.requires.piece.body.few_proxies in
-    let light = c.requires.node.light in
+    let small = c.requires.node.small in
     let next = gap_counted c.loop-item.invariant d
     (c.roots_of-children.ensures ∙ ap (λ (n : ℕ). sum_by (λ p. p.roots) (take n (drop c.loop-item.before c.as_slice-proxies.result.now))) span) in
     let most = counted_few next ranged (omega arith) (omega arith) in

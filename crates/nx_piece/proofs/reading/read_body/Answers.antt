@@ -1,4 +1,5 @@
-use Rattle.std.proofs.Common.{arith, refl, ◌∙◌, ap}
+use Rattle.std.proofs.Common.{arith, refl, sym, ◌∙◌, ap, subst}
+use Rattle.nx_piece.specs.Valid.{AreFar}
 use Rattle.nx_piece.specs.Gapped.{gapped_width, gapped_size}
 use Rattle.nx_piece.proofs.BodyLemmas.{bad_roots, bad_items, bad_sums, body_read}
 use Rattle.nx_piece.proofs.PushLemmas.{all_pushed}
@@ -28,7 +29,12 @@ new-body-requires-clause-roots c =
 pub new-body-requires-clause-size : goal.new-body-requires-clause-size
 new-body-requires-clause-size c =
     let read = c.in-Some-read_roots.ensures in
-    let light = read.2.room in let same = ap gapped_size (all_pushed c.in_ok-flat.ensures.items read.1) in omega arith
+    let small = read.2.room in let same = ap gapped_size (all_pushed c.in_ok-flat.ensures.items read.1) in omega arith
+
+pub new-body-requires-clause-far : goal.new-body-requires-clause-far
+new-body-requires-clause-far c =
+    let read = c.in-Some-read_roots.ensures in
+    subst AreFar (sym (all_pushed c.in_ok-flat.ensures.items read.1)) read.2.far
 
 pub returns : goal.returns
 returns c =

@@ -6,4 +6,4 @@ pub returns : goal.returns
 returns c =
     let r = content_read c.div_ceil-size.ensures c.if-bytes-size.false
     refl refl c.if-not-is_zero.ensures in
-    (r.0, r.1, r.2 ∙ c.from-name.ensures, r.3 ∙ c.from.ensures)
+    (r.0, r.1 ∙ c.from-name.ensures, r.2 ∙ c.from.ensures)

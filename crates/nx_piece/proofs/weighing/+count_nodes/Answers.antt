@@ -1,6 +1,7 @@
 use Rattle.std.proofs.Common.{rules, arith, ap, ◌∙◌, ◌≤◌, ◌+◌, suc, List}
 use Rattle.nx_piece.specs.declared.piece.Item.{Item}
-use Rattle.nx_piece.specs.Gapped.{GappedTree, item_count, item_slots, gapped_size, gapped_nodes}
+use Rattle.nx_piece.specs.PieceNode.{item_slots}
+use Rattle.nx_piece.specs.Gapped.{GappedTree, item_count, gapped_size, gapped_nodes}
 use Rattle.nx_piece.specs.Items.{gapped_of}
 use Rattle.nx_piece.proofs.WalkLemmas.{next_tree, next_falls, nodes_most}
 use Rattle.nx_piece.proofs.weighing.+count_nodes.Goals as goal
@@ -22,5 +23,5 @@ overflow_add-nodes t c =
     let all = c.loop-item.invariant.0 in
     let own = c.count_nodes-nodes.ensures in
     let most = nodes_most c.args.tree.now.below in
-    let light = c.requires in
+    let small = c.requires in
     omega arith

@@ -1,6 +1,7 @@
 use Rattle.std.proofs.Common.{rules, arith, ap, ◌∙◌, ◌≤◌, ◌+◌, suc, List}
 use Rattle.nx_piece.specs.declared.piece.Item.{Item}
-use Rattle.nx_piece.specs.Gapped.{GappedTree, item_count, gapped_size, item_slots}
+use Rattle.nx_piece.specs.PieceNode.{item_slots}
+use Rattle.nx_piece.specs.Gapped.{GappedTree, item_count, gapped_size}
 use Rattle.nx_piece.specs.Items.{gapped_of}
 use Rattle.nx_piece.proofs.WalkLemmas.{next_tree, next_falls}
 use Rattle.nx_piece.proofs.weighing.+tree_size.Goals as goal

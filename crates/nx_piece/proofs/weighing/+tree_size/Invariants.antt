@@ -1,5 +1,6 @@
 use Rattle.std.proofs.Common.{◌≡◌, ◌+◌, drop}
-use Rattle.nx_piece.specs.Gapped.{gapped_size, item_count, item_slots}
+use Rattle.nx_piece.specs.PieceNode.{item_slots}
+use Rattle.nx_piece.specs.Gapped.{gapped_size, item_count}
 use Rattle.nx_piece.specs.Items.{gapped_of}
 use Rattle.nx_piece.proofs.weighing.+tree_size.Given as goal
 

@@ -1,6 +1,6 @@
 use Rattle.std.proofs.Common.{rules, arith, ap, ◌∙◌, ◌≤◌, ◌+◌, suc, List, subst}
 use Rattle.nx_piece.specs.declared.piece.Item.{Item}
-use Rattle.nx_weights.specs.Weight.{weight}
+use Rattle.nx_piece.specs.PieceNode.{node_weight}
 use Rattle.nx_piece.specs.Gapped.{GappedTree, item_count, gapped_weight}
 use Rattle.nx_piece.specs.Weight.{HaveShortNodes}
 use Rattle.nx_piece.specs.Items.{gapped_of}
@@ -15,5 +15,5 @@ tree_weight-sum-requires t c =
     let short = subst HaveShortNodes (ap gapped_of d) c.loop-item.invariant.1 in
     let sum = ap (λ (xs : List Item). gapped_weight (gapped_of xs)) d in
     let all = c.loop-item.invariant.0 in
-    let most : weight c.in-Tree.child.node + gapped_weight c.in-Tree.child.below ≤ 4294967295 = omega arith in
+    let most : node_weight c.in-Tree.child.node + gapped_weight c.in-Tree.child.below ≤ 4294967295 = omega arith in
     (search rules, ((short.0, short.1), most))

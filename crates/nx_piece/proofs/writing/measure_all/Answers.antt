@@ -11,16 +11,16 @@ pub measure-more-requires : goal.measure-more-requires
 measure-more-requires c =
     first_small c.tree-item.result _ (next_small _ _ (next_root _ _ _ c.loop-tree-test.true c.tree-item.is) c.loop-tree.invariant.small)
 
-pub overflow_add-size : goal.overflow_add-size
-overflow_add-size c =
+pub overflow_add-extent : goal.overflow_add-extent
+overflow_add-extent c =
     let f = fits_tree c.loop-tree.invariant (next_root _ _ _ c.loop-tree-test.true c.tree-item.is) c.measure-more.ensures.items c.measure-more.ensures.slots (all_most _ c.requires) in
-    let most : c.loop-tree.size.items + c.measure-more.result.items ≤ 1000 = f.0 in
+    let most : c.loop-tree.extent.items + c.measure-more.result.items ≤ 1000 = f.0 in
     omega arith
 
-pub overflow_add-size-in-loop-tree : goal.overflow_add-size-in-loop-tree
-overflow_add-size-in-loop-tree c =
+pub overflow_add-extent-in-loop-tree : goal.overflow_add-extent-in-loop-tree
+overflow_add-extent-in-loop-tree c =
     let f = fits_tree c.loop-tree.invariant (next_root _ _ _ c.loop-tree-test.true c.tree-item.is) c.measure-more.ensures.items c.measure-more.ensures.slots (all_most _ c.requires) in
-    let most : c.loop-tree.size.slots + c.measure-more.result.slots ≤ 2000 = f.1 in
+    let most : c.loop-tree.extent.slots + c.measure-more.result.slots ≤ 2000 = f.1 in
     omega arith
 
 pub loop-tree-preserved : goal.loop-tree-preserved

@@ -5,4 +5,4 @@ use Rattle.nx_piece.proofs.writing.measure_all.Given as goal
 
 abbrev pub invariant-loop-tree : goal.invariant-loop-tree
 invariant-loop-tree l =
-    IsMeasured l.size.items l.size.slots (grown_of (drop l.tree-index l.trees)) (item_count (grown_of l.trees)) (slots_in (grown_of l.trees))
+    IsMeasured l.extent.items l.extent.slots (grown_of (drop l.tree-index l.trees)) (item_count (grown_of l.trees)) (slots_in (grown_of l.trees))

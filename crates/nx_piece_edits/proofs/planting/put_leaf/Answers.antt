@@ -1,5 +1,5 @@
 use Rattle.std.proofs.Common.{arith, ◌≡◌, List, drop, sym, ap, ap₂, ◌∙◌, subst}
-use Rattle.nx_tree.specs.declared.node.Node.{Node}
+use Rattle.nx_piece.specs.PieceNode.{PieceNode}
 use Rattle.nx_piece.specs.declared.piece.Item.{Item}
 use Rattle.nx_piece.specs.Gapped.{Gapped, GappedTree, Grow}
 use Rattle.nx_piece.specs.Items.{gapped_of}
@@ -40,7 +40,7 @@ returns c =
     let apart : AreApart (gapped_of items) = subst AreApart (sym whole) c.requires.apart in
     let proxies = drop c.args.first c.args.proxies.now in
     let below = c.from_vec.ensures
-    ∙ leaf_there c.spot_at-index.result.1 (pair c.args.node c.new-children.result) c.insert_item.new.items.items spot apart c.in_ok-insert_item.ensures.front c.in_ok-insert_item.ensures.inside
-    ∙ ap₂ (λ (f b : Gapped). put_at (λ g. Grow c.args.node b g) c.args.position f proxies) whole c.new-children.ensures in
+    ∙ leaf_there c.spot_at-index.result.1 (pair (record { node = c.args.node; far = c.args.far }) c.new-children.result) c.insert_item.new.items.items spot apart c.in_ok-insert_item.ensures.front c.in_ok-insert_item.ensures.inside
+    ∙ ap₂ (λ (f b : Gapped). put_at (λ g. Grow (record { node = c.args.node; far = c.args.far }) b g) c.args.position f proxies) whole c.new-children.ensures in
     let node = ap (λ (x : GappedTree). x.node) c.tree.view_is in
-    ap₂ (λ (n : Node) (b : Gapped). pair n b) node below
+    ap₂ (λ (n : PieceNode) (b : Gapped). pair n b) node below

@@ -1,5 +1,5 @@
 use Rattle.std.proofs.Common.{arith, ◌≡◌, List, drop, sym, ap, ap₂, ◌∙◌, subst}
-use Rattle.nx_tree.specs.declared.node.Node.{Node}
+use Rattle.nx_piece.specs.PieceNode.{PieceNode}
 use Rattle.nx_piece.specs.declared.piece.Item.{Item}
 use Rattle.nx_piece.specs.Gapped.{Gapped, GappedTree, with_gap}
 use Rattle.nx_piece.specs.Items.{gapped_of}
@@ -30,4 +30,4 @@ returns c =
     let proxies = drop c.args.first c.args.proxies.now in
     let below = c.from_vec.ensures ∙ proxy_there c.spot_at-index.result.1 c.insert_proxy.new.items.items spot c.in_ok-insert_proxy.ensures ∙ ap (λ (f : Gapped). put_at (λ g. with_gap 1 g) c.args.position f proxies) whole in
     let node = ap (λ (x : GappedTree). x.node) c.tree.view_is in
-    ap₂ (λ (n : Node) (b : Gapped). pair n b) node below
+    ap₂ (λ (n : PieceNode) (b : Gapped). pair n b) node below

@@ -16,7 +16,7 @@ insert-requires c =
 pub returns : goal.returns
 returns c =
     let roots : List GappedTree = c.into_vec-roots.result.items in
-    root_is c.args.piece c.args.member c.args.node roots c.from_vec.result c.into_vec-roots.ensures c.requires
+    root_is c.args.piece c.args.member (record { node = c.args.node; far = c.args.far }) roots c.from_vec.result c.into_vec-roots.ensures c.requires
     (c.from_vec.ensures ∙ ap grown_of c.in_ok-insert.ensures.items
-    ∙ ap (λ (i : ℕ). grown_of (insert roots i (pair c.args.node c.new-children.result))) c.from.ensures
-    ∙ ap (λ (b : Gapped). grown_of (insert roots c.args.member (pair c.args.node b))) c.new-children.ensures)
+    ∙ ap (λ (i : ℕ). grown_of (insert roots i (pair (record { node = c.args.node; far = c.args.far }) c.new-children.result))) c.from.ensures
+    ∙ ap (λ (b : Gapped). grown_of (insert roots c.args.member (pair (record { node = c.args.node; far = c.args.far }) b))) c.new-children.ensures)

@@ -1,9 +1,9 @@
 use Rattle.std.proofs.Common.{rules, arith, ◌≡◌, ◌+◌, ◌<◌, ◌≤◌, ◌∷◌, ℕ, List, [], Some, length, drop, sym, ap, ap₂, ◌∙◌, subst}
 use Rattle.std.specs.List.{slice_get}
 use Rattle.std.proofs.lemmas.Result.{on_ok_weaker}
+use Rattle.nx_piece.specs.PieceNode.{PieceNode}
 use Rattle.nx_piece.specs.declared.piece.Item.{Item}
 use Rattle.nx_piece.specs.declared.piece.Item.TheVariants.{Tree}
-use Rattle.nx_tree.specs.declared.node.Node.{Node}
 use Rattle.nx_piece.specs.Gapped.{Gapped, GappedTree, proxies_in}
 use Rattle.nx_piece.specs.Items.{gapped_of}
 use Rattle.nx_piece.specs.Valid.{AreApart}
@@ -115,5 +115,5 @@ returns-clause-ok t c =
     let below = c.from_vec.ensures ∙ tree_set c.in-Some.rest.now new c.edit_below-done.new.tree stands child
     ∙ ap (λ f. with_tree c.in-Some.position.now c.in-Some.rest.now new f (drop c.args.first c.args.proxies.now)) whole in
     let node = ap (λ (x : GappedTree). x.node) c.tree.view_is in
-    ap₂ (λ (n : Node) (b : Gapped). pair n b) node below
+    ap₂ (λ (n : PieceNode) (b : Gapped). pair n b) node below
     ∙ ap (λ p. tree_with p new c.args.tree.now (drop c.args.first c.args.proxies.now)) (sym on)) c.edit_below-done.ensures.ok

@@ -8,7 +8,7 @@ use Rattle.nx_split.proofs.division.separator.Goals as goal
 
 pub separator-requires : goal.separator-requires
 separator-requires c =
-    piece_is_flat [] None c.args.piece.now c.deref.result.now c.requires
+    piece_is_flat [] None c.args.piece.now c.deref.result.now c.requires.piece
     (c.deref.ensures.value ∙ c.in_ok-spots.ensures ∙ ap (λ r. spots_of (sketch_of r None c.args.piece.now)) c.new-matrix.ensures)
 
 pub returns : goal.returns

@@ -1,17 +1,13 @@
-use Rattle.std.proofs.Common.{◌≤◌, ◌∙◌, arith}
+use Rattle.std.proofs.Common.{◌∙◌, arith}
 use Rattle.std.specs.Option.{option_copied}
 use Rattle.std.proofs.lemmas.Result.{IfOk-weaker}
-use Rattle.nx_piece.specs.Gapped.{gapped_size}
-use Rattle.nx_piece.proofs.SizeLemmas.{weight_within}
 use Rattle.nx_split.specs.Piece.{sketch_of}
-use Rattle.nx_split.proofs.SketchLemmas.{piece_is_light, piece_is_sketch, piece_is_splittable}
+use Rattle.nx_split.proofs.SketchLemmas.{piece_is_light, piece_is_sketch, piece_is_splittable, piece_weighs}
 use Rattle.nx_split.proofs.division.split.Goals as goal
 
 pub split-requires-clause-k : goal.split-requires-clause-k
 split-requires-clause-k c =
-    let small : gapped_size c.args.piece.now.body.roots ≤ 512 = c.requires.piece.body.light in
-    let heavy = c.requires.heavy in
-    omega (arith, small, weight_within c.args.piece.now.body.roots)
+    omega (arith, c.requires.heavy, piece_weighs c.args.piece.now c.requires.piece)
 
 pub split-requires-clause-sketch : goal.split-requires-clause-sketch
 split-requires-clause-sketch c =

@@ -4,9 +4,11 @@ use Rattle.std.proofs.lemmas.List.{drop_all}
 use Rattle.nx_matrix.specs.declared.rule.Entry.{Entry}
 use Rattle.nx_piece.specs.declared.piece.Item.{Item}
 use Rattle.nx_piece.specs.declared.piece.Proxy.{Proxy}
-use Rattle.nx_piece.specs.Gapped.{GappedTree, item_count, item_slots, gapped_size, gapped_weight, proxies_in}
+use Rattle.nx_piece.specs.PieceNode.{item_slots}
+use Rattle.nx_piece.specs.Gapped.{GappedTree, item_count, gapped_size, gapped_weight, proxies_in}
+use Rattle.nx_piece.specs.Valid.{AreFar}
 use Rattle.nx_piece.specs.Items.{gapped_of}
-use Rattle.nx_piece.proofs.SizeLemmas.{tree_within}
+use Rattle.nx_piece.proofs.SizeLemmas.{item_bound, weight_within}
 use Rattle.nx_piece.proofs.WalkLemmas.{next_tree, next_run, next_falls}
 use Rattle.nx_piece.proofs.LocateLemmas.{none_counted, tree_counted, gap_counted, counted_few}
 use Rattle.nx_sketch.specs.declared.spot.Spot.{Spot}
@@ -26,14 +28,16 @@ push_tree-requires t c =
     let f = c.loop-item.invariant.counted.fits in
     let s = c.loop-item.invariant.small in
     let room : c.args.first + proxies_in c.args.tree.now.below ≤ length c.args.proxies.now = c.requires.fits in
-    (search rules, (omega arith, (c.requires.few, (c.requires.ranged, omega arith))))
+    let far = subst AreFar (ap gapped_of d) c.loop-item.invariant.far in
+    (search rules, (omega arith, (c.requires.few, (c.requires.ranged, ((far.0, far.1), omega arith)))))
 
 pub loop-item-init : goal.loop-item-init
 loop-item-init t c =
     let same = c.as_slice-item-items.ensures ∙ ap (λ (x : GappedTree). x.below) c.tree.view_is in
     record {
       counted = none_counted c.args.proxies.now c.args.first c.args.tree.now.below _ same;
-      light = omega (arith, tree_within c.args.tree.now, c.requires.small);
+      light = omega (arith, item_bound c.args.tree.now.node c.requires.far.0, weight_within c.args.tree.now.below c.requires.far.1, c.requires.small);
+      far = subst AreFar (sym same) c.requires.far.1;
       small = omega (arith, ap gapped_size same, c.requires.small);
       weighed = omega (arith, ap gapped_weight same, c.weight-weight.ensures);
       listed = none_listed same refl;
@@ -76,13 +80,14 @@ loop-item-preserved t c =
           let d = next_tree c.as_slice-item-items.result.now c.loop-item.item-index c.item-item.result w.in-Tree.child c.loop-item-test.true c.item-item.is w.in-Tree.is in
           let child : GappedTree = w.in-Tree.child in
           let passed = w.in_ok-passed-in-Tree.ensures in
-          let entry : w.entry-entry.result ≡ asked c.args.matrix.now c.args.tree.now.node child.node =
-          w.entry-entry.ensures ∙ (λ i. asked c.args.matrix.now (ap (λ (x : GappedTree). x.node) c.tree.view_is i) (ap (λ (x : GappedTree). x.node) w.child.view_is i)) in
-          let listed : w.push_tree.new.spots.items ≡ c.loop-item.spots.items ++ spots_of (tree_sketch c.args.matrix.now c.args.proxies.now (asked c.args.matrix.now c.args.tree.now.node child.node) c.loop-item.before c.loop-item.next child) =
+          let entry : w.entry-entry.result ≡ asked c.args.matrix.now c.args.tree.now.node.node child.node.node =
+          w.entry-entry.ensures ∙ (λ i. asked c.args.matrix.now (ap (λ (x : GappedTree). x.node.node) c.tree.view_is i) (ap (λ (x : GappedTree). x.node.node) w.child.view_is i)) in
+          let listed : w.push_tree.new.spots.items ≡ c.loop-item.spots.items ++ spots_of (tree_sketch c.args.matrix.now c.args.proxies.now (asked c.args.matrix.now c.args.tree.now.node.node child.node.node) c.loop-item.before c.loop-item.next child) =
           passed.spots ∙ ap (λ (e : Entry). c.loop-item.spots.items ++ spots_of (tree_sketch c.args.matrix.now c.args.proxies.now e c.loop-item.before c.loop-item.next child)) entry in
           rw (w.spots-is, w.within-is, w.before-is ∙ passed.proxies, w.next-is) (record {
             counted = tree_counted child (proxies_in child.below) c.loop-item.invariant.counted (ap gapped_of d) refl;
             light = c.loop-item.invariant.light;
+            far = (subst AreFar (ap gapped_of d) c.loop-item.invariant.far).2;
             small = omega (arith, ap (λ (xs : List Item). gapped_size (gapped_of xs)) d, c.loop-item.invariant.small);
             weighed = omega (arith, ap (λ (xs : List Item). gapped_weight (gapped_of xs)) d, c.loop-item.invariant.weighed, passed.weight);
             listed = tree_listed child w.push_tree.new.spots.items c.loop-item.invariant.listed (ap gapped_of d) listed;
@@ -94,6 +99,7 @@ loop-item-preserved t c =
           rw (w.spots-is, w.within-is, w.before-is, w.next-is, more) (record {
             counted = gap_counted c.loop-item.invariant.counted d refl;
             light = c.loop-item.invariant.light;
+            far = subst AreFar d c.loop-item.invariant.far;
             small = omega (arith, ap gapped_size d, c.loop-item.invariant.small);
             weighed = omega (arith, ap gapped_weight d, c.loop-item.invariant.weighed);
             listed = gap_listed w.in-Run.count c.loop-item.invariant.listed d;
