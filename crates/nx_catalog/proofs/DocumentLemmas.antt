@@ -8,7 +8,7 @@ use Rattle.std.specs.Cmp.Lexicographic.{nat_list_cmp_total}
 use Rattle.std.specs.BTreeMap.{insert_entry}
 use Rattle.nx_script.specs.Field.{name_order, is_document_name, vector_order, by_bytes}
 use Rattle.nx_hold.specs.declared.entry.DocEntry.{DocEntry}
-use Rattle.nx_catalog.specs.Catalog.{Document, counted, place_bytes, document_bytes, CanBeKept}
+use Rattle.nx_catalog.specs.Catalog.{Document, with_length, place_bytes, document_bytes, CanBeKept}
 use Rattle.nx_catalog.specs.Reading.{◌>>=◌, counted_at, place_at, document_at, documents_at}
 use Rattle.nx_catalog.proofs.FieldLemmas.{IsBytes, Takes, takes_then, bind_some, if_some, some_is, counted_takes, counted_again, place_takes, place_again}
 use Rattle.nx_catalog.proofs.NameLemmas.{name_short}
@@ -25,14 +25,14 @@ document_takes bytes x fits e =
     let name = counted_takes bytes a.0 fits a.1 in
     let place = place_takes a.0.1 b.0 name.rest_fits b.1 in
     subst (λ (y : Document × List ℕ). Takes bytes (document_bytes y.0) y.1 × CanBeKept y.0) (some_is _ x g.1)
-    (takes_then (counted a.0.0) (place_bytes b.0.0) name place.0, record { named = g.0; page = (place.1).0; slot = (place.1).1; nodes = (place.1).2 })
+    (takes_then (with_length a.0.0) (place_bytes b.0.0) name place.0, record { named = g.0; page = (place.1).0; slot = (place.1).1; nodes = (place.1).2 })
 
 pub document_again : (d : Document) (rest : List ℕ) → CanBeKept d → document_at (document_bytes d ++ rest) ≡ Some (d, rest)
 unfolding document_at
 document_again d rest kept =
     let short = name_short d.0 kept.named in
     let named : is_document_name d.0 ≡ true = kept.named in
-    ap document_at (append_assoc (counted d.0) (place_bytes d.1) rest)
+    ap document_at (append_assoc (with_length d.0) (place_bytes d.1) rest)
     ∙ rw (counted_again d.0 (place_bytes d.1 ++ rest) (omega (arith, short)), place_again d.1 rest (kept.page, kept.slot, kept.nodes), named) refl
 
 greater : (x y : List ℕ) → name_order x y ≡ Less → name_order y x ≡ Greater

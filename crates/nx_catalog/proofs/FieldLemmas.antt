@@ -8,7 +8,7 @@ use Rattle.std.proofs.lemmas.Nat.{be_bytes_2, be_bytes_4, from_be_bytes-to_be_by
 use Rattle.nx_hold.specs.declared.entry.DocEntry.{DocEntry}
 use Rattle.nx_matrix.specs.declared.rule.Entry.{Entry}
 use Rattle.nx_matrix.specs.declared.rule.Entry.TheVariants.{Standalone, Cluster, Free}
-use Rattle.nx_catalog.specs.Catalog.{counted, place_bytes, entry_byte}
+use Rattle.nx_catalog.specs.Catalog.{with_length, place_bytes, entry_byte}
 use Rattle.nx_catalog.specs.Reading.{◌>>=◌, leading_number, counted_at, place_at, entry_at}
 
 abbrev pub IsBytes : List ℕ → Type 0
@@ -90,7 +90,7 @@ number_again w limit wide n rest lt =
     let long : ltb (length (to_be_bytes w n ++ rest)) (byte_len w) ≡ false = le-ltb _ _ (omega (arith, length-append (to_be_bytes w n) rest)) in
     rw (long, take_at (to_be_bytes w n) rest (byte_len w) len, drop_at (to_be_bytes w n) rest (byte_len w) len, wide.again n lt) refl
 
-pub counted_takes : (bytes : List ℕ) (x : List ℕ × List ℕ) → IsBytes bytes → counted_at bytes ≡ Some x → Takes bytes (counted x.0) x.1
+pub counted_takes : (bytes : List ℕ) (x : List ℕ × List ℕ) → IsBytes bytes → counted_at bytes ≡ Some x → Takes bytes (with_length x.0) x.1
 unfolding counted_at
 counted_takes bytes x fits e =
     let b = bind_some (leading_number w16 bytes) (λ n. cond (ltb (length n.1) n.0) None (Some (take n.0 n.1, drop n.0 n.1))) x e in
@@ -101,10 +101,10 @@ counted_takes bytes x fits e =
     let len : length (take n.0 n.1) ≡ n.0 = omega (arith, length-take n.0 n.1) in
     let second : Takes n.1 (take n.0 n.1) (drop n.0 n.1) = record { parts = sym (take-append-drop n.0 n.1); rest_fits = IsBytes-drop n.0 n.1 (t.0).rest_fits } in
     let both = takes_then (to_be_bytes w16 n.0) (take n.0 n.1) t.0 second in
-    let whole : Takes bytes (counted (take n.0 n.1)) (drop n.0 n.1) = subst (λ (k : ℕ). Takes bytes (to_be_bytes w16 k ++ take n.0 n.1) (drop n.0 n.1)) (sym len) both in
-    subst (λ (p : List ℕ × List ℕ). Takes bytes (counted p.0) p.1) (some_is _ x g.1) whole
+    let whole : Takes bytes (with_length (take n.0 n.1)) (drop n.0 n.1) = subst (λ (k : ℕ). Takes bytes (to_be_bytes w16 k ++ take n.0 n.1) (drop n.0 n.1)) (sym len) both in
+    subst (λ (p : List ℕ × List ℕ). Takes bytes (with_length p.0) p.1) (some_is _ x g.1) whole
 
-pub counted_again : (text rest : List ℕ) → length text < 65536 → counted_at (counted text ++ rest) ≡ Some (text, rest)
+pub counted_again : (text rest : List ℕ) → length text < 65536 → counted_at (with_length text ++ rest) ≡ Some (text, rest)
 unfolding counted_at
 counted_again text rest lt =
     let long : ltb (length (text ++ rest)) (length text) ≡ false = le-ltb _ _ (omega (arith, length-append text rest)) in

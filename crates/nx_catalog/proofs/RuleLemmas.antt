@@ -19,7 +19,7 @@ use Rattle.nx_matrix.specs.declared.rule.Rule.{Rule}
 use Rattle.nx_matrix.specs.Rules.{pair_cmp, pair_of, is_for, entry_of, has_rule, IsLabel, AreRules, SetsEntry, most_rules}
 use Rattle.nx_matrix.proofs.OrderLemmas.{Pair, pair_total, pair_same, not_less}
 use Rattle.nx_matrix.proofs.EntryLemmas.{entry_insert, is_for_pair}
-use Rattle.nx_catalog.specs.Catalog.{counted, entry_byte, rule_bytes}
+use Rattle.nx_catalog.specs.Catalog.{with_length, entry_byte, rule_bytes}
 use Rattle.nx_catalog.specs.Reading.{◌>>=◌, counted_at, entry_at, rule_at, rules_at}
 use Rattle.nx_catalog.proofs.FieldLemmas.{IsBytes, Takes, takes_then, bind_some, if_some, some_is, counted_takes, counted_again, entry_takes, entry_again}
 use Rattle.nx_catalog.proofs.NameLemmas.{both_true, labelled}
@@ -46,7 +46,7 @@ rule_takes bytes x fits e =
     let entry = entry_takes b.0.1 c.0 child.rest_fits c.1 in
     let labels = both_true (is_parent_label a.0.0) (is_child_label b.0.0) g.0 in
     subst (λ (y : Rule × List ℕ). Takes bytes (rule_bytes y.0) y.1 × IsRule y.0) (some_is _ x g.1)
-    (takes_then (counted a.0.0 ++ counted b.0.0) (entry_byte c.0.0 ∷ []) (takes_then (counted a.0.0) (counted b.0.0) parent child) entry.0, record { labels = labels; bound = entry.1 })
+    (takes_then (with_length a.0.0 ++ with_length b.0.0) (entry_byte c.0.0 ∷ []) (takes_then (with_length a.0.0) (with_length b.0.0) parent child) entry.0, record { labels = labels; bound = entry.1 })
 
 -- what was read has labels, whatever the bytes are
 pub rule_labels : (bytes : List ℕ) (x : Rule × List ℕ) → rule_at bytes ≡ Some x → IsLabel (x.0).parent × IsLabel (x.0).child
@@ -70,8 +70,8 @@ rule_again r rest is =
     let less = short.1.1 in
     let parent : is_parent_label r.parent ≡ true = is.labels.0 in
     let child : is_child_label r.child ≡ true = is.labels.1 in
-    ap rule_at (append_assoc (counted r.parent ++ counted r.child) (entry_byte r.entry ∷ []) rest ∙ append_assoc (counted r.parent) (counted r.child) (entry_byte r.entry ∷ rest))
-    ∙ rw (counted_again r.parent (counted r.child ++ entry_byte r.entry ∷ rest) (omega (arith, few)), counted_again r.child (entry_byte r.entry ∷ rest) (omega (arith, less)), entry_again r.entry rest is.bound, parent, child) refl
+    ap rule_at (append_assoc (with_length r.parent ++ with_length r.child) (entry_byte r.entry ∷ []) rest ∙ append_assoc (with_length r.parent) (with_length r.child) (entry_byte r.entry ∷ rest))
+    ∙ rw (counted_again r.parent (with_length r.child ++ entry_byte r.entry ∷ rest) (omega (arith, few)), counted_again r.child (entry_byte r.entry ∷ rest) (omega (arith, less)), entry_again r.entry rest is.bound, parent, child) refl
 
 each_labelled : (rules : List Rule) → AllByRecursion IsRule rules → AllByRecursion (λ r. IsLabel r.parent × IsLabel r.child) rules
 each_labelled [] h = tt

@@ -24,15 +24,15 @@ pub record Contents : Type 0 where
   pub rules : List Rule
 
 -- bytes behind their number
-abbrev pub counted : List ℕ → List ℕ
-counted bytes = two_bytes (length bytes) ++ bytes
+abbrev pub with_length : List ℕ → List ℕ
+with_length bytes = two_bytes (length bytes) ++ bytes
 
 -- the place of a root, and how many nodes there are
 abbrev pub place_bytes : DocEntry → List ℕ
 place_bytes entry = four_bytes entry.root.page ++ two_bytes entry.root.slot ++ four_bytes entry.nodes
 
 abbrev pub document_bytes : Document → List ℕ
-document_bytes document = counted document.0 ++ place_bytes document.1
+document_bytes document = with_length document.0 ++ place_bytes document.1
 
 -- the byte of an entry. No rule is free
 abbrev pub entry_byte : Entry → ℕ
@@ -41,7 +41,7 @@ entry_byte Cluster = 2
 entry_byte Free = 0
 
 abbrev pub rule_bytes : Rule → List ℕ
-rule_bytes rule = counted rule.parent ++ counted rule.child ++ entry_byte rule.entry ∷ []
+rule_bytes rule = with_length rule.parent ++ with_length rule.child ++ entry_byte rule.entry ∷ []
 
 -- documents in the order of their names, and rules, each behind their number
 abbrev pub listed_bytes : List Document → List Rule → List ℕ

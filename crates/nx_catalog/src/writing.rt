@@ -4,7 +4,7 @@ ghost use Rattle.nx_matrix.specs.Rules.{AreRules, longest_label};
 ghost use Rattle.nx_script.specs.Rule.{HasLabels};
 ghost use Rattle.nx_script.specs.Field.{by_bytes};
 ghost use Rattle.nx_catalog.specs.Inside.{AreDocumentEntries};
-ghost use Rattle.nx_catalog.specs.Catalog.{IsCatalog, catalog_bytes, counted, entry_byte, document_bytes, rule_bytes};
+ghost use Rattle.nx_catalog.specs.Catalog.{IsCatalog, catalog_bytes, with_length, entry_byte, document_bytes, rule_bytes};
 ghost use Rattle.nx_piece.specs.Encoding.{four_bytes, two_bytes};
 
 use crate::Catalog;
@@ -89,7 +89,7 @@ fn byte_of(entry: Entry) -> u8
 // Bytes behind their number.
 fn push_counted(bytes: &[u8], out: &mut Bytes) -> Result<(), NoMemory>
     requires { length bytes.now < 65536 }
-    ensures { OnOk result (out.new ≡ out.old ++ counted bytes.now) }
+    ensures { OnOk result (out.new ≡ out.old ++ with_length bytes.now) }
 {
     push_two(bytes.len() as u16, out)?;
     out.extend_from_slice(bytes)

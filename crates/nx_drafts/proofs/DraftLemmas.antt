@@ -21,14 +21,14 @@ use Rattle.nx_cuts.proofs.PartitionLemmas.{Pairs}
 use Rattle.nx_cuts.proofs.FreeLemmas.{IsApart, free_at}
 use Rattle.nx_cuts.proofs.DeepLemmas.{drawn_adds}
 use Rattle.nx_cuts.proofs.FeasibleLemmas.{IsDrawn, Members, no_truth}
-use Rattle.nx_layouts.specs.Layout.{Layout, without_places}
+use Rattle.nx_layouts.specs.Layout.{Layout, without_places, laid_forest}
 use Rattle.nx_sketch.specs.Sketch.{Placed}
 use Rattle.nx_sketch.specs.Plan.{IsInside, IsPlanOfPart}
 use Rattle.nx_split.specs.Piece.{asked_of_root}
 use Rattle.nx_drawn.specs.Splits.{part_nodes, Divides}
 use Rattle.nx_drafts.specs.Draft.{Draft, Ends, Grows, Stands, Comes, drawn_forest, layout_before, AreHeldAll}
 use Rattle.nx_drafts.specs.Laws.{SplitIsDrafted}
-use Rattle.nx_drawn.proofs.BareLemmas.{width_bare, forest_bare, parts_bare}
+use Rattle.nx_layouts.proofs.DrawnLemmas.{drawn_wide}
 use Rattle.nx_drawn.proofs.OwnLemmas.{any_holds, any_holder, either_false}
 use Rattle.nx_drawn.proofs.DividedLemmas.{IsClear, heavier_parts, nodes_clear, members_clear, drawn_agrees, feasible_plan, divided_parts}
 use Rattle.nx_cuts.proofs.FoldLemmas.{drawn_keeps}
@@ -56,7 +56,7 @@ layout_before-draft (Kept r m s) = ap (Kept r m) (layout_before-draft s)
 
 drawn_forest-draft : (a : Layout) → drawn_forest (unchanged_draft a) ≡ without_places a
 drawn_forest-draft Bare = refl
-drawn_forest-draft (Grown n b s) = ap (λ (l : CutForest). Grown n l (drawn_forest (unchanged_draft s))) (drawn_forest-draft b) ∙ ap (Grown n (without_places b)) (drawn_forest-draft s)
+drawn_forest-draft (Grown n b s) = ap (λ (l : CutForest). Grown n.node l (drawn_forest (unchanged_draft s))) (drawn_forest-draft b) ∙ ap (Grown n.node (without_places b)) (drawn_forest-draft s)
 drawn_forest-draft (Kept r m s) = ap (Kept tt (without_places m)) (drawn_forest-draft s)
 
 -- an interval that has no node of the others is apart from them
@@ -100,13 +100,13 @@ module _ (rules : List Rule) (above : Option Node) (k : ℕ) (members : Layout) 
       let count = l + 1 - a in
       let t : CutTree = record { node = helper; below = drawn_forest d.draft } in
       let wide = way.wide in
-      let same : forest (drawn_forest d.draft) ≡ forest members = sym (forest-layout_before d.draft) ∙ ap forest d.stands in
+      let same : forest (drawn_forest d.draft) ≡ laid_forest members = sym (forest-layout_before d.draft) ∙ ap laid_forest d.stands in
       let at_is : at (tree_of t) parent ≡ Some way.tree = ap (λ (f : Forest). let z : OrderedTree = record { node = helper; below = f } in at z parent) same ∙ way.at_is in
       let away : IsApart (Run parent a l) (intervals [] 0 (drawn_forest d.draft)) =
       recursion_from_All (λ x. ¬ ShareMember (Run parent a l) x) (intervals [] 0 (drawn_forest d.draft)) (All-permutation (λ x. ¬ ShareMember (Run parent a l) x) (xs ++ olds) (intervals [] 0 (drawn_forest d.draft))
       (IsPermutation-sym (intervals [] 0 (drawn_forest d.draft)) (xs ++ olds) d.drawn_are) (All-from_recursion (λ x. ¬ ShareMember (Run parent a l) x) (xs ++ olds) (both_apart (Run parent a l) xs olds apart clear))) in
       let free : IsFreeAt parent a count (drawn_forest d.draft) = free_at k parent way.tree a count a l refl (omega arith) (omega arith) (omega arith) [] t d.form at_is away in
-      let light : total (forest (drawn_forest d.draft)) ≤ k = let e = ap total same in let f = ap total (forest_bare members) in omega (arith, e, f, small) in
+      let light : total (forest (drawn_forest d.draft)) ≤ k = let e = ap total same in omega (arith, e, small) in
       let kept = drawn_keeps k parent a count (omega arith) t free light d.form in
       let new = drawn_adds parent a count [] t free in
       let r = gathered_follows parent a count helper d.draft (subst (OpenAt parent) (sym d.stands) way.is_open) free in
@@ -142,7 +142,7 @@ all_held : (h : List ℕ → Option ℕ) (base position : ℕ) (c : Draft (Unit 
 all_held h base position Ends d f = tt
 all_held h base position (Grows n b s) d f = f 0 tt (ap (λ (i : ℕ). h (i ∷ [])) (let e : position + 0 ≡ position = omega arith in e) ∙ d.0)
 all_held h base position (Stands r m s) d f =
-    let w = width_bare m in
+    let w = drawn_wide m in
     all_held h (base + 1 + cuts (without_places m)) (position + width (without_places m)) s d.1
     (λ step o none. f (width m + step) (omega arith, subst (λ (i : ℕ). OpenRow i (λ b. Unit {0}) (layout_before s)) (let e : step ≡ width m + step - width m = omega arith in e) o)
     (ap (λ (i : ℕ). h (i ∷ [])) (let e : position + (width m + step) ≡ position + width (without_places m) + step = omega (arith, w) in e) ∙ none))
@@ -164,7 +164,7 @@ split_is_drafted settings rules above k members parts most light split =
     let nodes = part_nodes rules above old in
     let feasible = feasible_plan settings nodes parts split in
     let plan : IsPlanOfPart nodes parts = feasible.plan in
-    let form : AreParts k old = parts_bare k members light in
+    let form : AreParts k old = light in
     let big = k + total (forest old) in
     let inside = recursion_from_All (IsInside nodes) parts plan.inside in
     let clear : Members (IsClear (holder olds) []) parts =
@@ -173,7 +173,7 @@ split_is_drafted settings rules above k members parts most light split =
     let divides : Divides settings rules above old (drawn_forest d.draft) = record {
       parts = parts;
       split = split;
-      same = sym (forest-layout_before d.draft) ∙ ap forest d.stands ∙ sym (forest_bare members);
+      same = sym (forest-layout_before d.draft) ∙ ap laid_forest d.stands;
       drawn = d.drawn_are;
       limit = big;
       formed = d.form;

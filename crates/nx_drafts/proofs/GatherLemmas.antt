@@ -7,11 +7,11 @@ use Rattle.nx_cuts.specs.Cut.{CutForest, CutTree, Bare, Grown, Kept, joined, for
 use Rattle.nx_cuts.specs.Rows.{first, behind, changed_row}
 use Rattle.nx_cuts.proofs.Draw.{wrapped, drawn, AtRow, IsFreeAt, IsFreeRun, BeginsFree}
 use Rattle.nx_cuts.proofs.DeepLemmas.{member_row, beside_row}
-use Rattle.nx_layouts.specs.Layout.{Layout, without_places}
+use Rattle.nx_layouts.specs.Layout.{Layout, without_places, laid_forest}
 use Rattle.nx_layouts.specs.Replace.{joined_layout}
 use Rattle.nx_layouts.proofs.ReplaceLemmas.{forest-joined_layout}
 use Rattle.nx_drafts.specs.Draft.{Draft, Ends, Grows, Stands, Comes, drawn_forest, layout_before}
-use Rattle.nx_drawn.proofs.BareLemmas.{width_bare, forest_bare}
+use Rattle.nx_layouts.proofs.DrawnLemmas.{drawn_wide}
 use Rattle.nx_drafts.proofs.DraftEdit.{front, back, gathered, altered, gathered_at}
 use Rattle.nx_drafts.proofs.OpenLemmas.{OpenRow, OpenAt, open_front, open_back}
 
@@ -30,20 +30,20 @@ width-joined (Kept r m s) b = omega (arith, width-joined s b)
 pub width-layout_before : (c : Plan) → width (layout_before c) ≡ width (drawn_forest c)
 width-layout_before Ends = refl
 width-layout_before (Grows n b s) = omega (arith, width-layout_before s)
-width-layout_before (Stands r m s) = omega (arith, width-layout_before s, width_bare m)
+width-layout_before (Stands r m s) = omega (arith, width-layout_before s, drawn_wide m)
 width-layout_before (Comes u m s) = omega (arith, width-joined (layout_before m) (layout_before s), width-layout_before m, width-layout_before s)
 
-pub forest-layout_before : {P : Type 0} (c : Draft P) → forest (layout_before c) ≡ forest (drawn_forest c)
+pub forest-layout_before : {P : Type 0} (c : Draft P) → laid_forest (layout_before c) ≡ forest (drawn_forest c)
 forest-layout_before Ends = refl
-forest-layout_before (Grows n b s) = ap (λ (f : Forest). Plant n f (forest (layout_before s))) (forest-layout_before b) ∙ ap (Plant n (forest (drawn_forest b))) (forest-layout_before s)
-forest-layout_before (Stands r m s) = ap (λ (f : Forest). joined f (forest (layout_before s))) (sym (forest_bare m)) ∙ ap (joined (forest (without_places m))) (forest-layout_before s)
+forest-layout_before (Grows n b s) = ap (λ (f : Forest). Plant n.node f (laid_forest (layout_before s))) (forest-layout_before b) ∙ ap (Plant n.node (forest (drawn_forest b))) (forest-layout_before s)
+forest-layout_before (Stands r m s) = ap (joined (laid_forest m)) (forest-layout_before s)
 forest-layout_before (Comes u m s) =
-    forest-joined_layout (layout_before m) (layout_before s) ∙ ap (λ (f : Forest). joined f (forest (layout_before s))) (forest-layout_before m) ∙ ap (joined (forest (drawn_forest m))) (forest-layout_before s)
+    forest-joined_layout (layout_before m) (layout_before s) ∙ ap (λ (f : Forest). joined f (laid_forest (layout_before s))) (forest-layout_before m) ∙ ap (joined (forest (drawn_forest m))) (forest-layout_before s)
 
 drawn_forest-front : (n : ℕ) (c : Plan) → drawn_forest (front n c) ≡ first n (drawn_forest c)
 drawn_forest-front zero c = refl
 drawn_forest-front (suc n) Ends = refl
-drawn_forest-front (suc n) (Grows x b s) = ap (Grown x (drawn_forest b)) (drawn_forest-front n s)
+drawn_forest-front (suc n) (Grows x b s) = ap (Grown x.node (drawn_forest b)) (drawn_forest-front n s)
 drawn_forest-front (suc n) (Stands r m s) = refl
 drawn_forest-front (suc n) (Comes u m s) = refl
 
@@ -64,7 +64,7 @@ layout_before-front (suc n) (Comes u m s) f = absurd f
 drawn_forest-gathered : (from count : ℕ) (c : Plan) → drawn_forest (gathered from count c) ≡ wrapped from count (drawn_forest c)
 drawn_forest-gathered zero count c = ap (λ (m : CutForest). Kept tt m (drawn_forest (back count c))) (drawn_forest-front count c) ∙ ap (Kept tt (first count (drawn_forest c))) (drawn_forest-back count c)
 drawn_forest-gathered (suc from) count Ends = refl
-drawn_forest-gathered (suc from) count (Grows n b s) = ap (Grown n (drawn_forest b)) (drawn_forest-gathered from count s)
+drawn_forest-gathered (suc from) count (Grows n b s) = ap (Grown n.node (drawn_forest b)) (drawn_forest-gathered from count s)
 drawn_forest-gathered (suc from) count (Stands r m s) = ap (Kept tt (without_places m)) (drawn_forest-gathered (suc from - width (without_places m)) count s)
 drawn_forest-gathered (suc from) count (Comes u m s) = ap (Kept tt (drawn_forest m)) (drawn_forest-gathered (suc from - width (drawn_forest m)) count s)
 
@@ -95,11 +95,11 @@ past false x y e = refl
 row_follows : (change : Plan → Plan) (other : CutTree → CutTree) (Q : Layout → Type 0) (F : CutForest → Type 0) → Follows change other Q F → (p : ℕ) (c : Plan) → OpenRow p Q (layout_before c) → AtRow p F (drawn_forest c)
     → (changed_row p other (drawn_forest c) ≡ drawn_forest (altered p change c)) × (layout_before (altered p change c) ≡ layout_before c)
 row_follows change other Q F h p Ends o a = absurd a
-row_follows change other Q F h zero (Grows n b s) o a = let r = h n b o a in (ap (λ (t : CutTree). Grown t.node t.below (drawn_forest s)) r.0, ap (λ (l : Layout). Grown n l (layout_before s)) r.1)
-row_follows change other Q F h (suc p) (Grows n b s) o a = let r = row_follows change other Q F h p s o a in (ap (Grown n (drawn_forest b)) r.0, ap (Grown n (layout_before b)) r.1)
+row_follows change other Q F h zero (Grows n b s) o a = let r = h n.node b o a in (ap (λ (t : CutTree). Grown t.node t.below (drawn_forest s)) r.0, ap (λ (l : Layout). Grown n l (layout_before s)) r.1)
+row_follows change other Q F h (suc p) (Grows n b s) o a = let r = row_follows change other Q F h p s o a in (ap (Grown n.node (drawn_forest b)) r.0, ap (Grown n (layout_before b)) r.1)
 row_follows change other Q F h p (Stands r m s) o a =
     let le = o.0 in
-    let w = width_bare m in
+    let w = drawn_wide m in
     let x : width (without_places m) ≤ p = omega (arith, le, w) in
     let e : nat_lt p (width (without_places m)) ≡ false = grind (arith, nat_tests) in
     let open_on : OpenRow (p - width (without_places m)) Q (layout_before s) = subst (λ (i : ℕ). OpenRow (p - i) Q (layout_before s)) (sym w) o.1 in

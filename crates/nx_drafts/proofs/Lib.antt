@@ -1,9 +1,9 @@
 pub mod RowLemmas
+pub mod LabelLemmas
 pub mod OpenLemmas
 pub mod DraftEdit
 pub mod GatherLemmas
 pub mod DraftLemmas
-pub mod FillLemmas
 pub mod PlacesLemmas
 pub mod SomeLemmas
 pub mod OnceLemmas

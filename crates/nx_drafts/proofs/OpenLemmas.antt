@@ -9,16 +9,16 @@ use Rattle.nx_tree.specs.Edit.{at, child}
 use Rattle.nx_weights.specs.Weight.{weight}
 use Rattle.nx_matrix.specs.declared.rule.Entry.{Entry}
 use Rattle.nx_matrix.specs.declared.rule.Rule.{Rule}
-use Rattle.nx_cuts.specs.Cut.{Bare, Grown, Kept, joined, forest, width}
+use Rattle.nx_cuts.specs.Cut.{Bare, Grown, Kept, joined, width}
 use Rattle.nx_cuts.proofs.FeasibleLemmas.{trees, trees-forest}
 use Rattle.nx_cuts.proofs.FreeLemmas.{child_back}
-use Rattle.nx_layouts.specs.Layout.{Layout, without_places}
+use Rattle.nx_layouts.specs.Layout.{Layout, without_places, laid_forest}
 use Rattle.nx_layouts.specs.Replace.{joined_layout}
 use Rattle.nx_sketch.specs.Sketch.{Placed, placed_in}
 use Rattle.nx_sketch.specs.Plan.{IsPlaced}
 use Rattle.nx_split.specs.Piece.{asked}
 use Rattle.nx_drawn.specs.Splits.{part_sketch}
-use Rattle.nx_drawn.proofs.BareLemmas.{width_bare, forest_bare}
+use Rattle.nx_layouts.proofs.DrawnLemmas.{drawn_wide}
 
 -- Q holds of what is below the tree at that position, which is no member of an interval
 abbrev pub OpenRow : ℕ → (Layout → Type 0) → Layout → Type 0
@@ -69,23 +69,22 @@ abbrev tree_on : Node → Forest → OrderedTree
 tree_on n f = record { node = n; below = f }
 
 -- the tree at an open position
-open_child : (Q : Layout → Type 0) (p : ℕ) (c : Layout) → OpenRow p Q c → (n : Node) × (b : Layout) × Q b × (child (forest c) p ≡ Some (tree_on n (forest b)))
+open_child : (Q : Layout → Type 0) (p : ℕ) (c : Layout) → OpenRow p Q c → (n : Node) × (b : Layout) × Q b × (child (laid_forest c) p ≡ Some (tree_on n (laid_forest b)))
 open_child Q p Bare o = absurd o
-open_child Q zero (Grown n b s) o = (n, b, o, refl)
+open_child Q zero (Grown n b s) o = (n.node, b, o, refl)
 open_child Q (suc p) (Grown n b s) o = open_child Q p s o
 open_child Q p (Kept r m s) o =
     let le = o.0 in
     let t = trees-forest (without_places m) in
-    let w = width_bare m in
-    let v : trees (forest (without_places m)) ≡ trees (forest m) = ap trees (forest_bare m) in
-    let e : trees (forest m) + (p - width m) ≡ p = omega (arith, le, t, w, v) in
+    let w = drawn_wide m in
+    let e : trees (laid_forest m) + (p - width m) ≡ p = omega (arith, le, t, w) in
     let x = open_child Q (p - width m) s o.1 in
-    (x.0, x.1, x.2, ap (child (joined (forest m) (forest s))) (sym e) ∙ child_back (forest m) (forest s) (p - width m) ∙ x.3)
+    (x.0, x.1, x.2, ap (child (joined (laid_forest m) (laid_forest s))) (sym e) ∙ child_back (laid_forest m) (laid_forest s) (p - width m) ∙ x.3)
 
 -- An open path leads to a tree with so many children.
 pub record LeadsTo (n : Node) (path : List ℕ) (position : ℕ) (c : Layout) : Type 0 where
   pub tree : OrderedTree
-  pub at_is : at (tree_on n (forest c)) path ≡ Some tree
+  pub at_is : at (tree_on n (laid_forest c)) path ≡ Some tree
   pub wide : position < trees tree.below
   pub is_open : OpenAt path c
 
@@ -93,9 +92,8 @@ pub leads : (n : Node) (path : List ℕ) (position : ℕ) (c : Layout) → OpenA
 leads n [] position c o =
     let w = open_width (λ b. Unit {0}) position c o in
     let t = trees-forest (without_places c) in
-    let e = width_bare c in
-    let v : trees (forest (without_places c)) ≡ trees (forest c) = ap trees (forest_bare c) in
-    record { tree = tree_on n (forest c); at_is = refl; wide = omega (arith, w, t, e, v); is_open = tt }
+    let e = drawn_wide c in
+    record { tree = tree_on n (laid_forest c); at_is = refl; wide = omega (arith, w, t, e); is_open = tt }
 leads n (step ∷ path) position c o =
     let x = open_child (OpenAt (path ++ position ∷ [])) step c o in
     let r = leads x.0 path position x.1 x.2 in
@@ -126,7 +124,7 @@ module _ (rules : List Rule) where
   nodes_open asks path position Bare = tt
   nodes_open asks path position (Grown n b s) =
       let here = path ++ position ∷ [] in
-      let inner = placed_in here (part_sketch rules (asked rules n) 0 (without_places b)) in
+      let inner = placed_in here (part_sketch rules (asked rules n.node) 0 (without_places b)) in
       let along = placed_in path (part_sketch rules asks (position + 1) (without_places s)) in (
         record { step = 0; rest = []; is = ap (λ (i : ℕ). path ++ i ∷ []) (let e : position ≡ position + 0 = omega arith in e); leads_on = tt },
         both_open (IsOpen path position (Grown n b s)) inner along
@@ -138,7 +136,7 @@ module _ (rules : List Rule) where
                   ∙ ap (λ (i : ℕ). path ++ i ∷ (0 + o.step) ∷ o.rest) (let e : position ≡ position + 0 = omega arith in e)
                   ∙ ap (λ (i : ℕ). path ++ (position + 0) ∷ i ∷ o.rest) (let e : 0 + o.step ≡ o.step = omega arith in e);
               leads_on = o.leads_on;
-            }) (nodes_open (asked rules n) here 0 b))
+            }) (nodes_open (asked rules n.node) here 0 b))
             (each_open (IsOpen path (position + 1) s) (IsOpen path position (Grown n b s)) along
             (λ x o. record {
               step = suc o.step;
@@ -153,7 +151,7 @@ module _ (rules : List Rule) where
       (λ x o. record {
         step = width m + o.step;
         rest = o.rest;
-        is = o.is ∙ ap (λ (i : ℕ). path ++ i ∷ o.rest) (let w = width_bare m in let e : position + width (without_places m) + o.step ≡ position + (width m + o.step) = omega (arith, w) in e);
+        is = o.is ∙ ap (λ (i : ℕ). path ++ i ∷ o.rest) (let w = drawn_wide m in let e : position + width (without_places m) + o.step ≡ position + (width m + o.step) = omega (arith, w) in e);
         leads_on = (omega arith, subst (λ (i : ℕ). OpenRow i (OpenAt o.rest) s) (let e : o.step ≡ width m + o.step - width m = omega arith in e) o.leads_on);
       }) (nodes_open asks path (position + width (without_places m)) s)
 
@@ -162,23 +160,23 @@ module _ (rules : List Rule) where
   top_placed asks path position step Bare o = absurd o
   top_placed asks path position zero (Grown n b s) o =
       let here = path ++ position ∷ [] in
-      let node : Placed = record { path = here; weight = weight n; entry = asks n } in (
+      let node : Placed = record { path = here; weight = weight n.node; entry = asks n.node } in (
         node,
-        Contains-append_left (node ∷ []) (placed_in here (part_sketch rules (asked rules n) 0 (without_places b)) ++ placed_in path (part_sketch rules asks (position + 1) (without_places s))) node (Contains-push [] node),
+        Contains-append_left (node ∷ []) (placed_in here (part_sketch rules (asked rules n.node) 0 (without_places b)) ++ placed_in path (part_sketch rules asks (position + 1) (without_places s))) node (Contains-push [] node),
         ap (λ (i : ℕ). path ++ i ∷ []) (let e : position ≡ position + 0 = omega arith in e),
       )
   top_placed asks path position (suc step) (Grown n b s) o =
       let here = path ++ position ∷ [] in
-      let node : Placed = record { path = here; weight = weight n; entry = asks n } in
+      let node : Placed = record { path = here; weight = weight n.node; entry = asks n.node } in
       let r = top_placed asks path (position + 1) step s o in (
         r.0,
-        Contains-append_right (node ∷ placed_in here (part_sketch rules (asked rules n) 0 (without_places b))) (placed_in path (part_sketch rules asks (position + 1) (without_places s))) r.0 r.1,
+        Contains-append_right (node ∷ placed_in here (part_sketch rules (asked rules n.node) 0 (without_places b))) (placed_in path (part_sketch rules asks (position + 1) (without_places s))) r.0 r.1,
         r.2 ∙ ap (λ (i : ℕ). path ++ i ∷ []) (let e : position + 1 + step ≡ position + suc step = omega arith in e),
       )
   top_placed asks path position step (Kept p m s) o =
       let le = o.0 in
       let r = top_placed asks path (position + width (without_places m)) (step - width m) s o.1 in
-      (r.0, r.1, r.2 ∙ ap (λ (i : ℕ). path ++ i ∷ []) (let w = width_bare m in let e : position + width (without_places m) + (step - width m) ≡ position + step = omega (arith, w, le) in e))
+      (r.0, r.1, r.2 ∙ ap (λ (i : ℕ). path ++ i ∷ []) (let w = drawn_wide m in let e : position + width (without_places m) + (step - width m) ≡ position + step = omega (arith, w, le) in e))
 
 at_place : (P : Placed → Type 0) (xs : List Placed) → AllByRecursion P xs → (x : Placed) → Contains xs x → P x
 at_place P [] a x c = absurd (let lt = c.1 in omega arith)

@@ -3,10 +3,11 @@ use Rattle.std.proofs.Common.{◌≡◌, List, [], ◌∷◌, ◌++◌, length, 
 use Rattle.std.proofs.lemmas.List.Sorted.{IsPermutation-refl, IsPermutation-trans, IsPermutation-cons, IsPermutation-append_left, IsPermutation-append_right, IsPermutation-middle}
 use Rattle.nx_piece.specs.Gapped.{Gapped, Grow}
 use Rattle.nx_cuts.specs.Cut.{CutForest, Bare, Grown, Kept}
-use Rattle.nx_layouts.specs.Layout.{RecordPlace, Layout, gap_more, piece_body, proxies_of, places_of, without_places}
+use Rattle.nx_layouts.specs.Layout.{RecordPlace, LaidNode, Layout, in_record, gap_more, piece_body, proxies_of, places_of, nodes_in, without_places}
 use Rattle.nx_layouts.specs.Replace.{joined_layout}
+use Rattle.nx_layouts.proofs.ReplaceLemmas.{nodes-joined_layout}
 use Rattle.nx_drafts.specs.Draft.{Draft, Ends, Grows, Stands, Comes, drawn_forest, layout_before, layout_after, came, draft_body, draft_count}
-use Rattle.nx_drafts.specs.Laws.{PlacesAreBoth}
+use Rattle.nx_drafts.specs.Laws.{NodesStayInOrder, PlacesAreBoth}
 
 places-joined : (a b : Layout) → places_of (joined_layout a b) ≡ places_of a ++ places_of b
 places-joined Bare b = refl
@@ -55,7 +56,7 @@ places_are_both (Comes r m s) =
 -- what a record has of a draft whose records have come
 pub body-layout_after : (c : Draft RecordPlace) → piece_body (layout_after c) ≡ draft_body c
 body-layout_after Ends = refl
-body-layout_after (Grows n b s) = ap (λ (g : Gapped). Grow n g (piece_body (layout_after s))) (body-layout_after b) ∙ ap (Grow n (draft_body b)) (body-layout_after s)
+body-layout_after (Grows n b s) = ap (λ (g : Gapped). Grow (in_record n) g (piece_body (layout_after s))) (body-layout_after b) ∙ ap (Grow (in_record n) (draft_body b)) (body-layout_after s)
 body-layout_after (Stands r m s) = ap gap_more (body-layout_after s)
 body-layout_after (Comes r m s) = ap gap_more (body-layout_after s)
 
@@ -67,6 +68,15 @@ count-layout_after (Comes r m s) = omega (arith, count-layout_after s)
 
 pub drawn_forest-layout_after : (c : Draft RecordPlace) → without_places (layout_after c) ≡ drawn_forest c
 drawn_forest-layout_after Ends = refl
-drawn_forest-layout_after (Grows n b s) = ap (λ (l : CutForest). Grown n l (without_places (layout_after s))) (drawn_forest-layout_after b) ∙ ap (Grown n (drawn_forest b)) (drawn_forest-layout_after s)
+drawn_forest-layout_after (Grows n b s) = ap (λ (l : CutForest). Grown n.node l (without_places (layout_after s))) (drawn_forest-layout_after b) ∙ ap (Grown n.node (drawn_forest b)) (drawn_forest-layout_after s)
 drawn_forest-layout_after (Stands r m s) = ap (Kept tt (without_places m)) (drawn_forest-layout_after s)
 drawn_forest-layout_after (Comes r m s) = ap (λ (l : CutForest). Kept tt l (without_places (layout_after s))) (drawn_forest-layout_after m) ∙ ap (Kept tt (drawn_forest m)) (drawn_forest-layout_after s)
+
+-- records that come leave the nodes
+pub nodes_stay : NodesStayInOrder
+nodes_stay Ends = refl
+nodes_stay (Grows n b s) = ap (λ (l : List LaidNode). n ∷ l ++ nodes_in (layout_after s)) (nodes_stay b) ∙ ap (λ (l : List LaidNode). n ∷ nodes_in (layout_before b) ++ l) (nodes_stay s)
+nodes_stay (Stands r m s) = ap (λ (l : List LaidNode). nodes_in m ++ l) (nodes_stay s)
+nodes_stay (Comes r m s) =
+    ap (λ (l : List LaidNode). l ++ nodes_in (layout_after s)) (nodes_stay m) ∙ ap (λ (l : List LaidNode). nodes_in (layout_before m) ++ l) (nodes_stay s)
+    ∙ sym (nodes-joined_layout (layout_before m) (layout_before s))

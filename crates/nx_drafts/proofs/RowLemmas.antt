@@ -6,18 +6,13 @@ use Rattle.nx_tree.specs.declared.node.Node.{Node}
 use Rattle.nx_cuts.specs.Cut.{CutForest, Bare, Grown, Kept, part_weight, AreParts}
 use Rattle.nx_matrix.specs.declared.rule.Rule.{Rule}
 use Rattle.nx_holdings.specs.declared.header.Settings.{Settings}
-use Rattle.nx_layouts.specs.Layout.{RecordPlace, Layout, without_places, proxies_of}
-use Rattle.nx_layouts.specs.Replace.{joined_layout, replaced_at, kept_at, above_at}
+use Rattle.nx_layouts.specs.Layout.{RecordPlace, Layout, without_places, laid_weight, AreLaidParts, proxies_of}
+use Rattle.nx_layouts.specs.Replace.{replaced_at, kept_at, above_at}
+use Rattle.nx_layouts.proofs.DrawnLemmas.{rows_are_drawn_alike}
 use Rattle.nx_cuts.specs.Rows.{joined_row}
 use Rattle.nx_cuts.proofs.RowLemmas.{joined_row-none}
 use Rattle.nx_drawn.specs.Splits.{Divides, SplitsInterval, SplitsRow, whole_document}
 use Rattle.nx_drafts.specs.Rows.{OneIsSplit, SplitStaysAbove, RowSplitsAbove, LightRowStays, RootIsSplit}
-use Rattle.nx_drawn.proofs.BareLemmas.{weight_bare, parts_bare}
-
-pub bare-joined : (a b : Layout) → without_places (joined_layout a b) ≡ joined_row (without_places a) (without_places b)
-bare-joined Bare b = refl
-bare-joined (Grown node below beside) b = ap (Grown node (without_places below)) (bare-joined beside b)
-bare-joined (Kept place members beside) b = ap (Kept tt (without_places members)) (bare-joined beside b)
 
 module _ (settings : Settings) (rules : List Rule) where
   stays_interval : (m : CutForest) (above : Option Node) (t : Bool) → nat_lt settings.k (part_weight m) ≡ t → part_weight m ≤ settings.k → MatchBool t (Divides settings rules above m (Kept tt m Bare)) (Kept tt m Bare ≡ Kept tt m Bare)
@@ -31,20 +26,20 @@ module _ (settings : Settings) (rules : List Rule) where
   row_stays above (Kept mark members beside) a =
       (members, Kept tt members Bare, beside, row_stays above members a.3, stays_interval members above (nat_lt settings.k (part_weight members)) refl a.2, row_stays above beside a.4, refl)
 
-  one_split : (above : Option Node) (index : ℕ) (old members row : Layout) → kept_at index old ≡ Some members → AreParts settings.k (replaced_at index Bare old) → AreParts settings.k members
+  one_split : (above : Option Node) (index : ℕ) (old members row : Layout) → kept_at index old ≡ Some members → AreLaidParts settings.k (replaced_at index Bare old) → AreLaidParts settings.k members
       → SplitsInterval settings rules (above_at index above old) (without_places members) (without_places row) → SplitsRow settings rules above (without_places old) (without_places (replaced_at index row old))
   one_split above index Bare members row e a parts splits = cc
   one_split above index (Grown n b s) members row e a parts splits =
       (elim (nat_lt index (length (proxies_of b))) as (λ t.
       (if t then kept_at index b else kept_at (index - length (proxies_of b)) s) ≡ Some members
-      → AreParts settings.k (if t then Grown n (replaced_at index Bare b) s else Grown n b (replaced_at (index - length (proxies_of b)) Bare s))
-      → SplitsInterval settings rules (if t then above_at index (Some n) b else above_at (index - length (proxies_of b)) above s) (without_places members) (without_places row)
-      → SplitsRow settings rules above (Grown n (without_places b) (without_places s)) (without_places (if t then Grown n (replaced_at index row b) s else Grown n b (replaced_at (index - length (proxies_of b)) row s)))) [
-        | true ↦ λ f h w. (without_places (replaced_at index row b), without_places s, one_split (Some n) index b members row f h.0 parts w, row_stays above (without_places s) (parts_bare settings.k s h.1), refl)
+      → AreLaidParts settings.k (if t then Grown n (replaced_at index Bare b) s else Grown n b (replaced_at (index - length (proxies_of b)) Bare s))
+      → SplitsInterval settings rules (if t then above_at index (Some n.node) b else above_at (index - length (proxies_of b)) above s) (without_places members) (without_places row)
+      → SplitsRow settings rules above (Grown n.node (without_places b) (without_places s)) (without_places (if t then Grown n (replaced_at index row b) s else Grown n b (replaced_at (index - length (proxies_of b)) row s)))) [
+        | true ↦ λ f h w. (without_places (replaced_at index row b), without_places s, one_split (Some n.node) index b members row f h.0 parts w, row_stays above (without_places s) h.1, refl)
         | false ↦ λ f h w. (
           without_places b,
           without_places (replaced_at (index - length (proxies_of b)) row s),
-          row_stays (Some n) (without_places b) (parts_bare settings.k b h.0),
+          row_stays (Some n.node) (without_places b) h.0,
           one_split above (index - length (proxies_of b)) s members row f h.1 parts w,
           refl,
         )
@@ -54,37 +49,36 @@ module _ (settings : Settings) (rules : List Rule) where
         without_places members,
         without_places row,
         without_places s,
-        subst (λ (l : Layout). SplitsRow settings rules above (without_places l) (without_places members)) (sym same) (row_stays above (without_places members) (parts_bare settings.k members parts)),
+        subst (λ (l : Layout). SplitsRow settings rules above (without_places l) (without_places members)) (sym same) (row_stays above (without_places members) parts),
         splits,
-        row_stays above (without_places s) (parts_bare settings.k s a),
-        bare-joined row s,
+        row_stays above (without_places s) a,
+        (rows_are_drawn_alike row).joined s,
       )
-  one_split above (suc index) (Kept r m s) members row e a parts splits =
-      let h = parts_bare settings.k (Kept r m (replaced_at index Bare s)) a in (
-        without_places m,
-        Kept tt (without_places m) Bare,
-        without_places (replaced_at index row s),
-        row_stays above (without_places m) h.3,
-        stays_interval (without_places m) above (nat_lt settings.k (part_weight (without_places m))) refl h.2,
-        one_split above index s members row e a.4 parts splits,
-        refl,
-      )
+  one_split above (suc index) (Kept r m s) members row e a parts splits = (
+    without_places m,
+    Kept tt (without_places m) Bare,
+    without_places (replaced_at index row s),
+    row_stays above (without_places m) a.3,
+    stays_interval (without_places m) above (nat_lt settings.k (part_weight (without_places m))) refl a.2,
+    one_split above index s members row e a.4 parts splits,
+    refl,
+  )
 
-  stays_above : (above : Option Node) (index : ℕ) (place : RecordPlace) (old members now : Layout) → kept_at index old ≡ Some members → AreParts settings.k (replaced_at index Bare old) → part_weight now ≤ settings.k
+  stays_above : (above : Option Node) (index : ℕ) (place : RecordPlace) (old members now : Layout) → kept_at index old ≡ Some members → AreLaidParts settings.k (replaced_at index Bare old) → laid_weight now ≤ settings.k
       → SplitsRow settings rules (above_at index above old) (without_places members) (without_places now) → SplitsRow settings rules above (without_places old) (without_places (replaced_at index (Kept place now Bare) old))
   stays_above above index place Bare members now e a light splits = cc
   stays_above above index place (Grown n b s) members now e a light splits =
       let row : Layout = Kept place now Bare in
       (elim (nat_lt index (length (proxies_of b))) as (λ t.
       (if t then kept_at index b else kept_at (index - length (proxies_of b)) s) ≡ Some members
-      → AreParts settings.k (if t then Grown n (replaced_at index Bare b) s else Grown n b (replaced_at (index - length (proxies_of b)) Bare s))
-      → SplitsRow settings rules (if t then above_at index (Some n) b else above_at (index - length (proxies_of b)) above s) (without_places members) (without_places now)
-      → SplitsRow settings rules above (Grown n (without_places b) (without_places s)) (without_places (if t then Grown n (replaced_at index row b) s else Grown n b (replaced_at (index - length (proxies_of b)) row s)))) [
-        | true ↦ λ f h w. (without_places (replaced_at index row b), without_places s, stays_above (Some n) index place b members now f h.0 light w, row_stays above (without_places s) (parts_bare settings.k s h.1), refl)
+      → AreLaidParts settings.k (if t then Grown n (replaced_at index Bare b) s else Grown n b (replaced_at (index - length (proxies_of b)) Bare s))
+      → SplitsRow settings rules (if t then above_at index (Some n.node) b else above_at (index - length (proxies_of b)) above s) (without_places members) (without_places now)
+      → SplitsRow settings rules above (Grown n.node (without_places b) (without_places s)) (without_places (if t then Grown n (replaced_at index row b) s else Grown n b (replaced_at (index - length (proxies_of b)) row s)))) [
+        | true ↦ λ f h w. (without_places (replaced_at index row b), without_places s, stays_above (Some n.node) index place b members now f h.0 light w, row_stays above (without_places s) h.1, refl)
         | false ↦ λ f h w. (
           without_places b,
           without_places (replaced_at (index - length (proxies_of b)) row s),
-          row_stays (Some n) (without_places b) (parts_bare settings.k b h.0),
+          row_stays (Some n.node) (without_places b) h.0,
           stays_above above (index - length (proxies_of b)) place s members now f h.1 light w,
           refl,
         )
@@ -95,35 +89,34 @@ module _ (settings : Settings) (rules : List Rule) where
         Kept tt (without_places now) Bare,
         without_places s,
         subst (λ (l : Layout). SplitsRow settings rules above (without_places l) (without_places now)) (sym same) splits,
-        stays_interval (without_places now) above (nat_lt settings.k (part_weight (without_places now))) refl (omega (arith, light, weight_bare now)),
-        row_stays above (without_places s) (parts_bare settings.k s a),
+        stays_interval (without_places now) above (nat_lt settings.k (part_weight (without_places now))) refl light,
+        row_stays above (without_places s) a,
         refl,
       )
-  stays_above above (suc index) place (Kept r m s) members now e a light splits =
-      let h = parts_bare settings.k (Kept r m (replaced_at index Bare s)) a in (
-        without_places m,
-        Kept tt (without_places m) Bare,
-        without_places (replaced_at index (Kept place now Bare) s),
-        row_stays above (without_places m) h.3,
-        stays_interval (without_places m) above (nat_lt settings.k (part_weight (without_places m))) refl h.2,
-        stays_above above index place s members now e a.4 light splits,
-        refl,
-      )
+  stays_above above (suc index) place (Kept r m s) members now e a light splits = (
+    without_places m,
+    Kept tt (without_places m) Bare,
+    without_places (replaced_at index (Kept place now Bare) s),
+    row_stays above (without_places m) a.3,
+    stays_interval (without_places m) above (nat_lt settings.k (part_weight (without_places m))) refl a.2,
+    stays_above above index place s members now e a.4 light splits,
+    refl,
+  )
 
-  row_above : (above : Option Node) (index : ℕ) (old members row : Layout) → kept_at index old ≡ Some members → AreParts settings.k (replaced_at index Bare old)
+  row_above : (above : Option Node) (index : ℕ) (old members row : Layout) → kept_at index old ≡ Some members → AreLaidParts settings.k (replaced_at index Bare old)
       → SplitsRow settings rules (above_at index above old) (Kept tt (without_places members) Bare) (without_places row) → SplitsRow settings rules above (without_places old) (without_places (replaced_at index row old))
   row_above above index Bare members row e a splits = cc
   row_above above index (Grown n b s) members row e a splits =
       (elim (nat_lt index (length (proxies_of b))) as (λ t.
       (if t then kept_at index b else kept_at (index - length (proxies_of b)) s) ≡ Some members
-      → AreParts settings.k (if t then Grown n (replaced_at index Bare b) s else Grown n b (replaced_at (index - length (proxies_of b)) Bare s))
-      → SplitsRow settings rules (if t then above_at index (Some n) b else above_at (index - length (proxies_of b)) above s) (Kept tt (without_places members) Bare) (without_places row)
-      → SplitsRow settings rules above (Grown n (without_places b) (without_places s)) (without_places (if t then Grown n (replaced_at index row b) s else Grown n b (replaced_at (index - length (proxies_of b)) row s)))) [
-        | true ↦ λ f h w. (without_places (replaced_at index row b), without_places s, row_above (Some n) index b members row f h.0 w, row_stays above (without_places s) (parts_bare settings.k s h.1), refl)
+      → AreLaidParts settings.k (if t then Grown n (replaced_at index Bare b) s else Grown n b (replaced_at (index - length (proxies_of b)) Bare s))
+      → SplitsRow settings rules (if t then above_at index (Some n.node) b else above_at (index - length (proxies_of b)) above s) (Kept tt (without_places members) Bare) (without_places row)
+      → SplitsRow settings rules above (Grown n.node (without_places b) (without_places s)) (without_places (if t then Grown n (replaced_at index row b) s else Grown n b (replaced_at (index - length (proxies_of b)) row s)))) [
+        | true ↦ λ f h w. (without_places (replaced_at index row b), without_places s, row_above (Some n.node) index b members row f h.0 w, row_stays above (without_places s) h.1, refl)
         | false ↦ λ f h w. (
           without_places b,
           without_places (replaced_at (index - length (proxies_of b)) row s),
-          row_stays (Some n) (without_places b) (parts_bare settings.k b h.0),
+          row_stays (Some n.node) (without_places b) h.0,
           row_above above (index - length (proxies_of b)) s members row f h.1 w,
           refl,
         )
@@ -136,21 +129,20 @@ module _ (settings : Settings) (rules : List Rule) where
         without_places s,
         subst (λ (l : Layout). SplitsRow settings rules above (without_places l) splits.0) (sym same) splits.3,
         splits.4,
-        row_stays above (without_places s) (parts_bare settings.k s a),
-        bare-joined row s ∙ ap (λ (c : CutForest). joined_row c (without_places s)) is,
+        row_stays above (without_places s) a,
+        (rows_are_drawn_alike row).joined s ∙ ap (λ (c : CutForest). joined_row c (without_places s)) is,
       )
-  row_above above (suc index) (Kept r m s) members row e a splits =
-      let h = parts_bare settings.k (Kept r m (replaced_at index Bare s)) a in (
-        without_places m,
-        Kept tt (without_places m) Bare,
-        without_places (replaced_at index row s),
-        row_stays above (without_places m) h.3,
-        stays_interval (without_places m) above (nat_lt settings.k (part_weight (without_places m))) refl h.2,
-        row_above above index s members row e a.4 splits,
-        refl,
-      )
+  row_above above (suc index) (Kept r m s) members row e a splits = (
+    without_places m,
+    Kept tt (without_places m) Bare,
+    without_places (replaced_at index row s),
+    row_stays above (without_places m) a.3,
+    stays_interval (without_places m) above (nat_lt settings.k (part_weight (without_places m))) refl a.2,
+    row_above above index s members row e a.4 splits,
+    refl,
+  )
 
-  interval_above : (above : Option Node) (index : ℕ) (old members row : Layout) → kept_at index old ≡ Some members → AreParts settings.k (replaced_at index Bare old) → part_weight (replaced_at index row old) ≤ settings.k
+  interval_above : (above : Option Node) (index : ℕ) (old members row : Layout) → kept_at index old ≡ Some members → AreLaidParts settings.k (replaced_at index Bare old) → laid_weight (replaced_at index row old) ≤ settings.k
       → SplitsRow settings rules (above_at index above old) (Kept tt (without_places members) Bare) (without_places row)
       → SplitsRow settings rules above (Kept tt (without_places old) Bare) (Kept tt (without_places (replaced_at index row old)) Bare)
   interval_above above index old members row e a light splits =
@@ -159,7 +151,7 @@ module _ (settings : Settings) (rules : List Rule) where
         Kept tt now Bare,
         Bare,
         row_above above index old members row e a splits,
-        stays_interval now above (nat_lt settings.k (part_weight now)) refl (omega (arith, light, weight_bare (replaced_at index row old))),
+        stays_interval now above (nat_lt settings.k (part_weight now)) refl light,
         refl,
         refl,
       )

@@ -1,24 +1,23 @@
 -- A layout some of whose intervals are to come: their records aren't there yet, or have just come.
 use Rattle.std.specs.Prelude.{ℕ, ◌+◌, ◌*◌, if◌then◌else◌, nat_le, List, [], ◌∷◌, ◌++◌}
-use Rattle.nx_tree.specs.declared.node.Node.{Node}
 use Rattle.nx_holdings.specs.Holdings.{chain_count}
 use Rattle.nx_piece.specs.Gapped.{Gapped, End, Grow}
 use Rattle.nx_piece.specs.Valid.{inline_length, longest_inline}
 use Rattle.nx_cuts.specs.Cut.{CutForest, Bare, Grown, Kept}
-use Rattle.nx_layouts.specs.Layout.{RecordPlace, Layout, without_places, gap_more}
+use Rattle.nx_layouts.specs.Layout.{RecordPlace, LaidNode, Layout, without_places, in_record, gap_more}
 use Rattle.nx_layouts.specs.Replace.{joined_layout}
 
 -- Trees beside each other, some of them members of intervals: of one that stands, with the place of its record, or of one that comes, which is marked.
 pub data Draft (P : Type 0) : Type 0 where
   Ends : Draft P
-  Grows : (node : Node) (below beside : Draft P) → Draft P
+  Grows : (node : LaidNode) (below beside : Draft P) → Draft P
   Stands : (place : RecordPlace) (members : Layout) (beside : Draft P) → Draft P
   Comes : (mark : P) (members beside : Draft P) → Draft P
 
 -- all of its intervals, drawn in
 abbrev pub drawn_forest : {P : Type 0} → Draft P → CutForest
 drawn_forest Ends = Bare
-drawn_forest (Grows node below beside) = Grown node (drawn_forest below) (drawn_forest beside)
+drawn_forest (Grows node below beside) = Grown node.node (drawn_forest below) (drawn_forest beside)
 drawn_forest (Stands place members beside) = Kept tt (without_places members) (drawn_forest beside)
 drawn_forest (Comes mark members beside) = Kept tt (drawn_forest members) (drawn_forest beside)
 
@@ -53,7 +52,7 @@ unmarked (Comes mark members beside) = Comes tt (unmarked members) (unmarked bes
 -- what one record has of it: intervals beside each other are one gap
 abbrev pub draft_body : {P : Type 0} → Draft P → Gapped
 draft_body Ends = End
-draft_body (Grows node below beside) = Grow node (draft_body below) (draft_body beside)
+draft_body (Grows node below beside) = Grow (in_record node) (draft_body below) (draft_body beside)
 draft_body (Stands place members beside) = gap_more (draft_body beside)
 draft_body (Comes mark members beside) = gap_more (draft_body beside)
 

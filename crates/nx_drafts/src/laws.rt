@@ -1,7 +1,7 @@
 //! What holds of splits in documents that are drawn, and of drafts.
-ghost use Rattle.nx_drafts.specs.Laws.{NeedsAreFew, PieceHasMembers, PlacesAreBoth, SplitIsDrafted};
-ghost use Rattle.nx_drafts.specs.Once.{HeavyIsLaid, HeavyIsThere};
-ghost use Rattle.nx_drafts.specs.Rows.{LightRowStays, OneIsSplit, RootIsSplit, RowSplitsAbove, SplitStaysAbove};
+ghost use Rattle.nx_drafts.specs.Laws.{NeedsAreFew, NodesStayInOrder, PieceHasMembers, PlacesAreBoth, SplitIsDrafted};
+ghost use Rattle.nx_drafts.specs.Once.{HeavyIsThere};
+ghost use Rattle.nx_drafts.specs.Rows.{LightRowStays, OneIsSplit, RootIsSplit, RowSplitsAbove, RowSplitsByLabel, SplitStaysAbove};
 
 /// A split can be drawn into the layout of the part that it divides.
 pub fn split_is_drafted()
@@ -25,6 +25,12 @@ pub fn row_splits_above()
     ensures { RowSplitsAbove }
 {}
 
+/// Of the node above it a row's split asks the label alone, so that the node may be as a record has it, wherever its content
+/// stands.
+pub fn row_splits_by_label()
+    ensures { RowSplitsByLabel }
+{}
+
 /// A row none of whose parts is too heavy is split into itself.
 pub fn light_row_stays()
     ensures { LightRowStays }
@@ -38,6 +44,11 @@ pub fn root_is_split()
 /// Of a draft whose records have all come, the places are those that came and those that stood.
 pub fn places_are_both()
     ensures { PlacesAreBoth }
+{}
+
+/// Once all records have come, the nodes are those that were there, with their contents where they stood.
+pub fn nodes_stay_in_order()
+    ensures { NodesStayInOrder }
 {}
 
 /// The records of a draft that are to come may take two pages for each node at most.
@@ -54,9 +65,4 @@ pub fn piece_has_members()
 /// be divided, and that no part beside it is too heavy.
 pub fn heavy_is_there()
     ensures { HeavyIsThere }
-{}
-
-/// With the places of its records one part of a document at most is too heavy where without them one is.
-pub fn heavy_is_laid()
-    ensures { HeavyIsLaid }
 {}

@@ -213,7 +213,7 @@ whole_heavy k more wide t u big light grows =
     ]
 
 pub plant_grows_little : PlantGrowsLittle
-plant_grows_little k alone second entry node position row fits h q = planted_grows k (k + 1) alone second node fits (omega arith) entry position row h q
+plant_grows_little k entry node position row fits h q = planted_grows k (k + 1) tt tt node fits (omega arith) entry position row h q
 
 pub insert_grows_little : InsertGrowsLittle
 insert_grows_little k rules node path document fits h =

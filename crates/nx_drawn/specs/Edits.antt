@@ -9,19 +9,19 @@ use Rattle.nx_cuts.specs.Rows.{joined_row, first, behind, changed_row}
 use Rattle.nx_split.specs.Piece.{asked}
 
 -- a new node outside of intervals: a standalone one is an interval alone, with this mark, any other joins its parent's part
-abbrev pub placed_beside : {P : Type 0} → (alone : P) → Entry → Node → Cut Node P → Cut Node P
+abbrev pub placed_beside : {N P : Type 0} → (alone : P) → Entry → N → Cut N P → Cut N P
 placed_beside alone Standalone node beside = Kept alone (Grown node Bare Bare) beside
 placed_beside alone Cluster node beside = Grown node Bare beside
 placed_beside alone Free node beside = Grown node Bare beside
 
 -- A new node between the members of an interval, at a position among them: a free one joins the interval, any other divides it, and the members behind it are an interval with the second mark.
-abbrev pub placed_among : {P : Type 0} → (alone second mark : P) → Entry → Node → ℕ → (members beside : Cut Node P) → Cut Node P
+abbrev pub placed_among : {N P : Type 0} → (alone second mark : P) → Entry → N → ℕ → (members beside : Cut N P) → Cut N P
 placed_among alone second mark Free node position members beside = Kept mark (joined_row (first position members) (Grown node Bare (behind position members))) beside
 placed_among alone second mark Standalone node position members beside = Kept mark (first position members) (placed_beside alone Standalone node (Kept second (behind position members) beside))
 placed_among alone second mark Cluster node position members beside = Kept mark (first position members) (placed_beside alone Cluster node (Kept second (behind position members) beside))
 
 -- a new node at a position of a row: between the members of an interval where some of them stand before it and some behind
-abbrev pub planted_row : {P : Type 0} → (alone second : P) → Entry → Node → ℕ → Cut Node P → Cut Node P
+abbrev pub planted_row : {N P : Type 0} → (alone second : P) → Entry → N → ℕ → Cut N P → Cut N P
 planted_row alone second entry node zero c = placed_beside alone entry node c
 planted_row alone second entry node (suc position) Bare = Bare
 planted_row alone second entry node (suc position) (Grown other below beside) = Grown other below (planted_row alone second entry node position beside)

@@ -4,10 +4,9 @@ use Rattle.nx_tree.specs.declared.node.Node.{Node}
 use Rattle.nx_tree.specs.Forest.{OrderedTree}
 use Rattle.nx_tree.specs.Edit.{at}
 use Rattle.nx_weights.specs.Weight.{weight}
-use Rattle.nx_cuts.specs.Cut.{Cut, Bare, Grown, Kept, CutTree, width, part_weight, AreFree, AreParts, tree_of}
+use Rattle.nx_cuts.specs.Cut.{Cut, Bare, Grown, Kept, CutForest, CutTree, width, part_weight, AreFree, AreParts, tree_of}
 use Rattle.nx_matrix.specs.declared.rule.Entry.{Entry}
 use Rattle.nx_matrix.specs.declared.rule.Rule.{Rule}
-use Rattle.nx_layouts.specs.Layout.{RecordPlace, Layout}
 use Rattle.nx_drawn.specs.Edits.{planted_row, inserted, retexted}
 use Rattle.nx_drawn.specs.Splits.{whole_document}
 
@@ -39,10 +38,10 @@ abbrev pub GrowsRow : {P : Type 0} → (k more wide : ℕ) → (old new : Cut No
 GrowsRow k more wide old new =
     (AreParts k new × PartIsAtMost k new × (part_weight new ≤ part_weight old + more)) ⊎ (IsHeavyOnce k (k + more) wide new × (part_weight new ≤ part_weight old))
 
--- Where a node that doesn't outweigh k comes into a row of a record, one part at most weighs more than k, by the node's weight at most, and has one member more at most.
+-- Where a node that doesn't outweigh k comes into a row, one part at most weighs more than k, by the node's weight at most, and has one member more at most.
 abbrev pub PlantGrowsLittle : Type 0
 PlantGrowsLittle =
-    (k : ℕ) (alone second : RecordPlace) (entry : Entry) (node : Node) (position : ℕ) (row : Layout) → weight node ≤ k → AreParts k row → PartIsAtMost k row → GrowsRow k (weight node) (k + 1) row (planted_row alone second entry node position row)
+    (k : ℕ) (entry : Entry) (node : Node) (position : ℕ) (row : CutForest) → weight node ≤ k → AreParts k row → PartIsAtMost k row → GrowsRow k (weight node) (k + 1) row (planted_row tt tt entry node position row)
 
 -- So it is in the whole document.
 abbrev pub InsertGrowsLittle : Type 0

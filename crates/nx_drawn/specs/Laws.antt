@@ -7,7 +7,7 @@ use Rattle.nx_cuts.specs.Rows.{joined_row}
 use Rattle.nx_matrix.specs.declared.rule.Entry.{Entry}
 use Rattle.nx_matrix.specs.declared.rule.Rule.{Rule}
 use Rattle.nx_holdings.specs.declared.header.Settings.{Settings}
-use Rattle.nx_layouts.specs.Layout.{RecordPlace, Layout, piece_of, without_places}
+use Rattle.nx_layouts.specs.Layout.{RecordPlace, LaidNode, Layout, piece_of, without_places}
 use Rattle.nx_split.specs.Piece.{placed_of}
 use Rattle.nx_drawn.specs.Edits.{planted_row, removed_row, inserted, deleted, retexted}
 use Rattle.nx_drawn.specs.Splits.{part_nodes, Divides, whole_document, Splits}
@@ -50,7 +50,7 @@ PieceIsPart = (rules : List Rule) (above : Option Node) (members : Layout) → p
 -- A row changes whatever its intervals are marked with: a layout's as what is drawn.
 pub record RowsChangeAlike (row : Layout) : Type 0 where
   pub joined : (last : Layout) → without_places (joined_row row last) ≡ joined_row (without_places row) (without_places last)
-  pub planted : (alone second : RecordPlace) (entry : Entry) (node : Node) (position : ℕ) → without_places (planted_row alone second entry node position row) ≡ planted_row tt tt entry node position (without_places row)
+  pub planted : (alone second : RecordPlace) (entry : Entry) (node : LaidNode) (position : ℕ) → without_places (planted_row alone second entry node position row) ≡ planted_row tt tt entry node.node position (without_places row)
   pub removed : (position : ℕ) → without_places (removed_row position row) ≡ removed_row position (without_places row)
 
 abbrev pub MarksAreLeft : Type 0

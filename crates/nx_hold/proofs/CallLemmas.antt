@@ -13,13 +13,13 @@ use Rattle.nx_piece.specs.declared.piece.Piece.{Piece}
 use Rattle.nx_piece.specs.declared.piece.Stored.{Stored}
 use Rattle.nx_piece.specs.declared.piece.Stored.TheVariants.{Chained}
 use Rattle.nx_piece.specs.Encoding.{encoding, proxies_bytes}
-use Rattle.nx_piece.specs.Valid.{IsValidPiece, is_inline, HaveNumbers}
+use Rattle.nx_piece.specs.Valid.{IsValidPiece, is_inline, HaveNumbers, HasNumbers}
 use Rattle.nx_layouts.specs.Layout.{RecordPlace}
-use Rattle.nx_hold.specs.Pieces.{record_at, IsStored, NamesList, HasItsList, HoldsNone}
-use Rattle.nx_hold.specs.Changes.{piece_needs, chain_pages, AddsPiece, UpdatesPiece, RemovesPiece, ComesOwn, ComesTidy}
+use Rattle.nx_hold.specs.Pieces.{record_at, IsStored, NamesList, HasItsList, HoldsNone, MayName}
+use Rattle.nx_hold.specs.Changes.{piece_needs, chain_pages, AddsPiece, UpdatesPiece, RemovesPiece, ComesOwn, ComesTidy, ComesTidyWhere}
 use Rattle.nx_hold.specs.Putting.{HasList, FreesChain, PutsProxies}
 use Rattle.nx_hold.proofs.PieceLemmas.{no_value}
-use Rattle.nx_hold.proofs.TidyLemmas.{tidy_still, comes_at, listed}
+use Rattle.nx_hold.proofs.TidyLemmas.{tidy_still, comes_at, may_come, listed}
 use Rattle.nx_hold.proofs.PutLemmas.{adds_piece, free_of_add, updates_piece, updates_on_list, removes_piece, has_list, list_kept, list_kept_alone, no_list_none, records_at, few_needs}
 use Rattle.nx_hold.proofs.RefusalLemmas.{GoesOn, goes_then, comes_then, later_changed, later_stored, store_more}
 
@@ -69,15 +69,22 @@ put_refused d r0 r1 x0 x1 old piece bytes Before e there refused =
     not_some h = cc
 
 module _ {D : Type 0} {d : Ghosts D} where
-  pub added : {r0 r1 r2 : Records} {x0 x1 x2 : D} (piece : Piece) (bytes : List ℕ) (place : RecordPlace) → IsValidPiece piece → ComesTo d r0 r1 x0 x1 (λ was now. PutsProxies piece bytes was now)
-      → ComesTo d r1 r2 x1 x2 (λ was now. AddsRecord place.page place.slot bytes was now) → ComesTidy d r0 r2 x0 x2 (λ was now. AddsPiece place piece was now)
-  added piece bytes place valid puts adds saved was stands tidy =
-      let mid = puts saved was stands in
-      let now = adds saved mid.0 mid.1 in
-      let add = adds_piece place piece bytes was mid.0 now.0 valid mid.2 now.2 in
-      (now.0, now.1, tidy_still tidy add.alone (comes_at now.0 place piece add.holds), add)
+  -- a record came with the piece, whatever lists records name
+  pub added_alone : {r0 r1 r2 : Records} {x0 x1 x2 : D} (piece : Piece) (bytes : List ℕ) (place : RecordPlace) → IsValidPiece piece → ComesTo d r0 r1 x0 x1 (λ was now. PutsProxies piece bytes was now)
+      → ComesTo d r1 r2 x1 x2 (λ was now. AddsRecord place.page place.slot bytes was now) → ComesTo d r0 r2 x0 x2 (λ was now. AddsPiece place piece was now)
+  added_alone {r0} {r1} {r2} piece bytes place valid puts adds =
+      comes_then {r0 = r0} {r1 = r1} {r2 = r2} (λ was now. AddsPiece place piece was now) puts adds (λ was mid now one two. adds_piece place piece bytes was mid now valid one two)
 
-  -- ... and how many fewer pages are free, whatever lists records name
+  -- ... and where all lists are in order, they stay so
+  pub added : {r0 r1 r2 : Records} {x0 x1 x2 : D} (piece : Piece) (bytes : List ℕ) (place : RecordPlace) → IsValidPiece piece → ComesTo d r0 r1 x0 x1 (λ was now. PutsProxies piece bytes was now)
+      → ComesTo d r1 r2 x1 x2 (λ was now. AddsRecord place.page place.slot bytes was now)
+      → ComesTidyWhere d r0 r2 x0 x2 (λ was. MayName was piece.body.roots) (λ was now. AddsPiece place piece was now)
+  added {r0} {r1} {r2} piece bytes place valid puts adds saved was stands tidy may =
+      let now = added_alone {r0 = r0} {r1 = r1} {r2 = r2} piece bytes place valid puts adds saved was stands in
+      let add : AddsPiece place piece was now.0 = now.2 in
+      (now.0, now.1, tidy_still tidy add.alone (comes_at now.0 place piece add.holds) (may_come was now.0 place piece add.holds may), add)
+
+  -- so many fewer pages are free, whatever lists records name
   pub added_free : {r0 r1 r2 : Records} {x0 x1 x2 : D} (piece : Piece) (bytes : List ℕ) (place : RecordPlace) → ComesTo d r0 r1 x0 x1 (λ was now. PutsProxies piece bytes was now)
       → ComesTo d r1 r2 x1 x2 (λ was now. AddsRecord place.page place.slot bytes was now) → ComesTo d r0 r2 x0 x2 (λ was now. was.free ≤ now.free + piece_needs piece)
   added_free {r0} {r1} {r2} piece bytes place puts adds =
@@ -133,13 +140,15 @@ module _ {D : Type 0} {d : Ghosts D} where
       (now.0, now.1, updates_piece old new piece bytes stored was done.mid next.0 now.0 valid done.was_is has done.puts done.updates now.2)
 
   -- where all lists are in order, they stay so
-  pub updated_tidy : {r0 r2 : Records} {x0 x2 : D} (old new : RecordPlace) (piece : Piece) → ComesOwn d r0 r2 x0 x2 old (λ was now. UpdatesPiece old new piece was now) → ComesTidy d r0 r2 x0 x2 (λ was now. UpdatesPiece old new piece was now)
-  updated_tidy old new piece comes saved was stands tidy =
+  pub updated_tidy : {r0 r2 : Records} {x0 x2 : D} (old new : RecordPlace) (piece : Piece) → ComesOwn d r0 r2 x0 x2 old (λ was now. UpdatesPiece old new piece was now)
+      → ComesTidyWhere d r0 r2 x0 x2 (λ was. MayName was piece.body.roots) (λ was now. UpdatesPiece old new piece was now)
+  updated_tidy old new piece comes saved was stands tidy may =
       let now = comes saved was stands (tidy.there old) in
-      (now.0, now.1, tidy_still tidy (now.2).alone (comes_at now.0 new piece (now.2).holds), now.2)
+      (now.0, now.1, tidy_still tidy (now.2).alone (comes_at now.0 new piece (now.2).holds) (may_come was now.0 new piece (now.2).holds may), now.2)
 
   -- the record was put, and then the old record's list has its proxies
-  pub updated_on_list : {r0 r1 r2 : Records} {x0 x1 x2 : D} (old new : RecordPlace) (piece : Piece) (bytes : List ℕ) (count chain : ℕ) → IsValidPiece piece → is_inline piece ≡ false → HaveNumbers piece.proxies → chain < 4294967296
+  pub updated_on_list : {r0 r1 r2 : Records} {x0 x1 x2 : D} (old new : RecordPlace) (piece : Piece) (bytes : List ℕ) (count chain : ℕ) → IsValidPiece piece → is_inline piece ≡ false → HaveNumbers piece.proxies
+      → HasNumbers (Chained piece.body (length piece.proxies) chain)
       → bytes ≡ encoding (Chained piece.body (length piece.proxies) chain) → chain_count (8 * length piece.proxies) ≡ chain_count (8 * count)
       → ComesTo d r0 r1 x0 x1 (λ was now. UpdatesRecord old.page old.slot bytes new.page new.slot was now)
       → ((saved mid : Held) (list : List ℕ) → StandsFor d r1 x1 saved mid → mid.lists chain ≡ Some list → (now : Held) × StandsFor d r2 x2 saved now × ChangesList chain (proxies_bytes piece.proxies) mid now)
@@ -208,4 +217,4 @@ module _ {D : Type 0} {d : Ghosts D} where
   pub removed_tidy : {r0 r2 : Records} {x0 x2 : D} (old : RecordPlace) → ComesOwn d r0 r2 x0 x2 old (λ was now. RemovesPiece old was now) → ComesTidy d r0 r2 x0 x2 (λ was now. RemovesPiece old was now)
   removed_tidy old comes saved was stands tidy =
       let now = comes saved was stands (tidy.there old) in
-      (now.0, now.1, tidy_still tidy (now.2).alone (λ place e. absurd (no_value e)), now.2)
+      (now.0, now.1, tidy_still tidy (now.2).alone (λ place e. absurd (no_value e)) (λ place e. absurd (no_value e)), now.2)

@@ -6,3 +6,5 @@ pub mod RefusalLemmas
 pub mod CallLemmas
 pub mod RecordsLemmas
 pub mod MoveLemmas
+pub mod ContentLemmas
+pub mod NodeLemmas

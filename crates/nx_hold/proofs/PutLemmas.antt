@@ -13,7 +13,7 @@ use Rattle.nx_piece.specs.declared.piece.Stored.{Stored}
 use Rattle.nx_piece.specs.declared.piece.Stored.TheVariants.{Inline, Chained}
 use Rattle.nx_piece.specs.Encoding.{encoding, proxies_bytes}
 use Rattle.nx_piece.specs.Gapped.{slots_in}
-use Rattle.nx_piece.specs.Valid.{IsValid, IsValidBody, IsValidPiece, is_inline, inline_length, longest_inline, HaveRoots, HaveNumbers}
+use Rattle.nx_piece.specs.Valid.{IsValid, IsValidBody, IsValidPiece, is_inline, inline_length, longest_inline, HaveRoots, HaveNumbers, HasNumbers}
 use Rattle.nx_piece.proofs.BodyLemmas.{proxies_length}
 use Rattle.nx_piece.proofs.Laws.{inline_bytes, chained_bytes, body_fits}
 use Rattle.nx_layouts.specs.Layout.{RecordPlace}
@@ -26,10 +26,10 @@ use Rattle.nx_hold.proofs.TidyLemmas.{listed}
 
 -- what a map has at a place that was changed, and at others
 
-list_here : (lists : ℕ → Option (List ℕ)) (chain : ℕ) (o : Option (List ℕ)) → lists_with lists chain o chain ≡ o
+pub list_here : (lists : ℕ → Option (List ℕ)) (chain : ℕ) (o : Option (List ℕ)) → lists_with lists chain o chain ≡ o
 list_here lists chain o = elim (eqb_tells chain chain) [ inl h ↦ rw h.0 refl | inr h ↦ absurd (h.1 refl) ]
 
-list_other : (lists : ℕ → Option (List ℕ)) (chain other : ℕ) (o : Option (List ℕ)) → (chain ≡ other → ⊥) → lists_with lists chain o other ≡ lists other
+pub list_other : (lists : ℕ → Option (List ℕ)) (chain other : ℕ) (o : Option (List ℕ)) → (chain ≡ other → ⊥) → lists_with lists chain o other ≡ lists other
 list_other lists chain other o apart = elim (eqb_tells other chain) [ inl h ↦ absurd (apart (sym h.1)) | inr h ↦ rw h.0 refl ]
 
 without_here : (lists : ℕ → Option (List ℕ)) (gone : Option ℕ) (chain : ℕ) → gone ≡ Some chain → without_list lists gone chain ≡ None
@@ -258,7 +258,7 @@ chained_valid piece chain valid is = elim (inline_cases piece) [ inl h ↦ absur
 
 -- The list of the old record has the new one's proxies, on as many pages.
 module _ (old new : RecordPlace) (piece : Piece) (bytes : List ℕ) (count chain : ℕ) (was mid now : Held) where
-  pub updates_on_list : IsValidPiece piece → is_inline piece ≡ false → HaveNumbers piece.proxies → chain < 4294967296 → bytes ≡ encoding (Chained piece.body (length piece.proxies) chain)
+  pub updates_on_list : IsValidPiece piece → is_inline piece ≡ false → HaveNumbers piece.proxies → HasNumbers (Chained piece.body (length piece.proxies) chain) → bytes ≡ encoding (Chained piece.body (length piece.proxies) chain)
       → chain_count (8 * length piece.proxies) ≡ chain_count (8 * count) → NamesList was old count chain → HasItsList was old
       → UpdatesRecord old.page old.slot bytes new.page new.slot was mid → ChangesList chain (proxies_bytes piece.proxies) mid now → UpdatesPiece old new piece was now
   updates_on_list valid long fit number are pages names its updates changes = record {
@@ -328,14 +328,14 @@ removes_piece old stored was next now was_is removes frees = record {
     at p = ap (λ (f : ℕ → ℕ → Option (List ℕ)). f p.page p.slot) ((frees.changes).records ∙ (removes.changes).records)
 
 -- an inline record of the piece, and no list
-pub puts_inline : (piece : Piece) (bytes : List ℕ) (held : Held) → IsValid (Inline piece) → HaveNumbers piece.proxies → bytes ≡ encoding (Inline piece) → PutsProxies piece bytes held held
+pub puts_inline : (piece : Piece) (bytes : List ℕ) (held : Held) → IsValid (Inline piece) → HasNumbers (Inline piece) → bytes ≡ encoding (Inline piece) → PutsProxies piece bytes held held
 puts_inline piece bytes held valid numbers are = record {
   stored = Inline piece;
   form = refl;
   are = are;
   valid = valid;
   numbers = numbers;
-  proxies_fit = numbers;
+  proxies_fit = numbers.0;
   was_none = λ chain e. absurd (no_value (sym e));
   changes = record { lists = refl; records = refl; catalog = refl; settings = refl };
   free = omega arith;
@@ -345,8 +345,8 @@ pub pages_chained : (piece : Piece) → is_inline piece ≡ false → chain_page
 pages_chained piece e = rw e refl
 
 -- a chained record of the piece, and the list of its proxies
-pub puts_chained : (piece : Piece) (bytes : List ℕ) (chain : ℕ) (was now : Held) → IsValid (Chained piece.body (length piece.proxies) chain) → is_inline piece ≡ false → HaveNumbers piece.proxies → chain < 4294967296
-    → bytes ≡ encoding (Chained piece.body (length piece.proxies) chain) → WritesList chain (proxies_bytes piece.proxies) was now → PutsProxies piece bytes was now
+pub puts_chained : (piece : Piece) (bytes : List ℕ) (chain : ℕ) (was now : Held) → IsValid (Chained piece.body (length piece.proxies) chain) → is_inline piece ≡ false → HaveNumbers piece.proxies
+    → HasNumbers (Chained piece.body (length piece.proxies) chain) → bytes ≡ encoding (Chained piece.body (length piece.proxies) chain) → WritesList chain (proxies_bytes piece.proxies) was now → PutsProxies piece bytes was now
 puts_chained piece bytes chain was now valid long numbers fits are writes = record {
   stored = Chained piece.body (length piece.proxies) chain;
   form = (refl, refl);

@@ -92,6 +92,15 @@ module _ {D : Type 0} (d : Ghosts D) (Lacks Fewer : Held → Type 0) (named page
   read_fewer error.NotAStore refused = absurd refused
   read_fewer error.Full refused = absurd refused
 
+  pub change_fewer : (e : StoreError) → NotChanged d Lacks named e r0 r1 x0 x1 → NotChanged d Fewer named e r0 r1 x0 x1
+  change_fewer error.Disk refused = refused
+  change_fewer (error.Damaged told) refused = record { page = refused.page; ends = refused.ends; lacks = λ saved now stands. fewer now (refused.lacks saved now stands) }
+  change_fewer error.Ended refused = refused
+  change_fewer error.Memory refused = refused
+  change_fewer error.Exists refused = absurd refused
+  change_fewer error.NotAStore refused = absurd refused
+  change_fewer error.Full refused = absurd refused
+
   pub read_told : (e : StoreError) → NotRead d Lacks named e r0 r1 x0 x1 → NotRead d Fewer page (told_at page e) r0 r1 x0 x1
   read_told error.Disk refused = refused
   read_told (error.Damaged other) refused = damaged_told refused

@@ -8,11 +8,12 @@ use Rattle.nx_records.specs.declared.records.Rid.{Rid}
 use Rattle.nx_piece.specs.declared.piece.Piece.{Piece}
 use Rattle.nx_piece.specs.declared.piece.Proxy.{Proxy}
 use Rattle.nx_piece.specs.declared.piece.Stored.{Stored}
+use Rattle.nx_piece.specs.Contents.{fars_in}
 use Rattle.nx_piece.specs.Gapped.{gapped_nodes}
 use Rattle.nx_piece.specs.Valid.{is_inline}
 use Rattle.nx_layouts.specs.Layout.{RecordPlace}
 use Rattle.nx_hold.specs.declared.taking.TakenPiece.{TakenPiece}
-use Rattle.nx_hold.specs.Pieces.{record_at, IsStored, HoldsPiece, HoldsNone, NamesList, HasItsList, IsTidy, ChangesOneRecord, PieceMap}
+use Rattle.nx_hold.specs.Pieces.{record_at, IsStored, HoldsPiece, HoldsNone, NamesList, HasItsList, MayName, IsTidy, ChangesOneRecord, PieceMap}
 
 abbrev pub place_of : Rid → RecordPlace
 place_of rid = record { page = rid.page; slot = rid.slot }
@@ -56,9 +57,10 @@ pub record RemovesPiece (place : RecordPlace) (was now : Held) : Type 0 where
   pub was_there : IsPieceRecord was place
   pub alone : ChangesOneRecord (Some place) None 0 was now
 
--- what was taken away is this piece: its proxies, and how many nodes it had
+-- what was taken away is this piece: its proxies, where its far contents stand, and how many nodes it had
 pub record IsTakenOf (piece : Piece) (taken : TakenPiece) : Type 0 where
   pub proxies : taken.proxies ≡ piece.proxies
+  pub fars : (taken.fars).items ≡ fars_in piece.body.roots
   pub nodes : taken.nodes ≡ gapped_nodes piece.body.roots
 
 -- Of what they stood for, where its lists are in order, the records now stand for something that came of it so, and its lists are in order.
@@ -66,11 +68,20 @@ abbrev pub ComesTidy : {D : Type 0} → Ghosts D → Records → Records → D �
 ComesTidy d old new before after Comes =
     (saved now : Held) → StandsFor d old before saved now → IsTidy now → (next : Held) × StandsFor d new after saved next × IsTidy next × Comes now next
 
+-- As that, but only of what they stood for where this is so.
+abbrev pub ComesTidyWhere : {D : Type 0} → Ghosts D → Records → Records → D → D → (Is : Held → Type 0) → (Held → Held → Type 0) → Type 0
+ComesTidyWhere d old new before after Is Comes =
+    (saved now : Held) → StandsFor d old before saved now → IsTidy now → Is now → (next : Held) × StandsFor d new after saved next × IsTidy next × Comes now next
+
+-- Of what they stood for, where this is so, the records now stand for something that came of it so, whatever else is there.
+abbrev pub ComesWhere : {D : Type 0} → Ghosts D → Records → Records → D → D → (Is : Held → Type 0) → (Held → Held → Type 0) → Type 0
+ComesWhere d old new before after Is Comes = (saved now : Held) → StandsFor d old before saved now → Is now → (next : Held) × StandsFor d new after saved next × Comes now next
+
 -- Of what they stood for, where the list that the record at the place names is in order, the records now stand for something that came of it so.
 abbrev pub ComesOwn : {D : Type 0} → Ghosts D → Records → Records → D → D → RecordPlace → (Held → Held → Type 0) → Type 0
 ComesOwn d old new before after place Comes = (saved now : Held) → StandsFor d old before saved now → HasItsList now place → (next : Held) × StandsFor d new after saved next × Comes now next
 
--- An added piece is where no piece was, and all earlier ones stay.
+-- An added piece is where no piece was, all earlier ones stay, and so do lists in order.
 pub record IsAdded (place : RecordPlace) (piece : Piece) (was now : Held) : Type 0 where
   pub was_none : HoldsNone was place
   pub there : HoldsPiece now place piece
@@ -78,7 +89,7 @@ pub record IsAdded (place : RecordPlace) (piece : Piece) (was now : Held) : Type
   pub tidy : IsTidy now
 
 abbrev pub AddsStay : Type 0
-AddsStay = (place : RecordPlace) (piece : Piece) (was now : Held) → IsTidy was → AddsPiece place piece was now → IsAdded place piece was now
+AddsStay = (place : RecordPlace) (piece : Piece) (was now : Held) → IsTidy was → MayName was piece.body.roots → AddsPiece place piece was now → IsAdded place piece was now
 
 -- a map that had nothing at the place has the piece there, and all that it had
 pub record HasGrown (place : RecordPlace) (piece : Piece) (before after : RecordPlace → Option Piece) : Type 0 where

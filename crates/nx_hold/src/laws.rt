@@ -1,7 +1,7 @@
 //! What holds of the pieces that records hold.
-ghost use Rattle.nx_hold.specs.Pieces.{HavePieceMap, OnePiece, OtherPiecesStay, PiecesStay, TidyStays};
+ghost use Rattle.nx_hold.specs.Pieces.{ContentComesTidy, ContentGoesTidy, ContentsStay, HavePieceMap, OnePiece, OtherPiecesStay, PiecesStay, TidyStays};
 ghost use Rattle.nx_hold.specs.Changes.{AddsStay, MapGrows};
-ghost use Rattle.nx_hold.specs.Documents.{MovesAddUp, MovesBeside, MovesSame, OneWentSeveralCame, PieceAddsRecord, PiecesStayAround, PiecesStayBeside, RecordsAddUp, RemoveMoves, UpdateMoves};
+ghost use Rattle.nx_hold.specs.Documents.{ContentLeaves, ContentMoves, ContentsStayAround, MovesAddUp, MovesBeside, MovesSame, NamedInLayout, OneWentSeveralCame, PieceAddsRecord, PiecesStayAround, PiecesStayBeside, RecordsAddUp, RemoveMoves, UpdateMoves};
 
 /// The record at a place holds one piece at most.
 pub fn one_piece()
@@ -24,10 +24,25 @@ pub fn have_piece_map()
     ensures { HavePieceMap }
 {}
 
-/// Where each list that a record names is there and named once, that stays so when one record changes, and the one
-/// that comes holds a piece.
+/// Where each list that a record names is there, and one of proxies is named once and for nothing else, that stays so
+/// when one record changes, and the one that comes holds a piece whose contents might be named before.
 pub fn tidy_stays()
     ensures { TidyStays }
+{}
+
+/// A change of one record leaves each list that holds no record's proxies.
+pub fn contents_stay()
+    ensures { ContentsStay }
+{}
+
+/// A list that comes leaves lists in order, and no record names it.
+pub fn content_comes_tidy()
+    ensures { ContentComesTidy }
+{}
+
+/// A list that goes leaves lists in order where no record names it.
+pub fn content_goes_tidy()
+    ensures { ContentGoesTidy }
 {}
 
 /// A piece that was added is where none was, and all earlier ones stay.
@@ -82,13 +97,33 @@ pub fn remove_moves()
     ensures { RemoveMoves }
 {}
 
+/// A list that was written moved no record.
+pub fn content_moves()
+    ensures { ContentMoves }
+{}
+
+/// Nor did a list that was taken away, where no record named it.
+pub fn content_leaves()
+    ensures { ContentLeaves }
+{}
+
 /// Where a piece was taken away and then records came, one record went and several came.
 pub fn one_went_several_came()
     ensures { OneWentSeveralCame }
 {}
 
-/// Where records moved and no two named one list, each piece whose record didn't go or change stays, and so does the
-/// list that its record names.
+/// Where records moved and no two named one list, each piece whose record didn't go or change stays, and so do the
+/// lists that its record names.
 pub fn pieces_stay_around()
     ensures { PiecesStayAround }
+{}
+
+/// Where records moved, a list that holds no record's proxies stays, if it isn't one of a content that went.
+pub fn contents_stay_around()
+    ensures { ContentsStayAround }
+{}
+
+/// The contents that the records of a layout name are those of its nodes.
+pub fn named_in_layout()
+    ensures { NamedInLayout }
 {}

@@ -6,9 +6,9 @@ ghost use Rattle.nx_records.specs.Records.{StandsFor, KeepsSaved, ComesTo, Leave
 ghost use Rattle.nx_records.specs.Refusals.{NotRead, NotChanged, NotStored, RunsOn};
 ghost use Rattle.nx_piece.specs.declared.piece.Piece.{Piece};
 ghost use Rattle.nx_piece.specs.Gapped.{gapped_width};
-ghost use Rattle.nx_piece.specs.Valid.{IsValidPiece, HaveNumbers};
-ghost use Rattle.nx_hold.specs.Pieces.{HoldsPiece, HoldsNone, HasNamedList};
-ghost use Rattle.nx_hold.specs.Changes.{place_of, place_named, chain_pages, piece_needs, TakesPages, AddsPiece, UpdatesPiece, RemovesPiece, ComesOwn, ComesTidy};
+ghost use Rattle.nx_piece.specs.Valid.{AreNear, IsValidPiece, HaveNumbers};
+ghost use Rattle.nx_hold.specs.Pieces.{HoldsPiece, HoldsNone, HasNamedList, MayName};
+ghost use Rattle.nx_hold.specs.Changes.{place_of, place_named, chain_pages, piece_needs, TakesPages, AddsPiece, UpdatesPiece, RemovesPiece, ComesOwn, ComesTidy, ComesTidyWhere};
 
 use crate::lists::{free_proxies, proxies_at, record_bytes, stored_at, viewed_at};
 use crate::taking::take_piece;
@@ -83,7 +83,9 @@ pub fn view_piece<'a, D: Disk>(
 }
 
 /// Adds a piece at a place that was free, and answers its proxy. Its proxies stand in its record
-/// exactly where that then has at most 8,176 bytes, and else in a list of their own.
+/// exactly where that then has at most 8,176 bytes, and else in a list of their own. No content that stands in it may
+/// have more than 1,024 bytes. What is said of all pieces holds where each far content of this one names a list that is
+/// there, as long as it, and holds no record's proxies.
 ///
 /// Errors: `Full`, over sound pages only where fewer pages were free than one, and one for each
 /// chain page of that list; `Damaged` with page 0, only where the pages aren't sound; `Disk`, only
@@ -95,11 +97,13 @@ pub fn add_piece<D: Disk>(
     disk: &mut D,
     piece: &Piece,
 ) -> Result<Proxy, StoreError>
-    requires { IsValidPiece piece.now }
+    requires valid { IsValidPiece piece.now }
+    requires near { AreNear piece.now.body.roots }
     ensures still { IsStill D.Disk disk.old disk.new }
     ensures roots { IfOk result (λ proxy. proxy.roots ≡ gapped_width piece.now.body.roots) }
-    ensures ok { IfOk result (λ proxy. ComesTidy D.Disk records.old records.new disk.old disk.new (λ was now. AddsPiece (place_named proxy) piece.now was now)) }
+    ensures ok { IfOk result (λ proxy. ComesTidyWhere D.Disk records.old records.new disk.old disk.new (λ was. MayName was piece.now.body.roots) (λ was now. AddsPiece (place_named proxy) piece.now was now)) }
     // Also where lists that records name are out of order.
+    ensures adds { IfOk result (λ proxy. ComesTo D.Disk records.old records.new disk.old disk.new (λ was now. AddsPiece (place_named proxy) piece.now was now)) }
     ensures takes { IfOk result (λ proxy. ComesTo D.Disk records.old records.new disk.old disk.new (λ was now. was.free ≤ now.free + piece_needs piece.now)) }
     ensures keeps { IfOk result (λ proxy. RunsOn records.old records.new × KeepsSaved D.Disk records.old records.new disk.old disk.new × HasChanges records.new) }
     ensures refused { IfErr result (λ e. NotStored D.Disk (λ was. piece_needs piece.now) (λ was. ⊥) 0 e records.old records.new disk.old disk.new) }
@@ -115,7 +119,9 @@ pub fn add_piece<D: Disk>(
 /// Puts a piece in the place of another, and answers its proxy, whose place is another one where the
 /// record doesn't fit there: a record that is no longer than the old one keeps its place. Where both
 /// pieces have a list, on as many chain pages, the list stays, and of its pages those alone wait for the
-/// commit whose bytes changed; else the list of the old piece goes, and that of the new one comes.
+/// commit whose bytes changed; else the list of the old piece goes, and that of the new one comes. Lists of
+/// contents stay. No content that stands in the new piece may have more than 1,024 bytes. What is said of all pieces
+/// holds where each far content of the new one names a list that is there, as long as it, and holds no record's proxies.
 ///
 /// Errors: `Full`, over sound pages only where fewer pages were free than one, and one for each
 /// chain page of the new list; `Damaged` with the place's page, only where the pages aren't sound or
@@ -128,10 +134,11 @@ pub fn update_piece<D: Disk>(
     rid: Rid,
     piece: &Piece,
 ) -> Result<Proxy, StoreError>
-    requires { IsValidPiece piece.now }
+    requires valid { IsValidPiece piece.now }
+    requires near { AreNear piece.now.body.roots }
     ensures still { IsStill D.Disk disk.old disk.new }
     ensures roots { IfOk result (λ proxy. proxy.roots ≡ gapped_width piece.now.body.roots) }
-    ensures ok { IfOk result (λ proxy. ComesTidy D.Disk records.old records.new disk.old disk.new (λ was now. UpdatesPiece (place_of rid) (place_named proxy) piece.now was now)) }
+    ensures ok { IfOk result (λ proxy. ComesTidyWhere D.Disk records.old records.new disk.old disk.new (λ was. MayName was piece.now.body.roots) (λ was now. UpdatesPiece (place_of rid) (place_named proxy) piece.now was now)) }
     // Also where lists that other records name are out of order.
     ensures own { IfOk result (λ proxy. ComesOwn D.Disk records.old records.new disk.old disk.new (place_of rid) (λ was now. UpdatesPiece (place_of rid) (place_named proxy) piece.now was now)) }
     ensures keeps { IfOk result (λ proxy. RunsOn records.old records.new × KeepsSaved D.Disk records.old records.new disk.old disk.new × HasChanges records.new) }

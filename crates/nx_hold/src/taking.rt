@@ -1,22 +1,23 @@
 // Taking a piece away, and telling what it was.
-ghost use Rattle.std.specs.Prelude.{◌≡◌, ◌≤◌, false, length, IfOk, IfErr, OnOk};
+ghost use Rattle.std.specs.Prelude.{◌≡◌, ◌≤◌, ◌++◌, false, length, IfOk, IfErr, OnOk};
 ghost use Rattle.nx_host.specs.Still.{IsStill};
 ghost use Rattle.nx_records.specs.Words.{Held};
 ghost use Rattle.nx_records.specs.Records.{StandsFor, KeepsSaved, LeavesRecords, HasChanges, has_ended};
 ghost use Rattle.nx_records.specs.Refusals.{NotRead, NotChanged, RunsOn};
 ghost use Rattle.nx_piece.specs.declared.piece.Piece.{Piece};
+ghost use Rattle.nx_piece.specs.Contents.{fars_in};
 ghost use Rattle.nx_piece.specs.Valid.{IsValid};
-ghost use Rattle.nx_piece.specs.Viewing.{seen_stored};
+ghost use Rattle.nx_piece.specs.Viewing.{seen_items, seen_stored};
 ghost use Rattle.nx_layouts.specs.Layout.{RecordPlace};
-ghost use Rattle.nx_hold.specs.Pieces.{IsStored, HoldsPiece, HoldsNone};
+ghost use Rattle.nx_hold.specs.Pieces.{IsStored, HoldsPiece, HoldsNone, roots_stored};
 ghost use Rattle.nx_hold.specs.Changes.{place_of, IsTakenOf, RemovesPiece, ComesOwn, ComesTidy};
 ghost use Rattle.nx_hold.specs.Putting.{piece_with};
 
 use crate::lists::{free_proxies, proxies_at, viewed_at};
 use nx_host::Disk;
-use nx_piece::{PieceView, Proxies, StoredView};
+use nx_piece::{Far, ItemView, ItemsView, PieceView, Proxies, StoredView};
 use nx_records::{Records, Rid, StoreError};
-use nx_tree::Bytes;
+use nx_tree::{Bytes, NoMemory};
 use std::alloc::Global;
 
 /// What a piece was that was taken away.
@@ -24,12 +25,14 @@ use std::alloc::Global;
 pub struct TakenPiece {
     /// Its proxies, in document order.
     pub proxies: Proxies,
+    /// Where its far contents stand, in document order.
+    pub fars: Vec<Far>,
     /// How many nodes it had.
     pub nodes: u32,
 }
 
 /// Takes the piece of the record at a place away, and the list of its proxies, and tells what it was. The record is read
-/// once, and its nodes stay in its bytes.
+/// once, and its nodes stay in its bytes. The lists of its contents stay.
 ///
 /// Errors: `Damaged` with the place's page, only where the pages aren't sound or the record at the
 /// place holds no piece; `Disk`, only where `faults` rose; `Ended` exactly where the records had
@@ -52,9 +55,12 @@ pub fn take_piece<D: Disk>(
     let mut bytes = Bytes::new(alloc);
     let stored = viewed_at(alloc, records, disk, rid, &mut bytes)?;
     let listed = listed_proxies(alloc, records, disk, &stored, rid.page)?;
+    let Ok(fars) = fars_of(alloc, &stored) else {
+        return Err(StoreError::Memory);
+    };
     records.remove(disk, rid)?;
     free_proxies(alloc, records, disk, &stored, rid.page)?;
-    Ok(taken_of(stored, listed))
+    Ok(taken_of(stored, listed, fars))
 }
 
 // The proxies of the list that a record names, none where it names no list.
@@ -80,19 +86,52 @@ fn listed_proxies<D: Disk>(
     }
 }
 
-// What a record held whose list had these proxies.
-fn taken_of(stored: StoredView, listed: Proxies) -> TakenPiece
-    requires { IsValid (seen_stored stored) }
+// Where the far contents of what a record holds stand, in document order.
+fn fars_of(alloc: Global, stored: &StoredView) -> Result<Vec<Far>, NoMemory>
+    ensures { IfOk result (λ fars. fars.items ≡ fars_in (roots_stored (seen_stored stored.now))) }
+{
+    let mut fars = Vec::new(alloc);
+    let roots = match stored {
+        StoredView::Inline(piece) => piece.body.roots(),
+        StoredView::Chained { body, .. } => body.roots(),
+    };
+    gather_fars(roots, &mut fars)?;
+    Ok(fars)
+}
+
+// Adds where the far contents of these items stand, in document order.
+fn gather_fars(items: ItemsView<'_>, fars: &mut Vec<Far>) -> Result<(), NoMemory>
+    ensures { OnOk result (fars.new.items ≡ fars.old.items ++ fars_in (seen_items items.entry)) }
+{
+    let mut rest = items;
+    while let Some((item, behind)) = rest.split_first() {
+        if let ItemView::Tree(tree) = item {
+            if let Some(far) = tree.node.far {
+                fars.push(far)?;
+            }
+            gather_fars(tree.children, fars)?;
+        }
+        rest = behind;
+    }
+    Ok(())
+}
+
+// What a record held whose list had these proxies, and whose far contents stand there.
+fn taken_of(stored: StoredView, listed: Proxies, fars: Vec<Far>) -> TakenPiece
+    requires valid { IsValid (seen_stored stored) }
+    requires fars { fars.items ≡ fars_in (roots_stored (seen_stored stored)) }
     ensures some { 1 ≤ result.nodes }
     ensures taken { IsTakenOf (piece_with (seen_stored stored.entry) listed) result }
 {
     match stored {
         StoredView::Inline(PieceView { body, proxies }) => TakenPiece {
             proxies,
+            fars,
             nodes: body.nodes(),
         },
         StoredView::Chained { body, .. } => TakenPiece {
             proxies: listed,
+            fars,
             nodes: body.nodes(),
         },
     }

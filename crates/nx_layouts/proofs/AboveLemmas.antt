@@ -8,7 +8,7 @@ use Rattle.nx_piece_edits.specs.Taking.{led}
 use Rattle.nx_piece_edits.proofs.LeftLemmas.{less_is, not_less}
 use Rattle.nx_tree.specs.declared.node.Node.{Node}
 use Rattle.nx_cuts.specs.Cut.{Bare, Grown, Kept, width, AreFree}
-use Rattle.nx_layouts.specs.Layout.{Layout, piece_body, piece_of, proxy_of, proxies_of}
+use Rattle.nx_layouts.specs.Layout.{LaidNode, Layout, in_record, piece_body, piece_of, proxy_of, proxies_of}
 use Rattle.nx_layouts.specs.Replace.{above_at}
 use Rattle.nx_layouts.specs.Cutting.{LeadsInto, AboveStands}
 use Rattle.nx_layouts.proofs.PathLemmas.{StandBehind, all_behind, below_behind, beside_behind, behind_one, led_behind, path_leads_on}
@@ -21,7 +21,9 @@ record IsBelowTree (all : List Proxy) (first used index : ℕ) (rest : List ℕ)
   tree : GappedTree
   before : ℕ
   there : led all first (piece_body row) used position (take more path) ≡ Inside tree before
-  above : (top : Option Node) → above_at index top row ≡ Some tree.node
+  node : LaidNode
+  shown : tree.node ≡ in_record node
+  above : (top : Option Node) → above_at index top row ≡ Some node.node
 
 -- Or the interval stands in the row itself.
 abbrev IsInRow : (index : ℕ) (rest path : List ℕ) → Layout → Type 0
@@ -32,17 +34,19 @@ above_in : (all : List Proxy) (first used index member : ℕ) (rest : List ℕ) 
 above_in all first used index member rest inside position path Bare s h = absurd h
 above_in all first used index member rest inside zero [] (Grown n b s) stand h = absurd h
 above_in all first used index member rest inside zero (q ∷ path) (Grown n b s) stand h =
-    let chosen : (top : Option Node) → above_at index top (Grown n b s) ≡ above_at index (Some n) b =
-    λ top. less_is index (length (proxies_of b)) (above_at index (Some n) b) (above_at (index - length (proxies_of b)) top s) h.0 in
+    let chosen : (top : Option Node) → above_at index top (Grown n b s) ≡ above_at index (Some n.node) b =
+    λ top. less_is index (length (proxies_of b)) (above_at index (Some n.node) b) (above_at (index - length (proxies_of b)) top s) h.0 in
     elim (above_in all first (used + 1) index member rest inside q path b (below_behind b s stand.back stand.front stand.is stand.long) h.1) [
       | inl here ↦ inr (record {
         more = 0;
         within = omega arith;
         rest_is = here.0;
-        tree = record { node = n; below = piece_body b };
+        tree = record { node = in_record n; below = piece_body b };
         before = first;
         there = refl;
-        above = λ top. chosen top ∙ here.1 (Some n);
+        node = n;
+        shown = refl;
+        above = λ top. chosen top ∙ here.1 (Some n.node);
       })
       | inr below ↦ inr (record {
         more = suc below.more;
@@ -51,12 +55,14 @@ above_in all first used index member rest inside zero (q ∷ path) (Grown n b s)
         tree = below.tree;
         before = below.before;
         there = below.there;
-        above = λ top. chosen top ∙ below.above (Some n);
+        node = below.node;
+        shown = below.shown;
+        above = λ top. chosen top ∙ below.above (Some n.node);
       })
     ]
 above_in all first used index member rest inside (suc position) path (Grown n b s) stand h =
     let chosen : (top : Option Node) → above_at index top (Grown n b s) ≡ above_at (index - length (proxies_of b)) top s =
-    λ top. not_less index (length (proxies_of b)) (above_at index (Some n) b) (above_at (index - length (proxies_of b)) top s) h.0 in
+    λ top. not_less index (length (proxies_of b)) (above_at index (Some n.node) b) (above_at (index - length (proxies_of b)) top s) h.0 in
     elim (above_in all (first + proxies_in (piece_body b)) used (index - length (proxies_of b)) member rest inside position path s (beside_behind b s stand.back stand.front stand.is stand.long) h.1) [
       | inl here ↦ inl (here.0, λ top. chosen top ∙ here.1 top)
       | inr below ↦ inr (record {
@@ -66,6 +72,8 @@ above_in all first used index member rest inside (suc position) path (Grown n b 
         tree = below.tree;
         before = below.before;
         there = below.there;
+        node = below.node;
+        shown = below.shown;
         above = λ top. chosen top ∙ below.above top;
       })
     ]
@@ -80,6 +88,8 @@ above_in all first used (suc index) member rest inside position path (Kept p m s
         tree = below.tree;
         before = below.before;
         there = led_behind used position (take below.more path) p m s stand h.0 ∙ below.there;
+        node = below.node;
+        shown = below.shown;
         above = below.above;
       })
     ]
@@ -122,6 +132,8 @@ above_stands members member path index inner used free e =
             tree = below.tree;
             first = below.before;
             there = subst (λ (n : ℕ). reached_in (piece_of members) member (take n path) ≡ Inside below.tree below.before) back below.there;
+            node = below.node;
+            shown = below.shown;
             above = below.above;
           }
     ]

@@ -1,12 +1,13 @@
 -- The children of a tree of the record, as a row that may be changed.
-use Rattle.std.proofs.Common.{◌≡◌, ℕ, zero, suc, ◌+◌, List, [], ◌∷◌, ◌++◌, map, length, drop, refl, sym, ap, ap₂, ◌∙◌, subst, arith}
+use Rattle.std.proofs.Common.{◌≡◌, ℕ, zero, suc, ◌+◌, List, [], ◌∷◌, ◌++◌, map, length, drop, refl, sym, ap, ap₂, ◌∙◌, subst, arith, append_assoc}
 use Rattle.std.proofs.lemmas.List.{drop_at, map-append}
-use Rattle.nx_tree.specs.declared.node.Node.{Node}
 use Rattle.nx_piece.specs.declared.piece.Proxy.{Proxy}
+use Rattle.nx_piece.specs.PieceNode.{PieceNode}
 use Rattle.nx_piece.specs.Gapped.{Gapped, proxies_in}
+use Rattle.nx_piece_edits.specs.Setting.{with_tree}
 use Rattle.nx_piece.specs.Locate.{PieceChild, Own, Kept as Away, roots_from, children_of}
 use Rattle.nx_cuts.specs.Cut.{Bare, Grown, Kept, width}
-use Rattle.nx_layouts.specs.Layout.{RecordPlace, Layout, piece_body, proxies_of, proxy_of}
+use Rattle.nx_layouts.specs.Layout.{RecordPlace, LaidNode, Layout, in_record, piece_body, proxies_of, proxy_of, nodes_in}
 use Rattle.nx_layouts.specs.Cutting.{layout_at}
 use Rattle.nx_layouts.specs.Planting.{moved_child, IsFallOf, ChildrenAreChanged}
 use Rattle.nx_layouts.proofs.WithoutLemmas.{stays_parts}
@@ -25,7 +26,7 @@ children_moved all other more first Bare h o = refl
 children_moved all other more first (Grown n b s) h o =
     let count : ℕ = proxies_in (piece_body b) in
     let same : more + first + count ≡ more + (first + count) = omega arith in
-    ap (λ (cs : List PieceChild). Own (record { node = n; below = piece_body b }) (more + first) ∷ cs)
+    ap (λ (cs : List PieceChild). Own (record { node = in_record n; below = piece_body b }) (more + first) ∷ cs)
     (ap (λ (i : ℕ). children_of all i (piece_body s)) same
     ∙ children_moved all other more (first + count) s
     (subst (λ (i : ℕ). StandBehind all i s) same (beside_behind b s h.back h.front h.is h.long)) (beside_behind b s o.back o.front o.is o.long))
@@ -46,10 +47,11 @@ children_are_changed k members member path tree first e =
     let p = path_stays members member path tree first e in
     let below : Layout = below_at member path members in
     let tree_is = tree_in_row k member path tree members t.stays t.tree_is in
+    let node : LaidNode = tree_is.node in
     let parts = stays_parts member path members t.stays in
-    let proxies = alone_proxies tree.node below (layout_at member path members) tree_is.at in
-    let places = alone_places tree.node below (layout_at member path members) tree_is.at in
-    let below_is = alone_below tree.node below (layout_at member path members) tree.below tree_is.at t.tree_is in
+    let proxies = alone_proxies node below (layout_at member path members) tree_is.at in
+    let places = alone_places node below (layout_at member path members) tree_is.at in
+    let below_is = alone_below node tree.node below (layout_at member path members) tree.below tree_is.at t.tree_is in
     let were : proxies_of members ≡ parts.front ++ (proxies_of below ++ parts.back) = parts.proxies_were ∙ ap (λ (ps : List Proxy). parts.front ++ (ps ++ parts.back)) proxies in
     let long : length parts.front ≡ first = let f = t.first_is in omega (arith, f) in
     let stand : StandBehind (proxies_of members) first below = record { front = parts.front; back = parts.back; is = were; long = long } in
@@ -57,6 +59,8 @@ children_are_changed k members member path tree first e =
     record {
       stays = t.stays;
       below = below;
+      node = node;
+      shown = tree_is.shown_is;
       at = tree_is.at;
       there = tree_is.there;
       below_is = below_is;
@@ -78,12 +82,20 @@ children_are_changed k members member path tree first e =
       held_below = tree_is.held;
       light_below = tree_is.light;
       changed = λ change.
-          let r = row_changed (λ (node : Node). node) change k member path tree members t.stays t.tree_is in
+          let r = row_changed (λ (n : LaidNode). n) change k member path node members t.stays tree_is.at in
+          let c = r.changes in
           record {
-            body = r.body;
+            body = λ more. r.body more
+                ∙ ap (λ (p : PieceNode). with_tree member path (record { node = p; below = piece_body (change below) }) (piece_body members) (proxies_of members ++ more)) (sym tree_is.shown_is);
             proxies = r.proxies;
             places = r.places;
-            held = r.held;
+            changes = record {
+              before = c.before ++ node ∷ [];
+              behind = c.behind;
+              were = c.were ∙ sym (append_assoc c.before (node ∷ []) (nodes_in below ++ c.behind));
+              are = c.are ∙ sym (append_assoc c.before (node ∷ []) (nodes_in (change below) ++ c.behind));
+            };
+            held = λ stock x y. r.held stock (tree_is.read stock x) x y;
             light = r.light;
             free = r.free;
             wide = r.wide;

@@ -1,12 +1,14 @@
 -- A laid-out forest is what its records say.
-use Rattle.std.proofs.Common.{◌≡◌, ℕ, ◌+◌, ◌≤◌, List, [], ◌∷◌, ◌++◌, length, Option, Some, refl, sym, ap, ◌∙◌, arith, length-append}
+use Rattle.std.proofs.Common.{◌≡◌, ℕ, ◌+◌, ◌≤◌, List, [], ◌∷◌, ◌++◌, length, Option, None, Some, refl, sym, ap, ◌∙◌, arith, length-append}
 use Rattle.std.proofs.lemmas.List.{append_cancel_right}
 use Rattle.nx_tree.specs.declared.node.Node.{Node}
 use Rattle.nx_piece.specs.declared.piece.Proxy.{Proxy}
 use Rattle.nx_piece.specs.declared.piece.Piece.{Piece}
+use Rattle.nx_piece.specs.PieceNode.{PieceNode}
 use Rattle.nx_piece.specs.Gapped.{Gapped, End, Grow, Gap, proxies_in}
 use Rattle.nx_cuts.specs.Cut.{Bare, Grown, Kept, CutForest, CutTree, width}
-use Rattle.nx_layouts.specs.Layout.{RecordPlace, Layout, without_places, gap_more, piece_body, proxies_of, piece_of, AreHeld, IsLaidOut}
+use Rattle.nx_layouts.specs.Layout.{RecordPlace, Layout, Stock, in_record, laid_near, without_places, gap_more, piece_body, proxies_of, piece_of, AreHeld, OneDocument}
+use Rattle.nx_layouts.proofs.NodeLemmas.{one_node}
 
 more_proxies : (g : Gapped) → proxies_in (gap_more g) ≡ 1 + proxies_in g
 more_proxies End = refl
@@ -62,7 +64,7 @@ no_bare End e = cc
 no_bare (Grow n b s) e = cc
 no_bare (Gap c s) e = cc
 
-pub no_grown : (g b s : Gapped) (n : Node) → gap_more g ≡ Grow n b s → ⊥
+pub no_grown : (g b s : Gapped) (n : PieceNode) → gap_more g ≡ Grow n b s → ⊥
 no_grown End b s n e = cc
 no_grown (Grow m d t) b s n e = cc
 no_grown (Gap c t) b s n e = cc
@@ -80,47 +82,48 @@ abbrev proxy_of : RecordPlace → Layout → Proxy
 proxy_of place members = record { page = place.page; slot = place.slot; roots = width members }
 
 -- What one record has, and what the records have that it names, say the whole.
-pub one_laid : (pieces : RecordPlace → Option Piece) (a b : Layout) → piece_body a ≡ piece_body b → proxies_of a ≡ proxies_of b → AreHeld pieces a → AreHeld pieces b → a ≡ b
-one_laid pieces Bare Bare e f p q = refl
-one_laid pieces Bare (Grown n b s) e f p q = cc
-one_laid pieces Bare (Kept r m s) e f p q = absurd (no_bare (piece_body s) (sym e))
-one_laid pieces (Grown n b s) Bare e f p q = cc
-one_laid pieces (Grown n b s) (Grown m d t) e f p q =
-    let eb : piece_body b ≡ piece_body d = cc in let es : piece_body s ≡ piece_body t = cc in let en : n ≡ m = cc in
+pub one_laid : (stock : Stock) (a b : Layout) → piece_body a ≡ piece_body b → proxies_of a ≡ proxies_of b → AreHeld stock a → AreHeld stock b → a ≡ b
+one_laid stock Bare Bare e f p q = refl
+one_laid stock Bare (Grown n b s) e f p q = cc
+one_laid stock Bare (Kept r m s) e f p q = absurd (no_bare (piece_body s) (sym e))
+one_laid stock (Grown n b s) Bare e f p q = cc
+one_laid stock (Grown n b s) (Grown m d t) e f p q =
+    let eb : piece_body b ≡ piece_body d = cc in let es : piece_body s ≡ piece_body t = cc in let er : in_record n ≡ in_record m = cc in let en : n ≡ m = one_node stock.list_at n m er p.0 q.0 in
     let l : length (proxies_of b) ≡ length (proxies_of d) = proxies_counted b ∙ ap proxies_in eb ∙ sym (proxies_counted d) in
     let h = append_front (proxies_of b) (proxies_of d) (proxies_of s) (proxies_of t) l f in
-    let u : b ≡ d = one_laid pieces b d eb h.0 p.0 q.0 in
-    let v : s ≡ t = one_laid pieces s t es h.1 p.1 q.1 in
+    let u : b ≡ d = one_laid stock b d eb h.0 p.1 q.1 in
+    let v : s ≡ t = one_laid stock s t es h.1 p.2 q.2 in
     cc
-one_laid pieces (Grown n b s) (Kept r m t) e f p q = absurd (no_grown (piece_body t) (piece_body b) (piece_body s) n (sym e))
-one_laid pieces (Kept r m s) Bare e f p q = absurd (no_bare (piece_body s) e)
-one_laid pieces (Kept r m s) (Grown n b t) e f p q = absurd (no_grown (piece_body s) (piece_body b) (piece_body t) n e)
-one_laid pieces (Kept r m s) (Kept x k t) e f p q =
+one_laid stock (Grown n b s) (Kept r m t) e f p q = absurd (no_grown (piece_body t) (piece_body b) (piece_body s) (in_record n) (sym e))
+one_laid stock (Kept r m s) Bare e f p q = absurd (no_bare (piece_body s) e)
+one_laid stock (Kept r m s) (Grown n b t) e f p q = absurd (no_grown (piece_body s) (piece_body b) (piece_body t) (in_record n) e)
+one_laid stock (Kept r m s) (Kept x k t) e f p q =
     let es : piece_body s ≡ piece_body t = gap_less (piece_body s) (piece_body t) (body_full s) (body_full t) e in
     let fs : proxies_of s ≡ proxies_of t = cc in
     let same = same_first (proxy_of r m) (proxy_of x k) (proxies_of s) (proxies_of t) f in
     let page : r.page ≡ x.page = ap (λ (z : Proxy). z.page) same in
     let slot : r.slot ≡ x.slot = ap (λ (z : Proxy). z.slot) same in
     let here : r ≡ x = ap (λ (w : ℕ × ℕ). let z : RecordPlace = record { page = w.0; slot = w.1 } in z) (pair_is r.page x.page r.slot x.slot page slot) in
-    let one : piece_of m ≡ piece_of k = some_one (piece_of m) (piece_of k) (pieces r) p.0 (ap pieces here ∙ q.0) in
-    let u : m ≡ k = one_laid pieces m k (ap (λ (z : Piece). z.body.roots) one) (ap (λ (z : Piece). z.proxies) one) p.1 q.1 in
-    let v : s ≡ t = one_laid pieces s t es fs p.2 q.2 in
+    let one : piece_of m ≡ piece_of k = some_one (piece_of m) (piece_of k) (stock.piece_at r) (p.0).there (ap stock.piece_at here ∙ (q.0).there) in
+    let u : m ≡ k = one_laid stock m k (ap (λ (z : Piece). z.body.roots) one) (ap (λ (z : Piece). z.proxies) one) p.1 q.1 in
+    let v : s ≡ t = one_laid stock s t es fs p.2 q.2 in
     cc
 
 -- the node at the root, and what is below it, of two that one record holds
-same_root : (n m : Node) (a b : Layout) → piece_of (Grown n a Bare) ≡ piece_of (Grown m b Bare) → (n ≡ m) × (piece_body a ≡ piece_body b) × (proxies_of a ≡ proxies_of b)
+same_root : (n m : Node) (a b : Layout) → piece_of (Grown (laid_near n) a Bare) ≡ piece_of (Grown (laid_near m) b Bare) → (n ≡ m) × (piece_body a ≡ piece_body b) × (proxies_of a ≡ proxies_of b)
 same_root n m a b e =
-    let f : Grow n (piece_body a) End ≡ Grow m (piece_body b) End = ap (λ (z : Piece). z.body.roots) e in
+    let f : Grow (record { node = n; far = None }) (piece_body a) End ≡ Grow (record { node = m; far = None }) (piece_body b) End = ap (λ (z : Piece). z.body.roots) e in
     let g : proxies_of a ++ [] ≡ proxies_of b ++ [] = ap (λ (z : Piece). z.proxies) e in
-    (cc, cc, append_cancel_right (proxies_of a) (proxies_of b) [] g)
+    let h : record { node = n; far = None } ≡ record { node = m; far = None } = cc in
+    (ap (λ (p : PieceNode). p.node) h, cc, append_cancel_right (proxies_of a) (proxies_of b) [] g)
 
 two_below : (a b : Node) (c d : CutForest) → a ≡ b → c ≡ d → ◌≡◌ {A = Node × CutForest} (a, c) (b, d)
 two_below a b c d e f = cc
 
-pub one_document : (k : ℕ) (pieces : RecordPlace → Option Piece) (root : RecordPlace) (document other : CutTree) → IsLaidOut k pieces root document → IsLaidOut k pieces root other → document ≡ other
-one_document k pieces root document other a b =
-    let e = some_one (piece_of (Grown document.node a.layout Bare)) (piece_of (Grown other.node b.layout Bare)) (pieces root) a.laid.held.0 b.laid.held.0 in
+pub one_document : OneDocument
+one_document stock root document other a b =
+    let e = some_one (piece_of (Grown (laid_near document.node) a.layout Bare)) (piece_of (Grown (laid_near other.node) b.layout Bare)) (stock.piece_at root) (a.laid.held.0).there (b.laid.held.0).there in
     let f = same_root document.node other.node a.layout b.layout e in
-    let g : a.layout ≡ b.layout = one_laid pieces a.layout b.layout f.1 f.2 a.laid.held.1.0 b.laid.held.1.0 in
+    let g : a.layout ≡ b.layout = one_laid stock a.layout b.layout f.1 f.2 a.laid.held.1.1 b.laid.held.1.1 in
     let h : document.below ≡ other.below = sym a.laid.same ∙ ap (λ l. without_places l) g ∙ b.laid.same in
     ap (λ (w : Node × CutForest). let z : CutTree = record { node = w.0; below = w.1 } in z) (two_below document.node other.node document.below other.below f.0 h)

@@ -1,3 +1,4 @@
+pub mod NodeLemmas
 pub mod LayoutLemmas
 pub mod ReplaceLemmas
 pub mod SizeLemmas
@@ -7,6 +8,8 @@ pub mod HeldLemmas
 pub mod WithoutLemmas
 pub mod RunLemmas
 pub mod FillLemmas
+pub mod DrawnLemmas
+pub mod BodyLemmas
 pub mod StandLemmas
 pub mod PathLemmas
 pub mod AboveLemmas

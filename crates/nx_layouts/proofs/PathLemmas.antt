@@ -13,19 +13,19 @@ use Rattle.nx_piece_edits.specs.Taking.{led}
 use Rattle.nx_piece.proofs.LocateLemmas.{get_in_front, get_behind, roots_length, root_there}
 use Rattle.nx_piece_edits.proofs.TakeLemmas.{led_nowhere}
 use Rattle.nx_piece_edits.proofs.LeftLemmas.{tree_reached, first_reached}
-use Rattle.nx_cuts.specs.Cut.{Bare, Grown, Kept, joined, forest, width}
+use Rattle.nx_cuts.specs.Cut.{Bare, Grown, Kept, joined, width}
 use Rattle.nx_cuts.proofs.FeasibleLemmas.{trees, trees-joined, le_or}
-use Rattle.nx_layouts.specs.Layout.{RecordPlace, Layout, gap_more, piece_body, piece_of, proxy_of, proxies_of}
+use Rattle.nx_layouts.specs.Layout.{RecordPlace, Layout, in_record, laid_forest, gap_more, piece_body, piece_of, proxy_of, proxies_of}
 use Rattle.nx_layouts.specs.Cutting.{layout_at, StaysIn, LeadsInto, member_tree, PathStays, PathLeadsOn, PathIsMissing}
 use Rattle.nx_layouts.proofs.LayoutLemmas.{proxies_counted}
 use Rattle.nx_layouts.proofs.WithoutLemmas.{stays_parts, body_without}
 
 -- The children of a row:
 
-pub trees-forest : (l : Layout) → trees (forest l) ≡ width l
+pub trees-forest : (l : Layout) → trees (laid_forest l) ≡ width l
 trees-forest Bare = refl
 trees-forest (Grown n b s) = omega (arith, trees-forest s)
-trees-forest (Kept p m s) = omega (arith, trees-joined (forest m) (forest s), trees-forest m, trees-forest s)
+trees-forest (Kept p m s) = omega (arith, trees-joined (laid_forest m) (laid_forest s), trees-forest m, trees-forest s)
 
 -- the trees of two forests beside each other
 pub child_in_front : (f g : Forest) (p : ℕ) → p < trees f → child (joined f g) p ≡ child f p
@@ -123,10 +123,10 @@ pub led_behind : {all : List Proxy} {first : ℕ} (used position : ℕ) (path : 
     → led all first (piece_body (Kept p m s)) used position path ≡ led all (first + 1) (piece_body s) used (position - width m) path
 led_behind {all} {first} used position path p m s h most = ap (reached all used path) (child_later p m s position h most)
 
-pub member_behind : (p : RecordPlace) (m s : Layout) (position : ℕ) (path : List ℕ) → width m ≤ position → member_tree (forest (Kept p m s)) position path ≡ member_tree (forest s) (position - width m) path
+pub member_behind : (p : RecordPlace) (m s : Layout) (position : ℕ) (path : List ℕ) → width m ≤ position → member_tree (laid_forest (Kept p m s)) position path ≡ member_tree (laid_forest s) (position - width m) path
 member_behind p m s position path most =
-    let place : position ≡ trees (forest m) + (position - width m) = omega (arith, trees-forest m, most) in
-    ap (λ o. option_and_then (λ t. at t path) o) (ap (child (joined (forest m) (forest s))) place ∙ child_behind (forest m) (forest s) (position - width m))
+    let place : position ≡ trees (laid_forest m) + (position - width m) = omega (arith, trees-forest m, most) in
+    ap (λ o. option_and_then (λ t. at t path) o) (ap (child (joined (laid_forest m) (laid_forest s))) place ∙ child_behind (laid_forest m) (laid_forest s) (position - width m))
 
 led_away : (all : List Proxy) (used : ℕ) (path : List ℕ) (index member : ℕ) → reached all used path (Some (Away index member)) ≡ Outside index member used
 led_away all used [] index member = refl
@@ -146,7 +146,7 @@ pub record IsLedTo (first before position : ℕ) (path : List ℕ) (row : Layout
 led_to : (all : List Proxy) (first used before position : ℕ) (path : List ℕ) (row : Layout) (t : GappedTree) → StandBehind all first row → led all first (piece_body row) used position path ≡ Inside t before → IsLedTo first before position path row t
 led_to all first used before position path Bare t h e = absurd (led_nowhere all used path t before e)
 led_to all first used before zero [] (Grown n b s) t h e =
-    let same = ap (tree_reached (record { node = n; below = piece_body b })) e in
+    let same = ap (tree_reached (record { node = in_record n; below = piece_body b })) e in
     record {
       stays = tt;
       first_is = let q = ap first_reached e in omega (arith, q);
@@ -236,7 +236,7 @@ record IsLedInto (first index member used end position : ℕ) (path : List ℕ) 
   within : more ≤ length path
   behind : first ≤ index
   into : LeadsInto (index - first) member (drop more path) inside position path row
-  same : member_tree (forest row) position path ≡ member_tree (forest inside) member (drop more path)
+  same : member_tree (laid_forest row) position path ≡ member_tree (laid_forest inside) member (drop more path)
 
 led_into : (all : List Proxy) (first index member used end position : ℕ) (path : List ℕ) (row : Layout) → StandBehind all first row → led all first (piece_body row) used position path ≡ Outside index member end
     → IsLedInto first index member used end position path row
@@ -277,7 +277,7 @@ led_into all first index member used end position path (Kept p m s) h e = elim (
       let j : position ≡ member = ap member_reached is in
       let l : used ≡ end = ap used_reached is in
       let none : zero ≡ index - first = omega (arith, i) in
-      let within : position < trees (forest m) = omega (arith, trees-forest m, less) in
+      let within : position < trees (laid_forest m) = omega (arith, trees-forest m, less) in
       record {
         inside = m;
         more = 0;
@@ -285,7 +285,7 @@ led_into all first index member used end position path (Kept p m s) h e = elim (
         within = omega arith;
         behind = omega (arith, i);
         into = subst (λ (n : ℕ). LeadsInto n member path m position path (Kept p m s)) none (less, sym j, refl, refl);
-        same = ap (λ o. option_and_then (λ t. at t path) o) (child_in_front (forest m) (forest s) position within) ∙ ap (λ (n : ℕ). member_tree (forest m) n path) j;
+        same = ap (λ o. option_and_then (λ t. at t path) o) (child_in_front (laid_forest m) (laid_forest s) position within) ∙ ap (λ (n : ℕ). member_tree (laid_forest m) n path) j;
       }
   | inr most ↦
       let r = led_into all (first + 1) index member used end (position - width m) path s (behind_one (proxy_of p (width m)) s h.back h.front h.is h.long) (sym (led_behind used position path p m s h most) ∙ e) in
@@ -312,12 +312,12 @@ path_leads_on members member path index inner used e =
       inside = r.inside;
       into = subst (λ (i : ℕ). LeadsInto i inner (drop used path) r.inside member path members) place (subst (λ (k : ℕ). LeadsInto (index - 0) inner (drop k path) r.inside member path members) n r.into);
       within = subst (λ (k : ℕ). k ≤ length path) n r.within;
-      same = r.same ∙ ap (λ (k : ℕ). member_tree (forest r.inside) inner (drop k path)) n;
+      same = r.same ∙ ap (λ (k : ℕ). member_tree (laid_forest r.inside) inner (drop k path)) n;
     }
 
 -- Nothing:
 
-led_missing : (all : List Proxy) (first used position : ℕ) (path : List ℕ) (row : Layout) → StandBehind all first row → led all first (piece_body row) used position path ≡ Missing → member_tree (forest row) position path ≡ None
+led_missing : (all : List Proxy) (first used position : ℕ) (path : List ℕ) (row : Layout) → StandBehind all first row → led all first (piece_body row) used position path ≡ Missing → member_tree (laid_forest row) position path ≡ None
 led_missing all first used position path Bare h e = refl
 led_missing all first used zero [] (Grown n b s) h e = absurd (cc)
 led_missing all first used zero (q ∷ path) (Grown n b s) h e = led_missing all first (used + 1) q path b (below_behind b s h.back h.front h.is h.long) e

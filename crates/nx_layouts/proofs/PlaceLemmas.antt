@@ -1,9 +1,9 @@
--- Places of records, one list after the other.
+-- What is among lists, one after the other, as places of records are.
 use Rattle.std.proofs.Common.{◌≡◌, ℕ, ◌<◌, List, [], ◌∷◌, ◌++◌, inl, inr, sym, ap, ◌∙◌, subst, arith}
 use Rattle.std.specs.Prelude.{◌⊎◌, Contains}
 use Rattle.std.proofs.lemmas.Bool.Decides.{eqb_tells}
 use Rattle.std.proofs.lemmas.List.Elements.{Contains-append_left, Contains-append_right, Contains-append_cases, Contains-push, Contains-push_cases}
-use Rattle.nx_layouts.specs.Layout.{RecordPlace, ArePlacedOnce}
+use Rattle.nx_layouts.specs.Layout.{RecordPlace, AreOnce}
 
 pub place_is : (a b : RecordPlace) → a.page ≡ b.page → a.slot ≡ b.slot → a ≡ b
 place_is a b e f =
@@ -17,17 +17,17 @@ same_place a b =
       | inr h ↦ inr (λ e. h.1 (ap (λ (r : RecordPlace). r.page) e))
     ]
 
-pub no_place : (place : RecordPlace) → Contains [] place → ⊥
-no_place place h = let low : h.0 < 0 = h.1 in omega (arith, low)
+pub no_place : {T : Type 0} (x : T) → Contains [] x → ⊥
+no_place x h = let low : h.0 < 0 = h.1 in omega (arith, low)
 
-pub one_place : (place other : RecordPlace) → Contains (place ∷ []) other → other ≡ place
-one_place place other h = elim (Contains-push_cases [] place other h) [ inl none ↦ absurd (no_place other none) | inr same ↦ sym same ]
+pub one_place : {T : Type 0} (x y : T) → Contains (x ∷ []) y → y ≡ x
+one_place x y h = elim (Contains-push_cases [] x y h) [ inl none ↦ absurd (no_place y none) | inr same ↦ sym same ]
 
-pub first_among : (place : RecordPlace) (rest : List RecordPlace) → Contains (place ∷ rest) place
-first_among place rest = Contains-append_left (place ∷ []) rest place (Contains-push [] place)
+pub first_among : {T : Type 0} (x : T) (rest : List T) → Contains (x ∷ rest) x
+first_among x rest = Contains-append_left (x ∷ []) rest x (Contains-push [] x)
 
-pub later_among : (first : RecordPlace) (rest : List RecordPlace) (place : RecordPlace) → Contains rest place → Contains (first ∷ rest) place
-later_among first rest place h = Contains-append_right (first ∷ []) rest place h
+pub later_among : {T : Type 0} (first : T) (rest : List T) (x : T) → Contains rest x → Contains (first ∷ rest) x
+later_among first rest x h = Contains-append_right (first ∷ []) rest x h
 
 pub is_among : (places : List RecordPlace) (place : RecordPlace) → Contains places place ⊎ (Contains places place → ⊥)
 is_among [] place = inr (no_place place)
@@ -40,53 +40,53 @@ is_among (first ∷ rest) place =
       ]
     ]
 
--- no place is among both
-abbrev pub AreDisjoint : List RecordPlace → List RecordPlace → Type 0
-AreDisjoint a b = (place : RecordPlace) → Contains a place → Contains b place → ⊥
+-- nothing is among both
+abbrev pub AreDisjoint : {T : Type 0} → List T → List T → Type 0
+AreDisjoint {T} a b = (x : T) → Contains a x → Contains b x → ⊥
 
-pub once-left : (a b : List RecordPlace) → ArePlacedOnce (a ++ b) → ArePlacedOnce a
+pub once-left : {T : Type 0} (a b : List T) → AreOnce (a ++ b) → AreOnce a
 once-left [] b h = tt
 once-left (x ∷ a) b h = (λ among. h.0 (Contains-append_left a b x among), once-left a b h.1)
 
-pub once-right : (a b : List RecordPlace) → ArePlacedOnce (a ++ b) → ArePlacedOnce b
+pub once-right : {T : Type 0} (a b : List T) → AreOnce (a ++ b) → AreOnce b
 once-right [] b h = h
 once-right (x ∷ a) b h = once-right a b h.1
 
-pub once-disjoint : (a b : List RecordPlace) → ArePlacedOnce (a ++ b) → AreDisjoint a b
+pub once-disjoint : {T : Type 0} (a b : List T) → AreOnce (a ++ b) → AreDisjoint a b
 once-disjoint [] b h place one other = no_place place one
 once-disjoint (x ∷ a) b h place one other =
     elim (Contains-append_cases (x ∷ []) a place one) [
-      | inl here ↦ h.0 (Contains-append_right a b x (subst (λ (p : RecordPlace). Contains b p) (one_place x place here) other))
+      | inl here ↦ h.0 (Contains-append_right a b x (subst (λ p. Contains b p) (one_place x place here) other))
       | inr later ↦ once-disjoint a b h.1 place later other
     ]
 
-pub once-append : (a b : List RecordPlace) → ArePlacedOnce a → ArePlacedOnce b → AreDisjoint a b → ArePlacedOnce (a ++ b)
+pub once-append : {T : Type 0} (a b : List T) → AreOnce a → AreOnce b → AreDisjoint a b → AreOnce (a ++ b)
 once-append [] b h k apart = k
 once-append (x ∷ a) b h k apart = (fresh, once-append a b h.1 k (λ place one other. apart place (later_among x a place one) other))
   where
     fresh : Contains (a ++ b) x → ⊥
     fresh among = elim (Contains-append_cases a b x among) [ inl one ↦ h.0 one | inr other ↦ apart x (first_among x a) other ]
 
-pub between_cases : (a new b : List RecordPlace) (place : RecordPlace) → Contains (a ++ b) place → Contains (a ++ (new ++ b)) place
+pub between_cases : {T : Type 0} (a new b : List T) (place : T) → Contains (a ++ b) place → Contains (a ++ (new ++ b)) place
 between_cases a new b place h =
     elim (Contains-append_cases a b place h) [
       | inl one ↦ Contains-append_left a (new ++ b) place one
       | inr other ↦ Contains-append_right a (new ++ b) place (Contains-append_right new b place other)
     ]
 
-pub among_between : (a new b : List RecordPlace) (place : RecordPlace) → Contains new place → Contains (a ++ (new ++ b)) place
+pub among_between : {T : Type 0} (a new b : List T) (place : T) → Contains new place → Contains (a ++ (new ++ b)) place
 among_between a new b place h = Contains-append_right a (new ++ b) place (Contains-append_left new b place h)
 
 -- what is among them is between the others, or is one of these
-pub out_of_between : (a new b : List RecordPlace) (place : RecordPlace) → Contains (a ++ (new ++ b)) place → Contains new place ⊎ Contains (a ++ b) place
+pub out_of_between : {T : Type 0} (a new b : List T) (place : T) → Contains (a ++ (new ++ b)) place → Contains new place ⊎ Contains (a ++ b) place
 out_of_between a new b place h =
     elim (Contains-append_cases a (new ++ b) place h) [
       | inl one ↦ inr (Contains-append_left a b place one)
       | inr deeper ↦ elim (Contains-append_cases new b place deeper) [ inl came ↦ inl came | inr other ↦ inr (Contains-append_right a b place other) ]
     ]
 
--- places put between others
-pub once-between : (a new b : List RecordPlace) → ArePlacedOnce (a ++ b) → ArePlacedOnce new → AreDisjoint new (a ++ b) → ArePlacedOnce (a ++ (new ++ b))
+-- elements put between others
+pub once-between : {T : Type 0} (a new b : List T) → AreOnce (a ++ b) → AreOnce new → AreDisjoint new (a ++ b) → AreOnce (a ++ (new ++ b))
 once-between a new b h k apart =
     once-append a (new ++ b) (once-left a b h) (once-append new b k (once-right a b h) (λ place one other. apart place one (Contains-append_right a b place other)))
     (λ place one other. elim (Contains-append_cases new b place other) [
@@ -94,13 +94,13 @@ once-between a new b h k apart =
       | inr behind ↦ once-disjoint a b h place one behind
     ])
 
--- places taken from between others
-pub once-around : (a old b : List RecordPlace) → ArePlacedOnce (a ++ (old ++ b)) → ArePlacedOnce (a ++ b)
+-- elements taken from between others
+pub once-around : {T : Type 0} (a old b : List T) → AreOnce (a ++ (old ++ b)) → AreOnce (a ++ b)
 once-around a old b h =
     once-append a b (once-left a (old ++ b) h) (once-right old b (once-right a (old ++ b) h)) (λ place one other. once-disjoint a (old ++ b) h place one (Contains-append_right old b place other))
 
 -- those that stood between others aren't among these
-pub once-apart : (a old b : List RecordPlace) → ArePlacedOnce (a ++ (old ++ b)) → AreDisjoint old (a ++ b)
+pub once-apart : {T : Type 0} (a old b : List T) → AreOnce (a ++ (old ++ b)) → AreDisjoint old (a ++ b)
 once-apart a old b h place gone among =
     elim (Contains-append_cases a b place among) [
       | inl one ↦ once-disjoint a (old ++ b) h place one (Contains-append_left old b place gone)

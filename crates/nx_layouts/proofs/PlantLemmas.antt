@@ -1,20 +1,21 @@
 -- A node or an interval put into a row of what one record has.
-use Rattle.std.proofs.Common.{◌≡◌, ℕ, zero, suc, ◌+◌, ◌-◌, ◌<◌, ◌≤◌, nat_le, nat_lt, if◌then◌else◌, Bool, true, false, List, [], ◌∷◌, ◌++◌, length, take, drop, Option, refl, sym, ap, ap₂, ◌∙◌, subst, arith, inl, inr, append_assoc, length-append}
+use Rattle.std.proofs.Common.{◌≡◌, ℕ, zero, suc, ◌+◌, ◌-◌, ◌<◌, ◌≤◌, nat_le, nat_lt, if◌then◌else◌, Bool, true, false, List, [], ◌∷◌, ◌++◌, length, take, drop, refl, sym, ap, ap₂, ◌∙◌, subst, arith, inl, inr, append_assoc, length-append}
 use Rattle.std.proofs.lemmas.Bool.{cases_lt}
 use Rattle.std.proofs.lemmas.Bool.Decides.{nat_tests}
 use Rattle.std.proofs.Math.Seq.{take-append-add, drop-append-add}
-use Rattle.nx_tree.specs.declared.node.Node.{Node}
 use Rattle.nx_tree.specs.Forest.{nodes}
 use Rattle.nx_weights.specs.Weight.{weight}
-use Rattle.nx_piece.specs.declared.piece.Piece.{Piece}
 use Rattle.nx_piece.specs.declared.piece.Proxy.{Proxy}
 use Rattle.nx_piece.specs.Gapped.{Gapped, End, Grow, Gap, with_gap}
 use Rattle.nx_piece.specs.Locate.{roots_of}
 use Rattle.nx_piece_edits.specs.Planting.{passed, put_in_gap, put_at}
 use Rattle.nx_piece_edits.proofs.LeftLemmas.{less_is, not_less}
-use Rattle.nx_cuts.specs.Cut.{Bare, Grown, Kept, forest, width, part_weight, AreFree, AreParts}
-use Rattle.nx_layouts.specs.Layout.{RecordPlace, Layout, gap_more, piece_body, proxies_of, proxy_of, places_of, AreHeld}
+use Rattle.nx_cuts.specs.Cut.{Bare, Grown, Kept, width, AreFree}
+use Rattle.nx_layouts.specs.Layout.{RecordPlace, LaidNode, Layout, Stock, in_record, laid_forest, laid_weight, AreLaidParts, gap_more, piece_body, proxies_of, proxy_of, places_of, nodes_in, AreHeld}
+use Rattle.nx_layouts.specs.Nodes.{NodesChange}
 use Rattle.nx_layouts.specs.Planting.{FallsBetween, put_between, proxies_before, with_node, with_interval, NodeIsPlanted, IntervalIsPlanted}
+use Rattle.nx_layouts.proofs.NodeLemmas.{change_behind}
+use Rattle.nx_layouts.proofs.DrawnLemmas.{drawn_wide}
 use Rattle.nx_layouts.proofs.WithoutLemmas.{gap_more_is, gap_more_with, roots_more, take_more, drop_more, minus_both, drop_below, nodes_joined}
 
 -- Proxies that are passed:
@@ -42,10 +43,10 @@ begins_more End proxy proxies some = (omega arith, passed_none proxy [] some)
 begins_more (Grow n b s) proxy proxies some = (omega arith, passed_none proxy [] some)
 begins_more (Gap c s) proxy proxies some = (omega arith, ap (passed 0) (take_more c proxy proxies) ∙ passed_none proxy (take c proxies) some)
 
-pub body_begins : (k : ℕ) (row : Layout) (more : List Proxy) → AreParts k row → BeginsWithRoots (piece_body row) (proxies_of row ++ more)
+pub body_begins : (k : ℕ) (row : Layout) (more : List Proxy) → AreLaidParts k row → BeginsWithRoots (piece_body row) (proxies_of row ++ more)
 body_begins k Bare more h = tt
 body_begins k (Grown n b s) more h = tt
-body_begins k (Kept p m s) more h = begins_more (piece_body s) (proxy_of p (width m)) (proxies_of s ++ more) h.0
+body_begins k (Kept p m s) more h = begins_more (piece_body s) (proxy_of p (width m)) (proxies_of s ++ more) (subst (λ (w : ℕ). 1 ≤ w) (drawn_wide m) h.0)
 
 -- Something put behind one proxy more:
 
@@ -111,12 +112,12 @@ module _ (put : Gapped → Gapped) where
 
 -- What the record has:
 
-body_put : (put : Layout → Layout) (set : Gapped → Gapped) → ((r : Layout) → piece_body (put r) ≡ set (piece_body r)) → (k position : ℕ) (row : Layout) (more : List Proxy) → AreParts k row → FallsBetween position row
+body_put : (put : Layout → Layout) (set : Gapped → Gapped) → ((r : Layout) → piece_body (put r) ≡ set (piece_body r)) → (k position : ℕ) (row : Layout) (more : List Proxy) → AreLaidParts k row → FallsBetween position row
     → piece_body (put_between put position row) ≡ put_at set position (piece_body row) (proxies_of row ++ more)
 body_put put set same k zero row more h f = same row
 body_put put set same k (suc position) Bare more h f = absurd f
 body_put put set same k (suc position) (Grown n b s) more h f =
-    ap (λ (c : Gapped). Grow n (piece_body b) c)
+    ap (λ (c : Gapped). Grow (in_record n) (piece_body b) c)
     (body_put put set same k position s more h.1 f ∙ ap (λ (ps : List Proxy). put_at set position (piece_body s) ps) (sym (drop_below b s more)))
 body_put put set same k (suc position) (Kept p m s) more h f =
     ap gap_more (body_put put set same k (suc position - width m) s more h.4 f.1)
@@ -124,13 +125,13 @@ body_put put set same k (suc position) (Kept p m s) more h f =
 
 -- A node more:
 
-proxies_planted : (node : Node) (position : ℕ) (row : Layout) → FallsBetween position row → proxies_of (with_node node position row) ≡ proxies_of row
+proxies_planted : (node : LaidNode) (position : ℕ) (row : Layout) → FallsBetween position row → proxies_of (with_node node position row) ≡ proxies_of row
 proxies_planted node zero row f = refl
 proxies_planted node (suc position) Bare f = absurd f
 proxies_planted node (suc position) (Grown n b s) f = ap (λ (ps : List Proxy). proxies_of b ++ ps) (proxies_planted node position s f)
 proxies_planted node (suc position) (Kept p m s) f = ap (λ (ps : List Proxy). proxy_of p (width m) ∷ ps) (proxies_planted node (suc position - width m) s f.1)
 
-places_planted : (node : Node) (position : ℕ) (row : Layout) → FallsBetween position row → places_of (with_node node position row) ≡ places_of row
+places_planted : (node : LaidNode) (position : ℕ) (row : Layout) → FallsBetween position row → places_of (with_node node position row) ≡ places_of row
 places_planted node zero row f = refl
 places_planted node (suc position) Bare f = absurd f
 places_planted node (suc position) (Grown n b s) f = ap (λ (ps : List RecordPlace). places_of b ++ ps) (places_planted node position s f)
@@ -138,13 +139,13 @@ places_planted node (suc position) (Kept p m s) f = ap (λ (ps : List RecordPlac
 
 -- Of a node or an interval:
 
-held_put : (pieces : RecordPlace → Option Piece) (put : Layout → Layout) → ((r : Layout) → AreHeld pieces r → AreHeld pieces (put r)) → (position : ℕ) (row : Layout) → AreHeld pieces row → AreHeld pieces (put_between put position row)
-held_put pieces put keeps zero row h = keeps row h
-held_put pieces put keeps (suc position) Bare h = tt
-held_put pieces put keeps (suc position) (Grown n b s) h = (h.0, held_put pieces put keeps position s h.1)
-held_put pieces put keeps (suc position) (Kept p m s) h = (h.0, h.1, held_put pieces put keeps (suc position - width m) s h.2)
+held_put : (stock : Stock) (put : Layout → Layout) → ((r : Layout) → AreHeld stock r → AreHeld stock (put r)) → (position : ℕ) (row : Layout) → AreHeld stock row → AreHeld stock (put_between put position row)
+held_put stock put keeps zero row h = keeps row h
+held_put stock put keeps (suc position) Bare h = tt
+held_put stock put keeps (suc position) (Grown n b s) h = (h.0, h.1, held_put stock put keeps position s h.2)
+held_put stock put keeps (suc position) (Kept p m s) h = (h.0, h.1, held_put stock put keeps (suc position - width m) s h.2)
 
-light_put : (k : ℕ) (put : Layout → Layout) → ((r : Layout) → AreParts k r → AreParts k (put r)) → (position : ℕ) (row : Layout) → AreParts k row → AreParts k (put_between put position row)
+light_put : (k : ℕ) (put : Layout → Layout) → ((r : Layout) → AreLaidParts k r → AreLaidParts k (put r)) → (position : ℕ) (row : Layout) → AreLaidParts k row → AreLaidParts k (put_between put position row)
 light_put k put keeps zero row h = keeps row h
 light_put k put keeps (suc position) Bare h = tt
 light_put k put keeps (suc position) (Grown n b s) h = (h.0, light_put k put keeps position s h.1)
@@ -156,23 +157,31 @@ width_put more put adds (suc position) Bare f = absurd f
 width_put more put adds (suc position) (Grown n b s) f = let e = width_put more put adds position s f in omega (arith, e)
 width_put more put adds (suc position) (Kept p m s) f = let e = width_put more put adds (suc position - width m) s f.1 in omega (arith, e)
 
-weight_put : (more : ℕ) (put : Layout → Layout) → ((r : Layout) → part_weight (put r) ≡ part_weight r + more) → (position : ℕ) (row : Layout) → FallsBetween position row → part_weight (put_between put position row) ≡ part_weight row + more
+weight_put : (more : ℕ) (put : Layout → Layout) → ((r : Layout) → laid_weight (put r) ≡ laid_weight r + more) → (position : ℕ) (row : Layout) → FallsBetween position row → laid_weight (put_between put position row) ≡ laid_weight row + more
 weight_put more put adds zero row f = adds row
 weight_put more put adds (suc position) Bare f = absurd f
 weight_put more put adds (suc position) (Grown n b s) f = let e = weight_put more put adds position s f in omega (arith, e)
 weight_put more put adds (suc position) (Kept p m s) f = weight_put more put adds (suc position - width m) s f.1
 
-nodes_put : (more : ℕ) (put : Layout → Layout) → ((r : Layout) → nodes (forest (put r)) ≡ nodes (forest r) + more) → (position : ℕ) (row : Layout) → FallsBetween position row → nodes (forest (put_between put position row)) ≡ nodes (forest row) + more
+nodes_put : (more : ℕ) (put : Layout → Layout) → ((r : Layout) → nodes (laid_forest (put r)) ≡ nodes (laid_forest r) + more) → (position : ℕ) (row : Layout) → FallsBetween position row → nodes (laid_forest (put_between put position row)) ≡ nodes (laid_forest row) + more
 nodes_put more put adds zero row f = adds row
 nodes_put more put adds (suc position) Bare f = absurd f
 nodes_put more put adds (suc position) (Grown n b s) f = let e = nodes_put more put adds position s f in omega (arith, e)
 nodes_put more put adds (suc position) (Kept p m s) f =
     let e = nodes_put more put adds (suc position - width m) s f.1 in
-    let i = nodes_joined (forest m) (forest s) in
-    let j = nodes_joined (forest m) (forest (put_between put (suc position - width m) s)) in
+    let i = nodes_joined (laid_forest m) (laid_forest s) in
+    let j = nodes_joined (laid_forest m) (laid_forest (put_between put (suc position - width m) s)) in
     omega (arith, e, i, j)
 
-free_planted : (node : Node) (position : ℕ) (row : Layout) → AreFree row → AreFree (with_node node position row)
+-- the nodes of what is put in, which have all of the row behind them
+nodes_come : (come : List LaidNode) (put : Layout → Layout) → ((r : Layout) → nodes_in (put r) ≡ come ++ nodes_in r) → (position : ℕ) (row : Layout) → FallsBetween position row
+    → NodesChange (nodes_in row) (nodes_in (put_between put position row)) [] come
+nodes_come come put adds zero row f = record { before = []; behind = nodes_in row; were = refl; are = adds row }
+nodes_come come put adds (suc position) Bare f = absurd f
+nodes_come come put adds (suc position) (Grown n b s) f = change_behind (nodes_come come put adds position s f) (n ∷ nodes_in b)
+nodes_come come put adds (suc position) (Kept p m s) f = change_behind (nodes_come come put adds (suc position - width m) s f.1) (nodes_in m)
+
+free_planted : (node : LaidNode) (position : ℕ) (row : Layout) → AreFree row → AreFree (with_node node position row)
 free_planted node zero row h = h
 free_planted node (suc position) Bare h = tt
 free_planted node (suc position) (Grown n b s) h = free_planted node position s h
@@ -182,12 +191,13 @@ pub node_is_planted : NodeIsPlanted
 node_is_planted k node position row f =
     let put : Layout → Layout = λ r. Grown node Bare r in
     record {
-      body = λ h more. body_put put (λ g. Grow node End g) (λ r. refl) k position row more h f;
+      body = λ h more. body_put put (λ g. Grow (in_record node) End g) (λ r. refl) k position row more h f;
       proxies = proxies_planted node position row f;
       places = places_planted node position row f;
-      held = λ pieces h. held_put pieces put (λ r held. (tt, held)) position row h;
+      changes = nodes_come (node ∷ []) put (λ r. refl) position row f;
+      held = λ stock read h. held_put stock put (λ r held. (read, tt, held)) position row h;
       wide = width_put 1 put (λ r. omega arith) position row f;
-      weighs = weight_put (weight node) put (λ r. omega arith) position row f;
+      weighs = weight_put (weight node.node) put (λ r. omega arith) position row f;
       free = free_planted node position row;
       light = λ h. light_put k put (λ r parts. (tt, parts)) position row h;
       counted = nodes_put 1 put (λ r. omega arith) position row f;
@@ -256,9 +266,10 @@ interval_is_planted k place members position row f =
       behind = places.behind;
       places_were = places.were;
       places_are = places.are;
-      held = λ pieces h new. held_put pieces put (λ r held. (new.0, new.1, held)) position row h;
+      changes = nodes_come (nodes_in members) put (λ r. refl) position row f;
+      held = λ stock h new. held_put stock put (λ r held. (new.0, new.1, held)) position row h;
       wide = width_put (width members) put (λ r. omega arith) position row f;
-      weighs = weight_put 0 put (λ r. omega arith) position row f ∙ (let e : part_weight row + 0 ≡ part_weight row = omega arith in e);
+      weighs = weight_put 0 put (λ r. omega arith) position row f ∙ (let e : laid_weight row + 0 ≡ laid_weight row = omega arith in e);
       light = λ h new. light_put k put (λ r parts. (new.0, new.1, new.2, new.3, parts)) position row h;
-      counted = nodes_put (nodes (forest members)) put (λ r. let e = nodes_joined (forest members) (forest r) in omega (arith, e)) position row f;
+      counted = nodes_put (nodes (laid_forest members)) put (λ r. let e = nodes_joined (laid_forest members) (laid_forest r) in omega (arith, e)) position row f;
     }

@@ -1,66 +1,63 @@
 -- One interval replaced by several, in the proxies and in what is held.
-use Rattle.std.proofs.Common.{◌≡◌, ℕ, zero, suc, ◌+◌, ◌-◌, ◌<◌, ◌≤◌, nat_lt, if◌then◌else◌, Bool, true, false, List, ◌∷◌, ◌++◌, length, take, drop, Option, Some, refl, sym, ap, ◌∙◌, arith, length-append, append_assoc}
+use Rattle.std.proofs.Common.{◌≡◌, ℕ, zero, suc, ◌+◌, ◌-◌, ◌<◌, ◌≤◌, nat_lt, if◌then◌else◌, Bool, true, false, List, [], ◌∷◌, ◌++◌, length, take, drop, Some, refl, sym, ap, ◌∙◌, arith, length-append, append_assoc}
 use Rattle.std.proofs.lemmas.Grind.{common_steps}
 use Rattle.std.proofs.lemmas.Bool.Decides.{nat_tests}
 use Rattle.std.proofs.Math.Seq.{take-append-add, drop-append-add}
-use Rattle.nx_tree.specs.declared.node.Node.{Node}
-use Rattle.nx_tree.specs.Forest.{Forest, Empty, Plant}
+use Rattle.nx_tree.specs.Forest.{Plant}
 use Rattle.nx_piece.specs.declared.piece.Proxy.{Proxy}
-use Rattle.nx_piece.specs.declared.piece.Piece.{Piece}
 use Rattle.nx_weights.specs.Weight.{weight}
-use Rattle.nx_cuts.specs.Cut.{Bare, Grown, Kept, joined, forest, width, part_weight, AreFree, AreParts}
-use Rattle.nx_layouts.specs.Layout.{RecordPlace, Layout, proxies_of, AreHeld}
+use Rattle.nx_cuts.specs.Cut.{Bare, Grown, Kept, joined, width, AreFree}
+use Rattle.nx_cuts.proofs.RowLemmas.{joined_assoc}
+use Rattle.nx_layouts.specs.Layout.{LaidNode, Layout, Stock, laid_forest, laid_weight, AreLaidParts, proxies_of, nodes_in, AreHeld}
+use Rattle.nx_layouts.specs.Nodes.{NodesChange}
 use Rattle.nx_layouts.specs.Replace.{joined_layout, replaced_at, kept_at, Replaces}
+use Rattle.nx_layouts.proofs.NodeLemmas.{change_behind, change_below}
 
-joined_assoc : (a b c : Forest) → joined (joined a b) c ≡ joined a (joined b c)
-joined_assoc Empty b c = refl
-joined_assoc (Plant n d s) b c = ap (Plant n d) (joined_assoc s b c)
-
-pub forest-joined_layout : (a b : Layout) → forest (joined_layout a b) ≡ joined (forest a) (forest b)
+pub forest-joined_layout : (a b : Layout) → laid_forest (joined_layout a b) ≡ joined (laid_forest a) (laid_forest b)
 forest-joined_layout Bare b = refl
-forest-joined_layout (Grown n d s) b = ap (Plant n (forest d)) (forest-joined_layout s b)
-forest-joined_layout (Kept p m s) b = ap (joined (forest m)) (forest-joined_layout s b) ∙ sym (joined_assoc (forest m) (forest s) (forest b))
+forest-joined_layout (Grown n d s) b = ap (Plant n.node (laid_forest d)) (forest-joined_layout s b)
+forest-joined_layout (Kept p m s) b = ap (joined (laid_forest m)) (forest-joined_layout s b) ∙ sym (joined_assoc (laid_forest m) (laid_forest s) (laid_forest b))
 
 pub proxies-joined_layout : (a b : Layout) → proxies_of (joined_layout a b) ≡ proxies_of a ++ proxies_of b
 proxies-joined_layout Bare b = refl
 proxies-joined_layout (Grown n d s) b = ap (λ l. proxies_of d ++ l) (proxies-joined_layout s b) ∙ sym (append_assoc (proxies_of d) (proxies_of s) (proxies_of b))
 proxies-joined_layout (Kept p m s) b = ap (λ l. record { page = p.page; slot = p.slot; roots = width m } ∷ l) (proxies-joined_layout s b)
 
-pub held-joined_layout : (pieces : RecordPlace → Option Piece) (a b : Layout) → AreHeld pieces a → AreHeld pieces b → AreHeld pieces (joined_layout a b)
-held-joined_layout pieces Bare b p q = q
-held-joined_layout pieces (Grown n d s) b p q = (p.0, held-joined_layout pieces s b p.1 q)
-held-joined_layout pieces (Kept r m s) b p q = (p.0, p.1, held-joined_layout pieces s b p.2 q)
+pub held-joined_layout : (stock : Stock) (a b : Layout) → AreHeld stock a → AreHeld stock b → AreHeld stock (joined_layout a b)
+held-joined_layout stock Bare b p q = q
+held-joined_layout stock (Grown n d s) b p q = (p.0, p.1, held-joined_layout stock s b p.2 q)
+held-joined_layout stock (Kept r m s) b p q = (p.0, p.1, held-joined_layout stock s b p.2 q)
 
-pub held_filled : (pieces : RecordPlace → Option Piece) (index : ℕ) (left row : Layout) → AreHeld pieces (replaced_at index Bare row) → AreHeld pieces left → AreHeld pieces (replaced_at index left row)
-held_filled pieces index left Bare h e = tt
-held_filled pieces index left (Grown n b s) h e =
-    (elim (nat_lt index (length (proxies_of b))) as (λ t. AreHeld pieces (if t then Grown n (replaced_at index Bare b) s else Grown n b (replaced_at (index - length (proxies_of b)) Bare s))
-    → AreHeld pieces (if t then Grown n (replaced_at index left b) s else Grown n b (replaced_at (index - length (proxies_of b)) left s))) [
-      | true ↦ λ g. (held_filled pieces index left b g.0 e, g.1)
-      | false ↦ λ g. (g.0, held_filled pieces (index - length (proxies_of b)) left s g.1 e)
+pub held_filled : (stock : Stock) (index : ℕ) (left row : Layout) → AreHeld stock (replaced_at index Bare row) → AreHeld stock left → AreHeld stock (replaced_at index left row)
+held_filled stock index left Bare h e = tt
+held_filled stock index left (Grown n b s) h e =
+    (elim (nat_lt index (length (proxies_of b))) as (λ t. AreHeld stock (if t then Grown n (replaced_at index Bare b) s else Grown n b (replaced_at (index - length (proxies_of b)) Bare s))
+    → AreHeld stock (if t then Grown n (replaced_at index left b) s else Grown n b (replaced_at (index - length (proxies_of b)) left s))) [
+      | true ↦ λ g. (g.0, held_filled stock index left b g.1 e, g.2)
+      | false ↦ λ g. (g.0, g.1, held_filled stock (index - length (proxies_of b)) left s g.2 e)
     ]) h
-held_filled pieces zero left (Kept p m s) h e = held-joined_layout pieces left s e h
-held_filled pieces (suc index) left (Kept p m s) h e = (h.0, h.1, held_filled pieces index left s h.2 e)
+held_filled stock zero left (Kept p m s) h e = held-joined_layout stock left s e h
+held_filled stock (suc index) left (Kept p m s) h e = (h.0, h.1, held_filled stock index left s h.2 e)
 
-pub held_hole : (pieces : RecordPlace → Option Piece) (index : ℕ) (row : Layout) → AreHeld pieces row → AreHeld pieces (replaced_at index Bare row)
-held_hole pieces index Bare h = tt
-held_hole pieces index (Grown n b s) h =
-    elim (nat_lt index (length (proxies_of b))) as (λ t. AreHeld pieces (if t then Grown n (replaced_at index Bare b) s else Grown n b (replaced_at (index - length (proxies_of b)) Bare s))) [
-      | true ↦ (held_hole pieces index b h.0, h.1)
-      | false ↦ (h.0, held_hole pieces (index - length (proxies_of b)) s h.1)
+pub held_hole : (stock : Stock) (index : ℕ) (row : Layout) → AreHeld stock row → AreHeld stock (replaced_at index Bare row)
+held_hole stock index Bare h = tt
+held_hole stock index (Grown n b s) h =
+    elim (nat_lt index (length (proxies_of b))) as (λ t. AreHeld stock (if t then Grown n (replaced_at index Bare b) s else Grown n b (replaced_at (index - length (proxies_of b)) Bare s))) [
+      | true ↦ (h.0, held_hole stock index b h.1, h.2)
+      | false ↦ (h.0, h.1, held_hole stock (index - length (proxies_of b)) s h.2)
     ]
-held_hole pieces zero (Kept p m s) h = h.2
-held_hole pieces (suc index) (Kept p m s) h = (h.0, h.1, held_hole pieces index s h.2)
+held_hole stock zero (Kept p m s) h = h.2
+held_hole stock (suc index) (Kept p m s) h = (h.0, h.1, held_hole stock index s h.2)
 
-pub light_joined : (k : ℕ) (a b : Layout) → AreParts k a → AreParts k b → AreParts k (joined_layout a b)
+pub light_joined : (k : ℕ) (a b : Layout) → AreLaidParts k a → AreLaidParts k b → AreLaidParts k (joined_layout a b)
 light_joined k Bare b h g = g
 light_joined k (Grown n d s) b h g = (h.0, light_joined k s b h.1 g)
 light_joined k (Kept p m s) b h g = (h.0, h.1, h.2, h.3, light_joined k s b h.4 g)
 
-pub light_filled : (k index : ℕ) (left row : Layout) → AreParts k row → AreParts k left → AreParts k (replaced_at index left row)
+pub light_filled : (k index : ℕ) (left row : Layout) → AreLaidParts k row → AreLaidParts k left → AreLaidParts k (replaced_at index left row)
 light_filled k index left Bare h e = tt
 light_filled k index left (Grown n b s) h e =
-    elim (nat_lt index (length (proxies_of b))) as (λ t. AreParts k (if t then Grown n (replaced_at index left b) s else Grown n b (replaced_at (index - length (proxies_of b)) left s))) [
+    elim (nat_lt index (length (proxies_of b))) as (λ t. AreLaidParts k (if t then Grown n (replaced_at index left b) s else Grown n b (replaced_at (index - length (proxies_of b)) left s))) [
       | true ↦ (light_filled k index left b h.0 e, h.1)
       | false ↦ (h.0, light_filled k (index - length (proxies_of b)) left s h.1 e)
     ]
@@ -85,30 +82,30 @@ wide_filled index left (Grown n b s) f =
     ]
 wide_filled index left (Kept p m s) f = absurd f
 
-weight_joined : (a b : Layout) → part_weight (joined_layout a b) ≡ part_weight a + part_weight b
+weight_joined : (a b : Layout) → laid_weight (joined_layout a b) ≡ laid_weight a + laid_weight b
 weight_joined Bare b = omega arith
 weight_joined (Grown n d s) b = let e = weight_joined s b in omega (arith, e)
 weight_joined (Kept p m s) b = weight_joined s b
 
-pub heavy_filled : (index : ℕ) (left row : Layout) → part_weight left ≡ 0 → part_weight (replaced_at index left row) ≡ part_weight row
+pub heavy_filled : (index : ℕ) (left row : Layout) → laid_weight left ≡ 0 → laid_weight (replaced_at index left row) ≡ laid_weight row
 heavy_filled index left Bare e = refl
 heavy_filled index left (Grown n b s) e =
-    elim (nat_lt index (length (proxies_of b))) as (λ t. part_weight (if t then Grown n (replaced_at index left b) s else Grown n b (replaced_at (index - length (proxies_of b)) left s)) ≡ weight n + part_weight b + part_weight s) [
-      | true ↦ ap (λ (w : ℕ). weight n + w + part_weight s) (heavy_filled index left b e)
-      | false ↦ ap (λ (w : ℕ). weight n + part_weight b + w) (heavy_filled (index - length (proxies_of b)) left s e)
+    elim (nat_lt index (length (proxies_of b))) as (λ t. laid_weight (if t then Grown n (replaced_at index left b) s else Grown n b (replaced_at (index - length (proxies_of b)) left s)) ≡ weight n.node + laid_weight b + laid_weight s) [
+      | true ↦ ap (λ (w : ℕ). weight n.node + w + laid_weight s) (heavy_filled index left b e)
+      | false ↦ ap (λ (w : ℕ). weight n.node + laid_weight b + w) (heavy_filled (index - length (proxies_of b)) left s e)
     ]
 heavy_filled zero left (Kept p m s) e = let f = weight_joined left s in omega (arith, e, f)
 heavy_filled (suc index) left (Kept p m s) e = heavy_filled index left s e
 
-same_replaced : (index : ℕ) (new old members : Layout) → kept_at index old ≡ Some members → forest new ≡ forest members → forest (replaced_at index new old) ≡ forest old
+same_replaced : (index : ℕ) (new old members : Layout) → kept_at index old ≡ Some members → laid_forest new ≡ laid_forest members → laid_forest (replaced_at index new old) ≡ laid_forest old
 same_replaced index new Bare members e f = refl
 same_replaced index new (Grown n b s) members e f =
-    (elim (nat_lt index (length (proxies_of b))) as (λ t. (if t then kept_at index b else kept_at (index - length (proxies_of b)) s) ≡ Some members → forest (if t then Grown n (replaced_at index new b) s else Grown n b (replaced_at (index - length (proxies_of b)) new s)) ≡ Plant n (forest b) (forest s)) [
-      | true ↦ λ h. ap (λ g. Plant n g (forest s)) (same_replaced index new b members h f)
-      | false ↦ λ h. ap (Plant n (forest b)) (same_replaced (index - length (proxies_of b)) new s members h f)
+    (elim (nat_lt index (length (proxies_of b))) as (λ t. (if t then kept_at index b else kept_at (index - length (proxies_of b)) s) ≡ Some members → laid_forest (if t then Grown n (replaced_at index new b) s else Grown n b (replaced_at (index - length (proxies_of b)) new s)) ≡ Plant n.node (laid_forest b) (laid_forest s)) [
+      | true ↦ λ h. ap (λ g. Plant n.node g (laid_forest s)) (same_replaced index new b members h f)
+      | false ↦ λ h. ap (Plant n.node (laid_forest b)) (same_replaced (index - length (proxies_of b)) new s members h f)
     ]) e
-same_replaced zero new (Kept r m s) members e f = let h : m ≡ members = cc in forest-joined_layout new s ∙ ap (λ g. joined g (forest s)) (f ∙ ap forest (sym h))
-same_replaced (suc index) new (Kept r m s) members e f = ap (joined (forest m)) (same_replaced index new s members e f)
+same_replaced zero new (Kept r m s) members e f = let h : m ≡ members = cc in forest-joined_layout new s ∙ ap (λ g. joined g (laid_forest s)) (f ∙ ap laid_forest (sym h))
+same_replaced (suc index) new (Kept r m s) members e f = ap (joined (laid_forest m)) (same_replaced index new s members e f)
 
 in_front : {A : Type 0} (i : ℕ) (a n b : List A) → i < length a → (take i a ++ n ++ drop (i + 1) a) ++ b ≡ take i (a ++ b) ++ n ++ drop (i + 1) (a ++ b)
 in_front i a n b h = grind (arith, common_steps)
@@ -122,7 +119,7 @@ behind j a n b =
 abbrev pub WithProxies : List Proxy → ℕ → Layout → Layout → Type 0
 WithProxies old index new now = proxies_of now ≡ take index old ++ proxies_of new ++ drop (index + 1) old
 
-choose : {t : Bool} (index : ℕ) (n : Node) (new b s : Layout) → nat_lt index (length (proxies_of b)) ≡ t
+choose : {t : Bool} (index : ℕ) (n : LaidNode) (new b s : Layout) → nat_lt index (length (proxies_of b)) ≡ t
     → (index < length (proxies_of b) → WithProxies (proxies_of b) index new (replaced_at index new b))
     → (length (proxies_of b) ≤ index → WithProxies (proxies_of s) (index - length (proxies_of b)) new (replaced_at (index - length (proxies_of b)) new s))
     → WithProxies (proxies_of b ++ proxies_of s) index new (if t then Grown n (replaced_at index new b) s else Grown n b (replaced_at (index - length (proxies_of b)) new s))
@@ -146,14 +143,33 @@ proxies_replaced (suc index) new (Kept r m s) h =
     let k : suc index + 1 ≡ suc (index + 1) = omega arith in
     ap (λ l. one ∷ l) (proxies_replaced index new s (omega arith)) ∙ ap (λ i. one ∷ (take index (proxies_of s) ++ proxies_of new ++ drop i (one ∷ proxies_of s))) (sym k)
 
+pub nodes-joined_layout : (a b : Layout) → nodes_in (joined_layout a b) ≡ nodes_in a ++ nodes_in b
+nodes-joined_layout Bare b = refl
+nodes-joined_layout (Grown n d s) b = ap (λ (l : List LaidNode). n ∷ (nodes_in d ++ l)) (nodes-joined_layout s b) ∙ ap (λ (l : List LaidNode). n ∷ l) (sym (append_assoc (nodes_in d) (nodes_in s) (nodes_in b)))
+nodes-joined_layout (Kept p m s) b = ap (λ (l : List LaidNode). nodes_in m ++ l) (nodes-joined_layout s b) ∙ sym (append_assoc (nodes_in m) (nodes_in s) (nodes_in b))
+
+nodes_replaced : (index : ℕ) (new old members : Layout) → kept_at index old ≡ Some members → NodesChange (nodes_in old) (nodes_in (replaced_at index new old)) (nodes_in members) (nodes_in new)
+nodes_replaced index new Bare members e = absurd (cc)
+nodes_replaced index new (Grown n b s) members e =
+    (elim (nat_lt index (length (proxies_of b))) as (λ t. (if t then kept_at index b else kept_at (index - length (proxies_of b)) s) ≡ Some members
+    → NodesChange (n ∷ (nodes_in b ++ nodes_in s)) (nodes_in (if t then Grown n (replaced_at index new b) s else Grown n b (replaced_at (index - length (proxies_of b)) new s))) (nodes_in members) (nodes_in new)) [
+      | true ↦ λ h. change_below (nodes_replaced index new b members h) n (nodes_in s)
+      | false ↦ λ h. change_behind (nodes_replaced (index - length (proxies_of b)) new s members h) (n ∷ nodes_in b)
+    ]) e
+nodes_replaced zero new (Kept r m s) members e =
+    let h : m ≡ members = cc in
+    record { before = []; behind = nodes_in s; were = ap (λ (l : Layout). nodes_in l ++ nodes_in s) h; are = nodes-joined_layout new s }
+nodes_replaced (suc index) new (Kept r m s) members e = change_behind (nodes_replaced index new s members e) (nodes_in m)
+
 pub replaces : (index : ℕ) (old new : Layout) → index < length (proxies_of old) → Replaces index old new
 replaces index old new h = record {
   proxies_are = proxies_replaced index new old h;
-  beside = λ pieces. held_hole pieces index old;
-  held = λ pieces. held_filled pieces index new old;
+  beside = λ stock. held_hole stock index old;
+  held = λ stock. held_filled stock index new old;
   light = λ k. light_filled k index new old;
   free = free_filled index new old;
   wide = wide_filled index new old;
   heavy = heavy_filled index new old;
   same = same_replaced index new old;
+  changes = nodes_replaced index new old;
 }

@@ -1,13 +1,13 @@
 -- Runs of proxies of which one changes or goes, or in whose place several come.
 use Rattle.std.proofs.Common.{◌≡◌, ℕ, zero, suc, ◌+◌, ◌-◌, ◌<◌, ◌≤◌, nat_lt, if◌then◌else◌, true, false, length, refl, sym, ap, ◌∙◌, subst, arith, length-append, inl, inr}
 use Rattle.std.proofs.lemmas.Bool.{cases_lt}
-use Rattle.nx_tree.specs.declared.node.Node.{Node}
+use Rattle.nx_piece.specs.PieceNode.{PieceNode}
 use Rattle.nx_piece.specs.Gapped.{Gapped, End, Grow, Gap, proxies_in, with_gap}
 use Rattle.nx_piece.specs.Valid.{AreApart, BeginsNoGap}
 use Rattle.nx_piece_edits.specs.Cutting.{smaller_gap, without_proxy, with_row}
 use Rattle.nx_piece_edits.proofs.LeftLemmas.{less_is, not_less}
 use Rattle.nx_cuts.specs.Cut.{Bare, Grown, Kept}
-use Rattle.nx_layouts.specs.Layout.{RecordPlace, Layout, gap_more, piece_body, proxies_of}
+use Rattle.nx_layouts.specs.Layout.{RecordPlace, Layout, in_record, gap_more, piece_body, proxies_of}
 use Rattle.nx_layouts.specs.Replace.{joined_layout, replaced_at}
 use Rattle.nx_layouts.specs.Cutting.{RunsAfter}
 use Rattle.nx_layouts.proofs.LayoutLemmas.{proxies_counted, no_bare}
@@ -36,7 +36,7 @@ less_later index (Grow n b s) h less =
     more_grown index n b s ∙ ap (λ (i : ℕ). Gap 1 (without_proxy i (Grow n b s))) (sym back)
     ∙ sym (not_less (suc index) 1 (smaller_gap 1 (Grow n b s)) (Gap 1 (without_proxy (suc index - 1) (Grow n b s))) (omega arith))
   where
-    more_grown : (index : ℕ) (n : Node) (b s : Gapped) → gap_more (without_proxy index (Grow n b s)) ≡ Gap 1 (without_proxy index (Grow n b s))
+    more_grown : (index : ℕ) (n : PieceNode) (b s : Gapped) → gap_more (without_proxy index (Grow n b s)) ≡ Gap 1 (without_proxy index (Grow n b s))
     more_grown index n b s =
         elim (nat_lt index (proxies_in b)) as (λ t. gap_more (if t then Grow n (without_proxy index b) s else Grow n b (without_proxy (index - proxies_in b) s)) ≡ Gap 1 (if t then Grow n (without_proxy index b) s else Grow n b (without_proxy (index - proxies_in b) s))) [
           | true ↦ refl
@@ -63,9 +63,9 @@ less_later index (Gap c s) h less = elim (cases_lt index c) [
 one_stays : (index : ℕ) (place : RecordPlace) (members row : Layout) → piece_body (replaced_at index (Kept place members Bare) row) ≡ piece_body row
 one_stays index place members Bare = refl
 one_stays index place members (Grown n b s) =
-    elim (nat_lt index (length (proxies_of b))) as (λ t. piece_body (if t then Grown n (replaced_at index (Kept place members Bare) b) s else Grown n b (replaced_at (index - length (proxies_of b)) (Kept place members Bare) s)) ≡ Grow n (piece_body b) (piece_body s)) [
-      | true ↦ ap (λ (x : Gapped). Grow n x (piece_body s)) (one_stays index place members b)
-      | false ↦ ap (λ (x : Gapped). Grow n (piece_body b) x) (one_stays (index - length (proxies_of b)) place members s)
+    elim (nat_lt index (length (proxies_of b))) as (λ t. piece_body (if t then Grown n (replaced_at index (Kept place members Bare) b) s else Grown n b (replaced_at (index - length (proxies_of b)) (Kept place members Bare) s)) ≡ Grow (in_record n) (piece_body b) (piece_body s)) [
+      | true ↦ ap (λ (x : Gapped). Grow (in_record n) x (piece_body s)) (one_stays index place members b)
+      | false ↦ ap (λ (x : Gapped). Grow (in_record n) (piece_body b) x) (one_stays (index - length (proxies_of b)) place members s)
     ]
 one_stays zero place members (Kept p m s) = refl
 one_stays (suc index) place members (Kept p m s) = ap gap_more (one_stays index place members s)
@@ -74,16 +74,16 @@ none_stays : (index : ℕ) (row : Layout) → index < length (proxies_of row) �
 none_stays index Bare less = refl
 none_stays index (Grown n b s) less =
     let l = length-append (proxies_of b) (proxies_of s) in
-    subst (λ (k : ℕ). piece_body (replaced_at index Bare (Grown n b s)) ≡ (if nat_lt index k then Grow n (without_proxy index (piece_body b)) (piece_body s) else Grow n (piece_body b) (without_proxy (index - k) (piece_body s)))) (proxies_counted b)
+    subst (λ (k : ℕ). piece_body (replaced_at index Bare (Grown n b s)) ≡ (if nat_lt index k then Grow (in_record n) (without_proxy index (piece_body b)) (piece_body s) else Grow (in_record n) (piece_body b) (without_proxy (index - k) (piece_body s)))) (proxies_counted b)
     (elim (cases_lt index (length (proxies_of b))) [
       | inl here ↦
           ap piece_body (less_is index (length (proxies_of b)) (Grown n (replaced_at index Bare b) s) (Grown n b (replaced_at (index - length (proxies_of b)) Bare s)) here)
-          ∙ ap (λ (x : Gapped). Grow n x (piece_body s)) (none_stays index b here)
-          ∙ sym (less_is index (length (proxies_of b)) (Grow n (without_proxy index (piece_body b)) (piece_body s)) (Grow n (piece_body b) (without_proxy (index - length (proxies_of b)) (piece_body s))) here)
+          ∙ ap (λ (x : Gapped). Grow (in_record n) x (piece_body s)) (none_stays index b here)
+          ∙ sym (less_is index (length (proxies_of b)) (Grow (in_record n) (without_proxy index (piece_body b)) (piece_body s)) (Grow (in_record n) (piece_body b) (without_proxy (index - length (proxies_of b)) (piece_body s))) here)
       | inr behind ↦
           ap piece_body (not_less index (length (proxies_of b)) (Grown n (replaced_at index Bare b) s) (Grown n b (replaced_at (index - length (proxies_of b)) Bare s)) behind)
-          ∙ ap (λ (x : Gapped). Grow n (piece_body b) x) (none_stays (index - length (proxies_of b)) s (omega (arith, l, less, behind)))
-          ∙ sym (not_less index (length (proxies_of b)) (Grow n (without_proxy index (piece_body b)) (piece_body s)) (Grow n (piece_body b) (without_proxy (index - length (proxies_of b)) (piece_body s))) behind)
+          ∙ ap (λ (x : Gapped). Grow (in_record n) (piece_body b) x) (none_stays (index - length (proxies_of b)) s (omega (arith, l, less, behind)))
+          ∙ sym (not_less index (length (proxies_of b)) (Grow (in_record n) (without_proxy index (piece_body b)) (piece_body s)) (Grow (in_record n) (piece_body b) (without_proxy (index - length (proxies_of b)) (piece_body s))) behind)
     ])
 none_stays zero (Kept p m s) less = sym (less_first (piece_body s) (body_apart s))
 none_stays (suc index) (Kept p m s) less =
@@ -168,16 +168,16 @@ many_come : (index count : ℕ) (new row : Layout) → piece_body new ≡ Gap co
 many_come index count new Bare is less = refl
 many_come index count new (Grown n b s) is less =
     let l = length-append (proxies_of b) (proxies_of s) in
-    subst (λ (k : ℕ). piece_body (replaced_at index new (Grown n b s)) ≡ (if nat_lt index k then Grow n (with_row index count (piece_body b)) (piece_body s) else Grow n (piece_body b) (with_row (index - k) count (piece_body s)))) (proxies_counted b)
+    subst (λ (k : ℕ). piece_body (replaced_at index new (Grown n b s)) ≡ (if nat_lt index k then Grow (in_record n) (with_row index count (piece_body b)) (piece_body s) else Grow (in_record n) (piece_body b) (with_row (index - k) count (piece_body s)))) (proxies_counted b)
     (elim (cases_lt index (length (proxies_of b))) [
       | inl here ↦
           ap piece_body (less_is index (length (proxies_of b)) (Grown n (replaced_at index new b) s) (Grown n b (replaced_at (index - length (proxies_of b)) new s)) here)
-          ∙ ap (λ (x : Gapped). Grow n x (piece_body s)) (many_come index count new b is here)
-          ∙ sym (less_is index (length (proxies_of b)) (Grow n (with_row index count (piece_body b)) (piece_body s)) (Grow n (piece_body b) (with_row (index - length (proxies_of b)) count (piece_body s))) here)
+          ∙ ap (λ (x : Gapped). Grow (in_record n) x (piece_body s)) (many_come index count new b is here)
+          ∙ sym (less_is index (length (proxies_of b)) (Grow (in_record n) (with_row index count (piece_body b)) (piece_body s)) (Grow (in_record n) (piece_body b) (with_row (index - length (proxies_of b)) count (piece_body s))) here)
       | inr behind ↦
           ap piece_body (not_less index (length (proxies_of b)) (Grown n (replaced_at index new b) s) (Grown n b (replaced_at (index - length (proxies_of b)) new s)) behind)
-          ∙ ap (λ (x : Gapped). Grow n (piece_body b) x) (many_come (index - length (proxies_of b)) count new s is (omega (arith, l, less, behind)))
-          ∙ sym (not_less index (length (proxies_of b)) (Grow n (with_row index count (piece_body b)) (piece_body s)) (Grow n (piece_body b) (with_row (index - length (proxies_of b)) count (piece_body s))) behind)
+          ∙ ap (λ (x : Gapped). Grow (in_record n) (piece_body b) x) (many_come (index - length (proxies_of b)) count new s is (omega (arith, l, less, behind)))
+          ∙ sym (not_less index (length (proxies_of b)) (Grow (in_record n) (with_row index count (piece_body b)) (piece_body s)) (Grow (in_record n) (piece_body b) (with_row (index - length (proxies_of b)) count (piece_body s))) behind)
     ])
 many_come zero count new (Kept p m s) is less = gap_joined count new s is ∙ sym (row_first count (piece_body s))
 many_come (suc index) count new (Kept p m s) is less =

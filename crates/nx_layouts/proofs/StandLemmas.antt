@@ -3,11 +3,11 @@ use Rattle.std.proofs.Common.{◌≡◌, ℕ, zero, suc, ◌+◌, ◌-◌, ◌<�
 use Rattle.nx_tree.specs.Forest.{nodes}
 use Rattle.nx_piece.specs.declared.piece.Proxy.{Proxy}
 use Rattle.nx_piece_edits.proofs.LeftLemmas.{less_is, not_less}
-use Rattle.nx_cuts.specs.Cut.{Bare, Grown, Kept, forest, width}
-use Rattle.nx_layouts.specs.Layout.{RecordPlace, Layout, proxies_of, proxy_of, places_of}
+use Rattle.nx_cuts.specs.Cut.{Bare, Grown, Kept, width}
+use Rattle.nx_layouts.specs.Layout.{RecordPlace, LaidNode, Layout, laid_forest, proxies_of, proxy_of, places_of, nodes_in}
 use Rattle.nx_layouts.specs.Replace.{joined_layout, replaced_at, kept_at}
 use Rattle.nx_layouts.specs.Cutting.{StandsIn, IntervalStandsIn}
-use Rattle.nx_layouts.proofs.ReplaceLemmas.{forest-joined_layout}
+use Rattle.nx_layouts.proofs.ReplaceLemmas.{forest-joined_layout, nodes-joined_layout}
 use Rattle.nx_layouts.proofs.WithoutLemmas.{nodes_joined, shift_in}
 
 places_joined : (a b : Layout) → places_of (joined_layout a b) ≡ places_of a ++ places_of b
@@ -28,11 +28,15 @@ here k position p m s less = record {
   behind = places_of s;
   places_were = refl;
   places_are = λ left. places_joined left s;
-  held = λ pieces held. (held.0, held.1, tt);
+  nodes_before = [];
+  nodes_behind = nodes_in s;
+  nodes_were = refl;
+  nodes_are = λ left. nodes-joined_layout left s;
+  held = λ stock held. (held.0, held.1, tt);
   light = λ parts. (parts.0, parts.1, parts.2, parts.3, tt);
   counted = λ left.
-      let e : nodes (forest (joined_layout left s)) ≡ nodes (forest left) + nodes (forest s) = ap nodes (forest-joined_layout left s) ∙ nodes_joined (forest left) (forest s) in
-      let f = nodes_joined (forest m) (forest s) in
+      let e : nodes (laid_forest (joined_layout left s)) ≡ nodes (laid_forest left) + nodes (laid_forest s) = ap nodes (forest-joined_layout left s) ∙ nodes_joined (laid_forest left) (laid_forest s) in
+      let f = nodes_joined (laid_forest m) (laid_forest s) in
       omega (arith, e, f);
 }
 
@@ -55,9 +59,13 @@ interval_stands_in k index member rest inside zero (q ∷ path) (Grown n b s) h 
       behind = r.behind ++ places_of s;
       places_were = ap (λ (ps : List RecordPlace). ps ++ places_of s) r.places_were ∙ shift_in r.before (r.at ∷ places_of inside) r.behind (places_of s);
       places_are = λ left. ap places_of (row_is left) ∙ ap (λ (ps : List RecordPlace). ps ++ places_of s) (r.places_are left) ∙ shift_in r.before (places_of left) r.behind (places_of s);
-      held = λ pieces held. r.held pieces held.0;
+      nodes_before = n ∷ r.nodes_before;
+      nodes_behind = r.nodes_behind ++ nodes_in s;
+      nodes_were = ap (λ (ns : List LaidNode). n ∷ (ns ++ nodes_in s)) r.nodes_were ∙ ap (λ (ns : List LaidNode). n ∷ ns) (shift_in r.nodes_before (nodes_in inside) r.nodes_behind (nodes_in s));
+      nodes_are = λ left. ap nodes_in (row_is left) ∙ ap (λ (ns : List LaidNode). n ∷ (ns ++ nodes_in s)) (r.nodes_are left) ∙ ap (λ (ns : List LaidNode). n ∷ ns) (shift_in r.nodes_before (nodes_in left) r.nodes_behind (nodes_in s));
+      held = λ stock held. r.held stock held.1;
       light = λ parts. r.light parts.0;
-      counted = λ left. let e = r.counted left in let f = ap (λ (l : Layout). nodes (forest l)) (row_is left) in omega (arith, e, f);
+      counted = λ left. let e = r.counted left in let f = ap (λ (l : Layout). nodes (laid_forest l)) (row_is left) in omega (arith, e, f);
     }
 interval_stands_in k index member rest inside (suc position) path (Grown n b s) h =
     let r = interval_stands_in k (index - length (proxies_of b)) member rest inside position path s h.1 in
@@ -75,9 +83,13 @@ interval_stands_in k index member rest inside (suc position) path (Grown n b s) 
       behind = r.behind;
       places_were = ap (λ (ps : List RecordPlace). places_of b ++ ps) r.places_were ∙ sym (append_assoc (places_of b) r.before ((r.at ∷ places_of inside) ++ r.behind));
       places_are = λ left. ap places_of (row_is left) ∙ ap (λ (ps : List RecordPlace). places_of b ++ ps) (r.places_are left) ∙ sym (append_assoc (places_of b) r.before (places_of left ++ r.behind));
-      held = λ pieces held. r.held pieces held.1;
+      nodes_before = n ∷ (nodes_in b ++ r.nodes_before);
+      nodes_behind = r.nodes_behind;
+      nodes_were = ap (λ (ns : List LaidNode). n ∷ (nodes_in b ++ ns)) r.nodes_were ∙ ap (λ (ns : List LaidNode). n ∷ ns) (sym (append_assoc (nodes_in b) r.nodes_before (nodes_in inside ++ r.nodes_behind)));
+      nodes_are = λ left. ap nodes_in (row_is left) ∙ ap (λ (ns : List LaidNode). n ∷ (nodes_in b ++ ns)) (r.nodes_are left) ∙ ap (λ (ns : List LaidNode). n ∷ ns) (sym (append_assoc (nodes_in b) r.nodes_before (nodes_in left ++ r.nodes_behind)));
+      held = λ stock held. r.held stock held.2;
       light = λ parts. r.light parts.1;
-      counted = λ left. let e = r.counted left in let f = ap (λ (l : Layout). nodes (forest l)) (row_is left) in omega (arith, e, f);
+      counted = λ left. let e = r.counted left in let f = ap (λ (l : Layout). nodes (laid_forest l)) (row_is left) in omega (arith, e, f);
     }
 interval_stands_in k zero member rest inside position path (Kept p m s) h = subst (λ (x : Layout). StandsIn k zero x (Kept p m s)) (sym h.3) (here k position p m s h.0)
 interval_stands_in k (suc index) member rest inside position path (Kept p m s) h =
@@ -93,11 +105,15 @@ interval_stands_in k (suc index) member rest inside position path (Kept p m s) h
       behind = r.behind;
       places_were = ap (λ (ps : List RecordPlace). p ∷ (places_of m ++ ps)) r.places_were ∙ ap (λ (ps : List RecordPlace). p ∷ ps) (sym (append_assoc (places_of m) r.before ((r.at ∷ places_of inside) ++ r.behind)));
       places_are = λ left. ap (λ (ps : List RecordPlace). p ∷ (places_of m ++ ps)) (r.places_are left) ∙ ap (λ (ps : List RecordPlace). p ∷ ps) (sym (append_assoc (places_of m) r.before (places_of left ++ r.behind)));
-      held = λ pieces held. r.held pieces held.2;
+      nodes_before = nodes_in m ++ r.nodes_before;
+      nodes_behind = r.nodes_behind;
+      nodes_were = ap (λ (ns : List LaidNode). nodes_in m ++ ns) r.nodes_were ∙ sym (append_assoc (nodes_in m) r.nodes_before (nodes_in inside ++ r.nodes_behind));
+      nodes_are = λ left. ap (λ (ns : List LaidNode). nodes_in m ++ ns) (r.nodes_are left) ∙ sym (append_assoc (nodes_in m) r.nodes_before (nodes_in left ++ r.nodes_behind));
+      held = λ stock held. r.held stock held.2;
       light = λ parts. r.light parts.4;
       counted = λ left.
           let e = r.counted left in
-          let i = nodes_joined (forest m) (forest s) in
-          let j = nodes_joined (forest m) (forest (replaced_at index left s)) in
+          let i = nodes_joined (laid_forest m) (laid_forest s) in
+          let j = nodes_joined (laid_forest m) (laid_forest (replaced_at index left s)) in
           omega (arith, e, i, j);
     }

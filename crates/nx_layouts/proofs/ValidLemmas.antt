@@ -1,14 +1,14 @@
 -- The piece of an interval is a valid one.
-use Rattle.std.proofs.Common.{◌≡◌, ℕ, ◌≤◌, List, [], ◌∷◌, ◌++◌, length, refl, sym, ◌∙◌, arith}
+use Rattle.std.proofs.Common.{◌≡◌, ℕ, ◌≤◌, List, [], ◌∷◌, ◌++◌, refl, sym, arith}
 use Rattle.nx_piece.specs.declared.piece.Proxy.{Proxy}
 use Rattle.nx_piece.specs.Gapped as gapped
 use Rattle.nx_piece.specs.Gapped.{Gapped, End, Grow, Gap}
-use Rattle.nx_piece.specs.Valid.{AreApart, AreTrees, IsValidBody, HaveRoots}
+use Rattle.nx_piece.specs.Valid.{AreApart, AreTrees, HaveRoots}
 use Rattle.nx_cuts.specs.Cut.{Bare, Grown, Kept, width, AreFree}
-use Rattle.nx_layouts.specs.Layout.{Layout, gap_more, piece_body, proxies_of}
-use Rattle.nx_layouts.specs.Size.{part_size, AreFitting}
+use Rattle.nx_layouts.specs.Layout.{Layout, laid_weight, AreLaidParts, gap_more, piece_body, proxies_of}
+use Rattle.nx_layouts.specs.Valid.{PieceIsValid}
+use Rattle.nx_layouts.proofs.DrawnLemmas.{drawn_wide, drawn_free}
 use Rattle.nx_layouts.proofs.LayoutLemmas.{proxies_counted}
-use Rattle.nx_layouts.proofs.SizeLemmas.{body_size}
 
 apart_gap_more : (g : Gapped) → AreApart g → AreApart (gap_more g)
 apart_gap_more End h = (omega arith, tt, tt)
@@ -30,39 +30,45 @@ free_width Bare h = refl
 free_width (Grown node below beside) h = let p = free_width beside h in omega arith
 free_width (Kept place members beside) h = absurd h
 
--- a member's item takes one slot at least
-free_size : (a : Layout) → AreFree a → width a ≤ part_size a
-free_size Bare h = omega arith
-free_size (Grown node below beside) h = let p = free_size beside h in omega arith
-free_size (Kept place members beside) h = absurd h
+-- a member weighs one at least
+free_weight : (a : Layout) → AreFree a → width a ≤ laid_weight a
+free_weight Bare h = omega arith
+free_weight (Grown node below beside) h = let p = free_weight beside h in omega arith
+free_weight (Kept place members beside) h = absurd h
 
 roots_append : (ps qs : List Proxy) → HaveRoots ps → HaveRoots qs → HaveRoots (ps ++ qs)
 roots_append [] qs h k = k
 roots_append (p ∷ ps) qs h k = (h.0, h.1, roots_append ps qs h.2 k)
 
-proxies_rooted : (k : ℕ) (a : Layout) → k ≤ 256 → AreFitting k a → HaveRoots (proxies_of a)
+proxies_rooted : (k : ℕ) (a : Layout) → k ≤ 256 → AreLaidParts k a → HaveRoots (proxies_of a)
 proxies_rooted k Bare most h = tt
 proxies_rooted k (Grown node below beside) most h =
     roots_append (proxies_of below) (proxies_of beside) (proxies_rooted k below most h.0) (proxies_rooted k beside most h.1)
 proxies_rooted k (Kept place members beside) most h =
-    let some : 1 ≤ width members = h.0 in
-    let fits : part_size members ≤ k = h.2 in
-    let few = free_size members h.1 in
-    (some, omega arith, proxies_rooted k beside most h.4)
+    let some = h.0 in
+    let light : laid_weight members ≤ k = h.2 in
+    let wide = drawn_wide members in
+    let few = free_weight members (drawn_free members h.1) in
+    (omega (arith, some, wide), omega (arith, few, light, most), proxies_rooted k beside most h.4)
 
-pub piece_valid : (k : ℕ) (members : Layout) → k ≤ 256 → 1 ≤ width members → AreFree members → part_size members ≤ k → AreFitting k members → length (proxies_of members) ≤ 524288
-    → IsValidBody (piece_body members) (length (proxies_of members)) × HaveRoots (proxies_of members)
-piece_valid k members most some free fits below few =
+-- ... and its item takes one slot at least
+free_size : (a : Layout) → AreFree a → width a ≤ gapped.gapped_size (piece_body a)
+free_size Bare h = omega arith
+free_size (Grown node below beside) h = let p = free_size beside h in omega arith
+free_size (Kept place members beside) h = absurd h
+
+pub piece_valid : PieceIsValid
+piece_valid k members most some free far fits below few =
     let w = free_width members free in
-    let l = body_size members in
     let f = free_size members free in
     let c = proxies_counted members in (
       record {
         trees = free_trees members free;
-        some = omega arith;
-        few = omega arith;
-        light = omega arith;
+        some = omega (arith, w, some);
+        few = omega (arith, w, f, fits, most);
+        small = omega (arith, fits, most);
         apart = body_apart members;
+        far = far;
         counted = sym c;
         few_proxies = few;
       },

@@ -1,17 +1,17 @@
 -- A tree taken out of what one record has.
-use Rattle.std.proofs.Common.{Option, append-nil, ◌≡◌, ℕ, zero, suc, ◌+◌, ◌-◌, ◌≤◌, List, [], ◌∷◌, ◌++◌, take, drop, refl, sym, ap, ap₂, ◌∙◌, arith, append_assoc}
+use Rattle.std.proofs.Common.{append-nil, ◌≡◌, ℕ, zero, suc, ◌+◌, ◌-◌, ◌≤◌, List, [], ◌∷◌, ◌++◌, take, drop, refl, sym, ap, ap₂, ◌∙◌, arith, append_assoc}
 use Rattle.std.proofs.lemmas.List.Sums.{sum_by-cons}
 use Rattle.std.proofs.Math.Seq.{drop-append_seam}
 use Rattle.nx_tree.specs.Forest.{Forest, Empty, Plant, nodes}
-use Rattle.nx_piece.specs.declared.piece.Piece.{Piece}
 use Rattle.nx_piece.specs.declared.piece.Proxy.{Proxy}
 use Rattle.nx_piece.specs.Gapped.{Gapped, End, Grow, Gap, proxies_in, with_gap}
 use Rattle.nx_piece.specs.Locate.{roots_of}
 use Rattle.nx_piece_edits.specs.Cutting.{without_tree}
-use Rattle.nx_cuts.specs.Cut.{Bare, Grown, Kept, forest, joined, width, part_weight, AreFree, AreParts}
-use Rattle.nx_layouts.specs.Layout.{RecordPlace, Layout, gap_more, piece_body, proxies_of, proxy_of, places_of, AreHeld}
+use Rattle.nx_cuts.specs.Cut.{Bare, Grown, Kept, joined, width, AreFree}
+use Rattle.nx_layouts.specs.Layout.{RecordPlace, LaidNode, Layout, Stock, in_record, laid_forest, laid_weight, AreLaidParts, gap_more, piece_body, proxies_of, proxy_of, places_of, nodes_in, AreHeld}
 use Rattle.nx_layouts.specs.Cutting.{layout_without, layout_at, StaysIn, IsOutOf, TreeGoesOut}
 use Rattle.nx_layouts.proofs.LayoutLemmas.{proxies_counted}
+use Rattle.nx_layouts.proofs.NodeLemmas.{change_behind, change_below}
 
 -- Gaps:
 
@@ -59,10 +59,10 @@ pub body_without : (position : ℕ) (path : List ℕ) (row : Layout) (more : Lis
 body_without position path Bare more h = absurd h
 body_without zero [] (Grown n b s) more h = refl
 body_without zero (q ∷ path) (Grown n b s) more h =
-    ap (λ (c : Gapped). Grow n c (piece_body s))
+    ap (λ (c : Gapped). Grow (in_record n) c (piece_body s))
     (body_without q path b (proxies_of s ++ more) h ∙ ap (λ (ps : List Proxy). without_tree q path (piece_body b) ps) (sym (append_assoc (proxies_of b) (proxies_of s) more)))
 body_without (suc position) path (Grown n b s) more h =
-    ap (λ (c : Gapped). Grow n (piece_body b) c)
+    ap (λ (c : Gapped). Grow (in_record n) (piece_body b) c)
     (body_without position path s more h ∙ ap (λ (ps : List Proxy). without_tree position path (piece_body s) ps) (sym (drop_below b s more)))
 body_without position path (Kept p m s) more h =
     ap gap_more (body_without (position - width m) path s more h.1) ∙ sym (cut_behind position path (piece_body s) (proxy_of p (width m)) (proxies_of s ++ more))
@@ -83,6 +83,7 @@ stays_parts zero [] (Grown n b s) h = record {
   behind = places_of s;
   places_were = ap (λ (ps : List RecordPlace). ps ++ places_of s) (sym (append-nil (places_of b)));
   places_are = refl;
+  changes = record { before = []; behind = nodes_in s; were = ap (λ (ns : List LaidNode). n ∷ (ns ++ nodes_in s)) (sym (append-nil (nodes_in b))); are = refl };
 }
 stays_parts zero (q ∷ path) (Grown n b s) h =
     let r = stays_parts q path b h in
@@ -96,6 +97,7 @@ stays_parts zero (q ∷ path) (Grown n b s) h =
       behind = r.behind ++ places_of s;
       places_were = ap (λ (ps : List RecordPlace). ps ++ places_of s) r.places_were ∙ append_assoc r.before (places_of t ++ r.behind) (places_of s) ∙ ap (λ (ps : List RecordPlace). r.before ++ ps) (append_assoc (places_of t) r.behind (places_of s));
       places_are = ap (λ (ps : List RecordPlace). ps ++ places_of s) r.places_are ∙ append_assoc r.before r.behind (places_of s);
+      changes = change_below r.changes n (nodes_in s);
     }
 stays_parts (suc position) path (Grown n b s) h =
     let r = stays_parts position path s h in
@@ -109,6 +111,7 @@ stays_parts (suc position) path (Grown n b s) h =
       behind = r.behind;
       places_were = ap (λ (ps : List RecordPlace). places_of b ++ ps) r.places_were ∙ sym (append_assoc (places_of b) r.before (places_of t ++ r.behind));
       places_are = ap (λ (ps : List RecordPlace). places_of b ++ ps) r.places_are ∙ sym (append_assoc (places_of b) r.before r.behind);
+      changes = change_behind r.changes (n ∷ nodes_in b);
     }
 stays_parts position path (Kept p m s) h =
     let r = stays_parts (position - width m) path s h.1 in
@@ -122,14 +125,15 @@ stays_parts position path (Kept p m s) h =
       behind = r.behind;
       places_were = ap (λ (ps : List RecordPlace). p ∷ (places_of m ++ ps)) r.places_were ∙ ap (λ (ps : List RecordPlace). p ∷ ps) (sym (append_assoc (places_of m) r.before (places_of t ++ r.behind)));
       places_are = ap (λ (ps : List RecordPlace). p ∷ (places_of m ++ ps)) r.places_are ∙ ap (λ (ps : List RecordPlace). p ∷ ps) (sym (append_assoc (places_of m) r.before r.behind));
+      changes = change_behind r.changes (nodes_in m);
     }
 
-held_left : (pieces : RecordPlace → Option Piece) (position : ℕ) (path : List ℕ) (row : Layout) → AreHeld pieces row → StaysIn position path row → AreHeld pieces (layout_without position path row) × AreHeld pieces (layout_at position path row)
-held_left pieces position path Bare held h = absurd h
-held_left pieces zero [] (Grown n b s) held h = (held.1, (held.0, tt))
-held_left pieces zero (q ∷ path) (Grown n b s) held h = let r = held_left pieces q path b held.0 h in ((r.0, held.1), r.1)
-held_left pieces (suc position) path (Grown n b s) held h = let r = held_left pieces position path s held.1 h in ((held.0, r.0), r.1)
-held_left pieces position path (Kept p m s) held h = let r = held_left pieces (position - width m) path s held.2 h.1 in ((held.0, held.1, r.0), r.1)
+held_left : (stock : Stock) (position : ℕ) (path : List ℕ) (row : Layout) → AreHeld stock row → StaysIn position path row → AreHeld stock (layout_without position path row) × AreHeld stock (layout_at position path row)
+held_left stock position path Bare held h = absurd h
+held_left stock zero [] (Grown n b s) held h = (held.2, (held.0, held.1, tt))
+held_left stock zero (q ∷ path) (Grown n b s) held h = let r = held_left stock q path b held.1 h in ((held.0, r.0, held.2), r.1)
+held_left stock (suc position) path (Grown n b s) held h = let r = held_left stock position path s held.2 h in ((held.0, held.1, r.0), r.1)
+held_left stock position path (Kept p m s) held h = let r = held_left stock (position - width m) path s held.2 h.1 in ((held.0, held.1, r.0), r.1)
 
 free_left : (position : ℕ) (path : List ℕ) (row : Layout) → AreFree row → AreFree (layout_without position path row)
 free_left position path Bare f = tt
@@ -138,14 +142,14 @@ free_left zero (q ∷ path) (Grown n b s) f = f
 free_left (suc position) path (Grown n b s) f = free_left position path s f
 free_left position path (Kept p m s) f = absurd f
 
-light_left : (position : ℕ) (path : List ℕ) (row : Layout) → part_weight (layout_without position path row) ≤ part_weight row
+light_left : (position : ℕ) (path : List ℕ) (row : Layout) → laid_weight (layout_without position path row) ≤ laid_weight row
 light_left position path Bare = omega arith
 light_left zero [] (Grown n b s) = omega arith
 light_left zero (q ∷ path) (Grown n b s) = omega (arith, light_left q path b)
 light_left (suc position) path (Grown n b s) = omega (arith, light_left position path s)
 light_left position path (Kept p m s) = light_left (position - width m) path s
 
-parts_left : (k position : ℕ) (path : List ℕ) (row : Layout) → AreParts k row → AreParts k (layout_without position path row)
+parts_left : (k position : ℕ) (path : List ℕ) (row : Layout) → AreLaidParts k row → AreLaidParts k (layout_without position path row)
 parts_left k position path Bare h = tt
 parts_left k zero [] (Grown n b s) h = h.1
 parts_left k zero (q ∷ path) (Grown n b s) h = (parts_left k q path b h.0, h.1)
@@ -156,22 +160,22 @@ pub nodes_joined : (a b : Forest) → nodes (joined a b) ≡ nodes a + nodes b
 nodes_joined Empty b = omega arith
 nodes_joined (Plant n d s) b = let e = nodes_joined s b in omega (arith, e)
 
-nodes_left : (position : ℕ) (path : List ℕ) (row : Layout) → StaysIn position path row → nodes (forest (layout_at position path row)) + nodes (forest (layout_without position path row)) ≡ nodes (forest row)
+nodes_left : (position : ℕ) (path : List ℕ) (row : Layout) → StaysIn position path row → nodes (laid_forest (layout_at position path row)) + nodes (laid_forest (layout_without position path row)) ≡ nodes (laid_forest row)
 nodes_left position path Bare h = absurd h
 nodes_left zero [] (Grown n b s) h = omega arith
 nodes_left zero (q ∷ path) (Grown n b s) h = let e = nodes_left q path b h in omega (arith, e)
 nodes_left (suc position) path (Grown n b s) h = let e = nodes_left position path s h in omega (arith, e)
 nodes_left position path (Kept p m s) h =
     let e = nodes_left (position - width m) path s h.1 in
-    let i = nodes_joined (forest m) (forest s) in
-    let j = nodes_joined (forest m) (forest (layout_without (position - width m) path s)) in
+    let i = nodes_joined (laid_forest m) (laid_forest s) in
+    let j = nodes_joined (laid_forest m) (laid_forest (layout_without (position - width m) path s)) in
     omega (arith, e, i, j)
 
 pub tree_goes_out : TreeGoesOut
 tree_goes_out k position path row h = record {
   body = λ more. body_without position path row more h;
   parts = stays_parts position path row h;
-  held = λ pieces held. held_left pieces position path row held h;
+  held = λ stock held. held_left stock position path row held h;
   free = free_left position path row;
   less = light_left position path row;
   light = parts_left k position path row;

@@ -9,8 +9,10 @@ use Rattle.std.specs.List.{sum_by}
 use Rattle.nx_piece.specs.Gapped.{GappedTree, End, Grow, Gap, gapped_nodes, proxies_in}
 use Rattle.nx_piece.specs.Locate.{Inside, Outside, Missing, reached_in}
 use Rattle.nx_piece_edits.specs.Cutting.{without_tree, without_proxy, with_row}
-use Rattle.nx_cuts.specs.Cut.{Bare, Grown, Kept, forest, width, part_weight, AreFree, AreParts}
-use Rattle.nx_layouts.specs.Layout.{RecordPlace, Layout, piece_body, piece_of, proxies_of, proxy_of, places_of, AreHeld}
+use Rattle.nx_piece.specs.Contents.{fars_in}
+use Rattle.nx_cuts.specs.Cut.{Bare, Grown, Kept, width, AreFree}
+use Rattle.nx_layouts.specs.Layout.{RecordPlace, LaidNode, Layout, Stock, in_record, laid_forest, laid_weight, AreLaidParts, piece_body, piece_of, proxies_of, proxy_of, places_of, nodes_in, AreHeld}
+use Rattle.nx_layouts.specs.Nodes.{NodesChange}
 use Rattle.nx_layouts.specs.Replace.{replaced_at, kept_at, above_at}
 
 -- a row without the tree at a path, all of whose positions lead to trees of the record
@@ -53,7 +55,7 @@ kept_layout place Bare = Bare
 kept_layout place (Grown node below beside) = Kept place (Grown node below beside) Bare
 kept_layout place (Kept other members beside) = Kept place (Kept other members beside) Bare
 
--- The proxies and the places of a row are those of the tree that went and of what is left around it.
+-- The proxies, the places and the nodes of a row are those of the tree that went and of what is left around it.
 pub record IsOutOf (row left tree : Layout) : Type 0 where
   pub front : List Proxy
   pub back : List Proxy
@@ -63,16 +65,17 @@ pub record IsOutOf (row left tree : Layout) : Type 0 where
   pub behind : List RecordPlace
   pub places_were : places_of row ≡ before ++ (places_of tree ++ behind)
   pub places_are : places_of left ≡ before ++ behind
+  pub changes : NodesChange (nodes_in row) (nodes_in left) (nodes_in tree) []
 
 -- What goes with a tree, and what is left: what a record has of it, what is held, and what it weighs.
 pub record GoesWithTree (k position : ℕ) (path : List ℕ) (row : Layout) : Type 0 where
   pub body : (more : List Proxy) → piece_body (layout_without position path row) ≡ without_tree position path (piece_body row) (proxies_of row ++ more)
   pub parts : IsOutOf row (layout_without position path row) (layout_at position path row)
-  pub held : (pieces : RecordPlace → Option Piece) → AreHeld pieces row → AreHeld pieces (layout_without position path row) × AreHeld pieces (layout_at position path row)
+  pub held : (stock : Stock) → AreHeld stock row → AreHeld stock (layout_without position path row) × AreHeld stock (layout_at position path row)
   pub free : AreFree row → AreFree (layout_without position path row)
-  pub less : part_weight (layout_without position path row) ≤ part_weight row
-  pub light : AreParts k row → AreParts k (layout_without position path row)
-  pub counted : nodes (forest (layout_at position path row)) + nodes (forest (layout_without position path row)) ≡ nodes (forest row)
+  pub less : laid_weight (layout_without position path row) ≤ laid_weight row
+  pub light : AreLaidParts k row → AreLaidParts k (layout_without position path row)
+  pub counted : nodes (laid_forest (layout_at position path row)) + nodes (laid_forest (layout_without position path row)) ≡ nodes (laid_forest row)
 
 abbrev pub TreeGoesOut : Type 0
 TreeGoesOut = (k position : ℕ) (path : List ℕ) (row : Layout) → StaysIn position path row → GoesWithTree k position path row
@@ -86,7 +89,7 @@ pub record RunsStay (index : ℕ) (row : Layout) : Type 0 where
 abbrev pub RunsAfter : Type 0
 RunsAfter = (index : ℕ) (row : Layout) → index < length (proxies_of row) → RunsStay index row
 
--- Where an interval stands that the path leads into: its place, the proxies and the places before it and behind it, and what comes of them where something is left of it.
+-- Where an interval stands that the path leads into: its place, the proxies, the places and the nodes before it and behind it, and what comes of them where something is left of it.
 pub record StandsIn (k index : ℕ) (inside row : Layout) : Type 0 where
   pub at : RecordPlace
   pub front : List Proxy
@@ -98,29 +101,36 @@ pub record StandsIn (k index : ℕ) (inside row : Layout) : Type 0 where
   pub behind : List RecordPlace
   pub places_were : places_of row ≡ before ++ ((at ∷ places_of inside) ++ behind)
   pub places_are : (left : Layout) → places_of (replaced_at index left row) ≡ before ++ (places_of left ++ behind)
-  pub held : (pieces : RecordPlace → Option Piece) → AreHeld pieces row → AreHeld pieces (Kept at inside Bare)
-  pub light : AreParts k row → AreParts k (Kept at inside Bare)
-  pub counted : (left : Layout) → nodes (forest (replaced_at index left row)) + nodes (forest inside) ≡ nodes (forest row) + nodes (forest left)
+  pub nodes_before : List LaidNode
+  pub nodes_behind : List LaidNode
+  pub nodes_were : nodes_in row ≡ nodes_before ++ (nodes_in inside ++ nodes_behind)
+  pub nodes_are : (left : Layout) → nodes_in (replaced_at index left row) ≡ nodes_before ++ (nodes_in left ++ nodes_behind)
+  pub held : (stock : Stock) → AreHeld stock row → AreHeld stock (Kept at inside Bare)
+  pub light : AreLaidParts k row → AreLaidParts k (Kept at inside Bare)
+  pub counted : (left : Layout) → nodes (laid_forest (replaced_at index left row)) + nodes (laid_forest inside) ≡ nodes (laid_forest row) + nodes (laid_forest left)
 
 abbrev pub IntervalStandsIn : Type 0
 IntervalStandsIn = (k index member : ℕ) (rest : List ℕ) (inside : Layout) (position : ℕ) (path : List ℕ) (row : Layout) → LeadsInto index member rest inside position path row → StandsIn k index inside row
 
--- A row in which an interval is replaced: what is held and light without it and of what comes is so together, and what was held and light is so without it. A free row stays free, as wide and as heavy.
+-- A row in which an interval is replaced: what is held and light without it and of what comes is so together, and what was held and light is so without it. A free row stays free,
+-- as wide and as heavy. The far contents of the record stay where the interval goes.
 pub record IsFilled (k index : ℕ) (left row : Layout) : Type 0 where
-  pub held : (pieces : RecordPlace → Option Piece) → AreHeld pieces (replaced_at index Bare row) → AreHeld pieces left → AreHeld pieces (replaced_at index left row)
-  pub hole : (pieces : RecordPlace → Option Piece) → AreHeld pieces row → AreHeld pieces (replaced_at index Bare row)
-  pub light : AreParts k (replaced_at index Bare row) → AreParts k left → AreParts k (replaced_at index left row)
-  pub hole_light : AreParts k row → AreParts k (replaced_at index Bare row)
+  pub held : (stock : Stock) → AreHeld stock (replaced_at index Bare row) → AreHeld stock left → AreHeld stock (replaced_at index left row)
+  pub hole : (stock : Stock) → AreHeld stock row → AreHeld stock (replaced_at index Bare row)
+  pub light : AreLaidParts k (replaced_at index Bare row) → AreLaidParts k left → AreLaidParts k (replaced_at index left row)
+  pub hole_light : AreLaidParts k row → AreLaidParts k (replaced_at index Bare row)
   pub free : AreFree row → AreFree (replaced_at index left row)
   pub wide : AreFree row → width (replaced_at index left row) ≡ width row
-  pub heavy : part_weight left ≡ 0 → part_weight (replaced_at index left row) ≡ part_weight row
+  pub heavy : laid_weight left ≡ 0 → laid_weight (replaced_at index left row) ≡ laid_weight row
+  pub own : fars_in (piece_body (replaced_at index Bare row)) ≡ fars_in (piece_body row)
 
 abbrev pub RowIsFilled : Type 0
 RowIsFilled = (k index : ℕ) (left row : Layout) → IsFilled k index left row
 
 -- An interval with something replaced in its row is light where it was and where what comes is.
 abbrev pub IntervalIsLight : Type 0
-IntervalIsLight = (k index : ℕ) (place new : RecordPlace) (left members : Layout) → AreParts k (Kept place members Bare) → AreParts k left → part_weight left ≡ 0 → AreParts k (Kept new (replaced_at index left members) Bare)
+IntervalIsLight = (k index : ℕ) (place new : RecordPlace) (left members : Layout) → AreLaidParts k (Kept place members Bare) → AreLaidParts k left → laid_weight left ≡ 0
+    → AreLaidParts k (Kept new (replaced_at index left members) Bare)
 
 -- the tree where a path leads that begins at one of these trees
 abbrev pub member_tree : Forest → ℕ → List ℕ → Option OrderedTree
@@ -144,19 +154,21 @@ pub record LeadsOn (members : Layout) (member : ℕ) (path : List ℕ) (index in
   pub inside : Layout
   pub into : LeadsInto index inner (drop used path) inside member path members
   pub within : used ≤ length path
-  pub same : member_tree (forest members) member path ≡ member_tree (forest inside) inner (drop used path)
+  pub same : member_tree (laid_forest members) member path ≡ member_tree (laid_forest inside) inner (drop used path)
 
 abbrev pub PathLeadsOn : Type 0
 PathLeadsOn = (members : Layout) (member : ℕ) (path : List ℕ) (index inner used : ℕ) → reached_in (piece_of members) member path ≡ Outside index inner used → LeadsOn members member path index inner used
 
--- The path leads on from a tree of the piece: one position fewer leads to it, and its node is the one above the interval of the proxy at the index.
+-- The path leads on from a tree of the piece: one position fewer leads to it, and it has the node above the interval of the proxy at the index.
 pub record LeadsFromTree (members : Layout) (member : ℕ) (path : List ℕ) (index used : ℕ) : Type 0 where
   pub some : 1 ≤ used
   pub within : used ≤ length path
   pub tree : GappedTree
   pub first : ℕ
   pub there : reached_in (piece_of members) member (take (used - 1) path) ≡ Inside tree first
-  pub above : (top : Option Node) → above_at index top members ≡ Some tree.node
+  pub node : LaidNode
+  pub shown : tree.node ≡ in_record node
+  pub above : (top : Option Node) → above_at index top members ≡ Some node.node
 
 -- The members of an interval are trees, so a path that leads into an interval below them leads on from a tree.
 abbrev pub AboveStands : Type 0
@@ -165,7 +177,7 @@ AboveStands =
 
 -- where the path leads to nothing in the piece, it does so in the document
 abbrev pub PathIsMissing : Type 0
-PathIsMissing = (members : Layout) (member : ℕ) (path : List ℕ) → reached_in (piece_of members) member path ≡ Missing → member_tree (forest members) member path ≡ None
+PathIsMissing = (members : Layout) (member : ℕ) (path : List ℕ) → reached_in (piece_of members) member path ≡ Missing → member_tree (laid_forest members) member path ≡ None
 
 -- how many nodes a piece has, if there is one
 abbrev pub piece_nodes : Option Piece → ℕ
@@ -174,4 +186,4 @@ piece_nodes (Some piece) = gapped_nodes piece.body.roots
 
 -- The nodes of a row are those that its record has and those that the records below it have.
 abbrev pub NodesOfRecords : Type 0
-NodesOfRecords = (pieces : RecordPlace → Option Piece) (row : Layout) → AreHeld pieces row → nodes (forest row) ≡ gapped_nodes (piece_body row) + sum_by (λ place. piece_nodes (pieces place)) (places_of row)
+NodesOfRecords = (stock : Stock) (row : Layout) → AreHeld stock row → nodes (laid_forest row) ≡ gapped_nodes (piece_body row) + sum_by (λ place. piece_nodes (stock.piece_at place)) (places_of row)

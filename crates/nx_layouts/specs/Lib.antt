@@ -1,7 +1,8 @@
 pub mod Layout
-pub mod Size
+pub mod Nodes
 pub mod Replace
 pub mod Valid
+pub mod Drawn
 pub mod Cutting
 pub mod Setting
 pub mod Planting

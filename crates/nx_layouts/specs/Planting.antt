@@ -1,19 +1,18 @@
 -- A node or an interval put into a row of what one record has, the children of a tree changed there, and its roots in two.
-use Rattle.std.specs.Prelude.{◌≡◌, ℕ, zero, suc, ◌+◌, ◌-◌, ◌<◌, ◌≤◌, List, ◌∷◌, ◌++◌, map, length, take, drop, Option, Some}
+use Rattle.std.specs.Prelude.{◌≡◌, ℕ, zero, suc, ◌+◌, ◌-◌, ◌<◌, ◌≤◌, List, [], ◌∷◌, ◌++◌, map, length, take, drop, Some}
 use Rattle.std.specs.List.{slice_get}
-use Rattle.nx_tree.specs.declared.node.Node.{Node}
 use Rattle.nx_tree.specs.Forest.{nodes}
 use Rattle.nx_weights.specs.Weight.{weight}
-use Rattle.nx_piece.specs.declared.piece.Piece.{Piece}
 use Rattle.nx_piece.specs.declared.piece.Proxy.{Proxy}
 use Rattle.nx_piece.specs.Gapped.{GappedTree, End, Grow, proxies_in, with_gap, grown_of}
 use Rattle.nx_piece.specs.Locate.{PieceChild, Own, Kept as Away, Inside, children_of, reached_in}
 use Rattle.nx_piece_edits.specs.Planting.{put_at}
 use Rattle.nx_piece_edits.specs.Dividing.{first_roots, roots_behind}
 use Rattle.nx_piece_edits.specs.Setting.{with_tree}
-use Rattle.nx_cuts.specs.Cut.{Bare, Grown, Kept, forest, width, part_weight, AreFree, AreParts}
+use Rattle.nx_cuts.specs.Cut.{Bare, Grown, Kept, width, AreFree}
 use Rattle.nx_cuts.specs.Rows.{joined_row, first, behind}
-use Rattle.nx_layouts.specs.Layout.{RecordPlace, Layout, piece_body, piece_of, proxies_of, proxy_of, places_of, AreHeld}
+use Rattle.nx_layouts.specs.Layout.{RecordPlace, LaidNode, Layout, Stock, in_record, laid_forest, laid_weight, AreLaidParts, piece_body, piece_of, proxies_of, proxy_of, places_of, nodes_in, IsReadIn, AreHeld}
+use Rattle.nx_layouts.specs.Nodes.{NodesChange}
 use Rattle.nx_layouts.specs.Replace.{kept_at}
 use Rattle.nx_layouts.specs.Cutting.{layout_at, StaysIn, LeadsInto, member_tree}
 use Rattle.nx_layouts.specs.Setting.{layout_changed}
@@ -50,7 +49,7 @@ proxies_before (suc position) (Grown node below beside) = length (proxies_of bel
 proxies_before (suc position) (Kept place members beside) = 1 + proxies_before (suc position - width members) beside
 
 -- a row with a node put in, below which nothing stands yet
-abbrev pub with_node : Node → ℕ → Layout → Layout
+abbrev pub with_node : LaidNode → ℕ → Layout → Layout
 with_node node position row = put_between (λ behind. Grown node Bare behind) position row
 
 -- a row with an interval put in
@@ -58,35 +57,37 @@ abbrev pub with_interval : RecordPlace → Layout → ℕ → Layout → Layout
 with_interval place members position row = put_between (λ behind. Kept place members behind) position row
 
 -- What a record has with one node more: the same proxies, and one tree more in the row.
-pub record NodeGoesIn (k : ℕ) (node : Node) (position : ℕ) (row : Layout) : Type 0 where
-  pub body : AreParts k row → (more : List Proxy) → piece_body (with_node node position row) ≡ put_at (λ f. Grow node End f) position (piece_body row) (proxies_of row ++ more)
+pub record NodeGoesIn (k : ℕ) (node : LaidNode) (position : ℕ) (row : Layout) : Type 0 where
+  pub body : AreLaidParts k row → (more : List Proxy) → piece_body (with_node node position row) ≡ put_at (λ f. Grow (in_record node) End f) position (piece_body row) (proxies_of row ++ more)
   pub proxies : proxies_of (with_node node position row) ≡ proxies_of row
   pub places : places_of (with_node node position row) ≡ places_of row
-  pub held : (pieces : RecordPlace → Option Piece) → AreHeld pieces row → AreHeld pieces (with_node node position row)
+  pub changes : NodesChange (nodes_in row) (nodes_in (with_node node position row)) [] (node ∷ [])
+  pub held : (stock : Stock) → IsReadIn stock.list_at node → AreHeld stock row → AreHeld stock (with_node node position row)
   pub wide : width (with_node node position row) ≡ width row + 1
-  pub weighs : part_weight (with_node node position row) ≡ part_weight row + weight node
+  pub weighs : laid_weight (with_node node position row) ≡ laid_weight row + weight node.node
   pub free : AreFree row → AreFree (with_node node position row)
-  pub light : AreParts k row → AreParts k (with_node node position row)
-  pub counted : nodes (forest (with_node node position row)) ≡ nodes (forest row) + 1
+  pub light : AreLaidParts k row → AreLaidParts k (with_node node position row)
+  pub counted : nodes (laid_forest (with_node node position row)) ≡ nodes (laid_forest row) + 1
 
 -- Where a position falls between trees of a row, a node may be put in there.
 abbrev pub NodeIsPlanted : Type 0
-NodeIsPlanted = (k : ℕ) (node : Node) (position : ℕ) (row : Layout) → FallsBetween position row → NodeGoesIn k node position row
+NodeIsPlanted = (k : ℕ) (node : LaidNode) (position : ℕ) (row : Layout) → FallsBetween position row → NodeGoesIn k node position row
 
 -- What a record has with one interval more: one proxy more, and the places of the interval between those that there were.
 pub record IntervalGoesIn (k : ℕ) (place : RecordPlace) (members : Layout) (position : ℕ) (row : Layout) : Type 0 where
-  pub body : AreParts k row → (more : List Proxy) → piece_body (with_interval place members position row) ≡ put_at (λ f. with_gap 1 f) position (piece_body row) (proxies_of row ++ more)
+  pub body : AreLaidParts k row → (more : List Proxy) → piece_body (with_interval place members position row) ≡ put_at (λ f. with_gap 1 f) position (piece_body row) (proxies_of row ++ more)
   pub proxies : proxies_of (with_interval place members position row) ≡ take (proxies_before position row) (proxies_of row) ++ (proxy_of place (width members) ∷ drop (proxies_before position row) (proxies_of row))
   pub before : List RecordPlace
   pub behind : List RecordPlace
   pub places_were : places_of row ≡ before ++ behind
   pub places_are : places_of (with_interval place members position row) ≡ before ++ ((place ∷ places_of members) ++ behind)
+  pub changes : NodesChange (nodes_in row) (nodes_in (with_interval place members position row)) [] (nodes_in members)
   pub within : proxies_before position row ≤ length (proxies_of row)
-  pub held : (pieces : RecordPlace → Option Piece) → AreHeld pieces row → AreHeld pieces (Kept place members Bare) → AreHeld pieces (with_interval place members position row)
+  pub held : (stock : Stock) → AreHeld stock row → AreHeld stock (Kept place members Bare) → AreHeld stock (with_interval place members position row)
   pub wide : width (with_interval place members position row) ≡ width row + width members
-  pub weighs : part_weight (with_interval place members position row) ≡ part_weight row
-  pub light : AreParts k row → AreParts k (Kept place members Bare) → AreParts k (with_interval place members position row)
-  pub counted : nodes (forest (with_interval place members position row)) ≡ nodes (forest row) + nodes (forest members)
+  pub weighs : laid_weight (with_interval place members position row) ≡ laid_weight row
+  pub light : AreLaidParts k row → AreLaidParts k (Kept place members Bare) → AreLaidParts k (with_interval place members position row)
+  pub counted : nodes (laid_forest (with_interval place members position row)) ≡ nodes (laid_forest row) + nodes (laid_forest members)
 
 -- Where a position falls between trees of a row, an interval may be put in there.
 abbrev pub IntervalIsPlanted : Type 0
@@ -125,19 +126,22 @@ pub record IsChangedBelow (k position : ℕ) (path : List ℕ) (tree : GappedTre
   pub body : (more : List Proxy) → piece_body (changed_below change position path row) ≡ with_tree position path (record { node = tree.node; below = piece_body (change below) }) (piece_body row) (proxies_of row ++ more)
   pub proxies : proxies_of (changed_below change position path row) ≡ front ++ (proxies_of (change below) ++ back)
   pub places : places_of (changed_below change position path row) ≡ before ++ (places_of (change below) ++ behind)
-  pub held : (pieces : RecordPlace → Option Piece) → AreHeld pieces row → AreHeld pieces (change below) → AreHeld pieces (changed_below change position path row)
-  pub light : AreParts k row → AreParts k (change below) → AreParts k (changed_below change position path row)
+  pub changes : NodesChange (nodes_in row) (nodes_in (changed_below change position path row)) (nodes_in below) (nodes_in (change below))
+  pub held : (stock : Stock) → AreHeld stock row → AreHeld stock (change below) → AreHeld stock (changed_below change position path row)
+  pub light : AreLaidParts k row → AreLaidParts k (change below) → AreLaidParts k (changed_below change position path row)
   pub free : AreFree row → AreFree (changed_below change position path row)
   pub wide : width (changed_below change position path row) ≡ width row
-  pub weighs : part_weight (changed_below change position path row) + part_weight below ≡ part_weight row + part_weight (change below)
-  pub counted : nodes (forest (changed_below change position path row)) + nodes (forest below) ≡ nodes (forest row) + nodes (forest (change below))
+  pub weighs : laid_weight (changed_below change position path row) + laid_weight below ≡ laid_weight row + laid_weight (change below)
+  pub counted : nodes (laid_forest (changed_below change position path row)) + nodes (laid_forest below) ≡ nodes (laid_forest row) + nodes (laid_forest (change below))
 
 -- The children of a tree of the record as a row of their own, and what comes of it all where that row is changed.
 pub record HasChildren (k position : ℕ) (path : List ℕ) (tree : GappedTree) (first : ℕ) (row : Layout) : Type 0 where
   pub stays : StaysIn position path row
   pub below : Layout
-  pub at : layout_at position path row ≡ Grown tree.node below Bare
-  pub there : member_tree (forest row) position path ≡ Some (record { node = tree.node; below = forest below })
+  pub node : LaidNode
+  pub shown : tree.node ≡ in_record node
+  pub at : layout_at position path row ≡ Grown node below Bare
+  pub there : member_tree (laid_forest row) position path ≡ Some (record { node = node.node; below = laid_forest below })
   pub below_is : piece_body below ≡ tree.below
   pub front : List Proxy
   pub back : List Proxy
@@ -150,8 +154,8 @@ pub record HasChildren (k position : ℕ) (path : List ℕ) (tree : GappedTree) 
   pub before : List RecordPlace
   pub behind : List RecordPlace
   pub places_were : places_of row ≡ before ++ (places_of below ++ behind)
-  pub held_below : (pieces : RecordPlace → Option Piece) → AreHeld pieces row → AreHeld pieces below
-  pub light_below : AreParts k row → AreParts k below
+  pub held_below : (stock : Stock) → AreHeld stock row → AreHeld stock below
+  pub light_below : AreLaidParts k row → AreLaidParts k below
   pub changed : (change : Layout → Layout) → IsChangedBelow k position path tree change row below front back before behind
 
 -- Where a path leads to a tree of a piece, its children are a row in each row of members whose piece that is, and may be changed there.
@@ -159,14 +163,14 @@ abbrev pub ChildrenAreChanged : Type 0
 ChildrenAreChanged = (k : ℕ) (members : Layout) (member : ℕ) (path : List ℕ) (tree : GappedTree) (first : ℕ) → reached_in (piece_of members) member path ≡ Inside tree first → HasChildren k member path tree first members
 
 -- What a record has with a new root at a position, as a node among the others of a row of free trees.
-pub record RootGoesIn (k : ℕ) (node : Node) (position : ℕ) (row : Layout) : Type 0 where
+pub record RootGoesIn (k : ℕ) (node : LaidNode) (position : ℕ) (row : Layout) : Type 0 where
   pub falls : FallsBetween position row
   pub same : joined_row (first position row) (Grown node Bare (behind position row)) ≡ with_node node position row
-  pub body : (proxies : List Proxy) → piece_body (joined_row (first position row) (Grown node Bare (behind position row))) ≡ put_at (λ f. Grow node End f) position (piece_body row) proxies
+  pub body : (proxies : List Proxy) → piece_body (joined_row (first position row) (Grown node Bare (behind position row))) ≡ put_at (λ f. Grow (in_record node) End f) position (piece_body row) proxies
   pub goes : NodeGoesIn k node position row
 
 abbrev pub RootIsPlanted : Type 0
-RootIsPlanted = (k : ℕ) (node : Node) (position : ℕ) (row : Layout) → AreFree row → position ≤ width row → RootGoesIn k node position row
+RootIsPlanted = (k : ℕ) (node : LaidNode) (position : ℕ) (row : Layout) → AreFree row → position ≤ width row → RootGoesIn k node position row
 
 -- A row of free trees in two, each as a piece, and what they have and weigh.
 pub record RootsInTwo (k position : ℕ) (row : Layout) : Type 0 where
@@ -179,12 +183,13 @@ pub record RootsInTwo (k position : ℕ) (row : Layout) : Type 0 where
   pub taken : take (proxies_in (piece_body (first position row))) (proxies_of row) ≡ proxies_of (first position row)
   pub left : drop (proxies_in (piece_body (first position row))) (proxies_of row) ≡ proxies_of (behind position row)
   pub places : places_of row ≡ places_of (first position row) ++ places_of (behind position row)
+  pub nodes_are : nodes_in row ≡ nodes_in (first position row) ++ nodes_in (behind position row)
   pub first_wide : width (first position row) ≡ position
   pub behind_wide : width (behind position row) ≡ width row - position
-  pub weighs : part_weight (first position row) + part_weight (behind position row) ≡ part_weight row
-  pub counted : nodes (forest (first position row)) + nodes (forest (behind position row)) ≡ nodes (forest row)
-  pub held : (pieces : RecordPlace → Option Piece) → AreHeld pieces row → AreHeld pieces (first position row) × AreHeld pieces (behind position row)
-  pub light : AreParts k row → AreParts k (first position row) × AreParts k (behind position row)
+  pub weighs : laid_weight (first position row) + laid_weight (behind position row) ≡ laid_weight row
+  pub counted : nodes (laid_forest (first position row)) + nodes (laid_forest (behind position row)) ≡ nodes (laid_forest row)
+  pub held : (stock : Stock) → AreHeld stock row → AreHeld stock (first position row) × AreHeld stock (behind position row)
+  pub light : AreLaidParts k row → AreLaidParts k (first position row) × AreLaidParts k (behind position row)
   pub free : AreFree (first position row) × AreFree (behind position row)
 
 abbrev pub RootsAreDivided : Type 0

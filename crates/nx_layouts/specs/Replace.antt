@@ -1,9 +1,9 @@
 -- One interval replaced by several.
 use Rattle.std.specs.Prelude.{◌≡◌, ℕ, zero, suc, ◌+◌, ◌-◌, ◌<◌, nat_lt, if◌then◌else◌, ◌++◌, length, take, drop, Option, None, Some}
 use Rattle.nx_tree.specs.declared.node.Node.{Node}
-use Rattle.nx_piece.specs.declared.piece.Piece.{Piece}
-use Rattle.nx_cuts.specs.Cut.{Bare, Grown, Kept, forest, width, part_weight, AreFree, AreParts}
-use Rattle.nx_layouts.specs.Layout.{RecordPlace, Layout, proxies_of, AreHeld}
+use Rattle.nx_cuts.specs.Cut.{Bare, Grown, Kept, width, AreFree}
+use Rattle.nx_layouts.specs.Layout.{Layout, Stock, laid_forest, laid_weight, AreLaidParts, proxies_of, nodes_in, AreHeld}
+use Rattle.nx_layouts.specs.Nodes.{NodesChange}
 
 -- trees with others beside them
 abbrev pub joined_layout : Layout → Layout → Layout
@@ -32,21 +32,23 @@ kept_at (suc index) (Kept place members beside) = kept_at index beside
 abbrev pub above_at : ℕ → Option Node → Layout → Option Node
 above_at index above Bare = None
 above_at index above (Grown node below beside) =
-    if nat_lt index (length (proxies_of below)) then above_at index (Some node) below else above_at (index - length (proxies_of below)) above beside
+    if nat_lt index (length (proxies_of below)) then above_at index (Some node.node) below else above_at (index - length (proxies_of below)) above beside
 above_at zero above (Kept place members beside) = above
 above_at (suc index) above (Kept place members beside) = above_at index above beside
 
 -- What a record has after one of its proxies was replaced by several, where these hold the same trees. What is held but that interval, with what is held of the
--- others, is held so, and so is what is light. Where no tree stands outside of the intervals, the row is as wide, and as heavy where none does in the new ones.
+-- others, is held so, and so is what is light. The nodes of the others stand in the place of its own. Where no tree stands outside of the intervals, the row is
+-- as wide, and as heavy where none does in the new ones.
 pub record Replaces (index : ℕ) (old new : Layout) : Type 0 where
   pub proxies_are : proxies_of (replaced_at index new old) ≡ take index (proxies_of old) ++ proxies_of new ++ drop (index + 1) (proxies_of old)
-  pub beside : (pieces : RecordPlace → Option Piece) → AreHeld pieces old → AreHeld pieces (replaced_at index Bare old)
-  pub held : (pieces : RecordPlace → Option Piece) → AreHeld pieces (replaced_at index Bare old) → AreHeld pieces new → AreHeld pieces (replaced_at index new old)
-  pub light : (k : ℕ) → AreParts k old → AreParts k new → AreParts k (replaced_at index new old)
+  pub beside : (stock : Stock) → AreHeld stock old → AreHeld stock (replaced_at index Bare old)
+  pub held : (stock : Stock) → AreHeld stock (replaced_at index Bare old) → AreHeld stock new → AreHeld stock (replaced_at index new old)
+  pub light : (k : ℕ) → AreLaidParts k old → AreLaidParts k new → AreLaidParts k (replaced_at index new old)
   pub free : AreFree old → AreFree (replaced_at index new old)
   pub wide : AreFree old → width (replaced_at index new old) ≡ width old
-  pub heavy : part_weight new ≡ 0 → part_weight (replaced_at index new old) ≡ part_weight old
-  pub same : (members : Layout) → kept_at index old ≡ Some members → forest new ≡ forest members → forest (replaced_at index new old) ≡ forest old
+  pub heavy : laid_weight new ≡ 0 → laid_weight (replaced_at index new old) ≡ laid_weight old
+  pub same : (members : Layout) → kept_at index old ≡ Some members → laid_forest new ≡ laid_forest members → laid_forest (replaced_at index new old) ≡ laid_forest old
+  pub changes : (members : Layout) → kept_at index old ≡ Some members → NodesChange (nodes_in old) (nodes_in (replaced_at index new old)) (nodes_in members) (nodes_in new)
 
 abbrev pub OneForSeveral : Type 0
 OneForSeveral = (index : ℕ) (old new : Layout) → index < length (proxies_of old) → Replaces index old new

@@ -1,7 +1,9 @@
 //! What holds of records and the documents that are laid out in them.
 ghost use Rattle.nx_layouts.specs.Cutting.{AboveStands, IntervalIsLight, IntervalStandsIn, NodesOfRecords, PathIsMissing, PathLeadsOn, PathStays, RowIsFilled, RunsAfter, TreeGoesOut};
 ghost use Rattle.nx_layouts.specs.Replace.{OneForSeveral};
+ghost use Rattle.nx_layouts.specs.Drawn.{BodiesAreOfRows, RowsAreDrawnAlike};
 ghost use Rattle.nx_layouts.specs.Layout.{OneDocument};
+ghost use Rattle.nx_layouts.specs.Nodes.{HeldStays, ItemsShowNodes, OneNode};
 ghost use Rattle.nx_layouts.specs.Planting.{ChildrenAreChanged, FallIsThere, IntervalIsPlanted, NodeIsPlanted, RootIsPlanted, RootsAreDivided};
 ghost use Rattle.nx_layouts.specs.Setting.{ContentIsSet};
 ghost use Rattle.nx_layouts.specs.Valid.{PieceIsValid};
@@ -11,6 +13,31 @@ pub fn one_document()
     ensures { OneDocument }
 {}
 
+/// Two nodes that a record has alike, read in the same lists, are one.
+pub fn one_node()
+    ensures { OneNode }
+{}
+
+/// An item weighs what its node does, and has its kind, its name and the length of its content.
+pub fn items_show_nodes()
+    ensures { ItemsShowNodes }
+{}
+
+/// What a piece has of its row: the weight, the nodes, and the lists that its items name.
+pub fn bodies_are_of_rows()
+    ensures { BodiesAreOfRows }
+{}
+
+/// What is drawn of rows that are joined or cut in two.
+pub fn rows_are_drawn_alike()
+    ensures { RowsAreDrawnAlike }
+{}
+
+/// What is held is held still where the pieces of its records and the lists of its contents stay.
+pub fn held_stays()
+    ensures { HeldStays }
+{}
+
 /// Where one interval of a piece is replaced by others, just its proxy is replaced by theirs. With these held, and all
 /// but that interval, the new layout is held, and it is light where both are. The row is as wide and as heavy, and with
 /// the same trees in them the forest is the same.
@@ -18,8 +45,9 @@ pub fn one_for_several()
     ensures { OneForSeveral }
 {}
 
-/// The members of an interval, one at least, have a piece that may be stored, where the items of no part take more than
-/// `k` slots, `k` is at most 256, and at most 524,288 intervals are below them.
+/// The members of an interval, one at least, have a piece that may be stored, where their items take at most
+/// `k` slots, no part below weighs more than `k`, `k` is at most 256, at most 524,288 intervals are below them, and each
+/// far content is as one may be.
 pub fn piece_is_valid()
     ensures { PieceIsValid }
 {}

@@ -6,7 +6,7 @@ use Rattle.std.proofs.lemmas.List.Elements.{All-nil}
 use Rattle.nx_holdings.specs.declared.header.Settings.{Settings}
 use Rattle.nx_records.specs.Changes.{nothing_held}
 use Rattle.nx_script.specs.Field.{name_order}
-use Rattle.nx_hold.specs.Pieces.{IsTidy}
+use Rattle.nx_hold.specs.Pieces.{IsTidy, held_by}
 use Rattle.nx_hold.proofs.PieceLemmas.{no_value}
 use Rattle.nx_hold.proofs.MapLemmas.{piece_map}
 use Rattle.nx_state.specs.State.{new_state}
@@ -20,14 +20,17 @@ nothing_tidy : (settings : Settings) → IsTidy (nothing_held settings)
 nothing_tidy settings = record {
   there = λ place count chain names. absurd (no_value (sym (names.1).bytes));
   once = λ place other count more chain names others. absurd (no_value (sym (names.1).bytes));
+  contents = λ place far names. absurd (no_value (sym (names.1).bytes));
+  apart = λ place far names. absurd (no_value (sym (names.1).bytes));
 }
 
 no_documents : (settings : Settings) → HoldsDocuments (nothing_held settings) []
 no_documents settings = record {
   tidy = nothing_tidy settings;
   pieces = piece_map (nothing_held settings);
-  each = All-nil (IsStoredIn settings.k (piece_map (nothing_held settings)).piece_at);
+  each = All-nil (IsStoredIn (held_by (piece_map (nothing_held settings))));
   once = tt;
+  contents_once = tt;
   no_others = λ place there. cc;
   no_other_lists = λ chain there. cc;
 }

@@ -6,3 +6,4 @@ pub mod ChangeLemmas
 pub mod ListLemmas
 pub mod NodeLemmas
 pub mod FreeLemmas
+pub mod ContentLemmas

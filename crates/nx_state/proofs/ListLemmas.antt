@@ -11,13 +11,13 @@ use Rattle.nx_piece.specs.Gapped as gapped
 use Rattle.nx_piece.specs.Valid.{AreApart, AreTrees, BeginsNoGap, IsValidChained}
 use Rattle.nx_piece.proofs.BodyLemmas.{proxies_length}
 use Rattle.nx_cuts.specs.Cut.{Bare, Grown, Kept}
-use Rattle.nx_layouts.specs.Layout.{RecordPlace, Layout, piece_of, proxies_of, AreHeld, places_of, whole}
-use Rattle.nx_hold.specs.Changes.{place_of}
-use Rattle.nx_hold.specs.Pieces.{HoldsPiece, NamesList, PieceMap}
+use Rattle.nx_layouts.specs.Layout.{RecordPlace, Layout, piece_of, proxies_of, AreHeld, places_of}
+use Rattle.nx_hold.specs.Pieces.{HoldsPiece, NamesList, PieceMap, held_by}
 use Rattle.nx_hold.proofs.PieceLemmas.{one_at, no_both, chain_same}
 use Rattle.nx_hold.proofs.MapLemmas.{held_at}
 use Rattle.nx_layouts.proofs.PlaceLemmas.{one_place}
 use Rattle.nx_state.specs.Stands.{StoredDocument, IsStoredIn, record_places, all_places}
+use Rattle.nx_state.proofs.StayLemmas.{record_row}
 
 -- the items of a piece: each gap stands before a node, behind one, or below one
 slots_few : (f : Gapped) → AreApart f → (slots_in f ≤ 3 * gapped_size f + 1) × (BeginsNoGap f → slots_in f ≤ 3 * gapped_size f)
@@ -44,23 +44,23 @@ root_slots (Gap c s) h trees some = absurd trees
 chained_many : (roots : Gapped) (proxies : ℕ) → IsValidChained roots proxies → 254 ≤ proxies
 chained_many roots proxies h =
     let slots = root_slots roots (h.body).apart (h.body).trees (h.body).some in
-    let light = (h.body).light in
+    let small = (h.body).small in
     let long = h.long in
-    omega (arith, slots, light, long)
+    omega (arith, slots, small, long)
 
 few_pages : (proxies : ℕ) → 254 ≤ proxies → 254 * chain_count (8 * proxies) ≤ proxies
 few_pages proxies many = omega (arith, many)
 
-among_left : {T : Type 0} (x : T) (a b : List T) → IsAmong x a → IsAmong x (a ++ b)
+pub among_left : {T : Type 0} (x : T) (a b : List T) → IsAmong x a → IsAmong x (a ++ b)
 among_left x [] b h = absurd h
 among_left x (y ∷ a) b (inl e) = inl e
 among_left x (y ∷ a) b (inr h) = inr (among_left x a b h)
 
-among_right : {T : Type 0} (x : T) (a b : List T) → IsAmong x b → IsAmong x (a ++ b)
+pub among_right : {T : Type 0} (x : T) (a b : List T) → IsAmong x b → IsAmong x (a ++ b)
 among_right x [] b h = h
 among_right x (y ∷ a) b h = inr (among_right x a b h)
 
-pages-append : (lists : ℕ → Option (List ℕ)) (a b : List ℕ) → pages_of_lists lists (a ++ b) ≡ pages_of_lists lists a + pages_of_lists lists b
+pub pages-append : (lists : ℕ → Option (List ℕ)) (a b : List ℕ) → pages_of_lists lists (a ++ b) ≡ pages_of_lists lists a + pages_of_lists lists b
 pages-append lists [] b = omega arith
 pages-append lists (x ∷ a) b = let rest = pages-append lists a b in omega (arith, rest)
 
@@ -127,20 +127,20 @@ lists_below held place below proxies own h = record {
       ];
 }
 
-layout_lists : (held : Held) (pieces : PieceMap held) (a : Layout) → AreHeld pieces.piece_at a → ListsAt held (places_of a) (length (proxies_of a))
+layout_lists : (held : Held) (pieces : PieceMap held) (a : Layout) → AreHeld (held_by pieces) a → ListsAt held (places_of a) (length (proxies_of a))
 layout_lists held pieces Bare h = no_lists held
 layout_lists held pieces (Grown node below beside) h =
     subst (λ (n : ℕ). ListsAt held (places_of below ++ places_of beside) n) (sym (length-append (proxies_of below) (proxies_of beside)))
-    (lists_join held (places_of below) (places_of beside) (length (proxies_of below)) (length (proxies_of beside)) (layout_lists held pieces below h.0) (layout_lists held pieces beside h.1))
+    (lists_join held (places_of below) (places_of beside) (length (proxies_of below)) (length (proxies_of beside)) (layout_lists held pieces below h.1) (layout_lists held pieces beside h.2))
 layout_lists held pieces (Kept place members beside) h =
-    let own = own_list held place (piece_of members) (held_at held pieces place (piece_of members) h.0) in
+    let own = own_list held place (piece_of members) (held_at held pieces place (piece_of members) (h.0).there) in
     let here = lists_below held place (places_of members) (length (proxies_of members)) own (layout_lists held pieces members h.1) in
     subst (λ (n : ℕ). ListsAt held (place ∷ places_of members ++ places_of beside) n) (omega arith)
     (lists_join held (place ∷ places_of members) (places_of beside) 1 (length (proxies_of beside)) here (layout_lists held pieces beside h.2))
 
-pub all_lists : (held : Held) (pieces : PieceMap held) (k : ℕ) (stored : List StoredDocument) → All (IsStoredIn k pieces.piece_at) stored → ListsAt held (all_places stored) (length stored)
-all_lists held pieces k [] each = no_lists held
-all_lists held pieces k (s ∷ stored) each =
-    let one = layout_lists held pieces (whole (place_of s.entry.root) s.document.node s.layout) (((All-head (IsStoredIn k pieces.piece_at) s stored each).laid).held) in
+pub all_lists : (held : Held) (pieces : PieceMap held) (stored : List StoredDocument) → All (IsStoredIn (held_by pieces)) stored → ListsAt held (all_places stored) (length stored)
+all_lists held pieces [] each = no_lists held
+all_lists held pieces (s ∷ stored) each =
+    let one = layout_lists held pieces (record_row s) (((All-head (IsStoredIn (held_by pieces)) s stored each).laid).held) in
     subst (λ (n : ℕ). ListsAt held (record_places s ++ all_places stored) n) (omega arith)
-    (lists_join held (record_places s) (all_places stored) 1 (length stored) one (all_lists held pieces k stored (All-tail (IsStoredIn k pieces.piece_at) s stored each)))
+    (lists_join held (record_places s) (all_places stored) 1 (length stored) one (all_lists held pieces stored (All-tail (IsStoredIn (held_by pieces)) s stored each)))

@@ -7,12 +7,13 @@ use Rattle.nx_host.specs.Disk.{Image}
 use Rattle.nx_replay.specs.Log.{Pages, replay}
 use Rattle.nx_holdings.specs.Holdings.{Held}
 use Rattle.nx_holdings.proofs.OneLemmas.{hold_one}
-use Rattle.nx_piece.specs.declared.piece.Piece.{Piece}
 use Rattle.nx_cuts.specs.Cut.{CutTree}
-use Rattle.nx_layouts.specs.Layout.{RecordPlace, IsLaidOut}
+use Rattle.nx_layouts.specs.Layout.{Stock, IsLaidOut}
 use Rattle.nx_layouts.proofs.LayoutLemmas.{one_document}
 use Rattle.nx_hold.specs.declared.entry.DocEntry.{DocEntry}
+use Rattle.nx_layouts.proofs.HeldLemmas.{HasAll}
 use Rattle.nx_hold.specs.Changes.{place_of}
+use Rattle.nx_hold.specs.Pieces.{held_by}
 use Rattle.nx_hold.proofs.PieceLemmas.{no_value}
 use Rattle.nx_catalog.specs.Catalog.{Contents}
 use Rattle.nx_state.specs.State.{State}
@@ -35,26 +36,26 @@ shown s = (s.name, s.document)
 pair_same : {A B : Type 0} (a c : A) (b d : B) → a ≡ c → b ≡ d → ◌≡◌ {A = A × B} (a, b) (c, d)
 pair_same a c b d e f = cc
 
-laid_out : (k : ℕ) (pieces : RecordPlace → Option Piece) (s : StoredDocument) → IsStoredIn k pieces s → IsLaidOut k pieces (place_of s.entry.root) s.document
-laid_out k pieces s h = record { layout = s.layout; laid = h.laid }
+laid_out : (stock : Stock) (s : StoredDocument) → IsStoredIn stock s → IsLaidOut stock (place_of s.entry.root) s.document
+laid_out stock s h = record { layout = s.layout; laid = h.laid }
 
 -- documents that stand at one place are one
-same_shown : (k : ℕ) (pieces : RecordPlace → Option Piece) (s t : StoredDocument) → IsStoredIn k pieces s → IsStoredIn k pieces t → entered s ≡ entered t → shown s ≡ shown t
-same_shown k pieces s t h g e =
+same_shown : (stock : Stock) (s t : StoredDocument) → IsStoredIn stock s → IsStoredIn stock t → entered s ≡ entered t → shown s ≡ shown t
+same_shown stock s t h g e =
     let name : s.name ≡ t.name = ap (λ (p : List ℕ × DocEntry). p.0) e in
     let entry : s.entry ≡ t.entry = ap (λ (p : List ℕ × DocEntry). p.1) e in
-    let there = subst (λ (d : DocEntry). IsLaidOut k pieces (place_of d.root) s.document) entry (laid_out k pieces s h) in
-    pair_same s.name t.name s.document t.document name (one_document k pieces (place_of t.entry.root) s.document t.document there (laid_out k pieces t g))
+    let there = subst (λ (d : DocEntry). IsLaidOut stock (place_of d.root) s.document) entry (laid_out stock s h) in
+    pair_same s.name t.name s.document t.document name (one_document stock (place_of t.entry.root) s.document t.document there (laid_out stock t g))
 
-all_shown : (k : ℕ) (pieces : RecordPlace → Option Piece) (one other : List StoredDocument) → All (IsStoredIn k pieces) one → All (IsStoredIn k pieces) other → map entered one ≡ map entered other
+all_shown : (stock : Stock) (one other : List StoredDocument) → All (IsStoredIn stock) one → All (IsStoredIn stock) other → map entered one ≡ map entered other
     → map shown one ≡ map shown other
-all_shown k pieces [] [] h g e = refl
-all_shown k pieces [] (t ∷ other) h g e = cc
-all_shown k pieces (s ∷ one) [] h g e = cc
-all_shown k pieces (s ∷ one) (t ∷ other) h g e =
-    let P = IsStoredIn k pieces in
-    let first : shown s ≡ shown t = same_shown k pieces s t (All-head P s one h) (All-head P t other g) (first_same (entered s) (entered t) (map entered one) (map entered other) e) in
-    let rest : map shown one ≡ map shown other = all_shown k pieces one other (All-tail P s one h) (All-tail P t other g) (rest_same (entered s) (entered t) (map entered one) (map entered other) e) in
+all_shown stock [] [] h g e = refl
+all_shown stock [] (t ∷ other) h g e = cc
+all_shown stock (s ∷ one) [] h g e = cc
+all_shown stock (s ∷ one) (t ∷ other) h g e =
+    let P = IsStoredIn stock in
+    let first : shown s ≡ shown t = same_shown stock s t (All-head P s one h) (All-head P t other g) (first_same (entered s) (entered t) (map entered one) (map entered other) e) in
+    let rest : map shown one ≡ map shown other = all_shown stock one other (All-tail P s one h) (All-tail P t other g) (rest_same (entered s) (entered t) (map entered one) (map entered other) e) in
     cc
 
 module _ {held : Held} {state other : State} (h : HoldsState held state) (g : HoldsState held other) where
@@ -64,14 +65,20 @@ module _ {held : Held} {state other : State} (h : HoldsState held state) (g : Ho
   entered_same : map entered h.stored ≡ map entered g.stored
   entered_same = sym h.names ∙ ap (λ (c : Contents). entries c.documents) contents_same ∙ g.names
 
-  other_stored : All (IsStoredIn (held.settings).k ((h.holds).pieces).piece_at) g.stored
-  other_stored =
-      All-weaker (IsStoredIn (held.settings).k ((g.holds).pieces).piece_at) (IsStoredIn (held.settings).k ((h.holds).pieces).piece_at)
-      (λ s stored. stored_along (held.settings).k ((g.holds).pieces).piece_at ((h.holds).pieces).piece_at s (λ place piece e. one_map held (h.holds).pieces (g.holds).pieces place ∙ e) stored)
-      g.stored (g.holds).each
+  abbrev stock : Stock
+  stock = held_by (h.holds).pieces
+
+  abbrev other_stock : Stock
+  other_stock = held_by (g.holds).pieces
+
+  same_stock : HasAll other_stock stock
+  same_stock = record { pieces = λ place piece e. one_map held (h.holds).pieces (g.holds).pieces place ∙ e; lists = λ first bytes e. e; most = refl }
+
+  other_stored : All (IsStoredIn stock) g.stored
+  other_stored = All-weaker (IsStoredIn other_stock) (IsStoredIn stock) (λ s stored. stored_along other_stock stock s same_stock stored) g.stored (g.holds).each
 
   shown_same : entries state.documents ≡ entries other.documents
-  shown_same = h.documents ∙ all_shown (held.settings).k ((h.holds).pieces).piece_at h.stored g.stored (h.holds).each other_stored entered_same ∙ sym g.documents
+  shown_same = h.documents ∙ all_shown stock h.stored g.stored (h.holds).each other_stored entered_same ∙ sym g.documents
 
   one_held_state : state ≡ other
   one_held_state =

@@ -5,7 +5,8 @@ use Rattle.std.specs.List.{sum}
 use Rattle.nx_tree.specs.Forest.{nodes}
 use Rattle.nx_matrix.specs.declared.rule.Rule.{Rule}
 use Rattle.nx_records.specs.Words.{Settings}
-use Rattle.nx_cuts.specs.Cut.{CutTree, forest}
+use Rattle.nx_cuts.specs.Cut.{CutTree, forest, tree_of}
+use Rattle.nx_hold.specs.Contents.{tree_pages}
 use Rattle.nx_script.specs.Field.{name_order}
 
 -- Its settings, the rules of its matrix in their order, and its documents by their names, each with its intervals drawn in.
@@ -25,3 +26,7 @@ document_size document = 1 + nodes (forest document.below)
 -- how many nodes all documents have
 abbrev pub all_nodes : State → ℕ
 all_nodes state = sum (map document_size (values state.documents))
+
+-- how many chain pages the long contents of all documents take, where each of them is far
+abbrev pub all_pages : State → ℕ
+all_pages state = sum (map (λ document. tree_pages (tree_of document)) (values state.documents))

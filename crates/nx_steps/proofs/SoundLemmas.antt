@@ -47,7 +47,7 @@ use Rattle.nx_steps.proofs.FeasibleLemmas.{each_with, each_without, by_step, ste
 
 -- ---- a tree's refusal is worded, so where no fault is told there is no refusal
 
-unworded : (o : Option TreeError) → (o ≡ Some tree_error.Memory → ⊥) → option_and_then worded o ≡ None → o ≡ None
+pub unworded : (o : Option TreeError) → (o ≡ Some tree_error.Memory → ⊥) → option_and_then worded o ≡ None → o ≡ None
 unworded None never e = refl
 unworded (Some tree_error.NoNode) never e = cc
 unworded (Some tree_error.BadPlace) never e = cc
@@ -67,7 +67,7 @@ two_named true b x y f g e = f e
 two_named false true x y f g e = g e
 two_named false false x y f g e = cc
 
-insert_named : (node : Node) (path : List ℕ) (tree : OrderedTree) → insert_refusal node path tree ≡ Some tree_error.Memory → ⊥
+pub insert_named : (node : Node) (path : List ℕ) (tree : OrderedTree) → insert_refusal node path tree ≡ Some tree_error.Memory → ⊥
 insert_named node [] tree e = cc
 insert_named node (p ∷ path) tree e = go (at tree (parent_path (p ∷ path))) e
   where

@@ -7,10 +7,10 @@ use Rattle.std.specs.FinMap.{find, entries, get-entries, slice_cmp-IsAntisymmetr
 use Rattle.std.proofs.lemmas.List.Elements.{recursion_from_All}
 use Rattle.nx_tree.specs.Document.{IsDocument}
 use Rattle.nx_matrix.specs.Rules.{AreRules}
-use Rattle.nx_piece.specs.declared.piece.Piece.{Piece}
 use Rattle.nx_cuts.specs.Cut.{CutTree, AreParts, tree_of}
 use Rattle.nx_hold.specs.Changes.{place_of}
-use Rattle.nx_layouts.specs.Layout.{RecordPlace}
+use Rattle.nx_hold.specs.Pieces.{held_by}
+use Rattle.nx_layouts.specs.Layout.{Stock}
 use Rattle.nx_catalog.specs.Catalog.{CanBeKept}
 use Rattle.nx_holdings.specs.declared.header.Settings.{Settings}
 use Rattle.nx_script.specs.Field.{name_order, is_document_name}
@@ -48,13 +48,13 @@ each_has : (P : List ℕ → CutTree → Type 0) (held_state : State) (stored : 
     → AllByRecursion (λ (s : StoredDocument). P s.name s.document) stored → OfEachDocument P held_state
 each_has P state stored documents all = λ name document there. found_has P name stored all document (ap (find name_order name) (sym documents) ∙ sym (get-entries state.documents name) ∙ there)
 
-each_light : (k : ℕ) (pieces : RecordPlace → Option Piece) (stored : List StoredDocument) → AllByRecursion (IsStoredIn k pieces) stored → AllByRecursion (λ (s : StoredDocument). AreParts k (whole_document s.document)) stored
-each_light k pieces [] all = tt
-each_light k pieces (s ∷ stored) all = (laid_parts k pieces (place_of s.entry.root) s.document s.layout all.0.laid, each_light k pieces stored all.1)
+each_light : (stock : Stock) (stored : List StoredDocument) → AllByRecursion (IsStoredIn stock) stored → AllByRecursion (λ (s : StoredDocument). AreParts stock.most (whole_document s.document)) stored
+each_light stock [] all = tt
+each_light stock (s ∷ stored) all = (laid_parts stock (place_of s.entry.root) s.document s.layout all.0.laid, each_light stock stored all.1)
 
-each_document : (k : ℕ) (pieces : RecordPlace → Option Piece) (stored : List StoredDocument) → AllByRecursion (IsStoredIn k pieces) stored → AllByRecursion (λ (s : StoredDocument). IsDocument (tree_of s.document)) stored
-each_document k pieces [] all = tt
-each_document k pieces (s ∷ stored) all = (((all.0).laid).is_document, each_document k pieces stored all.1)
+each_document : (stock : Stock) (stored : List StoredDocument) → AllByRecursion (IsStoredIn stock) stored → AllByRecursion (λ (s : StoredDocument). IsDocument (tree_of s.document)) stored
+each_document stock [] all = tt
+each_document stock (s ∷ stored) all = (((all.0).laid).is_document, each_document stock stored all.1)
 
 each_named : (stored : List StoredDocument) → AllByRecursion CanBeKept (map (λ (s : StoredDocument). (s.name, s.entry)) stored) → AllByRecursion (λ (s : StoredDocument). IsTrue (is_document_name s.name)) stored
 each_named [] all = tt
@@ -62,13 +62,13 @@ each_named (s ∷ stored) all = ((all.0).named, each_named stored all.1)
 
 pub stored_sound : StoredIsSound
 stored_sound held state h =
-    let pieces = (h.holds).pieces.piece_at in
-    let each = recursion_from_All (IsStoredIn (held.settings).k pieces) h.stored (h.holds).each in
+    let stock : Stock = held_by (h.holds).pieces in
+    let each = recursion_from_All (IsStoredIn stock) h.stored (h.holds).each in
     let kept = recursion_from_All CanBeKept (entries (h.contents).documents) (h.catalog).kept in record {
       named = each_has (λ name document. IsTrue (is_document_name name)) state h.stored h.documents (each_named h.stored (subst (AllByRecursion CanBeKept) h.names kept));
-      documents = each_has (λ name document. IsDocument (tree_of document)) state h.stored h.documents (each_document (held.settings).k pieces h.stored each);
+      documents = each_has (λ name document. IsDocument (tree_of document)) state h.stored h.documents (each_document stock h.stored each);
       drawn = subst (λ (t : Settings). OfEachDocument (λ name document. AreParts t.k (whole_document document)) state) h.settings
-          (each_has (λ name document. AreParts (held.settings).k (whole_document document)) state h.stored h.documents (each_light (held.settings).k pieces h.stored each));
+          (each_has (λ name document. AreParts (held.settings).k (whole_document document)) state h.stored h.documents (each_light stock h.stored each));
       rules = subst AreRules h.rules (h.catalog).rules;
       labels = subst (All HasLabels) h.rules (h.catalog).labels;
     }

@@ -14,16 +14,17 @@ use Rattle.nx_script.specs.declared.command.Command.{Command}
 use Rattle.nx_script.specs.declared.reply.Reply.{Reply}
 use Rattle.nx_script.specs.declared.reply.ReplyError.{ReplyError}
 use Rattle.nx_script.specs.declared.reply.ReplyError.TheVariants.{NoDocument, Exists}
+use Rattle.nx_engine.specs.Documents.{Documents}
 use Rattle.nx_engine.specs.Step.{documents_after, documents_edited, insert_fault, delete_fault, retext_fault}
 use Rattle.nx_engine.proofs.EditedLemmas.{edited_at}
 use Rattle.nx_state.specs.State.{State}
 use Rattle.nx_drawn.specs.Edits.{inserted, deleted, retexted}
 use Rattle.nx_drawn.specs.Splits.{Splits}
 use Rattle.nx_steps.specs.Refusal.{refusal, document_fault, load_fault, inserted_fault, retexted_fault}
-use Rattle.nx_steps.specs.Step.{trees, nodes_of, Edits, Effect}
+use Rattle.nx_steps.specs.Step.{trees, sum_over, Edits, Effect}
 use Rattle.nx_steps.specs.Sound.{AreFeasible}
-use Rattle.nx_steps.specs.Laws.{EffectsLeaveNodes}
-use Rattle.nx_steps.proofs.TreesLemmas.{get-trees, contains-trees, nodes-trees, trees-with_document, trees-removed}
+use Rattle.nx_steps.specs.Laws.{EffectsLeaveSums}
+use Rattle.nx_steps.proofs.TreesLemmas.{get-trees, contains-trees, sum-trees, trees-with_document, trees-removed}
 use Rattle.nx_drawn.proofs.EditLemmas.{tree-inserted, tree-deleted, tree-retexted}
 use Rattle.nx_drawn.proofs.SplitLemmas.{same_tree}
 
@@ -82,5 +83,5 @@ effect_trees state Rules r next feasible none effect = ap trees effect.1
 effect_trees state Checkpoint r next feasible none effect = ap trees effect.1
 effect_trees state Bad r next feasible none effect = absurd effect
 
-pub effect_nodes : EffectsLeaveNodes
-effect_nodes state command r next feasible none effect = sym (nodes-trees next) ∙ ap nodes_of (effect_trees state command r next feasible none effect)
+pub effect_sums : EffectsLeaveSums
+effect_sums count state command r next feasible none effect = sym (sum-trees count next) ∙ ap (λ (documents : Documents). sum_over count documents) (effect_trees state command r next feasible none effect)

@@ -1,4 +1,4 @@
--- The trees of a state, and how many nodes they have.
+-- The trees of a state, and sums over them.
 use Rattle.std.proofs.Common.{Ordering, ◌≡◌, ℕ, ◌+◌, Bool, true, false, cond, T, List, [], ◌∷◌, map, refl, sym, ap, subst, ◌∙◌, arith, Option, None, Some, ◌&&◌, Less, Equal, Greater}
 use Rattle.std.specs.Option.{option_map, is_some}
 use Rattle.std.specs.List.{sum}
@@ -8,13 +8,14 @@ use Rattle.std.specs.Cmp.Lexicographic.{nat_list_cmp_total}
 use Rattle.std.proofs.lemmas.List.Sums.{sum_by-cons}
 use Rattle.std.specs.FinMap.{get, contains_key, insert, remove, entries, find, put, is_sorted, entries_sorted, entries-from_sorted, get-from_sorted, get-entries, get-insert, get-remove, get_tied, entries-insert, same_map, slice_cmp-IsAntisymmetric, nat_cmp-IsAntisymmetric}
 use Rattle.std.specs.FinMap.Entries.{below_all, by_order}
-use Rattle.nx_tree.specs.Forest.{OrderedTree, nodes}
+use Rattle.nx_tree.specs.Forest.{OrderedTree}
 use Rattle.nx_cuts.specs.Cut.{CutTree, tree_of}
 use Rattle.nx_script.specs.Field.{name_order}
 use Rattle.nx_engine.specs.Documents.{Documents}
-use Rattle.nx_state.specs.State.{State, document_size, all_nodes}
+use Rattle.nx_state.specs.State.{State}
 use Rattle.nx_steps.specs.Answers.{with_document}
-use Rattle.nx_steps.specs.Step.{trees, nodes_of}
+use Rattle.nx_steps.specs.Step.{trees, sum_over}
+use Rattle.nx_steps.specs.Laws.{sum_of}
 
 -- a name and a document, without its intervals
 abbrev pub bare : List ℕ × CutTree → List ℕ × OrderedTree
@@ -77,37 +78,6 @@ trees-removed state name =
     ∙ mapped_none (eq_by_cmp name_order q name) (get state.documents q)
     ∙ ap (cond (eq_by_cmp name_order q name) None) (sym (get-trees state q)) ∙ sym (get-remove nat_list_cmp_total (trees state) name q))
 
--- how many nodes these entries have
-abbrev pub nodes_in : List (List ℕ × OrderedTree) → ℕ
-nodes_in es = sum (map (λ (tree : OrderedTree). 1 + nodes tree.below) (map (λ (e : List ℕ × OrderedTree). e.1) es))
-
-nodes_more : (e : List ℕ × OrderedTree) (es : List (List ℕ × OrderedTree)) → nodes_in (e ∷ es) ≡ (1 + nodes e.1.below) + nodes_in es
-nodes_more e es = sum_by-cons (λ (n : ℕ). n) (1 + nodes e.1.below) (map (λ (tree : OrderedTree). 1 + nodes tree.below) (map (λ (x : List ℕ × OrderedTree). x.1) es))
-
-nodes_bare : (es : List (List ℕ × CutTree)) → nodes_in (map bare es) ≡ sum (map document_size (map (λ (e : List ℕ × CutTree). e.1) es))
-nodes_bare [] = refl
-nodes_bare (e ∷ es) =
-    nodes_more (bare e) (map bare es) ∙ ap (λ n. document_size e.1 + n) (nodes_bare es)
-    ∙ sym (sum_by-cons (λ (n : ℕ). n) (document_size e.1) (map document_size (map (λ (x : List ℕ × CutTree). x.1) es)))
-
-pub nodes-trees : (state : State) → nodes_of (trees state) ≡ all_nodes state
-nodes-trees state = ap nodes_in (entries-trees state) ∙ nodes_bare (entries state.documents)
-
-nodes_put : (name : List ℕ) (tree : OrderedTree) (es : List (List ℕ × OrderedTree)) → find name_order name es ≡ None → nodes_in (put name_order name tree es) ≡ nodes_in es + (1 + nodes tree.below)
-nodes_put name tree [] none = omega arith
-nodes_put name tree (e ∷ es) none =
-    (elim (name_order name e.0) as (λ o. cond (is_eq o) (Some e.1) (find name_order name es) ≡ None
-    → nodes_in (by_order o ((name, tree) ∷ e ∷ es) ((e.0, tree) ∷ es) (e ∷ put name_order name tree es)) ≡ nodes_in (e ∷ es) + (1 + nodes tree.below)) [
-      | Less ↦ λ n. let m = nodes_more (name, tree) (e ∷ es) in omega (arith, m)
-      | Equal ↦ λ n. cc
-      | Greater ↦ λ n. let m = nodes_more e (put name_order name tree es) in let l = nodes_more e es in let r = nodes_put name tree es n in omega (arith, m, l, r)
-    ]) none
-
--- a document under a new name adds its nodes
-pub nodes-new : (documents : Documents) (name : List ℕ) (tree : OrderedTree) → get documents name ≡ None → nodes_of (insert documents name tree) ≡ nodes_of documents + (1 + nodes tree.below)
-nodes-new documents name tree none =
-    ap nodes_in (entries-insert nat_list_cmp_total documents name tree) ∙ nodes_put name tree (entries documents) (sym (get-entries documents name) ∙ none)
-
 put_again : {X : Type 0} (b : Bool) (x : X) (o : Option X) → cond b (Some x) (cond b None o) ≡ cond b (Some x) o
 put_again true x o = refl
 put_again false x o = refl
@@ -117,23 +87,56 @@ tied documents name q old there Less e = refl
 tied documents name q old there Equal e = sym there ∙ get_tied nat_list_cmp_total documents q name e
 tied documents name q old there Greater e = refl
 
--- a tree in place of another
-pub nodes-other : (documents : Documents) (name : List ℕ) (old tree : OrderedTree) → get documents name ≡ Some old
-    → nodes_of (insert documents name tree) + (1 + nodes old.below) ≡ nodes_of documents + (1 + nodes tree.below)
-nodes-other documents name old tree there =
-    let rest = remove documents name in
-    let gone : get rest name ≡ None = get-remove nat_list_cmp_total documents name name ∙ ap (λ b. cond b None (get documents name)) (itself name) in
-    let at_once : insert rest name tree ≡ insert documents name tree =
-    same_trees (insert rest name tree) (insert documents name tree) (λ q.
-    get-insert nat_list_cmp_total rest name tree q ∙ ap (cond (eq_by_cmp name_order q name) (Some tree)) (get-remove nat_list_cmp_total documents name q)
-    ∙ put_again (eq_by_cmp name_order q name) tree (get documents q) ∙ sym (get-insert nat_list_cmp_total documents name tree q)) in
-    let back : insert rest name old ≡ documents =
-    same_trees (insert rest name old) documents (λ q.
-    get-insert nat_list_cmp_total rest name old q ∙ ap (cond (eq_by_cmp name_order q name) (Some old)) (get-remove nat_list_cmp_total documents name q)
-    ∙ put_again (eq_by_cmp name_order q name) old (get documents q) ∙ tied documents name q old there (name_order q name) refl) in
-    let with_tree : nodes_of (insert documents name tree) ≡ nodes_of rest + (1 + nodes tree.below) = ap nodes_of (sym at_once) ∙ nodes-new rest name tree gone in
-    let with_old : nodes_of documents ≡ nodes_of rest + (1 + nodes old.below) = ap nodes_of (sym back) ∙ nodes-new rest name old gone in
-    omega (arith, with_tree, with_old)
-  where
-    itself : (q : List ℕ) → eq_by_cmp name_order q q ≡ true
-    itself q = (eq_by_cmp_equiv nat_list_cmp_total).refl q
+-- A sum over trees:
+
+module _ (count : OrderedTree → ℕ) where
+  -- over these entries
+  abbrev sum_in : List (List ℕ × OrderedTree) → ℕ
+  sum_in es = sum (map count (map (λ (e : List ℕ × OrderedTree). e.1) es))
+
+  sum_more : (e : List ℕ × OrderedTree) (es : List (List ℕ × OrderedTree)) → sum_in (e ∷ es) ≡ count e.1 + sum_in es
+  sum_more e es = sum_by-cons (λ (n : ℕ). n) (count e.1) (map count (map (λ (x : List ℕ × OrderedTree). x.1) es))
+
+  sum_bare : (es : List (List ℕ × CutTree)) → sum_in (map bare es) ≡ sum (map (λ (document : CutTree). count (tree_of document)) (map (λ (e : List ℕ × CutTree). e.1) es))
+  sum_bare [] = refl
+  sum_bare (e ∷ es) =
+      sum_more (bare e) (map bare es) ∙ ap (λ n. count (tree_of e.1) + n) (sum_bare es)
+      ∙ sym (sum_by-cons (λ (n : ℕ). n) (count (tree_of e.1)) (map (λ (document : CutTree). count (tree_of document)) (map (λ (x : List ℕ × CutTree). x.1) es)))
+
+  pub sum-trees : (state : State) → sum_over count (trees state) ≡ sum_of count state
+  sum-trees state = ap sum_in (entries-trees state) ∙ sum_bare (entries state.documents)
+
+  sum_put : (name : List ℕ) (tree : OrderedTree) (es : List (List ℕ × OrderedTree)) → find name_order name es ≡ None → sum_in (put name_order name tree es) ≡ sum_in es + count tree
+  sum_put name tree [] none = let m = sum_more (name, tree) [] in omega (arith, m)
+  sum_put name tree (e ∷ es) none =
+      (elim (name_order name e.0) as (λ o. cond (is_eq o) (Some e.1) (find name_order name es) ≡ None
+      → sum_in (by_order o ((name, tree) ∷ e ∷ es) ((e.0, tree) ∷ es) (e ∷ put name_order name tree es)) ≡ sum_in (e ∷ es) + count tree) [
+        | Less ↦ λ n. let m = sum_more (name, tree) (e ∷ es) in omega (arith, m)
+        | Equal ↦ λ n. cc
+        | Greater ↦ λ n. let m = sum_more e (put name_order name tree es) in let l = sum_more e es in let r = sum_put name tree es n in omega (arith, m, l, r)
+      ]) none
+
+  -- a document under a new name adds what it has
+  pub sum-new : (documents : Documents) (name : List ℕ) (tree : OrderedTree) → get documents name ≡ None → sum_over count (insert documents name tree) ≡ sum_over count documents + count tree
+  sum-new documents name tree none =
+      ap sum_in (entries-insert nat_list_cmp_total documents name tree) ∙ sum_put name tree (entries documents) (sym (get-entries documents name) ∙ none)
+
+  -- a tree in place of another
+  pub sum-other : (documents : Documents) (name : List ℕ) (old tree : OrderedTree) → get documents name ≡ Some old → sum_over count (insert documents name tree) + count old ≡ sum_over count documents + count tree
+  sum-other documents name old tree there =
+      let rest = remove documents name in
+      let gone : get rest name ≡ None = get-remove nat_list_cmp_total documents name name ∙ ap (λ b. cond b None (get documents name)) (itself name) in
+      let at_once : insert rest name tree ≡ insert documents name tree =
+      same_trees (insert rest name tree) (insert documents name tree) (λ q.
+      get-insert nat_list_cmp_total rest name tree q ∙ ap (cond (eq_by_cmp name_order q name) (Some tree)) (get-remove nat_list_cmp_total documents name q)
+      ∙ put_again (eq_by_cmp name_order q name) tree (get documents q) ∙ sym (get-insert nat_list_cmp_total documents name tree q)) in
+      let back : insert rest name old ≡ documents =
+      same_trees (insert rest name old) documents (λ q.
+      get-insert nat_list_cmp_total rest name old q ∙ ap (cond (eq_by_cmp name_order q name) (Some old)) (get-remove nat_list_cmp_total documents name q)
+      ∙ put_again (eq_by_cmp name_order q name) old (get documents q) ∙ tied documents name q old there (name_order q name) refl) in
+      let with_tree : sum_over count (insert documents name tree) ≡ sum_over count rest + count tree = ap (λ (d : Documents). sum_over count d) (sym at_once) ∙ sum-new rest name tree gone in
+      let with_old : sum_over count documents ≡ sum_over count rest + count old = ap (λ (d : Documents). sum_over count d) (sym back) ∙ sum-new rest name old gone in
+      omega (arith, with_tree, with_old)
+    where
+      itself : (q : List ℕ) → eq_by_cmp name_order q q ≡ true
+      itself q = (eq_by_cmp_equiv nat_list_cmp_total).refl q

@@ -13,7 +13,7 @@ use Rattle.nx_script.specs.declared.reply.Reply.{Reply}
 use Rattle.nx_script.specs.declared.reply.Reply.TheVariants as reply
 use Rattle.nx_script.specs.declared.reply.ReplyError.{ReplyError}
 use Rattle.nx_script.specs.declared.reply.ReplyError.TheVariants.{NoDocument, TooHeavy}
-use Rattle.nx_state.specs.State.{State, document_size, all_nodes}
+use Rattle.nx_state.specs.State.{State, document_size, all_nodes, all_pages}
 
 -- the command is answered so, and changes nothing
 abbrev pub Answers : State → Reply → Reply → State → Type 0
@@ -48,9 +48,9 @@ pub record Loads (state : State) (name : List ℕ) (tree : OrderedTree) (r : Rep
   pub answered : r ≡ reply.Loaded (1 + nodes tree.below) (length (parts_of document))
   pub next_is : next ≡ with_document state name document
 
--- There may not be room for what the command would leave, by the nodes of all documents before and after it.
-abbrev pub MayBeFull : State → (nodes_after : ℕ) → Type 0
-MayBeFull state nodes_after = (state.settings).limit ≤ 3 * (all_nodes state + nodes_after) + length state.rules + 8
+-- There may not be room for what the command would leave, by the nodes of all documents before and after it, and by the chain pages that their long contents take.
+abbrev pub MayBeFull : State → (nodes_after pages_after : ℕ) → Type 0
+MayBeFull state nodes_after pages_after = (state.settings).limit ≤ 3 * (all_nodes state + nodes_after) + (all_pages state + pages_after) + length state.rules + 8
 
 -- a node of the document outweighs the parts, the first in document order
 abbrev pub heavy_fault : ℕ → OrderedTree → Option ReplyError

@@ -1,8 +1,9 @@
 -- The laws of steps.
-use Rattle.std.specs.Prelude.{◌+◌, ◌≡◌, ◌≢◌, ℕ, true, false, List, None, Some, All}
+use Rattle.std.specs.Prelude.{◌+◌, ◌≡◌, ◌≢◌, ℕ, true, false, List, map, None, Some, All}
+use Rattle.std.specs.List.{sum}
 use Rattle.std.specs.Bool.{MatchBool}
-use Rattle.std.specs.FinMap.{get}
-use Rattle.nx_tree.specs.Forest.{OrderedTree, nodes}
+use Rattle.std.specs.FinMap.{get, values}
+use Rattle.nx_tree.specs.Forest.{OrderedTree}
 use Rattle.nx_tree.specs.Edit.{put, cut_at, retext}
 use Rattle.nx_parts.specs.Partitioning.{IsFeasible}
 use Rattle.nx_cuts.specs.Cut.{CutTree, tree_of, parts_of}
@@ -18,9 +19,9 @@ use Rattle.nx_script.specs.declared.reply.Reply.TheVariants.{Refused}
 use Rattle.nx_script.specs.declared.reply.ReplyError.TheVariants.{Full}
 use Rattle.nx_script.specs.Commands.{CanCome}
 use Rattle.nx_engine.specs.Step.{after_all, replies as replies_to}
-use Rattle.nx_state.specs.State.{State, document_size, all_nodes}
+use Rattle.nx_state.specs.State.{State}
 use Rattle.nx_steps.specs.Refusal.{refusal}
-use Rattle.nx_steps.specs.Step.{trees, nodes_after, Effect, may_change, Step, RunsTo}
+use Rattle.nx_steps.specs.Step.{trees, sum_after, Effect, may_change, Step, RunsTo}
 use Rattle.nx_steps.specs.Sound.{OfEachDocument, AreFeasible, IsSound}
 use Rattle.nx_steps.specs.Plain.{is_plain, is_limit, IsPlainStep, taken, plain_replies}
 
@@ -68,27 +69,32 @@ StepsAgree =
 abbrev pub StateStays : Type 0
 StateStays = (state : State) (command : Command) (r : Reply) (next : State) → may_change command ≡ false → Step state command r next → next ≡ state
 
--- A command that has its effect leaves as many nodes as the bound of room counts.
-abbrev pub EffectsLeaveNodes : Type 0
-EffectsLeaveNodes = (state : State) (command : Command) (r : Reply) (next : State) → AreFeasible state → refusal state command ≡ None → Effect state command r next → all_nodes next ≡ nodes_after state command
+-- a sum over the documents of a state
+abbrev pub sum_of : (OrderedTree → ℕ) → State → ℕ
+sum_of count state = sum (map (λ document. count (tree_of document)) (values state.documents))
+
+-- A command that has its effect leaves as many nodes and pages as the bound of room counts, and as much of whatever is counted in each tree.
+abbrev pub EffectsLeaveSums : Type 0
+EffectsLeaveSums = (count : OrderedTree → ℕ) (state : State) (command : Command) (r : Reply) (next : State) → AreFeasible state → refusal state command ≡ None → Effect state command r next
+    → sum_of count next ≡ sum_after count state command
 
 -- the document of that name counts with its changed tree in place of the one that it has
-abbrev pub CountsChanged : State → Command → List ℕ → (OrderedTree → OrderedTree) → Type 0
-CountsChanged state command name change =
-    (old : CutTree) → get state.documents name ≡ Some old → nodes_after state command + document_size old ≡ all_nodes state + (1 + nodes (change (tree_of old)).below)
+abbrev pub CountsChanged : (OrderedTree → ℕ) → State → Command → List ℕ → (OrderedTree → OrderedTree) → Type 0
+CountsChanged count state command name change =
+    (old : CutTree) → get state.documents name ≡ Some old → sum_after count state command + count (tree_of old) ≡ sum_of count state + count (change (tree_of old))
 
--- how many nodes the bound of room counts behind a command that may need room
-abbrev pub IsCounted : State → Command → Type 0
-IsCounted state (Load name (load.Read tree)) = nodes_after state (Load name (load.Read tree)) ≡ all_nodes state + (1 + nodes tree.below)
-IsCounted state (Insert name path (line.Read node)) = CountsChanged state (Insert name path (line.Read node)) name (put node path)
-IsCounted state (Delete name path) = CountsChanged state (Delete name path) name (cut_at path)
-IsCounted state (Retext name path (content.Read bytes)) = CountsChanged state (Retext name path (content.Read bytes)) name (retext bytes path)
-IsCounted state (SetRule rule) = nodes_after state (SetRule rule) ≡ all_nodes state
-IsCounted state _ = Unit {0}
+-- what the bound of room counts behind a command that may need room
+abbrev pub IsCounted : (OrderedTree → ℕ) → State → Command → Type 0
+IsCounted count state (Load name (load.Read tree)) = sum_after count state (Load name (load.Read tree)) ≡ sum_of count state + count tree
+IsCounted count state (Insert name path (line.Read node)) = CountsChanged count state (Insert name path (line.Read node)) name (put node path)
+IsCounted count state (Delete name path) = CountsChanged count state (Delete name path) name (cut_at path)
+IsCounted count state (Retext name path (content.Read bytes)) = CountsChanged count state (Retext name path (content.Read bytes)) name (retext bytes path)
+IsCounted count state (SetRule rule) = sum_after count state (SetRule rule) ≡ sum_of count state
+IsCounted count state _ = Unit {0}
 
 -- The bound of room counts what the command adds, and what it takes away.
 abbrev pub RoomIsCounted : Type 0
-RoomIsCounted = (state : State) (command : Command) → refusal state command ≡ None → IsCounted state command
+RoomIsCounted = (count : OrderedTree → ℕ) (state : State) (command : Command) → refusal state command ≡ None → IsCounted count state command
 
 -- Behind each step each document is cut into parts that aren't too heavy, where it was so before.
 abbrev pub StepsStayFeasible : Type 0

@@ -3,7 +3,7 @@ use Rattle.std.specs.Prelude.{◌≡◌, ◌⊎◌, ℕ, ◌+◌, Bool, true, fa
 use Rattle.std.specs.Option.{option_map_or, MatchOption}
 use Rattle.std.specs.List.{sum}
 use Rattle.std.specs.FinMap.{get, remove, entries, values, from_sorted}
-use Rattle.nx_tree.specs.Forest.{nodes}
+use Rattle.nx_tree.specs.Forest.{OrderedTree, nodes}
 use Rattle.nx_tree.specs.Edit.{at}
 use Rattle.nx_pyx.specs.Text.{text}
 use Rattle.nx_cuts.specs.Cut.{CutTree, tree_of}
@@ -19,6 +19,7 @@ use Rattle.nx_script.specs.declared.reply.Reply.TheVariants as reply
 use Rattle.nx_script.specs.declared.reply.ReplyError.TheVariants.{NoNode, Full}
 use Rattle.nx_engine.specs.Documents.{Documents}
 use Rattle.nx_engine.specs.Step.{shown, documents_after}
+use Rattle.nx_hold.specs.Contents.{tree_pages}
 use Rattle.nx_state.specs.State.{State}
 use Rattle.nx_steps.specs.Answers.{Answers, Refuses, by_stored_document, cut_document_line, laid, with_document, Loads, MayBeFull}
 use Rattle.nx_drawn.specs.Edits.{inserted, deleted, retexted}
@@ -29,13 +30,19 @@ use Rattle.nx_steps.specs.Refusal.{refusal}
 abbrev pub trees : State → Documents
 trees state = from_sorted (map (λ entry. (entry.0, tree_of entry.1)) (entries state.documents))
 
--- how many nodes all of these have
-abbrev pub nodes_of : Documents → ℕ
-nodes_of documents = sum (map (λ tree. 1 + nodes tree.below) (values documents))
+-- a sum over all of these
+abbrev pub sum_over : (OrderedTree → ℕ) → Documents → ℕ
+sum_over count documents = sum (map count (values documents))
 
--- how many nodes all documents have after the command, as if it had its effect
+-- ... and over those after the command, as if it had its effect: of their nodes, and of the chain pages that their long contents take
+abbrev pub sum_after : (OrderedTree → ℕ) → State → Command → ℕ
+sum_after count state command = sum_over count (documents_after (trees state) command)
+
 abbrev pub nodes_after : State → Command → ℕ
-nodes_after state command = nodes_of (documents_after (trees state) command)
+nodes_after state command = sum_after (λ tree. 1 + nodes tree.below) state command
+
+abbrev pub pages_after : State → Command → ℕ
+pages_after state command = sum_after tree_pages state command
 
 -- The document of that name becomes one that `Becomes` allows.
 pub record Edits (state : State) (name : List ℕ) (Becomes : CutTree → CutTree → Type 0) (next : State) : Type 0 where
@@ -90,7 +97,7 @@ may_need_room _ = false
 -- there may not be room for what the command would leave, and so it is refused
 pub record FindsNoRoom (state : State) (command : Command) (r : Reply) (next : State) : Type 0 where
   pub needs : IsTrue (may_need_room command)
-  pub full : MayBeFull state (nodes_after state command)
+  pub full : MayBeFull state (nodes_after state command) (pages_after state command)
   pub refused : Refuses state Full r next
 
 -- A command is answered so in a state, and leaves the next: it is refused for the first reason that applies, or has its effect, or there may be no room for it.

@@ -1,5 +1,5 @@
 //! What holds of steps, and of runs of them.
-ghost use Rattle.nx_steps.specs.Laws.{EffectsLeaveNodes, StateStays, RoomIsCounted, RunsEditTrees, RunsKeepSound, RunsReplyPlainly, StepsAgree, StepsArePlain, StepsKeepSound, StepsStayFeasible, StepsStayPartitioned, StoredIsSound};
+ghost use Rattle.nx_steps.specs.Laws.{EffectsLeaveSums, StateStays, RoomIsCounted, RunsEditTrees, RunsKeepSound, RunsReplyPlainly, StepsAgree, StepsArePlain, StepsKeepSound, StepsStayFeasible, StepsStayPartitioned, StoredIsSound};
 
 /// Each state that pages stand for is sound: its documents are such, cut into parts that aren't too heavy,
 /// and its rules are those of a matrix.
@@ -46,9 +46,9 @@ pub fn others_stay()
     ensures { StateStays }
 {}
 
-/// A command that has its effect leaves as many nodes as the bound of room counts.
-pub fn effects_leave_nodes()
-    ensures { EffectsLeaveNodes }
+/// A command that has its effect leaves as many nodes and pages as the bound of room counts.
+pub fn effects_leave_sums()
+    ensures { EffectsLeaveSums }
 {}
 
 /// The bound of room counts what a command adds, and what it takes away.

@@ -8,9 +8,10 @@ use Rattle.nx_records.specs.Refusals.{NotStored}
 use Rattle.nx_records.proofs.LeaveLemmas.{leaves_same}
 use Rattle.nx_records.proofs.RefusalLemmas.{err_passed}
 use Rattle.nx_layouts.specs.Layout.{RecordPlace}
-use Rattle.nx_hold.specs.Changes.{place_of, piece_needs, AddsPiece, ComesTidy}
+use Rattle.nx_hold.specs.Pieces.{MayName}
+use Rattle.nx_hold.specs.Changes.{place_of, piece_needs, AddsPiece, ComesTidyWhere}
 use Rattle.nx_hold.specs.Putting.{PutsProxies}
-use Rattle.nx_hold.proofs.CallLemmas.{added, added_free, add_refused, bytes_refused}
+use Rattle.nx_hold.proofs.CallLemmas.{added, added_alone, added_free, add_refused, bytes_refused}
 use Rattle.nx_hold.proofs.RefusalLemmas.{GoesOn, reads_on, runs_then, saved_then}
 use Rattle.nx_hold.proofs.pieces.add_piece.Goals as goal
 
@@ -32,8 +33,15 @@ returns-in_err-rid-clause-refused g c =
 
 pub returns-clause-ok : goal.returns-clause-ok
 returns-clause-ok g c =
-    subst (λ (p : RecordPlace). ComesTidy g.D.Disk c.args.records.now c.add.new.self c.args.disk.now c.add.new.disk (λ was now. AddsPiece p c.args.piece.now was now)) (sym c.proxy_of.ensures.place)
-    (added {d = g.D.Disk} {r0 = c.args.records.now} {r1 = c.record_bytes.new.records} {r2 = c.add.new.self} {x0 = c.args.disk.now} {x1 = c.record_bytes.new.disk} {x2 = c.add.new.disk} c.args.piece.now c.in_ok-bytes.bytes (place_of c.in_ok-rid.rid) c.requires
+    subst (λ (p : RecordPlace). ComesTidyWhere g.D.Disk c.args.records.now c.add.new.self c.args.disk.now c.add.new.disk (λ was. MayName was c.args.piece.now.body.roots) (λ was now. AddsPiece p c.args.piece.now was now)) (sym c.proxy_of.ensures.place)
+    (added {d = g.D.Disk} {r0 = c.args.records.now} {r1 = c.record_bytes.new.records} {r2 = c.add.new.self} {x0 = c.args.disk.now} {x1 = c.record_bytes.new.disk} {x2 = c.add.new.disk} c.args.piece.now c.in_ok-bytes.bytes (place_of c.in_ok-rid.rid) c.requires.valid
+    c.in_ok-bytes.ensures.ok
+    (subst (λ (l : List ℕ). ComesTo g.D.Disk c.record_bytes.new.records c.add.new.self c.record_bytes.new.disk c.add.new.disk (λ was now. AddsRecord c.in_ok-rid.rid.page c.in_ok-rid.rid.slot l was now)) c.as_slice.ensures c.in_ok-rid.ensures.ok))
+
+pub returns-clause-adds : goal.returns-clause-adds
+returns-clause-adds g c =
+    subst (λ (p : RecordPlace). ComesTo g.D.Disk c.args.records.now c.add.new.self c.args.disk.now c.add.new.disk (λ was now. AddsPiece p c.args.piece.now was now)) (sym c.proxy_of.ensures.place)
+    (added_alone {d = g.D.Disk} {r0 = c.args.records.now} {r1 = c.record_bytes.new.records} {r2 = c.add.new.self} {x0 = c.args.disk.now} {x1 = c.record_bytes.new.disk} {x2 = c.add.new.disk} c.args.piece.now c.in_ok-bytes.bytes (place_of c.in_ok-rid.rid) c.requires.valid
     c.in_ok-bytes.ensures.ok
     (subst (λ (l : List ℕ). ComesTo g.D.Disk c.record_bytes.new.records c.add.new.self c.record_bytes.new.disk c.add.new.disk (λ was now. AddsRecord c.in_ok-rid.rid.page c.in_ok-rid.rid.slot l was now)) c.as_slice.ensures c.in_ok-rid.ensures.ok))
 

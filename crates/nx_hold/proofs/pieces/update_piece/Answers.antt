@@ -8,8 +8,8 @@ use Rattle.nx_records.specs.Refusals.{NotStored}
 use Rattle.nx_records.proofs.RefusalLemmas.{err_passed}
 use Rattle.nx_layouts.specs.Layout.{RecordPlace}
 use Rattle.nx_piece.specs.Viewing.{seen_stored}
-use Rattle.nx_hold.specs.Pieces.{HoldsNone, IsStored}
-use Rattle.nx_hold.specs.Changes.{place_of, piece_needs, UpdatesPiece, ComesOwn, ComesTidy}
+use Rattle.nx_hold.specs.Pieces.{HoldsNone, IsStored, MayName}
+use Rattle.nx_hold.specs.Changes.{place_of, piece_needs, UpdatesPiece, ComesOwn, ComesTidyWhere}
 use Rattle.nx_hold.proofs.CallLemmas.{putting, updating, updated, updated_tidy, bytes_refused, update_refused, free_refused, kept_own, kept_refused, IsPutting, IsUpdating, IsReading}
 use Rattle.nx_hold.proofs.RefusalLemmas.{GoesOn, reads_on, read_changed, change_stored, runs_then, saved_then}
 use Rattle.nx_hold.proofs.pieces.update_piece.Goals as goal
@@ -45,7 +45,7 @@ pub returns-in-Some-clause-ok : goal.returns-in-Some-clause-ok
 returns-in-Some-clause-ok g c =
     let reads : GoesOn g.D.Disk c.args.records.now c.viewed_at.new.records c.args.disk.now c.viewed_at.new.disk (IsReading (place_of c.args.rid) (seen_stored c.in_ok-old.old)) =
     reads_on {r0 = c.args.records.now} {r1 = c.viewed_at.new.records} (λ held. IsStored held (place_of c.args.rid) (seen_stored c.in_ok-old.old)) c.in_ok-old.ensures.ok.0 c.in_ok-old.ensures.ok.1 c.viewed_at.ensures.still c.in_ok-old.ensures.ok.4 in
-    subst (λ (p : RecordPlace). ComesTidy g.D.Disk c.args.records.now c.update_on_list.new.records c.args.disk.now c.update_on_list.new.disk (λ was now. UpdatesPiece (place_of c.args.rid) p c.args.piece.now was now)) (sym c.proxy_of.ensures.place)
+    subst (λ (p : RecordPlace). ComesTidyWhere g.D.Disk c.args.records.now c.update_on_list.new.records c.args.disk.now c.update_on_list.new.disk (λ was. MayName was c.args.piece.now.body.roots) (λ was now. UpdatesPiece (place_of c.args.rid) p c.args.piece.now was now)) (sym c.proxy_of.ensures.place)
     (updated_tidy {d = g.D.Disk} {r0 = c.args.records.now} {r2 = c.update_on_list.new.records} {x0 = c.args.disk.now} {x2 = c.update_on_list.new.disk} (place_of c.args.rid) (place_of c.in_ok-kept.kept) c.args.piece.now
     (kept_own {d = g.D.Disk} {r0 = c.args.records.now} {r1 = c.viewed_at.new.records} {r2 = c.update_on_list.new.records} {x0 = c.args.disk.now} {x1 = c.viewed_at.new.disk} {x2 = c.update_on_list.new.disk} (place_of c.args.rid) (place_of c.in_ok-kept.kept)
     c.args.piece.now (seen_stored c.in_ok-old.old) c.in-Some.list.count c.in-Some.list.chain c.in-Some.ensures.names reads c.in_ok-kept.ensures.ok))
@@ -124,7 +124,7 @@ returns-clause-own g c =
     subst (λ (p : RecordPlace). ComesOwn g.D.Disk c.args.records.now c.free_proxies.new.records c.args.disk.now c.free_proxies.new.disk (place_of c.args.rid) (λ was now. UpdatesPiece (place_of c.args.rid) p c.args.piece.now was now))
     (sym c.proxy_of-2.ensures.place)
     (updated {d = g.D.Disk} {r0 = c.args.records.now} {r1 = c.update.new.self} {r2 = c.free_proxies.new.records} {x0 = c.args.disk.now} {x1 = c.update.new.disk} {x2 = c.free_proxies.new.disk} (place_of c.args.rid) (place_of c.in_ok-place.place) c.args.piece.now
-    c.in_ok-bytes.bytes (seen_stored c.in_ok-old.old) c.requires updates.comes c.in_ok-free_proxies.ensures.ok)
+    c.in_ok-bytes.bytes (seen_stored c.in_ok-old.old) c.requires.valid updates.comes c.in_ok-free_proxies.ensures.ok)
 
 pub returns-clause-ok : goal.returns-clause-ok
 returns-clause-ok g c =
@@ -141,10 +141,10 @@ returns-clause-ok g c =
       comes = subst (λ (l : List ℕ). ComesTo g.D.Disk c.record_bytes.new.records c.update.new.self c.record_bytes.new.disk c.update.new.disk
           (λ was now. UpdatesRecord c.args.rid.page c.args.rid.slot l c.in_ok-place.place.page c.in_ok-place.place.slot was now)) c.as_slice.ensures c.in_ok-place.ensures.ok;
     }) in
-    subst (λ (p : RecordPlace). ComesTidy g.D.Disk c.args.records.now c.free_proxies.new.records c.args.disk.now c.free_proxies.new.disk (λ was now. UpdatesPiece (place_of c.args.rid) p c.args.piece.now was now)) (sym c.proxy_of-2.ensures.place)
+    subst (λ (p : RecordPlace). ComesTidyWhere g.D.Disk c.args.records.now c.free_proxies.new.records c.args.disk.now c.free_proxies.new.disk (λ was. MayName was c.args.piece.now.body.roots) (λ was now. UpdatesPiece (place_of c.args.rid) p c.args.piece.now was now)) (sym c.proxy_of-2.ensures.place)
     (updated_tidy {d = g.D.Disk} {r0 = c.args.records.now} {r2 = c.free_proxies.new.records} {x0 = c.args.disk.now} {x2 = c.free_proxies.new.disk} (place_of c.args.rid) (place_of c.in_ok-place.place) c.args.piece.now
     (updated {d = g.D.Disk} {r0 = c.args.records.now} {r1 = c.update.new.self} {r2 = c.free_proxies.new.records} {x0 = c.args.disk.now} {x1 = c.update.new.disk} {x2 = c.free_proxies.new.disk} (place_of c.args.rid) (place_of c.in_ok-place.place) c.args.piece.now
-    c.in_ok-bytes.bytes (seen_stored c.in_ok-old.old) c.requires updates.comes c.in_ok-free_proxies.ensures.ok))
+    c.in_ok-bytes.bytes (seen_stored c.in_ok-old.old) c.requires.valid updates.comes c.in_ok-free_proxies.ensures.ok))
 
 pub returns-clause-keeps : goal.returns-clause-keeps
 returns-clause-keeps g c =
