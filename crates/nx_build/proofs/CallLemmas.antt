@@ -1,5 +1,5 @@
 -- Calls that put records, one after the other.
-use Rattle.std.proofs.Common.{◌≡◌, ℕ, ◌+◌, ◌≤◌, ◌<◌, false, refl, arith}
+use Rattle.std.proofs.Common.{◌≡◌, ℕ, ◌+◌, ◌≤◌, ◌<◌, false, Option, refl, arith}
 use Rattle.nx_host.specs.declared.disk.Disk.{Ghosts}
 use Rattle.nx_host.specs.Still.{IsStill}
 use Rattle.nx_host.proofs.DiskLemmas.{none_still, still_then}
@@ -9,15 +9,17 @@ use Rattle.nx_records.specs.declared.error.StoreError.{StoreError}
 use Rattle.nx_records.specs.declared.error.StoreError.TheVariants as error
 use Rattle.nx_records.specs.Records.{has_ended, KeepsSaved, ComesTo}
 use Rattle.nx_records.specs.Refusals.{RunsOn, NotStored}
-use Rattle.nx_cuts.specs.Cut.{Bare, Grown, Kept}
-use Rattle.nx_layouts.specs.Layout.{RecordPlace, Layout, piece_of}
-use Rattle.nx_layouts.specs.Replace.{joined_layout}
-use Rattle.nx_hold.specs.Changes.{piece_needs, AddsPiece, ComesTidy}
+use Rattle.nx_piece.specs.PieceNode.{PieceNode}
+use Rattle.nx_piece.specs.Valid.{AreFar, AreNear}
+use Rattle.nx_cuts.specs.Cut.{Bare, Kept}
+use Rattle.nx_layouts.specs.Layout.{RecordPlace, Layout, in_record, piece_body, piece_of}
+use Rattle.nx_hold.specs.Pieces.{MayName}
+use Rattle.nx_hold.specs.Contents.{content_pages, IsNodeHeld}
+use Rattle.nx_hold.specs.Changes.{piece_needs, AddsPiece, ComesTidyWhere}
 use Rattle.nx_records.proofs.LeaveLemmas.{leaves_same, leaves_runs, leaves_saved}
 use Rattle.nx_hold.proofs.RefusalLemmas.{GoesOn, runs_then, saved_then, comes_then, later_stored}
-use Rattle.nx_build.specs.Laying.{page_needs, HasPutLayout}
-use Rattle.nx_build.proofs.RowLemmas.{needs-joined, length-proxies, piece_few}
-use Rattle.nx_build.proofs.LayingLemmas.{puts_none, puts_both, puts_grown, puts_kept}
+use Rattle.nx_build.specs.Laying.{laid_needs, HasPutLayout}
+use Rattle.nx_build.proofs.LayingLemmas.{IsBothOf, alone, may_name, puts_none, puts_both, puts_node, node_takes, needs_kept, puts_kept}
 
 free_both : (was mid now a b all : ℕ) → was ≤ mid + a → mid ≤ now + b → a + b ≤ all → was ≤ now + all
 free_both was mid now a b all one two most = omega (arith, one, two, most)
@@ -25,9 +27,11 @@ free_both was mid now a b all one two most = omega (arith, one, two, most)
 few_then : (was mid a more needs : ℕ) → was ≤ mid + a → mid < more → a + more ≤ needs → was < needs
 few_then was mid a more needs free few most = omega (arith, free, few, most)
 
--- the record of a piece takes a page, and one for each proxy
-pub needs_kept : (place : RecordPlace) (members : Layout) → page_needs members + piece_needs (piece_of members) ≤ page_needs (Kept place members Bare)
-needs_kept place members = omega (arith, piece_few (piece_of members), length-proxies members)
+both_most : (a b all : ℕ) → all ≡ a + b → a + b ≤ all
+both_most a b all e = omega (arith, e)
+
+more_pages : (was now pages : ℕ) → was ≤ now + pages → was ≤ now + (pages + 0 + 0)
+more_pages was now pages h = omega (arith, h)
 
 module _ {D : Type 0} {d : Ghosts D} where
   pub laid_none : (r : Records) (x : D) → has_ended r ≡ false → HasPutLayout d r r x x Bare
@@ -39,49 +43,56 @@ module _ {D : Type 0} {d : Ghosts D} where
     puts = λ saved now stands tidy. (now, stands, tidy, puts_none now);
   }
 
-  pub laid_both : {r0 r1 r2 : Records} {x0 x1 x2 : D} (a b : Layout) → HasPutLayout d r0 r1 x0 x1 a → HasPutLayout d r1 r2 x1 x2 b → HasPutLayout d r0 r2 x0 x2 (joined_layout a b)
-  laid_both {r0} {r1} {r2} {x0} {x1} {x2} a b one two = record {
+  -- the records of two rows, one behind the other
+  pub laid_both : {r0 r1 r2 : Records} {x0 x1 x2 : D} {a b whole : Layout} → IsBothOf a b whole → HasPutLayout d r0 r1 x0 x1 a → HasPutLayout d r1 r2 x1 x2 b → HasPutLayout d r0 r2 x0 x2 whole
+  laid_both {r0} {r1} {r2} {x0} {x1} {x2} {a} {b} {whole} s one two = record {
     runs = runs_then {r0 = r0} {r1 = r1} {r2 = r2} one.runs two.runs;
     keeps = saved_then {d = d} {r0 = r0} {r1 = r1} {r2 = r2} one.keeps two.keeps;
     still = still_then one.still two.still;
-    takes = comes_then {r0 = r0} {r1 = r1} {r2 = r2} (λ was now. was.free ≤ now.free + page_needs (joined_layout a b)) one.takes two.takes
-        (λ was mid now first later. free_both was.free mid.free now.free (page_needs a) (page_needs b) (page_needs (joined_layout a b)) first later (omega (arith, needs-joined a b)));
+    takes = comes_then {r0 = r0} {r1 = r1} {r2 = r2} (λ was now. was.free ≤ now.free + laid_needs whole) one.takes two.takes
+        (λ was mid now first later. free_both was.free mid.free now.free (laid_needs a) (laid_needs b) (laid_needs whole) first later (both_most (laid_needs a) (laid_needs b) (laid_needs whole) s.needs));
     puts = λ saved was stands tidy.
         let mid = one.puts saved was stands tidy in
         let now = two.puts saved mid.0 mid.1 mid.2 in
-        (now.0, now.1, now.2, puts_both a b was mid.0 now.0 mid.3 now.3);
+        (now.0, now.1, now.2, puts_both s was mid.0 now.0 mid.2 mid.3 now.3);
   }
 
-  pub laid_grown : {r0 r1 : Records} {x0 x1 : D} (node : Node) (below : Layout) → HasPutLayout d r0 r1 x0 x1 below → HasPutLayout d r0 r1 x0 x1 (Grown node below Bare)
-  laid_grown node below laid = record {
-    runs = laid.runs;
-    keeps = laid.keeps;
-    still = laid.still;
-    takes = λ saved was stands. let now = laid.takes saved was stands in (now.0, now.1, free_both was.free (now.0).free (now.0).free (page_needs below) 0 (page_needs below + 0) now.2 (omega arith) (omega arith));
-    puts = λ saved was stands tidy. let now = laid.puts saved was stands tidy in (now.0, now.1, now.2, puts_grown node below was now.0 now.3);
+  -- a node whose content is held
+  pub laid_node : {r0 r1 : Records} {x0 x1 : D} (node : Node) (made : PieceNode) (list : Option ℕ) → made ≡ in_record (record { node = node; list = list }) → RunsOn r0 r1 → KeepsSaved d r0 r1 x0 x1 → IsStill d x0 x1
+      → ComesTo d r0 r1 x0 x1 (λ was now. IsNodeHeld node made was now) → HasPutLayout d r0 r1 x0 x1 (alone node list)
+  laid_node node made list is runs keeps still comes = record {
+    runs = runs;
+    keeps = keeps;
+    still = still;
+    takes = λ saved was stands.
+        let now = comes saved was stands in
+        (now.0, now.1, more_pages was.free (now.0).free (content_pages node) (node_takes node made was now.0 now.2));
+    puts = λ saved was stands tidy.
+        let now = comes saved was stands in
+        let puts = puts_node node made list was now.0 is tidy now.2 in
+        (now.0, now.1, puts.0, puts.1);
   }
 
-  pub laid_kept : {r0 r1 r2 : Records} {x0 x1 x2 : D} (place : RecordPlace) (members : Layout) → HasPutLayout d r0 r1 x0 x1 members → RunsOn r1 r2 → KeepsSaved d r1 r2 x1 x2 → IsStill d x1 x2
-      → ComesTo d r1 r2 x1 x2 (λ was now. was.free ≤ now.free + piece_needs (piece_of members)) → ComesTidy d r1 r2 x1 x2 (λ was now. AddsPiece place (piece_of members) was now) → HasPutLayout d r0 r2 x0 x2 (Kept place members Bare)
-  laid_kept {r0} {r1} {r2} {x0} {x1} {x2} place members one runs keeps still takes adds = record {
+  -- the record of an interval, behind those of all below it
+  pub laid_kept : {r0 r1 r2 : Records} {x0 x1 x2 : D} (place : RecordPlace) (members : Layout) → AreNear (piece_body members) → AreFar (piece_body members) → HasPutLayout d r0 r1 x0 x1 members → RunsOn r1 r2 → KeepsSaved d r1 r2 x1 x2 → IsStill d x1 x2
+      → ComesTo d r1 r2 x1 x2 (λ was now. was.free ≤ now.free + piece_needs (piece_of members))
+      → ComesTidyWhere d r1 r2 x1 x2 (λ was. MayName was (piece_body members)) (λ was now. AddsPiece place (piece_of members) was now) → HasPutLayout d r0 r2 x0 x2 (Kept place members Bare)
+  laid_kept {r0} {r1} {r2} {x0} {x1} {x2} place members near far one runs keeps still takes adds = record {
     runs = runs_then {r0 = r0} {r1 = r1} {r2 = r2} one.runs runs;
     keeps = saved_then {d = d} {r0 = r0} {r1 = r1} {r2 = r2} one.keeps keeps;
     still = still_then one.still still;
-    takes = comes_then {r0 = r0} {r1 = r1} {r2 = r2} (λ was now. was.free ≤ now.free + page_needs (Kept place members Bare)) one.takes takes
-        (λ was mid now first later. free_both was.free mid.free now.free (page_needs members) (piece_needs (piece_of members)) (page_needs (Kept place members Bare)) first later (needs_kept place members));
+    takes = comes_then {r0 = r0} {r1 = r1} {r2 = r2} (λ was now. was.free ≤ now.free + laid_needs (Kept place members Bare)) one.takes takes
+        (λ was mid now first later. free_both was.free mid.free now.free (laid_needs members) (piece_needs (piece_of members)) (laid_needs (Kept place members Bare)) first later (needs_kept place members));
     puts = λ saved was stands tidy.
         let mid = one.puts saved was stands tidy in
-        let now = adds saved mid.0 mid.1 mid.2 in
-        (now.0, now.1, now.2, puts_kept place members was mid.0 now.0 mid.3 now.3);
+        let now = adds saved mid.0 mid.1 mid.2 (may_name members was mid.0 mid.3) in
+        (now.0, now.1, now.2, puts_kept place members was mid.0 now.0 mid.2 near far mid.3 now.3);
   }
 
   -- a call that may need so many pages gave up behind those that put records
-  pub laid_refused : {r0 r1 : Records} {x0 x1 : D} (a : Layout) (r2 : Records) (x2 : D) (more needs : ℕ) → HasPutLayout d r0 r1 x0 x1 a → page_needs a + more ≤ needs → (e : StoreError) → NotStored d (λ was. more) (λ was. ⊥) 0 e r1 r2 x1 x2
+  pub laid_refused : {r0 r1 : Records} {x0 x1 : D} (a : Layout) (r2 : Records) (x2 : D) (more needs : ℕ) → HasPutLayout d r0 r1 x0 x1 a → laid_needs a + more ≤ needs → (e : StoreError) → NotStored d (λ was. more) (λ was. ⊥) 0 e r1 r2 x1 x2
       → NotStored d (λ was. needs) (λ was. ⊥) 0 e r0 r2 x0 x2
   laid_refused {r0} {r1} {x0} {x1} a r2 x2 more needs laid most e refused =
-      let goes : GoesOn d r0 r1 x0 x1 (λ was now. was.free ≤ now.free + page_needs a) = record { runs = laid.runs; keeps = laid.keeps; still = laid.still; comes = laid.takes } in
+      let goes : GoesOn d r0 r1 x0 x1 (λ was now. was.free ≤ now.free + laid_needs a) = record { runs = laid.runs; keeps = laid.keeps; still = laid.still; comes = laid.takes } in
       later_stored {d = d} {r0 = r0} {r1 = r1} {x0 = x0} {x1 = x1} goes (λ was. ⊥) (λ was. ⊥) 0 (λ was mid free bad. bad) r2 x2 (λ was. more) (λ was. needs)
-      (λ was mid free few. few_then was.free mid.free (page_needs a) more needs free few most) e refused
-
-  pub laid_memory : {r0 r1 : Records} {x0 x1 : D} (a : Layout) (needs : ℕ) → HasPutLayout d r0 r1 x0 x1 a → NotStored d (λ was. needs) (λ was. ⊥) 0 error.Memory r0 r1 x0 x1
-  laid_memory a needs laid = (laid.runs, laid.keeps)
+      (λ was mid free few. few_then was.free mid.free (laid_needs a) more needs free few most) e refused

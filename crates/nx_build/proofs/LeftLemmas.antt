@@ -1,8 +1,9 @@
 -- Trees that are left of others.
-use Rattle.std.proofs.Common.{◌≡◌, ℕ, zero, suc, ◌+◌, ◌-◌, ◌≤◌, ◌<◌, List, [], ◌∷◌, length, take, drop, length-drop, refl, sym, ap, ◌∙◌, arith}
+use Rattle.std.proofs.Common.{◌≡◌, ℕ, zero, suc, ◌+◌, ◌-◌, ◌≤◌, ◌<◌, List, [], ◌∷◌, length, take, drop, length-drop, refl, sym, ap, ◌∙◌, subst, arith}
 use Rattle.std.proofs.lemmas.List.{drop-drop}
 use Rattle.nx_tree.specs.Forest.{OrderedTree, forest_of, nodes}
 use Rattle.nx_tree.specs.Document.{depth}
+use Rattle.nx_weights.specs.Weight.{IsShort, AreShort}
 
 nodes-drop : (n : ℕ) (ts : List OrderedTree) → nodes (forest_of (drop n ts)) ≤ nodes (forest_of ts)
 nodes-drop zero ts = omega arith
@@ -18,6 +19,11 @@ nodes-take : (n : ℕ) (ts : List OrderedTree) → nodes (forest_of (take n ts))
 nodes-take zero ts = omega arith
 nodes-take (suc n) [] = omega arith
 nodes-take (suc n) (t ∷ ts) = omega (arith, nodes-take n ts)
+
+short-drop : (n : ℕ) (ts : List OrderedTree) → AreShort (forest_of ts) → AreShort (forest_of (drop n ts))
+short-drop zero ts short = short
+short-drop (suc n) [] short = short
+short-drop (suc n) (t ∷ ts) short = short-drop n ts short.2
 
 -- the first trees have few nodes where all have
 pub first_few : (n : ℕ) (trees : List OrderedTree) → nodes (forest_of trees) ≤ 524288 → nodes (forest_of (take n trees)) ≤ 524288
@@ -39,6 +45,9 @@ module _ (trees left : List OrderedTree) (position : ℕ) (are : left ≡ drop p
 
   pub few_left : nodes (forest_of trees) ≤ 524288 → nodes (forest_of left) ≤ 524288
   few_left few = omega (arith, few, left_nodes, nodes-drop position trees)
+
+  pub short_left : AreShort (forest_of trees) → AreShort (forest_of left)
+  short_left short = subst (λ (l : List OrderedTree). AreShort (forest_of l)) (sym are) (short-drop position trees short)
 
   pub depth_left : depth (forest_of left) ≤ depth (forest_of trees)
   depth_left = omega (arith, left_depth, depth-drop position trees)
@@ -63,6 +72,9 @@ module _ (trees left : List OrderedTree) (position : ℕ) (are : left ≡ drop p
     next_few few =
         let first : nodes (forest_of left) ≡ 1 + nodes t.below + nodes (forest_of others) = ap (λ (l : List OrderedTree). nodes (forest_of l)) next in
         omega (arith, few, first, left_nodes, nodes-drop position trees)
+
+    pub next_short : AreShort (forest_of trees) → IsShort t.node × AreShort t.below
+    next_short short = let all = subst (λ (l : List OrderedTree). AreShort (forest_of l)) next (short_left short) in (all.0, all.1)
 
     pub next_depth : 1 + depth t.below ≤ depth (forest_of trees)
     next_depth =

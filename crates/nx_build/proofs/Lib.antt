@@ -8,4 +8,5 @@ pub mod GapLemmas
 pub mod LeftLemmas
 pub mod WalkLemmas
 pub mod StepLemmas
+pub mod TreeLemmas
 pub mod StoreLemmas

@@ -16,15 +16,17 @@ use Rattle.nx_piece.specs.declared.piece.Item.TheVariants.{Tree}
 use Rattle.nx_piece.specs.declared.piece.Piece.{Piece}
 use Rattle.nx_piece.specs.declared.piece.Proxy.{Proxy}
 use Rattle.nx_piece.specs.Gapped as gapped
-use Rattle.nx_piece.specs.Gapped.{Gapped, GappedTree, End, proxies_in}
+use Rattle.nx_piece.specs.Gapped.{Gapped, GappedTree, End, Grow, proxies_in}
 use Rattle.nx_piece.specs.Items.{gapped_of, with_last_tree}
-use Rattle.nx_piece.specs.Valid.{IsValidPiece}
+use Rattle.nx_piece.specs.Valid.{AreFar, AreNear, IsValidPiece}
 use Rattle.nx_piece.proofs.GappedLemmas.{gapped_of-push}
 use Rattle.nx_cuts.specs.Cut.{CutForest, Bare, Grown, Kept, width, AreFree}
-use Rattle.nx_layouts.specs.Layout.{without_places, piece_of}
-use Rattle.nx_hold.specs.Changes.{place_named, piece_needs, AddsPiece, ComesTidy}
+use Rattle.nx_layouts.specs.Layout.{without_places, piece_body, piece_of}
+use Rattle.nx_hold.specs.Pieces.{MayName}
+use Rattle.nx_hold.specs.Contents.{content_pages}
+use Rattle.nx_hold.specs.Changes.{place_named, piece_needs, AddsPiece, ComesTidyWhere}
 use Rattle.nx_build.specs.Marked.{IsMarked, AreMembers, CanMark, CanHold}
-use Rattle.nx_build.specs.Laying.{proxy_count, page_needs, LaysTrees, LaysMembers}
+use Rattle.nx_build.specs.Laying.{proxy_count, drawn_needs, LaysTrees, LaysMembers}
 use Rattle.nx_build.specs.Rows.{with_proxy}
 use Rattle.nx_build.proofs.RowLemmas.{joined_cut, last_tree}
 use Rattle.nx_build.proofs.MarkedLemmas.{BeginsGrown, BeginsKept, marked_same, free_begins, none_begins, begins_kept, members_end_is}
@@ -89,13 +91,14 @@ module _ {D : Type 0} {d : Ghosts D} (marks : List Mark) {position : ℕ} {trees
     pub tree_can : CanMark (holder_by_marks below) 0 t.below
     tree_can = (next_tree.below, tree_marked)
 
-    pub tree_not : (r2 : Records) (x2 : D) (e : StoreError) → ((c : CutForest) → IsMarked None (holder_by_marks below) 0 t.below c → NotStored d (λ was. page_needs c) (λ was. ⊥) 0 e r1 r2 x1 x2)
-        → NotStored d (λ was. page_needs drawn) (λ was. ⊥) 0 e r0 r2 x0 x2
+    pub tree_not : (r2 : Records) (x2 : D) (e : StoreError) → ((c : CutForest) → IsMarked None (holder_by_marks below) 0 t.below c → NotStored d (λ was. content_pages t.node + drawn_needs c) (λ was. ⊥) 0 e r1 r2 x1 x2)
+        → NotStored d (λ was. drawn_needs drawn) (λ was. ⊥) 0 e r0 r2 x0 x2
     tree_not r2 x2 e refused = tree_refused w t others next_tree r2 x2 e (refused next_tree.below tree_marked)
 
-    module _ {r2 : Records} {x2 : D} (made : GappedTree) (more : List Proxy) (node : made.node ≡ t.node) (lays : (c : CutForest) → IsMarked None (holder_by_marks below) 0 t.below c → LaysTrees d r1 r2 x1 x2 c made.below has more) where
+    module _ {r2 : Records} {x2 : D} (made : GappedTree) (more : List Proxy)
+        (lays : (c : CutForest) → IsMarked None (holder_by_marks below) 0 t.below c → LaysTrees d r1 r2 x1 x2 (Grown t.node c Bare) (Grow made.node made.below End) has more) where
       pub tree_laid : WalksOn d None (holder_by_marks marks) (position + 1) others drawn r0 r2 x0 x2 (with_last_tree body made) had more
-      tree_laid = walk_tree w t others made more next_tree node (lays next_tree.below tree_marked)
+      tree_laid = walk_tree w t others made more next_tree (lays next_tree.below tree_marked)
 
       pub tree_memory : RunsOn r0 r2 × KeepsSaved d r0 r2 x0 x2
       tree_memory = ((tree_laid.laid).runs, (tree_laid.laid).keeps)
@@ -121,8 +124,8 @@ module _ {D : Type 0} {d : Ghosts D} (marks : List Mark) {position : ℕ} {trees
     interval_can = (next_interval.members, interval_members)
 
     pub interval_not : (r2 : Records) (x2 : D) (e : StoreError)
-        → ((c : CutForest) → AreMembers (holder_by_marks marks) position (forest_of (take (end - position) trees)) c → NotStored d (λ was. 1 + proxy_count c + page_needs c) (λ was. ⊥) 0 e r1 r2 x1 x2)
-        → NotStored d (λ was. page_needs drawn) (λ was. ⊥) 0 e r0 r2 x0 x2
+        → ((c : CutForest) → AreMembers (holder_by_marks marks) position (forest_of (take (end - position) trees)) c → NotStored d (λ was. 1 + proxy_count c + drawn_needs c) (λ was. ⊥) 0 e r1 r2 x1 x2)
+        → NotStored d (λ was. drawn_needs drawn) (λ was. ⊥) 0 e r0 r2 x0 x2
     interval_not r2 x2 e refused = interval_refused w next_interval r2 x2 e (refused next_interval.members interval_members)
 
     pub interval_room : (all : Forest) → IsMarked None (holder_by_marks marks) 0 all drawn → nodes all ≤ 524288 → proxies_in body < 524288
@@ -160,16 +163,17 @@ module _ {D : Type 0} {d : Ghosts D} (marks : List Mark) {index position : ℕ} 
     pub member_can : CanMark (holder_by_marks below) 0 t.below
     member_can = (next_member.below, member_marked)
 
-    needs_more : page_needs members ≤ 1 + proxy_count members + page_needs members
+    needs_more : drawn_needs members ≤ 1 + proxy_count members + drawn_needs members
     needs_more = omega arith
 
-    pub member_not : (r2 : Records) (x2 : D) (e : StoreError) → ((c : CutForest) → IsMarked None (holder_by_marks below) 0 t.below c → NotStored d (λ was. page_needs c) (λ was. ⊥) 0 e r1 r2 x1 x2)
-        → NotStored d (λ was. 1 + proxy_count members + page_needs members) (λ was. ⊥) 0 e r0 r2 x0 x2
-    member_not r2 x2 e refused = needs_fewer d r0 r2 x0 x2 (page_needs members) (1 + proxy_count members + page_needs members) needs_more e (tree_refused w t others next_member r2 x2 e (refused next_member.below member_marked))
+    pub member_not : (r2 : Records) (x2 : D) (e : StoreError) → ((c : CutForest) → IsMarked None (holder_by_marks below) 0 t.below c → NotStored d (λ was. content_pages t.node + drawn_needs c) (λ was. ⊥) 0 e r1 r2 x1 x2)
+        → NotStored d (λ was. 1 + proxy_count members + drawn_needs members) (λ was. ⊥) 0 e r0 r2 x0 x2
+    member_not r2 x2 e refused = needs_fewer d r0 r2 x0 x2 (drawn_needs members) (1 + proxy_count members + drawn_needs members) needs_more e (tree_refused w t others next_member r2 x2 e (refused next_member.below member_marked))
 
-    module _ {r2 : Records} {x2 : D} (made : GappedTree) (more : List Proxy) (node : made.node ≡ t.node) (lays : (c : CutForest) → IsMarked None (holder_by_marks below) 0 t.below c → LaysTrees d r1 r2 x1 x2 c made.below has more) where
+    module _ {r2 : Records} {x2 : D} (made : GappedTree) (more : List Proxy)
+        (lays : (c : CutForest) → IsMarked None (holder_by_marks below) 0 t.below c → LaysTrees d r1 r2 x1 x2 (Grown t.node c Bare) (Grow made.node made.below End) has more) where
       pub member_laid : WalksOn d (Some index) (holder_by_marks marks) (position + 1) others members r0 r2 x0 x2 (with_last_tree roots made) [] more
-      member_laid = walk_tree w t others made more next_member node (lays next_member.below member_marked)
+      member_laid = walk_tree w t others made more next_member (lays next_member.below member_marked)
 
       pub member_memory : RunsOn r0 r2 × KeepsSaved d r0 r2 x0 x2
       member_memory = ((member_laid.laid).runs, (member_laid.laid).keeps)
@@ -182,31 +186,40 @@ module _ {D : Type 0} {d : Ghosts D} (marks : List Mark) {index position : ℕ} 
     gathered_is : gathered roots has ≡ piece_of all_members.layout
     gathered_is = piece_is all_members.layout roots has all_members.body_is all_members.proxies_are
 
-    pub piece_can : (first : ℕ) (all : Forest) → AreMembers (holder_by_marks marks) first all members → nodes all ≤ 524288 → IsValidPiece (gathered roots has)
-    piece_can first all m few = subst IsValidPiece (sym gathered_is) (members_valid (holder_by_marks marks) first all members all_members.layout m all_members.same few)
+    pub gathered_near : AreNear roots
+    gathered_near = all_members.near
 
-    pub piece_not : (r2 : Records) (x2 : D) (e : StoreError) → NotStored d (λ was. piece_needs (gathered roots has)) (λ was. ⊥) 0 e r1 r2 x1 x2 → NotStored d (λ was. 1 + proxy_count members + page_needs members) (λ was. ⊥) 0 e r0 r2 x0 x2
+    layout_near : AreNear (piece_body all_members.layout)
+    layout_near = subst AreNear all_members.body_is all_members.near
+
+    layout_far : AreFar (piece_body all_members.layout)
+    layout_far = subst AreFar all_members.body_is all_members.far
+
+    pub piece_can : (first : ℕ) (all : Forest) → AreMembers (holder_by_marks marks) first all members → nodes all ≤ 524288 → IsValidPiece (gathered roots has)
+    piece_can first all m few = subst IsValidPiece (sym gathered_is) (members_valid (holder_by_marks marks) first all members all_members.layout m all_members.same layout_near layout_far few)
+
+    pub piece_not : (r2 : Records) (x2 : D) (e : StoreError) → NotStored d (λ was. piece_needs (gathered roots has)) (λ was. ⊥) 0 e r1 r2 x1 x2 → NotStored d (λ was. 1 + proxy_count members + drawn_needs members) (λ was. ⊥) 0 e r0 r2 x0 x2
     piece_not r2 x2 e refused =
         members_refused {d = d} {r0 = r0} {r1 = r1} {x0 = x0} {x1 = x1} members all_members.layout r2 x2 e all_members.same all_members.laid
         (subst (λ (p : Piece). NotStored d (λ was. piece_needs p) (λ was. ⊥) 0 e r1 r2 x1 x2) gathered_is refused)
 
     pub piece_laid : (proxy : Proxy) (r2 : Records) (x2 : D) → AreFree members → proxy.roots ≡ gapped.gapped_width roots → RunsOn r1 r2 → KeepsSaved d r1 r2 x1 x2 → IsStill d x1 x2
-        → ComesTo d r1 r2 x1 x2 (λ was now. was.free ≤ now.free + piece_needs (gathered roots has)) → ComesTidy d r1 r2 x1 x2 (λ was now. AddsPiece (place_named proxy) (gathered roots has) was now) → LaysMembers d r0 r2 x0 x2 members proxy
+        → ComesTo d r1 r2 x1 x2 (λ was now. was.free ≤ now.free + piece_needs (gathered roots has)) → ComesTidyWhere d r1 r2 x1 x2 (λ was. MayName was roots) (λ was now. AddsPiece (place_named proxy) (gathered roots has) was now) → LaysMembers d r0 r2 x0 x2 members proxy
     piece_laid proxy r2 x2 free width runs keeps still takes adds =
-        lays_members {d = d} {r0 = r0} {r1 = r1} {r2 = r2} {x0 = x0} {x1 = x1} {x2 = x2} members all_members.layout proxy all_members.same all_members.laid (width ∙ ap gapped.gapped_width all_members.body_is) free runs keeps still
+        lays_members {d = d} {r0 = r0} {r1 = r1} {r2 = r2} {x0 = x0} {x1 = x1} {x2 = x2} members all_members.layout proxy all_members.same layout_near layout_far all_members.laid (width ∙ ap gapped.gapped_width all_members.body_is) free runs keeps still
         (subst (λ (p : Piece). ComesTo d r1 r2 x1 x2 (λ was now. was.free ≤ now.free + piece_needs p)) gathered_is takes)
-        (subst (λ (p : Piece). ComesTidy d r1 r2 x1 x2 (λ was now. AddsPiece (place_named proxy) p was now)) gathered_is adds)
+        (subst (λ (p : Piece). ComesTidyWhere d r1 r2 x1 x2 (λ was. MayName was p.body.roots) (λ was now. AddsPiece (place_named proxy) p was now)) gathered_is adds)
 
 -- the call that puts the record of an interval, once its members were gathered
 module _ {D : Type 0} (d : Ghosts D) (marks : List Mark) (all left : List OrderedTree) (first position : ℕ) (roots : Gapped) (has : List Proxy) (r0 r1 r2 : Records) (x0 x1 x2 : D)
     (walks : (members : CutForest) (m : AreMembers (holder_by_marks marks) first (forest_of all) members) → WalksOn d (Some m.index) (holder_by_marks marks) position left members r0 r1 x0 x1 roots [] has) (none : left ≡ []) where
-  pub put_laid : (r : Result Proxy StoreError) → IfOk r (λ proxy. proxy.roots ≡ gapped.gapped_width roots) → IfOk r (λ proxy. ComesTidy d r1 r2 x1 x2 (λ was now. AddsPiece (place_named proxy) (gathered roots has) was now))
+  pub put_laid : (r : Result Proxy StoreError) → IfOk r (λ proxy. proxy.roots ≡ gapped.gapped_width roots) → IfOk r (λ proxy. ComesTidyWhere d r1 r2 x1 x2 (λ was. MayName was roots) (λ was now. AddsPiece (place_named proxy) (gathered roots has) was now))
       → IfOk r (λ proxy. ComesTo d r1 r2 x1 x2 (λ was now. was.free ≤ now.free + piece_needs (gathered roots has))) → IfOk r (λ proxy. RunsOn r1 r2 × KeepsSaved d r1 r2 x1 x2 × HasChanges r2) → IsStill d x1 x2
       → IfOk r (λ proxy. (members : CutForest) → AreMembers (holder_by_marks marks) first (forest_of all) members → LaysMembers d r0 r2 x0 x2 members proxy)
   put_laid (Ok proxy) width adds takes keeps still = λ members m. piece_laid {d = d} marks (walks members m) none proxy r2 x2 m.free width keeps.0 keeps.1 still takes adds
   put_laid (Err e) width adds takes keeps still = tt
 
   pub put_not : (r : Result Proxy StoreError) → IfErr r (λ e. NotStored d (λ was. piece_needs (gathered roots has)) (λ was. ⊥) 0 e r1 r2 x1 x2)
-      → IfErr r (λ e. (members : CutForest) → AreMembers (holder_by_marks marks) first (forest_of all) members → NotStored d (λ was. 1 + proxy_count members + page_needs members) (λ was. ⊥) 0 e r0 r2 x0 x2)
+      → IfErr r (λ e. (members : CutForest) → AreMembers (holder_by_marks marks) first (forest_of all) members → NotStored d (λ was. 1 + proxy_count members + drawn_needs members) (λ was. ⊥) 0 e r0 r2 x0 x2)
   put_not (Ok proxy) refused = tt
   put_not (Err e) refused = λ members m. piece_not {d = d} marks (walks members m) none r2 x2 e refused

@@ -14,7 +14,7 @@ use Rattle.nx_cuts.proofs.FeasibleLemmas.{IsDrawn, Members, reaches_child}
 use Rattle.nx_cuts.proofs.FreeLemmas.{IsApart}
 use Rattle.nx_cuts.proofs.PairLemmas.{PairsBy, all_pairs}
 use Rattle.nx_cuts.proofs.WeightLemmas.{AreDistinct}
-use Rattle.nx_layouts.specs.Layout.{Layout, without_places}
+use Rattle.nx_layouts.specs.Layout.{Layout, without_places, AreLaidParts}
 use Rattle.nx_layouts.specs.Replace.{joined_layout}
 use Rattle.nx_sketch.specs.Sketch.{Placed}
 use Rattle.nx_sketch.specs.Plan.{IsInside, IsPlanOfPart}
@@ -25,7 +25,7 @@ use Rattle.nx_build.proofs.MarkedLemmas as mark
 use Rattle.nx_drawn.specs.Splits.{part_nodes}
 use Rattle.nx_drafts.specs.Draft.{Draft, Ends, Grows, Stands, Comes, drawn_forest, layout_before}
 use Rattle.nx_drafts.specs.Laws.{IsDrafted}
-use Rattle.nx_drawn.proofs.BareLemmas.{width_bare, parts_bare}
+use Rattle.nx_layouts.proofs.DrawnLemmas.{drawn_wide}
 use Rattle.nx_drawn.proofs.DividedLemmas as divided
 use Rattle.nx_drawn.proofs.DividedLemmas.{IsClear, nodes_clear, members_clear, drawn_apart, away, no_holder}
 use Rattle.nx_drafts.proofs.DraftLemmas.{all_apart, both_apart}
@@ -95,11 +95,11 @@ module _ (rules : List Rule) (parts olds : List Interval) (clear : Members (IsCl
   draft_agrees own base path position (Stands r m s) p a d =
       let first : holder olds (path ++ position ∷ []) ≡ Some base = first_held (holder olds) (Some base) (base + 1) path position (without_places m) p.1 p.0 d.0 in (
         no_holder parts (path ++ position ∷ []) (away rules parts olds clear path position [] base first),
-        subst (λ (i : ℕ). IsHeldAs own (λ q. holder parts (path ++ q)) (position + i) s) (width_bare m) (draft_agrees own (base + 1 + cuts (without_places m)) path (position + width (without_places m)) s p.4 a.3 d.1),
+        subst (λ (i : ℕ). IsHeldAs own (λ q. holder parts (path ++ q)) (position + i) s) (drawn_wide m) (draft_agrees own (base + 1 + cuts (without_places m)) path (position + width (without_places m)) s p.4 a.3 d.1),
       )
   draft_agrees own base path position (Comes u m s) p a d =
       let both = drawn_parted (holder olds) None base path position (layout_before m) (layout_before s) d in
-      let w : width (without_places (layout_before m)) ≡ width (drawn_forest m) = width_bare (layout_before m) ∙ width-layout_before m in (
+      let w : width (without_places (layout_before m)) ≡ width (drawn_forest m) = drawn_wide (layout_before m) ∙ width-layout_before m in (
         a.0,
         other_draft a.0 (λ q. holder (parts ++ olds) (path ++ q)) (λ q. holder parts (path ++ q)) (position + width (drawn_forest m)) s (λ q held. held_first parts olds (path ++ q) a.0 held) a.1,
         draft_agrees (Some a.0) base path position m p.3 a.2 both.0,
@@ -146,14 +146,14 @@ helper : Node
 helper = record { kind = Text; name = []; content = [] }
 
 -- the marks of a plan, and its draft
-pub plan_agrees : (rules : List Rule) (above : Option Node) (limit : ℕ) (members : Layout) (parts : List Interval) → AreParts limit members → IsPlanOfPart (part_nodes rules above (without_places members)) parts → (made : IsDrafted limit members parts)
+pub plan_agrees : (rules : List Rule) (above : Option Node) (limit : ℕ) (members : Layout) (parts : List Interval) → AreLaidParts limit members → IsPlanOfPart (part_nodes rules above (without_places members)) parts → (made : IsDrafted limit members parts)
     → IsHeldAs None (holder parts) 0 made.draft
 plan_agrees rules above limit members parts light plan made =
     let old = without_places members in
     let olds = intervals [] 0 old in
     let nodes = part_nodes rules above old in
     let qs = intervals [] 0 (drawn_forest made.draft) in
-    let form : AreParts limit old = parts_bare limit members light in
+    let form : AreParts limit old = light in
     let inside = recursion_from_All (IsInside nodes) parts plan.inside in
     let clear : Members (IsClear (holder olds) []) parts = members_clear (holder olds) nodes parts (nodes_clear rules (holder olds) None (asked_of_root rules above) 0 [] 0 old refl (divided.drawn_agrees limit old form)) inside in
     let dq : AreDistinct qs = record { apart = drawn_apart limit helper (drawn_forest made.draft) made.light; some = λ i lt. at_index (λ x. ShareMember x x) qs (drawn_some limit [] 0 (drawn_forest made.draft) made.light) i Root lt } in

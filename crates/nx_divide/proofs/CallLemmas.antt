@@ -3,22 +3,19 @@ use Rattle.std.proofs.Common.{◌≡◌, ℕ, ◌+◌, ◌≤◌, ◌<◌, false
 use Rattle.nx_host.specs.declared.disk.Disk.{Ghosts}
 use Rattle.nx_host.specs.Still.{IsStill}
 use Rattle.nx_host.proofs.DiskLemmas.{none_still, still_then}
-use Rattle.nx_tree.specs.declared.node.Node.{Node}
 use Rattle.nx_records.specs.declared.records.Records.{Records}
 use Rattle.nx_records.specs.declared.error.StoreError.{StoreError}
 use Rattle.nx_records.specs.Records.{has_ended, LeavesRecords, KeepsSaved, ComesTo}
 use Rattle.nx_records.specs.Refusals.{RunsOn, NotStored}
-use Rattle.nx_layouts.specs.Layout.{RecordPlace, Layout, piece_of}
-use Rattle.nx_hold.specs.Changes.{piece_needs, AddsPiece, ComesTidy}
+use Rattle.nx_layouts.specs.Layout.{RecordPlace, LaidNode, Layout, piece_body, piece_of}
+use Rattle.nx_hold.specs.Changes.{AddsPiece}
 use Rattle.nx_records.proofs.LeaveLemmas.{leaves_same, leaves_runs, leaves_saved, leaves_stand}
 use Rattle.nx_hold.proofs.RefusalLemmas.{GoesOn, runs_then, saved_then, comes_then, later_stored}
 use Rattle.nx_drafts.specs.Draft.{Draft, Ends, Grows, Stands, Comes, layout_after, draft_needs}
-use Rattle.nx_divide.specs.Putting.{ArePut}
-use Rattle.nx_divide.proofs.RowLemmas.{joined_draft, needs-joined}
-use Rattle.nx_divide.proofs.PutLemmas.{puts_none, puts_stands, puts_both, puts_grows, puts_comes, needs_comes}
-
-free_both : (was mid now a b all : ℕ) → was ≤ mid + a → mid ≤ now + b → a + b ≤ all → was ≤ now + all
-free_both was mid now a b all one two most = omega (arith, one, two, most)
+use Rattle.nx_divide.specs.Marked.{AreWritten}
+use Rattle.nx_divide.specs.Putting.{PutsDraft, ArePut}
+use Rattle.nx_divide.proofs.RowLemmas.{joined_draft}
+use Rattle.nx_divide.proofs.PutLemmas.{puts_none, puts_stands, puts_both, puts_grows, puts_comes}
 
 pub few_then : (was mid a more needs : ℕ) → was ≤ mid + a → mid < more → a + more ≤ needs → was < needs
 few_then was mid a more needs free few most = omega (arith, free, few, most)
@@ -30,8 +27,7 @@ module _ {D : Type 0} {d : Ghosts D} where
     runs = leaves_runs runs leaves;
     keeps = leaves_saved {d = d} leaves still;
     still = still;
-    takes = λ saved now stands. (now, leaves_stand {d = d} leaves still stands, omega arith);
-    puts = λ saved now stands tidy. (now, leaves_stand {d = d} leaves still stands, tidy, puts_none now);
+    puts = λ saved now stands. (now, leaves_stand {d = d} leaves still stands, puts_none now);
   }
 
   pub put_none : (r : Records) (x : D) → has_ended r ≡ false → ArePut d r r x x Ends
@@ -42,8 +38,7 @@ module _ {D : Type 0} {d : Ghosts D} where
     runs = leaves_runs runs (leaves_same {r0 = r} {r1 = r} refl);
     keeps = leaves_saved {d = d} (leaves_same {r0 = r} {r1 = r} refl) none_still;
     still = none_still;
-    takes = λ saved now stands. (now, stands, omega arith);
-    puts = λ saved now stands tidy. (now, stands, tidy, puts_stands place members now);
+    puts = λ saved now stands. (now, stands, puts_stands place members now);
   }
 
   pub put_both : {r0 r1 r2 : Records} {x0 x1 x2 : D} (a b : Draft RecordPlace) → ArePut d r0 r1 x0 x1 a → ArePut d r1 r2 x1 x2 b → ArePut d r0 r2 x0 x2 (joined_draft a b)
@@ -51,41 +46,30 @@ module _ {D : Type 0} {d : Ghosts D} where
     runs = runs_then {r0 = r0} {r1 = r1} {r2 = r2} one.runs two.runs;
     keeps = saved_then {d = d} {r0 = r0} {r1 = r1} {r2 = r2} one.keeps two.keeps;
     still = still_then one.still two.still;
-    takes = comes_then {r0 = r0} {r1 = r1} {r2 = r2} (λ was now. was.free ≤ now.free + draft_needs (joined_draft a b)) one.takes two.takes
-        (λ was mid now first later. free_both was.free mid.free now.free (draft_needs a) (draft_needs b) (draft_needs (joined_draft a b)) first later (omega (arith, needs-joined a b)));
-    puts = λ saved was stands tidy.
-        let mid = one.puts saved was stands tidy in
-        let now = two.puts saved mid.0 mid.1 mid.2 in
-        (now.0, now.1, now.2, puts_both a b was mid.0 now.0 mid.3 now.3);
+    puts = comes_then {r0 = r0} {r1 = r1} {r2 = r2} (PutsDraft (joined_draft a b)) one.puts two.puts (λ was mid now first later. puts_both a b was mid now first later);
   }
 
-  pub put_grows : {r0 r1 : Records} {x0 x1 : D} (node : Node) (below : Draft RecordPlace) → ArePut d r0 r1 x0 x1 below → ArePut d r0 r1 x0 x1 (Grows node below Ends)
+  pub put_grows : {r0 r1 : Records} {x0 x1 : D} (node : LaidNode) (below : Draft RecordPlace) → ArePut d r0 r1 x0 x1 below → ArePut d r0 r1 x0 x1 (Grows node below Ends)
   put_grows node below put = record {
     runs = put.runs;
     keeps = put.keeps;
     still = put.still;
-    takes = λ saved was stands. let now = put.takes saved was stands in (now.0, now.1, free_both was.free (now.0).free (now.0).free (draft_needs below) 0 (draft_needs below + 0) now.2 (omega arith) (omega arith));
-    puts = λ saved was stands tidy. let now = put.puts saved was stands tidy in (now.0, now.1, now.2, puts_grows node below was now.0 now.3);
+    puts = λ saved was stands. let now = put.puts saved was stands in (now.0, now.1, puts_grows node below was now.0 now.2);
   }
 
-  pub put_comes : {r0 r1 r2 : Records} {x0 x1 x2 : D} (place : RecordPlace) (members : Draft RecordPlace) → ArePut d r0 r1 x0 x1 members → RunsOn r1 r2 → KeepsSaved d r1 r2 x1 x2 → IsStill d x1 x2
-      → ComesTo d r1 r2 x1 x2 (λ was now. was.free ≤ now.free + piece_needs (piece_of (layout_after members))) → ComesTidy d r1 r2 x1 x2 (λ was now. AddsPiece place (piece_of (layout_after members)) was now) → ArePut d r0 r2 x0 x2 (Comes place members Ends)
-  put_comes {r0} {r1} {r2} {x0} {x1} {x2} place members one runs keeps still takes adds = record {
+  pub put_comes : {r0 r1 r2 : Records} {x0 x1 x2 : D} (place : RecordPlace) (members : Draft RecordPlace) → AreWritten (piece_body (layout_after members)) → ArePut d r0 r1 x0 x1 members → RunsOn r1 r2 → KeepsSaved d r1 r2 x1 x2 → IsStill d x1 x2
+      → ComesTo d r1 r2 x1 x2 (λ was now. AddsPiece place (piece_of (layout_after members)) was now) → ArePut d r0 r2 x0 x2 (Comes place members Ends)
+  put_comes {r0} {r1} {r2} {x0} {x1} {x2} place members written one runs keeps still adds = record {
     runs = runs_then {r0 = r0} {r1 = r1} {r2 = r2} one.runs runs;
     keeps = saved_then {d = d} {r0 = r0} {r1 = r1} {r2 = r2} one.keeps keeps;
     still = still_then one.still still;
-    takes = comes_then {r0 = r0} {r1 = r1} {r2 = r2} (λ was now. was.free ≤ now.free + draft_needs (Comes place members Ends)) one.takes takes
-        (λ was mid now first later. free_both was.free mid.free now.free (draft_needs members) (piece_needs (piece_of (layout_after members))) (draft_needs (Comes place members Ends)) first later (let e = needs_comes place members in omega (arith, e)));
-    puts = λ saved was stands tidy.
-        let mid = one.puts saved was stands tidy in
-        let now = adds saved mid.0 mid.1 mid.2 in
-        (now.0, now.1, now.2, puts_comes place members was mid.0 now.0 mid.3 now.3);
+    puts = comes_then {r0 = r0} {r1 = r1} {r2 = r2} (PutsDraft (Comes place members Ends)) one.puts adds (λ was mid now first later. puts_comes place members was mid now written first later);
   }
 
   -- a call that may need so many pages gave up behind those that put records
   pub put_refused : {r0 r1 : Records} {x0 x1 : D} (a : Draft RecordPlace) (r2 : Records) (x2 : D) (more needs : ℕ) → ArePut d r0 r1 x0 x1 a → draft_needs a + more ≤ needs → (e : StoreError) → NotStored d (λ was. more) (λ was. ⊥) 0 e r1 r2 x1 x2
       → NotStored d (λ was. needs) (λ was. ⊥) 0 e r0 r2 x0 x2
   put_refused {r0} {r1} {x0} {x1} a r2 x2 more needs put most e refused =
-      let goes : GoesOn d r0 r1 x0 x1 (λ was now. was.free ≤ now.free + draft_needs a) = record { runs = put.runs; keeps = put.keeps; still = put.still; comes = put.takes } in
+      let goes : GoesOn d r0 r1 x0 x1 (λ was now. was.free ≤ now.free + draft_needs a) = record { runs = put.runs; keeps = put.keeps; still = put.still; comes = λ saved was stands. let now = put.puts saved was stands in (now.0, now.1, ((now.2).adds).free) } in
       later_stored {d = d} {r0 = r0} {r1 = r1} {x0 = x0} {x1 = x1} goes (λ was. ⊥) (λ was. ⊥) 0 (λ was mid free bad. bad) r2 x2 (λ was. more) (λ was. needs)
       (λ was mid free few. few_then was.free mid.free (draft_needs a) more needs free few most) e refused

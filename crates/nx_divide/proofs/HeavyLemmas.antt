@@ -1,14 +1,17 @@
 -- The piece of an interval that became too heavy.
-use Rattle.std.proofs.Common.{◌≡◌, ℕ, ◌+◌, ◌≤◌, List, [], ◌∷◌, ◌++◌, refl, sym, ◌∙◌, arith}
-use Rattle.nx_tree.specs.Forest.{Forest, Empty, Plant, nodes}
+use Rattle.std.proofs.Common.{◌≡◌, ℕ, ◌+◌, ◌≤◌, List, [], ◌∷◌, ◌++◌, refl, sym, subst, arith}
+use Rattle.nx_tree.specs.Forest.{nodes}
 use Rattle.nx_piece.specs.declared.piece.Proxy.{Proxy}
 use Rattle.nx_piece.specs.Gapped as gapped
-use Rattle.nx_piece.specs.Gapped.{Gapped, End, Grow, Gap, gapped_size, proxies_in}
+use Rattle.nx_piece.specs.Gapped.{Gapped, End, Grow, Gap, gapped_size, gapped_weight, proxies_in}
 use Rattle.nx_piece.specs.Valid.{AreTrees, HaveRoots}
-use Rattle.nx_cuts.specs.Cut.{Bare, Grown, Kept, joined, forest, width, part_weight, AreFree, AreParts}
-use Rattle.nx_layouts.specs.Layout.{Layout, gap_more, piece_body, proxies_of}
+use Rattle.nx_cuts.specs.Cut.{CutForest, Bare, Grown, Kept, forest, width, part_weight, AreFree, AreParts}
+use Rattle.nx_layouts.specs.Layout.{Layout, without_places, laid_forest, laid_weight, AreLaidParts, gap_more, piece_body, proxies_of}
 use Rattle.nx_layouts.proofs.LayoutLemmas.{proxies_counted}
-use Rattle.nx_layouts.proofs.SizeLemmas.{body_size, part_is_weight}
+use Rattle.nx_layouts.proofs.NodeLemmas.{item_weighs}
+use Rattle.nx_layouts.proofs.BodyLemmas.{bodies_are_of_rows}
+use Rattle.nx_layouts.proofs.DrawnLemmas.{drawn_wide, drawn_free}
+use Rattle.nx_layouts.proofs.WithoutLemmas.{nodes_joined}
 use Rattle.nx_layouts.proofs.ValidLemmas.{body_apart}
 use Rattle.nx_split.specs.Piece.{AreGappedAtMost}
 use Rattle.nx_drawn.specs.Growth.{PartIsAtMost}
@@ -28,36 +31,33 @@ free_roots Bare f = refl
 free_roots (Grown n b s) f = omega (arith, free_roots s f)
 free_roots (Kept r m s) f = absurd f
 
-free_nodes : (a : Layout) → AreFree a → width a ≤ nodes (forest a)
+free_nodes : (c : CutForest) → AreFree c → width c ≤ nodes (forest c)
 free_nodes Bare f = omega arith
 free_nodes (Grown n b s) f = omega (arith, free_nodes s f)
-free_nodes (Kept r m s) f = absurd f
-
-nodes-joined : (f g : Forest) → nodes (joined f g) ≡ nodes f + nodes g
-nodes-joined Empty g = omega arith
-nodes-joined (Plant n b s) g = omega (arith, nodes-joined s g)
+free_nodes (Kept u m s) f = absurd f
 
 roots_both : (ps qs : List Proxy) → HaveRoots ps → HaveRoots qs → HaveRoots (ps ++ qs)
 roots_both [] qs h k = k
 roots_both (p ∷ ps) qs h k = (h.0, h.1, roots_both ps qs h.2 k)
 
-rooted : (a : Layout) → AreParts 256 a → HaveRoots (proxies_of a)
+rooted : (a : Layout) → AreLaidParts 256 a → HaveRoots (proxies_of a)
 rooted Bare h = tt
 rooted (Grown n b s) h = roots_both (proxies_of b) (proxies_of s) (rooted b h.0) (rooted s h.1)
 rooted (Kept r m s) h =
-    let some : 1 ≤ width m = h.0 in
-    let light : part_weight m ≤ 256 = h.2 in
-    let few = width_light m h.1 in
-    (some, omega (arith, light, few), rooted s h.4)
+    let some : 1 ≤ width (without_places m) = h.0 in
+    let light : laid_weight m ≤ 256 = h.2 in
+    let few = width_light (without_places m) h.1 in
+    let wide = drawn_wide m in
+    (omega (arith, some, wide), omega (arith, light, few, wide), rooted s h.4)
 
-many_nodes : (a : Layout) → AreParts 256 a → many (piece_body a) ≤ nodes (forest a)
+many_nodes : (a : Layout) → AreLaidParts 256 a → many (piece_body a) ≤ nodes (laid_forest a)
 many_nodes Bare h = omega arith
 many_nodes (Grown n b s) h = omega (arith, many_nodes b h.0, many_nodes s h.1)
 many_nodes (Kept r m s) h =
-    let some : 1 ≤ width m = h.0 in
-    let few = free_nodes m h.1 in
+    let some : 1 ≤ width (without_places m) = h.0 in
+    let few = free_nodes (without_places m) h.1 in
     let x = many-gap_more (piece_body s) in
-    let y = nodes-joined (forest m) (forest s) in
+    let y = nodes_joined (laid_forest m) (laid_forest s) in
     omega (arith, some, few, x, y, many_nodes s h.4)
 
 proxies_many : (g : Gapped) → proxies_in g ≤ many g
@@ -76,29 +76,34 @@ at_most-gap_more k End q = tt
 at_most-gap_more k (Grow n b s) q = q
 at_most-gap_more k (Gap count s) q = q
 
-nodes_at_most : (k : ℕ) (a : Layout) → PartIsAtMost k a → AreGappedAtMost k (piece_body a)
+nodes_at_most : (k : ℕ) (a : Layout) → PartIsAtMost k (without_places a) → AreGappedAtMost k (piece_body a)
 nodes_at_most k Bare q = tt
-nodes_at_most k (Grown n b s) q = (q.0, nodes_at_most k b q.1, nodes_at_most k s q.2)
+nodes_at_most k (Grown n b s) q = (subst (λ (w : ℕ). w ≤ k) (sym (item_weighs n)) q.0, nodes_at_most k b q.1, nodes_at_most k s q.2)
 nodes_at_most k (Kept r m s) q = at_most-gap_more k (piece_body s) (nodes_at_most k s q)
 
 pub heavy_is_piece : HeavyIsPiece
-heavy_is_piece k limit wide members most limited narrow heavy small =
+heavy_is_piece k limit wide members most limited narrow near far heavy small =
+    let free = drawn_free members heavy.free in
     let some = heavy.some in
     let few = heavy.few in
-    let light = heavy.light in
-    let parts : AreParts 256 members = heavier_parts k 256 members most heavy.parts in
-    let w = free_roots members heavy.free in
-    let v = body_size members ∙ part_is_weight members in
+    let light : laid_weight members ≤ limit = heavy.light in
+    let parts : AreLaidParts 256 members = heavier_parts k 256 (without_places members) most heavy.parts in
+    let drawn = drawn_wide members in
+    let w = free_roots members free in
+    let body = bodies_are_of_rows members in
+    let fits : gapped_size (piece_body members) ≤ gapped_weight (piece_body members) = body.sized near far in
+    let weighs : gapped_weight (piece_body members) ≡ laid_weight members = body.weighs in
     let c = proxies_counted members in
     let m = many_nodes members parts in
     let p = proxies_many (piece_body members) in record {
       is = record {
         body = record {
-          trees = free_trees members heavy.free;
-          some = omega (arith, some, w);
-          few = omega (arith, few, narrow, w);
-          light = omega (arith, light, limited, v);
+          trees = free_trees members free;
+          some = omega (arith, some, drawn, w);
+          few = omega (arith, few, drawn, narrow, w);
+          small = omega (arith, light, limited, fits, weighs);
           apart = body_apart members;
+          far = far;
           counted = sym c;
           few_proxies = omega (arith, c, p, m, small);
         };

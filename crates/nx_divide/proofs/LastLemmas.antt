@@ -19,8 +19,8 @@ use Rattle.nx_piece.specs.Gapped.{Gapped, proxies_in}
 use Rattle.nx_piece.specs.Items.{gapped_of}
 use Rattle.nx_cuts.specs.Cut.{width, AreFree}
 use Rattle.nx_layouts.specs.Layout.{RecordPlace, proxies_of}
-use Rattle.nx_hold.specs.Pieces.{record_at, HoldsNone}
-use Rattle.nx_hold.specs.Changes.{place_named, piece_needs, UpdatesPiece, ComesTidy}
+use Rattle.nx_hold.specs.Pieces.{record_at, HoldsNone, MayName}
+use Rattle.nx_hold.specs.Changes.{place_named, piece_needs, UpdatesPiece, ComesTidyWhere}
 use Rattle.nx_drafts.specs.Draft.{Draft, Ends, Comes, drawn_forest, layout_after, unmarked, draft_needs}
 use Rattle.nx_drafts.proofs.PlacesLemmas.{body-layout_after}
 use Rattle.nx_divide.specs.Marked.{IsMarkedDraft, IsMarkedRow, AreMarkedMembers, HasMarkedDraft, HasMarkedMembers}
@@ -28,7 +28,7 @@ use Rattle.nx_divide.specs.Putting.{ArePut, PutsRow, GathersPiece}
 use Rattle.nx_divide.specs.Dividing.{ArePutAt, PutsRowAt, NotPutAt}
 use Rattle.nx_divide.proofs.RowLemmas.{joined_draft, unmarked-joined, proxies-joined, needs-joined, needs-unmarked, width-layout_after, drawn_forest-unmarked}
 use Rattle.nx_divide.proofs.CallLemmas.{put_both, put_refused}
-use Rattle.nx_divide.proofs.WalkLemmas.{proxy_is, free_width}
+use Rattle.nx_divide.proofs.WalkLemmas.{proxy_is, free_width, members_written}
 use Rattle.nx_divide.proofs.StepLemmas.{gathered_needs}
 use Rattle.nx_divide.proofs.PartedLemmas.{IsParted, last_parted}
 use Rattle.nx_divide.proofs.PlaceLemmas.{put_at, not_put, not_updated}
@@ -115,7 +115,7 @@ module _ (marks : List Mark) (roots : List Item) (olds : List Proxy) (len first 
             not_updated {d = d} {r0 = r0} {r1 = r3} {x0 = x0} {x1 = x3} r4 x4 place page (piece_needs piece) (draft_needs drawn) (joined_draft put.draft gathered.draft) all_put fits e refused
 
         module _ {r4 : Records} {x4 : D} (proxy : Proxy) (there : (saved now : Held) → StandsFor d r0 x0 saved now → IsSome (record_at now place)) (wide : proxy.roots ≡ gapped.gapped_width piece.body.roots) (runs : RunsOn r3 r4) (keeps : KeepsSaved d r3 r4 x3 x4) (changes : HasChanges r4)
-            (updates : ComesTidy d r3 r4 x3 x4 (λ was now. UpdatesPiece place (place_named proxy) piece was now)) where
+            (updates : ComesTidyWhere d r3 r4 x3 x4 (λ was. MayName was piece.body.roots) (λ was now. UpdatesPiece place (place_named proxy) piece was now)) where
           free : AreFree (drawn_forest gathered.draft)
           free = subst AreFree (sym (sym (drawn_forest-unmarked gathered.draft) ∙ ap drawn_forest gathered.same)) members.free
 
@@ -123,8 +123,9 @@ module _ (marks : List Mark) (roots : List Item) (olds : List Proxy) (len first 
           roots_are = wide ∙ ap (λ (p : Piece). gapped.gapped_width p.body.roots) gathered.piece_is ∙ ap gapped.gapped_width (body-layout_after gathered.draft) ∙ free_width gathered.draft free ∙ sym (width-layout_after gathered.draft)
 
           at : ArePutAt d place r0 r4 x0 x4 (joined_draft put.draft (Comes (place_named proxy) gathered.draft Ends))
-          at = put_at {d = d} {r0 = r0} {r1 = r3} {r2 = r4} {x0 = x0} {x1 = x3} {x2 = x4} place (place_named proxy) put.draft gathered.draft there all_put runs keeps changes
-              (subst (λ (p : Piece). ComesTidy d r3 r4 x3 x4 (λ was now. UpdatesPiece place (place_named proxy) p was now)) gathered.piece_is updates)
+          at = put_at {d = d} {r0 = r0} {r1 = r3} {r2 = r4} {x0 = x0} {x1 = x3} {x2 = x4} place (place_named proxy) put.draft gathered.draft there
+              (members_written (holder_by_marks marks) first (gapped_of (take (len - first) lasts)) left parted.members gathered.draft members gathered.same) all_put runs keeps changes
+              (subst (λ (p : Piece). ComesTidyWhere d r3 r4 x3 x4 (λ was. MayName was p.body.roots) (λ was now. UpdatesPiece place (place_named proxy) p was now)) gathered.piece_is updates)
 
           pub row_memory : NotPutAt d place (draft_needs drawn) error.Memory r0 r4 x0 x4
           row_memory = (0, (at.runs, at.keeps))

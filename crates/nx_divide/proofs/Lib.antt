@@ -1,5 +1,6 @@
 pub mod SplitLemmas
 pub mod RowLemmas
+pub mod WrittenLemmas
 pub mod PutLemmas
 pub mod CallLemmas
 pub mod MarkedLemmas

@@ -1,21 +1,22 @@
 -- What marks tell of the next items.
 use Rattle.std.proofs.Common.{◌≡◌, ℕ, zero, suc, ◌+◌, ◌≤◌, ◌<◌, List, [], ◌∷◌, ◌++◌, length, take, drop, length-drop, Option, None, Some, inl, inr, refl, sym, ap, ◌∙◌, arith, append_assoc}
-use Rattle.nx_tree.specs.declared.node.Node.{Node}
 use Rattle.nx_piece.specs.declared.piece.Item.{Item}
 use Rattle.nx_piece.specs.declared.piece.Item.TheVariants.{Tree, Run}
 use Rattle.nx_piece.specs.declared.piece.Proxy.{Proxy}
+use Rattle.nx_piece.specs.PieceNode.{PieceNode}
 use Rattle.nx_piece.specs.Gapped.{Gapped, GappedTree, End, Grow, Gap, proxies_in}
 use Rattle.nx_piece.specs.Items.{gapped_of}
 use Rattle.nx_piece.specs.Valid.{AreApart}
 use Rattle.nx_cuts.specs.Cut.{Bare, Grown, Kept, width, AreFree, AreParts}
 use Rattle.nx_cuts.proofs.FeasibleLemmas.{le_or}
-use Rattle.nx_layouts.specs.Layout.{RecordPlace, Layout, gap_more, piece_body, proxies_of}
+use Rattle.nx_layouts.specs.Layout.{RecordPlace, LaidNode, Layout, in_record, gap_more, piece_body, proxies_of}
 use Rattle.nx_layouts.specs.Replace.{joined_layout}
 use Rattle.nx_layouts.proofs.ReplaceLemmas.{proxies-joined_layout}
 use Rattle.nx_layouts.proofs.ValidLemmas.{body_apart}
 use Rattle.nx_hold.proofs.PieceLemmas.{some_same, no_value}
 use Rattle.nx_drafts.specs.Draft.{Draft, Ends, Grows, Stands, Comes, drawn_forest, layout_before}
-use Rattle.nx_divide.specs.Marked.{BeginsApart, IsHeldAs, IsMarkedDraft, AreMarkedMembers}
+use Rattle.nx_divide.specs.Marked.{BeginsApart, IsHeldAs, AreWritten, IsMarkedDraft, AreMarkedMembers}
+use Rattle.nx_divide.proofs.WrittenLemmas.{written-take, written-drop}
 
 abbrev Plan : Type 0
 Plan = Draft (Unit {0})
@@ -43,7 +44,7 @@ agrees_same own g h position (Comes u m s) same a = (
 )
 
 pub marked_same : (own : Option ℕ) (g h : List ℕ → Option ℕ) (position : ℕ) (items : Gapped) (olds others : List Proxy) (c : Plan) → ((p : ℕ) (path : List ℕ) → g (p ∷ path) ≡ h (p ∷ path)) → olds ≡ others → IsMarkedDraft own g position items olds c → IsMarkedDraft own h position items others c
-marked_same own g h position items olds others c same are m = record { items_are = m.items_are; behind = m.behind; olds_are = sym are ∙ m.olds_are; light = m.light; agrees = agrees_same own g h position c same m.agrees }
+marked_same own g h position items olds others c same are m = record { items_are = m.items_are; written = m.written; behind = m.behind; olds_are = sym are ∙ m.olds_are; light = m.light; agrees = agrees_same own g h position c same m.agrees }
 
 -- a member is held by its interval
 pub member_held : (index : ℕ) (h : List ℕ → Option ℕ) (position : ℕ) (m : Plan) (j : ℕ) → AreFree (drawn_forest m) → IsHeldAs (Some index) h position m → position ≤ j → j < position + width (drawn_forest m) → h (j ∷ []) ≡ Some index
@@ -56,7 +57,7 @@ member_held index h position (Grows n b s) j free a low high =
 member_held index h position (Stands r m s) j free a low high = absurd free
 member_held index h position (Comes u m s) j free a low high = absurd free
 
-no_gap : (g : Gapped) (n : Node) (b s : Gapped) → gap_more g ≡ Grow n b s → ⊥
+no_gap : (g : Gapped) (n : PieceNode) (b s : Gapped) → gap_more g ≡ Grow n b s → ⊥
 no_gap End n b s e = cc
 no_gap (Grow m c t) n b s e = cc
 no_gap (Gap count t) n b s e = cc
@@ -68,9 +69,11 @@ gap_ends (Gap count t) e = cc
 
 -- The first of some items, which is a tree of no interval, and the others.
 pub record BeginsGrown (own : Option ℕ) (holder : List ℕ → Option ℕ) (position : ℕ) (tree : GappedTree) (others : Gapped) (olds : List Proxy) (drawn : Plan) : Type 0 where
+  pub node : LaidNode
+  pub shown : in_record node ≡ tree.node
   pub below : Plan
   pub beside : Plan
-  pub is : drawn ≡ Grows tree.node below beside
+  pub is : drawn ≡ Grows node below beside
   pub inside : IsMarkedDraft None (λ path. holder (position ∷ path)) 0 tree.below olds below
   pub along : IsMarkedDraft own holder (position + 1) others (drop (proxies_in tree.below) olds) beside
 
@@ -127,18 +130,21 @@ olds_behind a g olds behind is are =
 pub begins_grown : (own : Option ℕ) (h : List ℕ → Option ℕ) (position : ℕ) (t : GappedTree) (others : Gapped) (olds : List Proxy) (c : Plan) → BeginsFree c → IsMarkedDraft own h position (Grow t.node t.below others) olds c → BeginsGrown own h position t others olds c
 begins_grown own h position t others olds Ends free m = let e = m.items_are in cc
 begins_grown own h position t others olds (Grows n b s) free m =
-    let e : Grow n (piece_body (layout_before b)) (piece_body (layout_before s)) ≡ Grow t.node t.below others = m.items_are in
-    let node : n ≡ t.node = cc in
+    let e : Grow (in_record n) (piece_body (layout_before b)) (piece_body (layout_before s)) ≡ Grow t.node t.below others = m.items_are in
+    let node : in_record n ≡ t.node = cc in
     let down : piece_body (layout_before b) ≡ t.below = cc in
     let side : piece_body (layout_before s) ≡ others = cc in
     let olds_are : olds ≡ proxies_of (layout_before b) ++ (proxies_of (layout_before s) ++ m.behind) = m.olds_are ∙ append_assoc (proxies_of (layout_before b)) (proxies_of (layout_before s)) m.behind in
     record {
+      node = n;
+      shown = node;
       below = b;
       beside = s;
-      is = ap (λ (x : Node). Grows x b s) node;
-      inside = record { items_are = down; behind = proxies_of (layout_before s) ++ m.behind; olds_are = olds_are; light = (m.light).0; agrees = (m.agrees).1 };
+      is = refl;
+      inside = record { items_are = down; written = (m.written).1; behind = proxies_of (layout_before s) ++ m.behind; olds_are = olds_are; light = (m.light).0; agrees = (m.agrees).1 };
       along = record {
         items_are = side;
+        written = (m.written).2;
         behind = m.behind;
         olds_are = olds_behind (layout_before b) t.below olds (proxies_of (layout_before s) ++ m.behind) down olds_are;
         light = (m.light).1;
@@ -176,6 +182,10 @@ less_gap (Gap more s) others (suc count) a e =
     let y : s ≡ others = cc in
     ap (λ (n : ℕ). Gap n s) (let z : more ≡ suc count = omega (arith, x) in z) ∙ ap (Gap (suc count)) y
 
+gap_written : (count : ℕ) (g : Gapped) → AreWritten g → AreWritten (gap_before count g)
+gap_written zero g w = w
+gap_written (suc count) g w = w
+
 -- an interval that comes begins with a tree
 comes_gap : (i : Plan) (b : Layout) (count : ℕ) (others : Gapped) → AreFree (drawn_forest i) → 1 ≤ width (drawn_forest i) → piece_body (joined_layout (layout_before i) b) ≡ Gap count others → ⊥
 comes_gap Ends b count others free some e = absurd (omega (arith, some))
@@ -201,7 +211,7 @@ begins_standing own h position count others olds (Stands r i s) m = record {
   left = proxies_of (layout_before s) ++ m.behind;
   first_is = refl;
   olds_are = m.olds_are;
-  along = record { items_are = less_gap (piece_body (layout_before s)) others count (body_apart (layout_before s)) m.items_are; behind = m.behind; olds_are = refl; light = (m.light).4; agrees = (m.agrees).1 };
+  along = record { items_are = less_gap (piece_body (layout_before s)) others count (body_apart (layout_before s)) m.items_are; written = gap_written count others m.written; behind = m.behind; olds_are = refl; light = (m.light).4; agrees = (m.agrees).1 };
 }
 begins_standing own h position count others olds (Comes u i s) m = absurd (comes_gap i (layout_before s) (suc count) others (m.light).1 (m.light).0 m.items_are)
 
@@ -211,14 +221,14 @@ split_row : (m : Plan) (last : Layout) (items : List Item) → AreFree (drawn_fo
 split_row Ends last items free e = (refl, e, omega arith)
 split_row (Grows n b s) last [] free e = cc
 split_row (Grows n b s) last (Tree t ∷ items) free e =
-    let e : Grow n (piece_body (layout_before b)) (piece_body (joined_layout (layout_before s) last)) ≡ Grow t.node t.below (gapped_of items) = e in
-    let node : n ≡ t.node = cc in
+    let e : Grow (in_record n) (piece_body (layout_before b)) (piece_body (joined_layout (layout_before s) last)) ≡ Grow t.node t.below (gapped_of items) = e in
+    let node : in_record n ≡ t.node = cc in
     let down : piece_body (layout_before b) ≡ t.below = cc in
     let side : piece_body (joined_layout (layout_before s) last) ≡ gapped_of items = cc in
     let rest = split_row s last items free side in
     let one : suc (width (drawn_forest s)) ≡ 1 + width (drawn_forest s) = omega arith in
     let fits : width (drawn_forest s) ≤ length items = rest.2 in (
-      ap (λ (x : Node). Grow x (piece_body (layout_before b)) (piece_body (layout_before s))) node ∙ ap (λ (g : Gapped). Grow t.node g (piece_body (layout_before s))) down ∙ ap (Grow t.node t.below) rest.0
+      ap (λ (x : PieceNode). Grow x (piece_body (layout_before b)) (piece_body (layout_before s))) node ∙ ap (λ (g : Gapped). Grow t.node g (piece_body (layout_before s))) down ∙ ap (Grow t.node t.below) rest.0
           ∙ ap (λ (k : ℕ). gapped_of (take k (Tree t ∷ items))) one,
       rest.1 ∙ ap (λ (k : ℕ). gapped_of (drop k (Tree t ∷ items))) one,
       omega (arith, fits),
@@ -257,13 +267,14 @@ first_kept h position items olds u i s m =
     record {
       inside = record {
         index = (m.agrees).0;
-        marked = record { items_are = rows.0; behind = proxies_of (layout_before s) ++ m.behind; olds_are = olds_are; light = (m.light).3; agrees = (m.agrees).2 };
+        marked = record { items_are = rows.0; written = written-take (width (drawn_forest i)) items m.written; behind = proxies_of (layout_before s) ++ m.behind; olds_are = olds_are; light = (m.light).3; agrees = (m.agrees).2 };
         some = (m.light).0;
         free = (m.light).1;
         weighs = (m.light).2;
       };
       along = record {
         items_are = rows.1;
+        written = written-drop (width (drawn_forest i)) items m.written;
         behind = m.behind;
         olds_are = olds_behind (layout_before i) (gapped_of (take (width (drawn_forest i)) items)) olds (proxies_of (layout_before s) ++ m.behind) rows.0 olds_are;
         light = (m.light).4;

@@ -2,7 +2,7 @@
 use Rattle.std.proofs.Common.{◌≡◌, ℕ, zero, suc, ◌+◌, ◌-◌, ◌≤◌, ◌<◌, List, [], ◌∷◌, ◌++◌, length, take, drop, length-drop, Option, None, Some, inl, inr, refl, sym, ap, subst, ◌∙◌, arith, append_assoc}
 use Rattle.std.proofs.lemmas.List.{drop-drop, take_all}
 use Rattle.std.proofs.Math.Seq.{take-nil}
-use Rattle.nx_tree.specs.declared.node.Node.{Node}
+use Rattle.nx_piece.specs.PieceNode.{PieceNode}
 use Rattle.nx_piece.specs.declared.piece.Item.{Item}
 use Rattle.nx_piece.specs.declared.piece.Item.TheVariants.{Tree, Run}
 use Rattle.nx_piece.specs.declared.piece.Proxy.{Proxy}
@@ -11,11 +11,12 @@ use Rattle.nx_piece.specs.Items.{gapped_of}
 use Rattle.nx_piece.specs.Valid.{AreTrees}
 use Rattle.nx_cuts.specs.Cut.{Bare, Grown, Kept, width, AreFree}
 use Rattle.nx_cuts.proofs.FeasibleLemmas.{le_or}
-use Rattle.nx_layouts.specs.Layout.{Layout, gap_more, piece_body, proxies_of}
+use Rattle.nx_layouts.specs.Layout.{Layout, in_record, gap_more, piece_body, proxies_of}
 use Rattle.nx_layouts.specs.Replace.{joined_layout}
 use Rattle.nx_layouts.proofs.ReplaceLemmas.{proxies-joined_layout}
 use Rattle.nx_drafts.specs.Draft.{Draft, Ends, Grows, Stands, Comes, drawn_forest, layout_before, AreHeldAll}
-use Rattle.nx_divide.specs.Marked.{BeginsApart, IsMarkedDraft, AreMarkedMembers, ComeAll}
+use Rattle.nx_divide.specs.Marked.{BeginsApart, AreWritten, IsMarkedDraft, AreMarkedMembers, ComeAll}
+use Rattle.nx_divide.proofs.WrittenLemmas.{written-append}
 use Rattle.nx_divide.proofs.RowLemmas.{joined_draft}
 use Rattle.nx_divide.proofs.MarkedLemmas.{FirstKept, first_kept, member_held, no_items, olds_behind, comes_end}
 
@@ -49,11 +50,11 @@ joined_items Ends last (Tree t ∷ xs) ys free e f = cc
 joined_items Ends last (Run count ∷ xs) ys free e f = cc
 joined_items (Grows n b s) last [] ys free e f = cc
 joined_items (Grows n b s) last (Tree t ∷ xs) ys free e f =
-    let e : Grow n (piece_body (layout_before b)) (piece_body (layout_before s)) ≡ Grow t.node t.below (gapped_of xs) = e in
-    let node : n ≡ t.node = cc in
+    let e : Grow (in_record n) (piece_body (layout_before b)) (piece_body (layout_before s)) ≡ Grow t.node t.below (gapped_of xs) = e in
+    let node : in_record n ≡ t.node = cc in
     let down : piece_body (layout_before b) ≡ t.below = cc in
     let side : piece_body (layout_before s) ≡ gapped_of xs = cc in
-    ap (λ (x : Node). Grow x (piece_body (layout_before b)) (piece_body (joined_layout (layout_before s) last))) node ∙ ap (λ (g : Gapped). Grow t.node g (piece_body (joined_layout (layout_before s) last))) down
+    ap (λ (x : PieceNode). Grow x (piece_body (layout_before b)) (piece_body (joined_layout (layout_before s) last))) node ∙ ap (λ (g : Gapped). Grow t.node g (piece_body (joined_layout (layout_before s) last))) down
     ∙ ap (Grow t.node t.below) (joined_items s last xs ys free side f)
 joined_items (Grows n b s) last (Run count ∷ xs) ys free e f = cc
 joined_items (Stands r i s) last xs ys free e f = absurd free
@@ -103,7 +104,7 @@ module _ (h : List ℕ → Option ℕ) (o : Option ℕ) (position : ℕ) (items 
       front = Ends;
       members = i;
       is = refl;
-      first = record { items_are = refl; behind = olds; olds_are = refl; light = tt; agrees = tt };
+      first = record { items_are = refl; written = tt; behind = olds; olds_are = refl; light = tt; agrees = tt };
       last = subst (λ (p : ℕ). AreMarkedMembers h p (gapped_of items) olds i) (let e : position ≡ position + 0 = omega arith in e)
           (subst (λ (l : List Item). AreMarkedMembers h position (gapped_of l) olds i) (take_all (width (drawn_forest i)) items whole) (f.inside));
     }
@@ -140,6 +141,7 @@ module _ (h : List ℕ → Option ℕ) (o : Option ℕ) (position : ℕ) (items 
       is = ap (Comes tt i) r.is;
       first = record {
         items_are = joined_items i (layout_before r.front) (take wide items) (take (before - wide) others) (f.inside).free ((f.inside).marked).items_are (r.first).items_are ∙ ap gapped_of taken;
+        written = subst (λ (l : List Item). AreWritten (gapped_of l)) taken (written-append (take wide items) (take (before - wide) others) ((f.inside).marked).written (r.first).written);
         behind = (r.first).behind;
         olds_are = ((f.inside).marked).olds_are ∙ ap (λ (l : List Proxy). proxies_of (layout_before i) ++ l) (sym left_is ∙ (r.first).olds_are)
             ∙ sym (append_assoc (proxies_of (layout_before i)) (proxies_of (layout_before r.front)) (r.first).behind) ∙ ap (λ (l : List Proxy). l ++ (r.first).behind) (sym (proxies-joined_layout (layout_before i) (layout_before r.front)));

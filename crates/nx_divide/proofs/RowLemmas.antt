@@ -1,14 +1,12 @@
 -- Drafts beside each other, and what their places change.
 use Rattle.std.proofs.Common.{◌≡◌, ℕ, ◌+◌, ◌≤◌, List, ◌∷◌, ◌++◌, refl, sym, ap, ◌∙◌, subst, arith, append_assoc}
-use Rattle.std.specs.Prelude.{Option}
-use Rattle.nx_tree.specs.declared.node.Node.{Node}
-use Rattle.nx_piece.specs.declared.piece.Piece.{Piece}
 use Rattle.nx_piece.specs.declared.piece.Proxy.{Proxy}
 use Rattle.nx_piece.specs.Gapped.{Gapped, GappedTree, End, Grow, Gap, proxies_in}
 use Rattle.nx_piece.specs.Items.{with_last_tree}
 use Rattle.nx_cuts.specs.Cut.{CutForest, Bare, Grown, Kept, width, AreFree, AreParts}
-use Rattle.nx_layouts.specs.Layout.{RecordPlace, Layout, without_places, gap_more, piece_body, proxies_of, AreHeld}
+use Rattle.nx_layouts.specs.Layout.{RecordPlace, LaidNode, Layout, Stock, in_record, without_places, gap_more, piece_body, proxies_of, AreLaidParts, AreHeld}
 use Rattle.nx_layouts.specs.Replace.{joined_layout}
+use Rattle.nx_layouts.proofs.DrawnLemmas.{drawn_wide}
 use Rattle.nx_drafts.specs.Draft.{Draft, Ends, Grows, Stands, Comes, drawn_forest, layout_before, layout_after, came, unmarked, draft_body, draft_count, draft_needs, record_pages}
 use Rattle.nx_divide.specs.Marked.{many}
 use Rattle.nx_build.specs.Rows.{with_proxy}
@@ -78,7 +76,7 @@ count-joined (Comes u m s) b = omega (arith, count-joined s b)
 -- places change neither the piece nor what stands
 pub body-unmarked : (a : Made) → draft_body (unmarked a) ≡ draft_body a
 body-unmarked Ends = refl
-body-unmarked (Grows n d s) = ap (λ (g : Gapped). Grow n g (draft_body (unmarked s))) (body-unmarked d) ∙ ap (Grow n (draft_body d)) (body-unmarked s)
+body-unmarked (Grows n d s) = ap (λ (g : Gapped). Grow (in_record n) g (draft_body (unmarked s))) (body-unmarked d) ∙ ap (Grow (in_record n) (draft_body d)) (body-unmarked s)
 body-unmarked (Stands r m s) = ap gap_more (body-unmarked s)
 body-unmarked (Comes u m s) = ap gap_more (body-unmarked s)
 
@@ -99,7 +97,7 @@ needs-unmarked (Comes u m s) =
 
 pub drawn_forest-unmarked : (a : Made) → drawn_forest (unmarked a) ≡ drawn_forest a
 drawn_forest-unmarked Ends = refl
-drawn_forest-unmarked (Grows n d s) = ap (λ (c : CutForest). Grown n c (drawn_forest (unmarked s))) (drawn_forest-unmarked d) ∙ ap (Grown n (drawn_forest d)) (drawn_forest-unmarked s)
+drawn_forest-unmarked (Grows n d s) = ap (λ (c : CutForest). Grown n.node c (drawn_forest (unmarked s))) (drawn_forest-unmarked d) ∙ ap (Grown n.node (drawn_forest d)) (drawn_forest-unmarked s)
 drawn_forest-unmarked (Stands r m s) = ap (Kept tt (without_places m)) (drawn_forest-unmarked s)
 drawn_forest-unmarked (Comes u m s) = ap (λ (c : CutForest). Kept tt c (drawn_forest (unmarked s))) (drawn_forest-unmarked m) ∙ ap (Kept tt (drawn_forest m)) (drawn_forest-unmarked s)
 
@@ -110,10 +108,16 @@ layout_before-unmarked (Stands r m s) = ap (Kept r m) (layout_before-unmarked s)
 layout_before-unmarked (Comes u m s) = ap (λ (c : Layout). joined_layout c (layout_before (unmarked s))) (layout_before-unmarked m) ∙ ap (joined_layout (layout_before m)) (layout_before-unmarked s)
 
 -- what is held beside each other
-pub held-parted : (pieces : RecordPlace → Option Piece) (a b : Layout) → AreHeld pieces (joined_layout a b) → AreHeld pieces a × AreHeld pieces b
-held-parted pieces Bare b h = (tt, h)
-held-parted pieces (Grown n d s) b h = let r = held-parted pieces s b h.1 in ((h.0, r.0), r.1)
-held-parted pieces (Kept p m s) b h = let r = held-parted pieces s b h.2 in ((h.0, h.1, r.0), r.1)
+pub held-parted : (stock : Stock) (a b : Layout) → AreHeld stock (joined_layout a b) → AreHeld stock a × AreHeld stock b
+held-parted stock Bare b h = (tt, h)
+held-parted stock (Grown n d s) b h = let r = held-parted stock s b h.2 in ((h.0, h.1, r.0), r.1)
+held-parted stock (Kept p m s) b h = let r = held-parted stock s b h.2 in ((h.0, h.1, r.0), r.1)
+
+-- what is light beside each other
+pub light-parted : (k : ℕ) (a b : Layout) → AreLaidParts k (joined_layout a b) → AreLaidParts k a × AreLaidParts k b
+light-parted k Bare b h = (tt, h)
+light-parted k (Grown n d s) b h = let r = light-parted k s b h.1 in ((h.0, r.0), r.1)
+light-parted k (Kept p m s) b h = let r = light-parted k s b h.4 in ((h.0, h.1, h.2, h.3, r.0), r.1)
 
 -- the piece of what has come, with one more
 more_proxy : (g : Gapped) → gap_more (with_proxy g) ≡ with_proxy (gap_more g)
@@ -130,21 +134,21 @@ more_tree (Gap count beside) t = refl
 
 pub body-comes : (a : Made) (u : RecordPlace) (m : Made) → draft_body (joined_draft a (Comes u m Ends)) ≡ with_proxy (draft_body a)
 body-comes Ends u m = refl
-body-comes (Grows n d s) u m = ap (Grow n (draft_body d)) (body-comes s u m)
+body-comes (Grows n d s) u m = ap (Grow (in_record n) (draft_body d)) (body-comes s u m)
 body-comes (Stands r i s) u m = ap gap_more (body-comes s u m) ∙ more_proxy (draft_body s)
 body-comes (Comes r i s) u m = ap gap_more (body-comes s u m) ∙ more_proxy (draft_body s)
 
 pub body-stands : (a : Made) (u : RecordPlace) (m : Layout) → draft_body (joined_draft a (Stands u m Ends)) ≡ with_proxy (draft_body a)
 body-stands Ends u m = refl
-body-stands (Grows n d s) u m = ap (Grow n (draft_body d)) (body-stands s u m)
+body-stands (Grows n d s) u m = ap (Grow (in_record n) (draft_body d)) (body-stands s u m)
 body-stands (Stands r i s) u m = ap gap_more (body-stands s u m) ∙ more_proxy (draft_body s)
 body-stands (Comes r i s) u m = ap gap_more (body-stands s u m) ∙ more_proxy (draft_body s)
 
-pub body-grows : (a : Made) (node : Node) (below : Made) → draft_body (joined_draft a (Grows node below Ends)) ≡ with_last_tree (draft_body a) (record { node = node; below = draft_body below })
+pub body-grows : (a : Made) (node : LaidNode) (below : Made) → draft_body (joined_draft a (Grows node below Ends)) ≡ with_last_tree (draft_body a) (record { node = in_record node; below = draft_body below })
 body-grows Ends node below = refl
-body-grows (Grows n d s) node below = ap (Grow n (draft_body d)) (body-grows s node below)
-body-grows (Stands r i s) node below = ap gap_more (body-grows s node below) ∙ more_tree (draft_body s) (record { node = node; below = draft_body below })
-body-grows (Comes r i s) node below = ap gap_more (body-grows s node below) ∙ more_tree (draft_body s) (record { node = node; below = draft_body below })
+body-grows (Grows n d s) node below = ap (Grow (in_record n) (draft_body d)) (body-grows s node below)
+body-grows (Stands r i s) node below = ap gap_more (body-grows s node below) ∙ more_tree (draft_body s) (record { node = in_record node; below = draft_body below })
+body-grows (Comes r i s) node below = ap gap_more (body-grows s node below) ∙ more_tree (draft_body s) (record { node = in_record node; below = draft_body below })
 
 pub proxies-joined : (a b : Made) → proxies_of (layout_after (joined_draft a b)) ≡ proxies_of (layout_after a) ++ proxies_of (layout_after b)
 proxies-joined Ends b = refl
@@ -155,12 +159,7 @@ proxies-joined (Comes r m s) b = ap (λ (l : List Proxy). record { page = r.page
 pub width-layout_after : (a : Made) → width (layout_after a) ≡ width (drawn_forest a)
 width-layout_after Ends = refl
 width-layout_after (Grows n d s) = omega (arith, width-layout_after s)
-width-layout_after (Stands r m s) = omega (arith, width-layout_after s, width_bare m)
-  where
-    width_bare : (l : Layout) → width (without_places l) ≡ width l
-    width_bare Bare = refl
-    width_bare (Grown n b s) = omega (arith, width_bare s)
-    width_bare (Kept p i s) = omega (arith, width_bare i, width_bare s)
+width-layout_after (Stands r m s) = omega (arith, width-layout_after s, drawn_wide m)
 width-layout_after (Comes r m s) = omega (arith, width-layout_after m, width-layout_after s)
 
 -- so many proxies and no more

@@ -17,22 +17,23 @@ use Rattle.nx_piece.specs.declared.piece.Proxy.{Proxy}
 use Rattle.nx_piece.specs.Gapped as gapped
 use Rattle.nx_piece.specs.Gapped.{Gapped, GappedTree, End, Grow, proxies_in}
 use Rattle.nx_piece.specs.Items.{gapped_of, with_last, with_last_tree}
-use Rattle.nx_piece.specs.Valid.{IsValidPiece}
+use Rattle.nx_piece.specs.Valid.{AreNear, IsValidPiece}
 use Rattle.nx_piece.proofs.GappedLemmas.{gapped_of-push}
 use Rattle.nx_cuts.specs.Cut.{width, AreFree}
 use Rattle.nx_layouts.specs.Layout.{RecordPlace, piece_body, piece_of}
-use Rattle.nx_hold.specs.Changes.{place_named, piece_needs, AddsPiece, ComesTidy}
+use Rattle.nx_hold.specs.Changes.{place_named, piece_needs, AddsPiece}
 use Rattle.nx_drafts.specs.Draft.{Draft, Ends, Grows, Stands, Comes, drawn_forest, layout_before, layout_after, unmarked, draft_count, draft_needs}
 use Rattle.nx_drafts.proofs.PlacesLemmas.{body-layout_after}
 use Rattle.nx_divide.specs.Marked.{IsMarkedDraft, AreMarkedMembers, HasMarkedDraft, HasMarkedMembers, many}
 use Rattle.nx_divide.specs.Putting.{PutsRow, GathersPiece, PutsMembers}
 use Rattle.nx_build.specs.Rows.{with_proxy}
 use Rattle.nx_divide.proofs.RowLemmas.{joined_draft, needs-unmarked}
+use Rattle.nx_divide.proofs.WrittenLemmas.{written_near}
 use Rattle.nx_divide.proofs.PutLemmas.{needs_comes}
 use Rattle.nx_divide.proofs.CallLemmas.{put_refused}
 use Rattle.nx_divide.proofs.LeftLemmas.{some_left, take_next}
 use Rattle.nx_divide.proofs.MarkedLemmas.{BeginsGrown, BeginsKept, marked_same, free_begins, none_begins, begins_grown, begins_kept, members_end_is}
-use Rattle.nx_divide.proofs.WalkLemmas.{WalksOn, walk_tree, walk_interval, walk_ends, room_left, tree_refused, interval_refused, members_at, piece_is, members_valid, puts_members}
+use Rattle.nx_divide.proofs.WalkLemmas.{WalksOn, walk_tree, walk_interval, walk_ends, room_left, tree_refused, interval_refused, members_at, piece_is, members_written, members_valid, puts_members}
 
 abbrev Plan : Type 0
 Plan = Draft (Unit {0})
@@ -195,6 +196,12 @@ module _ {D : Type 0} {d : Ghosts D} (marks : List Mark) {index position : ℕ} 
         let g = piece_gathered in
         subst IsValidPiece (sym g.piece_is) (members_valid (holder_by_marks marks) first all whole members g.draft m g.same few)
 
+    pub piece_near : (first : ℕ) (all : Gapped) (whole : List Proxy) → AreMarkedMembers (holder_by_marks marks) first all whole members → AreNear roots
+    piece_near first all whole m =
+        let g = piece_gathered in
+        let same : roots ≡ piece_body (layout_after g.draft) = ap (λ (p : Piece). p.body.roots) g.piece_is in
+        subst AreNear (sym same) (written_near (piece_body (layout_after g.draft)) (members_written (holder_by_marks marks) first all whole members g.draft m g.same))
+
 -- what the records of a gathered piece and of all below it need
 pub gathered_needs : {D : Type 0} {d : Ghosts D} {r0 r1 : Records} {x0 x1 : D} {members : Plan} {piece : Piece} (g : GathersPiece d r0 r1 x0 x1 members piece) → draft_needs (Comes tt members Ends) ≡ draft_needs g.draft + piece_needs piece
 gathered_needs {members = members} {piece = piece} g =
@@ -234,16 +241,15 @@ all_gathered d marks all left whole olds first position roots has r0 r1 x0 x1 wa
 -- the call that puts the record of an interval, once its piece was gathered
 module _ {D : Type 0} (d : Ghosts D) (marks : List Mark) (all : Gapped) (whole : List Proxy) (first : ℕ) (piece : Piece) (r0 r1 r2 : Records) (x0 x1 x2 : D)
     (gathers : (members : Plan) → AreMarkedMembers (holder_by_marks marks) first all whole members → GathersPiece d r0 r1 x0 x1 members piece) where
-  pub put_done : (r : Result Proxy StoreError) → IfOk r (λ proxy. proxy.roots ≡ gapped.gapped_width piece.body.roots) → IfOk r (λ proxy. ComesTidy d r1 r2 x1 x2 (λ was now. AddsPiece (place_named proxy) piece was now))
-      → IfOk r (λ proxy. ComesTo d r1 r2 x1 x2 (λ was now. was.free ≤ now.free + piece_needs piece)) → IfOk r (λ proxy. RunsOn r1 r2 × KeepsSaved d r1 r2 x1 x2 × (HasChanges r2)) → IsStill d x1 x2
+  pub put_done : (r : Result Proxy StoreError) → IfOk r (λ proxy. proxy.roots ≡ gapped.gapped_width piece.body.roots) → IfOk r (λ proxy. ComesTo d r1 r2 x1 x2 (λ was now. AddsPiece (place_named proxy) piece was now))
+      → IfOk r (λ proxy. RunsOn r1 r2 × KeepsSaved d r1 r2 x1 x2 × (HasChanges r2)) → IsStill d x1 x2
       → IfOk r (λ proxy. (members : Plan) → AreMarkedMembers (holder_by_marks marks) first all whole members → PutsMembers d r0 r2 x0 x2 members proxy)
-  put_done (Ok proxy) width adds takes keeps still = λ members m.
+  put_done (Ok proxy) width adds keeps still = λ members m.
       let g = gathers members m in
-      puts_members {d = d} {r0 = r0} {r1 = r1} {r2 = r2} {x0 = x0} {x1 = x1} {x2 = x2} members g.draft proxy g.same g.put
+      puts_members {d = d} {r0 = r0} {r1 = r1} {r2 = r2} {x0 = x0} {x1 = x1} {x2 = x2} members g.draft proxy g.same (members_written (holder_by_marks marks) first all whole members g.draft m g.same) g.put
       (width ∙ ap (λ (p : Piece). gapped.gapped_width p.body.roots) g.piece_is ∙ ap gapped.gapped_width (body-layout_after g.draft)) m.free keeps.0 keeps.1 still
-      (subst (λ (p : Piece). ComesTo d r1 r2 x1 x2 (λ was now. was.free ≤ now.free + piece_needs p)) g.piece_is takes)
-      (subst (λ (p : Piece). ComesTidy d r1 r2 x1 x2 (λ was now. AddsPiece (place_named proxy) p was now)) g.piece_is adds)
-  put_done (Err e) width adds takes keeps still = tt
+      (subst (λ (p : Piece). ComesTo d r1 r2 x1 x2 (λ was now. AddsPiece (place_named proxy) p was now)) g.piece_is adds)
+  put_done (Err e) width adds keeps still = tt
 
   pub put_not : (r : Result Proxy StoreError) → IfErr r (λ e. NotStored d (λ was. piece_needs piece) (λ was. ⊥) 0 e r1 r2 x1 x2)
       → IfErr r (λ e. (members : Plan) → AreMarkedMembers (holder_by_marks marks) first all whole members → NotStored d (λ was. draft_needs (Comes tt members Ends)) (λ was. ⊥) 0 e r0 r2 x0 x2)

@@ -7,9 +7,9 @@ use Rattle.nx_tree.specs.declared.node.Node.{Node}
 use Rattle.nx_parts.specs.declared.interval.Interval.{Interval}
 use Rattle.nx_parts.specs.Partitioning.{holder}
 use Rattle.nx_matrix.specs.declared.rule.Rule.{Rule}
-use Rattle.nx_cuts.specs.Cut.{Bare, Grown, Kept, width, forest, intervals, cuts, AreFree, AreParts}
+use Rattle.nx_cuts.specs.Cut.{Bare, Grown, Kept, width, intervals, cuts, AreFree, AreParts}
 use Rattle.nx_cuts.proofs.FeasibleLemmas.{length-intervals}
-use Rattle.nx_records.specs.Words.{Settings}
+use Rattle.nx_records.specs.Words.{Held, Settings}
 use Rattle.nx_records.specs.declared.records.Records.{Records}
 use Rattle.nx_records.specs.declared.error.StoreError.{StoreError}
 use Rattle.nx_records.specs.Records.{HasChanges, KeepsSaved}
@@ -18,30 +18,32 @@ use Rattle.nx_piece.specs.declared.piece.Item.{Item}
 use Rattle.nx_piece.specs.declared.piece.Piece.{Piece}
 use Rattle.nx_piece.specs.declared.piece.Proxy.{Proxy}
 use Rattle.nx_piece.specs.Gapped as gapped
-use Rattle.nx_piece.specs.Gapped.{Gapped, End, Grow, Gap, item_count, item_slots, gapped_size}
+use Rattle.nx_piece.specs.PieceNode.{item_slots}
+use Rattle.nx_piece.specs.Gapped.{Gapped, End, Grow, Gap, item_count, gapped_size}
 use Rattle.nx_piece.specs.Items.{gapped_of}
-use Rattle.nx_piece.specs.Valid.{IsPiece, AreApart, AreTrees, BeginsNoGap}
+use Rattle.nx_piece.specs.Valid.{IsPiece, AreApart, AreNear, AreTrees, BeginsNoGap}
 use Rattle.nx_parts.specs.declared.marks.Mark.{Mark}
 use Rattle.nx_parts.specs.Marks.{marked, marked_in, holder_by_marks}
 use Rattle.nx_layouts.specs.Replace.{joined_layout}
-use Rattle.nx_layouts.specs.Layout.{RecordPlace, Layout, without_places, gap_more, piece_body, proxies_of, piece_of}
+use Rattle.nx_layouts.specs.Layout.{RecordPlace, Layout, without_places, laid_forest, AreLaidParts, gap_more, piece_body, proxies_of, piece_of}
 use Rattle.nx_sketch.specs.Split.{IsSplit}
 use Rattle.nx_split.specs.Piece.{placed_of}
 use Rattle.nx_drawn.specs.Splits.{part_nodes, Divides}
 use Rattle.nx_drafts.specs.Laws.{IsDrafted}
 use Rattle.nx_drafts.specs.Draft.{Draft, Ends, Grows, Stands, Comes, drawn_forest, layout_before, layout_after, came, unmarked, draft_body, draft_count, draft_needs, AreHeldAll}
-use Rattle.nx_drawn.proofs.BareLemmas.{forest_bare, parts_with}
 use Rattle.nx_drawn.proofs.DividedLemmas.{heavier_parts, feasible_plan}
 use Rattle.nx_drafts.proofs.DraftLemmas.{split_is_drafted}
 use Rattle.nx_drafts.proofs.GatherLemmas.{forest-layout_before}
 use Rattle.nx_drawn.proofs.PieceLemmas.{piece_part}
 use Rattle.nx_drafts.proofs.PlacesLemmas.{body-layout_after, count-layout_after, drawn_forest-layout_after}
 use Rattle.nx_drafts.proofs.SomeLemmas.{piece_has_members}
-use Rattle.nx_divide.specs.Marked.{IsMarkedDraft, IsMarkedRow, many}
+use Rattle.nx_divide.specs.Marked.{AreWritten, IsMarkedDraft, IsMarkedRow, many}
+use Rattle.nx_divide.proofs.WrittenLemmas.{written_both}
 use Rattle.nx_divide.proofs.MarkedLemmas.{marked_same}
 use Rattle.nx_divide.proofs.PartedLemmas.{all_come}
 use Rattle.nx_divide.specs.Dividing.{DividesMembers, IsSplitOf, NotPutAt, PutsRowAt, PutsSome}
-use Rattle.nx_hold.specs.Changes.{ComesTidy}
+use Rattle.nx_hold.specs.Pieces.{MayName}
+use Rattle.nx_hold.specs.Changes.{ComesTidyWhere}
 use Rattle.nx_divide.proofs.RowLemmas.{drawn_forest-unmarked, layout_before-unmarked, many-gap_more, many-joined}
 use Rattle.nx_divide.proofs.AgreeLemmas.{plan_agrees}
 
@@ -80,7 +82,7 @@ all_gap made c same held roots are some =
     one_left (Comes u m s) c same held roots are some = omega arith
 
 module _ (settings : Settings) (rules : List Rule) (above : Option Node) (most : settings.k ≤ 256) (piece : Piece) (parts : List Interval) (split : IsSplit settings.k (placed_of rules above piece) settings.target settings.tolerance parts)
-    (members : Layout) (is : piece_of members ≡ piece) (limit : ℕ) (heavier : settings.k ≤ limit) (few : limit ≤ 256) (light : AreParts limit members) where
+    (written : AreWritten piece.body.roots) (members : Layout) (is : piece_of members ≡ piece) (limit : ℕ) (heavier : settings.k ≤ limit) (few : limit ≤ 256) (light : AreLaidParts limit members) where
   split_part : IsSplit settings.k (part_nodes rules above (without_places members)) settings.target settings.tolerance parts
   split_part = subst (λ l. IsSplit settings.k l settings.target settings.tolerance parts) (ap (placed_of rules above) (sym is) ∙ piece_part rules above members) split
 
@@ -90,6 +92,7 @@ module _ (settings : Settings) (rules : List Rule) (above : Option Node) (most :
   pub made_marked : IsMarkedDraft None (holder parts) 0 piece.body.roots piece.proxies made.draft
   made_marked = record {
     items_are = ap piece_body made.stands ∙ ap (λ (p : Piece). p.body.roots) is;
+    written = written;
     behind = [];
     olds_are = ap (λ (p : Piece). p.proxies) (sym is) ∙ ap proxies_of (sym made.stands) ∙ sym (append-nil (proxies_of (layout_before made.draft)));
     light = heavier_parts limit 256 (drawn_forest made.draft) few made.light;
@@ -100,7 +103,7 @@ module _ (settings : Settings) (rules : List Rule) (above : Option Node) (most :
   made_divides = record {
     parts = parts;
     split = split_part;
-    same = sym (forest-layout_before made.draft) ∙ ap forest made.stands ∙ sym (forest_bare members);
+    same = sym (forest-layout_before made.draft) ∙ ap laid_forest made.stands;
     drawn = made.drawn;
     limit = limit;
     formed = made.light;
@@ -118,40 +121,40 @@ pub record GivesUpAt {D : Type 0} (d : Ghosts D) (settings : Settings) (rules : 
   pub refused : NotPutAt d place (draft_needs draft) e old new before after
 
 module _ {D : Type 0} (d : Ghosts D) (settings : Settings) (rules : List Rule) (above : Option Node) (most : settings.k ≤ 256) (piece : Piece) (parts : List Interval) (split : IsSplit settings.k (placed_of rules above piece) settings.target settings.tolerance parts)
-    (valid : IsPiece piece) (place : RecordPlace) (r0 r1 : Records) (x0 x1 : D) where
-  made_row : (members : Layout) (is : piece_of members ≡ piece) (light : AreParts settings.k members)
-      → IsMarkedRow (holder parts) piece.body.roots piece.proxies (made settings rules above most piece parts split members is settings.k (omega arith) most light).draft
+    (written : AreWritten piece.body.roots) (valid : IsPiece piece) (place : RecordPlace) (r0 r1 : Records) (x0 x1 : D) where
+  made_row : (members : Layout) (is : piece_of members ≡ piece) (light : AreLaidParts settings.k members)
+      → IsMarkedRow (holder parts) piece.body.roots piece.proxies (made settings rules above most piece parts split written members is settings.k (omega arith) most light).draft
   made_row members is light =
-      let m = made settings rules above most piece parts split members is settings.k (omega arith) most light in
-      row_come (holder parts) piece m.draft m.held valid (made_marked settings rules above most piece parts split members is settings.k (omega arith) most light)
+      let m = made settings rules above most piece parts split written members is settings.k (omega arith) most light in
+      row_come (holder parts) piece m.draft m.held valid (made_marked settings rules above most piece parts split written members is settings.k (omega arith) most light)
 
   pub divides_ok : (r : Result (List Proxy) StoreError) → IfOk r (λ row. (drawn : Draft (Unit {0})) → IsMarkedRow (holder parts) piece.body.roots piece.proxies drawn → PutsRowAt d place r0 r1 x0 x1 drawn row)
-      → IfOk r (λ row. (members : Layout) → piece_of members ≡ piece → AreParts settings.k members → DividesMembers d settings rules above place r0 r1 x0 x1 members row)
+      → IfOk r (λ row. (members : Layout) → piece_of members ≡ piece → AreLaidParts settings.k members → DividesMembers d settings rules above place r0 r1 x0 x1 members row)
   divides_ok (Err e) h = tt
   divides_ok (Ok row) h = λ members is light.
-      let m = made settings rules above most piece parts split members is settings.k (omega arith) most light in
+      let m = made settings rules above most piece parts split written members is settings.k (omega arith) most light in
       let p = h m.draft (made_row members is light) in
       let bare : without_places (layout_after p.draft) ≡ drawn_forest m.draft = drawn_forest-layout_after p.draft ∙ sym (drawn_forest-unmarked p.draft) ∙ ap drawn_forest p.same in
       let row_is : row ≡ proxies_of (layout_after p.draft) = p.proxies_are in
       record {
         draft = p.draft;
         stands = sym (layout_before-unmarked p.draft) ∙ ap layout_before p.same ∙ m.stands;
-        divides = subst (Divides settings rules above (without_places members)) (sym bare) (made_divides settings rules above most piece parts split members is settings.k (omega arith) most light);
-        light = parts_with settings.k (layout_after p.draft) (subst (AreParts settings.k) (sym bare) m.light);
+        divides = subst (Divides settings rules above (without_places members)) (sym bare) (made_divides settings rules above most piece parts split written members is settings.k (omega arith) most light);
+        light = subst (AreParts settings.k) (sym bare) m.light;
         row_is = row_is;
         gap = all_gap p.draft m.draft p.same m.held piece.body.roots (ap piece_body m.stands ∙ ap (λ (q : Piece). q.body.roots) is) valid.body.some ∙ ap (λ (i : ℕ). Gap i End) (sym (count-layout_after p.draft) ∙ ap length (sym row_is));
         put = p.put;
       }
 
   pub gives_up : (r : Result (List Proxy) StoreError) → IfErr r (λ e. (drawn : Draft (Unit {0})) → IsMarkedRow (holder parts) piece.body.roots piece.proxies drawn → NotPutAt d place (draft_needs drawn) e r0 r1 x0 x1)
-      → IfErr r (λ e. (members : Layout) → piece_of members ≡ piece → AreParts settings.k members → GivesUpAt d settings rules above place e r0 r1 x0 x1 members)
+      → IfErr r (λ e. (members : Layout) → piece_of members ≡ piece → AreLaidParts settings.k members → GivesUpAt d settings rules above place e r0 r1 x0 x1 members)
   gives_up (Ok row) h = tt
   gives_up (Err e) h = λ members is light.
-      let m = made settings rules above most piece parts split members is settings.k (omega arith) most light in
+      let m = made settings rules above most piece parts split written members is settings.k (omega arith) most light in
       record {
         draft = m.draft;
         stands = m.stands;
-        divides = made_divides settings rules above most piece parts split members is settings.k (omega arith) most light;
+        divides = made_divides settings rules above most piece parts split written members is settings.k (omega arith) most light;
         refused = h m.draft (made_row members is light);
       }
 
@@ -202,12 +205,15 @@ parts_are_few k members parts made =
     omega (arith, all, a, b, c, e, f, g, h)
 
 -- a piece in memory, with the intervals of a split of it
-module _ (settings : Settings) (most : settings.k ≤ 256) (piece : Piece) (parts : List Interval) (split : IsSplitOf settings piece parts) (valid : IsPiece piece) where
+module _ (settings : Settings) (most : settings.k ≤ 256) (piece : Piece) (parts : List Interval) (split : IsSplitOf settings piece parts) (valid : IsPiece piece) (near : AreNear piece.body.roots) where
+  pub some_written : AreWritten piece.body.roots
+  some_written = written_both piece.body.roots near valid.body.far
+
   abbrev pub some_draft : IsDrafted 256 (piece_has_members piece valid).members parts
-  some_draft = made settings split.rules split.above most piece parts split.split (piece_has_members piece valid).members (piece_has_members piece valid).is 256 most (omega arith) (piece_has_members piece valid).light
+  some_draft = made settings split.rules split.above most piece parts split.split some_written (piece_has_members piece valid).members (piece_has_members piece valid).is 256 most (omega arith) (piece_has_members piece valid).light
 
   pub some_marked : IsMarkedDraft None (holder parts) 0 piece.body.roots piece.proxies some_draft.draft
-  some_marked = made_marked settings split.rules split.above most piece parts split.split (piece_has_members piece valid).members (piece_has_members piece valid).is 256 most (omega arith) (piece_has_members piece valid).light
+  some_marked = made_marked settings split.rules split.above most piece parts split.split some_written (piece_has_members piece valid).members (piece_has_members piece valid).is 256 most (omega arith) (piece_has_members piece valid).light
 
   pub some_row : IsMarkedRow (holder parts) piece.body.roots piece.proxies some_draft.draft
   some_row = row_come (holder parts) piece some_draft.draft some_draft.held valid some_marked
@@ -245,21 +251,27 @@ apart_few (Gap count s) a = let y = (apart_few s a.2).0 a.1 in (λ none. absurd 
 pub items_few : (piece : Piece) → IsPiece piece → item_count piece.body.roots ≤ 1048576
 items_few piece p =
     let x = (apart_few piece.body.roots p.body.apart).1 in
-    let y = p.body.light in
+    let y = p.body.small in
     omega (arith, x, y)
 
-module _ {D : Type 0} (d : Ghosts D) (settings : Settings) (most : settings.k ≤ 256) (piece : Piece) (parts : List Interval) (split : IsSplitOf settings piece parts) (valid : IsPiece piece) (place : RecordPlace) (r0 r1 : Records) (x0 x1 : D) where
+module _ {D : Type 0} (d : Ghosts D) (settings : Settings) (most : settings.k ≤ 256) (piece : Piece) (parts : List Interval) (split : IsSplitOf settings piece parts) (valid : IsPiece piece) (near : AreNear piece.body.roots) (place : RecordPlace) (r0 r1 : Records) (x0 x1 : D) where
   abbrev Rows : List Proxy → Type 0
   Rows row = (drawn : Draft (Unit {0})) → IsMarkedRow (holder parts) piece.body.roots piece.proxies drawn → PutsRowAt d place r0 r1 x0 x1 drawn row
 
-  row_put : (row : List Proxy) → Rows row → PutsRowAt d place r0 r1 x0 x1 (some_draft settings most piece parts split valid).draft row
-  row_put row puts = puts (some_draft settings most piece parts split valid).draft (some_row settings most piece parts split valid)
+  row_put : (row : List Proxy) → Rows row → PutsRowAt d place r0 r1 x0 x1 (some_draft settings most piece parts split valid near).draft row
+  row_put row puts = puts (some_draft settings most piece parts split valid near).draft (some_row settings most piece parts split valid near)
 
-  pub parts_come : (r : Result (List Proxy) StoreError) → IfOk r Rows → IfOk r (λ row. ComesTidy d r0 r1 x0 x1 (PutsSome place))
+  -- the lists that the row names are those of the piece
+  row_named : (row : List Proxy) (p : PutsRowAt d place r0 r1 x0 x1 (some_draft settings most piece parts split valid near).draft row) (was : Held) → MayName was piece.body.roots → MayName was (piece_body (layout_before p.draft))
+  row_named row p was may =
+      subst (λ (g : Gapped). MayName was g)
+      (sym (ap piece_body (sym (layout_before-unmarked p.draft)) ∙ ap (λ (c : Draft (Unit {0})). piece_body (layout_before c)) p.same ∙ (some_marked settings most piece parts split valid near).items_are)) may
+
+  pub parts_come : (r : Result (List Proxy) StoreError) → IfOk r Rows → IfOk r (λ row. ComesTidyWhere d r0 r1 x0 x1 (λ was. MayName was piece.body.roots) (PutsSome place))
   parts_come (Err e) puts = tt
-  parts_come (Ok row) puts = λ saved was stands tidy.
+  parts_come (Ok row) puts = λ saved was stands tidy may.
       let p = row_put row puts in
-      let now = (p.put).puts saved was stands tidy in
+      let now = (p.put).puts saved was stands tidy (row_named row p was may) in
       (now.0, now.1, now.2, (came p.draft, draft_needs p.draft, (now.3).moves))
 
   pub parts_keep : (r : Result (List Proxy) StoreError) → IfOk r Rows → IfOk r (λ row. RunsOn r0 r1 × KeepsSaved d r0 r1 x0 x1 × HasChanges r1)
@@ -269,4 +281,4 @@ module _ {D : Type 0} (d : Ghosts D) (settings : Settings) (most : settings.k �
   pub parts_cause : (r : Result (List Proxy) StoreError) → IfErr r (λ e. (drawn : Draft (Unit {0})) → IsMarkedRow (holder parts) piece.body.roots piece.proxies drawn → NotPutAt d place (draft_needs drawn) e r0 r1 x0 x1)
       → IfErr r (λ e. (needs : ℕ) × NotPutAt d place needs e r0 r1 x0 x1)
   parts_cause (Ok row) refused = tt
-  parts_cause (Err e) refused = let m = some_draft settings most piece parts split valid in (draft_needs m.draft, refused m.draft (some_row settings most piece parts split valid))
+  parts_cause (Err e) refused = let m = some_draft settings most piece parts split valid near in (draft_needs m.draft, refused m.draft (some_row settings most piece parts split valid near))

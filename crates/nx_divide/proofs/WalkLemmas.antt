@@ -2,7 +2,7 @@
 use Rattle.std.proofs.Common.{◌≡◌, ℕ, ◌+◌, ◌≤◌, List, [], ◌∷◌, ◌++◌, length, take, drop, Option, None, refl, sym, ap, ◌∙◌, subst, arith, append_assoc, append-nil, false}
 use Rattle.nx_host.specs.declared.disk.Disk.{Ghosts}
 use Rattle.nx_host.specs.Still.{IsStill}
-use Rattle.nx_tree.specs.declared.node.Node.{Node}
+use Rattle.nx_piece.specs.PieceNode.{PieceNode}
 use Rattle.nx_records.specs.declared.records.Records.{Records}
 use Rattle.nx_records.specs.declared.error.StoreError.{StoreError}
 use Rattle.nx_records.specs.Records.{has_ended, KeepsSaved, ComesTo}
@@ -14,19 +14,20 @@ use Rattle.nx_piece.specs.Gapped as gapped
 use Rattle.nx_piece.specs.Gapped.{Gapped, GappedTree, End, Grow, Gap, proxies_in}
 use Rattle.nx_piece.specs.Items.{gapped_of, with_last_tree}
 use Rattle.nx_piece.specs.Valid.{IsValidPiece}
-use Rattle.nx_cuts.specs.Cut.{width, part_weight, AreFree, AreParts}
-use Rattle.nx_layouts.specs.Layout.{without_places, piece_body, proxies_of, piece_of}
-use Rattle.nx_layouts.proofs.SizeLemmas.{part_is_weight, parts_fit}
+use Rattle.nx_cuts.specs.Cut.{CutForest, width, part_weight, AreFree, AreParts}
+use Rattle.nx_layouts.specs.Layout.{in_record, without_places, laid_weight, AreLaidParts, piece_body, proxies_of, piece_of}
+use Rattle.nx_layouts.proofs.DrawnLemmas.{drawn_wide, drawn_free}
 use Rattle.nx_layouts.proofs.ValidLemmas.{piece_valid}
-use Rattle.nx_hold.specs.Changes.{place_named, piece_needs, AddsPiece, ComesTidy}
+use Rattle.nx_hold.specs.Changes.{place_named, AddsPiece}
 use Rattle.nx_drafts.specs.Draft.{Draft, Ends, Grows, Stands, Comes, drawn_forest, layout_before, layout_after, unmarked, draft_body, draft_count, draft_needs}
-use Rattle.nx_drawn.proofs.BareLemmas.{width_bare, weight_bare, free_with, parts_with}
 use Rattle.nx_drafts.proofs.PlacesLemmas.{body-layout_after, count-layout_after, drawn_forest-layout_after}
 use Rattle.nx_layouts.specs.Layout.{RecordPlace}
-use Rattle.nx_divide.specs.Marked.{IsMarkedDraft, AreMarkedMembers, many}
+use Rattle.nx_divide.specs.Marked.{AreWritten, IsMarkedDraft, AreMarkedMembers, many}
 use Rattle.nx_divide.specs.Putting.{ArePut, PutsRow, PutsMembers}
 use Rattle.nx_build.specs.Rows.{with_proxy}
-use Rattle.nx_divide.proofs.RowLemmas.{joined_draft, joined_draft-assoc, joined_draft-nothing, unmarked-joined, needs-joined, count-joined, body-comes, body-stands, body-grows, proxies-joined, width-layout_after, count-unmarked, needs-unmarked, drawn_forest-unmarked, proxies-body, count_few}
+use Rattle.nx_divide.proofs.RowLemmas.{joined_draft, joined_draft-assoc, joined_draft-nothing, unmarked-joined, needs-joined, count-joined, body-comes, body-stands, body-grows, proxies-joined, width-layout_after, count-unmarked, needs-unmarked, drawn_forest-unmarked, layout_before-unmarked, proxies-body, count_few}
+use Rattle.nx_divide.proofs.WrittenLemmas.{written_after, written_far}
+use Rattle.nx_divide.proofs.PutLemmas.{part_fits}
 use Rattle.nx_divide.proofs.CallLemmas.{put_none, put_stands, put_both, put_grows, put_comes, put_refused}
 use Rattle.nx_divide.proofs.MarkedLemmas.{BeginsGrown, BeginsStanding, BeginsKept, nothing_left}
 
@@ -64,22 +65,22 @@ module _ {D : Type 0} {d : Ghosts D} where
     pub walk_tree : {r2 : Records} {x2 : D} (t : GappedTree) (others : Gapped) (made : GappedTree) (more : List Proxy) → (b : BeginsGrown own holder position t others olds w.rest) → made.node ≡ t.node → PutsRow d r1 r2 x1 x2 b.below made.below has more
         → WalksOn d own holder (position + 1) others (drop (proxies_in t.below) olds) drawn r0 r2 x0 x2 (with_last_tree body made) had more
     walk_tree t others made more b node puts = record {
-      done = joined_draft w.done (Grows t.node puts.draft Ends);
+      done = joined_draft w.done (Grows b.node puts.draft Ends);
       rest = b.beside;
-      whole = ap (λ (c : Plan). joined_draft c b.beside) (unmarked-joined w.done (Grows t.node puts.draft Ends))
-          ∙ joined_draft-assoc (unmarked w.done) (Grows t.node (unmarked puts.draft) Ends) b.beside
-          ∙ ap (λ (c : Plan). joined_draft (unmarked w.done) (Grows t.node c b.beside)) puts.same
+      whole = ap (λ (c : Plan). joined_draft c b.beside) (unmarked-joined w.done (Grows b.node puts.draft Ends))
+          ∙ joined_draft-assoc (unmarked w.done) (Grows b.node (unmarked puts.draft) Ends) b.beside
+          ∙ ap (λ (c : Plan). joined_draft (unmarked w.done) (Grows b.node c b.beside)) puts.same
           ∙ ap (joined_draft (unmarked w.done)) (sym b.is)
           ∙ w.whole;
       left = b.along;
       body_is = ap (λ (g : Gapped). with_last_tree g made) w.body_is
-          ∙ ap (λ (n : Node). with_last_tree (draft_body w.done) (let t : GappedTree = record { node = n; below = made.below } in t)) node
-          ∙ ap (λ (g : Gapped). with_last_tree (draft_body w.done) (let u : GappedTree = record { node = t.node; below = g } in u)) puts.body_is
-          ∙ sym (body-grows w.done t.node puts.draft);
+          ∙ ap (λ (n : PieceNode). with_last_tree (draft_body w.done) (let t : GappedTree = record { node = n; below = made.below } in t)) (node ∙ sym b.shown)
+          ∙ ap (λ (g : Gapped). with_last_tree (draft_body w.done) (let u : GappedTree = record { node = in_record b.node; below = g } in u)) puts.body_is
+          ∙ sym (body-grows w.done b.node puts.draft);
       proxies_are = puts.proxies_are ∙ ap (λ (l : List Proxy). l ++ proxies_of (layout_after puts.draft)) w.proxies_are ∙ append_assoc had (proxies_of (layout_after w.done)) (proxies_of (layout_after puts.draft))
           ∙ ap (λ (l : List Proxy). had ++ (proxies_of (layout_after w.done) ++ l)) (sym (append-nil (proxies_of (layout_after puts.draft))))
-          ∙ ap (λ (l : List Proxy). had ++ l) (sym (proxies-joined w.done (Grows t.node puts.draft Ends)));
-      put = put_both w.done (Grows t.node puts.draft Ends) w.put (put_grows t.node puts.draft puts.put);
+          ∙ ap (λ (l : List Proxy). had ++ l) (sym (proxies-joined w.done (Grows b.node puts.draft Ends)));
+      put = put_both w.done (Grows b.node puts.draft Ends) w.put (put_grows b.node puts.draft puts.put);
     }
 
     -- one interval more, whose record was put
@@ -168,20 +169,26 @@ piece_is draft roots proxies e f =
     ap (λ (g : Gapped). let p : Piece = record { body = record { roots = g }; proxies = proxies } in p) (e ∙ sym (body-layout_after draft))
     ∙ ap (λ (l : List Proxy). let p : Piece = record { body = record { roots = piece_body (layout_after draft) }; proxies = l } in p) f
 
--- ... and may be stored
+-- the contents of its nodes stand where those of the items did
+pub members_written : (holder : List ℕ → Option ℕ) (position : ℕ) (items : Gapped) (olds : List Proxy) (members : Plan) (draft : Draft RecordPlace) → AreMarkedMembers holder position items olds members → unmarked draft ≡ members → AreWritten (piece_body (layout_after draft))
+members_written holder position items olds members draft m same =
+    written_after draft
+    (subst AreWritten (sym (ap piece_body (sym (layout_before-unmarked draft)) ∙ ap (λ (c : Plan). piece_body (layout_before c)) same ∙ (m.marked).items_are)) (m.marked).written)
+
+-- ... and it may be stored
 pub members_valid : (holder : List ℕ → Option ℕ) (position : ℕ) (items : Gapped) (olds : List Proxy) (members : Plan) (draft : Draft RecordPlace) → AreMarkedMembers holder position items olds members → unmarked draft ≡ members → many items ≤ 524288 → IsValidPiece (piece_of (layout_after draft))
 members_valid holder position items olds members draft m same few =
-    let bare : without_places (layout_after draft) ≡ drawn_forest members = drawn_forest-layout_after draft ∙ sym (drawn_forest-unmarked draft) ∙ ap drawn_forest same in
-    let parts : AreParts 256 (without_places (layout_after draft)) = subst (AreParts 256) (sym bare) (m.marked).light in
-    let free : AreFree (without_places (layout_after draft)) = subst AreFree (sym bare) m.free in
+    let drawn : without_places (layout_after draft) ≡ drawn_forest members = drawn_forest-layout_after draft ∙ sym (drawn_forest-unmarked draft) ∙ ap drawn_forest same in
+    let parts : AreLaidParts 256 (layout_after draft) = subst (AreParts 256) (sym drawn) (m.marked).light in
+    let free : AreFree (without_places (layout_after draft)) = subst AreFree (sym drawn) m.free in
     let some : 1 ≤ width (drawn_forest members) = m.some in
-    let wide : width (drawn_forest members) ≡ width (layout_after draft) = ap width (sym bare) ∙ width_bare (layout_after draft) in
-    let weighs : part_weight (drawn_forest members) ≤ 256 = m.weighs in
-    let light : part_weight (drawn_forest members) ≡ part_weight (layout_after draft) = ap part_weight (sym bare) ∙ weight_bare (layout_after draft) in
+    let wide : width (drawn_forest members) ≡ width (layout_after draft) = ap width (sym drawn) ∙ drawn_wide (layout_after draft) in
+    let light : laid_weight (layout_after draft) ≤ 256 = subst (λ (c : CutForest). part_weight c ≤ 256) (sym drawn) m.weighs in
+    let written = members_written holder position items olds members draft m same in
     let count : length (proxies_of (layout_after draft)) ≡ draft_count members = count-layout_after draft ∙ sym (count-unmarked draft) ∙ ap draft_count same in
     let nodes : many (piece_body (layout_before members)) ≡ many items = ap many (m.marked).items_are in
     let f = count_few 256 members (m.marked).light in
-    let valid = piece_valid 256 (layout_after draft) (omega arith) (omega (arith, some, wide)) (free_with (layout_after draft) free) (omega (arith, weighs, light, part_is_weight (layout_after draft))) (parts_fit 256 (layout_after draft) (parts_with 256 (layout_after draft) parts))
+    let valid = piece_valid 256 (layout_after draft) (omega arith) (omega (arith, some, wide)) (drawn_free (layout_after draft) free) (written_far (piece_body (layout_after draft)) written) (part_fits 256 256 (layout_after draft) written light refl) parts
     (omega (arith, count, nodes, f, few)) in
     record { body = valid.0; ranged = valid.1 }
 
@@ -193,14 +200,13 @@ free_width (Comes u i s) free = absurd free
 
 module _ {D : Type 0} {d : Ghosts D} where
   -- the record of some members was put
-  pub puts_members : {r0 r1 r2 : Records} {x0 x1 x2 : D} (members : Plan) (draft : Draft RecordPlace) (proxy : Proxy) → unmarked draft ≡ members → ArePut d r0 r1 x0 x1 draft → proxy.roots ≡ gapped.gapped_width (draft_body draft) → AreFree (drawn_forest members)
-      → RunsOn r1 r2 → KeepsSaved d r1 r2 x1 x2 → IsStill d x1 x2
-      → ComesTo d r1 r2 x1 x2 (λ was now. was.free ≤ now.free + piece_needs (piece_of (layout_after draft))) → ComesTidy d r1 r2 x1 x2 (λ was now. AddsPiece (place_named proxy) (piece_of (layout_after draft)) was now) → PutsMembers d r0 r2 x0 x2 members proxy
-  puts_members {r0} {r1} {r2} {x0} {x1} {x2} members draft proxy same put roots free runs keeps still takes adds = record {
+  pub puts_members : {r0 r1 r2 : Records} {x0 x1 x2 : D} (members : Plan) (draft : Draft RecordPlace) (proxy : Proxy) → unmarked draft ≡ members → AreWritten (piece_body (layout_after draft)) → ArePut d r0 r1 x0 x1 draft → proxy.roots ≡ gapped.gapped_width (draft_body draft) → AreFree (drawn_forest members)
+      → RunsOn r1 r2 → KeepsSaved d r1 r2 x1 x2 → IsStill d x1 x2 → ComesTo d r1 r2 x1 x2 (λ was now. AddsPiece (place_named proxy) (piece_of (layout_after draft)) was now) → PutsMembers d r0 r2 x0 x2 members proxy
+  puts_members {r0} {r1} {r2} {x0} {x1} {x2} members draft proxy same written put roots free runs keeps still adds = record {
     draft = draft;
     same = same;
     roots = roots ∙ free_width draft (subst AreFree (sym (sym (drawn_forest-unmarked draft) ∙ ap drawn_forest same)) free) ∙ sym (drawing_width draft) ∙ ap (λ (c : Plan). width (drawn_forest c)) same;
-    put = put_comes {d = d} {r0 = r0} {r1 = r1} {r2 = r2} {x0 = x0} {x1 = x1} {x2 = x2} (place_named proxy) draft put runs keeps still takes adds;
+    put = put_comes {d = d} {r0 = r0} {r1 = r1} {r2 = r2} {x0 = x0} {x1 = x1} {x2 = x2} (place_named proxy) draft written put runs keeps still adds;
   }
     where
       drawing_width : (c : Draft RecordPlace) → width (drawn_forest (unmarked c)) ≡ width (drawn_forest c)

@@ -3,7 +3,7 @@ use Rattle.std.specs.Prelude.{◌≡◌, ℕ, ◌+◌, ◌<◌, false, List, [],
 use Rattle.nx_host.specs.Disk.{Rose}
 use Rattle.nx_host.specs.declared.disk.Disk.{Ghosts}
 use Rattle.nx_tree.specs.declared.node.Node.{Node}
-use Rattle.nx_cuts.specs.Cut.{Bare, AreParts}
+use Rattle.nx_cuts.specs.Cut.{Bare}
 use Rattle.nx_matrix.specs.declared.rule.Rule.{Rule}
 use Rattle.nx_records.specs.Words.{Held, Settings}
 use Rattle.nx_records.specs.declared.records.Records.{Records}
@@ -17,10 +17,10 @@ use Rattle.nx_split.specs.Piece.{placed_of}
 use Rattle.nx_piece.specs.declared.piece.Piece.{Piece}
 use Rattle.nx_piece.specs.declared.piece.Proxy.{Proxy}
 use Rattle.nx_piece.specs.Gapped.{Gap, End}
-use Rattle.nx_layouts.specs.Layout.{RecordPlace, Layout, piece_of, piece_body, proxies_of, places_of, without_places, AreHeld, ArePlacedOnce}
+use Rattle.nx_layouts.specs.Layout.{RecordPlace, Layout, piece_of, piece_body, proxies_of, places_of, without_places, AreLaidParts, AreHeld, ArePlacedOnce}
 use Rattle.nx_layouts.specs.Replace.{replaced_at}
-use Rattle.nx_hold.specs.Pieces.{HoldsNone, IsTidy, PieceMap}
-use Rattle.nx_hold.specs.Changes.{ComesTidy}
+use Rattle.nx_hold.specs.Pieces.{HoldsNone, MayName, IsTidy, PieceMap, held_by}
+use Rattle.nx_hold.specs.Changes.{ComesTidyWhere}
 use Rattle.nx_hold.specs.Documents.{MovesRecords}
 use Rattle.nx_drawn.specs.Splits.{Divides, SplitsRow}
 use Rattle.nx_drafts.specs.Draft.{Draft, drawn_forest, layout_before, layout_after, came, unmarked, draft_needs}
@@ -36,18 +36,19 @@ abbrev pub StandApart : RecordPlace → Layout → Type 0
 StandApart place layout = Contains (places_of layout) place → ⊥
 
 -- The record at a place went, and for each interval that was to come a record came, at a place of its own that was free or that one's, with the piece of its members. Where
--- all that stood was held, in records of other places, all is held.
+-- all that stood was held, in records of other places, and no part weighs more than a record's nodes may, all is held. No list of a content came or went.
 pub record PutsDraftAt (place : RecordPlace) (draft : Draft RecordPlace) (was now : Held) : Type 0 where
-  pub moves : MovesRecords (place ∷ []) (came draft) (draft_needs draft) was now
-  pub held : (before : PieceMap was) (after : PieceMap now) → StandApart place (layout_before draft) → AreHeld before.piece_at (layout_before draft) → AreHeld after.piece_at (layout_after draft)
+  pub moves : MovesRecords (place ∷ []) (came draft) [] [] (draft_needs draft) was now
+  pub held : (before : PieceMap was) (after : PieceMap now) → AreLaidParts (was.settings).k (layout_after draft) → StandApart place (layout_before draft) → AreHeld (held_by before) (layout_before draft)
+      → AreHeld (held_by after) (layout_after draft)
   pub once : ArePlacedOnce (came draft)
 
--- The records of these intervals were put in the place of one.
+-- The records of these intervals were put in the place of one, where the far contents of these nodes might be named.
 pub record ArePutAt {D : Type 0} (d : Ghosts D) (place : RecordPlace) (old new : Records) (before after : D) (draft : Draft RecordPlace) : Type 0 where
   pub runs : RunsOn old new
   pub keeps : KeepsSaved d old new before after
   pub changes : HasChanges new
-  pub puts : ComesTidy d old new before after (PutsDraftAt place draft)
+  pub puts : ComesTidyWhere d old new before after (λ was. MayName was (piece_body (layout_before draft))) (PutsDraftAt place draft)
 
 -- The intervals that hold all trees of a row were put so, and these are their proxies.
 pub record PutsRowAt {D : Type 0} (d : Ghosts D) (place : RecordPlace) (old new : Records) (before after : D) (drawn : Draft (Unit {0})) (row : List Proxy) : Type 0 where
@@ -66,27 +67,27 @@ pub record DividesMembers {D : Type 0} (d : Ghosts D) (settings : Settings) (rul
   pub draft : Draft RecordPlace
   pub stands : layout_before draft ≡ members
   pub divides : Divides settings rules above (without_places members) (without_places (layout_after draft))
-  pub light : AreParts settings.k (layout_after draft)
+  pub light : AreLaidParts settings.k (layout_after draft)
   pub row_is : row ≡ proxies_of (layout_after draft)
   pub gap : piece_body (layout_after draft) ≡ Gap (length row) End
   pub put : ArePutAt d place old new before after draft
 
 -- the record at a place went, and records came at some places, which were free or that one's
 abbrev pub PutsSome : RecordPlace → Held → Held → Type 0
-PutsSome place was now = (places : List RecordPlace) × (needs : ℕ) × MovesRecords (place ∷ []) places needs was now
+PutsSome place was now = (places : List RecordPlace) × (needs : ℕ) × MovesRecords (place ∷ []) places [] [] needs was now
 
 -- The interval of the proxy at an index of a row is replaced by others, which hold all its trees, with these proxies. Its record at this place went, and those that came stand once each. The row is split, and where all else was
--- held, what stands below the part too, in records of other places, all is held.
+-- held, what stands below the part too, in records of other places, and the far contents of the row might be named, all is held. No list of a content comes or goes.
 pub record SplitsAt {D : Type 0} (d : Ghosts D) (settings : Settings) (rules : List Rule) (top : Option Node) (index : ℕ) (place : RecordPlace) (old new : Records) (before after : D) (whole members : Layout) (row : List Proxy) : Type 0 where
   pub draft : Draft RecordPlace
   pub stands : layout_before draft ≡ members
   pub splits : SplitsRow settings rules top (without_places whole) (without_places (replaced_at index (layout_after draft) whole))
-  pub light : AreParts settings.k (replaced_at index (layout_after draft) whole)
+  pub light : AreLaidParts settings.k (replaced_at index (layout_after draft) whole)
   pub gap : piece_body (layout_after draft) ≡ Gap (length row) End
   pub proxies : proxies_of (replaced_at index (layout_after draft) whole) ≡ take index (proxies_of whole) ++ row ++ drop (index + 1) (proxies_of whole)
-  pub comes : ComesTidy d old new before after (λ was now. MovesRecords (place ∷ []) (came draft) (draft_needs draft) was now × ArePlacedOnce (came draft)
-      × ((before : PieceMap was) (after : PieceMap now) → StandApart place (replaced_at index Bare whole) → StandApart place members → AreHeld before.piece_at (replaced_at index Bare whole) → AreHeld before.piece_at members
-      → AreHeld after.piece_at (replaced_at index (layout_after draft) whole)))
+  pub comes : ComesTidyWhere d old new before after (λ was. MayName was (piece_body members)) (λ was now. MovesRecords (place ∷ []) (came draft) [] [] (draft_needs draft) was now × ArePlacedOnce (came draft)
+      × ((before : PieceMap was) (after : PieceMap now) → StandApart place (replaced_at index Bare whole) → StandApart place members → MayName was (piece_body whole) → AreHeld (held_by before) (replaced_at index Bare whole)
+      → AreHeld (held_by before) members → AreHeld (held_by after) (replaced_at index (layout_after draft) whole)))
 
 -- Over pages whose lists are in order, fewer pages were free than the records of a split of these members may take.
 pub record FindsFewPages {D : Type 0} (d : Ghosts D) (settings : Settings) (rules : List Rule) (above : Option Node) (old : Records) (before : D) (members : Layout) : Type 0 where
@@ -99,7 +100,7 @@ pub record FindsFewPages {D : Type 0} (d : Ghosts D) (settings : Settings) (rule
 pub record NoRoomToDivide {D : Type 0} (d : Ghosts D) (settings : Settings) (rules : List Rule) (above : Option Node) (piece : Piece) (old new : Records) (before after : D) : Type 0 where
   pub runs : RunsOn old new
   pub none_free : has_free new ≡ false
-  pub few : (members : Layout) → piece_of members ≡ piece → AreParts settings.k members → FindsFewPages d settings rules above old before members
+  pub few : (members : Layout) → piece_of members ≡ piece → AreLaidParts settings.k members → FindsFewPages d settings rules above old before members
   pub keeps : KeepsSaved d old new before after
 
 -- Why the record at a place wasn't replaced by those of a split of this piece.

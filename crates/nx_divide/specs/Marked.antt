@@ -1,6 +1,7 @@
 -- A draft of a row of a piece, as marks tell it.
 use Rattle.std.specs.Prelude.{◌≡◌, ℕ, ◌+◌, ◌≤◌, List, [], ◌∷◌, ◌++◌, Option, None, Some}
 use Rattle.nx_piece.specs.declared.piece.Proxy.{Proxy}
+use Rattle.nx_piece.specs.PieceNode.{MayBeFar, IsNearWith}
 use Rattle.nx_piece.specs.Gapped.{Gapped, End, Grow, Gap}
 use Rattle.nx_cuts.specs.Cut.{width, part_weight, AreFree, AreParts}
 use Rattle.nx_layouts.specs.Layout.{piece_body, proxies_of}
@@ -22,9 +23,16 @@ IsHeldAs own holder position (Stands place members beside) = (holder (position �
 IsHeldAs own holder position (Comes mark members beside) =
     (index : ℕ) × BeginsApart index holder (position + width (drawn_forest members)) beside × IsHeldAs (Some index) holder position members × IsHeldAs own holder (position + width (drawn_forest members)) beside
 
--- The draft is one of these items, the first of these proxies are those of what stands in it, the holders are as it has them, and no part weighs more than 256.
+-- each content stands far exactly where it is too long for an item
+abbrev pub AreWritten : Gapped → Type 0
+AreWritten End = Unit {0}
+AreWritten (Grow node below beside) = (IsNearWith node.node.content node.far × MayBeFar node) × AreWritten below × AreWritten beside
+AreWritten (Gap count beside) = AreWritten beside
+
+-- The draft is one of these items, the first of these proxies are those of what stands in it, the holders are as it has them, and no part weighs more than 256. Their contents stand where they do when they are written.
 pub record IsMarkedDraft (own : Option ℕ) (holder : List ℕ → Option ℕ) (position : ℕ) (items : Gapped) (olds : List Proxy) (drawn : Draft (Unit {0})) : Type 0 where
   pub items_are : piece_body (layout_before drawn) ≡ items
+  pub written : AreWritten items
   pub behind : List Proxy
   pub olds_are : olds ≡ proxies_of (layout_before drawn) ++ behind
   pub light : AreParts 256 (drawn_forest drawn)

@@ -1,6 +1,6 @@
 // Whether a piece may be divided.
 ghost use Rattle.std.specs.Prelude.{◌≡◌, ◌+◌, ◌≤◌, ◌↔◌, IsTrue};
-ghost use Rattle.nx_weights.specs.Weight.{weight as node_weight};
+ghost use Rattle.nx_piece.specs.PieceNode.{node_weight};
 ghost use Rattle.nx_piece.specs.Gapped.{grown_of};
 ghost use Rattle.nx_piece.specs.Valid.{IsPiece};
 ghost use Rattle.nx_piece.specs.Weight.{HasShortNodes, HaveShortNodes};

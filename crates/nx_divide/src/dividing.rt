@@ -4,16 +4,17 @@ ghost use Rattle.std.specs.Option.{option_copied};
 ghost use Rattle.std.specs.Vec.Iter.{into_iter_items};
 ghost use Rattle.nx_host.specs.Still.{IsStill};
 ghost use Rattle.nx_tree.specs.declared.node.Node.{Node as AnyNode};
-ghost use Rattle.nx_cuts.specs.Cut.{Bare, AreParts};
+ghost use Rattle.nx_cuts.specs.Cut.{Bare};
 ghost use Rattle.nx_parts.specs.Marks.{holder_by_marks};
 ghost use Rattle.nx_parts.specs.Partitioning.{holder};
 ghost use Rattle.nx_records.specs.Records.{HasChanges, KeepsSaved, has_ended, settings_of};
 ghost use Rattle.nx_records.specs.Refusals.{RunsOn};
-ghost use Rattle.nx_hold.specs.Changes.{ComesTidy, place_of};
+ghost use Rattle.nx_hold.specs.Pieces.{MayName};
+ghost use Rattle.nx_hold.specs.Changes.{ComesTidyWhere, place_of};
 ghost use Rattle.nx_piece.specs.Gapped.{item_count, gapped_weight, grown_of};
 ghost use Rattle.nx_piece.specs.Items.{gapped_of};
-ghost use Rattle.nx_piece.specs.Valid.{IsPiece};
-ghost use Rattle.nx_layouts.specs.Layout.{Layout, piece_of, proxies_of};
+ghost use Rattle.nx_piece.specs.Valid.{AreNear, IsPiece};
+ghost use Rattle.nx_layouts.specs.Layout.{Layout, AreLaidParts, piece_of, proxies_of};
 ghost use Rattle.nx_layouts.specs.Replace.{above_at, kept_at, replaced_at};
 ghost use Rattle.nx_split.specs.Piece.{AreGappedAtMost};
 ghost use Rattle.nx_drafts.specs.Draft.{Draft, draft_needs};
@@ -39,10 +40,13 @@ use std::vec::IntoIter;
 /// these comes in the place of the record, by `update_piece`, so that a list of proxies stays on its pages where the new one
 /// takes as many. `above` is the node above the piece, `None` where it holds the document's `Doc` node. Records that the
 /// piece's proxies name stay as they are, and so do all others. It is said for each row of which the piece is that of the
-/// interval at some index, as that of the whole document, whose interval at index 0 is its root's.
+/// interval at some index, as that of the whole document, whose interval at index 0 is its root's. Far contents stay where
+/// they stand; what is said of all pieces holds where those of this one name lists that are there, as long as they are,
+/// and hold no record's proxies.
 ///
 /// The piece has to be one that may be stored, but its nodes may take up to 512 slots, and it may have up to 257 roots;
-/// it has to weigh more than the K of these records, and none of its nodes may. It has 524,288 nodes and proxies at most.
+/// no near content has more than 1,024 bytes. It has to weigh more than the K of these records, and none of its nodes may.
+/// It has 524,288 nodes and proxies at most.
 ///
 /// Errors: `Full`, over pages whose lists are in order only where fewer pages were free than one for each interval of
 /// the split, and those of their chains; `Damaged`, only where the pages aren't sound, the record at the place holds no
@@ -58,14 +62,15 @@ pub fn divide_at<D: Disk>(
     matrix: &Matrix,
 ) -> Result<Proxies, StoreError>
     requires piece { IsPiece piece }
+    requires near { AreNear piece.body.roots }
     requires few { many piece.body.roots ≤ 524288 }
     requires heavy { (settings_of records.old).k < gapped_weight piece.body.roots }
     requires nodes { AreGappedAtMost (settings_of records.old).k piece.body.roots }
     ensures still { IsStill D.Disk disk.old disk.new }
     ensures splits { IfOk result (λ row. (top : Option AnyNode) (index : ℕ) (whole members : Layout) → kept_at index whole ≡ Some members → piece_of members ≡ piece → above_at index top whole ≡ option_copied above.entry →
-        AreParts (settings_of records.old).k (replaced_at index Bare whole) → AreParts (settings_of records.old).k members → index < length (proxies_of whole) →
+        AreLaidParts (settings_of records.old).k (replaced_at index Bare whole) → AreLaidParts (settings_of records.old).k members → index < length (proxies_of whole) →
         SplitsAt D.Disk (settings_of records.old) matrix.now top index (place_of rid) records.old records.new disk.old disk.new whole members row) }
-    ensures comes { IfOk result (λ row. ComesTidy D.Disk records.old records.new disk.old disk.new (PutsSome (place_of rid))) }
+    ensures comes { IfOk result (λ row. ComesTidyWhere D.Disk records.old records.new disk.old disk.new (λ was. MayName was piece.body.roots) (PutsSome (place_of rid))) }
     ensures keeps { IfOk result (λ row. RunsOn records.old records.new × KeepsSaved D.Disk records.old records.new disk.old disk.new × HasChanges records.new) }
     ensures refused { IfErr result (λ e. NotSplitAt D.Disk (settings_of records.old) matrix.now (option_copied above.entry) (place_of rid) piece e records.old records.new disk.old disk.new) }
 {
@@ -98,12 +103,13 @@ fn put_parts<D: Disk>(
 ) -> Result<Proxies, StoreError>
     requires runs { has_ended records.old ≡ false }
     requires piece { IsPiece piece }
+    requires near { AreNear piece.body.roots }
     requires few { many piece.body.roots ≤ 524288 }
     requires split { IsSplitOf (settings_of records.old) piece parts.now }
     ensures still { IsStill D.Disk disk.old disk.new }
     ensures ok { IfOk result (λ row. (drawn : Draft (Unit {0})) → IsMarkedRow (holder parts.now) piece.body.roots piece.proxies drawn →
         PutsRowAt D.Disk (place_of rid) records.old records.new disk.old disk.new drawn row) }
-    ensures comes { IfOk result (λ row. ComesTidy D.Disk records.old records.new disk.old disk.new (PutsSome (place_of rid))) }
+    ensures comes { IfOk result (λ row. ComesTidyWhere D.Disk records.old records.new disk.old disk.new (λ was. MayName was piece.body.roots) (PutsSome (place_of rid))) }
     ensures keeps { IfOk result (λ row. RunsOn records.old records.new × KeepsSaved D.Disk records.old records.new disk.old disk.new × HasChanges records.new) }
     ensures cause { IfErr result (λ e. (needs : ℕ) × NotPutAt D.Disk (place_of rid) needs e records.old records.new disk.old disk.new) }
     ensures refused { IfErr result (λ e. (drawn : Draft (Unit {0})) → IsMarkedRow (holder parts.now) piece.body.roots piece.proxies drawn →

@@ -7,7 +7,7 @@ ghost use Rattle.nx_records.specs.Records.{has_ended};
 ghost use Rattle.nx_records.specs.Refusals.{NotStored};
 ghost use Rattle.nx_piece.specs.Gapped.{item_count, proxies_in};
 ghost use Rattle.nx_piece.specs.Items.{gapped_of};
-ghost use Rattle.nx_piece.specs.Valid.{IsValidPiece};
+ghost use Rattle.nx_piece.specs.Valid.{AreNear, IsValidPiece};
 ghost use Rattle.nx_drafts.specs.Draft.{Draft, Ends, Comes, draft_needs};
 ghost use Rattle.nx_divide.specs.Marked.{IsMarkedDraft, AreMarkedMembers, HasMarkedDraft, HasMarkedMembers, many};
 ghost use Rattle.nx_divide.specs.Putting.{PutsRow, GathersPiece, PutsMembers};
@@ -22,8 +22,8 @@ use nx_records::{Records, StoreError};
 use std::alloc::Global;
 use std::vec::IntoIter;
 
-// The tree as its new piece has it. A record is put for each interval below it that comes. The proxies of the
-// intervals that stand are taken from the old ones that are left, which begin with them.
+// The tree as its new piece has it; a far content stays where it is. A record is put for each interval below it that
+// comes. The proxies of the intervals that stand are taken from the old ones that are left, which begin with them.
 #[cycle(walk)]
 fn piece_tree<D: Disk>(
     alloc: Global,
@@ -47,7 +47,11 @@ fn piece_tree<D: Disk>(
     ensures refused { IfErr result (λ e. (drawn : Draft (Unit {0})) → IsMarkedDraft None (holder_by_marks marks.now) 0 tree.below (into_iter_items olds.old) drawn →
         NotStored D.Disk (λ was. draft_needs drawn) (λ was. ⊥) 0 e records.old records.new disk.old disk.new) }
 {
-    let PieceTree { node, children } = tree;
+    let PieceTree {
+        node,
+        far,
+        children,
+    } = tree;
     let children = items_of(
         alloc,
         records,
@@ -57,7 +61,11 @@ fn piece_tree<D: Disk>(
         olds,
         proxies,
     )?;
-    Ok(PieceTree { node, children })
+    Ok(PieceTree {
+        node,
+        far,
+        children,
+    })
 }
 
 // What a piece has of a row: a tree that is a member of no interval stands with the node above, neighbours that
@@ -182,6 +190,7 @@ pub(crate) fn gather_piece<D: Disk>(
     ensures left { OnOk result (into_iter_items left.new ≡ drop (end - first) (into_iter_items left.old)) }
     ensures olds { OnOk result (into_iter_items olds.new ≡ drop (proxies_in (gapped_of (take (end - first) (into_iter_items left.old)))) (into_iter_items olds.old)) }
     ensures valid { IfOk result (λ piece. IsValidPiece piece) }
+    ensures near { IfOk result (λ piece. AreNear piece.body.roots) }
     ensures ok { IfOk result (λ piece. (members : Draft (Unit {0})) → AreMarkedMembers (holder_by_marks marks.now) first (gapped_of (take (end - first) (into_iter_items left.old))) (into_iter_items olds.old) members →
         GathersPiece D.Disk records.old records.new disk.old disk.new members piece) }
     ensures refused { IfErr result (λ e. (members : Draft (Unit {0})) → AreMarkedMembers (holder_by_marks marks.now) first (gapped_of (take (end - first) (into_iter_items left.old))) (into_iter_items olds.old) members →

@@ -1,10 +1,10 @@
-use Rattle.std.proofs.Common.{◌≡◌, ◌<◌, ◌^◌, [], ◌∷◌, ◌++◌, List, length, sym, ap, subst, ◌∙◌, arith}
+use Rattle.std.proofs.Common.{◌≡◌, ◌<◌, ◌^◌, [], ◌∷◌, ◌++◌, List, length, refl, sym, ap, subst, ◌∙◌, arith}
 use Rattle.std.specs.Vec.Iter.{into_iter_items}
 use Rattle.nx_tree.specs.Forest.{OrderedTree}
 use Rattle.nx_parts.specs.declared.interval.Interval.{Interval}
 use Rattle.nx_parts.specs.Partitioning.{holder}
 use Rattle.nx_records.specs.Records.{settings_of}
-use Rattle.nx_build.proofs.StoreLemmas.{root, parts_few, one_few, root_held, root_one, root_stored, root_keeps, root_refused}
+use Rattle.nx_build.proofs.StoreLemmas.{root, parts_few, one_few, one_short, root_held, root_one, root_stored, root_keeps, root_refused}
 use Rattle.nx_build.proofs.storing.store.Goals as goal
 
 pub mark_members-requires : goal.mark_members-requires
@@ -16,6 +16,11 @@ pub put_members-requires-clause-few : goal.put_members-requires-clause-few
 put_members-requires-clause-few g c =
     let alone : (into_iter_items c.into_iter-trees.result) ≡ c.args.tree ∷ [] = c.into_iter-trees.ensures.rest ∙ c.in-Ok-push.ensures.items ∙ ap (λ (l : List OrderedTree). l ++ c.args.tree ∷ []) c.new-trees.ensures.items in
     one_few c.args.tree (into_iter_items c.into_iter-trees.result) alone c.requires.document
+
+pub put_members-requires-clause-short : goal.put_members-requires-clause-short
+put_members-requires-clause-short g c =
+    let alone : (into_iter_items c.into_iter-trees.result) ≡ c.args.tree ∷ [] = c.into_iter-trees.ensures.rest ∙ c.in-Ok-push.ensures.items ∙ ap (λ (l : List OrderedTree). l ++ c.args.tree ∷ []) c.new-trees.ensures.items in
+    one_short c.args.tree (into_iter_items c.into_iter-trees.result) alone c.requires.document
 
 pub put_members-requires-clause-within : goal.put_members-requires-clause-within
 put_members-requires-clause-within g c =
@@ -45,7 +50,7 @@ returns-clause-ok g c =
     root_stored (settings_of c.args.records.now).k c.args.tree c.args.parts.now c.args.records.now.head_range.settings.k.1 c.requires.feasible g.D.Disk c.args.records.now c.put_members.new.records c.args.disk.now c.put_members.new.disk c.from_ref.result.now (into_iter_items c.into_iter-trees.result)
     (root_held (settings_of c.args.records.now).k c.args.tree c.args.parts.now c.args.records.now.head_range.settings.k.1 c.requires.feasible c.in-Ok.mark c.from_ref.result.now (into_iter_items c.into_iter-trees.result)
     (λ path. c.in-Ok.ensures.marked path ∙ ap (λ (l : List Interval). holder l path) c.as_slice.ensures) c.from_ref.ensures.value alone)
-    c.requires.document c.put_members.result c.put_members.ensures.ok
+    refl c.requires.document c.put_members.result c.put_members.ensures.ok
 
 pub returns-clause-keeps : goal.returns-clause-keeps
 returns-clause-keeps g c =

@@ -2,7 +2,8 @@ use Rattle.std.proofs.Common.{rules, ◌≡◌, ◌+◌, ◌-◌, ◌≤◌, ◌
 use Rattle.std.specs.Vec.Iter.{into_iter_items}
 use Rattle.std.proofs.lemmas.Result.{err_from_is_err_and}
 use Rattle.nx_host.proofs.DiskLemmas.{still_then}
-use Rattle.nx_tree.specs.Forest.{OrderedTree, forest_of}
+use Rattle.nx_tree.specs.declared.node.Node.{Node}
+use Rattle.nx_tree.specs.Forest.{OrderedTree, Forest, forest_of}
 use Rattle.nx_tree.specs.Document.{depth}
 use Rattle.nx_parts.specs.Marks.{holder_by_marks}
 use Rattle.nx_records.specs.declared.error.StoreError.{StoreError}
@@ -10,15 +11,58 @@ use Rattle.nx_records.specs.Refusals.{NotStored}
 use Rattle.nx_records.proofs.RefusalLemmas.{err_passed}
 use Rattle.nx_piece.specs.declared.piece.Item.{Item}
 use Rattle.nx_piece.specs.declared.piece.Proxy.{Proxy}
-use Rattle.nx_piece.specs.Gapped.{Gapped, End}
+use Rattle.nx_piece.specs.PieceNode.{PieceNode}
+use Rattle.nx_piece.specs.Gapped.{Gapped, GappedTree, End, Grow}
 use Rattle.nx_piece.specs.Items.{gapped_of}
-use Rattle.nx_cuts.specs.Cut.{CutForest}
+use Rattle.nx_cuts.specs.Cut.{CutForest, Bare, Grown}
+use Rattle.nx_hold.specs.Contents.{content_pages}
 use Rattle.nx_build.specs.Marked.{IsMarked, AreMembers}
-use Rattle.nx_build.specs.Laying.{page_needs, proxy_count, LaysTrees}
-use Rattle.nx_build.proofs.LeftLemmas.{first_few, many_left, few_left, depth_left, none_left, next_left, next_few, next_depth, behind_left, member_left, take_next, take_none}
+use Rattle.nx_build.specs.Laying.{drawn_needs, proxy_count, LaysTrees}
+use Rattle.nx_build.proofs.LeftLemmas.{first_few, many_left, few_left, short_left, depth_left, none_left, next_left, next_few, next_short, next_depth, behind_left, member_left, take_next, take_none}
 use Rattle.nx_build.proofs.WalkLemmas.{WalksOn, walk_begins, walk_ends}
-use Rattle.nx_build.proofs.StepLemmas.{none_marked, some_marked, tree_can, tree_not, tree_laid, tree_memory, tree_pushed, interval_can, interval_not, interval_room, interval_memory, interval_added, member_can, member_not, member_laid, member_memory, piece_can, put_laid, put_not}
+use Rattle.nx_build.proofs.StepLemmas.{none_marked, some_marked, tree_can, tree_not, tree_laid, tree_memory, tree_pushed, interval_can, interval_not, interval_room, interval_memory, interval_added, member_can, member_not, member_laid, member_memory, gathered_near, piece_can, put_laid, put_not}
+use Rattle.nx_build.proofs.TreeLemmas.{node_refused, below_refused, tree_lays}
 use Rattle.nx_build.proofs.walk.+walk.Goals as goal
+
+pub piece_tree-returns-in_err-made-clause-refused : goal.piece_tree-returns-in_err-made-clause-refused
+piece_tree-returns-in_err-made-clause-refused g t c =
+    err_passed c.from_residual.result
+    (λ (e : StoreError). (drawn : CutForest) → IsMarked None (holder_by_marks c.args.marks.now) 0 c.args.tree.below drawn
+    → NotStored g.D.Disk (λ was. content_pages c.args.tree.node + drawn_needs drawn) (λ was. ⊥) 0 e c.args.records.now c.hold_node.new.records c.args.disk.now c.hold_node.new.disk)
+    c.in_err-made.field-0.0 (err_from_is_err_and c.from_residual.result c.from_residual.ensures.1)
+    (λ drawn marked.
+    subst (λ (n : Node). NotStored g.D.Disk (λ was. content_pages n + drawn_needs drawn) (λ was. ⊥) 0 c.in_err-made.field-0.0 c.args.records.now c.hold_node.new.records c.args.disk.now c.hold_node.new.disk)
+    (ap (λ (x : OrderedTree). x.node) c.tree.view_is)
+    (node_refused g.D.Disk c.args.records.now c.hold_node.new.records c.args.disk.now c.hold_node.new.disk c.tree.inside.node drawn c.in_err-made.field-0.0 c.in_err-made.ensures.refused))
+
+pub piece_tree-returns-in_err-made-inside-clause-refused : goal.piece_tree-returns-in_err-made-inside-clause-refused
+piece_tree-returns-in_err-made-inside-clause-refused g t c =
+    let opened = c.into_vec.ensures in
+    let told = c.children.view_is in
+    let inside : c.tree.inside.children ≡ c.args.tree.below = ap (λ (x : OrderedTree). x.below) c.tree.view_is in
+    let below : forest_of c.into_vec.result.items ≡ c.args.tree.below = cc in
+    err_passed c.from_residual-in_err-made-inside.result
+    (λ (e : StoreError). (drawn : CutForest) → IsMarked None (holder_by_marks c.args.marks.now) 0 c.args.tree.below drawn
+    → NotStored g.D.Disk (λ was. content_pages c.args.tree.node + drawn_needs drawn) (λ was. ⊥) 0 e c.args.records.now c.items_of.new.records c.args.disk.now c.items_of.new.disk)
+    c.in_err-made-inside.field-0.0 (err_from_is_err_and c.from_residual-in_err-made-inside.result c.from_residual-in_err-made-inside.ensures.1)
+    (λ drawn marked.
+    subst (λ (n : Node). NotStored g.D.Disk (λ was. content_pages n + drawn_needs drawn) (λ was. ⊥) 0 c.in_err-made-inside.field-0.0 c.args.records.now c.items_of.new.records c.args.disk.now c.items_of.new.disk)
+    (ap (λ (x : OrderedTree). x.node) c.tree.view_is)
+    (below_refused {d = g.D.Disk} c.tree.inside.node c.in_ok-made.made c.in_ok-made.ensures.item c.in_ok-made.ensures.ok c.in_ok-made.ensures.keeps c.hold_node.ensures.still c.items_of.new.records c.items_of.new.disk drawn
+    c.in_err-made-inside.field-0.0 (c.in_err-made-inside.ensures.refused drawn (subst (λ (f : Forest). IsMarked None (holder_by_marks c.args.marks.now) 0 f drawn) (sym below) marked))))
+
+pub piece_tree-returns-clause-ok : goal.piece_tree-returns-clause-ok
+piece_tree-returns-clause-ok g t c = λ drawn marked.
+    let opened = c.into_vec.ensures in
+    let told = c.children.view_is in
+    let inside : c.tree.inside.children ≡ c.args.tree.below = ap (λ (x : OrderedTree). x.below) c.tree.view_is in
+    let below : forest_of c.into_vec.result.items ≡ c.args.tree.below = cc in
+    subst (λ (n : PieceNode). LaysTrees g.D.Disk c.args.records.now c.items_of.new.records c.args.disk.now c.items_of.new.disk (Grown c.args.tree.node drawn Bare) (Grow n c.in_ok-made-inside.field-0 End) c.args.proxies.now c.items_of.new.proxies)
+    (sym (ap (λ (x : GappedTree). x.node) c.made.view_is))
+    (subst (λ (n : Node). LaysTrees g.D.Disk c.args.records.now c.items_of.new.records c.args.disk.now c.items_of.new.disk (Grown n drawn Bare) (Grow c.in_ok-made.made.node c.in_ok-made-inside.field-0 End) c.args.proxies.now c.items_of.new.proxies)
+    (ap (λ (x : OrderedTree). x.node) c.tree.view_is)
+    (tree_lays {d = g.D.Disk} c.tree.inside.node c.in_ok-made.made c.in_ok-made.ensures.item c.in_ok-made.ensures.ok c.in_ok-made.ensures.keeps c.hold_node.ensures.still drawn c.in_ok-made-inside.field-0 c.args.proxies.now c.items_of.new.proxies
+    c.in_ok-made.ensures.near (c.in_ok-made-inside.ensures.ok drawn (subst (λ (f : Forest). IsMarked None (holder_by_marks c.args.marks.now) 0 f drawn) (sym below) marked))))
 
 pub items_of-loop-position-init : goal.items_of-loop-position-init
 items_of-loop-position-init g t c = (
@@ -42,7 +86,10 @@ items_of-piece_tree-requires g t c κs within =
           ((w.laid).runs).after,
           (
             next_few c.args.trees.items (into_iter_items c.loop-position.rest) c.loop-position.position c.loop-position.invariant.0 c.next_tree-tree.result (into_iter_items c.next_tree-tree.new.trees) c.next_tree-tree.ensures c.requires.few,
-            tree_can {d = g.D.Disk} c.args.marks.now w c.next_tree-tree.result (into_iter_items c.next_tree-tree.new.trees) c.below_in-below.result.now c.next_tree-tree.ensures (none_marked c.args.marks.now c.loop-position.position c.holder_in.result c.holder_in.ensures c.in-None.is) c.below_in-below.ensures,
+            (
+              next_short c.args.trees.items (into_iter_items c.loop-position.rest) c.loop-position.position c.loop-position.invariant.0 c.next_tree-tree.result (into_iter_items c.next_tree-tree.new.trees) c.next_tree-tree.ensures c.requires.short,
+              tree_can {d = g.D.Disk} c.args.marks.now w c.next_tree-tree.result (into_iter_items c.next_tree-tree.new.trees) c.below_in-below.result.now c.next_tree-tree.ensures (none_marked c.args.marks.now c.loop-position.position c.holder_in.result c.holder_in.ensures c.in-None.is) c.below_in-below.ensures,
+            ),
           ),
         ),
       ),
@@ -52,7 +99,7 @@ pub items_of-returns-in_err-made-in-None-clause-refused : goal.items_of-returns-
 items_of-returns-in_err-made-in-None-clause-refused g t c =
     err_passed c.from_residual.result
     (λ (e : StoreError). (drawn : CutForest) → IsMarked None (holder_by_marks c.args.marks.now) 0 (forest_of c.args.trees.items) drawn
-    → NotStored g.D.Disk (λ was. page_needs drawn) (λ was. ⊥) 0 e c.args.records.now c.piece_tree.new.records c.args.disk.now c.piece_tree.new.disk)
+    → NotStored g.D.Disk (λ was. drawn_needs drawn) (λ was. ⊥) 0 e c.args.records.now c.piece_tree.new.records c.args.disk.now c.piece_tree.new.disk)
     c.in_err-made-in-None.field-0.0 (err_from_is_err_and c.from_residual.result c.from_residual.ensures.1)
     (λ drawn marked.
     tree_not {d = g.D.Disk} c.args.marks.now (c.loop-position.invariant.1 drawn marked) c.next_tree-tree.result (into_iter_items c.next_tree-tree.new.trees) c.below_in-below.result.now c.next_tree-tree.ensures (none_marked c.args.marks.now c.loop-position.position c.holder_in.result c.holder_in.ensures c.in-None.is) c.below_in-below.ensures
@@ -61,7 +108,7 @@ items_of-returns-in_err-made-in-None-clause-refused g t c =
 pub items_of-returns-in_default-clause-refused : goal.items_of-returns-in_default-clause-refused
 items_of-returns-in_default-clause-refused g t c = λ drawn marked.
     tree_memory {d = g.D.Disk} c.args.marks.now (c.loop-position.invariant.1 drawn marked) c.next_tree-tree.result (into_iter_items c.next_tree-tree.new.trees) c.below_in-below.result.now c.next_tree-tree.ensures (none_marked c.args.marks.now c.loop-position.position c.holder_in.result c.holder_in.ensures c.in-None.is) c.below_in-below.ensures
-    c.in_ok-made-in-None.made c.piece_tree.new.proxies c.in_ok-made-in-None.ensures.node c.in_ok-made-in-None.ensures.ok
+    c.in_ok-made-in-None.made c.piece_tree.new.proxies c.in_ok-made-in-None.ensures.ok
 
 pub items_of-loop-position-preserved-in-None : goal.items_of-loop-position-preserved-in-None
 items_of-loop-position-preserved-in-None g t c = (
@@ -69,7 +116,7 @@ items_of-loop-position-preserved-in-None g t c = (
   λ drawn marked.
       tree_pushed {d = g.D.Disk} c.loop-position.items.items c.push.new.self.items c.in_ok-made-in-None.made
       (tree_laid {d = g.D.Disk} c.args.marks.now (c.loop-position.invariant.1 drawn marked) c.next_tree-tree.result (into_iter_items c.next_tree-tree.new.trees) c.below_in-below.result.now c.next_tree-tree.ensures (none_marked c.args.marks.now c.loop-position.position c.holder_in.result c.holder_in.ensures c.in-None.is) c.below_in-below.ensures
-      c.in_ok-made-in-None.made c.piece_tree.new.proxies c.in_ok-made-in-None.ensures.node c.in_ok-made-in-None.ensures.ok)
+      c.in_ok-made-in-None.made c.piece_tree.new.proxies c.in_ok-made-in-None.ensures.ok)
       c.in-Ok.ensures.items,
 )
 
@@ -88,11 +135,14 @@ items_of-put_members-requires g t c κs within =
           (
             few_left c.args.trees.items (into_iter_items c.loop-position.rest) c.loop-position.position c.loop-position.invariant.0 c.requires.few,
             (
-              (let some : c.loop-position.position < c.members_end-end.result = c.members_end-end.ensures.some in omega (arith, some)),
+              short_left c.args.trees.items (into_iter_items c.loop-position.rest) c.loop-position.position c.loop-position.invariant.0 c.requires.short,
               (
-                (let most : c.members_end-end.result ≤ c.len-len.result = c.members_end-end.ensures.within in omega (arith, most, many)),
-                interval_can {d = g.D.Disk} c.args.marks.now w c.in-Some.holder c.members_end-end.result c.len-len.result many c.loop-position-test.true (some_marked c.args.marks.now c.loop-position.position c.in-Some.holder c.holder_in.result c.holder_in.ensures c.in-Some.is)
-                    c.members_end-end.ensures.some c.members_end-end.ensures.within c.members_end-end.ensures.held c.members_end-end.ensures.ends,
+                (let some : c.loop-position.position < c.members_end-end.result = c.members_end-end.ensures.some in omega (arith, some)),
+                (
+                  (let most : c.members_end-end.result ≤ c.len-len.result = c.members_end-end.ensures.within in omega (arith, most, many)),
+                  interval_can {d = g.D.Disk} c.args.marks.now w c.in-Some.holder c.members_end-end.result c.len-len.result many c.loop-position-test.true (some_marked c.args.marks.now c.loop-position.position c.in-Some.holder c.holder_in.result c.holder_in.ensures c.in-Some.is)
+                      c.members_end-end.ensures.some c.members_end-end.ensures.within c.members_end-end.ensures.held c.members_end-end.ensures.ends,
+                ),
               ),
             ),
           ),
@@ -106,7 +156,7 @@ items_of-returns-in_err-proxy-in-Some-clause-refused g t c =
     let many : c.len-len.result ≡ c.loop-position.position + length (into_iter_items c.loop-position.rest) = whole ∙ many_left c.args.trees.items (into_iter_items c.loop-position.rest) c.loop-position.position c.loop-position.invariant.0 (omega (arith, whole, c.loop-position-test.true)) in
     err_passed c.from_residual-in_err-proxy-in-Some.result
     (λ (e : StoreError). (drawn : CutForest) → IsMarked None (holder_by_marks c.args.marks.now) 0 (forest_of c.args.trees.items) drawn
-    → NotStored g.D.Disk (λ was. page_needs drawn) (λ was. ⊥) 0 e c.args.records.now c.put_members.new.records c.args.disk.now c.put_members.new.disk)
+    → NotStored g.D.Disk (λ was. drawn_needs drawn) (λ was. ⊥) 0 e c.args.records.now c.put_members.new.records c.args.disk.now c.put_members.new.disk)
     c.in_err-proxy-in-Some.field-0.0 (err_from_is_err_and c.from_residual-in_err-proxy-in-Some.result c.from_residual-in_err-proxy-in-Some.ensures.1)
     (λ drawn marked.
     interval_not {d = g.D.Disk} c.args.marks.now (c.loop-position.invariant.1 drawn marked) c.in-Some.holder c.members_end-end.result c.len-len.result many c.loop-position-test.true (some_marked c.args.marks.now c.loop-position.position c.in-Some.holder c.holder_in.result c.holder_in.ensures c.in-Some.is)
@@ -174,7 +224,10 @@ put_members-piece_tree-requires g t c κs within =
           ((w.laid).runs).after,
           (
             next_few (into_iter_items c.args.trees.now) (into_iter_items c.loop-position.trees) (c.loop-position.position - c.args.first) c.loop-position.invariant.2 c.next_tree.result (into_iter_items c.next_tree.new.trees) c.next_tree.ensures c.requires.few,
-            member_can {d = g.D.Disk} c.args.marks.now w m.free c.next_tree.result (take (c.args.end - (c.loop-position.position + 1)) (into_iter_items c.next_tree.new.trees)) c.below_in-below.result.now (take_next (into_iter_items c.loop-position.trees) (into_iter_items c.next_tree.new.trees) c.next_tree.result c.loop-position.position c.args.end c.loop-position-test.true c.next_tree.ensures) c.below_in-below.ensures,
+            (
+              next_short (into_iter_items c.args.trees.now) (into_iter_items c.loop-position.trees) (c.loop-position.position - c.args.first) c.loop-position.invariant.2 c.next_tree.result (into_iter_items c.next_tree.new.trees) c.next_tree.ensures c.requires.short,
+              member_can {d = g.D.Disk} c.args.marks.now w m.free c.next_tree.result (take (c.args.end - (c.loop-position.position + 1)) (into_iter_items c.next_tree.new.trees)) c.below_in-below.result.now (take_next (into_iter_items c.loop-position.trees) (into_iter_items c.next_tree.new.trees) c.next_tree.result c.loop-position.position c.args.end c.loop-position-test.true c.next_tree.ensures) c.below_in-below.ensures,
+            ),
           ),
         ),
       ),
@@ -187,7 +240,7 @@ pub put_members-returns-in_err-made-clause-refused : goal.put_members-returns-in
 put_members-returns-in_err-made-clause-refused g t c =
     err_passed c.from_residual.result
     (λ (e : StoreError). (members : CutForest) → AreMembers (holder_by_marks c.args.marks.now) c.args.first (forest_of (take (c.args.end - c.args.first) (into_iter_items c.args.trees.now))) members
-    → NotStored g.D.Disk (λ was. 1 + proxy_count members + page_needs members) (λ was. ⊥) 0 e c.args.records.now c.piece_tree.new.records c.args.disk.now c.piece_tree.new.disk)
+    → NotStored g.D.Disk (λ was. 1 + proxy_count members + drawn_needs members) (λ was. ⊥) 0 e c.args.records.now c.piece_tree.new.records c.args.disk.now c.piece_tree.new.disk)
     c.in_err-made.field-0.0 (err_from_is_err_and c.from_residual.result c.from_residual.ensures.1)
     (λ members m.
     member_not {d = g.D.Disk} c.args.marks.now (c.loop-position.invariant.3 members m) m.free c.next_tree.result (take (c.args.end - (c.loop-position.position + 1)) (into_iter_items c.next_tree.new.trees)) c.below_in-below.result.now (take_next (into_iter_items c.loop-position.trees) (into_iter_items c.next_tree.new.trees) c.next_tree.result c.loop-position.position c.args.end c.loop-position-test.true c.next_tree.ensures) c.below_in-below.ensures
@@ -199,7 +252,7 @@ put_members-returns-in_default-clause-still g t c = still_then ((c.loop-position
 pub put_members-returns-in_default-clause-refused : goal.put_members-returns-in_default-clause-refused
 put_members-returns-in_default-clause-refused g t c = λ members m.
     member_memory {d = g.D.Disk} c.args.marks.now (c.loop-position.invariant.3 members m) m.free c.next_tree.result (take (c.args.end - (c.loop-position.position + 1)) (into_iter_items c.next_tree.new.trees)) c.below_in-below.result.now (take_next (into_iter_items c.loop-position.trees) (into_iter_items c.next_tree.new.trees) c.next_tree.result c.loop-position.position c.args.end c.loop-position-test.true c.next_tree.ensures) c.below_in-below.ensures
-    c.in_ok-made.made c.piece_tree.new.proxies c.in_ok-made.ensures.node c.in_ok-made.ensures.ok
+    c.in_ok-made.made c.piece_tree.new.proxies c.in_ok-made.ensures.ok
 
 pub put_members-loop-position-preserved : goal.put_members-loop-position-preserved
 put_members-loop-position-preserved g t c = (
@@ -210,12 +263,14 @@ put_members-loop-position-preserved g t c = (
       subst (λ (b : Gapped). WalksOn g.D.Disk (Some m.index) (holder_by_marks c.args.marks.now) (c.loop-position.position + 1) (take (c.args.end - (c.loop-position.position + 1)) (into_iter_items c.next_tree.new.trees)) members c.args.records.now c.piece_tree.new.records c.args.disk.now c.piece_tree.new.disk b [] c.piece_tree.new.proxies)
       (sym c.in-Ok.ensures.ok)
       (member_laid {d = g.D.Disk} c.args.marks.now (c.loop-position.invariant.3 members m) m.free c.next_tree.result (take (c.args.end - (c.loop-position.position + 1)) (into_iter_items c.next_tree.new.trees)) c.below_in-below.result.now (take_next (into_iter_items c.loop-position.trees) (into_iter_items c.next_tree.new.trees) c.next_tree.result c.loop-position.position c.args.end c.loop-position-test.true c.next_tree.ensures) c.below_in-below.ensures
-      c.in_ok-made.made c.piece_tree.new.proxies c.in_ok-made.ensures.node c.in_ok-made.ensures.ok),
+      c.in_ok-made.made c.piece_tree.new.proxies c.in_ok-made.ensures.ok),
 )
 
 pub put_members-add_piece-requires : goal.put_members-add_piece-requires
-put_members-add_piece-requires g t c =
-    piece_can {d = g.D.Disk} c.args.marks.now (c.loop-position.invariant.3 c.requires.marked.0 c.requires.marked.1) (take_none (into_iter_items c.loop-position.trees) c.loop-position.position c.args.end c.loop-position-test.false) c.args.first (forest_of (take (c.args.end - c.args.first) (into_iter_items c.args.trees.now))) c.requires.marked.1 (first_few (c.args.end - c.args.first) (into_iter_items c.args.trees.now) c.requires.few)
+put_members-add_piece-requires g t c = record {
+  valid = piece_can {d = g.D.Disk} c.args.marks.now (c.loop-position.invariant.3 c.requires.marked.0 c.requires.marked.1) (take_none (into_iter_items c.loop-position.trees) c.loop-position.position c.args.end c.loop-position-test.false) c.args.first (forest_of (take (c.args.end - c.args.first) (into_iter_items c.args.trees.now))) c.requires.marked.1 (first_few (c.args.end - c.args.first) (into_iter_items c.args.trees.now) c.requires.few);
+  near = gathered_near {d = g.D.Disk} c.args.marks.now (c.loop-position.invariant.3 c.requires.marked.0 c.requires.marked.1) (take_none (into_iter_items c.loop-position.trees) c.loop-position.position c.args.end c.loop-position-test.false);
+}
 
 pub put_members-returns-clause-still : goal.put_members-returns-clause-still
 put_members-returns-clause-still g t c = still_then ((c.loop-position.invariant.3 c.requires.marked.0 c.requires.marked.1).laid).still c.add_piece.ensures.still

@@ -15,7 +15,7 @@ use Rattle.nx_divide.proofs.TopLemmas.{some_draft, some_row, few_parts, roots_ma
 use Rattle.nx_divide.proofs.dividing.put_parts.Goals as goal
 
 pub mark_members-requires : goal.mark_members-requires
-mark_members-requires g c = few_parts (settings_of c.args.records.now) c.args.records.now.head_range.settings.k.1 c.args.piece c.args.parts.now c.requires.split c.requires.piece c.requires.few
+mark_members-requires g c = few_parts (settings_of c.args.records.now) c.args.records.now.head_range.settings.k.1 c.args.piece c.args.parts.now c.requires.split c.requires.piece c.requires.near c.requires.few
 
 pub put_roots-requires-clause-some : goal.put_roots-requires-clause-some
 put_roots-requires-clause-some g c = some_roots c.in-Ok-items_from.roots.items c.args.piece.body.roots (c.in-Ok-items_from.ensures ∙ c.into_vec-2.ensures) c.requires.piece.body.some
@@ -28,9 +28,9 @@ put_roots-requires-clause-small g c =
 
 pub put_roots-requires-clause-marked : goal.put_roots-requires-clause-marked
 put_roots-requires-clause-marked g c = (
-  (some_draft (settings_of c.args.records.now) c.args.records.now.head_range.settings.k.1 c.args.piece c.args.parts.now c.requires.split c.requires.piece).draft,
-  roots_marked c.in-Ok.mark c.below.result.now c.args.parts.now c.args.piece.body.roots (gapped_of c.in-Ok-items_from.roots.items) c.args.piece.proxies (into_iter_items c.into_iter-olds.result) (some_draft (settings_of c.args.records.now) c.args.records.now.head_range.settings.k.1 c.args.piece c.args.parts.now c.requires.split c.requires.piece).draft c.in-Ok.ensures.marked c.below.ensures
-      (c.in-Ok-items_from.ensures ∙ c.into_vec-2.ensures) (c.into_iter-olds.ensures.rest ∙ c.into_vec.ensures) (some_row (settings_of c.args.records.now) c.args.records.now.head_range.settings.k.1 c.args.piece c.args.parts.now c.requires.split c.requires.piece),
+  (some_draft (settings_of c.args.records.now) c.args.records.now.head_range.settings.k.1 c.args.piece c.args.parts.now c.requires.split c.requires.piece c.requires.near).draft,
+  roots_marked c.in-Ok.mark c.below.result.now c.args.parts.now c.args.piece.body.roots (gapped_of c.in-Ok-items_from.roots.items) c.args.piece.proxies (into_iter_items c.into_iter-olds.result) (some_draft (settings_of c.args.records.now) c.args.records.now.head_range.settings.k.1 c.args.piece c.args.parts.now c.requires.split c.requires.piece c.requires.near).draft c.in-Ok.ensures.marked c.below.ensures
+      (c.in-Ok-items_from.ensures ∙ c.into_vec-2.ensures) (c.into_iter-olds.ensures.rest ∙ c.into_vec.ensures) (some_row (settings_of c.args.records.now) c.args.records.now.head_range.settings.k.1 c.args.piece c.args.parts.now c.requires.split c.requires.piece c.requires.near),
 )
 
 pub returns-clause-ok : goal.returns-clause-ok
@@ -55,12 +55,12 @@ returns-clause-refused g c =
 
 pub returns-clause-comes : goal.returns-clause-comes
 returns-clause-comes g c =
-    parts_come g.D.Disk (settings_of c.args.records.now) c.args.records.now.head_range.settings.k.1 c.args.piece c.args.parts.now c.requires.split c.requires.piece (place_of c.args.rid) c.args.records.now c.put_roots.new.records c.args.disk.now c.put_roots.new.disk c.put_roots.result (returns-clause-ok g c)
+    parts_come g.D.Disk (settings_of c.args.records.now) c.args.records.now.head_range.settings.k.1 c.args.piece c.args.parts.now c.requires.split c.requires.piece c.requires.near (place_of c.args.rid) c.args.records.now c.put_roots.new.records c.args.disk.now c.put_roots.new.disk c.put_roots.result (returns-clause-ok g c)
 
 pub returns-clause-keeps : goal.returns-clause-keeps
 returns-clause-keeps g c =
-    parts_keep g.D.Disk (settings_of c.args.records.now) c.args.records.now.head_range.settings.k.1 c.args.piece c.args.parts.now c.requires.split c.requires.piece (place_of c.args.rid) c.args.records.now c.put_roots.new.records c.args.disk.now c.put_roots.new.disk c.put_roots.result (returns-clause-ok g c)
+    parts_keep g.D.Disk (settings_of c.args.records.now) c.args.records.now.head_range.settings.k.1 c.args.piece c.args.parts.now c.requires.split c.requires.piece c.requires.near (place_of c.args.rid) c.args.records.now c.put_roots.new.records c.args.disk.now c.put_roots.new.disk c.put_roots.result (returns-clause-ok g c)
 
 pub returns-clause-cause : goal.returns-clause-cause
 returns-clause-cause g c =
-    parts_cause g.D.Disk (settings_of c.args.records.now) c.args.records.now.head_range.settings.k.1 c.args.piece c.args.parts.now c.requires.split c.requires.piece (place_of c.args.rid) c.args.records.now c.put_roots.new.records c.args.disk.now c.put_roots.new.disk c.put_roots.result (returns-clause-refused g c)
+    parts_cause g.D.Disk (settings_of c.args.records.now) c.args.records.now.head_range.settings.k.1 c.args.piece c.args.parts.now c.requires.split c.requires.piece c.requires.near (place_of c.args.rid) c.args.records.now c.put_roots.new.records c.args.disk.now c.put_roots.new.disk c.put_roots.result (returns-clause-refused g c)

@@ -17,7 +17,7 @@ use Rattle.nx_divide.specs.Putting.{PutsRow}
 use Rattle.nx_divide.proofs.LeftLemmas.{proxies-parted, many-drop, many-take, count-drop, olds_then, fewer_olds, tree_gapped, run_gapped, tree_many, tree_count, run_many, run_count, member_left, take_next, take_none, none_left}
 use Rattle.nx_divide.proofs.WalkLemmas.{WalksOn, walk_begins, walk_ends}
 use Rattle.nx_divide.proofs.RunLemmas.{run_there, run_room, run_step}
-use Rattle.nx_divide.proofs.StepLemmas.{tree_can, tree_not, tree_put, tree_memory, tree_pushed, interval_can, interval_not, interval_room, interval_memory, interval_added, next_is_tree, member_can, member_not, member_put, member_memory, piece_can, all_gathered, needs_fewer, put_done, put_not}
+use Rattle.nx_divide.proofs.StepLemmas.{tree_can, tree_not, tree_put, tree_memory, tree_pushed, interval_can, interval_not, interval_room, interval_memory, interval_added, next_is_tree, member_can, member_not, member_put, member_memory, piece_can, piece_near, all_gathered, needs_fewer, put_done, put_not}
 use Rattle.nx_divide.proofs.walk.+walk.Goals as goal
 
 pub items_of-loop-count-init : goal.items_of-loop-count-init
@@ -322,6 +322,13 @@ gather_piece-returns-clause-valid g t c =
     let less = many-take (c.args.end - c.args.first) (into_iter_items c.args.left.now) in
     piece_can {d = g.D.Disk} c.args.marks.now w (ap gapped_of (take_none (into_iter_items c.loop-position.left) c.loop-position.position c.args.end c.loop-position-test.false)) c.args.first (gapped_of (take (c.args.end - c.args.first) (into_iter_items c.args.left.now))) (into_iter_items c.args.olds.now) m (omega (arith, few, less))
 
+pub gather_piece-returns-clause-near : goal.gather_piece-returns-clause-near
+gather_piece-returns-clause-near g t c =
+    let members = c.requires.marked.0 in
+    let m = c.requires.marked.1 in
+    let w : WalksOn g.D.Disk (Some m.index) (holder_by_marks c.args.marks.now) c.loop-position.position (gapped_of (take (c.args.end - c.loop-position.position) (into_iter_items c.loop-position.left))) (into_iter_items c.loop-position.olds) members c.args.records.now c.loop-position.records c.args.disk.now c.loop-position.disk c.loop-position.roots [] c.loop-position.proxies = c.loop-position.invariant.5 members m in
+    piece_near {d = g.D.Disk} c.args.marks.now w (ap gapped_of (take_none (into_iter_items c.loop-position.left) c.loop-position.position c.args.end c.loop-position-test.false)) c.args.first (gapped_of (take (c.args.end - c.args.first) (into_iter_items c.args.left.now))) (into_iter_items c.args.olds.now) m
+
 pub gather_piece-returns-clause-ok : goal.gather_piece-returns-clause-ok
 gather_piece-returns-clause-ok g t c =
     all_gathered g.D.Disk c.args.marks.now (gapped_of (take (c.args.end - c.args.first) (into_iter_items c.args.left.now))) (gapped_of (take (c.args.end - c.loop-position.position) (into_iter_items c.loop-position.left))) (into_iter_items c.args.olds.now) (into_iter_items c.loop-position.olds) c.args.first c.loop-position.position c.loop-position.roots c.loop-position.proxies c.args.records.now c.loop-position.records c.args.disk.now c.loop-position.disk
@@ -341,7 +348,7 @@ put_members-returns-clause-still g t c = still_then c.gather_piece.ensures.still
 pub put_members-returns-clause-ok : goal.put_members-returns-clause-ok
 put_members-returns-clause-ok g t c =
     put_done g.D.Disk c.args.marks.now (gapped_of (take (c.args.end - c.args.first) (into_iter_items c.args.left.now))) (into_iter_items c.args.olds.now) c.args.first c.in_ok-piece.piece c.args.records.now c.gather_piece.new.records c.add_piece.new.records c.args.disk.now c.gather_piece.new.disk c.add_piece.new.disk
-    c.in_ok-piece.ensures.ok c.add_piece.result c.add_piece.ensures.roots c.add_piece.ensures.ok c.add_piece.ensures.takes c.add_piece.ensures.keeps c.add_piece.ensures.still
+    c.in_ok-piece.ensures.ok c.add_piece.result c.add_piece.ensures.roots c.add_piece.ensures.adds c.add_piece.ensures.keeps c.add_piece.ensures.still
 
 pub put_members-returns-clause-refused : goal.put_members-returns-clause-refused
 put_members-returns-clause-refused g t c =
