@@ -10,7 +10,6 @@ use Rattle.nx_host.specs.declared.disk.Disk.{Ghosts}
 use Rattle.nx_host.specs.Still.{IsStill}
 use Rattle.nx_host.proofs.DiskLemmas.{still_then}
 use Rattle.nx_tree.specs.declared.node.Kind.{Kind}
-use Rattle.nx_tree.specs.declared.node.Node.{Node}
 use Rattle.nx_tree.specs.Document.{deepest}
 use Rattle.nx_tree.specs.Forest.{OrderedTree}
 use Rattle.nx_records.specs.declared.records.Records.{Records}
@@ -21,9 +20,9 @@ use Rattle.nx_piece.specs.declared.piece.Proxy.{Proxy}
 use Rattle.nx_piece.specs.Gapped.{GappedTree}
 use Rattle.nx_piece.specs.Valid.{IsValidPiece}
 use Rattle.nx_piece.specs.Locate.{PieceChild, Own, Kept, Reached, Inside, Outside, Missing, children_of, reached, reached_in}
-use Rattle.nx_cuts.specs.Cut.{CutTree, forest, tree_of}
+use Rattle.nx_cuts.specs.Cut.{CutTree, tree_of}
 use Rattle.nx_cuts.proofs.FeasibleLemmas.{trees, le_or}
-use Rattle.nx_layouts.specs.Layout.{RecordPlace}
+use Rattle.nx_layouts.specs.Layout.{RecordPlace, laid_forest}
 use Rattle.nx_hold.specs.Changes.{place_named}
 use Rattle.nx_hold.specs.Documents.{HasDocument}
 use Rattle.nx_nav.specs.declared.error.NavError.{NavError}
@@ -35,7 +34,7 @@ use Rattle.nx_nav.specs.Shows.{kind_below}
 use Rattle.nx_nav.proofs.ChildLemmas.{path_falls, child_there, trees-forest}
 use Rattle.nx_nav.proofs.NodeLemmas.{too_deep}
 use Rattle.nx_nav.proofs.RefusalLemmas.{refused_later, still_runs}
-use Rattle.nx_nav.proofs.SeekLemmas.{IsSeeking, seek_begins, seek_goes_on, seek_falls, seek_reads, seek_reads_within, reads_no_more, shows_found, finds_none}
+use Rattle.nx_nav.proofs.SeekLemmas.{IsSeeking, seek_begins, seek_goes_on, seek_falls, seek_reads, seek_reads_within, reads_no_more, kind_there, finds_none}
 
 -- a path that leads into another record does so with more positions behind it
 kept_out : (proxies : List Proxy) (used : ℕ) (path : List ℕ) (index member : ℕ) → reached proxies used path (Some (Kept index member)) ≡ Outside index member used
@@ -96,10 +95,8 @@ pub record IsSeekingBelow {D : Type 0} (d : Ghosts D) (r0 r1 : Records) (x0 x1 :
 module _ {D : Type 0} {d : Ghosts D} {r0 : Records} {x0 : D} {root : RecordPlace} where
   -- the kind of the node where the way to a child ends
   kind_inside : {r1 : Records} {x1 : D} {place : RecordPlace} {roots member : ℕ} {rest : List ℕ} (path : List ℕ) (position : ℕ) → IsSeeking d r0 r1 x0 x1 root (path ++ position ∷ []) place roots member rest → (piece : Piece) → IsPieceAt d r1 x1 place roots piece
-      → (t : GappedTree) (f : ℕ) → reached_in piece member rest ≡ Inside t f → OfEach d r0 x0 root (λ document. Some t.node.kind ≡ kind_below (tree_of document) path position)
-  kind_inside path position sought piece at t f e document h =
-      let s = shows_found sought piece at t f (record { node = t.node; children = length (children_of piece.proxies f t.below) }) e refl refl document h in
-      ap (λ (n : Node). Some n.kind) s.2 ∙ sym (ap (λ (o : Option OrderedTree). option_map (λ (x : OrderedTree). x.node.kind) o) s.1)
+      → (t : GappedTree) (f : ℕ) → reached_in piece member rest ≡ Inside t f → OfEach d r0 x0 root (λ document. Some t.node.node.kind ≡ kind_below (tree_of document) path position)
+  kind_inside path position sought piece at t f e document h = sym (kind_there sought piece at t f e document h)
 
   kind_missing : {r1 : Records} {x1 : D} {place : RecordPlace} {roots member : ℕ} {rest : List ℕ} (path : List ℕ) (position : ℕ) → IsSeeking d r0 r1 x0 x1 root (path ++ position ∷ []) place roots member rest → (piece : Piece) → IsPieceAt d r1 x1 place roots piece
       → reached_in piece member rest ≡ Missing → OfEach d r0 x0 root (λ document. None ≡ kind_below (tree_of document) path position)
@@ -190,8 +187,8 @@ module _ {D : Type 0} {d : Ghosts D} {r0 : Records} {x0 : D} {root : RecordPlace
           elim (le_or deepest (length (path ++ position ∷ []))) [
             | inl deep ↦
                 let on = sought.on document h in
-                let within : next < trees (forest on.members) = let w = on.within in omega (arith, w, trees-forest on.members) in
-                absurd (child_there (forest on.members) next within (sym on.same ∙ too_deep (path ++ position ∷ []) (tree_of document) h.laid.laid.is_document deep))
+                let within : next < trees (laid_forest on.members) = let w = on.within in omega (arith, w, trees-forest on.members) in
+                absurd (child_there (laid_forest on.members) next within (sym on.same ∙ too_deep (path ++ position ∷ []) (tree_of document) h.laid.laid.is_document deep))
             | inr shallow ↦ omega (arith, few, shallow)
           ]
 

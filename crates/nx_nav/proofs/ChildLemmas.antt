@@ -1,19 +1,23 @@
 -- The children of a node in a piece are those of the document: a tree of the piece, or a root of the record of a proxy.
-use Rattle.std.proofs.Common.{◌≡◌, ℕ, zero, suc, ◌+◌, ◌-◌, ◌<◌, ◌≤◌, List, [], ◌∷◌, ◌++◌, length, take, drop, Option, None, Some, refl, sym, ap, ◌∙◌, subst, arith, inl, inr, append_assoc, length-append}
+use Rattle.std.proofs.Common.{◌≡◌, ℕ, zero, suc, ◌+◌, ◌-◌, ◌<◌, ◌≤◌, List, [], ◌∷◌, ◌++◌, Contains, length, take, drop, Option, None, Some, refl, sym, ap, ◌∙◌, subst, arith, inl, inr, append_assoc, length-append}
 use Rattle.std.proofs.lemmas.List.{append-nil}
+use Rattle.std.proofs.lemmas.List.Elements.{Contains-append_left, Contains-append_right}
+use Rattle.std.specs.Option.{option_to_list}
 use Rattle.std.specs.Prelude.{option_and_then}
 use Rattle.std.specs.List.{slice_get}
 use Rattle.nx_tree.specs.Forest.{Forest, Empty, Plant, OrderedTree, trees_of}
 use Rattle.nx_tree.specs.Edit.{child, at}
 use Rattle.nx_piece.specs.declared.piece.Proxy.{Proxy}
+use Rattle.nx_piece.specs.declared.piece.Far.{Far}
 use Rattle.nx_piece.specs.declared.piece.Piece.{Piece}
+use Rattle.nx_piece.specs.Contents.{fars_in}
 use Rattle.nx_piece.specs.Gapped.{Gapped, GappedTree, End, Grow, Gap, proxies_in}
 use Rattle.nx_piece.specs.Locate.{PieceChild, Own, Kept as Away, roots_from, kept_from, children_of, Reached, Inside, Outside, Missing, reached, reached_in}
 use Rattle.nx_piece.specs.Valid.{AreTrees, IsValidPiece}
 use Rattle.nx_piece.proofs.LocateLemmas.{get_in_front, get_behind}
-use Rattle.nx_cuts.specs.Cut.{Bare, Grown, Kept, joined, forest, width, AreParts}
+use Rattle.nx_cuts.specs.Cut.{Bare, Grown, Kept, joined, width}
 use Rattle.nx_cuts.proofs.FeasibleLemmas.{trees, trees-joined, le_or}
-use Rattle.nx_layouts.specs.Layout.{RecordPlace, Layout, gap_more, piece_body, proxy_of, proxies_of, piece_of, AreHeld}
+use Rattle.nx_layouts.specs.Layout.{RecordPlace, LaidNode, Layout, Stock, in_record, laid_forest, gap_more, piece_body, proxy_of, proxies_of, piece_of, IsReadIn, AreHeld, AreLaidParts}
 use Rattle.nx_layouts.proofs.LayoutLemmas.{proxies_counted}
 
 -- the tree where a path leads that begins at one of these trees
@@ -24,10 +28,10 @@ pub trees-length : (f : Forest) → length (trees_of f) ≡ trees f
 trees-length Empty = refl
 trees-length (Plant n b s) = omega (arith, trees-length s)
 
-pub trees-forest : (l : Layout) → trees (forest l) ≡ width l
+pub trees-forest : (l : Layout) → trees (laid_forest l) ≡ width l
 trees-forest Bare = refl
 trees-forest (Grown n b s) = omega (arith, trees-forest s)
-trees-forest (Kept p m s) = omega (arith, trees-joined (forest m) (forest s), trees-forest m, trees-forest s)
+trees-forest (Kept p m s) = omega (arith, trees-joined (laid_forest m) (laid_forest s), trees-forest m, trees-forest s)
 
 -- the trees of two forests beside each other
 child_prefix : (f g : Forest) (p : ℕ) → p < trees f → child (joined f g) p ≡ child f p
@@ -87,18 +91,21 @@ pub at_here : (o : Option OrderedTree) → option_and_then (λ t. at t []) o ≡
 at_here None = refl
 at_here (Some t) = refl
 
-module _ (pieces : RecordPlace → Option Piece) (k : ℕ) (all : List Proxy) where
+module _ (stock : Stock) (k : ℕ) (all : List Proxy) where
   -- A tree of the piece stands for a tree of the document, what hangs below it in other records among it.
   pub record IsOwn (t : GappedTree) (first : ℕ) (o : Option OrderedTree) : Type 0 where
+    pub node : LaidNode
     pub below : Layout
+    pub item : t.node ≡ in_record node
     pub shape : t.below ≡ piece_body below
-    pub is : o ≡ Some (record { node = t.node; below = forest below })
+    pub is : o ≡ Some (record { node = node.node; below = laid_forest below })
+    pub read : IsReadIn stock.list_at node
     pub front : List Proxy
     pub back : List Proxy
     pub here : all ≡ front ++ (proxies_of below ++ back)
     pub first_is : length front ≡ first
-    pub held : AreHeld pieces below
-    pub light : AreParts k below
+    pub held : AreHeld stock below
+    pub light : AreLaidParts k below
 
   -- A proxy stands for members of an interval, one of which is that tree.
   pub record IsAway (index member : ℕ) (path : List ℕ) (o : Option OrderedTree) : Type 0 where
@@ -106,9 +113,9 @@ module _ (pieces : RecordPlace → Option Piece) (k : ℕ) (all : List Proxy) wh
     pub members : Layout
     pub proxy : slice_get all index ≡ Some (proxy_of place (width members))
     pub within : member < width members
-    pub is : o ≡ at_member (forest members) member path
-    pub held : AreHeld pieces (Kept place members Bare)
-    pub light : AreParts k (Kept place members Bare)
+    pub is : o ≡ at_member (laid_forest members) member path
+    pub held : AreHeld stock (Kept place members Bare)
+    pub light : AreLaidParts k (Kept place members Bare)
 
   -- what is found among the children of a node in a piece is what is found in the document
   abbrev pub IsChild : Option PieceChild → Option OrderedTree → Type 0
@@ -122,24 +129,27 @@ module _ (pieces : RecordPlace → Option Piece) (k : ℕ) (all : List Proxy) wh
   IsEnd used path (Inside t first) o = IsOwn t first o
   IsEnd used path (Outside index member end) o = (n : ℕ) × (end ≡ used + n) × IsAway index member (drop n path) o
 
-  child_is : (l : Layout) (front back : List Proxy) (first : ℕ) → all ≡ front ++ (proxies_of l ++ back) → length front ≡ first → AreHeld pieces l → AreParts k l → (i : ℕ)
-      → IsChild (slice_get (children_of all first (piece_body l)) i) (child (forest l) i)
+  child_is : (l : Layout) (front back : List Proxy) (first : ℕ) → all ≡ front ++ (proxies_of l ++ back) → length front ≡ first → AreHeld stock l → AreLaidParts k l → (i : ℕ)
+      → IsChild (slice_get (children_of all first (piece_body l)) i) (child (laid_forest l) i)
   child_is Bare front back first e f held light i = refl
   child_is (Grown n b s) front back first e f held light zero = record {
+    node = n;
     below = b;
+    item = refl;
     shape = refl;
     is = refl;
+    read = held.0;
     front = front;
     back = proxies_of s ++ back;
     here = e ∙ ap (λ xs. front ++ xs) (append_assoc (proxies_of b) (proxies_of s) back);
     first_is = f;
-    held = held.0;
+    held = held.1;
     light = light.0;
   }
   child_is (Grown n b s) front back first e f held light (suc i) =
       child_is s (front ++ proxies_of b) back (first + proxies_in (piece_body b))
       (e ∙ ap (λ xs. front ++ xs) (append_assoc (proxies_of b) (proxies_of s) back) ∙ sym (append_assoc front (proxies_of b) (proxies_of s ++ back)))
-      (omega (arith, length-append front (proxies_of b), proxies_counted b)) held.1 light.1 i
+      (omega (arith, length-append front (proxies_of b), proxies_counted b)) held.2 light.1 i
   child_is (Kept p m s) front back first e f held light i =
       let proxy = proxy_of p (width m) in
       let d = drop_front front proxy (proxies_of s ++ back) all first e f in
@@ -150,23 +160,23 @@ module _ (pieces : RecordPlace → Option Piece) (k : ℕ) (all : List Proxy) wh
         | inl less ↦
             let there : slice_get roots i ≡ Some (Away first i) = root_there first 0 (width m) i less ∙ ap (λ (n : ℕ). Some (Away first n)) (let q : 0 + i ≡ i = omega arith in q) in
             let found : slice_get (children_of all first (piece_body (Kept p m s))) i ≡ Some (Away first i) = ap (λ xs. slice_get xs i) more ∙ get_in_front roots rest i (Away first i) there in
-            let within : i < trees (forest m) = omega (arith, trees-forest m) in
-            subst (λ x. IsChild x (child (forest (Kept p m s)) i)) (sym found) (record {
+            let within : i < trees (laid_forest m) = omega (arith, trees-forest m) in
+            subst (λ x. IsChild x (child (laid_forest (Kept p m s)) i)) (sym found) (record {
               place = p;
               members = m;
               proxy = at_front front proxy (proxies_of s ++ back) all first e f;
               within = less;
-              is = child_prefix (forest m) (forest s) i within ∙ sym (at_here (child (forest m) i));
+              is = child_prefix (laid_forest m) (laid_forest s) i within ∙ sym (at_here (child (laid_forest m) i));
               held = (held.0, held.1, tt);
               light = (light.0, light.1, light.2, light.3, tt);
             })
         | inr beyond ↦
             let long = roots_length first 0 (width m) in
             let j : i ≡ length roots + (i - width m) = omega arith in
-            let h : i ≡ trees (forest m) + (i - width m) = omega (arith, trees-forest m) in
+            let h : i ≡ trees (laid_forest m) + (i - width m) = omega (arith, trees-forest m) in
             let found : slice_get (children_of all first (piece_body (Kept p m s))) i ≡ slice_get rest (i - width m) = ap (λ xs. slice_get xs i) more ∙ ap (slice_get (roots ++ rest)) j ∙ get_behind roots rest (i - width m) in
-            let same : child (forest (Kept p m s)) i ≡ child (forest s) (i - width m) = ap (child (joined (forest m) (forest s))) h ∙ child_back (forest m) (forest s) (i - width m) in
-            subst (λ x. IsChild x (child (forest (Kept p m s)) i)) (sym found) (subst (λ o. IsChild (slice_get rest (i - width m)) o) (sym same)
+            let same : child (laid_forest (Kept p m s)) i ≡ child (laid_forest s) (i - width m) = ap (child (joined (laid_forest m) (laid_forest s))) h ∙ child_back (laid_forest m) (laid_forest s) (i - width m) in
+            subst (λ x. IsChild x (child (laid_forest (Kept p m s)) i)) (sym found) (subst (λ o. IsChild (slice_get rest (i - width m)) o) (sym same)
             (child_is s (front ++ proxy ∷ []) back (first + 1) (e ∙ sym (append_assoc front (proxy ∷ []) (proxies_of s ++ back))) (omega (arith, length-append front (proxy ∷ []))) held.2 light.4 (i - width m)))
       ]
 
@@ -190,7 +200,7 @@ module _ (pieces : RecordPlace → Option Piece) (k : ℕ) (all : List Proxy) wh
         members = h.members;
         proxy = h.proxy;
         within = h.within;
-        is = ap (option_and_then (λ t. at t p)) (h.is ∙ at_here (child (forest h.members) member));
+        is = ap (option_and_then (λ t. at t p)) (h.is ∙ at_here (child (laid_forest h.members) member));
         held = h.held;
         light = h.light;
       }
@@ -206,11 +216,11 @@ module _ (pieces : RecordPlace → Option Piece) (k : ℕ) (all : List Proxy) wh
   end_is used path (Some (Away index member)) o h = away_is_end used index member path o h
   end_is used [] (Some (Own t first)) o h = subst (λ x. IsOwn t first x) (sym (at_here o)) h
   end_is used (position ∷ path) (Some (Own t first)) o h =
-      let inner = end_is (used + 1) path (slice_get (children_of all first (piece_body h.below)) position) (child (forest h.below) position) (child_is h.below h.front h.back first h.here h.first_is h.held h.light position) in
-      let same : option_and_then (λ t. at t (position ∷ path)) o ≡ at_member (forest h.below) position path = ap (option_and_then (λ t. at t (position ∷ path))) h.is in
+      let inner = end_is (used + 1) path (slice_get (children_of all first (piece_body h.below)) position) (child (laid_forest h.below) position) (child_is h.below h.front h.back first h.here h.first_is h.held h.light position) in
+      let same : option_and_then (λ t. at t (position ∷ path)) o ≡ at_member (laid_forest h.below) position path = ap (option_and_then (λ t. at t (position ∷ path))) h.is in
       subst (λ f. IsEnd used (position ∷ path) (reached all (used + 1) path (slice_get (children_of all first f) position)) (option_and_then (λ t. at t (position ∷ path)) o)) (sym h.shape)
       (subst (λ x. IsEnd used (position ∷ path) (reached all (used + 1) path (slice_get (children_of all first (piece_body h.below)) position)) x) (sym same)
-      (one_further used position path (reached all (used + 1) path (slice_get (children_of all first (piece_body h.below)) position)) (at_member (forest h.below) position path) inner))
+      (one_further used position path (reached all (used + 1) path (slice_get (children_of all first (piece_body h.below)) position)) (at_member (laid_forest h.below) position path) inner))
 
   -- a node has as many children in the piece as in the document
   pub children_counted : (l : Layout) (front back : List Proxy) (first : ℕ) → all ≡ front ++ (proxies_of l ++ back) → length front ≡ first → length (children_of all first (piece_body l)) ≡ width l
@@ -230,12 +240,12 @@ module _ (pieces : RecordPlace → Option Piece) (k : ℕ) (all : List Proxy) wh
       omega (arith, more, sum, long, h)
 
 -- where a path leads that begins at a member of an interval
-pub interval_end : (pieces : RecordPlace → Option Piece) (k : ℕ) (place : RecordPlace) (members : Layout) (member : ℕ) (path : List ℕ) → AreHeld pieces (Kept place members Bare) → AreParts k (Kept place members Bare)
-    → IsEnd pieces k (proxies_of members) 0 path (reached_in (piece_of members) member path) (at_member (forest members) member path)
-interval_end pieces k place members member path held light =
+pub interval_end : (stock : Stock) (k : ℕ) (place : RecordPlace) (members : Layout) (member : ℕ) (path : List ℕ) → AreHeld stock (Kept place members Bare) → AreLaidParts k (Kept place members Bare)
+    → IsEnd stock k (proxies_of members) 0 path (reached_in (piece_of members) member path) (at_member (laid_forest members) member path)
+interval_end stock k place members member path held light =
     let all = proxies_of members in
-    end_is pieces k all 0 path (slice_get (children_of all 0 (piece_body members)) member) (child (forest members) member)
-    (child_is pieces k all members [] [] 0 (sym (append-nil all)) refl held.1 light.3 member)
+    end_is stock k all 0 path (slice_get (children_of all 0 (piece_body members)) member) (child (laid_forest members) member)
+    (child_is stock k all members [] [] 0 (sym (append-nil all)) refl held.1 light.3 member)
 
 -- a path leads out of a piece after no more positions than it has
 outside_within : (proxies : List Proxy) (used : ℕ) (path : List ℕ) (found : Option PieceChild) (index member end : ℕ) → reached proxies used path found ≡ Outside index member end → (used ≤ end) × (end ≤ used + length path)
@@ -270,3 +280,52 @@ leads_further proxies (position ∷ path) (Some (Own t first)) index member end 
 pub path_falls : (piece : Piece) (member : ℕ) (path : List ℕ) (index root end : ℕ) → IsValidPiece piece → reached_in piece member path ≡ Outside index root end → (1 ≤ end) × (end ≤ length path)
 path_falls piece member path index root end valid e =
     leads_further piece.proxies path (slice_get (children_of piece.proxies 0 piece.body.roots) member) index root end (λ i m. root_is_tree piece.proxies 0 piece.body.roots valid.body.trees member i m) e
+
+-- The far contents of a tree, its own and those below it.
+abbrev pub fars_of : GappedTree → List Far
+fars_of t = option_to_list t.node.far ++ fars_in t.below
+
+-- those of a child are among those of the items that it stands in
+own_fars : (proxies : List Proxy) (first : ℕ) (f : Gapped) (i : ℕ) (t : GappedTree) (k : ℕ) → slice_get (children_of proxies first f) i ≡ Some (Own t k) → (far : Far) → Contains (fars_of t) far → Contains (fars_in f) far
+own_fars proxies first End i t k e far among = absurd (cc)
+own_fars proxies first (Grow n b s) zero t k e far among =
+    let same : record { node = n; below = b } ≡ t = cc in
+    let own : Contains (option_to_list n.far ++ fars_in b) far = subst (λ (x : GappedTree). Contains (fars_of x) far) (sym same) among in
+    subst (λ fs. Contains fs far) (append_assoc (option_to_list n.far) (fars_in b) (fars_in s)) (Contains-append_left (option_to_list n.far ++ fars_in b) (fars_in s) far own)
+own_fars proxies first (Grow n b s) (suc i) t k e far among =
+    Contains-append_right (option_to_list n.far) (fars_in b ++ fars_in s) far
+    (Contains-append_right (fars_in b) (fars_in s) far (own_fars proxies (first + proxies_in b) s i t k e far among))
+own_fars proxies first (Gap c s) i t k e far among = behind (λ j is. own_fars proxies (first + c) s j t k is far among) (take c (drop first proxies)) first i e
+  where
+    roots_kept : (index member roots : ℕ) (rest : List PieceChild) (i : ℕ) → slice_get (roots_from index member roots ++ rest) i ≡ Some (Own t k) → (j : ℕ) × (slice_get rest j ≡ Some (Own t k))
+    roots_kept index member zero rest i e = (i, e)
+    roots_kept index member (suc roots) rest zero e = absurd (cc)
+    roots_kept index member (suc roots) rest (suc i) e = roots_kept index (member + 1) roots rest i e
+
+    behind : ((j : ℕ) → slice_get (children_of proxies (first + c) s) j ≡ Some (Own t k) → Contains (fars_in s) far) → (kept : List Proxy) (index i : ℕ) → slice_get (kept_from index kept ++ children_of proxies (first + c) s) i ≡ Some (Own t k) → Contains (fars_in s) far
+    behind later [] index i e = later i e
+    behind later (p ∷ kept) index i e =
+        let on = roots_kept index 0 p.roots (kept_from (index + 1) kept ++ children_of proxies (first + c) s) i
+        (ap (λ xs. slice_get xs i) (sym (append_assoc (roots_from index 0 p.roots) (kept_from (index + 1) kept) (children_of proxies (first + c) s))) ∙ e) in
+        behind later kept (index + 1) on.0 on.1
+
+-- a path that ends at a tree of the piece leads through trees whose far contents have its own among them
+reached_fars : (proxies : List Proxy) (used : ℕ) (path : List ℕ) (o : Option PieceChild) (f : Gapped) (tree : GappedTree) (first : ℕ) → ((t : GappedTree) (k : ℕ) → o ≡ Some (Own t k) → (far : Far) → Contains (fars_of t) far → Contains (fars_in f) far)
+    → reached proxies used path o ≡ Inside tree first → (far : Far) → Contains (fars_of tree) far → Contains (fars_in f) far
+reached_fars proxies used [] None f tree first inner e far among = absurd (cc)
+reached_fars proxies used (p ∷ path) None f tree first inner e far among = absurd (cc)
+reached_fars proxies used [] (Some (Away i m)) f tree first inner e far among = absurd (cc)
+reached_fars proxies used (p ∷ path) (Some (Away i m)) f tree first inner e far among = absurd (cc)
+reached_fars proxies used [] (Some (Own t k)) f tree first inner e far among =
+    let same : t ≡ tree = cc in
+    inner t k refl far (subst (λ (x : GappedTree). Contains (fars_of x) far) (sym same) among)
+reached_fars proxies used (p ∷ path) (Some (Own t k)) f tree first inner e far among =
+    reached_fars proxies (used + 1) path (slice_get (children_of proxies k t.below) p) f tree first
+    (λ c j is other own. inner t k refl other (Contains-append_right (option_to_list t.node.far) (fars_in t.below) other (own_fars proxies k t.below p c j is other own))) e far among
+
+-- what a node where a path ends names is named by its piece
+pub named_there : (piece : Piece) (member : ℕ) (path : List ℕ) (tree : GappedTree) (first : ℕ) (far : Far) → reached_in piece member path ≡ Inside tree first → tree.node.far ≡ Some far → Contains (fars_in piece.body.roots) far
+named_there piece member path tree first far e named =
+    reached_fars piece.proxies 0 path (slice_get (children_of piece.proxies 0 piece.body.roots) member) piece.body.roots tree first
+    (λ t k is other own. own_fars piece.proxies 0 piece.body.roots member t k is other own) e far
+    (Contains-append_left (option_to_list tree.node.far) (fars_in tree.below) far (subst (λ (o : Option Far). Contains (option_to_list o) far) (sym named) (0, omega arith, refl)))

@@ -1,5 +1,5 @@
 -- A block of which a first part was given, and the text of a document that was.
-use Rattle.std.proofs.Common.{◌≡◌, ℕ, List, [], ◌++◌, take, drop, Option, None, Some, sym, ap, ◌∙◌, subst, arith, append_assoc, append-nil}
+use Rattle.std.proofs.Common.{◌≡◌, ℕ, true, List, [], ◌++◌, take, drop, Option, None, Some, sym, ap, ◌∙◌, subst, arith, append_assoc, append-nil}
 use Rattle.std.proofs.lemmas.List.{take-append-drop}
 use Rattle.std.proofs.lemmas.List.Concat.{flat_map-append}
 use Rattle.nx_host.specs.Disk.{Keeps}
@@ -28,12 +28,12 @@ prefix_given block old (Some now) (was, n, is, grew) =
 
 -- the text that was told of a document, of which this was all or a first part
 module _ {D : Type 0} (d : Ghosts D) {r : Records} {was : D} {root : RecordPlace} {document : CutTree} (h : HasDocument d r was root document) (now block : List ℕ) (same : now ≡ block) (told : List WalkStep) where
-  pub text_gives : (left : List ℕ) (old new : Option (List ℕ)) → told ≡ steps_of document → AppendsBut (now ++ told_text told) left old new → AppendsBut (block ++ text (tree_of document)) left old new
+  pub text_gives : (left : List ℕ) (old new : Option (List ℕ)) → told ≡ steps_of true document → AppendsBut (now ++ told_text told) left old new → AppendsBut (block ++ text (tree_of document)) left old new
   text_gives left old new all gives =
       let whole : now ++ told_text told ≡ block ++ text (tree_of document) = ap (λ w. w ++ told_text told) same ∙ ap (λ w. block ++ w) (ap told_text all ∙ has_text h) in
       subst (λ w. AppendsBut w left old new) whole gives
 
-  pub text_within : (more : List WalkStep) (x y : D) → steps_of document ≡ told ++ more → GivesWithin d (now ++ told_text told) x y → GivesWithin d (block ++ text (tree_of document)) x y
+  pub text_within : (more : List WalkStep) (x y : D) → steps_of true document ≡ told ++ more → GivesWithin d (now ++ told_text told) x y → GivesWithin d (block ++ text (tree_of document)) x y
   text_within more x y first within =
       let whole : (now ++ told_text told) ++ told_text more ≡ block ++ text (tree_of document) =
       append_assoc now (told_text told) (told_text more) ∙ ap (λ w. w ++ (told_text told ++ told_text more)) same

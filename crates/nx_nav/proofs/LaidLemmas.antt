@@ -1,6 +1,6 @@
 -- What is told of a document are its stored intervals and the weights of their parts.
 use Rattle.std.proofs.Common.{◌≡◌, ℕ, zero, suc, ◌+◌, ◌-◌, ◌<◌, ◌≤◌, ◌==◌, if◌then◌else◌, List, [], ◌∷◌, ◌++◌, length, take, map, Option, Some, refl, sym, ap, ◌∙◌, subst, arith, append_assoc, length-append}
-use Rattle.std.specs.Prelude.{min}
+use Rattle.std.specs.Prelude.{true, false, nat_le, min}
 use Rattle.std.specs.List.{slice_get, range_with_len}
 use Rattle.std.proofs.lemmas.List.{append-nil, map-append}
 use Rattle.std.proofs.lemmas.Bool.Decides.{nat_tests}
@@ -13,16 +13,16 @@ use Rattle.nx_parts.specs.declared.interval.Interval.{Interval}
 use Rattle.nx_parts.specs.declared.interval.Interval.TheVariants.{Root, Run}
 use Rattle.nx_parts.specs.Partitioning as parts
 use Rattle.nx_parts.specs.Partitioning.{part_weights}
-use Rattle.nx_cuts.specs.Cut.{Cut, CutForest, Bare, Grown, Kept, CutTree, forest, width, intervals, cuts, part_weight, AreFree, AreParts, tree_of, parts_of}
+use Rattle.nx_cuts.specs.Cut.{Cut, CutForest, Bare, Grown, Kept, CutTree, forest, width, intervals, cuts, part_weight, AreParts, tree_of, parts_of}
 use Rattle.nx_cuts.proofs.FeasibleLemmas.{length-intervals, weight_at, weight-below, weight-above, other_if}
 use Rattle.nx_cuts.proofs.DrawnLaw.{part_is}
-use Rattle.nx_layouts.specs.Layout.{RecordPlace, Layout, without_places}
+use Rattle.nx_weights.specs.Weight.{longest_near}
+use Rattle.nx_layouts.specs.Layout.{RecordPlace}
 use Rattle.nx_hold.specs.Documents.{HasDocument}
-use Rattle.nx_nav.specs.Laid.{Course, interval_at, position_after, course_after, course_behind}
-use Rattle.nx_nav.specs.Steps.{WalkStep, Begin, Open, Close, walk_steps, steps_of}
+use Rattle.nx_nav.specs.Laid.{Course, interval_at, position_after, course_into, course_after, course_behind}
+use Rattle.nx_nav.specs.Steps.{WalkStep, Begin, Open, Head, Block, Tail, Close, content_steps, begun_steps, walk_steps, steps_of}
 use Rattle.nx_piece.proofs.LocateLemmas.{get_behind}
 use Rattle.nx_nav.proofs.SplitLemmas.{nodes-joined, take_part}
-use Rattle.nx_nav.proofs.DocumentLemmas.{width-without_places, weight-without_places}
 
 -- as many weights as intervals
 pub pairs_stay : (at : Course) (told : List WalkStep) → length at.weights ≡ length at.parts → length (course_behind at told).weights ≡ length (course_behind at told).parts
@@ -30,7 +30,10 @@ pairs_stay at [] e = e
 pairs_stay at (Begin roots w ∷ told) e =
     pairs_stay (course_after at (Begin roots w)) told (let a = length-append at.weights (w ∷ []) in let b = length-append at.parts (interval_at at.path at.position roots ∷ []) in omega arith)
 pairs_stay at (Open n ∷ told) e = pairs_stay (course_after at (Open n)) told e
-pairs_stay at (Close n ∷ told) e = pairs_stay (course_after at (Close n)) told e
+pairs_stay at (Head kind name ∷ told) e = pairs_stay (course_after at (Head kind name)) told e
+pairs_stay at (Block bytes ∷ told) e = pairs_stay at told e
+pairs_stay at (Tail ∷ told) e = pairs_stay at told e
+pairs_stay at (Close kind name ∷ told) e = pairs_stay (course_after at (Close kind name)) told e
 
 -- the weights of the parts of the intervals, in their order
 abbrev pub weights_below : {P : Type 0} → Cut Node P → List ℕ
@@ -63,26 +66,35 @@ same_course : (path : List ℕ) (i j : ℕ) (ps qs : List Interval) (ws vs : Lis
 same_course path i j ps qs ws vs e f g = cc
 
 -- a node that ends
-closes : (path : List ℕ) (p q : ℕ) (n : Node) (ps : List Interval) (ws : List ℕ) → p + 1 ≤ 4294967295 → course_after (at_course (path ++ p ∷ []) q ps ws) (Close n) ≡ at_course path (p + 1) ps ws
+closes : (path : List ℕ) (p q : ℕ) (n : Node) (ps : List Interval) (ws : List ℕ) → p + 1 ≤ 4294967295 → course_after (at_course (path ++ p ∷ []) q ps ws) (Close n.kind n.name) ≡ at_course path (p + 1) ps ws
 closes path p q n ps ws low =
     ap (λ (xs : List ℕ). at_course xs (position_after (slice_get (path ++ p ∷ []) (length (path ++ p ∷ []) - 1)) q) ps ws) (without_last path p)
     ∙ ap (λ (o : Option ℕ). at_course path (position_after o q) ps ws) (last_there path p)
     ∙ ap (λ (i : ℕ). at_course path i ps ws) (let e : min (p + 1) 4294967295 ≡ p + 1 = omega arith in e)
 
-pub laid_forest : {P : Type 0} (k root : ℕ) (path : List ℕ) (position : ℕ) (ps : List Interval) (ws : List ℕ) (l : Cut Node P) → AreParts k l → position + nodes (forest l) ≤ 4294967295
-    → course_behind (at_course (root ∷ path) position ps ws) (walk_steps l) ≡ at_course (root ∷ path) (position + width l) (ps ++ intervals path position l) (ws ++ weights_below l)
-laid_forest k root path position ps ws Bare h few = same_course (root ∷ path) position (position + 0) ps (ps ++ []) ws (ws ++ []) (omega arith) (sym (append-nil ps)) (sym (append-nil ws))
-laid_forest k root path position ps ws (Grown n b s) h few =
+-- a node that begins, of whose content nothing is told
+begins : (at : Course) (n : Node) (told : List WalkStep) → course_behind at (begun_steps false n ++ told) ≡ course_behind (course_into at) told
+begins at n told =
+    elim (nat_le (length n.content) longest_near) as (λ b. course_behind at ((if b then Open n ∷ [] else Head n.kind n.name ∷ (content_steps false n.content ++ Tail ∷ [])) ++ told) ≡ course_behind (course_into at) told) [
+      | true ↦ refl
+      | false ↦ refl
+    ]
+
+pub trees_laid : {P : Type 0} (k root : ℕ) (path : List ℕ) (position : ℕ) (ps : List Interval) (ws : List ℕ) (l : Cut Node P) → AreParts k l → position + nodes (forest l) ≤ 4294967295
+    → course_behind (at_course (root ∷ path) position ps ws) (walk_steps false l) ≡ at_course (root ∷ path) (position + width l) (ps ++ intervals path position l) (ws ++ weights_below l)
+trees_laid k root path position ps ws Bare h few = same_course (root ∷ path) position (position + 0) ps (ps ++ []) ws (ws ++ []) (omega arith) (sym (append-nil ps)) (sym (append-nil ws))
+trees_laid k root path position ps ws (Grown n b s) h few =
     let inner = path ++ position ∷ [] in
     let ps1 = ps ++ intervals inner 0 b in
     let ws1 = ws ++ weights_below b in
-    behind-append (at_course (root ∷ inner) 0 ps ws) (walk_steps b) (Close n ∷ walk_steps s)
-    ∙ ap (λ (at : Course). course_behind at (Close n ∷ walk_steps s)) (laid_forest k root inner 0 ps ws b h.0 (omega arith))
-    ∙ ap (λ (at : Course). course_behind at (walk_steps s)) (closes (root ∷ path) position (0 + width b) n ps1 ws1 (omega arith))
-    ∙ laid_forest k root path (position + 1) ps1 ws1 s h.1 (omega arith)
+    begins (at_course (root ∷ path) position ps ws) n (walk_steps false b ++ Close n.kind n.name ∷ walk_steps false s)
+    ∙ behind-append (at_course (root ∷ inner) 0 ps ws) (walk_steps false b) (Close n.kind n.name ∷ walk_steps false s)
+    ∙ ap (λ (at : Course). course_behind at (Close n.kind n.name ∷ walk_steps false s)) (trees_laid k root inner 0 ps ws b h.0 (omega arith))
+    ∙ ap (λ (at : Course). course_behind at (walk_steps false s)) (closes (root ∷ path) position (0 + width b) n ps1 ws1 (omega arith))
+    ∙ trees_laid k root path (position + 1) ps1 ws1 s h.1 (omega arith)
     ∙ same_course (root ∷ path) (position + 1 + width s) (position + (1 + width s)) (ps1 ++ intervals path (position + 1) s) (ps ++ (intervals inner 0 b ++ intervals path (position + 1) s))
     (ws1 ++ weights_below s) (ws ++ (weights_below b ++ weights_below s)) (omega arith) (append_assoc ps (intervals inner 0 b) (intervals path (position + 1) s)) (append_assoc ws (weights_below b) (weights_below s))
-laid_forest k root path position ps ws (Kept p m s) h few =
+trees_laid k root path position ps ws (Kept p m s) h few =
     let some : 1 ≤ width m = h.0 in
     let wide = width_few m in
     let both = nodes-joined (forest m) (forest s) in
@@ -92,10 +104,10 @@ laid_forest k root path position ps ws (Kept p m s) h few =
     let ws1 = ws ++ part_weight m ∷ [] in
     let ps2 = ps1 ++ intervals path position m in
     let ws2 = ws1 ++ weights_below m in
-    ap (λ (i : ℕ). course_behind (at_course (root ∷ path) position (ps ++ Run path position i ∷ []) ws1) (walk_steps m ++ walk_steps s)) end
-    ∙ behind-append (at_course (root ∷ path) position ps1 ws1) (walk_steps m) (walk_steps s)
-    ∙ ap (λ (at : Course). course_behind at (walk_steps s)) (laid_forest k root path position ps1 ws1 m h.3 (omega arith))
-    ∙ laid_forest k root path (position + width m) ps2 ws2 s h.4 (omega arith)
+    ap (λ (i : ℕ). course_behind (at_course (root ∷ path) position (ps ++ Run path position i ∷ []) ws1) (walk_steps false m ++ walk_steps false s)) end
+    ∙ behind-append (at_course (root ∷ path) position ps1 ws1) (walk_steps false m) (walk_steps false s)
+    ∙ ap (λ (at : Course). course_behind at (walk_steps false s)) (trees_laid k root path position ps1 ws1 m h.3 (omega arith))
+    ∙ trees_laid k root path (position + width m) ps2 ws2 s h.4 (omega arith)
     ∙ same_course (root ∷ path) (position + width m + width s) (position + (width m + width s)) (ps2 ++ intervals path (position + width m) s) (ps ++ run ∷ (intervals path position m ++ intervals path (position + width m) s))
     (ws2 ++ weights_below s) (ws ++ part_weight m ∷ (weights_below m ++ weights_below s)) (omega arith)
     (append_assoc ps1 (intervals path position m) (intervals path (position + width m) s) ∙ append_assoc ps (run ∷ []) (intervals path position m ++ intervals path (position + width m) s))
@@ -103,15 +115,16 @@ laid_forest k root path position ps ws (Kept p m s) h few =
 
 -- what is laid of a document
 pub laid_document : (k : ℕ) (t : CutTree) → AreParts k t.below → 1 + nodes (forest t.below) ≤ 4294967295
-    → course_behind (at_course [] 0 [] []) (steps_of t) ≡ at_course [] 1 (parts_of t) (part_weight (Grown t.node t.below Bare) ∷ weights_below t.below)
+    → course_behind (at_course [] 0 [] []) (steps_of false t) ≡ at_course [] 1 (parts_of t) (part_weight (Grown t.node t.below Bare) ∷ weights_below t.below)
 laid_document k t h few =
     let w = part_weight (Grown t.node t.below Bare) in
-    let inner = walk_steps t.below in
+    let inner = walk_steps false t.below in
     let ps = Root ∷ intervals [] 0 t.below in
     let ws = w ∷ weights_below t.below in
-    ap (course_behind (at_course (0 ∷ []) 0 (Root ∷ []) (w ∷ []))) (append-nil (inner ++ Close t.node ∷ []))
-    ∙ behind-append (at_course (0 ∷ []) 0 (Root ∷ []) (w ∷ [])) inner (Close t.node ∷ [])
-    ∙ ap (λ (at : Course). course_behind at (Close t.node ∷ [])) (laid_forest k 0 [] 0 (Root ∷ []) (w ∷ []) t.below h (omega arith))
+    ap (course_behind (at_course [] 0 (Root ∷ []) (w ∷ []))) (append-nil (begun_steps false t.node ++ (inner ++ Close t.node.kind t.node.name ∷ [])))
+    ∙ begins (at_course [] 0 (Root ∷ []) (w ∷ [])) t.node (inner ++ Close t.node.kind t.node.name ∷ [])
+    ∙ behind-append (at_course (0 ∷ []) 0 (Root ∷ []) (w ∷ [])) inner (Close t.node.kind t.node.name ∷ [])
+    ∙ ap (λ (at : Course). course_behind at (Close t.node.kind t.node.name ∷ [])) (trees_laid k 0 [] 0 (Root ∷ []) (w ∷ []) t.below h (omega arith))
     ∙ closes [] 0 (0 + width t.below) t.node ps ws (omega arith)
 
 range-add : (a m n : ℕ) → range_with_len a (m + n) ≡ range_with_len a m ++ range_with_len (a + m) n
@@ -157,28 +170,15 @@ drawn_weights k t h =
     (numbered f 1 t.below (λ i low high.
     let e = part_is k t i h in let x = other_if 0 i (weight t.node) (λ same. omega arith) in let y = other_if 0 i (part_weight t.below) (λ same. omega arith) in omega arith))
 
-free-without_places : (l : Layout) → AreFree l → AreFree (without_places l)
-free-without_places Bare h = tt
-free-without_places (Grown n b s) h = free-without_places s h
-free-without_places (Kept p m s) h = absurd h
-
-light-without_places : (k : ℕ) (l : Layout) → AreParts k l → AreParts k (without_places l)
-light-without_places k Bare h = tt
-light-without_places k (Grown n b s) h = (light-without_places k b h.0, light-without_places k s h.1)
-light-without_places k (Kept p m s) h =
-    let w = width-without_places m in let v = weight-without_places m in
-    let some : 1 ≤ width m = h.0 in let light : part_weight m ≤ k = h.2 in
-    (omega arith, free-without_places m h.1, omega arith, light-without_places k m h.3, light-without_places k s h.4)
-
 module _ {D : Type 0} {d : Ghosts D} {records : Records} {disk : D} {root : RecordPlace} {document : CutTree} (h : HasDocument d records disk root document) where
   document_light : AreParts (h.now.settings).k document.below
-  document_light = subst (λ (c : CutForest). AreParts (h.now.settings).k c) h.laid.laid.same (light-without_places (h.now.settings).k h.laid.layout h.laid.laid.light.3.0)
+  document_light = subst (λ (c : CutForest). AreParts (h.now.settings).k c) h.laid.laid.same h.laid.laid.light.3.0
 
-  laid : course_behind (at_course [] 0 [] []) (steps_of document) ≡ at_course [] 1 (parts_of document) (part_weight (Grown document.node document.below Bare) ∷ weights_below document.below)
+  laid : course_behind (at_course [] 0 [] []) (steps_of false document) ≡ at_course [] 1 (parts_of document) (part_weight (Grown document.node document.below Bare) ∷ weights_below document.below)
   laid = laid_document (h.now.settings).k document document_light (let few : 1 + nodes (forest document.below) ≤ 524288 = h.laid.laid.is_document.small in omega arith)
 
-  pub has_parts : (course_behind (at_course [] 0 [] []) (steps_of document)).parts ≡ parts_of document
+  pub has_parts : (course_behind (at_course [] 0 [] []) (steps_of false document)).parts ≡ parts_of document
   has_parts = ap (λ (at : Course). at.parts) laid
 
-  pub has_weights : (course_behind (at_course [] 0 [] []) (steps_of document)).weights ≡ part_weights (tree_of document) (parts_of document)
+  pub has_weights : (course_behind (at_course [] 0 [] []) (steps_of false document)).weights ≡ part_weights (tree_of document) (parts_of document)
   has_weights = ap (λ (at : Course). at.weights) laid ∙ sym (drawn_weights (h.now.settings).k document document_light)

@@ -2,9 +2,11 @@ pub mod PartLemmas
 pub mod RefusalLemmas
 pub mod ChildLemmas
 pub mod SeekLemmas
+pub mod ShowLemmas
 pub mod BesideLemmas
 pub mod RouteLemmas
 pub mod WayLemmas
+pub mod ContentLemmas
 pub mod SplitLemmas
 pub mod TellLemmas
 pub mod DocumentLemmas

@@ -1,22 +1,40 @@
 -- Every node of a document is one that a document may have.
-use Rattle.std.proofs.Common.{◌≡◌, ℕ, zero, suc, ◌+◌, ◌≤◌, ◌<◌, false, List, [], ◌∷◌, length, Option, None, Some, refl, sym, ◌∙◌, subst, arith, inl, inr}
-use Rattle.std.specs.Prelude.{◌⊎◌, ◌||◌, IsTrue, option_and_then}
+use Rattle.std.proofs.Common.{◌≡◌, ℕ, zero, suc, ◌+◌, ◌≤◌, ◌<◌, false, List, [], ◌∷◌, length, Option, None, Some, refl, sym, ap, ◌∙◌, subst, arith}
+use Rattle.std.specs.Prelude.{◌||◌, IsTrue, option_and_then}
 use Rattle.nx_tree.specs.declared.node.Kind.{Kind}
 use Rattle.nx_tree.specs.declared.node.Kind.TheVariants.{Doc, Element, Attribute, Text, Instruction}
 use Rattle.nx_tree.specs.declared.node.Node.{Node}
 use Rattle.nx_tree.specs.Forest.{Forest, Empty, Plant, OrderedTree}
-use Rattle.nx_tree.specs.Document.{is_element, is_instruction, IsNode, MayHave, IsTop, IsDocument, depth, deepest}
+use Rattle.nx_tree.specs.Document.{HasParts, is_element, is_instruction, MayHave, IsTop, IsDocument, depth, deepest}
 use Rattle.nx_tree.specs.Edit.{child, at, has_children}
 use Rattle.nx_tree.proofs.SoundLemmas.{IsTree, child_tree, depth_child}
+use Rattle.nx_piece.specs.PieceNode.{content_length}
 use Rattle.nx_cuts.specs.Cut.{joined}
+use Rattle.nx_layouts.specs.Layout.{shown_with}
 use Rattle.nx_hold.proofs.PieceLemmas.{some_same}
-use Rattle.nx_nav.specs.Nodes.{IsRoot, CanBe, AreRooted, CanStand}
+use Rattle.nx_nav.specs.Nodes.{CanBe, CanBeWith, MayHaveParts, AreRooted, CanStand}
 use Rattle.nx_nav.proofs.ChildLemmas.{at_here}
 use Rattle.nx_nav.proofs.TextLemmas.{joined_forests}
 
-pub root_or_node : (depth : ℕ) (node : Node) → CanBe depth node → IsRoot node ⊎ IsNode node
-root_or_node zero node h = inl (h.root refl)
-root_or_node (suc depth) node h = inr (h.below (omega arith))
+-- of a content a document asks no more than how many bytes it has
+parts_with : (kind : Kind) (name content : List ℕ) → HasParts kind name content → MayHaveParts kind name (length content)
+parts_with Doc name content h = h
+parts_with Element name content h = (h.0, ap length h.1)
+parts_with Attribute name content h = h
+parts_with Text name content h = h
+parts_with Instruction name content h = h
+
+can_be_with : (depth : ℕ) (node : Node) → CanBe depth node → CanBeWith depth node.kind node.name (length node.content)
+can_be_with depth node h = record {
+  root = λ e. let root = h.root e in (root.0, root.1, ap length root.2);
+  top = h.top;
+  below = λ some. let is = h.below some in (parts_with node.kind node.name node.content is.parts, is.short);
+}
+
+-- and where a record has the node makes no difference
+pub item_can_be : (depth : ℕ) (node : Node) (list : Option ℕ) → CanBe depth node → CanBeWith depth (shown_with node list).node.kind (shown_with node list).node.name (content_length (shown_with node list))
+item_can_be depth node None h = can_be_with depth node h
+item_can_be depth node (Some first) h = can_be_with depth node h
 
 -- a document may have it at this depth, and what is below it
 pub record HasCome (depth : ℕ) (node : Node) (below : Forest) : Type 0 where

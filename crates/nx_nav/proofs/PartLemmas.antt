@@ -17,11 +17,11 @@ use Rattle.nx_records.proofs.LeaveLemmas.{leaves_stand}
 use Rattle.nx_piece.specs.Gapped as gapped
 use Rattle.nx_piece.specs.Gapped.{Gapped}
 use Rattle.nx_piece.specs.declared.piece.Piece.{Piece}
-use Rattle.nx_cuts.specs.Cut.{CutForest, CutTree, Bare, Grown, Kept, forest, width, part_weight, AreFree, AreParts, tree_of}
-use Rattle.nx_layouts.specs.Layout.{RecordPlace, Layout, without_places, piece_body, piece_of, AreHeld}
-use Rattle.nx_layouts.proofs.SizeLemmas.{body_size, part_is_weight}
+use Rattle.nx_cuts.specs.Cut.{CutForest, CutTree, Bare, Grown, Kept, forest, width, AreFree, tree_of}
+use Rattle.nx_layouts.specs.Layout.{RecordPlace, Layout, laid_near, laid_forest, piece_body, piece_of, AreHeld, AreLaidParts}
+use Rattle.nx_layouts.proofs.DrawnLemmas.{drawn_free}
 use Rattle.nx_hold.specs.Documents.{HasDocument}
-use Rattle.nx_hold.specs.Pieces.{HoldsPiece, HoldsNone}
+use Rattle.nx_hold.specs.Pieces.{HoldsPiece, HoldsNone, held_by}
 use Rattle.nx_nav.specs.Parts.{HasLayout, HasInterval, HasNoInterval}
 use Rattle.nx_nav.specs.declared.error.NavError.{NavError}
 use Rattle.nx_nav.specs.Refusals.{IsRefused, StopsReading, IsPassedOn}
@@ -37,14 +37,14 @@ module _ {D : Type 0} {d : Ghosts D} {records : Records} {disk : D} {place : Rec
   pub interval_held : (h : HasInterval d records disk place members) → HoldsPiece h.now place (piece_of members)
   interval_held h =
       let P : Option Piece → Type 0 = λ o. MatchOption o (HoldsNone h.now place) (λ piece. HoldsPiece h.now place piece) in
-      subst P h.held.0 (h.pieces.are place)
+      subst P h.held.0.there (h.pieces.are place)
 
   pub interval_piece : (h : HasInterval d records disk place members) (piece : Piece) → ((saved now : Held) (held : Piece) → StandsFor d records disk saved now → HoldsPiece now place held → piece ≡ held) → piece ≡ piece_of members
   interval_piece h piece is = is h.saved h.now (piece_of members) h.stands (interval_held h)
 
   -- as many roots as members
   pub interval_width : HasInterval d records disk place members → gapped.gapped_width (piece_body members) ≡ width members
-  interval_width h = members_wide members h.light.1
+  interval_width h = members_wide members (drawn_free members h.light.1)
 
 -- where its piece has another number of roots there is no such interval
 pub no_interval : {D : Type 0} {d : Ghosts D} {records : Records} {disk : D} {place : RecordPlace} (roots : ℕ) (piece : Piece) → ((saved now : Held) (held : Piece) → StandsFor d records disk saved now → HoldsPiece now place held → piece ≡ held)
@@ -53,13 +53,13 @@ no_interval roots piece holds other members h as_many =
     let same = ap (λ (p : Piece). gapped.gapped_width p.body.roots) (interval_piece h piece holds) in
     other (same ∙ interval_width h ∙ as_many)
 
--- ... and where the items of its piece take more slots than the settings let a part weigh
+-- ... and where the items of its piece take more slots than the settings let them
 pub no_light_interval : {D : Type 0} {d : Ghosts D} {records : Records} {disk : D} {place : RecordPlace} (roots : ℕ) (piece : Piece) → ((saved now : Held) (held : Piece) → StandsFor d records disk saved now → HoldsPiece now place held → piece ≡ held)
     → (settings_of records).k < gapped.gapped_size piece.body.roots → HasNoInterval d records disk place roots
 no_light_interval roots piece holds heavy members h as_many =
-    let takes = ap (λ (p : Piece). gapped.gapped_size p.body.roots) (interval_piece h piece holds) ∙ body_size members ∙ part_is_weight members in
+    let takes = ap (λ (p : Piece). gapped.gapped_size p.body.roots) (interval_piece h piece holds) in
     let most = ap (λ (t : Settings). t.k) (((h.stands).holds).behind).settings in
-    let light : part_weight members ≤ (h.now.settings).k = h.light.2 in
+    let fits : gapped.gapped_size (piece_body members) ≤ (h.now.settings).k = h.held.0.fits in
     omega arith
 
 -- the refusal of a call that reads one record
@@ -102,7 +102,7 @@ unfolding layout_later
 later_same same still h = refl
 
 -- the same pieces hold another layout
-pub layout_of : {D : Type 0} {d : Ghosts D} {records : Records} {disk : D} {layout : Layout} (h : HasLayout d records disk layout) (part : Layout) → AreHeld h.pieces.piece_at part → AreParts (h.now.settings).k part → HasLayout d records disk part
+pub layout_of : {D : Type 0} {d : Ghosts D} {records : Records} {disk : D} {layout : Layout} (h : HasLayout d records disk layout) (part : Layout) → AreHeld (held_by h.pieces) part → AreLaidParts (h.now.settings).k part → HasLayout d records disk part
 layout_of h part held light = record {
   saved = h.saved;
   now = h.now;
@@ -112,17 +112,12 @@ layout_of h part held light = record {
   light = light;
 }
 
-pub part_same : {D : Type 0} {d : Ghosts D} {records : Records} {disk : D} {layout : Layout} (h : HasLayout d records disk layout) (part : Layout) (held : AreHeld h.pieces.piece_at part) (light : AreParts (h.now.settings).k part) → (layout_of h part held light).now ≡ h.now
+pub part_same : {D : Type 0} {d : Ghosts D} {records : Records} {disk : D} {layout : Layout} (h : HasLayout d records disk layout) (part : Layout) (held : AreHeld (held_by h.pieces) part) (light : AreLaidParts (h.now.settings).k part) → (layout_of h part held light).now ≡ h.now
 unfolding layout_of
 part_same h part held light = refl
 
-pub forest-without_places : (l : Layout) → forest (without_places l) ≡ forest l
-forest-without_places Bare = refl
-forest-without_places (Grown n b s) = let p = forest-without_places b in let q = forest-without_places s in cc
-forest-without_places (Kept p m s) = let e = forest-without_places m in let f = forest-without_places s in cc
-
 -- a document is the one member of its root's interval
-pub document_held : {D : Type 0} {d : Ghosts D} {records : Records} {disk : D} {root : RecordPlace} {document : CutTree} (h : HasDocument d records disk root document) → HasInterval d records disk root (Grown document.node h.laid.layout Bare)
+pub document_held : {D : Type 0} {d : Ghosts D} {records : Records} {disk : D} {root : RecordPlace} {document : CutTree} (h : HasDocument d records disk root document) → HasInterval d records disk root (Grown (laid_near document.node) h.laid.layout Bare)
 document_held h = record {
   saved = h.saved;
   now = h.now;
@@ -136,8 +131,8 @@ pub document_same : {D : Type 0} {d : Ghosts D} {records : Records} {disk : D} {
 unfolding document_held
 document_same h = refl
 
-pub document_forest : {D : Type 0} {d : Ghosts D} {records : Records} {disk : D} {root : RecordPlace} {document : CutTree} (h : HasDocument d records disk root document) → forest h.laid.layout ≡ (tree_of document).below
-document_forest h = sym (forest-without_places h.laid.layout) ∙ ap (λ (c : CutForest). forest c) h.laid.laid.same
+pub document_forest : {D : Type 0} {d : Ghosts D} {records : Records} {disk : D} {root : RecordPlace} {document : CutTree} (h : HasDocument d records disk root document) → laid_forest h.laid.layout ≡ (tree_of document).below
+document_forest h = ap (λ (c : CutForest). forest c) h.laid.laid.same
 
 -- what records and disk stand for stays while the areas are left
 pub stands_kept : {D : Type 0} {d : Ghosts D} {r : Records} {x0 x1 : D} {saved now : Held} → Keeps (d.contents x0) (d.contents x1) → IsSome (d.contents x1) → ((i : Image) → d.may_leave x1 i → d.may_leave x0 i)

@@ -6,6 +6,9 @@ use Rattle.nx_host.specs.declared.disk.Disk.{Ghosts}
 use Rattle.nx_records.specs.declared.records.Records.{Records}
 use Rattle.nx_piece.specs.declared.piece.Piece.{Piece}
 use Rattle.nx_piece.specs.declared.piece.Proxy.{Proxy}
+use Rattle.nx_piece.specs.declared.finding.LocatedView.{LocatedView}
+use Rattle.nx_piece.specs.declared.finding.LocatedView.TheVariants.{Away}
+use Rattle.nx_piece.specs.Find.{IsLocatedView}
 use Rattle.nx_piece.specs.Gapped.{GappedTree}
 use Rattle.nx_piece.specs.Valid.{IsValidPiece}
 use Rattle.nx_piece.specs.Locate.{PieceChild, Own, Kept, Reached, Inside, Outside, Missing, reached, reached_in, children_of}
@@ -19,6 +22,10 @@ use Rattle.nx_nav.specs.Route.{IsPassedRecord, HasRoute, EndsInside, IsRoute}
 use Rattle.nx_nav.proofs.ChildLemmas.{path_falls}
 use Rattle.nx_nav.proofs.SeekLemmas.{IsSeeking, piece_held}
 use Rattle.nx_nav.specs.Parts.{IsPieceAt}
+
+-- a look at the piece told of the proxy
+pub located_away : (piece : Piece) (end : Reached) {view : LocatedView} {proxy : Proxy} {index member used : ℕ} → view ≡ Away proxy index member used → IsLocatedView piece end view → (end ≡ Outside index member used) × (slice_get piece.proxies index ≡ Some proxy)
+located_away piece end is h = subst (λ v. IsLocatedView piece end v) is h
 
 -- a path that leads out of a piece leads to a tree of it one position before
 before_out : (proxies : List Proxy) (used : ℕ) (path : List ℕ) (o : Option PieceChild) (index next : ℕ) (left : ℕ) → reached proxies used path o ≡ Outside index next (used + suc left) → (tree : GappedTree) × (first : ℕ) × (reached proxies used (take left path) o ≡ Inside tree first)

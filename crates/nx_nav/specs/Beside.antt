@@ -25,7 +25,7 @@ child_asked proxies tree first (Some position) = slice_get (children_of proxies 
 
 -- the kind of the node that a path leads to in a piece
 abbrev pub kind_reached : Reached → Option Kind
-kind_reached (Inside tree first) = Some tree.node.kind
+kind_reached (Inside tree first) = Some tree.node.node.kind
 kind_reached (Outside index member used) = None
 kind_reached Missing = None
 
@@ -37,7 +37,7 @@ IsKindOfRoot d records disk proxy member kind =
 -- the kind of a child, if there is one
 abbrev pub IsKindOf : {D : Type 0} → Ghosts D → Records → D → List Proxy → Option PieceChild → Option Kind → Type 0
 IsKindOf d records disk proxies None kind = kind ≡ None
-IsKindOf d records disk proxies (Some (Own tree first)) kind = kind ≡ Some tree.node.kind
+IsKindOf d records disk proxies (Some (Own tree first)) kind = kind ≡ Some tree.node.node.kind
 IsKindOf d records disk proxies (Some (Kept index member)) kind = (proxy : Proxy) × (slice_get proxies index ≡ Some proxy) × IsKindOfRoot d records disk proxy member kind
 
 -- the child is kept in a record that holds no interval of as many roots as its proxy says

@@ -5,7 +5,7 @@ use Rattle.std.proofs.Common.{sym, ap, ◌∙◌}
 use Rattle.nx_parts.specs.declared.interval.Interval.{Interval}
 use Rattle.nx_parts.specs.declared.interval.Interval.TheVariants.{Root, Run}
 use Rattle.nx_nav.specs.declared.laid.Laying.{Laying}
-use Rattle.nx_nav.specs.Steps.{WalkStep, Begin, Open, Close}
+use Rattle.nx_nav.specs.Steps.{WalkStep, Begin, Open, Head, Block, Tail, Close}
 
 -- Where a walk is: the positions of the open nodes from the root's own on, and that of the next node; with the intervals so far and what their parts weigh.
 pub record Course : Type 0 where
@@ -31,10 +31,17 @@ abbrev pub position_after : Option ℕ → ℕ → ℕ
 position_after None position = position
 position_after (Some last) position = position_behind last 1
 
+-- where a node begins
+abbrev pub course_into : Course → Course
+course_into at = record { path = at.path ++ at.position ∷ []; position = 0; parts = at.parts; weights = at.weights }
+
 abbrev pub course_after : Course → WalkStep → Course
 course_after at (Begin roots weight) = record { path = at.path; position = at.position; parts = at.parts ++ interval_at at.path at.position roots ∷ []; weights = at.weights ++ weight ∷ [] }
-course_after at (Open node) = record { path = at.path ++ at.position ∷ []; position = 0; parts = at.parts; weights = at.weights }
-course_after at (Close node) = record {
+course_after at (Open node) = course_into at
+course_after at (Head kind name) = course_into at
+course_after at (Block bytes) = at
+course_after at Tail = at
+course_after at (Close kind name) = record {
   path = take (length at.path - 1) at.path;
   position = position_after (slice_get at.path (length at.path - 1)) at.position;
   parts = at.parts;

@@ -16,12 +16,12 @@ use Rattle.nx_hold.specs.Documents.{HasDocument}
 use Rattle.nx_nav.specs.declared.routing.PassedRecord.{PassedRecord}
 use Rattle.nx_nav.specs.declared.routing.Route.{Route}
 
--- The path, from a member of the piece on, leaves the piece as is kept of its record: into the record of this proxy, below this node.
+-- The path, from a member of the piece on, leaves the piece as is kept of its record: into the record of this proxy, below this node, as its item has it.
 pub record IsPassedRecord (piece : Piece) (member : ℕ) (path : List ℕ) (passed : PassedRecord) : Type 0 where
   pub leads : reached_in piece member path ≡ Outside passed.index passed.member passed.used
   pub proxy_is : slice_get piece.proxies passed.index ≡ Some passed.proxy
   pub roots_are : passed.roots ≡ gapped_width piece.body.roots
-  pub above : (tree : GappedTree) × (first : ℕ) × (reached_in piece member (take (passed.used - 1) path) ≡ Inside tree first) × (passed.above ≡ tree.node)
+  pub above : (tree : GappedTree) × (first : ℕ) × (reached_in piece member (take (passed.used - 1) path) ≡ Inside tree first) × (passed.above ≡ tree.node.node)
 
 -- From a member of the piece in the record at this place on, the path passes these records of what is held, and ends in the record with the last piece.
 abbrev pub HasRoute : Held → RecordPlace → (member : ℕ) (path : List ℕ) → List PassedRecord → (last : Piece) → Type 0

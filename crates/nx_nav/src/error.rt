@@ -20,7 +20,7 @@ pub enum NavError {
     /// The records don't hold a document from that place on, or one of another size.
     #[error("page {page} is damaged")]
     Damaged {
-        /// The page of the record at which the walk stopped.
+        /// The page of the record at which the walk stopped, or the first page of the list of a content.
         page: u32,
     },
     /// An earlier call on the records answered `Disk` or `Damaged`, or they were ended.

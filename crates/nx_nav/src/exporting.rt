@@ -14,8 +14,9 @@ use crate::visited::Visited;
 use crate::walking::{Tells, Walk, tell_document};
 use nx_host::{Disk, Host};
 use nx_piece::{BodyView, NodeView};
+use nx_pyx::{push_escaped, push_line_start};
 use nx_records::{Records, Rid};
-use nx_tree::{Bytes, NoMemory};
+use nx_tree::{Bytes, Kind, NoMemory};
 use std::alloc::Global;
 use std::mem;
 
@@ -24,8 +25,8 @@ const BLOCK: usize = 65_536;
 
 /// Gives what the block has and, behind it, the canonical text of the document of so many nodes, its
 /// root counted, whose root's record stands at `root`, but for a last part of fewer than 65,536 bytes, which is
-/// left in the block. Before each record is read, the block has no more than that: so the text is never in memory as a
-/// whole. What is said of documents holds where the disk's contents are still told afterwards.
+/// left in the block. Before each record and each page of a content is read, the block has no more than that: so neither the
+/// text nor a long content is ever in memory as a whole. What is said of documents holds where the disk's contents are still told afterwards.
 ///
 /// Errors: those of `text_of`; `Write`, only where `out_faults` rose. The block is of no use then.
 pub fn export<H: Host>(
@@ -66,16 +67,22 @@ struct Exporting {
 }
 
 impl<H: Host> Tells<H> for Exporting {
-    ghost use Rattle.std.specs.Prelude.{◌≡◌, ◌<◌, ◌++◌, length};
+    ghost use Rattle.std.specs.Prelude.{◌≡◌, ◌<◌, ◌++◌, true, length};
     ghost use Rattle.nx_host.specs.Disk.{Rose};
     ghost use Rattle.nx_nav.specs.Told.{told_text};
     ghost use Rattle.nx_nav.specs.Given.{GivesText, block_size};
+
+    ghost Contents = { true };
 
     ghost Told = { λ a x told b y. GivesText ⟦<H as Disk>⟧ a.block x (told_text told) b.block y };
 
     ghost Unwritten = { λ x y. Rose (H.beside x).out_faults (H.beside y).out_faults };
 
     ghost IsReady = { λ a. length a.block < block_size };
+
+    fn wants_contents(&self) -> bool {
+        true
+    }
 
     fn pause(&mut self, host: &mut H) -> Result<(), NavError> {
         if self.block.len() < BLOCK {
@@ -98,8 +105,20 @@ impl<H: Host> Tells<H> for Exporting {
         push_start(&mut self.block, node)
     }
 
-    fn close(&mut self, node: NodeView<'_>) -> Result<(), NoMemory> {
-        push_end(&mut self.block, node)
+    fn head(&mut self, kind: Kind, name: &[u8]) -> Result<(), NoMemory> {
+        push_line_start(&mut self.block, kind, name)
+    }
+
+    fn content(&mut self, bytes: &[u8]) -> Result<(), NoMemory> {
+        push_escaped(&mut self.block, bytes)
+    }
+
+    fn tail(&mut self) -> Result<(), NoMemory> {
+        self.block.push(b'\n')
+    }
+
+    fn close(&mut self, kind: Kind, name: &[u8]) -> Result<(), NoMemory> {
+        push_end(&mut self.block, kind, name)
     }
 
     ghost use Rattle.std.proofs.lemmas.List.Concat.{flat_map-append};

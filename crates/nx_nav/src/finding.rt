@@ -1,8 +1,9 @@
-// The node at a path, and a look at a child of it.
-ghost use Rattle.std.specs.Prelude.{◌≡◌, ◌↔◌, ◌++◌, ◌∷◌, [], None, Some, true, false, length, IfOk, IfErr, IfSome};
+// The node at a path, whole or without its content, and a look at a child of it.
+ghost use Rattle.std.specs.Prelude.{◌≡◌, ◌↔◌, ◌≤◌, None, Some, true, false, length, IfOk, IfErr, IfSome};
 ghost use Rattle.nx_host.specs.Still.{IsStill};
 ghost use Rattle.nx_records.specs.Records.{has_ended, LeavesRecords};
 ghost use Rattle.nx_tree.specs.Edit.{at};
+ghost use Rattle.nx_piece.specs.PieceNode.{content_length};
 ghost use Rattle.nx_piece.specs.Valid.{IsPiece};
 ghost use Rattle.nx_piece.specs.Flat.{seen_node};
 ghost use Rattle.nx_piece.specs.Viewing.{seen_items, seen_tree};
@@ -10,22 +11,23 @@ ghost use Rattle.nx_piece.specs.Locate.{children_of, IsPartOf};
 ghost use Rattle.nx_cuts.specs.Cut.{CutTree, tree_of};
 ghost use Rattle.nx_hold.specs.Changes.{place_of, place_named};
 ghost use Rattle.nx_hold.specs.Documents.{HasDocument};
-ghost use Rattle.nx_nav.specs.Along.{ReadsAlong, ReadsPiece};
+ghost use Rattle.nx_nav.specs.Along.{ReadsAlong, ReadsPiece, ReadsShown, IsNamedAlong};
 ghost use Rattle.nx_nav.specs.Beside.{way_on, child_asked, IsKindOf, IsKindOfRoot, LacksChild, ReadsChild};
 ghost use Rattle.nx_nav.specs.Parts.{HasNoInterval};
 ghost use Rattle.nx_nav.specs.Refusals.{OfEach, HoldsNoDocument, IsRefused};
 ghost use Rattle.nx_nav.specs.declared.routing.Route.{Route};
 ghost use Rattle.nx_nav.specs.Route.{IsRoute};
-ghost use Rattle.nx_nav.specs.Shows.{ShowsNode, CanBeShown, kind_below};
+ghost use Rattle.nx_nav.specs.Shows.{ShowsNode, CanBeShown, OutlinesNode, CanBeOutlined, FindsNode, CanBeFound, found_node, kind_below};
 
 use crate::NavError;
 use crate::judging::{may_be, may_have_children};
-use crate::reading::{damaged, piece_at};
-use crate::routing::{Route, end_route, pass_record};
+use crate::reading::{damaged, passed_on, piece_at};
+use crate::routing::{Route, copy_node, end_route, pass_record};
+use nx_hold::far_content;
 use nx_host::Disk;
 use nx_lists::DEEPEST;
 use nx_piece::{
-    FoundView, LocatedView, PieceView, Proxy, TreeView, count_children, find, find_child,
+    Far, FoundView, LocatedView, PieceView, Proxy, TreeView, count_children, find, find_child,
 };
 use nx_records::{Records, Rid};
 use nx_tree::{Bytes, Kind, NoMemory, Node};
@@ -38,9 +40,28 @@ pub struct Shown {
     pub children: u32,
 }
 
+/// A node of a document without its content, and how many children it has there.
+#[derive(Drop)]
+pub struct Outlined {
+    pub kind: Kind,
+    pub name: Bytes,
+    /// How many bytes its content has.
+    pub content: u32,
+    pub children: u32,
+}
+
+// A node as its record has it, without a content that stands elsewhere, and how many children it has.
+#[derive(Drop)]
+struct Found {
+    node: Node,
+    far: Option<Far>,
+    children: u32,
+}
+
 /// The node at the path in the document whose root's record stands at `root`. Where there is a document, it reads
-/// whatever its answer no page but those of the records on the path, each once, with the chain pages that they name:
-/// 257 records at most. What it gives is one that a document may have at that place.
+/// whatever its answer no page but those of the records on the path, each once, with the chain pages that they name for
+/// their proxies, 257 records at most; and behind them, where its record names a list for the content of the node, the
+/// chain pages of this list. What it gives is one that a document may have at that place.
 ///
 /// Errors: `NoNode` where the path leads nowhere; `Damaged` only where the records hold no document, in
 /// parts of at most K of the settings, from there on; `Disk`, only where `faults` rose; `Ended` exactly
@@ -56,52 +77,69 @@ pub fn get<D: Disk>(
     ensures still { IsStill D.Disk disk.old disk.new }
     ensures ok { IfOk result (λ shown. (has_ended records.old ≡ false) × LeavesRecords records.old records.new
         × OfEach D.Disk records.old disk.old (place_of root) (λ document. ShowsNode (tree_of document) path.now shown)) }
-    ensures reads { (document : CutTree) (held : HasDocument D.Disk records.old disk.old (place_of root) document) → ReadsAlong held.now (place_of root) path.now (D.reads disk.old) (D.reads disk.new) }
+    ensures reads { (document : CutTree) (held : HasDocument D.Disk records.old disk.old (place_of root) document) → ReadsShown held.now (place_of root) path.now (at (tree_of document) path.now) (D.reads disk.old) (D.reads disk.new) }
     ensures possible { IfOk result (λ shown. CanBeShown (length path.now) shown) }
     ensures refused { IfErr result (λ e. IsRefused D.Disk (OfEach D.Disk records.old disk.old (place_of root) (λ document. at (tree_of document) path.now ≡ None)) ⊥
         (HoldsNoDocument D.Disk records.old disk.old (place_of root)) e records.old records.new disk.old disk.new) }
 {
-    let ((shown, _), _) = show_at(alloc, records, disk, root, path, None, false)?;
-    Ok(shown)
+    let ((found, _), _) = find_at(alloc, records, disk, root, path, None, false)?;
+    let Found {
+        node,
+        far,
+        children,
+    } = found;
+    let Some(far) = far else {
+        return Ok(Shown { node, children });
+    };
+    match far_content(alloc, records, disk, far) {
+        Ok(content) => Ok(Shown {
+            node: Node {
+                kind: node.kind,
+                name: node.name,
+                content,
+            },
+            children,
+        }),
+        Err(error) => Err(passed_on(error)),
+    }
 }
 
-/// As `get`, and which kind the child at the position below the node has, none where there is no such child. Where there is
-/// a document, it reads no page but those that `get` reads for this child.
+/// As `get`, without the content, of which it reads no page.
 ///
-/// Errors: those of `get`.
-pub fn get_with_child<D: Disk>(
+/// Errors: those of `get`, but that a content isn't looked at.
+pub fn outline<D: Disk>(
     alloc: Global,
     records: &mut Records,
     disk: &mut D,
     root: Rid,
     path: &[u32],
-    position: u32,
-) -> Result<(Shown, Option<Kind>), NavError>
+) -> Result<Outlined, NavError>
     ensures still { IsStill D.Disk disk.old disk.new }
-    ensures ok { IfOk result (λ found. (has_ended records.old ≡ false) × LeavesRecords records.old records.new
-        × OfEach D.Disk records.old disk.old (place_of root) (λ document. ShowsNode (tree_of document) path.now found.0 × (found.1 ≡ kind_below (tree_of document) path.now position))) }
-    ensures reads { (document : CutTree) (held : HasDocument D.Disk records.old disk.old (place_of root) document) → ReadsAlong held.now (place_of root) (path.now ++ position ∷ []) (D.reads disk.old) (D.reads disk.new) }
-    ensures possible { IfOk result (λ found. CanBeShown (length path.now) found.0) }
+    ensures ok { IfOk result (λ seen. (has_ended records.old ≡ false) × LeavesRecords records.old records.new
+        × OfEach D.Disk records.old disk.old (place_of root) (λ document. OutlinesNode (tree_of document) path.now seen)) }
+    ensures reads { (document : CutTree) (held : HasDocument D.Disk records.old disk.old (place_of root) document) → ReadsAlong held.now (place_of root) path.now (D.reads disk.old) (D.reads disk.new) }
+    ensures possible { IfOk result (λ seen. CanBeOutlined (length path.now) seen) }
     ensures refused { IfErr result (λ e. IsRefused D.Disk (OfEach D.Disk records.old disk.old (place_of root) (λ document. at (tree_of document) path.now ≡ None)) ⊥
         (HoldsNoDocument D.Disk records.old disk.old (place_of root)) e records.old records.new disk.old disk.new) }
 {
-    let (found, _) = show_at(alloc, records, disk, root, path, Some(position), false)?;
-    Ok(found)
+    let ((found, _), _) = find_at(alloc, records, disk, root, path, None, false)?;
+    Ok(outline_of(found))
 }
 
 /// A node that an edit begins at.
 #[derive(Drop)]
 pub struct Routed {
-    pub shown: Shown,
+    pub shown: Outlined,
     /// Which kind the child has that was asked for.
     pub kind: Option<Kind>,
     pub route: Route,
 }
 
-/// As `get`, or as `get_with_child` where a child is asked for, and the records that the path passes on its way to the
-/// node.
+/// As `outline`, with the records that the path passes on its way to the node. Where a child is asked for, it says besides
+/// which kind the child at that position below the node has, none where there is no such child, and reads the pages that
+/// `outline` reads for this child.
 ///
-/// Errors: those of `get`.
+/// Errors: those of `outline`.
 pub fn get_route<D: Disk>(
     alloc: Global,
     records: &mut Records,
@@ -112,22 +150,46 @@ pub fn get_route<D: Disk>(
 ) -> Result<Routed, NavError>
     ensures still { IsStill D.Disk disk.old disk.new }
     ensures ok { IfOk result (λ found. (has_ended records.old ≡ false) × LeavesRecords records.old records.new
-        × OfEach D.Disk records.old disk.old (place_of root) (λ document. ShowsNode (tree_of document) path.now found.shown × IfSome child (λ position. found.kind ≡ kind_below (tree_of document) path.now position))) }
+        × OfEach D.Disk records.old disk.old (place_of root) (λ document. OutlinesNode (tree_of document) path.now found.shown × IfSome child (λ position. found.kind ≡ kind_below (tree_of document) path.now position))) }
     ensures route { IfOk result (λ found. IsRoute D.Disk records.old disk.old (place_of root) path.now found.route) }
     ensures reads { (document : CutTree) (held : HasDocument D.Disk records.old disk.old (place_of root) document) → ReadsAlong held.now (place_of root) (way_on path.now child) (D.reads disk.old) (D.reads disk.new) }
-    ensures possible { IfOk result (λ found. CanBeShown (length path.now) found.shown) }
+    ensures possible { IfOk result (λ found. CanBeOutlined (length path.now) found.shown) }
     ensures refused { IfErr result (λ e. IsRefused D.Disk (OfEach D.Disk records.old disk.old (place_of root) (λ document. at (tree_of document) path.now ≡ None)) ⊥
         (HoldsNoDocument D.Disk records.old disk.old (place_of root)) e records.old records.new disk.old disk.new) }
 {
-    let ((shown, kind), kept) = show_at(alloc, records, disk, root, path, child, true)?;
+    let ((found, kind), kept) = find_at(alloc, records, disk, root, path, child, true)?;
     let Some(route) = kept else {
         unreachable!();
     };
+    let shown = outline_of(found);
     Ok(Routed { shown, kind, route })
 }
 
-// The node at the path, the kind of a child of it where one is asked for, and the way there where it is kept.
-fn show_at<D: Disk>(
+// The node that was found, without its content.
+fn outline_of(found: Found) -> Outlined
+    requires { content_length (found_node found) ≤ 4294967295 }
+    ensures { (result.kind ≡ found.node.kind) × (result.name ≡ found.node.name) × (result.content ≡ content_length (found_node found)) × (result.children ≡ found.children) }
+{
+    let Found {
+        node,
+        far,
+        children,
+    } = found;
+    let content = match far {
+        None => node.content.len() as u32,
+        Some(far) => far.length,
+    };
+    Outlined {
+        kind: node.kind,
+        name: node.name,
+        content,
+        children,
+    }
+}
+
+// The node at the path as its record has it, the kind of a child of it where one is asked for, and the way there where it
+// is kept.
+fn find_at<D: Disk>(
     alloc: Global,
     records: &mut Records,
     disk: &mut D,
@@ -135,13 +197,16 @@ fn show_at<D: Disk>(
     path: &[u32],
     child: Option<u32>,
     keeps: bool,
-) -> Result<((Shown, Option<Kind>), Option<Route>), NavError>
+) -> Result<((Found, Option<Kind>), Option<Route>), NavError>
     ensures still { IsStill D.Disk disk.old disk.new }
-    ensures ok { IfOk result (λ found. (has_ended records.old ≡ false) × LeavesRecords records.old records.new
-        × OfEach D.Disk records.old disk.old (place_of root) (λ document. ShowsNode (tree_of document) path.now found.0.0 × IfSome child (λ position. found.0.1 ≡ kind_below (tree_of document) path.now position))) }
+    ensures stays { IfOk result (λ found. (has_ended records.old ≡ false) × LeavesRecords records.old records.new) }
+    ensures finds { IfOk result (λ found. (document : CutTree) (held : HasDocument D.Disk records.old disk.old (place_of root) document) → FindsNode held.now (tree_of document) path.now found.0.0) }
+    ensures child { IfOk result (λ found. OfEach D.Disk records.old disk.old (place_of root) (λ document. IfSome child (λ position. found.0.1 ≡ kind_below (tree_of document) path.now position))) }
     ensures route { IfOk result (λ found. keeps ≡ true → (route : Route) × (found.1 ≡ Some route) × IsRoute D.Disk records.old disk.old (place_of root) path.now route) }
+    ensures named { child ≡ None → IfOk result (λ found. (document : CutTree) (held : HasDocument D.Disk records.old disk.old (place_of root) document)
+        → (along : ReadsAlong held.now (place_of root) path.now (D.reads disk.old) (D.reads disk.new)) × IsNamedAlong held.now along.places found.0.0.far) }
     ensures reads { (document : CutTree) (held : HasDocument D.Disk records.old disk.old (place_of root) document) → ReadsAlong held.now (place_of root) (way_on path.now child) (D.reads disk.old) (D.reads disk.new) }
-    ensures possible { IfOk result (λ found. CanBeShown (length path.now) found.0.0) }
+    ensures possible { IfOk result (λ found. CanBeFound (length path.now) found.0.0) }
     ensures refused { IfErr result (λ e. IsRefused D.Disk (OfEach D.Disk records.old disk.old (place_of root) (λ document. at (tree_of document) path.now ≡ None)) ⊥
         (HoldsNoDocument D.Disk records.old disk.old (place_of root)) e records.old records.new disk.old disk.new) }
 {
@@ -151,53 +216,46 @@ fn show_at<D: Disk>(
     if path.len() > DEEPEST {
         return Err(NavError::NoNode);
     }
-    let mut rid = root;
-    let mut roots = 1;
-    let mut member = 0;
-    let mut rest = path;
+    let (mut rid, mut roots, mut member, mut rest) = (root, 1, 0, path);
     let mut passed = Vec::new(alloc);
     loop {
         let mut bytes = Bytes::new(alloc);
         let piece = piece_at(alloc, records, disk, rid, roots, &mut bytes)?;
-        match find(&piece, member, rest) {
+        let located = find(&piece, member, rest);
+        match located {
             LocatedView::Here { tree, first } => {
-                let shown = show(alloc, &piece, tree, first)?;
-                if !is_shown(&shown, path.len()) {
+                let found = find_in(alloc, &piece, tree, first)?;
+                if !is_shown(&found, path.len()) {
                     return Err(damaged(records, rid.page));
                 }
                 let kind = kind_at(alloc, records, disk, &piece, tree, first, child)?;
                 let route = end_route(alloc, keeps, passed, piece)?;
-                return Ok(((shown, kind), route));
+                return Ok(((found, kind), route));
             }
             LocatedView::Away {
                 proxy,
-                index,
                 member: next,
                 used,
+                ..
             } => {
-                if keeps {
-                    pass_record(
-                        alloc,
-                        &mut passed,
-                        &piece,
-                        member,
-                        rest,
-                        proxy,
-                        index,
-                        next,
-                        used,
-                    )?;
-                }
-                rid = Rid {
-                    page: proxy.page,
-                    slot: proxy.slot,
-                };
+                pass_record(alloc, keeps, &mut passed, &piece, member, rest, located)?;
+                rid = rid_of(proxy);
                 roots = proxy.roots;
                 member = next;
                 rest = &rest[used as usize..];
             }
             LocatedView::Nowhere => return Err(NavError::NoNode),
         }
+    }
+}
+
+// The place of the record of a proxy.
+fn rid_of(proxy: Proxy) -> Rid
+    ensures { place_of result ≡ place_named proxy }
+{
+    Rid {
+        page: proxy.page,
+        slot: proxy.slot,
     }
 }
 
@@ -261,31 +319,34 @@ fn root_kind<D: Disk>(
 }
 
 // The node of a piece, and how many children it has.
-fn show(
+fn find_in(
     alloc: Global,
     piece: &PieceView<'_>,
     tree: TreeView<'_>,
     first: u32,
-) -> Result<Shown, NoMemory>
+) -> Result<Found, NoMemory>
     requires piece { IsPiece piece.now }
     requires node { IsPartOf piece.now (seen_tree tree) first }
-    ensures { IfOk result (λ shown. (shown.node ≡ seen_node tree.entry.node) × (shown.children ≡ length (children_of piece.now.proxies first (seen_items tree.entry.children)))) }
+    ensures { IfOk result (λ found. (found_node found ≡ seen_node tree.entry.node) × (found.children ≡ length (children_of piece.now.proxies first (seen_items tree.entry.children)))) }
 {
-    Ok(Shown {
-        node: tree.node.to_node(alloc)?,
-        children: count_children(piece, tree, first),
+    let children = count_children(piece, tree, first);
+    let node = copy_node(alloc, tree.node)?;
+    Ok(Found {
+        node,
+        far: tree.node.far,
+        children,
     })
 }
 
-// Whether a document may have the node at this depth, with so many children.
-fn is_shown(shown: &Shown, depth: usize) -> bool
-    ensures { (result ≡ true) ↔ CanBeShown depth shown.now }
+// Whether a document may have the node at this depth, with children where it has some.
+fn is_shown(found: &Found, depth: usize) -> bool
+    ensures { (result ≡ true) ↔ CanBeFound depth found.now }
 {
-    let node = &shown.node;
-    may_be(
-        node.kind,
-        node.name.as_slice(),
-        node.content.as_slice(),
-        depth,
-    ) && (may_have_children(node.kind) || shown.children == 0)
+    let node = &found.node;
+    let content = match found.far {
+        None => node.content.len(),
+        Some(far) => far.length as usize,
+    };
+    may_be(node.kind, node.name.as_slice(), content, depth)
+        && (may_have_children(node.kind) || found.children == 0)
 }

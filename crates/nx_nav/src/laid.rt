@@ -15,7 +15,7 @@ use nx_host::Disk;
 use nx_parts::{Interval, Partitioning};
 use nx_piece::{BodyView, NodeView};
 use nx_records::{Records, Rid};
-use nx_tree::{NoMemory, Path};
+use nx_tree::{Kind, NoMemory, Path};
 use nx_weights::Weights;
 use std::alloc::Global;
 
@@ -29,7 +29,7 @@ pub struct Laid {
 }
 
 /// The stored intervals of the document of so many nodes, its root counted, whose root's record stands at
-/// `root`, and what their parts weigh.
+/// `root`, and what their parts weigh. It reads no page of a content.
 ///
 /// Errors: `Damaged` only where the records hold no document of so many nodes, in parts of at most K of
 /// the settings, from there on; `Disk`, only where `faults` rose; `Ended` exactly where the records had
@@ -74,7 +74,8 @@ struct Laying {
 
 impl Laying {
     ghost use Rattle.std.specs.Prelude.{◌≡◌, []};
-    ghost use Rattle.nx_nav.specs.Laid.{course_of};
+    ghost use Rattle.std.specs.Prelude.{OnOk};
+    ghost use Rattle.nx_nav.specs.Laid.{course_of, course_into};
 
     fn new(alloc: Global) -> Laying
         ensures { course_of result ≡ record { path = []; position = 0; parts = []; weights = [] } }
@@ -87,19 +88,34 @@ impl Laying {
             position: 0,
         }
     }
+
+    // A node begins.
+    fn go_into(&mut self) -> Result<(), NoMemory>
+        ensures { OnOk result (course_of self.new ≡ course_into (course_of self.old)) }
+    {
+        self.path.push(self.position)?;
+        self.position = 0;
+        Ok(())
+    }
 }
 
 impl<D: Disk> Tells<D> for Laying {
-    ghost use Rattle.std.specs.Prelude.{◌≡◌};
+    ghost use Rattle.std.specs.Prelude.{◌≡◌, false};
     ghost use Rattle.nx_host.specs.Disk.{Keeps};
     ghost use Rattle.nx_host.specs.Still.{IsStill};
     ghost use Rattle.nx_nav.specs.Laid.{course_of, course_behind, courses_join};
+
+    ghost Contents = { false };
 
     ghost Told = { λ a x told b y. IsStill D.Disk x y × (course_of b ≡ course_behind (course_of a) told) };
 
     ghost Unwritten = { λ _ _. ⊥ };
 
     ghost IsReady = { λ _. Unit {0} };
+
+    fn wants_contents(&self) -> bool {
+        false
+    }
 
     fn pause(&mut self, _disk: &mut D) -> Result<(), NavError> {
         Ok(())
@@ -113,12 +129,22 @@ impl<D: Disk> Tells<D> for Laying {
     }
 
     fn open(&mut self, _node: NodeView<'_>) -> Result<(), NoMemory> {
-        self.path.push(self.position)?;
-        self.position = 0;
+        self.go_into()
+    }
+
+    fn head(&mut self, _kind: Kind, _name: &[u8]) -> Result<(), NoMemory> {
+        self.go_into()
+    }
+
+    fn content(&mut self, _bytes: &[u8]) -> Result<(), NoMemory> {
         Ok(())
     }
 
-    fn close(&mut self, _node: NodeView<'_>) -> Result<(), NoMemory> {
+    fn tail(&mut self) -> Result<(), NoMemory> {
+        Ok(())
+    }
+
+    fn close(&mut self, _kind: Kind, _name: &[u8]) -> Result<(), NoMemory> {
         if let Some(last) = self.path.as_slice().last().copied() {
             self.path.truncate(self.path.len() - 1);
             self.position = last.saturating_add(1);

@@ -14,12 +14,13 @@ mod laid;
 mod reading;
 mod routing;
 mod telling;
+mod telling_content;
 mod visited;
 mod walking;
 
 pub use error::NavError;
 pub use exporting::export;
-pub use finding::{Routed, Shown, get, get_route, get_with_child};
+pub use finding::{Outlined, Routed, Shown, get, get_route, outline};
 pub use laid::{Laid, layout};
 pub use routing::{PassedRecord, Route};
 pub use telling::text_of;

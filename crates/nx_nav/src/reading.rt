@@ -51,8 +51,8 @@ pub fn piece_at<'a, D: Disk>(
     Ok(piece)
 }
 
-// Why a record wasn't read, as the refusal of a call that looks at a document.
-fn passed_on(error: StoreError) -> NavError
+// Why a record or a content wasn't read, as the refusal of a call that looks at a document.
+pub fn passed_on(error: StoreError) -> NavError
     requires { StopsReading error }
     ensures { IsPassedOn error result }
 {

@@ -1,15 +1,18 @@
 // The records that a path passes, kept for a change at its end.
-ghost use Rattle.std.specs.Prelude.{◌≡◌, ◌-◌, ◌≤◌, ◌++◌, ◌∷◌, [], ℕ, true, length, Some, IfOk, OnOk};
-ghost use Rattle.std.specs.List.{slice_get};
+ghost use Rattle.std.specs.Prelude.{◌≡◌, ◌++◌, ◌∷◌, [], ℕ, true, Some, IfOk, OnOk};
+ghost use Rattle.nx_piece.specs.declared.piece.Proxy.{Proxy};
+ghost use Rattle.nx_piece.specs.declared.finding.LocatedView.TheVariants.{Away};
+ghost use Rattle.nx_piece.specs.Find.{IsLocatedView};
+ghost use Rattle.nx_piece.specs.Flat.{seen_node};
 ghost use Rattle.nx_piece.specs.Gapped.{GappedTree};
-ghost use Rattle.nx_piece.specs.Locate.{Inside, Outside, reached_in};
+ghost use Rattle.nx_piece.specs.Locate.{Inside, reached_in};
 ghost use Rattle.nx_piece.specs.Valid.{IsValidPiece};
 ghost use Rattle.nx_nav.specs.declared.routing.PassedRecord.{PassedRecord};
 ghost use Rattle.nx_nav.specs.declared.routing.Route.{Route};
 ghost use Rattle.nx_nav.specs.Route.{IsPassedRecord};
 
-use nx_piece::{LocatedView, Piece, PieceView, Proxy, find};
-use nx_tree::{NoMemory, Node};
+use nx_piece::{LocatedView, NodeView, Piece, PieceView, Proxy, find};
+use nx_tree::{Bytes, NoMemory, Node};
 use std::alloc::Global;
 
 /// A record that a path passes: it leads out of its piece into the record of a proxy.
@@ -25,7 +28,7 @@ pub struct PassedRecord {
     pub member: u16,
     /// How many positions of the path lead there.
     pub used: u32,
-    /// The node of the piece that the proxy stands below.
+    /// The node of the piece that the proxy stands below. Where its content stands elsewhere, it is empty here.
     pub above: Node,
 }
 
@@ -36,32 +39,41 @@ pub struct Route {
     pub last: Piece,
 }
 
-// Keeps of the record of a piece what the path leaves it by, behind those before.
+// Keeps of the record of a piece what the path leaves it by, behind those before, where the way is kept.
 pub fn pass_record(
     alloc: Global,
+    keeps: bool,
     passed: &mut Vec<PassedRecord>,
     piece: &PieceView<'_>,
     from: u16,
     path: &[u32],
-    proxy: Proxy,
-    index: u32,
-    member: u16,
-    used: u32,
+    located: LocatedView<'_>,
 ) -> Result<(), NoMemory>
     requires valid { IsValidPiece piece.now }
-    requires leads { reached_in piece.now from path.now ≡ Outside index member used }
-    requires there { slice_get piece.now.proxies index ≡ Some proxy }
-    ensures { OnOk result ((one : PassedRecord) × (passed.new.items ≡ passed.old.items ++ one ∷ []) × (one.proxy ≡ proxy) × (one.member ≡ member) × (one.used ≡ used) × IsPassedRecord piece.now from path.now one) }
+    requires leads { IsLocatedView piece.now (reached_in piece.now from path.now) located }
+    ensures { OnOk result (keeps ≡ true → (proxy : Proxy) (index member used : ℕ) → located.entry ≡ Away proxy index member used
+        → (one : PassedRecord) × (passed.new.items ≡ passed.old.items ++ one ∷ []) × (one.proxy ≡ proxy) × (one.member ≡ member) × (one.used ≡ used) × IsPassedRecord piece.now from path.now one) }
 {
-    let above = node_at(alloc, piece, from, &path[..used as usize - 1])?;
-    passed.push(PassedRecord {
-        roots: piece.body.root_count(),
-        index,
+    let LocatedView::Away {
         proxy,
+        index,
         member,
         used,
-        above,
-    })?;
+    } = located
+    else {
+        return Ok(());
+    };
+    if keeps {
+        let above = node_at(alloc, piece, from, &path[..used as usize - 1])?;
+        passed.push(PassedRecord {
+            roots: piece.body.root_count(),
+            index,
+            proxy,
+            member,
+            used,
+            above,
+        })?;
+    }
     Ok(())
 }
 
@@ -82,7 +94,7 @@ pub fn end_route(
     Ok(Some(Route { passed, last }))
 }
 
-// A copy of the node that the path leads to.
+// A copy of the node that the path leads to, as its record has it.
 fn node_at(
     alloc: Global,
     piece: &PieceView<'_>,
@@ -91,10 +103,21 @@ fn node_at(
 ) -> Result<Node, NoMemory>
     requires valid { IsValidPiece piece.now }
     requires leads { (tree : GappedTree) × (first : ℕ) × (reached_in piece.now member path.now ≡ Inside tree first) }
-    ensures { IfOk result (λ node. (tree : GappedTree) × (first : ℕ) × (reached_in piece.now member path.now ≡ Inside tree first) × (node ≡ tree.node)) }
+    ensures { IfOk result (λ node. (tree : GappedTree) × (first : ℕ) × (reached_in piece.now member path.now ≡ Inside tree first) × (node ≡ tree.node.node)) }
 {
     match find(piece, member, path) {
-        LocatedView::Here { tree, .. } => tree.node.to_node(alloc),
+        LocatedView::Here { tree, .. } => copy_node(alloc, tree.node),
         LocatedView::Away { .. } | LocatedView::Nowhere => unreachable!(),
     }
+}
+
+// A copy of the node of a record, without a content that stands elsewhere.
+pub fn copy_node(alloc: Global, node: NodeView<'_>) -> Result<Node, NoMemory>
+    ensures { IfOk result (λ copy. copy ≡ (seen_node node.entry).node) }
+{
+    Ok(Node {
+        kind: node.kind,
+        name: Bytes::from_slice(alloc, node.name)?,
+        content: Bytes::from_slice(alloc, node.content)?,
+    })
 }

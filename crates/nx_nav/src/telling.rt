@@ -15,13 +15,13 @@ use crate::visited::Visited;
 use crate::walking::{Tells, Walk, tell_document};
 use nx_host::Disk;
 use nx_piece::{BodyView, NodeView};
-use nx_pyx::push_parts_line;
+use nx_pyx::{push_escaped, push_line_start, push_parts_line};
 use nx_records::{Records, Rid};
 use nx_tree::{Bytes, Kind, NoMemory};
 use std::alloc::Global;
 
 /// The canonical text of the document of so many nodes, its root counted, whose root's record stands at
-/// `root`.
+/// `root`. Of a content of more than 1,024 bytes one chain page at a time is in memory beside the text.
 ///
 /// Errors: `Damaged` only where the records hold no document of so many nodes, in parts of at most K of
 /// the settings, from there on; `Disk`, only where `faults` rose; `Ended` exactly where the records had
@@ -57,16 +57,22 @@ struct Text {
 }
 
 impl<D: Disk> Tells<D> for Text {
-    ghost use Rattle.std.specs.Prelude.{◌≡◌, ◌++◌};
+    ghost use Rattle.std.specs.Prelude.{◌≡◌, ◌++◌, true};
     ghost use Rattle.nx_host.specs.Disk.{Keeps};
     ghost use Rattle.nx_host.specs.Still.{IsStill};
     ghost use Rattle.nx_nav.specs.Told.{told_text, text_joins};
+
+    ghost Contents = { true };
 
     ghost Told = { λ a x told b y. IsStill D.Disk x y × (b.bytes ≡ a.bytes ++ told_text told) };
 
     ghost Unwritten = { λ _ _. ⊥ };
 
     ghost IsReady = { λ _. Unit {0} };
+
+    fn wants_contents(&self) -> bool {
+        true
+    }
 
     fn pause(&mut self, _disk: &mut D) -> Result<(), NavError> {
         Ok(())
@@ -80,8 +86,20 @@ impl<D: Disk> Tells<D> for Text {
         push_start(&mut self.bytes, node)
     }
 
-    fn close(&mut self, node: NodeView<'_>) -> Result<(), NoMemory> {
-        push_end(&mut self.bytes, node)
+    fn head(&mut self, kind: Kind, name: &[u8]) -> Result<(), NoMemory> {
+        push_line_start(&mut self.bytes, kind, name)
+    }
+
+    fn content(&mut self, bytes: &[u8]) -> Result<(), NoMemory> {
+        push_escaped(&mut self.bytes, bytes)
+    }
+
+    fn tail(&mut self) -> Result<(), NoMemory> {
+        self.bytes.push(b'\n')
+    }
+
+    fn close(&mut self, kind: Kind, name: &[u8]) -> Result<(), NoMemory> {
+        push_end(&mut self.bytes, kind, name)
     }
 
     ghost use Rattle.std.proofs.Common.{sym, subst};
@@ -103,7 +121,7 @@ impl<D: Disk> Tells<D> for Text {
 
 // Adds the line with which a node begins, but for the root of a document.
 pub(crate) fn push_start(text: &mut Bytes, node: NodeView<'_>) -> Result<(), NoMemory>
-    ensures { OnOk result (text.new ≡ text.old ++ walk_step_text (Open (seen_node node.entry))) }
+    ensures { OnOk result (text.new ≡ text.old ++ walk_step_text (Open (seen_node node.entry).node)) }
 {
     match node.kind {
         Kind::Doc => Ok(()),
@@ -115,13 +133,13 @@ pub(crate) fn push_start(text: &mut Bytes, node: NodeView<'_>) -> Result<(), NoM
 }
 
 // Adds the line with which an element ends.
-pub(crate) fn push_end(text: &mut Bytes, node: NodeView<'_>) -> Result<(), NoMemory>
-    ensures { OnOk result (text.new ≡ text.old ++ walk_step_text (Close (seen_node node.entry))) }
+pub(crate) fn push_end(text: &mut Bytes, kind: Kind, name: &[u8]) -> Result<(), NoMemory>
+    ensures { OnOk result (text.new ≡ text.old ++ walk_step_text (Close kind name.now)) }
 {
-    match node.kind {
+    match kind {
         Kind::Element => {
             text.push(b')')?;
-            text.extend_from_slice(node.name)?;
+            text.extend_from_slice(name)?;
             text.push(b'\n')
         }
         _ => Ok(()),

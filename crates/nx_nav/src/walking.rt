@@ -1,33 +1,37 @@
 // A walk over the records of a document, which tells its nodes and its intervals.
-ghost use Rattle.std.specs.Prelude.{◌≡◌, ◌⊎◌, ◌≤◌, false, ℕ, List, [], ◌∷◌, ◌++◌, OnOk, IfOk, IfErr, length, drop, OnErr, IsSome};
+ghost use Rattle.std.specs.Prelude.{◌≡◌, ◌+◌, ◌≤◌, false, Bool, ℕ, List, [], ◌∷◌, ◌++◌, OnOk, IfOk, IfErr, length, drop, OnErr, IsSome};
 ghost use Rattle.nx_host.specs.Disk.{Image, Keeps};
 ghost use Rattle.nx_host.specs.Still.{IsStill};
 ghost use Rattle.nx_records.specs.Records.{has_ended, LeavesRecords};
-ghost use Rattle.nx_tree.specs.Document.{IsNode};
-ghost use Rattle.nx_piece.specs.Gapped.{gapped_weight, proxies_in};
+ghost use Rattle.nx_tree.specs.declared.node.Kind.{Kind};
+ghost use Rattle.nx_piece.specs.Gapped.{gapped_size, gapped_weight, proxies_in};
 ghost use Rattle.nx_piece.specs.Flat.{seen_node};
 ghost use Rattle.nx_piece.specs.Viewing.{seen_items, seen_tree};
-ghost use Rattle.nx_piece.specs.Valid.{HaveRoots};
+ghost use Rattle.nx_piece.specs.PieceNode.{MayBeFar, item_slots};
+ghost use Rattle.nx_piece.specs.Valid.{HaveRoots, AreFar};
 ghost use Rattle.nx_hold.specs.Changes.{place_of};
 ghost use Rattle.nx_nav.specs.Refusals.{IsRefused, HoldsNoneWith};
-ghost use Rattle.nx_nav.specs.Nodes.{IsRoot};
 ghost use Rattle.nx_nav.specs.Visited.{HasVisited};
 ghost use Rattle.nx_nav.specs.Walk.{HasTold, HasStopped, IsNone, IsIntervalAt, IsTreeOf, AreOf, AreIntervalsOf, TellsDocument, StopsWithin};
-ghost use Rattle.nx_nav.specs.Steps.{WalkStep, Begin, Open, Close};
+ghost use Rattle.nx_nav.specs.Steps.{WalkStep, Begin, Open, Head, Block, Tail, Close};
 
 use crate::NavError;
 use crate::judging::is_possible;
 use crate::reading::{damaged, piece_at};
+use crate::telling_content::begin_node;
 use crate::visited::Visited;
 use nx_host::Disk;
 use nx_lists::DEEPEST;
 use nx_piece::{BodyView, ItemView, ItemsView, NodeView, Proxy, TreeView};
 use nx_records::{Records, Rid};
-use nx_tree::{Bytes, NoMemory};
+use nx_tree::{Bytes, Kind, NoMemory};
 use std::alloc::Global;
 
 // What a walk tells a document to.
 pub trait Tells<D: Disk> {
+    // It is told contents of more than 1,024 bytes.
+    ghost Contents: { Bool };
+
     // From one teller and disk so many steps led to others.
     ghost Told: { Self → D → List WalkStep → Self → D → Type 0 };
 
@@ -37,7 +41,10 @@ pub trait Tells<D: Disk> {
     // It holds back so little that a record may be read.
     ghost IsReady: { Self → Type 0 };
 
-    // Before a record is read, and at the end.
+    fn wants_contents(&self) -> bool
+        ensures { result ≡ Contents };
+
+    // Before a record or a page of a content is read, and at the end.
     fn pause(&mut self, disk: &mut D) -> Result<(), NavError>
         ensures ok { OnOk result (Told self.old disk.old [] self.new disk.new) }
         ensures ready { OnOk result (IsReady self.new) }
@@ -48,14 +55,25 @@ pub trait Tells<D: Disk> {
         requires { 1 ≤ roots }
         ensures { OnOk result ((disk : D) → Told self.old disk (Begin roots (gapped_weight body.now.roots) ∷ []) self.new disk) };
 
-    // A node begins, which a document may have.
+    // A node begins, whose content of at most 1,024 bytes it has here.
     fn open(&mut self, node: NodeView<'_>) -> Result<(), NoMemory>
-        requires { IsRoot (seen_node node) ⊎ IsNode (seen_node node) }
-        ensures { OnOk result ((disk : D) → Told self.old disk (Open (seen_node node.entry) ∷ []) self.new disk) };
+        ensures { OnOk result ((disk : D) → Told self.old disk (Open (seen_node node.entry).node ∷ []) self.new disk) };
+
+    // A node with a longer content begins.
+    fn head(&mut self, kind: Kind, name: &[u8]) -> Result<(), NoMemory>
+        ensures { OnOk result ((disk : D) → Told self.old disk (Head kind name.now ∷ []) self.new disk) };
+
+    // The next block of its content comes, of at most 8,184 bytes.
+    fn content(&mut self, bytes: &[u8]) -> Result<(), NoMemory>
+        ensures { OnOk result ((disk : D) → Told self.old disk (Block bytes.now ∷ []) self.new disk) };
+
+    // Its content has come.
+    fn tail(&mut self) -> Result<(), NoMemory>
+        ensures { OnOk result ((disk : D) → Told self.old disk (Tail ∷ []) self.new disk) };
 
     // A node ends.
-    fn close(&mut self, node: NodeView<'_>) -> Result<(), NoMemory>
-        ensures { OnOk result ((disk : D) → Told self.old disk (Close (seen_node node.entry) ∷ []) self.new disk) };
+    fn close(&mut self, kind: Kind, name: &[u8]) -> Result<(), NoMemory>
+        ensures { OnOk result ((disk : D) → Told self.old disk (Close kind name.now ∷ []) self.new disk) };
 
     // Where the disk is asked alone nothing is told.
     ghost asked: { (a : Self) (x y : D) → IsStill D.Disk x y → Told a x [] a y };
@@ -84,9 +102,9 @@ pub fn tell_document<D: Disk, T: Tells<D>>(
 ) -> Result<(), NavError>
     requires fresh { HasVisited walk.old.visited [] }
     ensures stays { OnOk result ((has_ended records.old ≡ false) × LeavesRecords records.old records.new) }
-    ensures told { OnOk result (TellsDocument D.Disk T.Told records.old disk.old (place_of root) walk.old.left walk.old.teller walk.new.teller disk.new) }
+    ensures told { OnOk result (TellsDocument D.Disk T.Contents T.Told records.old disk.old (place_of root) walk.old.left walk.old.teller walk.new.teller disk.new) }
     ensures ready { OnOk result (T.IsReady walk.new.teller) }
-    ensures stops { OnErr result (StopsWithin D.Disk T.Told records.old disk.old (place_of root) walk.old.teller disk.new) }
+    ensures stops { OnErr result (StopsWithin D.Disk T.Contents T.Told records.old disk.old (place_of root) walk.old.teller disk.new) }
     ensures refused { IfErr result (λ e. IsRefused D.Disk ⊥ (T.Unwritten disk.old disk.new) (IsSome (D.contents disk.new) → HoldsNoneWith D.Disk records.old disk.old (place_of root) walk.old.left) e records.old records.new disk.old disk.new) }
 {
     if records.is_ended() {
@@ -130,8 +148,8 @@ fn tell_interval<D: Disk, T: Tells<D>>(
     requires levels { depth ≤ 257 }
     requires some { 1 ≤ roots }
     ensures stays { OnOk result (LeavesRecords records.old records.new) }
-    ensures told { OnOk result (HasTold D.Disk T.Told (IsIntervalAt D.Disk records.old disk.old (place_of rid) roots) walk.old.teller disk.old walk.old.left walk.old.visited walk.new.teller disk.new walk.new.left walk.new.visited) }
-    ensures stops { OnErr result (HasStopped D.Disk T.Told (IsIntervalAt D.Disk records.old disk.old (place_of rid) roots) walk.old.teller disk.old disk.new) }
+    ensures told { OnOk result (HasTold D.Disk T.Contents T.Told (IsIntervalAt D.Disk records.old disk.old (place_of rid) roots) walk.old.teller disk.old walk.old.left walk.old.visited walk.new.teller disk.new walk.new.left walk.new.visited) }
+    ensures stops { OnErr result (HasStopped D.Disk T.Contents T.Told (IsIntervalAt D.Disk records.old disk.old (place_of rid) roots) walk.old.teller disk.old disk.new) }
     ensures refused { IfErr result (λ e. IsRefused D.Disk ⊥ (T.Unwritten disk.old disk.new) (IsNone D.Disk disk.new (IsIntervalAt D.Disk records.old disk.old (place_of rid) roots) depth walk.old.left walk.old.visited) e records.old records.new disk.old disk.new) }
 {
     walk.teller.pause(disk)?;
@@ -169,12 +187,14 @@ fn tell_tree<'a, D: Disk, T: Tells<D>>(
 ) -> Result<&'a [Proxy], NavError>
     requires runs { has_ended records.old ≡ false }
     requires levels { spot.depth ≤ 257 }
+    requires far { MayBeFar (seen_node tree.node) × AreFar (seen_items tree.children) }
+    requires small { item_slots (seen_node tree.node) + gapped_size (seen_items tree.children) ≤ 256 }
     requires fits { proxies_in (seen_items tree.children) ≤ length proxies.now }
     requires rooted { HaveRoots proxies.now }
     ensures stays { OnOk result (LeavesRecords records.old records.new) }
     ensures behind { IfOk result (λ behind. behind.now ≡ drop (proxies_in (seen_items tree.entry.children)) proxies.now) }
-    ensures told { OnOk result (HasTold D.Disk T.Told (IsTreeOf D.Disk records.old disk.old (seen_tree tree.entry) proxies.now) walk.old.teller disk.old walk.old.left walk.old.visited walk.new.teller disk.new walk.new.left walk.new.visited) }
-    ensures stops { OnErr result (HasStopped D.Disk T.Told (IsTreeOf D.Disk records.old disk.old (seen_tree tree.entry) proxies.now) walk.old.teller disk.old disk.new) }
+    ensures told { OnOk result (HasTold D.Disk T.Contents T.Told (IsTreeOf D.Disk records.old disk.old (seen_tree tree.entry) proxies.now) walk.old.teller disk.old walk.old.left walk.old.visited walk.new.teller disk.new walk.new.left walk.new.visited) }
+    ensures stops { OnErr result (HasStopped D.Disk T.Contents T.Told (IsTreeOf D.Disk records.old disk.old (seen_tree tree.entry) proxies.now) walk.old.teller disk.old disk.new) }
     ensures refused { IfErr result (λ e. IsRefused D.Disk ⊥ (T.Unwritten disk.old disk.new) (IsNone D.Disk disk.new (IsTreeOf D.Disk records.old disk.old (seen_tree tree.entry) proxies.now) spot.depth walk.old.left walk.old.visited) e records.old records.new disk.old disk.new) }
 {
     if spot.depth == 0 || walk.left == 0 {
@@ -184,13 +204,13 @@ fn tell_tree<'a, D: Disk, T: Tells<D>>(
         return Err(damaged(records, spot.page));
     }
     walk.left -= 1;
-    walk.teller.open(tree.node)?;
+    begin_node(walk.alloc, &mut walk.teller, records, disk, tree.node)?;
     let below = Spot {
         page: spot.page,
         depth: spot.depth - 1,
     };
     let behind = tell_items(walk, records, disk, tree.children, proxies, below)?;
-    walk.teller.close(tree.node)?;
+    walk.teller.close(tree.node.kind, tree.node.name)?;
     Ok(behind)
 }
 
@@ -206,12 +226,14 @@ fn tell_items<'a, D: Disk, T: Tells<D>>(
 ) -> Result<&'a [Proxy], NavError>
     requires runs { has_ended records.old ≡ false }
     requires levels { spot.depth ≤ 257 }
+    requires far { AreFar (seen_items items) }
+    requires small { gapped_size (seen_items items) ≤ 256 }
     requires fits { proxies_in (seen_items items) ≤ length proxies.now }
     requires rooted { HaveRoots proxies.now }
     ensures stays { OnOk result (LeavesRecords records.old records.new) }
     ensures behind { IfOk result (λ behind. behind.now ≡ drop (proxies_in (seen_items items.entry)) proxies.now) }
-    ensures told { OnOk result (HasTold D.Disk T.Told (AreOf D.Disk records.old disk.old (seen_items items.entry) proxies.now) walk.old.teller disk.old walk.old.left walk.old.visited walk.new.teller disk.new walk.new.left walk.new.visited) }
-    ensures stops { OnErr result (HasStopped D.Disk T.Told (AreOf D.Disk records.old disk.old (seen_items items.entry) proxies.now) walk.old.teller disk.old disk.new) }
+    ensures told { OnOk result (HasTold D.Disk T.Contents T.Told (AreOf D.Disk records.old disk.old (seen_items items.entry) proxies.now) walk.old.teller disk.old walk.old.left walk.old.visited walk.new.teller disk.new walk.new.left walk.new.visited) }
+    ensures stops { OnErr result (HasStopped D.Disk T.Contents T.Told (AreOf D.Disk records.old disk.old (seen_items items.entry) proxies.now) walk.old.teller disk.old disk.new) }
     ensures refused { IfErr result (λ e. IsRefused D.Disk ⊥ (T.Unwritten disk.old disk.new) (IsNone D.Disk disk.new (AreOf D.Disk records.old disk.old (seen_items items.entry) proxies.now) spot.depth walk.old.left walk.old.visited) e records.old records.new disk.old disk.new) }
 {
     let mut rest = proxies;
@@ -243,8 +265,8 @@ fn tell_row<D: Disk, T: Tells<D>>(
     requires levels { depth ≤ 257 }
     requires rooted { HaveRoots proxies.now }
     ensures stays { OnOk result (LeavesRecords records.old records.new) }
-    ensures told { OnOk result (HasTold D.Disk T.Told (AreIntervalsOf D.Disk records.old disk.old proxies.now) walk.old.teller disk.old walk.old.left walk.old.visited walk.new.teller disk.new walk.new.left walk.new.visited) }
-    ensures stops { OnErr result (HasStopped D.Disk T.Told (AreIntervalsOf D.Disk records.old disk.old proxies.now) walk.old.teller disk.old disk.new) }
+    ensures told { OnOk result (HasTold D.Disk T.Contents T.Told (AreIntervalsOf D.Disk records.old disk.old proxies.now) walk.old.teller disk.old walk.old.left walk.old.visited walk.new.teller disk.new walk.new.left walk.new.visited) }
+    ensures stops { OnErr result (HasStopped D.Disk T.Contents T.Told (AreIntervalsOf D.Disk records.old disk.old proxies.now) walk.old.teller disk.old disk.new) }
     ensures refused { IfErr result (λ e. IsRefused D.Disk ⊥ (T.Unwritten disk.old disk.new) (IsNone D.Disk disk.new (AreIntervalsOf D.Disk records.old disk.old proxies.now) depth walk.old.left walk.old.visited) e records.old records.new disk.old disk.new) }
 {
     for proxy in proxies {

@@ -4,14 +4,12 @@ use Rattle.std.proofs.lemmas.Result.{err_from_is_err_and}
 use Rattle.std.proofs.lemmas.List.{drop_all}
 use Rattle.nx_host.proofs.DiskLemmas.{none_still}
 use Rattle.nx_records.proofs.LeaveLemmas.{leaves_same, leaves_add_up}
-use Rattle.nx_tree.specs.Document.{deepest}
 use Rattle.nx_piece.specs.declared.piece.Piece.{Piece}
 use Rattle.nx_piece.specs.declared.piece.Proxy.{Proxy}
 use Rattle.nx_piece.specs.declared.viewing.ItemView.{ItemView}
-use Rattle.nx_piece.specs.Gapped.{Gapped, Grow, Gap, gapped_weight, proxies_in}
-use Rattle.nx_piece.specs.Flat.{seen_node}
+use Rattle.nx_piece.specs.Gapped.{Gapped, Grow, Gap, gapped_size, gapped_weight, proxies_in}
 use Rattle.nx_piece.specs.Viewing.{seen_items, seen_tree, begun_with}
-use Rattle.nx_piece.specs.Valid.{AreTrees, HaveRoots}
+use Rattle.nx_piece.specs.Valid.{AreFar, AreTrees, HaveRoots}
 use Rattle.nx_piece.proofs.LocateLemmas.{ranged_drop, ranged_take}
 use Rattle.nx_piece.proofs.WalkLemmas.{next_at}
 use Rattle.nx_layouts.specs.Layout.{Layout}
@@ -21,9 +19,8 @@ use Rattle.nx_nav.specs.Visited.{HasVisited}
 use Rattle.nx_nav.specs.Walk.{Visits, HasTold, HasStopped, IsNone, IsIntervalAt, IsTreeOf, AreOf, AreIntervalsOf}
 use Rattle.nx_nav.proofs.WayLemmas.{IsTeller, IsSplit, IsOnWay, told_stands, way_begins, way_goes_on, way_stops, way_refused, way_ends}
 use Rattle.nx_nav.proofs.RefusalLemmas.{is_damaged}
-use Rattle.nx_nav.proofs.NodeLemmas.{root_or_node}
 use Rattle.nx_nav.proofs.VisitLemmas.{was_new, was_old}
-use Rattle.nx_nav.proofs.TellLemmas.{no_room, no_such_tree, no_other_interval, stops_at_once, tree_told, tree_stops, tree_not_closed, tree_refused, asked_on, interval_not_read, interval_begins}
+use Rattle.nx_nav.proofs.TellLemmas.{no_room, no_such_tree, no_other_interval, stops_at_once, node_stops, node_refused, tree_told, tree_stops, tree_not_closed, tree_refused, asked_on, interval_not_read, interval_begins}
 use Rattle.nx_nav.proofs.SplitLemmas.{split_tree, split_row, split_interval, row_ends, items_end, enough_left, dropped_twice}
 use Rattle.nx_nav.proofs.walking.+walk.Given.{Over}
 use Rattle.nx_nav.proofs.walking.+walk.Goals as goal
@@ -46,25 +43,25 @@ pub tell_interval-returns-in_err-pause-clause-stops : goal.tell_interval-returns
 tell_interval-returns-in_err-pause-clause-stops g t c =
     let p = err_from_is_err_and c.from_residual.result c.from_residual.ensures.1 in
     let last = c.in_err-pause.ensures.err.2 in
-    rw p.1 (stops_at_once (teller g) (IsIntervalAt g.D.Disk c.args.records.now c.args.disk.now (place_of c.args.rid) c.args.roots) last.0 c.pause.new.disk last.1)
+    rw p.1 (stops_at_once g.T.Tells.Contents (teller g) (IsIntervalAt g.D.Disk c.args.records.now c.args.disk.now (place_of c.args.rid) c.args.roots) last.0 c.pause.new.disk last.1)
 
 pub tell_interval-returns-in_err-piece-clause-stops : goal.tell_interval-returns-in_err-piece-clause-stops
 tell_interval-returns-in_err-piece-clause-stops g t c =
     let paused = c.in_ok-pause.ensures.ok in
     let p = err_from_is_err_and c.from_residual-in_err-piece.result c.from_residual-in_err-piece.ensures.1 in
-    rw p.1 (stops_at_once (teller g) (IsIntervalAt g.D.Disk c.args.records.now c.args.disk.now (place_of c.args.rid) c.args.roots) c.pause.new.self c.piece_at.new.disk (asked_on (teller g) c.args.records.now c.piece_at.new.records (place_of c.args.rid) c.args.roots paused c.piece_at.ensures.still))
+    rw p.1 (stops_at_once g.T.Tells.Contents (teller g) (IsIntervalAt g.D.Disk c.args.records.now c.args.disk.now (place_of c.args.rid) c.args.roots) c.pause.new.self c.piece_at.new.disk (asked_on g.T.Tells.Contents (teller g) c.args.records.now c.piece_at.new.records (place_of c.args.rid) c.args.roots paused c.piece_at.ensures.still))
 
 pub tell_interval-returns-in_err-piece-clause-refused : goal.tell_interval-returns-in_err-piece-clause-refused
 tell_interval-returns-in_err-piece-clause-refused g t c =
     let paused = c.in_ok-pause.ensures.ok in
     let p = err_from_is_err_and c.from_residual-in_err-piece.result c.from_residual-in_err-piece.ensures.1 in
-    rw (p.1, p.2) (interval_not_read (teller g) c.args.records.now c.piece_at.new.records (place_of c.args.rid) c.args.roots paused c.piece_at.ensures.still c.requires.runs c.args.depth c.args.walk.now.left c.args.walk.now.visited c.in_err-piece.field-0.0 c.in_err-piece.ensures.refused)
+    rw (p.1, p.2) (interval_not_read g.T.Tells.Contents (teller g) c.args.records.now c.piece_at.new.records (place_of c.args.rid) c.args.roots paused c.piece_at.ensures.still c.requires.runs c.args.depth c.args.walk.now.left c.args.walk.now.visited c.in_err-piece.field-0.0 c.in_err-piece.ensures.refused)
 
 pub tell_interval-returns-in_err-begin-clause-stops : goal.tell_interval-returns-in_err-begin-clause-stops
 tell_interval-returns-in_err-begin-clause-stops g t c =
     let paused = c.in_ok-pause.ensures.ok in
     let p = err_from_is_err_and c.from_residual-in_err-begin.result c.from_residual-in_err-begin.ensures.1 in
-    rw p.1 (stops_at_once (teller g) (IsIntervalAt g.D.Disk c.args.records.now c.args.disk.now (place_of c.args.rid) c.args.roots) c.pause.new.self c.piece_at.new.disk (asked_on (teller g) c.args.records.now c.piece_at.new.records (place_of c.args.rid) c.args.roots paused c.piece_at.ensures.still))
+    rw p.1 (stops_at_once g.T.Tells.Contents (teller g) (IsIntervalAt g.D.Disk c.args.records.now c.args.disk.now (place_of c.args.rid) c.args.roots) c.pause.new.self c.piece_at.new.disk (asked_on g.T.Tells.Contents (teller g) c.args.records.now c.piece_at.new.records (place_of c.args.rid) c.args.roots paused c.piece_at.ensures.still))
 
 pub tell_interval-returns-in_err-proxies-clause-stops : goal.tell_interval-returns-in_err-proxies-clause-stops
 tell_interval-returns-in_err-proxies-clause-stops g t c =
@@ -72,7 +69,7 @@ tell_interval-returns-in_err-proxies-clause-stops g t c =
     let items = seen_items c.in-Some.beside in
     let e : seen_items c.loop-item.items ≡ Grow root.node root.below items = c.in-Some.ensures ∙ ap (λ (item : ItemView). begun_with item items) c.in-Tree.is in
     let split : (l : Layout) → AreOf g.D.Disk c.loop-item.records c.loop-item.disk (seen_items c.loop-item.items) c.loop-item.proxies.now l
-    → IsSplit (IsTreeOf g.D.Disk c.loop-item.records c.loop-item.disk root c.loop-item.proxies.now) (AreOf g.D.Disk c.loop-item.records c.loop-item.disk items (drop (proxies_in root.below) c.loop-item.proxies.now)) l =
+    → IsSplit g.T.Tells.Contents (IsTreeOf g.D.Disk c.loop-item.records c.loop-item.disk root c.loop-item.proxies.now) (AreOf g.D.Disk c.loop-item.records c.loop-item.disk items (drop (proxies_in root.below) c.loop-item.proxies.now)) l =
     λ l is. split_tree g.D.Disk c.loop-item.records c.loop-item.records c.loop-item.disk c.loop-item.disk (λ x h. h) root items c.loop-item.proxies.now l
     (subst (λ f. AreOf g.D.Disk c.loop-item.records c.loop-item.disk f c.loop-item.proxies.now l) e is) in
     let p = err_from_is_err_and c.from_residual-in_err-proxies.result c.from_residual-in_err-proxies.ensures.1 in
@@ -84,7 +81,7 @@ tell_interval-returns-in_err-proxies-clause-refused g t c =
     let items = seen_items c.in-Some.beside in
     let e : seen_items c.loop-item.items ≡ Grow root.node root.below items = c.in-Some.ensures ∙ ap (λ (item : ItemView). begun_with item items) c.in-Tree.is in
     let split : (l : Layout) → AreOf g.D.Disk c.loop-item.records c.loop-item.disk (seen_items c.loop-item.items) c.loop-item.proxies.now l
-    → IsSplit (IsTreeOf g.D.Disk c.loop-item.records c.loop-item.disk root c.loop-item.proxies.now) (AreOf g.D.Disk c.loop-item.records c.loop-item.disk items (drop (proxies_in root.below) c.loop-item.proxies.now)) l =
+    → IsSplit g.T.Tells.Contents (IsTreeOf g.D.Disk c.loop-item.records c.loop-item.disk root c.loop-item.proxies.now) (AreOf g.D.Disk c.loop-item.records c.loop-item.disk items (drop (proxies_in root.below) c.loop-item.proxies.now)) l =
     λ l is. split_tree g.D.Disk c.loop-item.records c.loop-item.records c.loop-item.disk c.loop-item.disk (λ x h. h) root items c.loop-item.proxies.now l
     (subst (λ f. AreOf g.D.Disk c.loop-item.records c.loop-item.disk f c.loop-item.proxies.now l) e is) in
     let p = err_from_is_err_and c.from_residual-in_err-proxies.result c.from_residual-in_err-proxies.ensures.1 in
@@ -95,8 +92,20 @@ tell_interval-returns-in_err-proxies-clause-refused g t c =
 pub tell_interval-returns-clause-told : goal.tell_interval-returns-clause-told
 tell_interval-returns-clause-told g t c =
     way_ends (teller g) c.loop-item.invariant.way
-    (λ l is. items_end (seen_items c.loop-item.items) c.loop-item.proxies.now l is
+    (λ l is. items_end g.T.Tells.Contents (seen_items c.loop-item.items) c.loop-item.proxies.now l is
     (rw c.in_default.is at c.split_first.ensures))
+
+pub tell_interval-tell_tree-requires : goal.tell_interval-tell_tree-requires
+tell_interval-tell_tree-requires g t c =
+    let items = seen_items c.in-Some.beside in
+    let root = seen_tree c.in-Tree.root in
+    let e : seen_items c.loop-item.items ≡ Grow root.node root.below items = c.in-Some.ensures ∙ ap (λ (item : ItemView). begun_with item items) c.in-Tree.is in
+    let same = ap proxies_in e in
+    let sizes = ap gapped_size e in
+    let small = c.loop-item.invariant.small in
+    let fits = c.loop-item.invariant.fits in
+    let far : AreFar (Grow root.node root.below items) = subst AreFar e c.loop-item.invariant.far in
+    λ κs le. (omega arith, (le.0, (le.1, ((c.loop-item.invariant.stays).ended_stays ∙ c.requires.runs, (c.requires.levels, ((far.0, far.1), (omega arith, (omega arith, c.loop-item.invariant.rooted))))))))
 
 pub tell_items-tell_tree-requires : goal.tell_items-tell_tree-requires
 tell_items-tell_tree-requires g t c =
@@ -107,8 +116,11 @@ tell_items-tell_tree-requires g t c =
     let fits : proxies_in (seen_items c.loop-item.left) ≤ length c.loop-item.rest.now =
     enough_left c.args.proxies.now c.loop-item.rest.now passed.0 (proxies_in (seen_items c.loop-item.left)) (proxies_in (seen_items c.args.items)) passed.1 passed.2 c.requires.fits in
     let same = ap proxies_in e in
+    let sizes = ap gapped_size e in
+    let small = c.loop-item.invariant.small in
+    let far : AreFar (Grow tree.node tree.below items) = subst AreFar e c.loop-item.invariant.far in
     let rooted : HaveRoots c.loop-item.rest.now = subst HaveRoots (sym passed.1) (ranged_drop passed.0 c.args.proxies.now c.requires.rooted) in
-    λ κs le. (omega arith, (le.0, (le.1, ((c.loop-item.invariant.stays).ended_stays ∙ c.requires.runs, (c.requires.levels, (omega arith, rooted))))))
+    λ κs le. (omega arith, (le.0, (le.1, ((c.loop-item.invariant.stays).ended_stays ∙ c.requires.runs, (c.requires.levels, ((far.0, far.1), (omega arith, (omega arith, rooted))))))))
 
 pub tell_items-returns-in_err-rest-in-Tree-clause-stops : goal.tell_items-returns-in_err-rest-in-Tree-clause-stops
 tell_items-returns-in_err-rest-in-Tree-clause-stops g t c =
@@ -117,7 +129,7 @@ tell_items-returns-in_err-rest-in-Tree-clause-stops g t c =
     let tree = seen_tree c.in-Tree.tree in
     let e : seen_items c.loop-item.left ≡ Grow tree.node tree.below items = c.in-Some.ensures ∙ ap (λ (item : ItemView). begun_with item items) c.in-Tree.is in
     let split : (l : Layout) → AreOf g.D.Disk c.loop-item.records c.loop-item.disk (seen_items c.loop-item.left) c.loop-item.rest.now l
-    → IsSplit (IsTreeOf g.D.Disk c.loop-item.records c.loop-item.disk tree c.loop-item.rest.now) (AreOf g.D.Disk c.loop-item.records c.loop-item.disk items (drop (proxies_in tree.below) c.loop-item.rest.now)) l =
+    → IsSplit g.T.Tells.Contents (IsTreeOf g.D.Disk c.loop-item.records c.loop-item.disk tree c.loop-item.rest.now) (AreOf g.D.Disk c.loop-item.records c.loop-item.disk items (drop (proxies_in tree.below) c.loop-item.rest.now)) l =
     λ l is. split_tree g.D.Disk c.loop-item.records c.loop-item.records c.loop-item.disk c.loop-item.disk (λ x h. h) tree items c.loop-item.rest.now l
     (subst (λ f. AreOf g.D.Disk c.loop-item.records c.loop-item.disk f c.loop-item.rest.now l) e is) in
     let p = err_from_is_err_and c.from_residual.result c.from_residual.ensures.1 in
@@ -130,7 +142,7 @@ tell_items-returns-in_err-rest-in-Tree-clause-refused g t c =
     let tree = seen_tree c.in-Tree.tree in
     let e : seen_items c.loop-item.left ≡ Grow tree.node tree.below items = c.in-Some.ensures ∙ ap (λ (item : ItemView). begun_with item items) c.in-Tree.is in
     let split : (l : Layout) → AreOf g.D.Disk c.loop-item.records c.loop-item.disk (seen_items c.loop-item.left) c.loop-item.rest.now l
-    → IsSplit (IsTreeOf g.D.Disk c.loop-item.records c.loop-item.disk tree c.loop-item.rest.now) (AreOf g.D.Disk c.loop-item.records c.loop-item.disk items (drop (proxies_in tree.below) c.loop-item.rest.now)) l =
+    → IsSplit g.T.Tells.Contents (IsTreeOf g.D.Disk c.loop-item.records c.loop-item.disk tree c.loop-item.rest.now) (AreOf g.D.Disk c.loop-item.records c.loop-item.disk items (drop (proxies_in tree.below) c.loop-item.rest.now)) l =
     λ l is. split_tree g.D.Disk c.loop-item.records c.loop-item.records c.loop-item.disk c.loop-item.disk (λ x h. h) tree items c.loop-item.rest.now l
     (subst (λ f. AreOf g.D.Disk c.loop-item.records c.loop-item.disk f c.loop-item.rest.now l) e is) in
     let p = err_from_is_err_and c.from_residual.result c.from_residual.ensures.1 in
@@ -151,12 +163,12 @@ tell_items-returns-in_err-tell_row-in-Run-clause-stops g t c =
     let passed = c.loop-item.invariant.passed in
     let e : seen_items c.loop-item.left ≡ Gap c.in-Run.count items = c.in-Some.ensures ∙ ap (λ (item : ItemView). begun_with item items) c.in-Run.is in
     let split : (l : Layout) → AreOf g.D.Disk c.loop-item.records c.loop-item.disk (seen_items c.loop-item.left) c.loop-item.rest.now l
-    → IsSplit (AreIntervalsOf g.D.Disk c.loop-item.records c.loop-item.disk (take c.in-Run.count c.loop-item.rest.now)) (AreOf g.D.Disk c.loop-item.records c.loop-item.disk items (drop c.in-Run.count c.loop-item.rest.now)) l =
+    → IsSplit g.T.Tells.Contents (AreIntervalsOf g.D.Disk c.loop-item.records c.loop-item.disk (take c.in-Run.count c.loop-item.rest.now)) (AreOf g.D.Disk c.loop-item.records c.loop-item.disk items (drop c.in-Run.count c.loop-item.rest.now)) l =
     λ l is. split_row g.D.Disk c.loop-item.records c.loop-item.records c.loop-item.disk c.loop-item.disk (λ x h. h) c.in-Run.count items c.loop-item.rest.now l
     (subst (λ f. AreOf g.D.Disk c.loop-item.records c.loop-item.disk f c.loop-item.rest.now l) e is) in
     let p = err_from_is_err_and c.from_residual-in_err-tell_row-in-Run.result c.from_residual-in_err-tell_row-in-Run.ensures.1 in
-    let stops : HasStopped g.D.Disk g.T.Tells.Told (AreIntervalsOf g.D.Disk c.loop-item.records c.loop-item.disk (take c.in-Run.count c.loop-item.rest.now)) c.loop-item.walk.teller c.loop-item.disk c.tell_row.new.disk =
-    subst (λ (ps : List Proxy). HasStopped g.D.Disk g.T.Tells.Told (AreIntervalsOf g.D.Disk c.loop-item.records c.loop-item.disk ps) c.loop-item.walk.teller c.loop-item.disk c.tell_row.new.disk) c.split_at.ensures.front c.in_err-tell_row-in-Run.ensures.stops in
+    let stops : HasStopped g.D.Disk g.T.Tells.Contents g.T.Tells.Told (AreIntervalsOf g.D.Disk c.loop-item.records c.loop-item.disk (take c.in-Run.count c.loop-item.rest.now)) c.loop-item.walk.teller c.loop-item.disk c.tell_row.new.disk =
+    subst (λ (ps : List Proxy). HasStopped g.D.Disk g.T.Tells.Contents g.T.Tells.Told (AreIntervalsOf g.D.Disk c.loop-item.records c.loop-item.disk ps) c.loop-item.walk.teller c.loop-item.disk c.tell_row.new.disk) c.split_at.ensures.front c.in_err-tell_row-in-Run.ensures.stops in
     rw p.1 (way_stops (teller g) c.loop-item.invariant.way (AreOf g.D.Disk c.loop-item.records c.loop-item.disk items (drop c.in-Run.count c.loop-item.rest.now)) c.tell_row.new.disk stops split)
 
 pub tell_items-returns-in_err-tell_row-in-Run-clause-refused : goal.tell_items-returns-in_err-tell_row-in-Run-clause-refused
@@ -165,19 +177,19 @@ tell_items-returns-in_err-tell_row-in-Run-clause-refused g t c =
     let passed = c.loop-item.invariant.passed in
     let e : seen_items c.loop-item.left ≡ Gap c.in-Run.count items = c.in-Some.ensures ∙ ap (λ (item : ItemView). begun_with item items) c.in-Run.is in
     let split : (l : Layout) → AreOf g.D.Disk c.loop-item.records c.loop-item.disk (seen_items c.loop-item.left) c.loop-item.rest.now l
-    → IsSplit (AreIntervalsOf g.D.Disk c.loop-item.records c.loop-item.disk (take c.in-Run.count c.loop-item.rest.now)) (AreOf g.D.Disk c.loop-item.records c.loop-item.disk items (drop c.in-Run.count c.loop-item.rest.now)) l =
+    → IsSplit g.T.Tells.Contents (AreIntervalsOf g.D.Disk c.loop-item.records c.loop-item.disk (take c.in-Run.count c.loop-item.rest.now)) (AreOf g.D.Disk c.loop-item.records c.loop-item.disk items (drop c.in-Run.count c.loop-item.rest.now)) l =
     λ l is. split_row g.D.Disk c.loop-item.records c.loop-item.records c.loop-item.disk c.loop-item.disk (λ x h. h) c.in-Run.count items c.loop-item.rest.now l
     (subst (λ f. AreOf g.D.Disk c.loop-item.records c.loop-item.disk f c.loop-item.rest.now l) e is) in
     let p = err_from_is_err_and c.from_residual-in_err-tell_row-in-Run.result c.from_residual-in_err-tell_row-in-Run.ensures.1 in
-    let stops : HasStopped g.D.Disk g.T.Tells.Told (AreIntervalsOf g.D.Disk c.loop-item.records c.loop-item.disk (take c.in-Run.count c.loop-item.rest.now)) c.loop-item.walk.teller c.loop-item.disk c.tell_row.new.disk =
-    subst (λ (ps : List Proxy). HasStopped g.D.Disk g.T.Tells.Told (AreIntervalsOf g.D.Disk c.loop-item.records c.loop-item.disk ps) c.loop-item.walk.teller c.loop-item.disk c.tell_row.new.disk) c.split_at.ensures.front c.in_err-tell_row-in-Run.ensures.stops in
+    let stops : HasStopped g.D.Disk g.T.Tells.Contents g.T.Tells.Told (AreIntervalsOf g.D.Disk c.loop-item.records c.loop-item.disk (take c.in-Run.count c.loop-item.rest.now)) c.loop-item.walk.teller c.loop-item.disk c.tell_row.new.disk =
+    subst (λ (ps : List Proxy). HasStopped g.D.Disk g.T.Tells.Contents g.T.Tells.Told (AreIntervalsOf g.D.Disk c.loop-item.records c.loop-item.disk ps) c.loop-item.walk.teller c.loop-item.disk c.tell_row.new.disk) c.split_at.ensures.front c.in_err-tell_row-in-Run.ensures.stops in
     rw (p.1, p.2)
     (way_refused (teller g) c.loop-item.invariant.way (AreOf g.D.Disk c.loop-item.records c.loop-item.disk items (drop c.in-Run.count c.loop-item.rest.now)) c.args.records.now c.loop-item.records c.tell_row.new.records c.tell_row.new.disk c.args.spot.depth c.requires.runs c.loop-item.invariant.stays stops split c.in_err-tell_row-in-Run.field-0.0
     (subst (λ (ps : List Proxy). IsRefused g.D.Disk ⊥ (g.T.Tells.Unwritten c.loop-item.disk c.tell_row.new.disk) (IsNone g.D.Disk c.tell_row.new.disk (AreIntervalsOf g.D.Disk c.loop-item.records c.loop-item.disk ps) c.args.spot.depth c.loop-item.walk.left c.loop-item.walk.visited) c.in_err-tell_row-in-Run.field-0.0
     c.loop-item.records c.tell_row.new.records c.loop-item.disk c.tell_row.new.disk) c.split_at.ensures.front c.in_err-tell_row-in-Run.ensures.refused))
 
 pub tell_items-returns-clause-told : goal.tell_items-returns-clause-told
-tell_items-returns-clause-told g t c = way_ends (teller g) c.loop-item.invariant.way (λ l is. items_end (seen_items c.loop-item.left) c.loop-item.rest.now l is (rw c.in_default.is at c.split_first.ensures))
+tell_items-returns-clause-told g t c = way_ends (teller g) c.loop-item.invariant.way (λ l is. items_end g.T.Tells.Contents (seen_items c.loop-item.left) c.loop-item.rest.now l is (rw c.in_default.is at c.split_first.ensures))
 
 pub tell_row-loop-proxy-init : goal.tell_row-loop-proxy-init
 tell_row-loop-proxy-init g t c = record { stays = leaves_same refl; way = way_begins (teller g) }
@@ -196,7 +208,7 @@ tell_row-returns-in_err-tell_interval-clause-stops g t c =
     let proxy = get_or c.args.proxies.now i no_proxy in
     let d : drop i c.args.proxies.now ≡ proxy ∷ drop (i + 1) c.args.proxies.now = next_at c.args.proxies.now i no_proxy c.loop-proxy-test.true in
     let split : (l : Layout) → AreIntervalsOf g.D.Disk c.loop-proxy.records c.loop-proxy.disk (drop i c.args.proxies.now) l
-    → IsSplit (IsIntervalAt g.D.Disk c.loop-proxy.records c.loop-proxy.disk (place_named proxy) proxy.roots) (AreIntervalsOf g.D.Disk c.loop-proxy.records c.loop-proxy.disk (drop (i + 1) c.args.proxies.now)) l =
+    → IsSplit g.T.Tells.Contents (IsIntervalAt g.D.Disk c.loop-proxy.records c.loop-proxy.disk (place_named proxy) proxy.roots) (AreIntervalsOf g.D.Disk c.loop-proxy.records c.loop-proxy.disk (drop (i + 1) c.args.proxies.now)) l =
     λ l is. split_interval g.D.Disk c.loop-proxy.records c.loop-proxy.records c.loop-proxy.disk c.loop-proxy.disk (λ x h. h) proxy (drop (i + 1) c.args.proxies.now) l (subst (λ (ps : List Proxy). AreIntervalsOf g.D.Disk c.loop-proxy.records c.loop-proxy.disk ps l) d is) in
     let p = err_from_is_err_and c.from_residual.result c.from_residual.ensures.1 in
     rw p.1 (way_stops (teller g) c.loop-proxy.invariant.way (AreIntervalsOf g.D.Disk c.loop-proxy.records c.loop-proxy.disk (drop (i + 1) c.args.proxies.now)) c.tell_interval.new.disk c.in_err-tell_interval.ensures.stops split)
@@ -207,7 +219,7 @@ tell_row-returns-in_err-tell_interval-clause-refused g t c =
     let proxy = get_or c.args.proxies.now i no_proxy in
     let d : drop i c.args.proxies.now ≡ proxy ∷ drop (i + 1) c.args.proxies.now = next_at c.args.proxies.now i no_proxy c.loop-proxy-test.true in
     let split : (l : Layout) → AreIntervalsOf g.D.Disk c.loop-proxy.records c.loop-proxy.disk (drop i c.args.proxies.now) l
-    → IsSplit (IsIntervalAt g.D.Disk c.loop-proxy.records c.loop-proxy.disk (place_named proxy) proxy.roots) (AreIntervalsOf g.D.Disk c.loop-proxy.records c.loop-proxy.disk (drop (i + 1) c.args.proxies.now)) l =
+    → IsSplit g.T.Tells.Contents (IsIntervalAt g.D.Disk c.loop-proxy.records c.loop-proxy.disk (place_named proxy) proxy.roots) (AreIntervalsOf g.D.Disk c.loop-proxy.records c.loop-proxy.disk (drop (i + 1) c.args.proxies.now)) l =
     λ l is. split_interval g.D.Disk c.loop-proxy.records c.loop-proxy.records c.loop-proxy.disk c.loop-proxy.disk (λ x h. h) proxy (drop (i + 1) c.args.proxies.now) l (subst (λ (ps : List Proxy). AreIntervalsOf g.D.Disk c.loop-proxy.records c.loop-proxy.disk ps l) d is) in
     let p = err_from_is_err_and c.from_residual.result c.from_residual.ensures.1 in
     rw (p.1, p.2)
@@ -221,7 +233,7 @@ tell_row-loop-proxy-preserved g t c =
     let d : drop i c.args.proxies.now ≡ proxy ∷ drop (i + 1) c.args.proxies.now = next_at c.args.proxies.now i no_proxy c.loop-proxy-test.true in
     let told = c.in_ok-tell_interval.ensures.told in
     let split : IsSome (g.D.Disk.contents c.tell_interval.new.disk) → (l : Layout) → AreIntervalsOf g.D.Disk c.loop-proxy.records c.loop-proxy.disk (drop i c.args.proxies.now) l
-    → IsSplit (IsIntervalAt g.D.Disk c.loop-proxy.records c.loop-proxy.disk (place_named proxy) proxy.roots) (AreIntervalsOf g.D.Disk c.tell_interval.new.records c.tell_interval.new.disk (drop (i + 1) c.args.proxies.now)) l =
+    → IsSplit g.T.Tells.Contents (IsIntervalAt g.D.Disk c.loop-proxy.records c.loop-proxy.disk (place_named proxy) proxy.roots) (AreIntervalsOf g.D.Disk c.tell_interval.new.records c.tell_interval.new.disk (drop (i + 1) c.args.proxies.now)) l =
     λ seen l is. split_interval g.D.Disk c.loop-proxy.records c.tell_interval.new.records c.loop-proxy.disk c.tell_interval.new.disk (told_stands (teller g) {r0 = c.loop-proxy.records} {r1 = c.tell_interval.new.records} told.goes c.in_ok-tell_interval.ensures.stays seen) proxy (drop (i + 1) c.args.proxies.now) l (subst (λ (ps : List Proxy). AreIntervalsOf g.D.Disk c.loop-proxy.records c.loop-proxy.disk ps l) d is) in
     record {
       stays = leaves_add_up c.loop-proxy.invariant.stays c.in_ok-tell_interval.ensures.stays;
@@ -230,45 +242,63 @@ tell_row-loop-proxy-preserved g t c =
 
 pub tell_row-returns-clause-told : goal.tell_row-returns-clause-told
 tell_row-returns-clause-told g t c =
-    way_ends (teller g) c.loop-proxy.invariant.way (λ l is. row_ends (drop c.loop-proxy.proxy-index c.args.proxies.now) l is (drop_all c.loop-proxy.proxy-index c.args.proxies.now (omega arith)))
+    way_ends (teller g) c.loop-proxy.invariant.way (λ l is. row_ends g.T.Tells.Contents (drop c.loop-proxy.proxy-index c.args.proxies.now) l is (drop_all c.loop-proxy.proxy-index c.args.proxies.now (omega arith)))
 
 pub tell_tree-returns-then-spot-eq0-clause-stops : goal.tell_tree-returns-then-spot-eq0-clause-stops
-tell_tree-returns-then-spot-eq0-clause-stops g t c = stops_at_once (teller g) (IsTreeOf g.D.Disk c.args.records.now c.args.disk.now (seen_tree c.args.tree) c.args.proxies.now) c.args.walk.now.teller c.args.disk.now (g.met.T.Tells.asked c.args.walk.now.teller c.args.disk.now c.args.disk.now none_still)
+tell_tree-returns-then-spot-eq0-clause-stops g t c = stops_at_once g.T.Tells.Contents (teller g) (IsTreeOf g.D.Disk c.args.records.now c.args.disk.now (seen_tree c.args.tree) c.args.proxies.now) c.args.walk.now.teller c.args.disk.now (g.met.T.Tells.asked c.args.walk.now.teller c.args.disk.now c.args.disk.now none_still)
 
-pub tell_tree-open-requires : goal.tell_tree-open-requires
-tell_tree-open-requires g t c = root_or_node (deepest + 1 - c.args.spot.depth) (seen_node c.args.tree.node) (c.is_possible.ensures.0 c.if-not-is_possible.false).0
-
-pub tell_tree-returns-in_err-open-clause-stops : goal.tell_tree-returns-in_err-open-clause-stops
-tell_tree-returns-in_err-open-clause-stops g t c =
+pub tell_tree-returns-in_err-begin_node-clause-stops : goal.tell_tree-returns-in_err-begin_node-clause-stops
+tell_tree-returns-in_err-begin_node-clause-stops g t c =
     let p = err_from_is_err_and c.from_residual.result c.from_residual.ensures.1 in
-    rw p.1 (stops_at_once (teller g) (IsTreeOf g.D.Disk c.args.records.now c.args.disk.now (seen_tree c.args.tree) c.args.proxies.now) c.args.walk.now.teller c.args.disk.now (g.met.T.Tells.asked c.args.walk.now.teller c.args.disk.now c.args.disk.now none_still))
+    rw p.1 (node_stops g.T.Tells.Contents (teller g) c.args.records.now (seen_tree c.args.tree) c.args.proxies.now c.begin_node.new.disk c.in_err-begin_node.ensures.stops)
+
+pub tell_tree-returns-in_err-begin_node-clause-refused : goal.tell_tree-returns-in_err-begin_node-clause-refused
+tell_tree-returns-in_err-begin_node-clause-refused g t c =
+    let p = err_from_is_err_and c.from_residual.result c.from_residual.ensures.1 in
+    rw (p.1, p.2)
+    (node_refused g.D.Disk (g.T.Tells.Unwritten c.args.disk.now c.begin_node.new.disk) c.args.records.now c.begin_node.new.records c.args.disk.now c.begin_node.new.disk (seen_tree c.args.tree) c.args.proxies.now c.args.spot.depth c.args.walk.now.left c.args.walk.now.visited c.requires.runs c.in_err-begin_node.field-0.0 c.in_err-begin_node.ensures.refused)
+
+pub tell_tree-tell_items-requires : goal.tell_tree-tell_items-requires
+tell_tree-tell_items-requires g t c =
+    let small = c.requires.small in
+    λ κs le. (omega arith, (le.0, (le.1, ((c.in_ok-begin_node.ensures.stays).ended_stays ∙ c.requires.runs, (omega arith, (c.requires.far.1, (omega arith, (c.requires.fits, c.requires.rooted))))))))
 
 pub tell_tree-returns-in_err-behind-clause-stops : goal.tell_tree-returns-in_err-behind-clause-stops
 tell_tree-returns-in_err-behind-clause-stops g t c =
-    let opened = c.in_ok-open.ensures c.args.disk.now in
+    let begun = c.in_ok-begin_node.ensures in
     let p = err_from_is_err_and c.from_residual-in_err-behind.result c.from_residual-in_err-behind.ensures.1 in
-    rw p.1 (tree_stops (teller g) c.args.records.now (seen_tree c.args.tree) c.args.proxies.now c.open.new.self opened c.args.walk.now.visited c.tell_items.new.disk c.in_err-behind.ensures.stops)
+    rw p.1 (tree_stops g.T.Tells.Contents (teller g) c.args.records.now c.begin_node.new.records (seen_tree c.args.tree) c.args.proxies.now c.begin_node.new.teller c.begin_node.new.disk begun.stays begun.told c.args.walk.now.visited c.tell_items.new.disk c.in_err-behind.ensures.stops)
 
 pub tell_tree-returns-in_err-behind-clause-refused : goal.tell_tree-returns-in_err-behind-clause-refused
 tell_tree-returns-in_err-behind-clause-refused g t c =
-    let opened = c.in_ok-open.ensures c.args.disk.now in
+    let begun = c.in_ok-begin_node.ensures in
     let p = err_from_is_err_and c.from_residual-in_err-behind.result c.from_residual-in_err-behind.ensures.1 in
     rw (p.1, p.2)
-    (tree_refused (teller g) c.args.records.now (seen_tree c.args.tree) c.args.proxies.now c.open.new.self opened c.args.walk.now.visited c.args.spot.depth c.args.walk.now.left (omega arith) c.tell_items.new.records c.tell_items.new.disk c.in_err-behind.field-0.0 c.in_err-behind.ensures.refused)
+    (tree_refused g.T.Tells.Contents (teller g) c.args.records.now c.begin_node.new.records (seen_tree c.args.tree) c.args.proxies.now c.begin_node.new.teller c.begin_node.new.disk begun.stays begun.told c.args.walk.now.visited c.args.spot.depth c.args.walk.now.left (omega arith) c.requires.runs c.tell_items.new.records c.tell_items.new.disk
+    c.in_err-behind.ensures.stops c.in_err-behind.field-0.0 c.in_err-behind.ensures.refused)
 
 pub tell_tree-returns-in_err-close-clause-stops : goal.tell_tree-returns-in_err-close-clause-stops
 tell_tree-returns-in_err-close-clause-stops g t c =
-    let opened = c.in_ok-open.ensures c.args.disk.now in
+    let begun = c.in_ok-begin_node.ensures in
     let has = c.in_ok-behind.ensures.told in
     let p = err_from_is_err_and c.from_residual-in_err-close.result c.from_residual-in_err-close.ensures.1 in
-    rw p.1 (tree_not_closed (teller g) c.args.records.now (seen_tree c.args.tree) c.args.proxies.now c.open.new.self opened c.args.walk.now.visited (c.args.walk.now.left - 1) c.tell_items.new.walk.left c.tell_items.new.walk.teller c.tell_items.new.disk c.tell_items.new.walk.visited has)
+    rw p.1 (tree_not_closed g.T.Tells.Contents (teller g) c.args.records.now c.begin_node.new.records (seen_tree c.args.tree) c.args.proxies.now c.begin_node.new.teller c.begin_node.new.disk begun.stays begun.told c.args.walk.now.visited (c.args.walk.now.left - 1) c.tell_items.new.walk.left c.tell_items.new.walk.teller c.tell_items.new.disk c.tell_items.new.walk.visited has)
+
+pub tell_tree-returns-in_err-close-clause-refused : goal.tell_tree-returns-in_err-close-clause-refused
+tell_tree-returns-in_err-close-clause-refused g t c =
+    let p = err_from_is_err_and c.from_residual-in_err-close.result c.from_residual-in_err-close.ensures.1 in
+    rw (p.1, p.2) (c.requires.runs, leaves_add_up c.in_ok-begin_node.ensures.stays c.in_ok-behind.ensures.stays)
+
+pub tell_tree-returns-clause-stays : goal.tell_tree-returns-clause-stays
+tell_tree-returns-clause-stays g t c = leaves_add_up c.in_ok-begin_node.ensures.stays c.in_ok-behind.ensures.stays
 
 pub tell_tree-returns-clause-told : goal.tell_tree-returns-clause-told
 tell_tree-returns-clause-told g t c =
-    let opened = c.in_ok-open.ensures c.args.disk.now in
+    let begun = c.in_ok-begin_node.ensures in
     let has = c.in_ok-behind.ensures.told in
     let closed = c.in_ok-close.ensures c.tell_items.new.disk in
-    tree_told (teller g) c.args.records.now (seen_tree c.args.tree) c.args.proxies.now c.open.new.self opened c.args.walk.now.visited c.args.walk.now.left c.tell_items.new.walk.left c.tell_items.new.walk.teller c.close.new.self c.tell_items.new.disk c.tell_items.new.walk.visited has closed (omega arith)
+    tree_told g.T.Tells.Contents (teller g) c.args.records.now c.begin_node.new.records (seen_tree c.args.tree) c.args.proxies.now c.begin_node.new.teller c.begin_node.new.disk begun.stays begun.told c.args.walk.now.visited c.args.walk.now.left c.tell_items.new.walk.left c.tell_items.new.walk.teller c.close.new.self
+    c.tell_items.new.disk c.tell_items.new.walk.visited has closed (omega arith)
 
 pub tell_interval-loop-item-init : goal.tell_interval-loop-item-init
 tell_interval-loop-item-init g t c =
@@ -280,11 +310,13 @@ tell_interval-loop-item-init g t c =
     record {
       stays = c.in_ok-piece.ensures.stays.1;
       trees = subst AreTrees (sym roots) valid.body.trees;
+      far = subst AreFar (sym roots) valid.body.far;
+      small = let few : gapped_size c.in_ok-piece.piece.body.roots ≤ 256 = valid.body.small in let a = ap gapped_size roots in omega arith;
       fits = let counted : proxies_in c.in_ok-piece.piece.body.roots ≡ length c.in_ok-piece.piece.proxies = valid.body.counted in let a = ap proxies_in roots in let b = ap length proxies in omega arith;
       rooted = subst HaveRoots (sym proxies) valid.ranged;
-      way = subst (λ (f : Gapped). IsOnWay g.D.Disk g.T.Tells.Told (IsIntervalAt g.D.Disk c.args.records.now c.args.disk.now (place_of c.args.rid) c.args.roots) (AreOf g.D.Disk c.piece_at.new.records c.piece_at.new.disk f c.as_slice-proxies.result.now) c.args.walk.now.teller c.args.disk.now c.args.walk.now.left c.args.walk.now.visited c.begin.new.self c.piece_at.new.disk c.args.walk.now.left c.visit.new.self) (sym roots)
-          (subst (λ (ps : List Proxy). IsOnWay g.D.Disk g.T.Tells.Told (IsIntervalAt g.D.Disk c.args.records.now c.args.disk.now (place_of c.args.rid) c.args.roots) (AreOf g.D.Disk c.piece_at.new.records c.piece_at.new.disk c.in_ok-piece.piece.body.roots ps) c.args.walk.now.teller c.args.disk.now c.args.walk.now.left c.args.walk.now.visited c.begin.new.self c.piece_at.new.disk c.args.walk.now.left c.visit.new.self) (sym proxies)
-          (interval_begins (teller g) c.args.records.now c.piece_at.new.records (place_of c.args.rid) c.args.roots paused c.piece_at.ensures.still c.args.walk.now.left _ c.args.walk.now.visited c.visit.new.self c.in_ok-piece.piece c.begin.new.self visits c.in_ok-piece.ensures.stays.1 c.in_ok-piece.ensures.ok (ap (λ (p : Piece). gapped_weight p.body.roots) c.piece.view_is) (c.in_ok-begin.ensures c.piece_at.new.disk)));
+      way = subst (λ (f : Gapped). IsOnWay g.D.Disk g.T.Tells.Contents g.T.Tells.Told (IsIntervalAt g.D.Disk c.args.records.now c.args.disk.now (place_of c.args.rid) c.args.roots) (AreOf g.D.Disk c.piece_at.new.records c.piece_at.new.disk f c.as_slice-proxies.result.now) c.args.walk.now.teller c.args.disk.now c.args.walk.now.left c.args.walk.now.visited c.begin.new.self c.piece_at.new.disk c.args.walk.now.left c.visit.new.self) (sym roots)
+          (subst (λ (ps : List Proxy). IsOnWay g.D.Disk g.T.Tells.Contents g.T.Tells.Told (IsIntervalAt g.D.Disk c.args.records.now c.args.disk.now (place_of c.args.rid) c.args.roots) (AreOf g.D.Disk c.piece_at.new.records c.piece_at.new.disk c.in_ok-piece.piece.body.roots ps) c.args.walk.now.teller c.args.disk.now c.args.walk.now.left c.args.walk.now.visited c.begin.new.self c.piece_at.new.disk c.args.walk.now.left c.visit.new.self) (sym proxies)
+          (interval_begins g.T.Tells.Contents (teller g) c.args.records.now c.piece_at.new.records (place_of c.args.rid) c.args.roots paused c.piece_at.ensures.still c.args.walk.now.left _ c.args.walk.now.visited c.visit.new.self c.in_ok-piece.piece c.begin.new.self visits c.in_ok-piece.ensures.stays.1 c.in_ok-piece.ensures.ok (ap (λ (p : Piece). gapped_weight p.body.roots) c.piece.view_is) (c.in_ok-begin.ensures c.piece_at.new.disk)));
     }
 
 pub tell_interval-loop-item-preserved-in_ok-proxies : goal.tell_interval-loop-item-preserved-in_ok-proxies
@@ -295,22 +327,24 @@ tell_interval-loop-item-preserved-in_ok-proxies g t c =
     let told = c.in_ok-proxies.ensures.told in
     let behind : drop (proxies_in root.below) c.loop-item.proxies.now ≡ c.in_ok-proxies.proxies.now = sym c.in_ok-proxies.ensures.behind in
     let split : IsSome (g.D.Disk.contents c.tell_tree.new.disk) → (l : Layout) → AreOf g.D.Disk c.loop-item.records c.loop-item.disk (seen_items c.loop-item.items) c.loop-item.proxies.now l
-    → IsSplit (IsTreeOf g.D.Disk c.loop-item.records c.loop-item.disk root c.loop-item.proxies.now) (AreOf g.D.Disk c.tell_tree.new.records c.tell_tree.new.disk items (drop (proxies_in root.below) c.loop-item.proxies.now)) l =
+    → IsSplit g.T.Tells.Contents (IsTreeOf g.D.Disk c.loop-item.records c.loop-item.disk root c.loop-item.proxies.now) (AreOf g.D.Disk c.tell_tree.new.records c.tell_tree.new.disk items (drop (proxies_in root.below) c.loop-item.proxies.now)) l =
     λ seen l is. split_tree g.D.Disk c.loop-item.records c.tell_tree.new.records c.loop-item.disk c.tell_tree.new.disk (told_stands (teller g) {r0 = c.loop-item.records} {r1 = c.tell_tree.new.records} told.goes c.in_ok-proxies.ensures.stays seen) root items c.loop-item.proxies.now l
     (subst (λ f. AreOf g.D.Disk c.loop-item.records c.loop-item.disk f c.loop-item.proxies.now l) e is) in
     record {
       stays = leaves_add_up c.loop-item.invariant.stays c.in_ok-proxies.ensures.stays;
       trees = let trees : AreTrees (Grow root.node root.below items) = subst AreTrees e c.loop-item.invariant.trees in trees;
+      far = let far : AreFar (Grow root.node root.below items) = subst AreFar e c.loop-item.invariant.far in far.2;
+      small = let small = c.loop-item.invariant.small in let sizes = ap gapped_size e in omega arith;
       fits = let fits : proxies_in (seen_items c.loop-item.items) ≤ length c.loop-item.proxies.now = c.loop-item.invariant.fits in
           enough_left c.loop-item.proxies.now c.in_ok-proxies.proxies.now (proxies_in root.below) (proxies_in items) (proxies_in (seen_items c.loop-item.items)) (sym behind) (sym (ap proxies_in e)) fits;
       rooted = subst HaveRoots behind (ranged_drop (proxies_in root.below) c.loop-item.proxies.now c.loop-item.invariant.rooted);
-      way = subst (λ (ps : List Proxy). IsOnWay g.D.Disk g.T.Tells.Told (IsIntervalAt g.D.Disk c.args.records.now c.args.disk.now (place_of c.args.rid) c.args.roots) (AreOf g.D.Disk c.tell_tree.new.records c.tell_tree.new.disk items ps) c.args.walk.now.teller c.args.disk.now c.args.walk.now.left c.args.walk.now.visited
+      way = subst (λ (ps : List Proxy). IsOnWay g.D.Disk g.T.Tells.Contents g.T.Tells.Told (IsIntervalAt g.D.Disk c.args.records.now c.args.disk.now (place_of c.args.rid) c.args.roots) (AreOf g.D.Disk c.tell_tree.new.records c.tell_tree.new.disk items ps) c.args.walk.now.teller c.args.disk.now c.args.walk.now.left c.args.walk.now.visited
           c.tell_tree.new.walk.teller c.tell_tree.new.disk c.tell_tree.new.walk.left c.tell_tree.new.walk.visited) behind
           (way_goes_on (teller g) c.loop-item.invariant.way (AreOf g.D.Disk c.tell_tree.new.records c.tell_tree.new.disk items (drop (proxies_in root.below) c.loop-item.proxies.now)) c.tell_tree.new.walk.teller c.tell_tree.new.disk c.tell_tree.new.walk.left c.tell_tree.new.walk.visited told split);
     }
 
 pub tell_items-loop-item-init : goal.tell_items-loop-item-init
-tell_items-loop-item-init g t c = record { stays = leaves_same refl; passed = (0, refl, omega arith); way = way_begins (teller g) }
+tell_items-loop-item-init g t c = record { stays = leaves_same refl; far = c.requires.far; small = c.requires.small; passed = (0, refl, omega arith); way = way_begins (teller g) }
 
 pub tell_items-loop-item-preserved-in_ok-rest-in-Tree : goal.tell_items-loop-item-preserved-in_ok-rest-in-Tree
 tell_items-loop-item-preserved-in_ok-rest-in-Tree g t c =
@@ -323,13 +357,15 @@ tell_items-loop-item-preserved-in_ok-rest-in-Tree g t c =
     let same = ap proxies_in e in
     let sum = passed.2 in
     let split : IsSome (g.D.Disk.contents c.tell_tree.new.disk) → (l : Layout) → AreOf g.D.Disk c.loop-item.records c.loop-item.disk (seen_items c.loop-item.left) c.loop-item.rest.now l
-    → IsSplit (IsTreeOf g.D.Disk c.loop-item.records c.loop-item.disk tree c.loop-item.rest.now) (AreOf g.D.Disk c.tell_tree.new.records c.tell_tree.new.disk items (drop (proxies_in tree.below) c.loop-item.rest.now)) l =
+    → IsSplit g.T.Tells.Contents (IsTreeOf g.D.Disk c.loop-item.records c.loop-item.disk tree c.loop-item.rest.now) (AreOf g.D.Disk c.tell_tree.new.records c.tell_tree.new.disk items (drop (proxies_in tree.below) c.loop-item.rest.now)) l =
     λ seen l is. split_tree g.D.Disk c.loop-item.records c.tell_tree.new.records c.loop-item.disk c.tell_tree.new.disk (told_stands (teller g) {r0 = c.loop-item.records} {r1 = c.tell_tree.new.records} told.goes c.in_ok-rest-in-Tree.ensures.stays seen) tree items c.loop-item.rest.now l
     (subst (λ f. AreOf g.D.Disk c.loop-item.records c.loop-item.disk f c.loop-item.rest.now l) e is) in
     record {
       stays = leaves_add_up c.loop-item.invariant.stays c.in_ok-rest-in-Tree.ensures.stays;
+      far = let far : AreFar (Grow tree.node tree.below items) = subst AreFar e c.loop-item.invariant.far in far.2;
+      small = let small = c.loop-item.invariant.small in let sizes = ap gapped_size e in omega arith;
       passed = (passed.0 + proxies_in tree.below, sym behind ∙ dropped_twice c.args.proxies.now c.loop-item.rest.now passed.0 (proxies_in tree.below) passed.1, omega arith);
-      way = subst (λ (ps : List Proxy). IsOnWay g.D.Disk g.T.Tells.Told (AreOf g.D.Disk c.args.records.now c.args.disk.now (seen_items c.args.items) c.args.proxies.now) (AreOf g.D.Disk c.tell_tree.new.records c.tell_tree.new.disk items ps)
+      way = subst (λ (ps : List Proxy). IsOnWay g.D.Disk g.T.Tells.Contents g.T.Tells.Told (AreOf g.D.Disk c.args.records.now c.args.disk.now (seen_items c.args.items) c.args.proxies.now) (AreOf g.D.Disk c.tell_tree.new.records c.tell_tree.new.disk items ps)
           c.args.walk.now.teller c.args.disk.now c.args.walk.now.left c.args.walk.now.visited c.tell_tree.new.walk.teller c.tell_tree.new.disk c.tell_tree.new.walk.left c.tell_tree.new.walk.visited) behind
           (way_goes_on (teller g) c.loop-item.invariant.way (AreOf g.D.Disk c.tell_tree.new.records c.tell_tree.new.disk items (drop (proxies_in tree.below) c.loop-item.rest.now)) c.tell_tree.new.walk.teller c.tell_tree.new.disk c.tell_tree.new.walk.left c.tell_tree.new.walk.visited told split);
     }
@@ -339,19 +375,21 @@ tell_items-loop-item-preserved g t c =
     let items = seen_items c.in-Some.beside in
     let passed = c.loop-item.invariant.passed in
     let e : seen_items c.loop-item.left ≡ Gap c.in-Run.count items = c.in-Some.ensures ∙ ap (λ (item : ItemView). begun_with item items) c.in-Run.is in
-    let told = subst (λ (ps : List Proxy). HasTold g.D.Disk g.T.Tells.Told (AreIntervalsOf g.D.Disk c.loop-item.records c.loop-item.disk ps) c.loop-item.walk.teller c.loop-item.disk c.loop-item.walk.left c.loop-item.walk.visited c.tell_row.new.walk.teller c.tell_row.new.disk c.tell_row.new.walk.left c.tell_row.new.walk.visited)
+    let told = subst (λ (ps : List Proxy). HasTold g.D.Disk g.T.Tells.Contents g.T.Tells.Told (AreIntervalsOf g.D.Disk c.loop-item.records c.loop-item.disk ps) c.loop-item.walk.teller c.loop-item.disk c.loop-item.walk.left c.loop-item.walk.visited c.tell_row.new.walk.teller c.tell_row.new.disk c.tell_row.new.walk.left c.tell_row.new.walk.visited)
     c.split_at.ensures.front c.in_ok-tell_row-in-Run.ensures.told in
     let behind : drop c.in-Run.count c.loop-item.rest.now ≡ c.split_at.result.1.now = sym c.split_at.ensures.back in
     let same = ap proxies_in e in
     let sum = passed.2 in
     let split : IsSome (g.D.Disk.contents c.tell_row.new.disk) → (l : Layout) → AreOf g.D.Disk c.loop-item.records c.loop-item.disk (seen_items c.loop-item.left) c.loop-item.rest.now l
-    → IsSplit (AreIntervalsOf g.D.Disk c.loop-item.records c.loop-item.disk (take c.in-Run.count c.loop-item.rest.now)) (AreOf g.D.Disk c.tell_row.new.records c.tell_row.new.disk items (drop c.in-Run.count c.loop-item.rest.now)) l =
+    → IsSplit g.T.Tells.Contents (AreIntervalsOf g.D.Disk c.loop-item.records c.loop-item.disk (take c.in-Run.count c.loop-item.rest.now)) (AreOf g.D.Disk c.tell_row.new.records c.tell_row.new.disk items (drop c.in-Run.count c.loop-item.rest.now)) l =
     λ seen l is. split_row g.D.Disk c.loop-item.records c.tell_row.new.records c.loop-item.disk c.tell_row.new.disk (told_stands (teller g) {r0 = c.loop-item.records} {r1 = c.tell_row.new.records} told.goes c.in_ok-tell_row-in-Run.ensures.stays seen) c.in-Run.count items c.loop-item.rest.now l
     (subst (λ f. AreOf g.D.Disk c.loop-item.records c.loop-item.disk f c.loop-item.rest.now l) e is) in
     record {
       stays = leaves_add_up c.loop-item.invariant.stays c.in_ok-tell_row-in-Run.ensures.stays;
+      far = let far : AreFar (Gap c.in-Run.count items) = subst AreFar e c.loop-item.invariant.far in far;
+      small = let small = c.loop-item.invariant.small in let sizes = ap gapped_size e in omega arith;
       passed = (passed.0 + c.in-Run.count, sym behind ∙ dropped_twice c.args.proxies.now c.loop-item.rest.now passed.0 c.in-Run.count passed.1, omega arith);
-      way = subst (λ (ps : List Proxy). IsOnWay g.D.Disk g.T.Tells.Told (AreOf g.D.Disk c.args.records.now c.args.disk.now (seen_items c.args.items) c.args.proxies.now) (AreOf g.D.Disk c.tell_row.new.records c.tell_row.new.disk items ps)
+      way = subst (λ (ps : List Proxy). IsOnWay g.D.Disk g.T.Tells.Contents g.T.Tells.Told (AreOf g.D.Disk c.args.records.now c.args.disk.now (seen_items c.args.items) c.args.proxies.now) (AreOf g.D.Disk c.tell_row.new.records c.tell_row.new.disk items ps)
           c.args.walk.now.teller c.args.disk.now c.args.walk.now.left c.args.walk.now.visited c.tell_row.new.walk.teller c.tell_row.new.disk c.tell_row.new.walk.left c.tell_row.new.walk.visited) behind
           (way_goes_on (teller g) c.loop-item.invariant.way (AreOf g.D.Disk c.tell_row.new.records c.tell_row.new.disk items (drop c.in-Run.count c.loop-item.rest.now)) c.tell_row.new.walk.teller c.tell_row.new.disk c.tell_row.new.walk.left c.tell_row.new.walk.visited told split);
     }
@@ -359,11 +397,11 @@ tell_items-loop-item-preserved g t c =
 pub tell_interval-returns-in_err-visit-clause-stops : goal.tell_interval-returns-in_err-visit-clause-stops
 tell_interval-returns-in_err-visit-clause-stops g t c =
     let p = err_from_is_err_and c.from_residual-in_err-visit.result c.from_residual-in_err-visit.ensures.1 in
-    rw p.1 (stops_at_once (teller g) (IsIntervalAt g.D.Disk c.args.records.now c.args.disk.now (place_of c.args.rid) c.args.roots) c.pause.new.self c.pause.new.disk c.in_ok-pause.ensures.ok)
+    rw p.1 (stops_at_once g.T.Tells.Contents (teller g) (IsIntervalAt g.D.Disk c.args.records.now c.args.disk.now (place_of c.args.rid) c.args.roots) c.pause.new.self c.pause.new.disk c.in_ok-pause.ensures.ok)
 
 pub tell_interval-returns-then-not-branch-clause-stops : goal.tell_interval-returns-then-not-branch-clause-stops
 tell_interval-returns-then-not-branch-clause-stops g t c =
-    stops_at_once (teller g) (IsIntervalAt g.D.Disk c.args.records.now c.args.disk.now (place_of c.args.rid) c.args.roots) c.pause.new.self c.pause.new.disk c.in_ok-pause.ensures.ok
+    stops_at_once g.T.Tells.Contents (teller g) (IsIntervalAt g.D.Disk c.args.records.now c.args.disk.now (place_of c.args.rid) c.args.roots) c.pause.new.self c.pause.new.disk c.in_ok-pause.ensures.ok
 
 pub tell_interval-returns-then-not-branch-clause-refused : goal.tell_interval-returns-then-not-branch-clause-refused
 tell_interval-returns-then-not-branch-clause-refused g t c =
@@ -385,7 +423,7 @@ tell_tree-returns-then-spot-eq0-clause-refused g t c =
 
 pub tell_tree-returns-then-not-is_possible-clause-stops : goal.tell_tree-returns-then-not-is_possible-clause-stops
 tell_tree-returns-then-not-is_possible-clause-stops g t c =
-    stops_at_once (teller g) (IsTreeOf g.D.Disk c.args.records.now c.args.disk.now (seen_tree c.args.tree) c.args.proxies.now) c.args.walk.now.teller c.args.disk.now ((teller g).asked c.args.walk.now.teller c.args.disk.now c.args.disk.now none_still)
+    stops_at_once g.T.Tells.Contents (teller g) (IsTreeOf g.D.Disk c.args.records.now c.args.disk.now (seen_tree c.args.tree) c.args.proxies.now) c.args.walk.now.teller c.args.disk.now ((teller g).asked c.args.walk.now.teller c.args.disk.now c.args.disk.now none_still)
 
 pub tell_tree-returns-then-not-is_possible-clause-refused : goal.tell_tree-returns-then-not-is_possible-clause-refused
 tell_tree-returns-then-not-is_possible-clause-refused g t c =

@@ -1,8 +1,8 @@
 use Rattle.std.proofs.Common.{◌≡◌, ◌+◌, ◌*◌, ◌≤◌, ℕ, drop, length}
 use Rattle.nx_records.specs.Records.{LeavesRecords}
-use Rattle.nx_piece.specs.Gapped.{item_count, proxies_in}
+use Rattle.nx_piece.specs.Gapped.{gapped_size, item_count, proxies_in}
 use Rattle.nx_piece.specs.Viewing.{seen_items}
-use Rattle.nx_piece.specs.Valid.{AreTrees, HaveRoots}
+use Rattle.nx_piece.specs.Valid.{AreFar, AreTrees, HaveRoots}
 use Rattle.nx_hold.specs.Changes.{place_of}
 use Rattle.nx_nav.specs.Walk.{IsIntervalAt, AreOf, AreIntervalsOf}
 use Rattle.nx_nav.proofs.WayLemmas.{IsOnWay}
@@ -25,9 +25,11 @@ invariant-tell_interval-loop-item g l =
     record {
       stays : LeavesRecords l.fn.records l.records;
       trees : AreTrees (seen_items l.items);
+      far : AreFar (seen_items l.items);
+      small : gapped_size (seen_items l.items) ≤ 256;
       fits : proxies_in (seen_items l.items) ≤ length l.proxies;
       rooted : HaveRoots l.proxies;
-      way : IsOnWay g.D.Disk g.T.Tells.Told (IsIntervalAt g.D.Disk l.fn.records l.fn.disk (place_of l.fn.rid) l.fn.roots) (AreOf g.D.Disk l.records l.disk (seen_items l.items) l.proxies)
+      way : IsOnWay g.D.Disk g.T.Tells.Contents g.T.Tells.Told (IsIntervalAt g.D.Disk l.fn.records l.fn.disk (place_of l.fn.rid) l.fn.roots) (AreOf g.D.Disk l.records l.disk (seen_items l.items) l.proxies)
           l.fn.walk.teller l.fn.disk l.fn.walk.left l.fn.walk.visited l.walk.teller l.disk l.walk.left l.walk.visited;
     }
 
@@ -38,8 +40,10 @@ abbrev pub invariant-tell_items-loop-item : goal.invariant-tell_items-loop-item
 invariant-tell_items-loop-item g l =
     record {
       stays : LeavesRecords l.fn.records l.records;
+      far : AreFar (seen_items l.left);
+      small : gapped_size (seen_items l.left) ≤ 256;
       passed : (n : ℕ) × (l.rest ≡ drop n l.proxies) × (n + proxies_in (seen_items l.left) ≡ proxies_in (seen_items l.items));
-      way : IsOnWay g.D.Disk g.T.Tells.Told (AreOf g.D.Disk l.fn.records l.fn.disk (seen_items l.items) l.proxies) (AreOf g.D.Disk l.records l.disk (seen_items l.left) l.rest)
+      way : IsOnWay g.D.Disk g.T.Tells.Contents g.T.Tells.Told (AreOf g.D.Disk l.fn.records l.fn.disk (seen_items l.items) l.proxies) (AreOf g.D.Disk l.records l.disk (seen_items l.left) l.rest)
           l.fn.walk.teller l.fn.disk l.fn.walk.left l.fn.walk.visited l.walk.teller l.disk l.walk.left l.walk.visited;
     }
 
@@ -50,6 +54,6 @@ abbrev pub invariant-tell_row-loop-proxy : goal.invariant-tell_row-loop-proxy
 invariant-tell_row-loop-proxy g l =
     record {
       stays : LeavesRecords l.fn.records l.records;
-      way : IsOnWay g.D.Disk g.T.Tells.Told (AreIntervalsOf g.D.Disk l.fn.records l.fn.disk l.proxies) (AreIntervalsOf g.D.Disk l.records l.disk (drop l.proxy-index l.proxies))
+      way : IsOnWay g.D.Disk g.T.Tells.Contents g.T.Tells.Told (AreIntervalsOf g.D.Disk l.fn.records l.fn.disk l.proxies) (AreIntervalsOf g.D.Disk l.records l.disk (drop l.proxy-index l.proxies))
           l.fn.walk.teller l.fn.disk l.fn.walk.left l.fn.walk.visited l.walk.teller l.disk l.walk.left l.walk.visited;
     }

@@ -27,7 +27,7 @@ returns-then-is_ended-clause-stops g c = record {
   told = [];
   last = c.args.walk.now.teller;
   goes = g.met.T.Tells.asked c.args.walk.now.teller c.args.disk.now c.args.disk.now none_still;
-  first = λ seen document h. (steps_of document, refl);
+  first = λ seen document h. (steps_of g.T.Tells.Contents document, refl);
 }
 
 pub returns-in_err-tell_interval-clause-stops : goal.returns-in_err-tell_interval-clause-stops

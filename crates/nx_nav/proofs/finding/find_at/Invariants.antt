@@ -2,7 +2,7 @@ use Rattle.std.proofs.Common.{◌≡◌, true, length}
 use Rattle.nx_hold.specs.Changes.{place_of}
 use Rattle.nx_nav.proofs.BesideLemmas.{IsSeekingBelow}
 use Rattle.nx_nav.proofs.RouteLemmas.{HasPassed}
-use Rattle.nx_nav.proofs.finding.show_at.Given as goal
+use Rattle.nx_nav.proofs.finding.find_at.Given as goal
 
 abbrev pub invariant-loop-bytes : goal.invariant-loop-bytes
 invariant-loop-bytes g l =

@@ -1,0 +1,88 @@
+use Rattle.std.proofs.Common.{ℕ, List, [], ◌∷◌, refl, sym, ◌∙◌, subst}
+use Rattle.std.proofs.lemmas.Result.{err_from_is_err_and}
+use Rattle.nx_records.specs.Changes.{LacksList}
+use Rattle.nx_records.specs.Reading.{Opens}
+use Rattle.nx_records.specs.Refusals.{NotRead}
+use Rattle.nx_records.proofs.LeaveLemmas.{leaves_same, leaves_add_up}
+use Rattle.nx_nav.specs.Steps.{Block}
+use Rattle.nx_nav.proofs.WayLemmas.{IsTeller}
+use Rattle.nx_nav.proofs.ContentLemmas.{list_refused, node_stops_at_once, telling_begins, telling_pauses, telling_later, telling_goes_on, telling_ends, telling_stops, block_refused, not_written}
+use Rattle.nx_nav.proofs.telling_content.tell_far.Given.{Over}
+use Rattle.nx_nav.proofs.telling_content.tell_far.Goals as goal
+
+teller : (g : Over) → IsTeller g.D.Disk g.T.Tells.Told g.T.Tells.Unwritten
+teller g = record {
+  asked = g.met.T.Tells.asked;
+  join = g.met.T.Tells.then;
+  keeps = g.met.T.Tells.keeps;
+  fewer = g.met.T.Tells.fewer_images;
+  faults = g.met.T.Tells.faults_later;
+  unwritten = g.met.T.Tells.unwritten_later;
+}
+
+pub returns-in-Err-clause-stops : goal.returns-in-Err-clause-stops
+returns-in-Err-clause-stops g c = node_stops_at_once (teller g)
+
+pub returns-in-Err-clause-refused : goal.returns-in-Err-clause-refused
+returns-in-Err-clause-refused g c =
+    list_refused g.D.Disk c.args.far c.args.far.first c.args.records.now c.open_list.new.self c.args.disk.now c.args.disk.now (g.T.Tells.Unwritten c.args.disk.now c.args.disk.now) c.args.disk.now c.in-Err.error c.passed_on.result c.passed_on.ensures
+    (subst (λ (n : ℕ). NotRead g.D.Disk (λ now. LacksList now c.args.far.first n) c.args.far.first c.in-Err.error c.args.records.now c.open_list.new.self c.args.disk.now c.args.disk.now) c.from.ensures c.in-Err.ensures.refused)
+
+pub loop-alloc-init : goal.loop-alloc-init
+loop-alloc-init g c =
+    let ok = c.in-Ok.ensures.ok in
+    record { stays = leaves_same ok.1; telling = telling_begins (teller g) c.in-Ok.reader ok.1 (subst (λ (n : ℕ). Opens c.in-Ok.reader c.args.far.first n) c.from.ensures ok.2) }
+
+pub returns-in_err-pause-clause-stops : goal.returns-in_err-pause-clause-stops
+returns-in_err-pause-clause-stops g c =
+    let last = c.in_err-pause.ensures.err.2 in
+    let p = err_from_is_err_and c.from_residual.result c.from_residual.ensures.1 in
+    rw p.1 (telling_stops (teller g) (telling_pauses (teller g) c.loop-alloc.invariant.telling last.1))
+
+pub returns-in_err-pause-clause-refused : goal.returns-in_err-pause-clause-refused
+returns-in_err-pause-clause-refused g c =
+    let err = c.in_err-pause.ensures.err in
+    let p = err_from_is_err_and c.from_residual.result c.from_residual.ensures.1 in
+    rw (p.1, p.2) (not_written (teller g) c.loop-alloc.invariant.telling c.pause.new.disk c.requires.runs c.loop-alloc.invariant.stays c.in_err-pause.field-0.0 err.0 err.1)
+
+pub block_behind-requires-clause-runs : goal.block_behind-requires-clause-runs
+block_behind-requires-clause-runs g c = (c.loop-alloc.invariant.stays).ended_stays ∙ c.requires.runs
+
+pub returns-in_err-block-clause-stops : goal.returns-in_err-block-clause-stops
+returns-in_err-block-clause-stops g c =
+    let paused = telling_pauses (teller g) c.loop-alloc.invariant.telling c.in_ok-pause.ensures.ok in
+    let p = err_from_is_err_and c.from_residual-in_err-block.result c.from_residual-in_err-block.ensures.1 in
+    rw p.1 (telling_stops (teller g) (telling_later (teller g) paused {r2 = c.loop-alloc.records} (leaves_same refl) c.block_behind.ensures.still))
+
+pub returns-in_err-block-clause-refused : goal.returns-in_err-block-clause-refused
+returns-in_err-block-clause-refused g c =
+    let paused = telling_pauses (teller g) c.loop-alloc.invariant.telling c.in_ok-pause.ensures.ok in
+    let p = err_from_is_err_and c.from_residual-in_err-block.result c.from_residual-in_err-block.ensures.1 in
+    rw (p.1, p.2)
+    (block_refused (teller g) paused c.block_behind.new.records c.block_behind.new.disk c.requires.runs c.loop-alloc.invariant.stays c.block_behind.ensures.still c.in_err-block.field-0.0 c.in_err-block.ensures.refused)
+
+pub returns-in_err-content-clause-stops : goal.returns-in_err-content-clause-stops
+returns-in_err-content-clause-stops g c =
+    let paused = telling_pauses (teller g) c.loop-alloc.invariant.telling c.in_ok-pause.ensures.ok in
+    let p = err_from_is_err_and c.from_residual-in_err-content.result c.from_residual-in_err-content.ensures.1 in
+    rw p.1 (telling_stops (teller g) (telling_later (teller g) paused {r2 = c.loop-alloc.records} (leaves_same refl) c.block_behind.ensures.still))
+
+pub returns-in_err-content-clause-refused : goal.returns-in_err-content-clause-refused
+returns-in_err-content-clause-refused g c =
+    let p = err_from_is_err_and c.from_residual-in_err-content.result c.from_residual-in_err-content.ensures.1 in
+    rw (p.1, p.2) (c.requires.runs, leaves_add_up c.loop-alloc.invariant.stays c.in_ok-block.ensures.stays)
+
+pub loop-alloc-preserved : goal.loop-alloc-preserved
+loop-alloc-preserved g c =
+    let paused = telling_pauses (teller g) c.loop-alloc.invariant.telling c.in_ok-pause.ensures.ok in
+    record {
+      stays = leaves_add_up c.loop-alloc.invariant.stays c.in_ok-block.ensures.stays;
+      telling = telling_goes_on (teller g) paused c.in_ok-block.block (λ none. c.loop-alloc-test.true (c.left.ensures ∙ none)) c.in_ok-block.ensures.stays c.block_behind.ensures.still c.in_ok-block.ensures.block c.in_ok-block.ensures.stood
+          (subst (λ (bytes : List ℕ). g.T.Tells.Told c.pause.new.self c.block_behind.new.disk (Block bytes ∷ []) c.content.new.self c.block_behind.new.disk) c.as_slice.ensures (c.in_ok-content.ensures c.block_behind.new.disk));
+    }
+
+pub returns-clause-stays : goal.returns-clause-stays
+returns-clause-stays g c = c.loop-alloc.invariant.stays
+
+pub returns-clause-told : goal.returns-clause-told
+returns-clause-told g c = telling_ends (teller g) c.loop-alloc.invariant.telling (sym c.left.ensures ∙ c.loop-alloc-test.false)
