@@ -7,19 +7,25 @@ use Rattle.nx_layouts.specs.Layout.{RecordPlace, ArePlacedOnce}
 use Rattle.nx_layouts.proofs.PlaceLemmas.{no_place, one_place, first_among, later_among, is_among, between_cases, among_between, out_of_between, once-between, once-append}
 use Rattle.nx_hold.specs.Pieces.{record_at}
 use Rattle.nx_hold.specs.Documents.{HaveSame, MovesRecords, AddsRecords}
-use Rattle.nx_hold.proofs.MoveLemmas.{moves_add_up, moves_beside, moves_same}
+use Rattle.nx_hold.proofs.MoveLemmas.{moves_add_up, moves_beside, moves_same, same_self}
 use Rattle.nx_hold.proofs.RecordsLemmas.{not_none}
 use Rattle.nx_edit.proofs.ThroughLemmas.{swapped, same_swapped}
 
+-- Records moved, and lists of contents came, and then records moved again:
+
+pub moves_then : (gone between come : List RecordPlace) (brought : List ℕ) (needs then : ℕ) (was mid now : Held) → MovesRecords gone between [] brought needs was mid → MovesRecords between come [] [] then mid now → MovesRecords gone come [] brought (needs + then) was now
+moves_then gone between come brought needs then was mid now one two =
+    subst (λ (ls : List ℕ). MovesRecords gone come [] ls (needs + then) was now) (append-nil brought) (moves_add_up gone between come [] [] brought [] needs then was mid now one two)
+
 -- One record more came behind those that moved:
 
-pub adds_behind : (gone come : List RecordPlace) (place : RecordPlace) (needs then : ℕ) (was mid now : Held) → MovesRecords gone come needs was mid → AddsRecords (place ∷ []) then mid now → MovesRecords gone (come ++ place ∷ []) (needs + then) was now
-adds_behind gone come place needs then was mid now one two =
-    let later : MovesRecords (come ++ []) (come ++ place ∷ []) then mid now = moves_beside come [] (place ∷ []) then mid now one.came (λ other gone among. no_place other gone) two in
-    moves_add_up gone come (come ++ place ∷ []) needs then was mid now one (subst (λ (ps : List RecordPlace). MovesRecords ps (come ++ place ∷ []) then mid now) (append-nil come) later)
+pub adds_behind : (gone come : List RecordPlace) (place : RecordPlace) (brought : List ℕ) (needs then : ℕ) (was mid now : Held) → MovesRecords gone come [] brought needs was mid → AddsRecords (place ∷ []) [] then mid now → MovesRecords gone (come ++ place ∷ []) [] brought (needs + then) was now
+adds_behind gone come place brought needs then was mid now one two =
+    let later : MovesRecords (come ++ []) (come ++ place ∷ []) [] [] then mid now = moves_beside come [] (place ∷ []) [] [] then mid now one.came (λ other gone among. no_place other gone) two in
+    moves_then gone come (come ++ place ∷ []) brought needs then was mid now one (subst (λ (ps : List RecordPlace). MovesRecords ps (come ++ place ∷ []) [] [] then mid now) (append-nil come) later)
 
-pub once_behind : (gone come : List RecordPlace) (place : RecordPlace) (needs then : ℕ) (was mid now : Held) → MovesRecords gone come needs was mid → AddsRecords (place ∷ []) then mid now → ArePlacedOnce come → ArePlacedOnce (come ++ place ∷ [])
-once_behind gone come place needs then was mid now one two once =
+pub once_behind : (gone come : List RecordPlace) (place : RecordPlace) (brought : List ℕ) (needs then : ℕ) (was mid now : Held) → MovesRecords gone come [] brought needs was mid → AddsRecords (place ∷ []) [] then mid now → ArePlacedOnce come → ArePlacedOnce (come ++ place ∷ [])
+once_behind gone come place brought needs then was mid now one two once =
     once-append come (place ∷ []) once (no_place place, tt)
     (λ other came last. not_none (record_at mid other) (one.came other came) (two.fresh other last (λ none. no_place other none)))
 
@@ -33,11 +39,9 @@ same_turned one two three p = (turn two three, turn three two)
       | inr rest ↦ later_among one (y ∷ x ∷ []) p (swapped (x ∷ []) (y ∷ []) p rest)
     ]
 
-same_self : (places : List RecordPlace) → HaveSame places places
-same_self places p = (λ h. h, λ h. h)
-
-pub moves_turned : (gone : List RecordPlace) (one two three : RecordPlace) (needs : ℕ) (was now : Held) → MovesRecords gone (one ∷ two ∷ three ∷ []) needs was now → MovesRecords gone (one ∷ three ∷ two ∷ []) needs was now
-moves_turned gone one two three needs was now m = moves_same gone gone (one ∷ two ∷ three ∷ []) (one ∷ three ∷ two ∷ []) needs needs was now (same_self gone) (same_turned one two three) (omega arith) m
+pub moves_turned : (gone : List RecordPlace) (one two three : RecordPlace) (brought : List ℕ) (needs : ℕ) (was now : Held) → MovesRecords gone (one ∷ two ∷ three ∷ []) [] brought needs was now → MovesRecords gone (one ∷ three ∷ two ∷ []) [] brought needs was now
+moves_turned gone one two three brought needs was now m =
+    moves_same gone gone (one ∷ two ∷ three ∷ []) (one ∷ three ∷ two ∷ []) [] [] brought brought needs needs was now (same_self gone) (same_turned one two three) (same_self []) (same_self brought) (omega arith) m
 
 pub once_turned : (one two three : RecordPlace) → ArePlacedOnce (one ∷ two ∷ three ∷ []) → ArePlacedOnce (one ∷ three ∷ two ∷ [])
 once_turned one two three h = (
@@ -46,8 +50,8 @@ once_turned one two three h = (
 )
 
 -- The record at a place became those at `front` and `middle`; records stand below it, in front of those in the middle and behind them.
-module _ {was now : Held} (place front : RecordPlace) (ahead middle after : List RecordPlace) (needs : ℕ) (there : (other : RecordPlace) → Contains (ahead ++ after) other → IsSome (record_at was other)) (once : ArePlacedOnce (place ∷ (ahead ++ after)))
-    (m : MovesRecords (place ∷ []) (front ∷ middle) needs was now) where
+module _ {was now : Held} (place front : RecordPlace) (ahead middle after : List RecordPlace) (brought : List ℕ) (needs : ℕ) (there : (other : RecordPlace) → Contains (ahead ++ after) other → IsSome (record_at was other)) (once : ArePlacedOnce (place ∷ (ahead ++ after)))
+    (m : MovesRecords (place ∷ []) (front ∷ middle) [] brought needs was now) where
   not_below : (other : RecordPlace) → Contains (front ∷ middle) other → Contains (ahead ++ after) other → ⊥
   not_below other came among = elim (is_among (place ∷ []) other) [
     | inl here ↦ once.0 (subst (λ (p : RecordPlace). Contains (ahead ++ after) p) (one_place place other here) among)
@@ -75,10 +79,10 @@ module _ {was now : Held} (place front : RecordPlace) (ahead middle after : List
         ]
       ]
 
-  pub moves_apart : MovesRecords (place ∷ (ahead ++ after)) (front ∷ (ahead ++ (middle ++ after))) needs was now
+  pub moves_apart : MovesRecords (place ∷ (ahead ++ after)) (front ∷ (ahead ++ (middle ++ after))) [] brought needs was now
   moves_apart =
-      moves_same ((ahead ++ after) ++ (place ∷ [])) (place ∷ (ahead ++ after)) ((ahead ++ after) ++ (front ∷ middle)) (front ∷ (ahead ++ (middle ++ after))) needs needs was now (same_swapped (ahead ++ after) (place ∷ [])) same_apart (omega arith)
-      (moves_beside (ahead ++ after) (place ∷ []) (front ∷ middle) needs was now there (λ other here among. once.0 (subst (λ (p : RecordPlace). Contains (ahead ++ after) p) (one_place place other here) among)) m)
+      moves_same ((ahead ++ after) ++ (place ∷ [])) (place ∷ (ahead ++ after)) ((ahead ++ after) ++ (front ∷ middle)) (front ∷ (ahead ++ (middle ++ after))) [] [] brought brought needs needs was now (same_swapped (ahead ++ after) (place ∷ [])) same_apart (same_self []) (same_self brought) (omega arith)
+      (moves_beside (ahead ++ after) (place ∷ []) (front ∷ middle) [] brought needs was now there (λ other here among. once.0 (subst (λ (p : RecordPlace). Contains (ahead ++ after) p) (one_place place other here) among)) m)
 
   pub once_apart : ArePlacedOnce (front ∷ middle) → ArePlacedOnce (front ∷ (ahead ++ (middle ++ after)))
   once_apart new = (

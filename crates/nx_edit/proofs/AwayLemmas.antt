@@ -3,34 +3,38 @@ use Rattle.std.proofs.Common.{◌≡◌, ℕ, ◌+◌, ◌-◌, ◌*◌, ◌<◌
 use Rattle.std.specs.Prelude.{◌⊎◌, false}
 use Rattle.std.specs.Option.{option_to_list}
 use Rattle.nx_tree.specs.Forest.{nodes}
-use Rattle.nx_holdings.specs.Holdings.{Held}
+use Rattle.nx_holdings.specs.Holdings.{Held, chain_count}
+use Rattle.nx_piece.specs.declared.piece.Far.{Far}
 use Rattle.nx_piece.specs.declared.piece.Piece.{Piece}
 use Rattle.nx_piece.specs.declared.piece.Proxy.{Proxy}
 use Rattle.nx_piece.specs.Gapped as gapped
 use Rattle.nx_piece.specs.Gapped.{Gapped}
-use Rattle.nx_cuts.specs.Cut.{CutForest, Bare, Grown, Kept, forest, width, AreFree}
-use Rattle.nx_layouts.specs.Layout.{RecordPlace, Layout, piece_of, proxies_of, proxy_of, without_places}
+use Rattle.nx_cuts.specs.Cut.{CutForest, Bare, Grown, Kept, width, AreFree}
+use Rattle.nx_layouts.specs.Layout.{RecordPlace, LaidNode, Layout, laid_near, laid_forest, laid_weight, piece_of, proxies_of, proxy_of, without_places}
+use Rattle.nx_layouts.proofs.DrawnLemmas.{drawn_wide, drawn_free}
 use Rattle.nx_layouts.specs.Replace.{replaced_at}
 use Rattle.nx_layouts.proofs.ReplaceLemmas.{replaces}
-use Rattle.nx_hold.specs.Changes.{place_named, piece_needs, UpdatesPiece}
+use Rattle.nx_hold.specs.Changes.{place_named}
+use Rattle.nx_hold.specs.Contents.{near_pages}
 use Rattle.nx_hold.specs.Pieces.{IsTidy, PieceMap}
 use Rattle.nx_cuts.specs.Rows.{changed_row}
 use Rattle.nx_drawn.specs.Edits.{kept, removed_row, deleted}
-use Rattle.nx_drawn.proofs.BareLemmas.{width_bare}
-use Rattle.nx_edit.specs.Editing.{places_off}
+use Rattle.nx_edit.specs.Editing.{places_off, nodes_off}
+use Rattle.nx_edit.specs.Passing.{PutsOrStays, put_needs}
 use Rattle.nx_layouts.specs.Cutting.{LeadsInto}
 use Rattle.nx_edit.specs.Rows.{row_nodes, IsHeldInterval, IsReplaced, IsLeftOf, left_of, left_needs, with_left}
-use Rattle.nx_edit.proofs.CountLemmas.{piece_few, proxies_few}
-use Rattle.nx_edit.proofs.CutLemmas.{interval_inside, if_less}
+use Rattle.nx_edit.proofs.CountLemmas.{proxies_few}
+use Rattle.nx_edit.proofs.CutLemmas.{interval_inside, nodes_inside, if_less}
+use Rattle.nx_edit.proofs.FarLemmas.{near-append}
 use Rattle.nx_layouts.proofs.RunLemmas.{runs_after}
 use Rattle.nx_edit.proofs.FillLemmas.{left_is_interval}
-use Rattle.nx_edit.proofs.OwnLemmas.{nodes_bare, nodes_alone}
-use Rattle.nx_edit.proofs.PassedLemmas.{into_member, piece_same, less_index, there, place_inside, replaced_above}
+use Rattle.nx_edit.proofs.OwnLemmas.{nodes_alone}
+use Rattle.nx_edit.proofs.PassedLemmas.{into_member, piece_same, less_index, there, place_inside, off_around, near_suffice, replaced_above}
 
 -- a layout of each row, whatever the places
 abbrev pub marked : CutForest → Layout
 marked Bare = Bare
-marked (Grown n b s) = Grown n (marked b) (marked s)
+marked (Grown n b s) = Grown (laid_near n) (marked b) (marked s)
 marked (Kept m c s) = Kept (record { page = 0; slot = 0 }) (marked c) (marked s)
 
 pub marked_is : (c : CutForest) → without_places (marked c) ≡ c
@@ -60,13 +64,13 @@ left_alone : (position : ℕ) (path : List ℕ) (members : Layout) → position 
 left_alone position [] members less =
     subst IsAlone
     (sym (if_less position (width (without_places members)) (kept tt (removed_row position (without_places members)) Bare) (Kept tt (without_places members) (removed_row (position - width (without_places members)) Bare))
-    (subst (λ (w : ℕ). position < w) (sym (width_bare members)) less)))
+    (subst (λ (w : ℕ). position < w) (sym (drawn_wide members)) less)))
     (alone_kept (removed_row position (without_places members)))
 left_alone position (q ∷ path) members less =
     inr (
       changed_row position (deleted (q ∷ path)) (without_places members),
       if_less position (width (without_places members)) (Kept tt (changed_row position (deleted (q ∷ path)) (without_places members)) Bare) (Kept tt (without_places members) (changed_row (position - width (without_places members)) (deleted (q ∷ path)) Bare))
-          (subst (λ (w : ℕ). position < w) (sym (width_bare members)) less),
+          (subst (λ (w : ℕ). position < w) (sym (drawn_wide members)) less),
     )
 
 first_same : (a b : Proxy) (ps : List Proxy) → a ∷ [] ≡ b ∷ ps → a ≡ b
@@ -117,10 +121,10 @@ module _ (was : Held) (pieces : PieceMap was) (known : Option Piece) (place : Re
   within = into_member index next rest inside position path members into
 
   members_free : AreFree members
-  members_free = (i.light).1
+  members_free = drawn_free members (i.light).1
 
   -- no more nodes are below than in all
-  inside_few : (left : Layout) → nodes (forest (replaced_at index left members)) + nodes (forest inside) ≡ nodes (forest members) + nodes (forest left)
+  inside_few : (left : Layout) → nodes (laid_forest (replaced_at index left members)) + nodes (laid_forest inside) ≡ nodes (laid_forest members) + nodes (laid_forest left)
   inside_few left = (there was pieces known place position path limit members i index next rest inside into).counted left
 
   -- what is left below, in this row
@@ -132,25 +136,29 @@ module _ (was : Held) (pieces : PieceMap was) (known : Option Piece) (place : Re
     row_is new = interval_inside index next rest inside left position path new members members_free into left_is
 
     -- how many nodes are left
-    row_count : row_nodes (left_of position path members) ≡ nodes (forest row)
-    row_count = sym (ap row_nodes (row_is place)) ∙ nodes_bare (Kept place row Bare) ∙ nodes_alone place row
+    row_count : row_nodes (left_of position path members) ≡ nodes (laid_forest row)
+    row_count = sym (ap row_nodes (row_is place)) ∙ nodes_alone place row
 
-    left_count : row_nodes (left_of next rest inside) ≡ nodes (forest left)
-    left_count = sym (ap row_nodes left_is) ∙ nodes_bare left
+    left_count : row_nodes (left_of next rest inside) ≡ nodes (laid_forest left)
+    left_count = sym (ap row_nodes left_is)
 
     -- what is needed below is no more than what is needed here
     pub needs_below : left_needs next rest inside ≤ left_needs position path members
     needs_below =
-        let r = row_count in let l = left_count in let m = nodes_bare members in let n = nodes_bare inside in let c = inside_few left in let h = inside_few Bare in
-        omega (arith, r, l, m, n, c, h)
+        let n = nodes_inside false index next rest inside position path members into in
+        let near = ap (λ (ns : List LaidNode). near_pages ns) n.off in
+        let front = near-append n.before (nodes_off false (next ∷ rest) inside ++ n.behind) in
+        let middle = near-append (nodes_off false (next ∷ rest) inside) n.behind in
+        let r = row_count in let l = left_count in let c = inside_few left in let h = inside_few Bare in
+        omega (arith, near, front, middle, r, l, c, h)
 
     becomes : (new : RecordPlace) (gone : ℕ) → IsLeftOf next rest gone inside (without_places left) → IsLeftOf position path gone members (without_places (Kept new row Bare))
     becomes new gone h = (
       row_is new,
       let down = h.1 in
-          let r : row_nodes (without_places (Kept new row Bare)) ≡ nodes (forest row) = nodes_bare (Kept new row Bare) ∙ nodes_alone place row in
-          let l = nodes_bare left in let m = nodes_bare members in let n = nodes_bare inside in let c = inside_few left in
-          omega (arith, down, r, l, m, n, c),
+          let r : row_nodes (without_places (Kept new row Bare)) ≡ nodes (laid_forest row) = nodes_alone new row in
+          let c = inside_few left in
+          omega (arith, down, r, c),
     )
 
     module _ (o : Option Proxy) (one : IsOne left o) where
@@ -158,12 +166,13 @@ module _ (was : Held) (pieces : PieceMap was) (known : Option Piece) (place : Re
       pub row_piece : (piece : Piece) → piece ≡ piece_of members → with_left index o piece ≡ piece_of row
       row_piece piece is = ap (λ (p : Piece). with_left index o p) is ∙ left_piece index members left o less one
 
-      pub row_needs : left_needs next rest inside + piece_needs (piece_of row) ≤ left_needs position path members
+      -- how many pages it may need besides
+      pub row_needs : (row_nodes (without_places inside) + 2 * row_nodes (without_places left)) + (1 + chain_count (8 * length (proxies_of row))) ≤ row_nodes (without_places members) + 2 * row_nodes (left_of position path members)
       row_needs =
           let hole = replaces index members Bare less in
           let all = replaces index members left less in
-          let few : piece_needs (piece_of row) ≤ 1 + length (proxies_of row) = piece_few (piece_of row) in
-          let some : 1 ≤ width members = (i.light).0 in
+          let least : 1 ≤ width (without_places members) = (i.light).0 in
+          let as_wide = drawn_wide members in
           let wide : width (replaced_at index Bare members) ≡ width members = hole.wide members_free in
           let many = proxies_few k (replaced_at index Bare members) (hole.light k (i.light).3 tt) (hole.free members_free) in
           let front : List Proxy = take index (proxies_of members) in
@@ -173,35 +182,40 @@ module _ (was : Held) (pieces : PieceMap was) (known : Option Piece) (place : Re
           let with_more = ap (λ (ps : List Proxy). length ps) all.proxies_are ∙ length-append (front ++ proxies_of left) back in
           let inner = length-append front (proxies_of left) in
           let single = few_left left o one in
-          let r = row_count in let l = left_count in let m = nodes_bare members in let n = nodes_bare inside in let c = inside_few left in let h = inside_few Bare in
-          omega (arith, few, some, wide, many, proxies, none, with_more, inner, single, r, l, m, n, c, h)
+          let r = row_count in let c = inside_few left in let h = inside_few Bare in
+          omega (arith, least, as_wide, wide, many, proxies, none, with_more, inner, single, r, c, h)
 
   -- the interval below was replaced, and then the record above
-  module _ {mid : Held} (tidy : IsTidy was) (gone_nodes : ℕ) (o : Option Proxy) (r : IsReplaced k (IsLeftOf next rest gone_nodes inside) (place_inside was pieces known place position path limit members i index next rest inside into) inside (places_off false (next ∷ rest) inside) (option_to_list o) was mid) where
+  module _ {mid : Held} (tidy : IsTidy was) (gone_nodes : ℕ) (o : Option Proxy) (fars : List Far)
+      (r : IsReplaced k (IsLeftOf next rest gone_nodes inside) (place_inside was pieces known place position path limit members i index next rest inside into) inside (nodes_off false (next ∷ rest) inside) [] (places_off false (next ∷ rest) inside)
+      (option_to_list o) fars was mid) where
     abbrev left : Layout
     left = r.row
 
     one : IsOne left o
     one = one_left left o (subst IsAlone (sym (r.becomes).0) (left_alone next rest inside within)) r.proxies_are
 
+    weightless : laid_weight left ≡ 0
+    weightless = left_is_interval next rest inside left within (r.becomes).0
+
     -- fewer pages were free at first than may be needed, where fewer are free in between than the piece above may need
-    pub few_before : (piece : Piece) → piece ≡ piece_of members → mid.free < piece_needs (with_left index o piece) → was.free < left_needs position path members
+    pub few_before : (piece : Piece) → piece ≡ piece_of members → mid.free < put_needs (with_left index o piece) → was.free < left_needs position path members
     few_before piece is few =
-        let same : piece_needs (with_left index o piece) ≡ piece_needs (piece_of (replaced_at index left members)) = ap piece_needs (row_piece left (r.becomes).0 o one piece is) in
+        let same : put_needs (with_left index o piece) ≡ put_needs (piece_of (replaced_at index left members)) = ap put_needs (row_piece left (r.becomes).0 o one piece is) in
         let all = row_needs left (r.becomes).0 o one in
-        let l : row_nodes (without_places left) ≡ row_nodes (left_of next rest inside) = ap row_nodes (r.becomes).0 in
-        let moved : was.free ≤ mid.free + (row_nodes (without_places inside) + 2 * row_nodes (without_places left)) = (r.moves).free in
-        omega (arith, same, all, l, moved, few)
+        let near =
+        near_suffice was pieces known place position path limit members i index next rest inside into path rest into tidy false r (off_around was pieces known place position path limit members i index next rest inside into false path rest into) weightless in
+        let moved : was.free ≤ mid.free + (row_nodes (without_places inside) + 2 * row_nodes (without_places left) + near_pages (nodes_off false (next ∷ rest) inside)) = (r.moves).free in
+        omega (arith, same, all, near, moved, few)
 
     pub away_replaced : {now : Held} (tidier : IsTidy mid) (piece : Piece) → piece ≡ piece_of members → (proxy : Proxy) → proxy.roots ≡ gapped.gapped_width (with_left index o piece).body.roots
-        → UpdatesPiece place (place_named proxy) (with_left index o piece) mid now → IsReplaced k (IsLeftOf position path gone_nodes members) place members (places_off false (position ∷ path) members) (proxy ∷ []) was now
-    away_replaced tidier piece piece_is proxy roots updates =
+        → PutsOrStays place (place_named proxy) (with_left index o piece) mid now
+        → IsReplaced k (IsLeftOf position path gone_nodes members) place members (nodes_off false (position ∷ path) members) [] (places_off false (position ∷ path) members) (proxy ∷ []) fars was now
+    away_replaced tidier piece piece_is proxy roots puts =
         let here : Layout = replaced_at index left members in
         let new : RecordPlace = place_named proxy in
         let here_is : with_left index o piece ≡ piece_of here = row_piece left (r.becomes).0 o one piece piece_is in
-        let l : row_nodes (without_places left) ≡ row_nodes (left_of next rest inside) = ap row_nodes (r.becomes).0 in
         let n : row_nodes (without_places (Kept new here Bare)) ≡ row_nodes (left_of position path members) = ap row_nodes (row_is left (r.becomes).0 new) in
         let all = row_needs left (r.becomes).0 o one in
-        let same : piece_needs (with_left index o piece) ≡ piece_needs (piece_of here) = ap piece_needs here_is in
-        replaced_above was pieces known place position path limit members i index next rest inside into path rest into tidy false r tidier (with_left index o piece) here_is proxy roots updates (IsLeftOf position path gone_nodes members) (becomes left (r.becomes).0 new gone_nodes r.becomes)
-        (left_is_interval next rest inside left within (r.becomes).0) (omega (arith, l, n, all, same))
+        replaced_above was pieces known place position path limit members i index next rest inside into path rest into tidy false r tidier (with_left index o piece) here_is proxy roots puts weightless
+        (off_around was pieces known place position path limit members i index next rest inside into false path rest into) (IsLeftOf position path gone_nodes members) (becomes left (r.becomes).0 new gone_nodes r.becomes) (omega (arith, n, all))

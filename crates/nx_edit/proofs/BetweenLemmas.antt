@@ -11,10 +11,10 @@ use Rattle.nx_piece_edits.proofs.LeftLemmas.{less_is, not_less}
 use Rattle.nx_matrix.specs.declared.rule.Entry.{Entry}
 use Rattle.nx_matrix.specs.declared.rule.Entry.TheVariants.{Standalone, Cluster, Free}
 use Rattle.nx_matrix.specs.declared.rule.Rule.{Rule}
-use Rattle.nx_cuts.specs.Cut.{CutForest, CutTree, Bare, Grown, Kept, width, AreParts}
+use Rattle.nx_cuts.specs.Cut.{CutForest, CutTree, Bare, Grown, Kept, width}
 use Rattle.nx_cuts.specs.Rows.{changed_row}
 use Rattle.nx_split.specs.Piece.{asked}
-use Rattle.nx_layouts.specs.Layout.{Layout, gap_more, piece_body, proxies_of, proxy_of, without_places}
+use Rattle.nx_layouts.specs.Layout.{LaidNode, Layout, AreLaidParts, gap_more, piece_body, proxies_of, proxy_of, without_places}
 use Rattle.nx_layouts.specs.Cutting.{layout_at, StaysIn}
 use Rattle.nx_layouts.specs.Planting.{FallsBetween, put_between, proxies_before, changed_below}
 use Rattle.nx_layouts.proofs.LayoutLemmas.{proxies_counted}
@@ -22,7 +22,7 @@ use Rattle.nx_layouts.proofs.PlantLemmas.{passed_one, BeginsWithRoots, body_begi
 use Rattle.nx_layouts.proofs.WithoutLemmas.{roots_more, take_more, drop_more, minus_both, drop_below}
 use Rattle.nx_drawn.specs.Edits.{inserted, placed_among, placed_beside, planted_row}
 use Rattle.nx_drawn.specs.Growth.{PartIsAtMost}
-use Rattle.nx_drawn.proofs.BareLemmas.{width_bare}
+use Rattle.nx_layouts.proofs.DrawnLemmas.{drawn_wide}
 use Rattle.nx_edit.proofs.ChangedLemmas.{GoesOnBelow, row_below, bare_behind, interval_changed, child_below}
 use Rattle.nx_edit.proofs.CutLemmas.{member_there}
 
@@ -39,30 +39,30 @@ pub planted_between : (entry : Entry) (node : Node) (put : Layout → Layout) �
     → without_places (put_between put position row) ≡ planted_row tt tt entry node position (without_places row)
 planted_between entry node put same zero row f = same row
 planted_between entry node put same (suc position) Bare f = absurd f
-planted_between entry node put same (suc position) (Grown n b s) f = ap (λ (c : CutForest). Grown n (without_places b) c) (planted_between entry node put same position s f)
+planted_between entry node put same (suc position) (Grown n b s) f = ap (λ (c : CutForest). Grown n.node (without_places b) c) (planted_between entry node put same position s f)
 planted_between entry node put same (suc position) (Kept p m s) f =
     let bare : CutForest = without_places m in
     let rest : CutForest = without_places s in
     ap (λ (c : CutForest). Kept tt bare c) (planted_between entry node put same (suc position - width m) s f.1)
-    ∙ ap (λ (w : ℕ). Kept tt bare (planted_row tt tt entry node (suc position - w) rest)) (sym (width_bare m))
+    ∙ ap (λ (w : ℕ). Kept tt bare (planted_row tt tt entry node (suc position - w) rest)) (sym (drawn_wide m))
     ∙ sym (not_less (suc position) (width bare) (placed_among tt tt tt entry node (suc position) bare rest) (Kept tt bare (planted_row tt tt entry node (suc position - width bare) rest))
-    (subst (λ (w : ℕ). w ≤ suc position) (sym (width_bare m)) f.0))
+    (subst (λ (w : ℕ). w ≤ suc position) (sym (drawn_wide m)) f.0))
 
-same_tree : (n m : Node) (b c : Layout) → Grown n b Bare ≡ Grown m c Bare → (n ≡ m) × (b ≡ c)
+same_tree : (n m : LaidNode) (b c : Layout) → Grown n b Bare ≡ Grown m c Bare → (n ≡ m) × (b ≡ c)
 same_tree n m b c e = (cc, cc)
 
 -- A row in which the children of a tree are changed is the document's, where it is so there.
-module _ (change : List ℕ → CutTree → CutTree) (below : GoesOnBelow change) (put : Layout → Layout) (node : Node) (children : Layout) (end : change [] (record { node = node; below = without_places children }) ≡ record { node = node; below = without_places (put children) }) where
+module _ (change : List ℕ → CutTree → CutTree) (below : GoesOnBelow change) (put : Layout → Layout) (node : LaidNode) (children : Layout) (end : change [] (record { node = node.node; below = without_places children }) ≡ record { node = node.node; below = without_places (put children) }) where
   pub row_is_changed : (position : ℕ) (path : List ℕ) (row : Layout) → StaysIn position path row → layout_at position path row ≡ Grown node children Bare → without_places (changed_below put position path row) ≡ changed_row position (change path) (without_places row)
   row_is_changed position path Bare h at = absurd h
   row_is_changed zero [] (Grown n b s) h at =
       let same = same_tree n node b children at in
-      let here : change [] (record { node = n; below = without_places b }) ≡ record { node = n; below = without_places (put b) } =
-      subst (λ (x : Node). change [] (record { node = x; below = without_places b }) ≡ record { node = x; below = without_places (put b) }) (sym same.0)
-      (subst (λ (x : Layout). change [] (record { node = node; below = without_places x }) ≡ record { node = node; below = without_places (put x) }) (sym same.1) end) in
+      let here : change [] (record { node = n.node; below = without_places b }) ≡ record { node = n.node; below = without_places (put b) } =
+      subst (λ (x : LaidNode). change [] (record { node = x.node; below = without_places b }) ≡ record { node = x.node; below = without_places (put b) }) (sym same.0)
+      (subst (λ (x : Layout). change [] (record { node = node.node; below = without_places x }) ≡ record { node = node.node; below = without_places (put x) }) (sym same.1) end) in
       sym (ap (λ (t : CutTree). Grown t.node t.below (without_places s)) here)
-  row_is_changed zero (q ∷ path) (Grown n b s) h at = ap (λ (c : CutForest). Grown n c (without_places s)) (row_is_changed q path b h at) ∙ sym (row_below change below q path n (without_places b) (without_places s))
-  row_is_changed (suc position) path (Grown n b s) h at = ap (λ (c : CutForest). Grown n (without_places b) c) (row_is_changed position path s h at)
+  row_is_changed zero (q ∷ path) (Grown n b s) h at = ap (λ (c : CutForest). Grown n.node c (without_places s)) (row_is_changed q path b h at) ∙ sym (row_below change below q path n.node (without_places b) (without_places s))
+  row_is_changed (suc position) path (Grown n b s) h at = ap (λ (c : CutForest). Grown n.node (without_places b) c) (row_is_changed position path s h at)
   row_is_changed position path (Kept p m s) h at =
       ap (λ (c : CutForest). Kept tt (without_places m) c) (row_is_changed (position - width m) path s h.1 at) ∙ bare_behind (change path) position m s h.0
 
@@ -71,22 +71,23 @@ module _ (change : List ℕ → CutTree → CutTree) (below : GoesOnBelow change
   interval_is_with position path row h at = ap (λ (c : CutForest). Kept tt c Bare) (row_is_changed position path row h at) ∙ interval_changed (change path) position row Bare (member_there position path row h)
 
 -- so it is with a new node
-pub interval_planted : (rules : List Rule) (node : Node) (place : ℕ) (put : Layout → Layout) (parent : Node) (children : Layout) → without_places (put children) ≡ planted_row tt tt (asked rules parent node) node place (without_places children)
+pub interval_planted : (rules : List Rule) (node : Node) (place : ℕ) (put : Layout → Layout) (parent : LaidNode) (children : Layout) → without_places (put children) ≡ planted_row tt tt (asked rules parent.node node) node place (without_places children)
     → (position : ℕ) (path : List ℕ) (row : Layout) → StaysIn position path row → layout_at position path row ≡ Grown parent children Bare
     → Kept tt (without_places (changed_below put position path row)) Bare ≡ changed_row position (inserted rules node (path ++ place ∷ [])) (Kept tt (without_places row) Bare)
 interval_planted rules node place put parent children same position path row h at =
     interval_is_with (λ way. inserted rules node (way ++ place ∷ [])) (child_below rules node place) put parent children
-    (ap (λ (c : CutForest). let t : CutTree = record { node = parent; below = c } in t) (sym same)) position path row h at
+    (ap (λ (c : CutForest). let t : CutTree = record { node = parent.node; below = c } in t) (sym same)) position path row h at
 
 -- No node of the part is heavier than its nodes were and what is put:
 
-pub most_put : (k : ℕ) (put : Layout → Layout) → ((row : Layout) → PartIsAtMost k row → PartIsAtMost k (put row)) → (position : ℕ) (row : Layout) → PartIsAtMost k row → PartIsAtMost k (put_between put position row)
+pub most_put : (k : ℕ) (put : Layout → Layout) → ((row : Layout) → PartIsAtMost k (without_places row) → PartIsAtMost k (without_places (put row))) → (position : ℕ) (row : Layout) → PartIsAtMost k (without_places row) → PartIsAtMost k (without_places (put_between put position row))
 most_put k put keeps zero row h = keeps row h
 most_put k put keeps (suc position) Bare h = tt
 most_put k put keeps (suc position) (Grown n b s) h = (h.0, h.1, most_put k put keeps position s h.2)
 most_put k put keeps (suc position) (Kept p m s) h = most_put k put keeps (suc position - width m) s h
 
-pub most_below : (k : ℕ) (change : Layout → Layout) → ((row : Layout) → PartIsAtMost k row → PartIsAtMost k (change row)) → (position : ℕ) (path : List ℕ) (row : Layout) → PartIsAtMost k row → PartIsAtMost k (changed_below change position path row)
+pub most_below : (k : ℕ) (change : Layout → Layout) → ((row : Layout) → PartIsAtMost k (without_places row) → PartIsAtMost k (without_places (change row))) → (position : ℕ) (path : List ℕ) (row : Layout) → PartIsAtMost k (without_places row)
+    → PartIsAtMost k (without_places (changed_below change position path row))
 most_below k change keeps position path Bare h = tt
 most_below k change keeps zero [] (Grown n b s) h = (h.0, keeps b h.1, h.2)
 most_below k change keeps zero (q ∷ path) (Grown n b s) h = (h.0, most_below k change keeps q path b h.1, h.2)
@@ -138,7 +139,7 @@ passed_behind position (Gap c s) proxy proxies most begins =
     chosen other = if nat_lt (1 + passed (suc position - proxy.roots) (take c proxies)) (c + 1) then 1 + passed (suc position - proxy.roots) (take c proxies) else other
 
 -- the proxies of a row that stand before a position are those of its piece
-pub passed_in_row : (k position : ℕ) (row : Layout) (more : List Proxy) → AreParts k row → FallsBetween position row → passed_at position (piece_body row) (proxies_of row ++ more) ≡ proxies_before position row
+pub passed_in_row : (k position : ℕ) (row : Layout) (more : List Proxy) → AreLaidParts k row → FallsBetween position row → passed_at position (piece_body row) (proxies_of row ++ more) ≡ proxies_before position row
 passed_in_row k zero row more h f = refl
 passed_in_row k (suc position) Bare more h f = absurd f
 passed_in_row k (suc position) (Grown n b s) more h f =

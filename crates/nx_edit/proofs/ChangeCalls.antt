@@ -1,6 +1,6 @@
 -- The calls that make a change below an interval, one behind the other.
-use Rattle.std.proofs.Common.{◌≡◌, ℕ, ◌-◌, ◌≤◌, List, [], ◌∷◌, take, drop, Option, None, Some, sym, ap, ◌∙◌, subst, arith}
-use Rattle.std.specs.Prelude.{true}
+use Rattle.std.proofs.Common.{◌≡◌, ℕ, ◌-◌, ◌≤◌, nat_lt, Bool, true, false, List, [], ◌∷◌, take, drop, Option, None, Some, refl, sym, ap, ◌∙◌, subst, arith}
+use Rattle.std.specs.Bool.{MatchBool}
 use Rattle.std.specs.List.{slice_get}
 use Rattle.nx_host.specs.declared.disk.Disk.{Ghosts}
 use Rattle.nx_host.specs.Still.{IsStill}
@@ -12,28 +12,41 @@ use Rattle.nx_records.specs.declared.error.StoreError.{StoreError}
 use Rattle.nx_records.specs.declared.error.StoreError.TheVariants as store
 use Rattle.nx_records.specs.Records.{settings_of, KeepsSaved, StandsFor}
 use Rattle.nx_records.specs.Refusals.{RunsOn, NotStored}
+use Rattle.nx_piece.specs.declared.piece.Far.{Far}
 use Rattle.nx_piece.specs.declared.piece.Piece.{Piece}
+use Rattle.nx_piece.specs.PieceNode.{PieceNode}
 use Rattle.nx_piece.specs.declared.piece.Proxy.{Proxy}
 use Rattle.nx_piece.specs.Gapped.{GappedTree}
 use Rattle.nx_piece.specs.Locate.{Reached, Inside, Outside, Missing, reached_in}
 use Rattle.nx_matrix.specs.declared.rule.Rule.{Rule}
-use Rattle.nx_cuts.specs.Cut.{AreFree}
-use Rattle.nx_layouts.specs.Layout.{RecordPlace, Layout, piece_of}
+use Rattle.nx_cuts.specs.Cut.{AreFree, CutForest, Bare, Grown, Kept, part_weight}
+use Rattle.nx_matrix.specs.Label.{label}
+use Rattle.nx_matrix.specs.Rules.{entry_of}
+use Rattle.nx_matrix.specs.declared.rule.Entry.{Entry}
+use Rattle.nx_sketch.specs.Sketch.{placed}
+use Rattle.nx_sketch.specs.Split.{IsSplit}
+use Rattle.nx_split.specs.Piece.{asked_of_root, freed}
+use Rattle.nx_drawn.specs.Splits.{Divides, SplitsRow, part_sketch}
+use Rattle.nx_holdings.specs.declared.header.Settings.{Settings}
+use Rattle.nx_layouts.specs.Layout.{RecordPlace, LaidNode, Layout, in_record, shown_with, piece_of, without_places}
+use Rattle.nx_layouts.proofs.DrawnLemmas.{drawn_free}
 use Rattle.nx_layouts.specs.Replace.{above_at}
 use Rattle.nx_layouts.specs.Cutting.{LeadsOn}
 use Rattle.nx_layouts.proofs.AboveLemmas.{above_stands}
 use Rattle.nx_layouts.proofs.PathLemmas.{path_leads_on}
-use Rattle.nx_hold.specs.Changes.{place_named, ComesTidy}
+use Rattle.nx_hold.specs.Changes.{place_named, ComesTidy, ComesTidyWhere}
+use Rattle.nx_hold.proofs.TidyLemmas.{may_name_own}
 use Rattle.nx_hold.specs.Pieces.{HoldsPiece, PieceMap}
 use Rattle.nx_hold.proofs.RefusalLemmas.{runs_then, saved_then}
 use Rattle.nx_nav.specs.declared.routing.PassedRecord.{PassedRecord}
 use Rattle.nx_nav.specs.Route.{IsPassedRecord}
-use Rattle.nx_edit.specs.declared.changing.Change.{Change}
 use Rattle.nx_edit.specs.Editing.{places_off}
 use Rattle.nx_edit.specs.Rows.{IsHeldInterval, IsReplaced}
-use Rattle.nx_edit.specs.Changing.{changed_interval, way_of, AreSplitOf, IsPossibleIn, ChangesKnown, ChangesAlong, NotChangedKnown, NotChangedAlong}
+use Rattle.nx_edit.specs.declared.changing.Change.TheVariants as change
+use Rattle.nx_edit.specs.Changing as shape
+use Rattle.nx_edit.specs.Changing.{Put, IsLaidPut, MayChangeAlong, MayPutIn, changed_interval, kept_around, put_lists, way_of, AreSplitOf, IsPossibleIn, ChangesKnown, NotChangedKnown, NotChangedAlong}
 use Rattle.nx_edit.specs.Passing.{NotPassed}
-use Rattle.nx_edit.specs.RowPut.{IsNodeAt, MayHaveRow, PassesRow, piece_with_row}
+use Rattle.nx_edit.specs.RowPut.{MayHaveRow, PassesRow, piece_with_row}
 use Rattle.nx_edit.proofs.RemoveLemmas.{later_rose, ends_behind}
 use Rattle.nx_edit.proofs.RowCalls.{as_held}
 use Rattle.nx_edit.proofs.PassedLemmas.{place_inside, inside_proxy, inside_interval, above_there}
@@ -53,27 +66,37 @@ only_lacks d needs Lacks Only named store.Memory r0 r1 x0 x1 refused = refused
 only_lacks d needs Lacks Only named store.Exists r0 r1 x0 x1 refused = refused
 only_lacks d needs Lacks Only named store.NotAStore r0 r1 x0 x1 refused = refused
 
+-- what is kept by one call and by the next one is kept by both
+pub keeps_after : {D : Type 0} (d : Ghosts D) (r0 r1 r2 : Records) (x0 x1 x2 : D) → RunsOn r0 r1 → KeepsSaved d r0 r1 x0 x1 → RunsOn r1 r2 → KeepsSaved d r1 r2 x1 x2 → RunsOn r0 r2 × KeepsSaved d r0 r2 x0 x2
+keeps_after d r0 r1 r2 x0 x1 x2 runs keeps on kept = (runs_then {r0 = r0} {r1 = r1} {r2 = r2} runs on, saved_then {d = d} {r0 = r0} {r1 = r1} {r2 = r2} {x0 = x0} {x1 = x1} {x2 = x2} keeps kept)
+
+-- what holds of each child at a position, as it may be laid, holds of each laid put that is one
+pub each_child : (P : Put → Type 0) (position : ℕ) (leaf : GappedTree) → ((node : LaidNode) → leaf.node ≡ in_record node → P (shape.Child position node)) → (put : Put) → IsLaidPut (change.Child position leaf) put → P put
+each_child P position leaf holds (shape.Content content list) laid = absurd laid
+each_child P position leaf holds (shape.Child at node) laid = subst (λ (n : ℕ). P (shape.Child n node)) laid.0 (holds node laid.1)
+
 -- The path ends in the last piece:
 
-module _ {D : Type 0} (d : Ghosts D) (rules : List Rule) (change : Change) (place : RecordPlace) (member : ℕ) (path : List ℕ) (last : Piece) (r0 r1 : Records) (x0 x1 : D) where
-  pub end_unchanged : (e : StoreError) → NotChangedKnown d rules (Some last) change place member path e r0 r1 x0 x1 → NotChangedAlong d [] last rules change place member path e r0 r1 x0 x1
+module _ {D : Type 0} (d : Ghosts D) (rules : List Rule) (put : Put) (place : RecordPlace) (member : ℕ) (path : List ℕ) (last : Piece) (r0 r1 : Records) (x0 x1 : D) where
+  pub end_unchanged : (e : StoreError) → NotChangedKnown d rules (Some last) put place member path e r0 r1 x0 x1 → NotChangedAlong d [] last rules put place member path e r0 r1 x0 x1
   end_unchanged store.Disk refused = refused
   end_unchanged store.Full refused = record {
     runs = refused.runs;
     keeps = refused.keeps;
     none_free = refused.none_free;
-    few = λ saved now pieces members stands tidy i possible holds. refused.few saved now pieces members stands tidy (as_held place member path most_nodes pieces members last holds i) possible;
+    few = λ saved now pieces members stands tidy i possible may holds. refused.few saved now pieces members stands tidy (as_held place member path most_nodes pieces members last holds i) possible may;
   }
-  end_unchanged (store.Damaged page) refused = (refused.0, λ saved now pieces members stands tidy i possible holds. refused.1 saved now pieces members stands tidy (as_held place member path most_nodes pieces members last holds i) possible)
+  end_unchanged (store.Damaged page) refused = (refused.0, λ saved now pieces members stands tidy i possible may holds. refused.1 saved now pieces members stands tidy (as_held place member path most_nodes pieces members last holds i) possible may)
   end_unchanged store.Memory refused = refused
   end_unchanged store.Ended refused = absurd refused
   end_unchanged store.Exists refused = absurd refused
   end_unchanged store.NotAStore refused = absurd refused
 
-  pub end_changed : (above : Option Node) (proxies : List Proxy) → ComesTidy d r0 r1 x0 x1 (ChangesKnown rules (Some last) above change place member path proxies) → ComesTidy d r0 r1 x0 x1 (ChangesAlong [] last rules above change place member path proxies)
-  end_changed above proxies comes saved was stands tidy =
-      let now = comes saved was stands tidy in
-      (now.0, now.1, now.2, λ holds pieces members i possible. now.3 pieces members (as_held place member path most_nodes pieces members last holds i) possible)
+  pub end_changed : (above : Option Node) (proxies : List Proxy) (gone : List Far) → ComesTidyWhere d r0 r1 x0 x1 (λ was. MayPutIn was put last) (ChangesKnown rules (Some last) above put place member path proxies gone)
+      → ComesTidyWhere d r0 r1 x0 x1 (λ was. MayChangeAlong was put place member path [] last) (ChangesKnown rules None above put place member path proxies gone)
+  end_changed above proxies gone comes saved was stands tidy may =
+      let now = comes saved was stands tidy (may_name_own was place last tidy may.0, may.1) in
+      (now.0, now.1, now.2, λ pieces members i possible. now.3 pieces members (as_held place member path most_nodes pieces members last may.0 i) possible)
 
 -- The node above the interval below:
 
@@ -82,19 +105,85 @@ tree_in other (Inside tree first) = tree
 tree_in other (Outside index member used) = other
 tree_in other Missing = other
 
--- and its node is the one above the interval
+-- a node's item bears its label
+pub same_label : (node : Node) (list : Option ℕ) → label (shown_with node list).node ≡ label node
+same_label node None = refl
+same_label node (Some first) = refl
+
+-- The node is the one above the interval, but for a content that stands elsewhere.
+pub record IsAbove (index : ℕ) (members : Layout) (top : Option Node) (node : Node) : Type 0 where
+  pub whole : Node
+  pub alike : label node ≡ label whole
+  pub above : above_at index top members ≡ Some whole
+
 pub node_above : (piece : Piece) (member : ℕ) (path : List ℕ) (index next used : ℕ) (members : Layout) (node : Node) (top : Option Node) → AreFree members → piece ≡ piece_of members → reached_in piece member path ≡ Outside index next used
-    → IsNodeAt piece member (take (used - 1) path) node → above_at index top members ≡ Some node
+    → (tree : GappedTree) × (first : ℕ) × (reached_in piece member (take (used - 1) path) ≡ Inside tree first) × (node ≡ tree.node.node) → IsAbove index members top node
 node_above piece member path index next used members node top free is leads at =
     let from = above_stands members member path index next used free (ap (λ (p : Piece). reached_in p member path) (sym is) ∙ leads) in
     let same : from.tree ≡ at.0 = ap (tree_in from.tree) (sym from.there ∙ ap (λ (p : Piece). reached_in p member (take (used - 1) path)) (sym is) ∙ at.2) in
-    from.above top ∙ ap (λ (t : GappedTree). Some t.node) same ∙ ap (λ (n : Node). Some n) (sym at.3)
+    record {
+      whole = (from.node).node;
+      alike = ap label (at.3 ∙ ap (λ (t : GappedTree). t.node.node) (sym same)) ∙ ap (λ (n : PieceNode). label n.node) from.shown ∙ same_label (from.node).node (from.node).list;
+      above = from.above top;
+    }
+
+-- A split looks at the label of the node above alone:
+
+matched : {A B : Type 0} (C : Type 0) (b : Bool) → (A → B) → MatchBool b A C → MatchBool b B C
+matched C true f h = f h
+matched C false f h = h
+
+module _ (settings : Settings) (rules : List Rule) (one other : Node) (alike : label one ≡ label other) where
+  asked_alike : asked_of_root rules (Some one) ≡ asked_of_root rules (Some other)
+  asked_alike = ap (λ (l : List ℕ). λ (root : Node). freed (entry_of rules l (label root))) alike
+
+  divided_alike : (members now : CutForest) → Divides settings rules (Some one) members now → Divides settings rules (Some other) members now
+  divided_alike members now h = record {
+    parts = h.parts;
+    split = subst (λ (asks : Node → Entry). IsSplit settings.k (placed (part_sketch rules asks 0 members)) settings.target settings.tolerance h.parts) asked_alike h.split;
+    same = h.same;
+    drawn = h.drawn;
+    limit = h.limit;
+    formed = h.formed;
+  }
+
+  pub splits_alike : (old new : CutForest) → SplitsRow settings rules (Some one) old new → SplitsRow settings rules (Some other) old new
+  splits_alike Bare new h = h
+  splits_alike (Grown node below beside) new h = (h.0, h.1, h.2, splits_alike beside h.1 h.3, h.4)
+  splits_alike (Kept mark members beside) new h = (
+    h.0,
+    h.1,
+    h.2,
+    splits_alike members h.0 h.3,
+    matched (h.1 ≡ Kept tt h.0 Bare) (nat_lt settings.k (part_weight h.0)) (divided_alike h.0 h.1) h.4,
+    splits_alike beside h.2 h.5,
+    h.6,
+  )
+
+-- what is replaced so is replaced so, where as much is said of the row
+becomes_as : {k : ℕ} {Becomes Other : CutForest → Type 0} {place : RecordPlace} {members : Layout} {kept : List LaidNode} {put : List ℕ} {stay : List RecordPlace} {proxies : List Proxy} {gone : List Far} {was now : Held} → ((c : CutForest) → Becomes c → Other c)
+    → IsReplaced k Becomes place members kept put stay proxies gone was now → IsReplaced k Other place members kept put stay proxies gone was now
+becomes_as other r = record {
+  row = r.row;
+  becomes = other (without_places r.row) r.becomes;
+  proxies_are = r.proxies_are;
+  held = r.held;
+  once = r.once;
+  light = r.light;
+  brought = r.brought;
+  moves = r.moves;
+  contents_went = r.contents_went;
+  contents_came = r.contents_came;
+  brought_once = r.brought_once;
+  records_stay = r.records_stay;
+  lists_stay = r.lists_stay;
+}
 
 -- A change below an interval that the path leads into:
 
-module _ {D : Type 0} (d : Ghosts D) (rules : List Rule) (change : Change) (place : RecordPlace) (member : ℕ) (path : List ℕ) (first : PassedRecord) (more : List PassedRecord) (last : Piece) (r0 r1 : Records) (x0 x1 : D) where
+module _ {D : Type 0} (d : Ghosts D) (rules : List Rule) (put : Put) (place : RecordPlace) (member : ℕ) (path : List ℕ) (first : PassedRecord) (more : List PassedRecord) (last : Piece) (r0 r1 : Records) (x0 x1 : D) where
   abbrev pub NotChangedAway : StoreError → Records → D → Type 0
-  NotChangedAway e r x = NotChangedAlong d (first ∷ more) last rules change place member path e r0 r x0 x
+  NotChangedAway e r x = NotChangedAlong d (first ∷ more) last rules put place member path e r0 r x0 x
 
   -- the path leaves this piece so
   module _ (piece : Piece) (is : IsPassedRecord piece member path first) where
@@ -115,83 +204,83 @@ module _ {D : Type 0} (d : Ghosts D) (rules : List Rule) (change : Change) (plac
         subst (λ (p : RecordPlace). IsHeldInterval now pieces None p first.member (drop first.used path) most_nodes w.inside) (sym (at_inside pieces members i))
         (inside_interval now pieces (Some piece) place member path most_nodes members i first.index first.member (drop first.used path) w.inside w.into w.same)
 
-    possible_inner : {now : Held} (pieces : PieceMap now) (members : Layout) (i : IsHeldInterval now pieces (Some piece) place member path most_nodes members) → IsPossibleIn (now.settings).k rules change member path members
-        → IsPossibleIn (now.settings).k rules change first.member (drop first.used path) (way members i.is).inside
+    possible_inner : {now : Held} (pieces : PieceMap now) (members : Layout) (i : IsHeldInterval now pieces (Some piece) place member path most_nodes members) → IsPossibleIn (now.settings).k rules put member path members
+        → IsPossibleIn (now.settings).k rules put first.member (drop first.used path) (way members i.is).inside
     possible_inner {now} pieces members i possible =
         let w = way members i.is in
-        possible_below rules change now pieces (Some piece) place member path members i first.index first.member (drop first.used path) w.inside w.into w.same possible
+        possible_below rules put now pieces (Some piece) place member path members i first.index first.member (drop first.used path) w.inside w.into w.same possible
 
     -- what became of the interval below, where it stands
-    replaced : {was mid : Held} (pieces : PieceMap was) (members : Layout) (i : IsHeldInterval was pieces (Some piece) place member path most_nodes members) → IsPossibleIn (was.settings).k rules change member path members
-        → (row : List Proxy) → ChangesKnown rules None (Some first.above) change (place_named first.proxy) first.member (drop first.used path) row was mid
-        → IsReplaced (was.settings).k (AreSplitOf was.settings rules (Some first.above) (changed_interval rules change first.member (drop first.used path) (way members i.is).inside))
+    replaced : {was mid : Held} (pieces : PieceMap was) (members : Layout) (i : IsHeldInterval was pieces (Some piece) place member path most_nodes members) → IsPossibleIn (was.settings).k rules put member path members
+        → (row : List Proxy) (gone : List Far) → ChangesKnown rules None (Some first.above) put (place_named first.proxy) first.member (drop first.used path) row gone was mid
+        → IsReplaced (was.settings).k (AreSplitOf was.settings rules (Some first.above) (changed_interval rules put first.member (drop first.used path) (way members i.is).inside))
         (place_inside was pieces (Some piece) place member path most_nodes members i first.index first.member (drop first.used path) (way members i.is).inside (way members i.is).into)
-        (way members i.is).inside (places_off true (first.member ∷ way_of change (drop first.used path)) (way members i.is).inside) row was mid
-    replaced {was} {mid} pieces members i possible row changes =
+        (way members i.is).inside (kept_around put first.member (drop first.used path) (way members i.is).inside) (put_lists put) (places_off true (first.member ∷ way_of put (drop first.used path)) (way members i.is).inside) row gone was mid
+    replaced {was} {mid} pieces members i possible row gone changes =
         let w = way members i.is in
-        subst (λ (p : RecordPlace). IsReplaced (was.settings).k (AreSplitOf was.settings rules (Some first.above) (changed_interval rules change first.member (drop first.used path) w.inside)) p w.inside (places_off true (first.member ∷ way_of change (drop first.used path)) w.inside) row was mid)
+        subst (λ (p : RecordPlace). IsReplaced (was.settings).k (AreSplitOf was.settings rules (Some first.above) (changed_interval rules put first.member (drop first.used path) w.inside)) p w.inside (kept_around put first.member (drop first.used path) w.inside) (put_lists put) (places_off true (first.member ∷ way_of put (drop first.used path)) w.inside) row gone was mid)
         (at_inside pieces members i)
         (changes pieces w.inside (inner pieces members i) (possible_inner pieces members i possible))
 
-  pub unchanged_below : (e : StoreError) → NotChangedAlong d more last rules change (place_named first.proxy) first.member (drop first.used path) e r0 r1 x0 x1 → NotChangedAway e r1 x1
+  pub unchanged_below : (e : StoreError) → NotChangedAlong d more last rules put (place_named first.proxy) first.member (drop first.used path) e r0 r1 x0 x1 → NotChangedAway e r1 x1
   unchanged_below store.Disk refused = refused
   unchanged_below store.Full refused = record {
     runs = refused.runs;
     keeps = refused.keeps;
     none_free = refused.none_free;
-    few = λ saved now pieces members stands tidy i possible route.
+    few = λ saved now pieces members stands tidy i possible may route.
         let piece = (route.0).0 in
         let is : IsPassedRecord piece member path first = (route.0).2 in
         let j = as_held place member path most_nodes pieces members piece (route.0).1 i in
         let w = way piece is members j.is in
-        let few = refused.few saved now pieces w.inside stands tidy (inner piece is pieces members j) (possible_inner piece is pieces members j possible) route.1 in
-        let needs = change_below rules change now pieces (Some piece) place member path members j first.index first.member (drop first.used path) w.inside w.into in
+        let few = refused.few saved now pieces w.inside stands tidy (inner piece is pieces members j) (possible_inner piece is pieces members j possible) may route.1 in
+        let needs = change_below rules put now pieces (Some piece) place member path members j first.index first.member (drop first.used path) w.inside w.into in
         omega (arith, few, needs);
   }
   unchanged_below (store.Damaged page) refused = (
     refused.0,
-    λ saved now pieces members stands tidy i possible route.
+    λ saved now pieces members stands tidy i possible may route.
         let piece = (route.0).0 in
         let is : IsPassedRecord piece member path first = (route.0).2 in
         let j = as_held place member path most_nodes pieces members piece (route.0).1 i in
-        refused.1 saved now pieces (way piece is members j.is).inside stands tidy (inner piece is pieces members j) (possible_inner piece is pieces members j possible) route.1,
+        refused.1 saved now pieces (way piece is members j.is).inside stands tidy (inner piece is pieces members j) (possible_inner piece is pieces members j possible) may route.1,
   )
   unchanged_below store.Memory refused = refused
   unchanged_below store.Ended refused = absurd refused
   unchanged_below store.Exists refused = absurd refused
   unchanged_below store.NotAStore refused = absurd refused
 
-  module _ (small : (settings_of r0).k ≤ 256) (still : IsStill d x0 x1) (runs : RunsOn r0 r1) (keeps : KeepsSaved d r0 r1 x0 x1) (row : List Proxy)
-      (below : ComesTidy d r0 r1 x0 x1 (ChangesAlong more last rules (Some first.above) change (place_named first.proxy) first.member (drop first.used path) row)) (r2 : Records) (x2 : D) where
+  module _ (small : (settings_of r0).k ≤ 256) (still : IsStill d x0 x1) (runs : RunsOn r0 r1) (keeps : KeepsSaved d r0 r1 x0 x1) (row : List Proxy) (gone : List Far)
+      (below : ComesTidyWhere d r0 r1 x0 x1 (λ was. MayChangeAlong was put (place_named first.proxy) first.member (drop first.used path) more last) (ChangesKnown rules None (Some first.above) put (place_named first.proxy) first.member (drop first.used path) row gone)) (r2 : Records) (x2 : D) where
     pub pass_refused : (e : StoreError) → NotPassed d place first (piece_with_row first.index row) (λ piece. MayHaveRow piece row) e r1 r2 x1 x2 → NotChangedAway e r2 x2
     pass_refused store.Disk refused = (later_rose (d.faults x0) (d.faults x1) (d.faults x2) still.faults_later refused.0, ends_behind {r0 = r0} {r1 = r1} {r2 = r2} runs refused.1)
     pass_refused store.Full refused = record {
       runs = runs_then {r0 = r0} {r1 = r1} {r2 = r2} runs refused.runs;
       keeps = saved_then {d = d} {r0 = r0} {r1 = r1} {r2 = r2} {x0 = x0} {x1 = x1} {x2 = x2} keeps refused.keeps;
       none_free = refused.none_free;
-      few = λ saved now pieces members stands tidy i possible route.
+      few = λ saved now pieces members stands tidy i possible may route.
           let piece = (route.0).0 in
           let is : IsPassedRecord piece member path first = (route.0).2 in
           let j = as_held place member path most_nodes pieces members piece (route.0).1 i in
           let w = way piece is members j.is in
-          let mid = below saved now stands tidy in
-          let r = replaced piece is pieces members j possible row (mid.3 route.1) in
+          let mid = below saved now stands tidy (route.1, may) in
+          let r = replaced piece is pieces members j possible row gone mid.3 in
           let there = above_there now pieces (Some piece) place member path most_nodes members j first.index first.member (drop first.used path) w.inside w.into tidy r.moves in
-          change_few rules change now pieces (Some piece) place member path members j first.index first.member (drop first.used path) w.inside w.into (most_weight small stands) possible tidy first.above row r piece j.is
+          change_few rules put now pieces (Some piece) place member path members j first.index first.member (drop first.used path) w.inside w.into (most_weight small stands) possible tidy first.above row r piece j.is
           (refused.few saved mid.0 piece mid.1 (subst (λ (p : Piece). HoldsPiece mid.0 place p) (sym j.is) there) (is.proxy_is, is.roots_are));
     }
     pass_refused (store.Damaged page) refused = (
       ends_behind {r0 = r0} {r1 = r1} {r2 = r2} runs refused.0,
-      λ saved now pieces members stands tidy i possible route.
+      λ saved now pieces members stands tidy i possible may route.
           let piece = (route.0).0 in
           let is : IsPassedRecord piece member path first = (route.0).2 in
           let j = as_held place member path most_nodes pieces members piece (route.0).1 i in
           let w = way piece is members j.is in
-          let mid = below saved now stands tidy in
-          let r = replaced piece is pieces members j possible row (mid.3 route.1) in
+          let mid = below saved now stands tidy (route.1, may) in
+          let r = replaced piece is pieces members j possible row gone mid.3 in
           let there = above_there now pieces (Some piece) place member path most_nodes members j first.index first.member (drop first.used path) w.inside w.into tidy r.moves in
           refused.1 saved mid.0 piece mid.1 (subst (λ (p : Piece). HoldsPiece mid.0 place p) (sym j.is) there) (is.proxy_is, is.roots_are)
-          (may_have rules change now pieces (Some piece) place member path members j first.index first.member (drop first.used path) w.inside w.into (most_weight small stands) possible tidy first.above row r piece j.is),
+          (may_have rules put now pieces (Some piece) place member path members j first.index first.member (drop first.used path) w.inside w.into (most_weight small stands) possible tidy first.above row r piece j.is),
     )
     pass_refused store.Memory refused = (
       runs_then {r0 = r0} {r1 = r1} {r2 = r2} runs refused.0,
@@ -201,25 +290,30 @@ module _ {D : Type 0} (d : Ghosts D) (rules : List Rule) (change : Change) (plac
     pass_refused store.Exists refused = absurd refused
     pass_refused store.NotAStore refused = absurd refused
 
-    pub changed_away : (above : Option Node) (put : List Proxy) → ComesTidy d r1 r2 x1 x2 (PassesRow place first row put) → ComesTidy d r0 r2 x0 x2 (ChangesAlong (first ∷ more) last rules above change place member path put)
-    changed_away above put passes saved was stands tidy =
-        let mid = below saved was stands tidy in
+    pub changed_away : (above : Option Node) (own : List Proxy) → ComesTidy d r1 r2 x1 x2 (PassesRow place first row own)
+        → ComesTidyWhere d r0 r2 x0 x2 (λ was. MayChangeAlong was put place member path (first ∷ more) last) (ChangesKnown rules None above put place member path own gone)
+    changed_away above own passes saved was stands tidy may =
+        let route = may.0 in
+        let mid = below saved was stands tidy (route.1, may.1) in
         let now = passes saved mid.0 mid.1 mid.2 in (
           now.0,
           now.1,
           now.2,
-          λ route pieces members i possible.
+          λ pieces members i possible.
               let piece = (route.0).0 in
               let is : IsPassedRecord piece member path first = (route.0).2 in
               let j = as_held place member path most_nodes pieces members piece (route.0).1 i in
               let w = way piece is members j.is in
-              let r = replaced piece is pieces members j possible row (mid.3 route.1) in
+              let up = node_above piece member path first.index first.member first.used members first.above above (drop_free members (j.light).1) j.is is.leads is.above in
+              let r = replaced piece is pieces members j possible row gone mid.3 in
+              let s = becomes_as (λ c h. (splits_alike was.settings rules first.above up.whole up.alike (changed_interval rules put first.member (drop first.used path) w.inside) c h.0, h.1)) r in
               let there = above_there was pieces (Some piece) place member path most_nodes members j first.index first.member (drop first.used path) w.inside w.into tidy r.moves in
               let put_is = now.3 piece (subst (λ (p : Piece). HoldsPiece mid.0 place p) (sym j.is) there) (is.proxy_is, is.roots_are) in
-              subst (λ (ps : List Proxy). IsReplaced (was.settings).k (AreSplitOf was.settings rules above (changed_interval rules change member path members)) place members (places_off true (member ∷ way_of change path) members) ps was now.0) (sym put_is.1)
-              (away_changed rules change was pieces (Some piece) place member path members j first.index first.member (drop first.used path) w.inside w.into (most_weight small stands) possible tidy first.above row r above
-              (node_above piece member path first.index first.member first.used members first.above above (j.light).1 j.is is.leads is.above) mid.2 piece j.is put_is.0 put_is.2 put_is.3),
+              subst (λ (ps : List Proxy). IsReplaced (was.settings).k (AreSplitOf was.settings rules above (changed_interval rules put member path members)) place members (kept_around put member path members) (put_lists put)
+              (places_off true (member ∷ way_of put path) members) ps gone was now.0) (sym put_is.1)
+              (away_changed rules put was pieces (Some piece) place member path members j first.index first.member (drop first.used path) w.inside w.into (most_weight small stands) possible tidy up.whole row s above up.above mid.2 piece j.is put_is.0
+              put_is.2 put_is.3),
         )
-
-    pub away_keeps : RunsOn r1 r2 → KeepsSaved d r1 r2 x1 x2 → RunsOn r0 r2 × KeepsSaved d r0 r2 x0 x2
-    away_keeps on kept = (runs_then {r0 = r0} {r1 = r1} {r2 = r2} runs on, saved_then {d = d} {r0 = r0} {r1 = r1} {r2 = r2} {x0 = x0} {x1 = x1} {x2 = x2} keeps kept)
+      where
+        drop_free : (a : Layout) → AreFree (without_places a) → AreFree a
+        drop_free a free = drawn_free a free

@@ -1,5 +1,5 @@
 -- A row in which one tree is changed, or one below it.
-use Rattle.std.proofs.Common.{◌≡◌, ℕ, zero, suc, ◌-◌, ◌<◌, ◌≤◌, List, [], ◌∷◌, ◌++◌, length, refl, sym, ap, ◌∙◌, subst}
+use Rattle.std.proofs.Common.{◌≡◌, ℕ, zero, suc, ◌-◌, ◌<◌, ◌≤◌, List, [], ◌∷◌, ◌++◌, length, Option, refl, sym, ap, ◌∙◌, subst}
 use Rattle.nx_tree.specs.declared.node.Node.{Node}
 use Rattle.nx_piece_edits.proofs.LeftLemmas.{less_is, not_less}
 use Rattle.nx_matrix.specs.declared.rule.Rule.{Rule}
@@ -10,10 +10,9 @@ use Rattle.nx_layouts.specs.Replace.{replaced_at}
 use Rattle.nx_layouts.specs.Cutting.{StaysIn, LeadsInto}
 use Rattle.nx_layouts.specs.Setting.{layout_with}
 use Rattle.nx_drawn.specs.Edits.{inserted, retexted}
-use Rattle.nx_drawn.proofs.BareLemmas.{width_bare}
-use Rattle.nx_edit.specs.declared.changing.Change.{Change}
-use Rattle.nx_edit.specs.declared.changing.Change.TheVariants as put
-use Rattle.nx_edit.specs.Changing.{changed}
+use Rattle.nx_layouts.proofs.DrawnLemmas.{drawn_wide}
+use Rattle.nx_edit.specs.Changing.{Put, changed}
+use Rattle.nx_edit.specs.Changing as put
 use Rattle.nx_edit.proofs.CutLemmas.{member_there, into_there}
 
 -- Rows behind an interval and in one:
@@ -29,27 +28,27 @@ changed_inside change position members beside less =
 pub bare_behind : (change : CutTree → CutTree) (position : ℕ) (m s : Layout) → width m ≤ position
     → Kept tt (without_places m) (changed_row (position - width m) change (without_places s)) ≡ changed_row position change (Kept tt (without_places m) (without_places s))
 bare_behind change position m s most =
-    ap (λ (w : ℕ). Kept tt (without_places m) (changed_row (position - w) change (without_places s))) (sym (width_bare m))
-    ∙ sym (changed_behind change position (without_places m) (without_places s) (subst (λ (w : ℕ). w ≤ position) (sym (width_bare m)) most))
+    ap (λ (w : ℕ). Kept tt (without_places m) (changed_row (position - w) change (without_places s))) (sym (drawn_wide m))
+    ∙ sym (changed_behind change position (without_places m) (without_places s) (subst (λ (w : ℕ). w ≤ position) (sym (drawn_wide m)) most))
 
 -- an interval of which a member is changed, or a tree below one
 pub interval_changed : (change : CutTree → CutTree) (position : ℕ) (m s : Layout) → position < width m → Kept tt (changed_row position change (without_places m)) (without_places s) ≡ changed_row position change (Kept tt (without_places m) (without_places s))
-interval_changed change position m s less = sym (changed_inside change position (without_places m) (without_places s) (subst (λ (w : ℕ). position < w) (sym (width_bare m)) less))
+interval_changed change position m s less = sym (changed_inside change position (without_places m) (without_places s) (subst (λ (w : ℕ). position < w) (sym (drawn_wide m)) less))
 
 -- What a record has after a node of its own got another content is the row with it.
-pub content_row : (content : List ℕ) (position : ℕ) (path : List ℕ) (row : Layout) → StaysIn position path row → without_places (layout_with position path content row) ≡ changed_row position (retexted content path) (without_places row)
-content_row content position path Bare h = absurd h
-content_row content zero [] (Grown n b s) h = refl
-content_row content zero (q ∷ path) (Grown n b s) h = ap (λ (c : CutForest). Grown n c (without_places s)) (content_row content q path b h)
-content_row content (suc position) path (Grown n b s) h = ap (λ (c : CutForest). Grown n (without_places b) c) (content_row content position path s h)
-content_row content position path (Kept p m s) h =
-    ap (λ (c : CutForest). Kept tt (without_places m) c) (content_row content (position - width m) path s h.1) ∙ bare_behind (retexted content path) position m s h.0
+pub content_row : (content : List ℕ) (list : Option ℕ) (position : ℕ) (path : List ℕ) (row : Layout) → StaysIn position path row → without_places (layout_with position path content list row) ≡ changed_row position (retexted content path) (without_places row)
+content_row content list position path Bare h = absurd h
+content_row content list zero [] (Grown n b s) h = refl
+content_row content list zero (q ∷ path) (Grown n b s) h = ap (λ (c : CutForest). Grown n.node c (without_places s)) (content_row content list q path b h)
+content_row content list (suc position) path (Grown n b s) h = ap (λ (c : CutForest). Grown n.node (without_places b) c) (content_row content list position path s h)
+content_row content list position path (Kept p m s) h =
+    ap (λ (c : CutForest). Kept tt (without_places m) c) (content_row content list (position - width m) path s h.1) ∙ bare_behind (retexted content path) position m s h.0
 
 -- an interval whose record has the node
-pub content_interval : (content : List ℕ) (position : ℕ) (path : List ℕ) (place : RecordPlace) (members : Layout) → StaysIn position path members
-    → without_places (Kept place (layout_with position path content members) Bare) ≡ changed_row position (retexted content path) (Kept tt (without_places members) Bare)
-content_interval content position path place members h =
-    ap (λ (c : CutForest). Kept tt c Bare) (content_row content position path members h) ∙ interval_changed (retexted content path) position members Bare (member_there position path members h)
+pub content_interval : (content : List ℕ) (list : Option ℕ) (position : ℕ) (path : List ℕ) (place : RecordPlace) (members : Layout) → StaysIn position path members
+    → without_places (Kept place (layout_with position path content list members) Bare) ≡ changed_row position (retexted content path) (Kept tt (without_places members) Bare)
+content_interval content list position path place members h =
+    ap (λ (c : CutForest). Kept tt c Bare) (content_row content list position path members h) ∙ interval_changed (retexted content path) position members Bare (member_there position path members h)
 
 -- A change that goes on below along the path:
 abbrev pub GoesOnBelow : (List ℕ → CutTree → CutTree) → Type 0
@@ -66,11 +65,11 @@ module _ (change : List ℕ → CutTree → CutTree) (below : GoesOnBelow change
   interval_is_changed index member rest inside new place zero [] (Grown n b s) h e = absurd h
   interval_is_changed index member rest inside new place zero (q ∷ path) (Grown n b s) h e =
       ap (λ (l : Layout). without_places l) (less_is index (length (proxies_of b)) (Grown n (replaced_at index (Kept place new Bare) b) s) (Grown n b (replaced_at (index - length (proxies_of b)) (Kept place new Bare) s)) h.0)
-      ∙ ap (λ (c : CutForest). Grown n c (without_places s)) (interval_is_changed index member rest inside new place q path b h.1 e)
-      ∙ sym (row_below q path n (without_places b) (without_places s))
+      ∙ ap (λ (c : CutForest). Grown n.node c (without_places s)) (interval_is_changed index member rest inside new place q path b h.1 e)
+      ∙ sym (row_below q path n.node (without_places b) (without_places s))
   interval_is_changed index member rest inside new place (suc position) path (Grown n b s) h e =
       ap (λ (l : Layout). without_places l) (not_less index (length (proxies_of b)) (Grown n (replaced_at index (Kept place new Bare) b) s) (Grown n b (replaced_at (index - length (proxies_of b)) (Kept place new Bare) s)) h.0)
-      ∙ ap (λ (c : CutForest). Grown n (without_places b) c) (interval_is_changed (index - length (proxies_of b)) member rest inside new place position path s h.1 e)
+      ∙ ap (λ (c : CutForest). Grown n.node (without_places b) c) (interval_is_changed (index - length (proxies_of b)) member rest inside new place position path s h.1 e)
   interval_is_changed zero member rest inside new place position path (Kept p m s) h e =
       ap (λ (c : CutForest). Kept tt c (without_places s)) (e ∙ here h.1 h.2 h.3) ∙ interval_changed (change path) position m s h.0
     where
@@ -95,6 +94,6 @@ pub child_below : (rules : List Rule) (node : Node) (position : ℕ) → GoesOnB
 child_below rules node position next [] t = refl
 child_below rules node position next (q ∷ path) t = refl
 
-pub changed_below : (rules : List Rule) (change : Change) → GoesOnBelow (changed rules change)
-changed_below rules (put.Content content) next path t = content_below content next path t
-changed_below rules (put.Child position node) next path t = child_below rules node position next path t
+pub changed_below : (rules : List Rule) (put : Put) → GoesOnBelow (changed rules put)
+changed_below rules (put.Content content list) next path t = content_below content next path t
+changed_below rules (put.Child position node) next path t = child_below rules node.node position next path t

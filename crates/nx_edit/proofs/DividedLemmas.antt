@@ -1,5 +1,6 @@
 -- A piece that outweighs K, divided in the place of its record.
 use Rattle.std.proofs.Common.{◌≡◌, ℕ, ◌+◌, ◌*◌, ◌<◌, ◌≤◌, ◌++◌, List, [], ◌∷◌, length, Option, Some, refl, sym, ap, ◌∙◌, subst, arith, append-nil, IsPermutation}
+use Rattle.std.proofs.lemmas.List.Sorted.{IsPermutation-refl}
 use Rattle.std.specs.Prelude.{false, Result, Ok, Err, IfOk}
 use Rattle.nx_host.specs.Disk.{Image}
 use Rattle.nx_host.specs.declared.disk.Disk.{Ghosts}
@@ -16,30 +17,30 @@ use Rattle.nx_records.specs.Refusals.{EndNow}
 use Rattle.nx_piece.specs.declared.piece.Piece.{Piece}
 use Rattle.nx_piece.specs.declared.piece.Proxy.{Proxy}
 use Rattle.nx_piece.specs.Gapped.{Gapped, End, Grow, Gap}
+use Rattle.nx_piece.specs.Valid.{AreFar, AreNear}
 use Rattle.nx_matrix.specs.declared.rule.Rule.{Rule}
-use Rattle.nx_cuts.specs.Cut.{Bare, Grown, Kept, forest, AreParts}
-use Rattle.nx_layouts.specs.Layout.{RecordPlace, Layout, AreHeld, ArePlacedOnce, gap_more, piece_body, piece_of, places_of, proxies_of, without_places}
+use Rattle.nx_cuts.specs.Cut.{Bare, Grown, Kept, AreParts}
+use Rattle.nx_layouts.specs.Layout.{RecordPlace, Layout, AreHeld, AreLaidParts, ArePlacedOnce, contents_of, gap_more, laid_forest, lists_of, nodes_in, piece_body, piece_of, places_of, proxies_of, without_places}
 use Rattle.nx_layouts.specs.Replace.{above_at, joined_layout, kept_at, replaced_at}
 use Rattle.nx_layouts.proofs.PlaceLemmas.{no_place}
-use Rattle.nx_hold.specs.Pieces.{IsTidy, PieceMap}
+use Rattle.nx_hold.specs.Contents.{near_pages}
+use Rattle.nx_hold.specs.Pieces.{IsTidy, MayName, PieceMap, held_by}
 use Rattle.nx_hold.proofs.PieceLemmas.{some_same}
 use Rattle.nx_hold.specs.Documents.{MovesRecords}
 use Rattle.nx_drawn.specs.Splits.{SplitsRow}
-use Rattle.nx_drawn.proofs.BareLemmas.{parts_bare}
 use Rattle.nx_drafts.specs.Draft.{Draft, layout_before, layout_after, came, draft_needs}
 use Rattle.nx_drafts.proofs.GatherLemmas.{forest-layout_before}
 use Rattle.nx_drafts.proofs.NeedsLemmas.{needs_few}
-use Rattle.nx_drafts.proofs.PlacesLemmas.{drawn_forest-layout_after, places_are_both}
+use Rattle.nx_drafts.proofs.PlacesLemmas.{drawn_forest-layout_after, nodes_stay, places_are_both}
 use Rattle.nx_divide.specs.Dividing.{NotSplitAt, PutsSome, SplitsAt, StandApart}
 use Rattle.nx_divide.specs.Heavy.{MayBeDivided}
 use Rattle.nx_divide.proofs.HeavyLemmas.{heavy_is_piece}
 use Rattle.nx_edit.specs.Changing.{AreAllKept, AreSplitOf}
 use Rattle.nx_edit.specs.Growing.{IsGrownMembers, PutsGrown, NotGrown, OfGrown}
 use Rattle.nx_edit.specs.Rows.{row_nodes, IsReplaced}
-use Rattle.nx_edit.proofs.OwnLemmas.{nodes_bare}
 use Rattle.nx_hold.proofs.RefusalLemmas.{no_end}
-use Rattle.nx_hold.specs.Changes.{ComesTidy}
-use Rattle.nx_edit.proofs.GrownLemmas.{settings_there, below_stays, once_beside, moved_beside}
+use Rattle.nx_hold.specs.Changes.{ComesTidyWhere}
+use Rattle.nx_edit.proofs.GrownLemmas.{settings_there, below_stays, kept_all, once_beside, moved_beside}
 
 -- with nothing beside it
 joined_none : (a : Layout) → joined_layout a Bare ≡ a
@@ -65,7 +66,7 @@ all_kept (Grown node below beside) gaps = absurd gaps
 all_kept (Kept place members beside) gaps = all_kept beside (gaps_less (piece_body beside) gaps)
 
 -- a draft has the trees that stood, once its records have come
-drafted_same : (draft : Draft RecordPlace) → row_nodes (without_places (layout_after draft)) ≡ nodes (forest (layout_before draft))
+drafted_same : (draft : Draft RecordPlace) → row_nodes (without_places (layout_after draft)) ≡ nodes (laid_forest (layout_before draft))
 drafted_same draft = ap row_nodes (drawn_forest-layout_after draft) ∙ ap nodes (sym (forest-layout_before draft))
 
 module _ (was : Held) (pieces : PieceMap was) (piece : Piece) (place : RecordPlace) (members : Layout) (g : IsGrownMembers was pieces piece place members) (rules : List Rule) (above : Option Node) where
@@ -73,14 +74,14 @@ module _ (was : Held) (pieces : PieceMap was) (piece : Piece) (place : RecordPla
   k = (was.settings).k
 
   -- no part below is too heavy
-  whole_parts : (draft : Draft RecordPlace) → AreParts k (joined_layout (layout_after draft) Bare) → AreParts k (layout_after draft)
-  whole_parts draft light = subst (AreParts k) (joined_none (layout_after draft)) light
+  whole_parts : (draft : Draft RecordPlace) → AreLaidParts k (joined_layout (layout_after draft) Bare) → AreLaidParts k (layout_after draft)
+  whole_parts draft light = subst (AreLaidParts k) (joined_none (layout_after draft)) light
 
   module _ {now : Held} (tidy : IsTidy was) (row : List Proxy) (draft : Draft RecordPlace) (stands : layout_before draft ≡ members)
-      (splits : SplitsRow was.settings rules above (Kept tt (without_places members) Bare) (without_places (joined_layout (layout_after draft) Bare))) (light : AreParts k (joined_layout (layout_after draft) Bare))
+      (splits : SplitsRow was.settings rules above (Kept tt (without_places members) Bare) (without_places (joined_layout (layout_after draft) Bare))) (light : AreLaidParts k (joined_layout (layout_after draft) Bare))
       (gap : piece_body (layout_after draft) ≡ Gap (length row) End) (proxies : proxies_of (joined_layout (layout_after draft) Bare) ≡ row ++ [])
-      (moves : MovesRecords (place ∷ []) (came draft) (draft_needs draft) was now) (once : ArePlacedOnce (came draft))
-      (held : (after : PieceMap now) → AreHeld after.piece_at (joined_layout (layout_after draft) Bare)) where
+      (moves : MovesRecords (place ∷ []) (came draft) [] [] (draft_needs draft) was now) (once : ArePlacedOnce (came draft))
+      (held : (after : PieceMap now) → AreHeld (held_by after) (joined_layout (layout_after draft) Bare)) where
     alone : joined_layout (layout_after draft) Bare ≡ layout_after draft
     alone = joined_none (layout_after draft)
 
@@ -89,11 +90,15 @@ module _ (was : Held) (pieces : PieceMap was) (piece : Piece) (place : RecordPla
 
     needs : draft_needs draft ≤ 2 * row_nodes (without_places (layout_after draft))
     needs =
-        let few = needs_few k draft (subst (AreParts k) (drawn_forest-layout_after draft) (parts_bare k (layout_after draft) (whole_parts draft light))) in
+        let few = needs_few k draft (subst (AreParts k) (drawn_forest-layout_after draft) (whole_parts draft light)) in
         let same = drafted_same draft in
         omega (arith, few, same)
 
-    abbrev heavy_row : IsReplaced k (AreSplitOf was.settings rules above (Kept tt (without_places members) Bare)) place members (places_of members) row was now
+    -- the nodes are those that stood, in order
+    same_lists : contents_of (layout_after draft) ≡ contents_of members ++ []
+    same_lists = ap lists_of (nodes_stay draft ∙ ap nodes_in stands) ∙ sym (append-nil (contents_of members))
+
+    abbrev heavy_row : IsReplaced k (AreSplitOf was.settings rules above (Kept tt (without_places members) Bare)) place members (nodes_in members) [] (places_of members) row [] was now
     heavy_row = record {
       row = layout_after draft;
       becomes = (
@@ -101,15 +106,20 @@ module _ (was : Held) (pieces : PieceMap was) (piece : Piece) (place : RecordPla
         all_kept (layout_after draft) (subst HasGapsAlone (sym gap) tt),
       );
       proxies_are = sym (append-nil row) ∙ sym proxies ∙ ap proxies_of alone;
-      held = λ after. subst (AreHeld after.piece_at) alone (held after);
+      held = λ after. subst (AreHeld (held_by after)) alone (held after);
       once = once_beside was pieces piece place members g tidy moves (places_of (layout_after draft)) are once;
       light = whole_parts draft light;
-      moves = moved_beside was pieces piece place members g tidy moves (places_of (layout_after draft)) are (row_nodes (without_places members) + 2 * row_nodes (without_places (layout_after draft))) (omega (arith, needs));
+      brought = [];
+      moves = moved_beside was pieces piece place members g tidy moves (places_of (layout_after draft)) are (row_nodes (without_places members) + 2 * row_nodes (without_places (layout_after draft)) + near_pages (nodes_in members))
+          (omega (arith, needs));
+      contents_went = kept_all was pieces piece place members g;
+      contents_came = subst (λ (ls : List ℕ). IsPermutation ls (contents_of members ++ [])) (sym same_lists) (IsPermutation-refl (contents_of members ++ []));
+      brought_once = tt;
       records_stay = λ other among. (below_stays was pieces piece place members g tidy moves other among).0;
       lists_stay = λ other count chain among. (below_stays was pieces piece place members g tidy moves other among).1 count chain;
     }
 
-    pub heavy_put : (r : IsReplaced k (AreSplitOf was.settings rules above (Kept tt (without_places members) Bare)) place members (places_of members) row was now) × (was.free ≤ now.free + 2 * row_nodes (without_places r.row))
+    pub heavy_put : (r : IsReplaced k (AreSplitOf was.settings rules above (Kept tt (without_places members) Bare)) place members (nodes_in members) [] (places_of members) row [] was now) × (was.free ≤ now.free + (2 * row_nodes (without_places r.row) + near_pages (nodes_in members)))
     heavy_put = (heavy_row, let free = moves.free in omega (arith, needs, free))
 
 -- records stand for one thing at most
@@ -125,33 +135,34 @@ module _ {D : Type 0} (d : Ghosts D) (rules : List Rule) (above : Option Node) (
   -- what is promised of each row that has the interval
   abbrev SplitsEach : List Proxy → Type 0
   SplitsEach row =
-      (top : Option Node) (index : ℕ) (whole members : Layout) → kept_at index whole ≡ Some members → piece_of members ≡ piece → above_at index top whole ≡ above → AreParts settings.k (replaced_at index Bare whole) → AreParts settings.k members
+      (top : Option Node) (index : ℕ) (whole members : Layout) → kept_at index whole ≡ Some members → piece_of members ≡ piece → above_at index top whole ≡ above → AreLaidParts settings.k (replaced_at index Bare whole) → AreLaidParts settings.k members
       → index < length (proxies_of whole) → SplitsAt d settings rules top index place r0 r1 x0 x1 whole members row
 
   -- what came of what was held, by a split of the interval alone
   abbrev ComesOf : Layout → Draft RecordPlace → (was now : Held) → Type 0
   ComesOf members draft was now =
-      MovesRecords (place ∷ []) (came draft) (draft_needs draft) was now × ArePlacedOnce (came draft)
-      × ((before : PieceMap was) (after : PieceMap now) → StandApart place Bare → StandApart place members → AreHeld before.piece_at Bare → AreHeld before.piece_at members → AreHeld after.piece_at (joined_layout (layout_after draft) Bare))
+      MovesRecords (place ∷ []) (came draft) [] [] (draft_needs draft) was now × ArePlacedOnce (came draft)
+      × ((before : PieceMap was) (after : PieceMap now) → StandApart place Bare → StandApart place members → MayName was (Gap 1 End) → AreHeld (held_by before) Bare → AreHeld (held_by before) members
+      → AreHeld (held_by after) (joined_layout (layout_after draft) Bare))
 
-  heavy_done : (row : List Proxy) → ComesTidy d r0 r1 x0 x1 (PutsSome place) → SplitsEach row → ComesTidy d r0 r1 x0 x1 (PutsGrown rules above piece place row)
-  heavy_done row comes each saved was stands tidy =
-      let now = comes saved was stands tidy in
+  heavy_done : (row : List Proxy) → ComesTidyWhere d r0 r1 x0 x1 (λ was. MayName was piece.body.roots) (PutsSome place) → SplitsEach row → ComesTidyWhere d r0 r1 x0 x1 (λ was. MayName was piece.body.roots) (PutsGrown rules above piece place row)
+  heavy_done row comes each saved was stands tidy may =
+      let now = comes saved was stands tidy may in
       let set : was.settings ≡ settings = settings_there d r0 x0 saved was stands in (
         now.0,
         now.1,
         now.2,
         λ pieces members g.
-            let s = each above 0 (Kept place members Bare) members refl g.is refl tt (subst (λ (t : Settings). AreParts t.k members) set (g.heavy).parts) (omega arith) in
-            let mid = s.comes saved was stands tidy in
+            let s = each above 0 (Kept place members Bare) members refl g.is refl tt (subst (λ (t : Settings). AreLaidParts t.k members) set (g.heavy).parts) (omega arith) in
+            let mid = s.comes saved was stands tidy g.may in
             let facts : ComesOf members s.draft was now.0 = subst (λ (h : Held). ComesOf members s.draft was h) (stands_once d r1 x1 saved saved mid.0 now.0 mid.1 now.1) mid.3 in
             heavy_put was pieces piece place members g rules above tidy row s.draft s.stands
             (subst (λ (t : Settings). SplitsRow t rules above (Kept tt (without_places members) Bare) (without_places (joined_layout (layout_after s.draft) Bare))) (sym set) s.splits)
-            (subst (λ (t : Settings). AreParts t.k (joined_layout (layout_after s.draft) Bare)) (sym set) s.light) s.gap s.proxies facts.0 facts.1
-            (λ after. facts.2 pieces after (no_place place) (g.once).0 tt g.held),
+            (subst (λ (t : Settings). AreLaidParts t.k (joined_layout (layout_after s.draft) Bare)) (sym set) s.light) s.gap s.proxies facts.0 facts.1
+            (λ after. facts.2 pieces after (no_place place) (g.once).0 (λ far among. absurd (no_place far among)) tt g.held),
       )
 
-  pub heavy_ok : (r : Result (List Proxy) StoreError) → IfOk r (λ row. ComesTidy d r0 r1 x0 x1 (PutsSome place)) → IfOk r SplitsEach → IfOk r (λ row. ComesTidy d r0 r1 x0 x1 (PutsGrown rules above piece place row))
+  pub heavy_ok : (r : Result (List Proxy) StoreError) → IfOk r (λ row. ComesTidyWhere d r0 r1 x0 x1 (λ was. MayName was piece.body.roots) (PutsSome place)) → IfOk r SplitsEach → IfOk r (λ row. ComesTidyWhere d r0 r1 x0 x1 (λ was. MayName was piece.body.roots) (PutsGrown rules above piece place row))
   heavy_ok (Ok row) comes each = heavy_done row comes each
   heavy_ok (Err e) comes each = tt
 
@@ -162,12 +173,11 @@ module _ {D : Type 0} (d : Ghosts D) (rules : List Rule) (above : Option Node) (
     keeps = refused.keeps;
     none_free = refused.none_free;
     few = λ saved now pieces members stands tidy g.
-        let n = refused.few members g.is (subst (λ (t : Settings). AreParts t.k members) (settings_there d r0 x0 saved now stands) (g.heavy).parts) in
+        let n = refused.few members g.is (subst (λ (t : Settings). AreLaidParts t.k members) (settings_there d r0 x0 saved now stands) (g.heavy).parts) in
         let few = n.few saved now stands tidy in
         let needs = needs_few (n.divides).limit n.draft (n.divides).formed in
-        let same : nodes (forest (layout_before n.draft)) ≡ nodes (forest members) = ap (λ (l : Layout). nodes (forest l)) n.stands in
-        let bare = nodes_bare members in
-        omega (arith, few, needs, same, bare);
+        let same : nodes (laid_forest (layout_before n.draft)) ≡ nodes (laid_forest members) = ap (λ (l : Layout). nodes (laid_forest l)) n.stands in
+        omega (arith, few, needs, same);
   }
   heavy_refused (store.Damaged other) runs refused = (refused.0, λ saved now pieces members stands tidy g. refused.1 saved now stands tidy (g.there).0 (g.there).1)
   heavy_refused store.Ended runs refused = absurd (no_end r0 runs refused.0)
@@ -176,15 +186,15 @@ module _ {D : Type 0} (d : Ghosts D) (rules : List Rule) (above : Option Node) (
   heavy_refused store.NotAStore runs refused = absurd refused
 
   -- a piece that may not be divided is that of no such interval
-  pub undivided : settings.k ≤ 256 → (MayBeDivided settings.k piece → ⊥) → EndNow r0 r1 → EndNow r0 r1 × OfGrown d r0 x0 piece place (λ now members. ⊥)
-  undivided most not ends = (
+  pub undivided : AreNear piece.body.roots → AreFar piece.body.roots → settings.k ≤ 256 → (MayBeDivided settings.k piece → ⊥) → EndNow r0 r1 → EndNow r0 r1 × OfGrown d r0 x0 piece place (λ now members. ⊥)
+  undivided near far most not ends = (
     ends,
     λ saved now pieces members stands tidy g.
         let set : now.settings ≡ settings = settings_there d r0 x0 saved now stands in
         let low : (now.settings).k ≤ 256 = subst (λ (t : Settings). t.k ≤ 256) (sym set) most in
         let few : row_nodes (without_places members) ≤ 524288 = g.few in
-        let bare = nodes_bare members in
         let may : MayBeDivided (now.settings).k (piece_of members) =
-        heavy_is_piece (now.settings).k ((now.settings).k + (now.settings).k) ((now.settings).k + 1) members low (omega (arith, low)) (omega (arith, low)) g.heavy (omega (arith, few, bare)) in
+        heavy_is_piece (now.settings).k ((now.settings).k + (now.settings).k) ((now.settings).k + 1) members low (omega (arith, low)) (omega (arith, low)) (subst (λ (p : Piece). AreNear p.body.roots) (sym g.is) near)
+        (subst (λ (p : Piece). AreFar p.body.roots) (sym g.is) far) g.heavy few in
         not (subst (λ (t : Settings). MayBeDivided t.k piece) set (subst (MayBeDivided (now.settings).k) g.is may)),
   )

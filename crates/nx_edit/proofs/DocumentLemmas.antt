@@ -1,11 +1,15 @@
 -- A change in a document, by the row of its root's interval: for each edit that puts something.
-use Rattle.std.proofs.Common.{◌≡◌, ℕ, ◌+◌, ◌*◌, ◌<◌, List, [], ◌∷◌, ◌++◌, Option, None, Some, refl, sym, ap, ap₂, ◌∙◌, subst, arith, append-nil}
-use Rattle.std.specs.Prelude.{Bool, true, false, IsSome, IfSome}
-use Rattle.std.specs.Option.{IsSomeAnd}
+use Rattle.std.proofs.Common.{◌≡◌, ℕ, ◌+◌, ◌<◌, ◌≤◌, List, [], ◌∷◌, ◌++◌, Option, None, Some, refl, sym, ap, ap₂, ◌∙◌, subst, arith, append-nil, drop, IsPermutation}
+use Rattle.std.specs.Prelude.{Bool, true, false, Contains, IsSome, IfSome}
+use Rattle.std.specs.Option.{IsSomeAnd, option_map_or, option_to_list}
 use Rattle.std.specs.List.{slice_get}
+use Rattle.std.proofs.lemmas.Bool.{false≢true}
 use Rattle.std.proofs.lemmas.List.Elements.{Contains-append_left}
+use Rattle.std.proofs.lemmas.List.Sums.{sum_by-append, sum_by-cons}
+use Rattle.std.proofs.lemmas.List.Sorted.{sum_by-IsPermutation}
 use Rattle.nx_host.specs.declared.disk.Disk.{Ghosts}
 use Rattle.nx_host.specs.Still.{IsStill}
+use Rattle.nx_host.proofs.DiskLemmas.{still_then}
 use Rattle.nx_tree.specs.declared.node.Node.{Node}
 use Rattle.nx_tree.specs.Forest.{OrderedTree, Forest, Empty, Plant, nodes}
 use Rattle.nx_tree.specs.Document.{IsDocument, most_nodes}
@@ -15,19 +19,25 @@ use Rattle.nx_holdings.specs.declared.header.Settings.{Settings}
 use Rattle.nx_records.specs.declared.records.Records.{Records}
 use Rattle.nx_records.specs.declared.error.StoreError.{StoreError}
 use Rattle.nx_records.specs.declared.error.StoreError.TheVariants as store
-use Rattle.nx_records.specs.Records.{has_ended, KeepsSaved, LeavesRecords}
+use Rattle.nx_records.specs.Records.{has_ended, KeepsSaved, LeavesRecords, StandsFor}
 use Rattle.nx_records.proofs.LeaveLemmas.{leaves_runs, leaves_saved, leaves_stand}
-use Rattle.nx_records.specs.Refusals.{RunsOn}
+use Rattle.nx_records.specs.Refusals.{RunsOn, NotStored}
+use Rattle.nx_piece.specs.declared.piece.Far.{Far}
 use Rattle.nx_piece.specs.declared.piece.Piece.{Piece}
 use Rattle.nx_piece.specs.declared.piece.Proxy.{Proxy}
 use Rattle.nx_matrix.specs.declared.rule.Rule.{Rule}
-use Rattle.nx_cuts.specs.Cut.{CutForest, CutTree, Bare, Grown, Kept, forest, tree_of, AreFree, AreParts, joined}
+use Rattle.nx_cuts.specs.Cut.{CutForest, CutTree, Bare, Grown, Kept, forest, tree_of, AreFree, joined}
 use Rattle.nx_cuts.specs.Rows.{changed_row}
-use Rattle.nx_layouts.specs.Layout.{RecordPlace, Layout, AreHeld, ArePlacedOnce, places_of, proxies_of, proxy_of, without_places, whole, IsLaidOutAs}
+use Rattle.nx_layouts.specs.Layout.{RecordPlace, LaidNode, Layout, AreHeld, AreLaidParts, AreOnce, laid_near, laid_forest, piece_of, nodes_in, contents_of, proxies_of, proxy_of, without_places, whole, IsLaidOutAs}
+use Rattle.nx_layouts.proofs.DrawnLemmas.{drawn_free}
+use Rattle.nx_layouts.proofs.PlaceLemmas.{no_place, one_place}
 use Rattle.nx_layouts.specs.Cutting.{member_tree}
 use Rattle.nx_hold.specs.declared.entry.DocEntry.{DocEntry}
-use Rattle.nx_hold.specs.Changes.{place_of, place_named, ComesTidy}
-use Rattle.nx_hold.specs.Pieces.{PieceMap}
+use Rattle.nx_hold.specs.Changes.{place_of, place_named, ComesTidyWhere}
+use Rattle.nx_hold.specs.Contents.{AreOwn, near_pages, content_pages, bytes_pages}
+use Rattle.nx_hold.specs.Pieces.{IsTidy, PieceMap, held_by}
+use Rattle.nx_hold.proofs.MapLemmas.{piece_map, held_at}
+use Rattle.nx_hold.proofs.MoveLemmas.{pieces_stay_around}
 use Rattle.nx_hold.specs.Documents.{HasDocument, MovesRecords}
 use Rattle.nx_hold.proofs.RefusalLemmas.{runs_then, saved_then}
 use Rattle.nx_nav.specs.declared.routing.PassedRecord.{PassedRecord}
@@ -38,32 +48,37 @@ use Rattle.nx_nav.specs.Refusals.{HoldsNoDocument, IsRefused}
 use Rattle.nx_state.specs.State.{document_size}
 use Rattle.nx_drawn.specs.Splits.{Splits, SplitsRow, whole_document}
 use Rattle.nx_drawn.proofs.SplitLemmas.{same_row, same_tree}
-use Rattle.nx_drawn.proofs.BareLemmas.{forest_bare}
-use Rattle.nx_edit.specs.declared.changing.Change.{Change}
 use Rattle.nx_edit.specs.declared.error.EditError.{EditError}
 use Rattle.nx_edit.specs.declared.error.EditError.TheVariants as error
-use Rattle.nx_edit.specs.Removing.{document_places, OfEntry, HasNone}
-use Rattle.nx_edit.specs.Editing.{places_off, IsEdited, EditsDocument}
+use Rattle.nx_edit.specs.Removing.{document_places, fars_of, OfEntry, HasNone, AreUnnamed, NotFreed}
+use Rattle.nx_edit.specs.Editing.{places_off, nodes_off, EditsDocument}
 use Rattle.nx_edit.specs.Refusals.{edit_needs, edit_error, seen_error, LeavesLastCommit, NotEdited}
 use Rattle.nx_edit.specs.Rows.{row_nodes, IsHeldInterval, IsReplaced}
-use Rattle.nx_edit.specs.Changing.{changed, way_of, MayBeMade, changed_interval, IsPossibleIn, AreAllKept, AreSplitOf, ChangesAlong, change_needs, NotChangedAlong}
+use Rattle.nx_edit.specs.Changing.{Put, Content, Child, put_lists, put_list, MayPut, MayChangeAlong, changed, way_of, MayBeMade, changed_interval, IsPossibleIn, AreAllKept, AreSplitOf, kept_around, ChangesKnown, change_needs, NotChangedAlong}
 use Rattle.nx_edit.proofs.RemoveLemmas.{later_rose, ends_behind}
+use Rattle.nx_edit.proofs.FreeLemmas.{firsts}
+use Rattle.nx_edit.proofs.FinishLemmas.{root_near, laid_then, gone_unnamed, finished}
 
--- The change may be made of the node at the path, and makes of the document's tree another document, which is that of this edit.
-pub record IsFitting (k : ℕ) (rules : List Rule) (change : Change) (path : List ℕ) (edit : OrderedTree → OrderedTree) (document : CutTree) : Type 0 where
+abbrev pub IsDeep : Put → List ℕ → Type 0
+IsDeep (Content content list) path = path ≡ [] → ⊥
+IsDeep (Child position node) path = Unit {0}
+
+-- The change may be made of the node at the path, which isn't the root where its content changes, and makes of the document's tree another document, which is that of this edit.
+pub record IsFitting (k : ℕ) (rules : List Rule) (put : Put) (path : List ℕ) (edit : OrderedTree → OrderedTree) (document : CutTree) : Type 0 where
   pub there : OrderedTree
   pub leads : at (tree_of document) path ≡ Some there
-  pub made : MayBeMade k change there
-  pub same : tree_of (changed rules change path document) ≡ edit (tree_of document)
+  pub deep : IsDeep put path
+  pub made : MayBeMade k put there
+  pub same : tree_of (changed rules put path document) ≡ edit (tree_of document)
   pub is_document : IsDocument (edit (tree_of document))
 
 -- A row that holds one tree in intervals is that of one interval, of that tree:
 
 pub record IsOne (row : Layout) : Type 0 where
   pub place : RecordPlace
-  pub node : Node
+  pub root : LaidNode
   pub below : Layout
-  pub is : row ≡ whole place node below
+  pub is : row ≡ Kept place (Grown root below Bare) Bare
 
 none_beside : (a b : Forest) → joined a b ≡ Empty → (a ≡ Empty) × (b ≡ Empty)
 none_beside Empty b e = (refl, e)
@@ -73,28 +88,28 @@ abbrev beside_of : Forest → Forest
 beside_of Empty = Empty
 beside_of (Plant node below beside) = beside
 
-bare_free : (a : Layout) → AreFree a → forest a ≡ Empty → a ≡ Bare
+bare_free : (a : Layout) → AreFree a → laid_forest a ≡ Empty → a ≡ Bare
 bare_free Bare h e = refl
 bare_free (Grown n b s) h e = absurd (cc)
 bare_free (Kept p m s) h e = absurd h
 
-bare_kept : (k : ℕ) (a : Layout) → AreParts k a → AreAllKept (without_places a) → forest a ≡ Empty → a ≡ Bare
+bare_kept : (k : ℕ) (a : Layout) → AreLaidParts k a → AreAllKept (without_places a) → laid_forest a ≡ Empty → a ≡ Bare
 bare_kept k Bare parts h e = refl
 bare_kept k (Grown n b s) parts h e = absurd h
 bare_kept k (Kept p Bare s) parts h e = absurd (let some = parts.0 in omega arith)
 bare_kept k (Kept p (Grown n b r) s) parts h e = absurd (cc)
 bare_kept k (Kept p (Kept q m r) s) parts h e = absurd (parts.1)
 
-one_of : (k : ℕ) (row : Layout) (node : Node) (below : Forest) → AreParts k row → AreAllKept (without_places row) → forest row ≡ Plant node below Empty → IsOne row
+one_of : (k : ℕ) (row : Layout) (node : Node) (below : Forest) → AreLaidParts k row → AreAllKept (without_places row) → laid_forest row ≡ Plant node below Empty → IsOne row
 one_of k Bare node below parts h e = absurd (cc)
 one_of k (Grown n b s) node below parts h e = absurd h
 one_of k (Kept p Bare s) node below parts h e = absurd (let some = parts.0 in omega arith)
 one_of k (Kept p (Kept q m r) s) node below parts h e = absurd (parts.1)
 one_of k (Kept p (Grown n b r) s) node below parts h e =
-    let rest = none_beside (forest r) (forest s) (ap beside_of e) in
-    let bare : r ≡ Bare = bare_free r parts.1 rest.0 in
+    let rest = none_beside (laid_forest r) (laid_forest s) (ap beside_of e) in
+    let bare : r ≡ Bare = bare_free r (drawn_free r parts.1) rest.0 in
     let last : s ≡ Bare = bare_kept k s parts.4 h rest.1 in
-    record { place = p; node = n; below = b; is = ap₂ (λ (x y : Layout). Kept p (Grown n b x) y) bare last }
+    record { place = p; root = n; below = b; is = ap₂ (λ (x y : Layout). Kept p (Grown n b x) y) bare last }
 
 pub none_first : (row : List Proxy) → None ≡ slice_get row 0 → row ≡ []
 none_first [] e = refl
@@ -118,11 +133,16 @@ head_is proxy other rest e = ap (λ (ps : List Proxy). first_or other ps) e
     first_or x [] = x
     first_or x (y ∷ ys) = y
 
+-- the nodes of a document that a change keeps
+abbrev pub kept_by_put : Put → List ℕ → Layout → List LaidNode
+kept_by_put (Content content list) path layout = nodes_off true path layout
+kept_by_put (Child position node) path layout = nodes_in layout
+
 -- a document laid out in records, with a change that fits there
-module _ (was : Held) (pieces : PieceMap was) (entry : DocEntry) (document : CutTree) (layout : Layout) (laid : IsLaidOutAs (was.settings).k pieces.piece_at (place_of entry.root) document layout)
-    (rules : List Rule) (change : Change) (path : List ℕ) (edit : OrderedTree → OrderedTree) (fits : IsFitting (was.settings).k rules change path edit document) where
-  abbrev top_row : Layout
-  top_row = Grown document.node layout Bare
+module _ (was : Held) (pieces : PieceMap was) (entry : DocEntry) (document : CutTree) (layout : Layout) (laid : IsLaidOutAs (held_by pieces) (place_of entry.root) document layout)
+    (rules : List Rule) (put : Put) (path : List ℕ) (edit : OrderedTree → OrderedTree) (fits : IsFitting (was.settings).k rules put path edit document) where
+  abbrev pub top_row : Layout
+  top_row = Grown (laid_near document.node) layout Bare
 
   top_nodes : row_nodes (without_places top_row) ≡ document_size document
   top_nodes =
@@ -132,7 +152,7 @@ module _ (was : Held) (pieces : PieceMap was) (entry : DocEntry) (document : Cut
   there_in : member_tree (forest (without_places top_row)) 0 path ≡ Some fits.there
   there_in = subst (λ (c : CutForest). at (record { node = document.node; below = forest c }) path ≡ Some fits.there) (sym laid.same) fits.leads
 
-  top_interval : IsHeldInterval was pieces None (place_of entry.root) 0 path most_nodes top_row
+  pub top_interval : IsHeldInterval was pieces None (place_of entry.root) 0 path most_nodes top_row
   top_interval = record {
     is = tt;
     held = laid.held;
@@ -142,92 +162,132 @@ module _ (was : Held) (pieces : PieceMap was) (entry : DocEntry) (document : Cut
     few = let small = laid.is_document.small in omega (arith, top_nodes, small);
   }
 
-  row_now : changed_interval rules change 0 path top_row ≡ whole_document (changed rules change path document)
-  row_now = subst (λ (c : CutForest). changed_row 0 (changed rules change path) (Kept tt (Grown document.node c Bare) Bare) ≡ whole_document (changed rules change path document)) (sym laid.same) refl
+  row_now : changed_interval rules put 0 path top_row ≡ whole_document (changed rules put path document)
+  row_now = subst (λ (c : CutForest). changed_row 0 (changed rules put path) (Kept tt (Grown document.node c Bare) Bare) ≡ whole_document (changed rules put path document)) (sym laid.same) refl
 
-  size_now : 1 + nodes (edit (tree_of document)).below ≡ document_size (changed rules change path document)
+  size_now : 1 + nodes (edit (tree_of document)).below ≡ document_size (changed rules put path document)
   size_now =
-      let e : nodes (forest (changed rules change path document).below) ≡ nodes (edit (tree_of document)).below = ap (λ (t : OrderedTree). nodes t.below) fits.same in
+      let e : nodes (forest (changed rules put path document).below) ≡ nodes (edit (tree_of document)).below = ap (λ (t : OrderedTree). nodes t.below) fits.same in
       omega (arith, e)
 
-  nodes_now : row_nodes (changed_interval rules change 0 path top_row) ≡ 1 + nodes (edit (tree_of document)).below
-  nodes_now = let e : row_nodes (changed_interval rules change 0 path top_row) ≡ row_nodes (whole_document (changed rules change path document)) = ap row_nodes row_now in omega (arith, e, size_now)
+  nodes_now : row_nodes (changed_interval rules put 0 path top_row) ≡ 1 + nodes (edit (tree_of document)).below
+  nodes_now = let e : row_nodes (changed_interval rules put 0 path top_row) ≡ row_nodes (whole_document (changed rules put path document)) = ap row_nodes row_now in omega (arith, e, size_now)
 
-  top_possible : IsPossibleIn (was.settings).k rules change 0 path top_row
+  pub top_possible : IsPossibleIn (was.settings).k rules put 0 path top_row
   top_possible = record {
-    made = subst (λ (o : Option OrderedTree). IfSome o (λ y. MayBeMade (was.settings).k change y)) (sym there_in) fits.made;
+    made = subst (λ (o : Option OrderedTree). IfSome o (λ y. MayBeMade (was.settings).k put y)) (sym there_in) fits.made;
     few = let small = fits.is_document.small in omega (arith, nodes_now, small);
   }
 
-  top_needs : change_needs rules change 0 path top_row ≡ edit_needs edit document
-  top_needs = omega (arith, nodes_now, top_nodes)
+  -- the nodes that are kept, and the root
+  pub top_kept : kept_around put 0 path top_row ≡ laid_near document.node ∷ kept_by_put put path layout ++ []
+  top_kept = by_put put path fits.deep
+    where
+      by_put : (p : Put) (way : List ℕ) → IsDeep p way → kept_around p 0 way top_row ≡ laid_near document.node ∷ kept_by_put p way layout ++ []
+      by_put (Content content list) [] deep = absurd (deep refl)
+      by_put (Content content list) (next ∷ way) deep = refl
+      by_put (Child position node) way deep = refl
 
-  module _ (proxies : List Proxy) (now : Held)
-      (r : IsReplaced (was.settings).k (AreSplitOf was.settings rules None (changed_interval rules change 0 path top_row)) (place_of entry.root) top_row (places_off true (0 ∷ way_of change path) top_row) proxies was now) where
-    splits_row : SplitsRow was.settings rules None (whole_document (changed rules change path document)) (without_places r.row)
+  kept_near : near_pages (kept_around put 0 path top_row) ≡ near_pages (kept_by_put put path layout)
+  kept_near =
+      let same = ap (λ (ns : List LaidNode). near_pages ns) (top_kept ∙ ap (λ (ns : List LaidNode). laid_near document.node ∷ ns) (append-nil (kept_by_put put path layout))) in
+      let sum = sum_by-cons (λ (n : LaidNode). option_map_or (λ first. 0) n.list (content_pages n.node)) (laid_near document.node) (kept_by_put put path layout) in
+      let bare = ap bytes_pages (laid.is_document).bare in
+      omega (arith, same, sum, bare)
+
+  pub top_needs : (pages : ℕ) → change_needs rules put 0 path top_row + pages ≡ edit_needs edit (kept_by_put put path) pages document layout
+  top_needs pages = let near = kept_near in omega (arith, nodes_now, top_nodes, near)
+
+  module _ (proxies : List Proxy) (gone : List Far) (mid : Held)
+      (r : IsReplaced (was.settings).k (AreSplitOf was.settings rules None (changed_interval rules put 0 path top_row)) (place_of entry.root) top_row (kept_around put 0 path top_row) (put_lists put) (places_off true (0 ∷ way_of put path) top_row) proxies gone was mid) where
+    splits_row : SplitsRow was.settings rules None (whole_document (changed rules put path document)) (without_places r.row)
     splits_row = subst (λ (c : CutForest). SplitsRow was.settings rules None c (without_places r.row)) row_now (r.becomes).0
 
-    forest_now : forest r.row ≡ Plant (changed rules change path document).node (forest (changed rules change path document).below) Empty
-    forest_now = sym (forest_bare r.row) ∙ same_row was.settings rules None (whole_document (changed rules change path document)) (without_places r.row) splits_row
+    forest_now : laid_forest r.row ≡ Plant (changed rules put path document).node (forest (changed rules put path document).below) Empty
+    forest_now = same_row was.settings rules None (whole_document (changed rules put path document)) (without_places r.row) splits_row
 
-    one_row : IsOne r.row
-    one_row = one_of (was.settings).k r.row (changed rules change path document).node (forest (changed rules change path document).below) r.light (r.becomes).1 forest_now
+    pub one_row : IsOne r.row
+    one_row = one_of (was.settings).k r.row (changed rules put path document).node (forest (changed rules put path document).below) r.light (r.becomes).1 forest_now
 
-    abbrev document_now : CutTree
-    document_now = record { node = one_row.node; below = without_places one_row.below }
+    abbrev pub document_now : CutTree
+    document_now = record { node = one_row.root.node; below = without_places one_row.below }
 
-    splits_now : Splits was.settings rules (changed rules change path document) document_now
-    splits_now = subst (λ (l : Layout). SplitsRow was.settings rules None (whole_document (changed rules change path document)) (without_places l)) one_row.is splits_row
+    pub splits_now : Splits was.settings rules (changed rules put path document) document_now
+    splits_now = subst (λ (l : Layout). SplitsRow was.settings rules None (whole_document (changed rules put path document)) (without_places l)) one_row.is splits_row
 
     proxies_one : proxies ≡ proxy_of one_row.place 1 ∷ []
     proxies_one = r.proxies_are ∙ ap (λ (l : Layout). proxies_of l) one_row.is
 
-    some_proxy : proxies ≡ [] → ⊥
+    pub some_proxy : proxies ≡ [] → ⊥
     some_proxy none = let e : proxy_of one_row.place 1 ∷ [] ≡ [] = sym proxies_one ∙ none in absurd (cc)
 
-    same_now : tree_of document_now ≡ edit (tree_of document)
-    same_now = same_tree was.settings rules (changed rules change path document) document_now splits_now ∙ fits.same
+    pub top_is : (proxy : Proxy) (rest : List Proxy) → proxies ≡ proxy ∷ rest → proxy ≡ proxy_of one_row.place 1
+    top_is proxy rest one = head_is proxy (proxy_of one_row.place 1) rest (sym one ∙ proxies_one)
 
-    now_size : document_size document_now ≡ 1 + nodes (edit (tree_of document)).below
+    same_now : tree_of document_now ≡ edit (tree_of document)
+    same_now = same_tree was.settings rules (changed rules put path document) document_now splits_now ∙ fits.same
+
+    pub is_document_now : IsDocument (tree_of document_now)
+    is_document_now = subst IsDocument (sym same_now) fits.is_document
+
+    pub now_size : document_size document_now ≡ 1 + nodes (edit (tree_of document)).below
     now_size =
         let e : nodes (forest (without_places one_row.below)) ≡ nodes (edit (tree_of document)).below = ap (λ (t : OrderedTree). nodes t.below) same_now in
         omega (arith, e)
 
-    row_size : row_nodes (without_places r.row) ≡ document_size document_now
-    row_size =
-        let e : nodes (forest (without_places r.row)) ≡ nodes (forest (without_places (whole one_row.place one_row.node one_row.below))) = ap (λ (l : Layout). nodes (forest (without_places l))) one_row.is in
-        omega (arith, e)
+    -- the root has no content, so it has no list
+    pub row_is : r.row ≡ whole one_row.place one_row.root.node one_row.below
+    row_is =
+        let held = subst (λ (l : Layout). AreHeld (held_by (piece_map mid)) l) one_row.is (r.held (piece_map mid)) in
+        one_row.is ∙ ap (λ (n : LaidNode). Kept one_row.place (Grown n one_row.below Bare) Bare)
+        (root_near mid one_row.place one_row.root one_row.below Bare (held_at mid (piece_map mid) one_row.place (piece_of (Grown one_row.root one_row.below Bare)) (held.0).there) is_document_now.bare)
 
-    changed_to : (proxy : Proxy) (rest : List Proxy) (new : DocEntry) → proxies ≡ proxy ∷ rest → place_of new.root ≡ place_named proxy → new.nodes ≡ 1 + nodes (edit (tree_of document)).below
-        → IsEdited (λ edited. Splits was.settings rules (changed rules change path document) edited) (document_size document) (document_places entry document layout) (places_off true (way_of change path) layout) new was now
-    changed_to proxy rest new one place count =
-        let top : proxy ≡ proxy_of one_row.place 1 = head_is proxy (proxy_of one_row.place 1) rest (sym one ∙ proxies_one) in
-        let at_root : one_row.place ≡ place_of new.root = sym (place ∙ ap place_named top) in
-        let is : r.row ≡ whole (place_of new.root) one_row.node one_row.below = one_row.is ∙ ap (λ (p : RecordPlace). whole p one_row.node one_row.below) at_root in
-        let needs : row_nodes (without_places top_row) + 2 * row_nodes (without_places r.row) ≡ document_size document + 2 * document_size document_now = omega (arith, row_size, top_nodes) in
-        let moves = r.moves in
-        record {
-          document = document_now;
-          becomes = splits_now;
-          layout = one_row.below;
-          laid = λ after. record {
-            same = refl;
-            held = subst (λ (l : Layout). AreHeld after.piece_at l) is (r.held after);
-            once = subst (λ (l : Layout). ArePlacedOnce (places_of l)) is r.once;
-            light = subst (λ (s : Settings). AreParts s.k (whole (place_of new.root) one_row.node one_row.below)) (sym moves.settings) (subst (AreParts (was.settings).k) is r.light);
-            is_document = subst IsDocument (sym same_now) fits.is_document;
-          };
-          counted = count ∙ sym now_size;
-          moves =
-              subst (λ (n : ℕ). MovesRecords (document_places entry document layout) (document_places new document_now one_row.below) n was now) needs
-              (subst (λ (l : Layout). MovesRecords (document_places entry document layout) (places_of l) (row_nodes (without_places top_row) + 2 * row_nodes (without_places r.row)) was now) is
-              (subst (λ (ps : List RecordPlace). MovesRecords (place_of entry.root ∷ ps) (places_of r.row) (row_nodes (without_places top_row) + 2 * row_nodes (without_places r.row)) was now) (sym (append-nil (places_of layout ++ []))) moves));
-          records_stay = λ other among. r.records_stay other (Contains-append_left (places_off true (way_of change path) layout) [] other among);
-          lists_stay = λ other count chain among. r.lists_stay other count chain (Contains-append_left (places_off true (way_of change path) layout) [] other among);
-        }
+-- What a path passes is there still where a content was written.
+route_stays : (was now : Held) {put : List ℕ} {pages : ℕ} → IsTidy was → MovesRecords [] [] [] put pages was now → (place : RecordPlace) (member : ℕ) (path : List ℕ) (passed : List PassedRecord) (last : Piece) → HasRoute was place member path passed last
+    → HasRoute now place member path passed last
+route_stays was now {put} {pages} tidy writes place member path [] last holds = (pieces_stay_around [] [] [] put pages was now tidy writes place last holds (no_place place)).1
+route_stays was now {put} {pages} tidy writes place member path (first ∷ more) last route = (
+  ((route.0).0, (pieces_stay_around [] [] [] put pages was now tidy writes place (route.0).0 (route.0).1 (no_place place)).1, (route.0).2),
+  route_stays was now {put = put} {pages = pages} tidy writes (place_named first.proxy) first.member (drop first.used path) more last route.1,
+)
+
+-- The content of what is put was written, where it is too long for an item: it may be named.
+pub record WritesPut (put : Put) (pages : ℕ) (was now : Held) : Type 0 where
+  pub tidy : IsTidy now
+  pub moves : MovesRecords [] [] [] (put_lists put) pages was now
+  pub may : MayPut now put
+
+none_more : (all gone : List Far) → IsPermutation (all ++ gone) all → gone ≡ []
+none_more all [] same = refl
+none_more all (far ∷ gone) same =
+    let sums = sum_by-IsPermutation (λ (f : Far). 1) (all ++ far ∷ gone) all same in
+    let parts = sum_by-append (λ (f : Far). 1) all (far ∷ gone) in
+    let one = sum_by-cons (λ (f : Far). 1) far gone in
+    absurd (omega (arith, sums, parts, one))
+
+listed_once : (put : Put) → AreOnce (put_lists put)
+listed_once (Content content None) = tt
+listed_once (Content content (Some first)) = (no_place first, tt)
+listed_once (Child position node) = by_list node.list
+  where
+    by_list : (list : Option ℕ) → AreOnce (option_to_list list)
+    by_list None = tt
+    by_list (Some first) = (no_place first, tt)
+
+listed_as : (put : Put) (first : ℕ) → Contains (put_lists put) first → put_list put ≡ Some first
+listed_as (Content content list) first among = by_list list among
+  where
+    by_list : (o : Option ℕ) → Contains (option_to_list o) first → o ≡ Some first
+    by_list None none = absurd (no_place first none)
+    by_list (Some other) here = ap Some (sym (one_place other first here))
+listed_as (Child position node) first among = by_list node.list among
+  where
+    by_list : (o : Option ℕ) → Contains (option_to_list o) first → o ≡ Some first
+    by_list None none = absurd (no_place first none)
+    by_list (Some other) here = ap Some (sym (one_place other first here))
 
 -- a change gives up as an edit does
-pub change_tells : {D : Type 0} (d : Ghosts D) (rules : List Rule) (change : Change) (place : RecordPlace) (position : ℕ) (path : List ℕ) (r0 r1 : Records) (x0 x1 : D)
+pub change_tells : {D : Type 0} (d : Ghosts D) (rules : List Rule) (change : Put) (place : RecordPlace) (position : ℕ) (path : List ℕ) (r0 r1 : Records) (x0 x1 : D)
     → (passed : List PassedRecord) (last : Piece) (e : StoreError) → NotChangedAlong d passed last rules change place position path e r0 r1 x0 x1 → IsSome (edit_error e)
 change_tells d rules change place position path r0 r1 x0 x1 passed last store.Disk refused = refl
 change_tells d rules change place position path r0 r1 x0 x1 passed last store.Full refused = refl
@@ -242,19 +302,19 @@ module _ {D : Type 0} (d : Ghosts D) (r0 r1 : Records) (x0 x1 : D) (still : IsSt
   pub left_there : has_ended r0 ≡ false → LeavesRecords r0 r1 → LeavesLastCommit d r0 r1 x0 x1
   left_there runs leaves = (leaves_runs {r0 = r0} {r1 = r1} runs leaves, leaves_saved {d = d} {r0 = r0} {r1 = r1} leaves still)
 
-  pub seen_refused : (can : EditError → Bool) (fault : OrderedTree → Option EditError) (needs : CutTree → ℕ) (entry : DocEntry) → can error.NoNode ≡ true
+  pub seen_refused : (can : EditError → Bool) (fault : OrderedTree → Option EditError) (needs : CutTree → Layout → ℕ) (entry : DocEntry) → can error.NoNode ≡ true
       → (Nowhere : Type 0) → (Nowhere → (document : CutTree) → HasDocument d r0 x0 (place_of entry.root) document → fault (tree_of document) ≡ Some error.NoNode)
       → (e : NavError) → IsRefused d Nowhere ⊥ (HoldsNoDocument d r0 x0 (place_of entry.root)) e r0 r1 x0 x1 → IsSomeAnd (seen_error e) (λ told. NotEdited d can fault needs entry told r0 r1 x0 x1)
   seen_refused can fault needs entry may Nowhere missing nav.NoNode refused = (may, left_there refused.1 refused.2, λ document has tidy counted. missing refused.0 document has)
   seen_refused can fault needs entry may Nowhere missing nav.Disk refused = refused
   seen_refused can fault needs entry may Nowhere missing nav.Write refused = absurd refused.0
-  seen_refused can fault needs entry may Nowhere missing (nav.Damaged page) refused = (refused.1, λ document has tidy counted. refused.0 document has)
+  seen_refused can fault needs entry may Nowhere missing (nav.Damaged page) refused = (refused.1, λ document has tidy counted own. refused.0 document has)
   seen_refused can fault needs entry may Nowhere missing nav.Ended refused = refused
   seen_refused can fault needs entry may Nowhere missing nav.Memory refused = left_there refused.0 refused.1
 
   -- a fault is another one too
-  pub fault_passed : (can : EditError → Bool) (fault other : OrderedTree → Option EditError) (needs : CutTree → ℕ) (entry : DocEntry) → ((t : OrderedTree) (e : EditError) → fault t ≡ Some e → other t ≡ Some e)
-      → (e : EditError) → NotEdited d can fault (λ document. 0) entry e r0 r1 x0 x1 → NotEdited d can other needs entry e r0 r1 x0 x1
+  pub fault_passed : (can : EditError → Bool) (fault other : OrderedTree → Option EditError) (needs : CutTree → Layout → ℕ) (entry : DocEntry) → ((t : OrderedTree) (e : EditError) → fault t ≡ Some e → other t ≡ Some e)
+      → (e : EditError) → NotEdited d can fault (λ document layout. 0) entry e r0 r1 x0 x1 → NotEdited d can other needs entry e r0 r1 x0 x1
   fault_passed can fault other needs entry pass error.Disk refused = refused
   fault_passed can fault other needs entry pass (error.Damaged page) refused = refused
   fault_passed can fault other needs entry pass error.Ended refused = refused
@@ -274,66 +334,194 @@ module _ {D : Type 0} (d : Ghosts D) (r0 r1 : Records) (x0 x1 : D) (still : IsSt
   fault_passed can fault other needs entry pass error.TooMany refused = (refused.0, refused.1, λ document has tidy counted. pass (tree_of document) error.TooMany (refused.2 document has tidy counted))
   fault_passed can fault other needs entry pass (error.TooHeavy heavy) refused = (refused.0, refused.1, λ document has tidy counted. pass (tree_of document) (error.TooHeavy heavy) (refused.2 document has tidy counted))
 
-  module _ (can : EditError → Bool) (fault : OrderedTree → Option EditError) (edit : OrderedTree → OrderedTree) (entry : DocEntry) (runs : has_ended r0 ≡ false) (leaves : LeavesRecords r0 r1) (free : OfEntry d r0 x0 entry (λ now document. fault (tree_of document) ≡ None)) (rules : List Rule) (change : Change) (path : List ℕ)
-      (fits : OfEntry d r0 x0 entry (λ now document. IsFitting (now.settings).k rules change path edit document)) (passed : List PassedRecord) (last : Piece)
-      (route : (document : CutTree) (has : HasDocument d r0 x0 (place_of entry.root) document) → HasRoute has.now (place_of entry.root) 0 path passed last) (r2 : Records) (x2 : D) where
-    pub change_refused : (e : StoreError) → NotChangedAlong d passed last rules change (place_of entry.root) 0 path e r1 r2 x1 x2 → IsSomeAnd (edit_error e) (λ told. NotEdited d can fault (edit_needs edit) entry told r0 r2 x0 x2)
-    change_refused store.Disk refused = (later_rose (d.faults x0) (d.faults x1) (d.faults x2) still.faults_later refused.0, ends_behind {r0 = r0} {r1 = r1} {r2 = r2} (left_there runs leaves).0 refused.1)
-    change_refused store.Full refused = record {
+  -- an edit that writes a content, makes a change and frees what it dropped
+  module _ (can : EditError → Bool) (fault : OrderedTree → Option EditError) (edit : OrderedTree → OrderedTree) (entry : DocEntry) (runs : has_ended r0 ≡ false) (leaves : LeavesRecords r0 r1)
+      (free : OfEntry d r0 x0 entry (λ now document layout. fault (tree_of document) ≡ None)) (rules : List Rule) (put : Put) (pages : ℕ) (path : List ℕ)
+      (fits : OfEntry d r0 x0 entry (λ now document layout. IsFitting (now.settings).k rules put path edit document)) where
+    abbrev pub NotChanged : EditError → Records → D → Type 0
+    NotChanged e r x = NotEdited d can fault (edit_needs edit (kept_by_put put path) pages) entry e r0 r x0 x
+
+    -- the content wasn't written
+    pub write_refused : (r2 : Records) (x2 : D) → IsStill d x1 x2 → (e : StoreError) → NotStored d (λ was. pages) (λ was. ⊥) 0 e r1 r2 x1 x2 → IsSomeAnd (edit_error e) (λ told. NotChanged told r2 x2)
+    write_refused r2 x2 second store.Disk refused = (later_rose (d.faults x0) (d.faults x1) (d.faults x2) still.faults_later refused.0, ends_behind {r0 = r0} {r1 = r1} {r2 = r2} (left_there runs leaves).0 refused.1)
+    write_refused r2 x2 second store.Full refused = record {
       runs = runs_then {r0 = r0} {r1 = r1} {r2 = r2} (left_there runs leaves).0 refused.runs;
       keeps = saved_then {d = d} {r0 = r0} {r1 = r1} {r2 = r2} {x0 = x0} {x1 = x1} {x2 = x2} (left_there runs leaves).1 refused.keeps;
       none_free = refused.none_free;
       few = λ document has tidy counted. (
         free document has tidy counted,
-        subst (λ (n : ℕ). (has.now).free < n) (top_needs has.now has.pieces entry document (has.laid).layout (has.laid).laid rules change path edit (fits document has tidy counted))
-            (refused.few has.saved has.now has.pieces (Grown document.node (has.laid).layout Bare) (leaves_stand {d = d} {r0 = r0} {r1 = r1} leaves still has.stands) tidy
-            (top_interval has.now has.pieces entry document (has.laid).layout (has.laid).laid rules change path edit (fits document has tidy counted))
-            (top_possible has.now has.pieces entry document (has.laid).layout (has.laid).laid rules change path edit (fits document has tidy counted)) (route document has)),
+        (let few : (has.now).free < pages = refused.few has.saved has.now (leaves_stand {d = d} {r0 = r0} {r1 = r1} leaves still has.stands) in
+            let all = top_needs has.now has.pieces entry document (has.laid).layout (has.laid).laid rules put path edit (fits document has tidy counted) pages in
+            omega (arith, few, all)),
       );
     }
-    change_refused (store.Damaged page) refused = (
-      ends_behind {r0 = r0} {r1 = r1} {r2 = r2} (left_there runs leaves).0 refused.0,
-      λ document has tidy counted.
-          refused.1 has.saved has.now has.pieces (Grown document.node (has.laid).layout Bare) (leaves_stand {d = d} {r0 = r0} {r1 = r1} leaves still has.stands) tidy
-          (top_interval has.now has.pieces entry document (has.laid).layout (has.laid).laid rules change path edit (fits document has tidy counted))
-          (top_possible has.now has.pieces entry document (has.laid).layout (has.laid).laid rules change path edit (fits document has tidy counted)) (route document has),
+    write_refused r2 x2 second (store.Damaged page) refused = (
+      ends_behind {r0 = r0} {r1 = r1} {r2 = r2} (left_there runs leaves).0 refused.ends,
+      λ document has tidy counted own. refused.lacks has.saved has.now (leaves_stand {d = d} {r0 = r0} {r1 = r1} leaves still has.stands),
     )
-    change_refused store.Memory refused = (
+    write_refused r2 x2 second store.Ended refused = absurd (false≢true (sym ((left_there runs leaves).0).after ∙ refused.0))
+    write_refused r2 x2 second store.Memory refused = (
       runs_then {r0 = r0} {r1 = r1} {r2 = r2} (left_there runs leaves).0 refused.0,
       saved_then {d = d} {r0 = r0} {r1 = r1} {r2 = r2} {x0 = x0} {x1 = x1} {x2 = x2} (left_there runs leaves).1 refused.1,
     )
-    change_refused store.Ended refused = absurd refused
-    change_refused store.Exists refused = absurd refused
-    change_refused store.NotAStore refused = absurd refused
+    write_refused r2 x2 second store.Exists refused = absurd refused
+    write_refused r2 x2 second store.NotAStore refused = absurd refused
 
-    module _ (proxies : List Proxy) (comes : ComesTidy d r1 r2 x1 x2 (ChangesAlong passed last rules None change (place_of entry.root) 0 path proxies)) where
-      -- no proxy comes for no document of the entry
-      pub none_came : proxies ≡ [] → HasNone d r0 x0 entry
-      none_came none document has tidy counted =
-          let next = comes has.saved has.now (leaves_stand {d = d} {r0 = r0} {r1 = r1} leaves still has.stands) tidy in
-          some_proxy has.now has.pieces entry document (has.laid).layout (has.laid).laid rules change path edit (fits document has tidy counted) proxies next.0
-          (next.3 (route document has) has.pieces (Grown document.node (has.laid).layout Bare)
-          (top_interval has.now has.pieces entry document (has.laid).layout (has.laid).laid rules change path edit (fits document has tidy counted))
-          (top_possible has.now has.pieces entry document (has.laid).layout (has.laid).laid rules change path edit (fits document has tidy counted))) none
+    -- it was
+    module _ (r2 : Records) (x2 : D) (wrote : RunsOn r1 r2) (kept : KeepsSaved d r1 r2 x1 x2) (second : IsStill d x1 x2)
+        (writes : (saved was : Held) → StandsFor d r1 x1 saved was → IsTidy was → (now : Held) × StandsFor d r2 x2 saved now × WritesPut put pages was now) (passed : List PassedRecord) (last : Piece)
+        (route : (document : CutTree) (has : HasDocument d r0 x0 (place_of entry.root) document) → HasRoute has.now (place_of entry.root) 0 path passed last) where
+      run : RunsOn r0 r2
+      run = runs_then {r0 = r0} {r1 = r1} {r2 = r2} (left_there runs leaves).0 wrote
 
-      pub came : (proxy : Proxy) (rest : List Proxy) (new : DocEntry) → proxies ≡ proxy ∷ rest → place_of new.root ≡ place_named proxy
-          → ((document : CutTree) → HasDocument d r0 x0 (place_of entry.root) document → entry.nodes ≡ document_size document → new.nodes ≡ 1 + nodes (edit (tree_of document)).below)
-          → ComesTidy d r0 r2 x0 x2 (λ was now. EditsDocument (λ document. Splits was.settings rules (changed rules change path document)) true (way_of change path) entry new was now)
-      came proxy rest new one place count saved now stands tidy =
-          let next = comes saved now (leaves_stand {d = d} {r0 = r0} {r1 = r1} leaves still stands) tidy in (
-            next.0,
-            next.1,
-            next.2,
-            λ pieces document layout laid counted.
-                let has : HasDocument d r0 x0 (place_of entry.root) document = record { saved = saved; now = now; stands = stands; pieces = pieces; laid = record { layout = layout; laid = laid } } in
-                changed_to now pieces entry document layout laid rules change path edit (fits document has tidy counted) proxies next.0
-                (next.3 (route document has) pieces (Grown document.node layout Bare)
-                (top_interval now pieces entry document layout laid rules change path edit (fits document has tidy counted))
-                (top_possible now pieces entry document layout laid rules change path edit (fits document has tidy counted))) proxy rest new one place (count document has counted),
-          )
+      keep : KeepsSaved d r0 r2 x0 x2
+      keep = saved_then {d = d} {r0 = r0} {r1 = r1} {r2 = r2} {x0 = x0} {x1 = x1} {x2 = x2} (left_there runs leaves).1 kept
 
-      pub keeps_on : RunsOn r1 r2 → KeepsSaved d r1 r2 x1 x2 → RunsOn r0 r2 × KeepsSaved d r0 r2 x0 x2
-      keeps_on on keeps = (
-        runs_then {r0 = r0} {r1 = r1} {r2 = r2} (left_there runs leaves).0 on,
-        saved_then {d = d} {r0 = r0} {r1 = r1} {r2 = r2} {x0 = x0} {x1 = x1} {x2 = x2} (left_there runs leaves).1 keeps,
+      -- the document in between, and what the path passes
+      pub record IsBetween (document : CutTree) (has : HasDocument d r0 x0 (place_of entry.root) document) : Type 0 where
+        pub mid : Held
+        pub stands : StandsFor d r2 x2 has.saved mid
+        pub written : WritesPut put pages has.now mid
+        pub laid : IsLaidOutAs (held_by (piece_map mid)) (place_of entry.root) document (has.laid).layout
+        pub fitting : IsFitting (mid.settings).k rules put path edit document
+        pub may : MayChangeAlong mid put (place_of entry.root) 0 path passed last
+
+      between : (document : CutTree) (has : HasDocument d r0 x0 (place_of entry.root) document) → IsTidy has.now → entry.nodes ≡ document_size document → IsBetween document has
+      between document has tidy counted =
+          let wrote = writes has.saved has.now (leaves_stand {d = d} {r0 = r0} {r1 = r1} leaves still has.stands) tidy in
+          let put_there = wrote.2 in
+          record {
+            mid = wrote.0;
+            stands = wrote.1;
+            written = put_there;
+            laid = laid_then has.now wrote.0 tidy put_there.moves put_there.tidy has.pieces entry document (has.laid).layout (has.laid).laid (piece_map wrote.0);
+            fitting = subst (λ (s : Settings). IsFitting s.k rules put path edit document) (sym (put_there.moves).settings) (fits document has tidy counted);
+            may = (route_stays has.now wrote.0 tidy put_there.moves (place_of entry.root) 0 path passed last (route document has), put_there.may);
+          }
+
+      pub change_refused : (r3 : Records) (x3 : D) (e : StoreError) → NotChangedAlong d passed last rules put (place_of entry.root) 0 path e r2 r3 x2 x3 → IsSomeAnd (edit_error e) (λ told. NotChanged told r3 x3)
+      change_refused r3 x3 store.Disk refused = (later_rose (d.faults x0) (d.faults x2) (d.faults x3) (still_then still second).faults_later refused.0, ends_behind {r0 = r0} {r1 = r2} {r2 = r3} run refused.1)
+      change_refused r3 x3 store.Full refused = record {
+        runs = runs_then {r0 = r0} {r1 = r2} {r2 = r3} run refused.runs;
+        keeps = saved_then {d = d} {r0 = r0} {r1 = r2} {r2 = r3} {x0 = x0} {x1 = x2} {x2 = x3} keep refused.keeps;
+        none_free = refused.none_free;
+        few = λ document has tidy counted. (
+          free document has tidy counted,
+          (let b = between document has tidy counted in
+              let few = refused.few has.saved b.mid (piece_map b.mid) (Grown (laid_near document.node) (has.laid).layout Bare) b.stands (b.written).tidy (top_interval b.mid (piece_map b.mid) entry document (has.laid).layout b.laid rules put path edit b.fitting)
+              (top_possible b.mid (piece_map b.mid) entry document (has.laid).layout b.laid rules put path edit b.fitting) (b.written).may (b.may).0 in
+              let less : (has.now).free ≤ b.mid.free + pages = ((b.written).moves).free in
+              let all = top_needs b.mid (piece_map b.mid) entry document (has.laid).layout b.laid rules put path edit b.fitting pages in
+              omega (arith, few, less, all)),
+        );
+      }
+      change_refused r3 x3 (store.Damaged page) refused = (
+        ends_behind {r0 = r0} {r1 = r2} {r2 = r3} run refused.0,
+        λ document has tidy counted own.
+            let b = between document has tidy counted in
+            refused.1 has.saved b.mid (piece_map b.mid) (Grown (laid_near document.node) (has.laid).layout Bare) b.stands (b.written).tidy (top_interval b.mid (piece_map b.mid) entry document (has.laid).layout b.laid rules put path edit b.fitting)
+            (top_possible b.mid (piece_map b.mid) entry document (has.laid).layout b.laid rules put path edit b.fitting) (b.written).may (b.may).0,
       )
+      change_refused r3 x3 store.Memory refused = (
+        runs_then {r0 = r0} {r1 = r2} {r2 = r3} run refused.0,
+        saved_then {d = d} {r0 = r0} {r1 = r2} {r2 = r3} {x0 = x0} {x1 = x2} {x2 = x3} keep refused.1,
+      )
+      change_refused r3 x3 store.Ended refused = absurd refused
+      change_refused r3 x3 store.Exists refused = absurd refused
+      change_refused r3 x3 store.NotAStore refused = absurd refused
+
+      module _ (r3 : Records) (x3 : D) (proxies : List Proxy) (gone : List Far)
+          (comes : ComesTidyWhere d r2 r3 x2 x3 (λ was. MayChangeAlong was put (place_of entry.root) 0 path passed last) (ChangesKnown rules None None put (place_of entry.root) 0 path proxies gone)) where
+        -- what the change made of a document of the entry
+        pub record IsMade (document : CutTree) (has : HasDocument d r0 x0 (place_of entry.root) document) : Type 0 where
+          pub b : IsBetween document has
+          pub now : Held
+          pub stands : StandsFor d r3 x3 has.saved now
+          pub tidy : IsTidy now
+          pub replaced : IsReplaced (b.mid.settings).k (AreSplitOf b.mid.settings rules None (changed_interval rules put 0 path (Grown (laid_near document.node) (has.laid).layout Bare))) (place_of entry.root)
+              (Grown (laid_near document.node) (has.laid).layout Bare) (kept_around put 0 path (Grown (laid_near document.node) (has.laid).layout Bare)) (put_lists put)
+              (places_off true (0 ∷ way_of put path) (Grown (laid_near document.node) (has.laid).layout Bare)) proxies gone b.mid now
+
+        made_of : (document : CutTree) (has : HasDocument d r0 x0 (place_of entry.root) document) → IsTidy has.now → entry.nodes ≡ document_size document → IsMade document has
+        made_of document has tidy counted =
+            let b = between document has tidy counted in
+            let next = comes has.saved b.mid b.stands (b.written).tidy b.may in
+            record {
+              b = b;
+              now = next.0;
+              stands = next.1;
+              tidy = next.2;
+              replaced = next.3 (piece_map b.mid) (Grown (laid_near document.node) (has.laid).layout Bare) (top_interval b.mid (piece_map b.mid) entry document (has.laid).layout b.laid rules put path edit b.fitting)
+                  (top_possible b.mid (piece_map b.mid) entry document (has.laid).layout b.laid rules put path edit b.fitting);
+            }
+
+        -- no proxy comes for no document of the entry
+        pub none_came : proxies ≡ [] → HasNone d r0 x0 entry
+        none_came none document has tidy counted own =
+            let m = made_of document has tidy counted in
+            some_proxy (m.b).mid (piece_map (m.b).mid) entry document (has.laid).layout (m.b).laid rules put path edit (m.b).fitting proxies gone m.now m.replaced none
+
+        -- none is dropped where all nodes are kept
+        pub all_kept : ((members : Layout) → kept_around put 0 path members ≡ nodes_in members) → (document : CutTree) (has : HasDocument d r0 x0 (place_of entry.root) document) → IsTidy has.now → entry.nodes ≡ document_size document → gone ≡ []
+        all_kept kept document has tidy counted =
+            let row : Layout = Grown (laid_near document.node) (has.laid).layout Bare in
+            none_more (fars_of (nodes_in row)) gone (subst (λ (ns : List LaidNode). IsPermutation (fars_of ns ++ gone) (fars_of (nodes_in row))) (kept row) ((made_of document has tidy counted).replaced).contents_went)
+
+        -- in between no record names what was dropped
+        dropped : (document : CutTree) (has : HasDocument d r0 x0 (place_of entry.root) document) → (tidy : IsTidy has.now) → (counted : entry.nodes ≡ document_size document) → AreOwn has.now (document_places entry document (has.laid).layout) (contents_of (has.laid).layout)
+            → AreUnnamed (made_of document has tidy counted).now gone
+        dropped document has tidy counted own =
+            let m = made_of document has tidy counted in
+            let b = m.b in
+            let one = one_row b.mid (piece_map b.mid) entry document (has.laid).layout b.laid rules put path edit b.fitting proxies gone m.now m.replaced in
+            gone_unnamed has.now b.mid tidy (b.written).moves (b.written).tidy has.pieces entry document (has.laid).layout (has.laid).laid own m.tidy m.replaced (kept_by_put put path (has.laid).layout)
+            (top_kept b.mid (piece_map b.mid) entry document (has.laid).layout b.laid rules put path edit b.fitting) (listed_once put) (λ first among. (_, ((b.written).may first (listed_as put first among)).0)) (λ first among. ((b.written).may first (listed_as put first among)).1)
+            one.place one.root.node one.below (row_is b.mid (piece_map b.mid) entry document (has.laid).layout b.laid rules put path edit b.fitting proxies gone m.now m.replaced)
+
+        module _ (on : RunsOn r2 r3) (then : KeepsSaved d r2 r3 x2 x3) (third : IsStill d x2 x3) (r4 : Records) (x4 : D) where
+          pub run_on : RunsOn r0 r3
+          run_on = runs_then {r0 = r0} {r1 = r2} {r2 = r3} run on
+
+          pub keep_on : KeepsSaved d r0 r3 x0 x3
+          keep_on = saved_then {d = d} {r0 = r0} {r1 = r2} {r2 = r3} {x0 = x0} {x1 = x2} {x2 = x3} keep then
+
+          pub free_refused : (e : StoreError) → NotFreed d gone e r3 r4 x3 x4 → IsSomeAnd (edit_error e) (λ told. NotChanged told r4 x4)
+          free_refused store.Disk refused = (later_rose (d.faults x0) (d.faults x3) (d.faults x4) (still_then (still_then still second) third).faults_later refused.0, ends_behind {r0 = r0} {r1 = r3} {r2 = r4} run_on refused.1)
+          free_refused (store.Damaged page) refused = (
+            ends_behind {r0 = r0} {r1 = r3} {r2 = r4} run_on refused.0,
+            λ document has tidy counted own. let m = made_of document has tidy counted in refused.1 has.saved m.now m.stands m.tidy (dropped document has tidy counted own),
+          )
+          free_refused store.Memory refused = (
+            runs_then {r0 = r0} {r1 = r3} {r2 = r4} run_on refused.0,
+            saved_then {d = d} {r0 = r0} {r1 = r3} {r2 = r4} {x0 = x0} {x1 = x3} {x2 = x4} keep_on refused.1,
+          )
+          free_refused store.Ended refused = absurd refused
+          free_refused store.Exists refused = absurd refused
+          free_refused store.NotAStore refused = absurd refused
+          free_refused store.Full refused = absurd refused
+
+          pub came : ComesTidyWhere d r3 r4 x3 x4 (λ was. AreUnnamed was gone) (λ was now. MovesRecords [] [] (firsts gone) [] 0 was now) → (proxy : Proxy) (rest : List Proxy) (new : DocEntry) → proxies ≡ proxy ∷ rest → place_of new.root ≡ place_named proxy
+              → ((document : CutTree) → HasDocument d r0 x0 (place_of entry.root) document → entry.nodes ≡ document_size document → new.nodes ≡ 1 + nodes (edit (tree_of document)).below)
+              → EditsDocument d r0 r4 x0 x4 (λ settings document. Splits settings rules (changed rules put path document)) true (way_of put path) (kept_by_put put path) pages entry new
+          came frees proxy rest new one place count saved was pieces document layout stands tidy laid counted own =
+              let has : HasDocument d r0 x0 (place_of entry.root) document = record { saved = saved; now = was; stands = stands; pieces = pieces; laid = record { layout = layout; laid = laid } } in
+              let m = made_of document has tidy counted in
+              let b = m.b in
+              let now = frees saved m.now m.stands m.tidy (dropped document has tidy counted own) in
+              let row = one_row b.mid (piece_map b.mid) entry document layout b.laid rules put path edit b.fitting proxies gone m.now m.replaced in
+              let splits = splits_now b.mid (piece_map b.mid) entry document layout b.laid rules put path edit b.fitting proxies gone m.now m.replaced in
+              let size = now_size b.mid (piece_map b.mid) entry document layout b.laid rules put path edit b.fitting proxies gone m.now m.replaced in
+              let top = top_is b.mid (piece_map b.mid) entry document layout b.laid rules put path edit b.fitting proxies gone m.now m.replaced proxy rest one in (
+                now.0,
+                now.1,
+                now.2,
+                finished was b.mid tidy (b.written).moves (b.written).tidy pieces entry document layout laid own m.tidy m.replaced (kept_by_put put path layout)
+                    (top_kept b.mid (piece_map b.mid) entry document layout b.laid rules put path edit b.fitting) (listed_once put) (λ first among. (_, ((b.written).may first (listed_as put first among)).0)) (λ first among. ((b.written).may first (listed_as put first among)).1)
+                    row.place row.root.node row.below (row_is b.mid (piece_map b.mid) entry document layout b.laid rules put path edit b.fitting proxies gone m.now m.replaced) now.3
+                    (λ edited. Splits was.settings rules (changed rules put path document) edited) (kept_by_put put path) refl (places_off true (way_of put path) layout) (λ other among. Contains-append_left (places_off true (way_of put path) layout) [] other among)
+                    (record { node = row.root.node; below = without_places row.below }) (subst (λ (s : Settings). Splits s rules (changed rules put path document) (record { node = row.root.node; below = without_places row.below })) ((b.written).moves).settings splits)
+                    (is_document_now b.mid (piece_map b.mid) entry document layout b.laid rules put path edit b.fitting proxies gone m.now m.replaced) refl refl new (place ∙ ap place_named top) (count document has counted ∙ sym size),
+              )
+
+          pub keeps_on : RunsOn r3 r4 → KeepsSaved d r3 r4 x3 x4 → RunsOn r0 r4 × KeepsSaved d r0 r4 x0 x4
+          keeps_on more keeps = (runs_then {r0 = r0} {r1 = r3} {r2 = r4} run_on more, saved_then {d = d} {r0 = r0} {r1 = r3} {r2 = r4} {x0 = x0} {x1 = x3} {x2 = x4} keep_on keeps)

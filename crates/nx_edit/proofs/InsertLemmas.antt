@@ -20,13 +20,16 @@ use Rattle.nx_records.specs.Records.{has_ended, LeavesRecords, settings_of}
 use Rattle.nx_matrix.specs.declared.rule.Rule.{Rule}
 use Rattle.nx_cuts.specs.Cut.{CutTree, tree_of}
 use Rattle.nx_hold.specs.declared.entry.DocEntry.{DocEntry}
+use Rattle.nx_layouts.specs.Layout.{nodes_in}
 use Rattle.nx_hold.specs.Changes.{place_of}
+use Rattle.nx_hold.specs.Contents.{content_pages}
+use Rattle.nx_hold.specs.Pieces.{held_by}
 use Rattle.nx_hold.specs.Documents.{HasDocument}
 use Rattle.nx_nav.specs.Refusals.{OfEach}
 use Rattle.nx_state.specs.State.{document_size}
 use Rattle.nx_drawn.proofs.EditLemmas.{tree-inserted}
 use Rattle.nx_drawn.proofs.BareLemmas.{laid_parts}
-use Rattle.nx_edit.specs.declared.changing.Change.TheVariants as put
+use Rattle.nx_edit.specs.Changing.{Child}
 use Rattle.nx_edit.specs.declared.error.EditError.{EditError}
 use Rattle.nx_edit.specs.declared.error.EditError.TheVariants as error
 use Rattle.nx_edit.specs.Removing.{OfEntry}
@@ -94,7 +97,7 @@ module _ {D : Type 0} (d : Ghosts D) (entry : DocEntry) (node : Node) (path : Li
     (position : ℕ) (parent : List ℕ) (last : position ≡ last_position path) (above : parent ≡ parent_path path)
     (placed : OfEach d r0 x0 (place_of entry.root) (λ document. (t : OrderedTree) × (at (tree_of document) parent ≡ Some t) × (place_refusal node position t ≡ None))) where
   abbrev NotInserted : EditError → Records → D → Type 0
-  NotInserted e r x = NotEdited d is_of_insertion (insertion_fault node path (settings_of r0).k) (edit_needs (put_node node path)) entry e r0 r x0 x
+  NotInserted e r x = NotEdited d is_of_insertion (insertion_fault node path (settings_of r0).k) (edit_needs (put_node node path) nodes_in (content_pages node)) entry e r0 r x0 x
 
   pub path_is : parent ++ position ∷ [] ≡ path
   path_is = ap (λ (l : List ℕ). l ++ position ∷ []) above ∙ ap (λ (n : ℕ). parent_path path ++ n ∷ []) last ∙ parent_and_last path some
@@ -152,19 +155,20 @@ module _ {D : Type 0} (d : Ghosts D) (entry : DocEntry) (node : Node) (path : Li
       )
 
       module _ (light : weight node ≤ (settings_of r0).k) where
-        pub insert_allowed : OfEntry d r0 x0 entry (λ now document. insertion_fault node path (settings_of r0).k (tree_of document) ≡ None)
+        pub insert_allowed : OfEntry d r0 x0 entry (λ now document layout. insertion_fault node path (settings_of r0).k (tree_of document) ≡ None)
         insert_allowed document has tidy counted = fault_is document has None (limit_none document counted) ∙ light_is (settings_of r0).k node (not_less (settings_of r0).k (weight node) light)
 
-        pub insert_fits : IsNode node → (rules : List Rule) → OfEntry d r0 x0 entry (λ now document. IsFitting (now.settings).k rules (put.Child position node) parent (put_node node path) document)
-        insert_fits is_node rules document has tidy counted =
+        pub insert_fits : IsNode node → (rules : List Rule) (list : Option ℕ) → OfEntry d r0 x0 entry (λ now document layout. IsFitting (now.settings).k rules (Child position (record { node = node; list = list })) parent (put_node node path) document)
+        insert_fits is_node rules list document has tidy counted =
             let p = placed document has in
             let settings : ((has.now).settings).k ≡ (settings_of r0).k = ap (λ (s : Settings). s.k) (((has.stands).holds).behind).settings in
             let laid = (has.laid).laid in
             record {
               there = p.0;
               leads = p.1;
+              deep = tt;
               made = (omega (arith, light, settings), within_parent node position p.0 p.2);
-              same = tree-inserted ((has.now).settings).k rules node (parent ++ position ∷ []) document (laid_parts ((has.now).settings).k (has.pieces).piece_at (place_of entry.root) document (has.laid).layout laid).3.0
+              same = tree-inserted ((has.now).settings).k rules node (parent ++ position ∷ []) document (laid_parts (held_by has.pieces) (place_of entry.root) document (has.laid).layout laid).3.0
                   ∙ ap (λ (q : List ℕ). put_node node q (tree_of document)) path_is;
               is_document = document_put node path (tree_of document) is_node laid.is_document (refusal_is document has ∙ limit_none document counted);
             }

@@ -1,6 +1,7 @@
 -- The calls that put a node among the members of an interval, one behind the other.
-use Rattle.std.proofs.Common.{◌≡◌, ℕ, ◌<◌, ◌≤◌, List, ◌∷◌, Option, Some, sym, ap, ◌∙◌, subst, arith}
+use Rattle.std.proofs.Common.{◌≡◌, ℕ, ◌<◌, ◌≤◌, List, [], ◌∷◌, Option, None, Some, refl, sym, ap, ◌∙◌, subst, arith}
 use Rattle.std.specs.Prelude.{false, true}
+use Rattle.std.specs.Option.{option_map_or}
 use Rattle.std.proofs.lemmas.Bool.{false≢true}
 use Rattle.nx_host.specs.declared.disk.Disk.{Ghosts}
 use Rattle.nx_host.specs.Still.{IsStill}
@@ -13,32 +14,38 @@ use Rattle.nx_records.specs.declared.records.Records.{Records}
 use Rattle.nx_records.specs.declared.error.StoreError.{StoreError}
 use Rattle.nx_records.specs.declared.error.StoreError.TheVariants as store
 use Rattle.nx_records.specs.Records.{has_ended, settings_of, KeepsSaved, LeavesRecords, StandsFor}
-use Rattle.nx_records.specs.Refusals.{EndNow, RunsOn, NotRead, NotStored}
+use Rattle.nx_records.specs.Refusals.{EndNow, RunsOn, NotRead}
 use Rattle.nx_records.proofs.LeaveLemmas.{leaves_runs, leaves_ends, leaves_saved, leaves_stand}
 use Rattle.nx_piece.specs.declared.piece.Piece.{Piece}
 use Rattle.nx_piece.specs.declared.piece.Proxy.{Proxy}
-use Rattle.nx_piece.specs.Gapped as gapped
+use Rattle.nx_piece.specs.Gapped.{GappedTree, gapped_width}
+use Rattle.nx_piece.specs.PieceNode.{node_weight}
 use Rattle.nx_piece_edits.specs.Planting.{IsWithRoot}
 use Rattle.nx_matrix.specs.declared.rule.Entry.TheVariants.{Free}
 use Rattle.nx_matrix.specs.declared.rule.Rule.{Rule}
-use Rattle.nx_layouts.specs.Layout.{RecordPlace, Layout, piece_of}
-use Rattle.nx_hold.specs.Changes.{place_named, piece_needs, ComesTidy}
-use Rattle.nx_hold.specs.Pieces.{HoldsPiece, HoldsNone, PieceMap}
+use Rattle.nx_layouts.specs.Layout.{RecordPlace, LaidNode, Layout, in_record, piece_of}
+use Rattle.nx_layouts.proofs.NodeLemmas.{items_show_nodes}
+use Rattle.nx_hold.specs.Changes.{place_named, ComesTidy, ComesTidyWhere}
+use Rattle.nx_hold.specs.Contents.{content_pages}
+use Rattle.nx_hold.specs.Pieces.{HasNamedList, HoldsPiece, HoldsNone, IsTidy, MayName, PieceMap}
+use Rattle.nx_hold.proofs.TidyLemmas.{tidy_named}
 use Rattle.nx_hold.proofs.RefusalLemmas.{runs_then, saved_then}
-use Rattle.nx_edit.specs.declared.changing.Change.TheVariants as put
+use Rattle.nx_nav.specs.declared.routing.PassedRecord.{PassedRecord}
+use Rattle.nx_edit.specs.Changing as put
+use Rattle.nx_edit.specs.Changing.{changed_interval, kept_around, put_lists, way_of, AreSplitOf, IsPossibleIn, IsWrittenNode, MayPut, MayPutIn, ChangesKnown, NotChangedKnown}
 use Rattle.nx_edit.specs.Editing.{places_off}
-use Rattle.nx_edit.specs.Changing.{changed_interval, way_of, AreSplitOf, IsPossibleIn, ChangesKnown, NotChangedKnown}
 use Rattle.nx_edit.specs.Growing.{IsGrownMembers, NotGrown, PutsGrown}
+use Rattle.nx_edit.specs.Passing.{IsPassedAs, NotPassed}
 use Rattle.nx_edit.specs.Planting.{IsWithin, IsAskedThere}
-use Rattle.nx_edit.specs.RowPut.{IsNodeAt, IsPutAlone, MayHaveRow, piece_with_row}
+use Rattle.nx_edit.specs.RowPut.{IsPutAlone, IsTreeAt, MayHaveRow, piece_with_row}
 use Rattle.nx_edit.specs.Rows.{IsHeldInterval, IsReplaced}
 use Rattle.nx_edit.proofs.ChangeCalls.{most_weight}
 use Rattle.nx_edit.proofs.GrownLemmas.{settings_there}
-use Rattle.nx_edit.proofs.JoinedLemmas.{inside, grown, inside_holds, inside_wide, joined_members, joined_few, joined_may_have, joined_row_few, joined_above_there, joined_put}
+use Rattle.nx_edit.proofs.JoinedLemmas.{inside, grown, inside_holds, inside_wide, asked_laid, joined_members, joined_few, joined_may, joined_may_have, joined_row_few, joined_above_there, joined_put, no_pages}
 use Rattle.nx_edit.proofs.RemoveLemmas.{later_rose, ends_behind}
 
-module _ {D : Type 0} (d : Ghosts D) (rules : List Rule) (node : Node) (piece : Piece) (place : RecordPlace) (member : ℕ) (path : List ℕ) (position : ℕ) (proxy : Proxy) (index before : ℕ) (w : IsWithin piece member path position proxy index before) (r0 r1 : Records) (x0 x1 : D)
-    (running : has_ended r0 ≡ false) (still : IsStill d x0 x1) where
+module _ {D : Type 0} (d : Ghosts D) (rules : List Rule) (node : LaidNode) (piece : Piece) (place : RecordPlace) (member : ℕ) (path : List ℕ) (position : ℕ) (proxy : Proxy) (index before : ℕ) (w : IsWithin piece member path position proxy index before) (r0 r1 : Records)
+    (x0 x1 : D) (running : has_ended r0 ≡ false) (still : IsStill d x0 x1) where
   abbrev pub NotJoined : StoreError → Records → D → Type 0
   NotJoined e r x = NotChangedKnown d rules (Some piece) (put.Child position node) place member path e r0 r x0 x
 
@@ -54,7 +61,7 @@ module _ {D : Type 0} (d : Ghosts D) (rules : List Rule) (node : Node) (piece : 
   inner_unread page store.Disk refused = refused
   inner_unread page (store.Damaged other) refused = (
     refused.ends,
-    λ saved now pieces members stands tidy i possible.
+    λ saved now pieces members stands tidy i possible may.
         refused.lacks saved now stands (piece_of (members_below pieces members i)) (inside_holds rules node pieces piece place member path position proxy index before members i w),
   )
   inner_unread page store.Ended refused = absurd (false≢true (sym running ∙ refused.0))
@@ -77,11 +84,11 @@ module _ {D : Type 0} (d : Ghosts D) (rules : List Rule) (node : Node) (piece : 
     inner_is {saved} {was} pieces members stands i = reads saved was (piece_of (members_below pieces members i)) stands (inside_holds rules node pieces piece place member path position proxy index before members i w)
 
     -- its piece has too few roots
-    pub inner_short : (page : ℕ) (r2 : Records) → gapped.gapped_width inner.body.roots < before → EndNow r1 r2 → NotJoined (store.Damaged page) r2 x1
+    pub inner_short : (page : ℕ) (r2 : Records) → gapped_width inner.body.roots < before → EndNow r1 r2 → NotJoined (store.Damaged page) r2 x1
     inner_short page r2 short ends = (
       leaves_ends {r0 = r0} {r1 = r1} {r2 = r2} leaves ends,
-      λ saved now pieces members stands tidy i possible.
-          let same = ap (λ (p : Piece). gapped.gapped_width p.body.roots) (inner_is pieces members stands i) in
+      λ saved now pieces members stands tidy i possible may.
+          let same = ap (λ (p : Piece). gapped_width p.body.roots) (inner_is pieces members stands i) in
           let wide = inside_wide rules node pieces piece place member path position proxy index before members i w in
           omega (arith, short, same, wide),
     )
@@ -90,12 +97,25 @@ module _ {D : Type 0} (d : Ghosts D) (rules : List Rule) (node : Node) (piece : 
     pub inner_memory : NotJoined store.Memory r1 x1
     inner_memory = (read_runs, read_saved)
 
-    module _ (planted : Piece) (p : IsWithRoot inner before node planted) (parent : Node) (at : IsNodeAt piece member path parent) (asks : IsAskedThere rules piece member path node Free) (small : (settings_of r0).k ≤ 256) (light : weight node ≤ (settings_of r0).k) (r2 : Records) (x2 : D) where
-      grows : {saved was : Held} (pieces : PieceMap was) (members : Layout) → StandsFor d r0 x0 saved was → (i : IsHeldInterval was pieces (Some piece) place member path most_nodes members) → IsPossibleIn (was.settings).k rules (put.Child position node) member path members
-          → IsGrownMembers was pieces planted (place_named proxy) (grown_below pieces members i)
-      grows {saved} {was} pieces members stands i possible =
-          joined_members rules node pieces piece place member path position proxy index before members i w parent at asks possible (most_weight small stands)
-          (subst (λ (s : Settings). weight node ≤ s.k) (sym (settings_there d r0 x0 saved was stands)) light) inner planted (inner_is pieces members stands i) p
+    module _ (holds : (saved now : Held) → StandsFor d r0 x0 saved now → HasNamedList now (place_named proxy) → HoldsPiece now (place_named proxy) inner) (planted : Piece) (p : IsWithRoot inner before (in_record node) planted) (tree : GappedTree) (at : IsTreeAt piece member path tree)
+        (asked : IsAskedThere rules piece member path (in_record node).node Free) (written : IsWrittenNode (in_record node)) (small : (settings_of r0).k ≤ 256) (light : node_weight (in_record node) ≤ (settings_of r0).k) (r2 : Records) (x2 : D) where
+      asks : IsAskedThere rules piece member path node.node Free
+      asks = asked_laid rules piece member path node Free asked
+
+      short : option_map_or (λ first. 0) node.list (content_pages node.node) ≡ 0
+      short = no_pages node written
+
+      fits : weight node.node ≤ (settings_of r0).k
+      fits = subst (λ (n : ℕ). n ≤ (settings_of r0).k) (items_show_nodes node).weighs light
+
+      may_planted : {saved was : Held} → StandsFor d r0 x0 saved was → IsTidy was → MayPut was (put.Child position node) → MayName was planted.body.roots
+      may_planted {saved} {was} stands tidy may = joined_may node position before (place_named proxy) inner planted tidy (holds saved was stands (tidy_named was (place_named proxy) tidy)) may p
+
+      grows : {saved was : Held} (pieces : PieceMap was) (members : Layout) → StandsFor d r0 x0 saved was → IsTidy was → (i : IsHeldInterval was pieces (Some piece) place member path most_nodes members) → IsPossibleIn (was.settings).k rules (put.Child position node) member path members
+          → MayPut was (put.Child position node) → IsGrownMembers was pieces planted (place_named proxy) (grown_below pieces members i)
+      grows {saved} {was} pieces members stands tidy i possible may =
+          joined_members rules node pieces piece place member path position proxy index before members i w tree at asks possible (most_weight small stands) short tidy None may
+          (subst (λ (s : Settings). weight node.node ≤ s.k) (sym (settings_there d r0 x0 saved was stands)) fits) inner planted (inner_is pieces members stands i) (may_planted stands tidy may) p
 
       -- the record below wasn't put
       pub inner_refused : (e : StoreError) → NotGrown d planted (place_named proxy) e r1 r2 x1 x2 → NotJoined e r2 x2
@@ -104,13 +124,13 @@ module _ {D : Type 0} (d : Ghosts D) (rules : List Rule) (node : Node) (piece : 
         runs = runs_then {r0 = r0} {r1 = r1} {r2 = r2} read_runs refused.runs;
         keeps = saved_then {d = d} {r0 = r0} {r1 = r1} {r2 = r2} {x0 = x0} {x1 = x1} {x2 = x2} read_saved refused.keeps;
         none_free = refused.none_free;
-        few = λ saved now pieces members stands tidy i possible.
-            joined_few rules node pieces piece place member path position proxy index before members i w parent at asks possible (most_weight small stands)
-            (refused.few saved now pieces (grown_below pieces members i) (later stands) tidy (grows pieces members stands i possible));
+        few = λ saved now pieces members stands tidy i possible may.
+            joined_few rules node pieces piece place member path position proxy index before members i w tree at asks possible (most_weight small stands) short tidy None
+            (refused.few saved now pieces (grown_below pieces members i) (later stands) tidy (grows pieces members stands tidy i possible may));
       }
       inner_refused (store.Damaged page) refused = (
         leaves_ends {r0 = r0} {r1 = r1} {r2 = r2} leaves refused.0,
-        λ saved now pieces members stands tidy i possible. refused.1 saved now pieces (grown_below pieces members i) (later stands) tidy (grows pieces members stands i possible),
+        λ saved now pieces members stands tidy i possible may. refused.1 saved now pieces (grown_below pieces members i) (later stands) tidy (grows pieces members stands tidy i possible may),
       )
       inner_refused store.Memory refused = (
         runs_then {r0 = r0} {r1 = r1} {r2 = r2} read_runs refused.0,
@@ -120,58 +140,75 @@ module _ {D : Type 0} (d : Ghosts D) (rules : List Rule) (node : Node) (piece : 
       inner_refused store.Exists refused = absurd refused
       inner_refused store.NotAStore refused = absurd refused
 
-      module _ (still_then : IsStill d x1 x2) (runs : RunsOn r1 r2) (keeps : KeepsSaved d r1 r2 x1 x2) (row : List Proxy) (puts : ComesTidy d r1 r2 x1 x2 (PutsGrown rules (Some parent) planted (place_named proxy) row)) (r3 : Records) (x3 : D) where
+      module _ (still_then : IsStill d x1 x2) (runs : RunsOn r1 r2) (keeps : KeepsSaved d r1 r2 x1 x2) (row : List Proxy)
+          (puts : ComesTidyWhere d r1 r2 x1 x2 (λ was. MayName was planted.body.roots) (PutsGrown rules (Some tree.node.node) planted (place_named proxy) row)) (r3 : Records) (x3 : D) where
         runs_on : RunsOn r0 r2
         runs_on = runs_then {r0 = r0} {r1 = r1} {r2 = r2} read_runs runs
 
         keeps_on : KeepsSaved d r0 r2 x0 x2
         keeps_on = saved_then {d = d} {r0 = r0} {r1 = r1} {r2 = r2} {x0 = x0} {x1 = x1} {x2 = x2} read_saved keeps
 
-        pub joined_keeps : RunsOn r2 r3 → KeepsSaved d r2 r3 x2 x3 → RunsOn r0 r3 × KeepsSaved d r0 r3 x0 x3
-        joined_keeps more_runs more_keeps = (runs_then {r0 = r0} {r1 = r2} {r2 = r3} runs_on more_runs, saved_then {d = d} {r0 = r0} {r1 = r2} {r2 = r3} {x0 = x0} {x1 = x2} {x2 = x3} keeps_on more_keeps)
+        -- the record above, as the path leaves it
+        abbrev pub upper : PassedRecord
+        upper = record { roots = gapped_width piece.body.roots; index = index; proxy = proxy; member = 0; used = 0; above = tree.node.node }
 
-        -- the record above wasn't put
-        pub upper_refused : (page : ℕ) (e : StoreError) → NotStored d (λ was. piece_needs (piece_with_row index row piece)) (λ was. MayHaveRow piece row → HoldsNone was place) page e r2 r3 x2 x3 → NotJoined e r3 x3
-        upper_refused page store.Disk refused = (
+        upper_is : IsPassedAs upper piece
+        upper_is = (w.named, refl)
+
+        -- is there still
+        upper_holds : {saved was : Held} (pieces : PieceMap was) (members : Layout) (stands : StandsFor d r0 x0 saved was) (tidy : IsTidy was) (i : IsHeldInterval was pieces (Some piece) place member path most_nodes members) → IsPossibleIn (was.settings).k rules (put.Child position node) member path members
+            → (may : MayPut was (put.Child position node)) → HoldsPiece (puts saved was (later stands) tidy (may_planted stands tidy may)).0 place piece
+        upper_holds {saved} {was} pieces members stands tidy i possible may =
+            let mid = puts saved was (later stands) tidy (may_planted stands tidy may) in
+            subst (λ (p : Piece). HoldsPiece mid.0 place p) (sym i.is)
+            (joined_above_there rules node pieces piece place member path position proxy index before members i w tree at asks possible (most_weight small stands) short tidy None row
+            (mid.3 pieces (grown_below pieces members i) (grows pieces members stands tidy i possible may)))
+
+        -- it wasn't put
+        pub upper_refused : (e : StoreError) → NotPassed d place upper (piece_with_row index row) (λ above. MayHaveRow above row) e r2 r3 x2 x3 → NotJoined e r3 x3
+        upper_refused store.Disk refused = (
           later_rose (d.faults x0) (d.faults x2) (d.faults x3) (let one : d.faults x0 ≤ d.faults x1 = still.faults_later in let two : d.faults x1 ≤ d.faults x2 = still_then.faults_later in omega (arith, one, two)) refused.0,
           ends_behind {r0 = r0} {r1 = r2} {r2 = r3} runs_on refused.1,
         )
-        upper_refused page store.Full refused = record {
+        upper_refused store.Full refused = record {
           runs = runs_then {r0 = r0} {r1 = r2} {r2 = r3} runs_on refused.runs;
           keeps = saved_then {d = d} {r0 = r0} {r1 = r2} {r2 = r3} {x0 = x0} {x1 = x2} {x2 = x3} keeps_on refused.keeps;
           none_free = refused.none_free;
-          few = λ saved now pieces members stands tidy i possible.
-              let mid = puts saved now (later stands) tidy in
-              joined_row_few rules node pieces piece place member path position proxy index before members i w parent at asks possible (most_weight small stands) row
-              (mid.3 pieces (grown_below pieces members i) (grows pieces members stands i possible)) (refused.few saved mid.0 mid.1);
+          few = λ saved now pieces members stands tidy i possible may.
+              let mid = puts saved now (later stands) tidy (may_planted stands tidy may) in
+              joined_row_few rules node pieces piece place member path position proxy index before members i w tree at asks possible (most_weight small stands) short tidy None row
+              (mid.3 pieces (grown_below pieces members i) (grows pieces members stands tidy i possible may)) (refused.few saved mid.0 piece mid.1 (upper_holds pieces members stands tidy i possible may) upper_is);
         }
-        upper_refused page (store.Damaged other) refused = (
-          ends_behind {r0 = r0} {r1 = r2} {r2 = r3} runs_on refused.ends,
-          λ saved now pieces members stands tidy i possible.
-              let mid = puts saved now (later stands) tidy in
-              let t = mid.3 pieces (grown_below pieces members i) (grows pieces members stands i possible) in
-              refused.lacks saved mid.0 mid.1 (joined_may_have rules node pieces piece place member path position proxy index before members i w parent at asks possible (most_weight small stands) row t)
-              (piece_of members) (joined_above_there rules node pieces piece place member path position proxy index before members i w parent at asks possible (most_weight small stands) row t tidy),
+        upper_refused (store.Damaged other) refused = (
+          ends_behind {r0 = r0} {r1 = r2} {r2 = r3} runs_on refused.0,
+          λ saved now pieces members stands tidy i possible may.
+              let mid = puts saved now (later stands) tidy (may_planted stands tidy may) in
+              refused.1 saved mid.0 piece mid.1 (upper_holds pieces members stands tidy i possible may) upper_is
+              (joined_may_have rules node pieces piece place member path position proxy index before members i w tree at asks possible (most_weight small stands) short tidy None row
+              (mid.3 pieces (grown_below pieces members i) (grows pieces members stands tidy i possible may))),
         )
-        upper_refused page store.Ended refused = absurd (false≢true (sym runs.after ∙ refused.0))
-        upper_refused page store.Memory refused = (
+        upper_refused store.Memory refused = (
           runs_then {r0 = r0} {r1 = r2} {r2 = r3} runs_on refused.0,
           saved_then {d = d} {r0 = r0} {r1 = r2} {r2 = r3} {x0 = x0} {x1 = x2} {x2 = x3} keeps_on refused.1,
         )
-        upper_refused page store.Exists refused = absurd refused
-        upper_refused page store.NotAStore refused = absurd refused
+        upper_refused store.Ended refused = absurd refused
+        upper_refused store.Exists refused = absurd refused
+        upper_refused store.NotAStore refused = absurd refused
 
         -- both were
-        pub joined_changed : (above : Option Node) (proxies : List Proxy) → ComesTidy d r2 r3 x2 x3 (IsPutAlone place (piece_with_row index row piece) proxies) → ComesTidy d r0 r3 x0 x3 (ChangesKnown rules (Some piece) above (put.Child position node) place member path proxies)
-        joined_changed above proxies updates saved was stands tidy =
-            let mid = puts saved was (later stands) tidy in
+        pub joined_changed : (above : Option Node) (proxies : List Proxy) → ComesTidy d r2 r3 x2 x3 (λ was now. (held : Piece) → HoldsPiece was place held → IsPassedAs upper held → IsPutAlone place (piece_with_row index row held) proxies was now)
+            → ComesTidyWhere d r0 r3 x0 x3 (λ was. MayPutIn was (put.Child position node) piece) (ChangesKnown rules (Some piece) above (put.Child position node) place member path proxies [])
+        joined_changed above proxies updates saved was stands tidy may =
+            let mid = puts saved was (later stands) tidy (may_planted stands tidy may.1) in
             let now = updates saved mid.0 mid.1 mid.2 in (
               now.0,
               now.1,
               now.2,
               λ pieces members i possible.
-                  let t = mid.3 pieces (grown_below pieces members i) (grows pieces members stands i possible) in
-                  let put_is = now.3 in
-                  subst (λ (ps : List Proxy). IsReplaced (was.settings).k (AreSplitOf was.settings rules above (changed_interval rules (put.Child position node) member path members)) place members (places_off true (member ∷ way_of (put.Child position node) path) members) ps was now.0) (sym put_is.1)
-                  (joined_put rules node pieces piece place member path position proxy index before members i w parent at asks possible (most_weight small stands) row t above tidy mid.2 put_is.0 put_is.2 put_is.3),
+                  let t = mid.3 pieces (grown_below pieces members i) (grows pieces members stands tidy i possible may.1) in
+                  let put_is = now.3 piece (upper_holds pieces members stands tidy i possible may.1) upper_is in
+                  subst
+                  (λ (ps : List Proxy). IsReplaced (was.settings).k (AreSplitOf was.settings rules above (changed_interval rules (put.Child position node) member path members)) place members (kept_around (put.Child position node) member path members) (put_lists (put.Child position node))
+                  (places_off true (member ∷ way_of (put.Child position node) path) members) ps [] was now.0) (sym put_is.1)
+                  (joined_put rules node pieces piece place member path position proxy index before members i w tree at asks possible (most_weight small stands) short tidy above row t mid.2 put_is.0 put_is.2 put_is.3),
             )

@@ -13,11 +13,12 @@ use Rattle.nx_matrix.specs.declared.rule.Rule.{Rule}
 use Rattle.nx_cuts.specs.Cut.{CutForest, Bare, Grown, Kept, width}
 use Rattle.nx_cuts.specs.Rows.{joined_row, first, behind, changed_row}
 use Rattle.nx_split.specs.Piece.{asked}
-use Rattle.nx_layouts.specs.Layout.{RecordPlace, Layout, proxies_of, without_places}
+use Rattle.nx_layouts.specs.Layout.{RecordPlace, LaidNode, Layout, proxies_of, without_places}
 use Rattle.nx_layouts.specs.Replace.{replaced_at, above_at}
 use Rattle.nx_layouts.specs.Cutting.{LeadsInto}
 use Rattle.nx_drawn.specs.Edits.{inserted, placed_among, planted_row}
-use Rattle.nx_drawn.proofs.BareLemmas.{width_bare}
+use Rattle.nx_layouts.specs.Drawn.{DrawnAlike}
+use Rattle.nx_layouts.proofs.DrawnLemmas.{drawn_wide, rows_are_drawn_alike}
 use Rattle.nx_edit.proofs.ChangedLemmas.{row_below, bare_behind, interval_changed, child_below}
 use Rattle.nx_edit.proofs.CutLemmas.{into_there}
 
@@ -43,31 +44,15 @@ leads_to_child piece member path position tree begin index before h there =
     ∙ ap (λ (n : ℕ). Outside index before n) (let e : 0 + (length path + 1) ≡ length path + 1 = omega arith in e)
 
 -- members with one more, a node below which nothing stands
-abbrev pub with_member : Node → ℕ → Layout → Layout
+abbrev pub with_member : LaidNode → ℕ → Layout → Layout
 with_member node member members = joined_row (first member members) (Grown node Bare (behind member members))
 
--- the same without places
-bare_joined : (a b : Layout) → without_places (joined_row a b) ≡ joined_row (without_places a) (without_places b)
-bare_joined Bare b = refl
-bare_joined (Grown n c s) b = ap (λ (x : CutForest). Grown n (without_places c) x) (bare_joined s b)
-bare_joined (Kept p m s) b = ap (λ (x : CutForest). Kept tt (without_places m) x) (bare_joined s b)
-
-bare_first : (count : ℕ) (a : Layout) → without_places (first count a) ≡ first count (without_places a)
-bare_first zero a = refl
-bare_first (suc count) Bare = refl
-bare_first (suc count) (Grown n c s) = ap (λ (x : CutForest). Grown n (without_places c) x) (bare_first count s)
-bare_first (suc count) (Kept p m s) = refl
-
-bare_last : (count : ℕ) (a : Layout) → without_places (behind count a) ≡ behind count (without_places a)
-bare_last zero a = refl
-bare_last (suc count) Bare = refl
-bare_last (suc count) (Grown n c s) = bare_last count s
-bare_last (suc count) (Kept p m s) = refl
-
-bare_with : (node : Node) (member : ℕ) (members : Layout) → without_places (with_member node member members) ≡ joined_row (first member (without_places members)) (Grown node Bare (behind member (without_places members)))
-bare_with node member members =
-    bare_joined (first member members) (Grown node Bare (behind member members))
-    ∙ ap₂ (λ (x y : CutForest). joined_row x (Grown node Bare y)) (bare_first member members) (bare_last member members)
+-- the same, drawn
+drawn_with : (node : LaidNode) (member : ℕ) (members : Layout) → without_places (with_member node member members) ≡ joined_row (first member (without_places members)) (Grown node.node Bare (behind member (without_places members)))
+drawn_with node member members =
+    let front : DrawnAlike (first member members) = rows_are_drawn_alike (first member members) in
+    let all : DrawnAlike members = rows_are_drawn_alike members in
+    front.joined (Grown node Bare (behind member members)) ∙ ap₂ (λ (x y : CutForest). joined_row x (Grown node.node Bare y)) (all.front member) (all.back member)
 
 -- the first child stands behind no other member
 first_leads : (index member : ℕ) (rest : List ℕ) (inside row : Layout) → LeadsInto index member rest inside zero [] row → member ≡ 0
@@ -81,26 +66,26 @@ not_empty : (path : List ℕ) (position : ℕ) → [] ≡ path ++ (position ∷ 
 not_empty [] position e = absurd (cc)
 not_empty (q ∷ path) position e = absurd (cc)
 
-module _ (node : Node) (place : RecordPlace) where
+module _ (node : LaidNode) (place : RecordPlace) where
   -- the interval with the new member
   abbrev joining : ℕ → Layout → Layout
   joining member inside = Kept place (with_member node member inside) Bare
 
   -- among the children of a node
   joined_there : (index member : ℕ) (inside : Layout) (position : ℕ) (row : Layout) → LeadsInto index member [] inside position [] row → 1 ≤ member
-      → without_places (replaced_at index (joining member inside) row) ≡ planted_row tt tt Free node position (without_places row)
+      → without_places (replaced_at index (joining member inside) row) ≡ planted_row tt tt Free node.node position (without_places row)
   joined_there index member inside position Bare h some = absurd h
   joined_there index member inside zero (Grown n b s) h some = absurd h
   joined_there index member inside (suc position) (Grown n b s) h some =
       ap (λ (l : Layout). without_places l) (not_less index (length (proxies_of b)) (Grown n (replaced_at index (joining member inside) b) s) (Grown n b (replaced_at (index - length (proxies_of b)) (joining member inside) s)) h.0)
-      ∙ ap (λ (c : CutForest). Grown n (without_places b) c) (joined_there (index - length (proxies_of b)) member inside position s h.1 some)
+      ∙ ap (λ (c : CutForest). Grown n.node (without_places b) c) (joined_there (index - length (proxies_of b)) member inside position s h.1 some)
   joined_there zero member inside zero (Kept p m s) h some = let none : member ≡ 0 = h.1 in absurd (omega (arith, none, some))
   joined_there zero member inside (suc position) (Kept p m s) h some =
       let bare : CutForest = without_places m in
       let rest : CutForest = without_places s in
-      ap (λ (c : CutForest). Kept tt c rest) (here h.1 h.3 ∙ bare_with node (suc position) m)
-      ∙ sym (less_is (suc position) (width bare) (placed_among tt tt tt Free node (suc position) bare rest) (Kept tt bare (planted_row tt tt Free node (suc position - width bare) rest))
-      (subst (λ (w : ℕ). suc position < w) (sym (width_bare m)) h.0))
+      ap (λ (c : CutForest). Kept tt c rest) (here h.1 h.3 ∙ drawn_with node (suc position) m)
+      ∙ sym (less_is (suc position) (width bare) (placed_among tt tt tt Free node.node (suc position) bare rest) (Kept tt bare (planted_row tt tt Free node.node (suc position - width bare) rest))
+      (subst (λ (w : ℕ). suc position < w) (sym (drawn_wide m)) h.0))
     where
       here : member ≡ suc position → inside ≡ m → without_places (with_member node member inside) ≡ without_places (with_member node (suc position) m)
       here a c = cc
@@ -110,52 +95,52 @@ module _ (node : Node) (place : RecordPlace) where
       let bare : CutForest = without_places m in
       let rest : CutForest = without_places s in
       ap (λ (c : CutForest). Kept tt bare c) (joined_there index member inside (suc position - width m) s h.1 some)
-      ∙ ap (λ (w : ℕ). Kept tt bare (planted_row tt tt Free node (suc position - w) rest)) (sym (width_bare m))
-      ∙ sym (not_less (suc position) (width bare) (placed_among tt tt tt Free node (suc position) bare rest) (Kept tt bare (planted_row tt tt Free node (suc position - width bare) rest))
-      (subst (λ (w : ℕ). w ≤ suc position) (sym (width_bare m)) h.0))
+      ∙ ap (λ (w : ℕ). Kept tt bare (planted_row tt tt Free node.node (suc position - w) rest)) (sym (drawn_wide m))
+      ∙ sym (not_less (suc position) (width bare) (placed_among tt tt tt Free node.node (suc position) bare rest) (Kept tt bare (planted_row tt tt Free node.node (suc position - width bare) rest))
+      (subst (λ (w : ℕ). w ≤ suc position) (sym (drawn_wide m)) h.0))
 
   -- they have no other node above them
   above_there : (index member : ℕ) (inside : Layout) (position : ℕ) (row : Layout) (top : Option Node) → LeadsInto index member [] inside position [] row → above_at index top row ≡ top
   above_there index member inside position Bare top h = absurd h
   above_there index member inside zero (Grown n b s) top h = absurd h
   above_there index member inside (suc position) (Grown n b s) top h =
-      not_less index (length (proxies_of b)) (above_at index (Some n) b) (above_at (index - length (proxies_of b)) top s) h.0 ∙ above_there (index - length (proxies_of b)) member inside position s top h.1
+      not_less index (length (proxies_of b)) (above_at index (Some n.node) b) (above_at (index - length (proxies_of b)) top s) h.0 ∙ above_there (index - length (proxies_of b)) member inside position s top h.1
   above_there zero member inside position (Kept p m s) top h = refl
   above_there (suc index) member inside position (Kept p m s) top h = above_there index member inside (position - width m) s top h.1
 
-  module _ (rules : List Rule) (parent : Node) (free : asked rules parent node ≡ Free) (position : ℕ) where
+  module _ (rules : List Rule) (parent : Node) (free : asked rules parent node.node ≡ Free) (position : ℕ) where
     abbrev way : List ℕ → List ℕ
     way path = path ++ position ∷ []
 
     -- so it is in a row that the path leads through
     joined_below : (index member : ℕ) (inside : Layout) (at : ℕ) (path : List ℕ) (row : Layout) (top : Option Node) → LeadsInto index member [] inside at (way path) row → 1 ≤ member → above_at index top row ≡ Some parent
-        → without_places (replaced_at index (joining member inside) row) ≡ changed_row at (inserted rules node (way path)) (without_places row)
+        → without_places (replaced_at index (joining member inside) row) ≡ changed_row at (inserted rules node.node (way path)) (without_places row)
     joined_below index member inside at path Bare top h some above = absurd h
     joined_below index member inside zero [] (Grown n b s) top h some above =
-        let is : Some n ≡ Some parent =
-        sym (above_there index member inside position b (Some n) h.1) ∙ sym (less_is index (length (proxies_of b)) (above_at index (Some n) b) (above_at (index - length (proxies_of b)) top s) h.0) ∙ above in
-        let asks : asked rules n node ≡ Free = ap (λ (x : Node). asked rules x node) (some_node n parent is) ∙ free in
+        let is : Some n.node ≡ Some parent =
+        sym (above_there index member inside position b (Some n.node) h.1) ∙ sym (less_is index (length (proxies_of b)) (above_at index (Some n.node) b) (above_at (index - length (proxies_of b)) top s) h.0) ∙ above in
+        let asks : asked rules n.node node.node ≡ Free = ap (λ (x : Node). asked rules x node.node) (some_node n.node parent is) ∙ free in
         ap (λ (l : Layout). without_places l) (less_is index (length (proxies_of b)) (Grown n (replaced_at index (joining member inside) b) s) (Grown n b (replaced_at (index - length (proxies_of b)) (joining member inside) s)) h.0)
-        ∙ ap (λ (c : CutForest). Grown n c (without_places s))
-        (joined_there index member inside position b h.1 some ∙ ap (λ (e : Entry). planted_row tt tt e node position (without_places b)) (sym asks))
+        ∙ ap (λ (c : CutForest). Grown n.node c (without_places s))
+        (joined_there index member inside position b h.1 some ∙ ap (λ (e : Entry). planted_row tt tt e node.node position (without_places b)) (sym asks))
       where
         some_node : (a b : Node) → Some a ≡ Some b → a ≡ b
         some_node a b e = cc
     joined_below index member inside zero (q ∷ path) (Grown n b s) top h some above =
         ap (λ (l : Layout). without_places l) (less_is index (length (proxies_of b)) (Grown n (replaced_at index (joining member inside) b) s) (Grown n b (replaced_at (index - length (proxies_of b)) (joining member inside) s)) h.0)
-        ∙ ap (λ (c : CutForest). Grown n c (without_places s))
-        (joined_below index member inside q path b (Some n) h.1 some (sym (less_is index (length (proxies_of b)) (above_at index (Some n) b) (above_at (index - length (proxies_of b)) top s) h.0) ∙ above))
-        ∙ sym (row_below (λ path. inserted rules node (way path)) (child_below rules node position) q path n (without_places b) (without_places s))
+        ∙ ap (λ (c : CutForest). Grown n.node c (without_places s))
+        (joined_below index member inside q path b (Some n.node) h.1 some (sym (less_is index (length (proxies_of b)) (above_at index (Some n.node) b) (above_at (index - length (proxies_of b)) top s) h.0) ∙ above))
+        ∙ sym (row_below (λ path. inserted rules node.node (way path)) (child_below rules node.node position) q path n.node (without_places b) (without_places s))
     joined_below index member inside (suc at) path (Grown n b s) top h some above =
         ap (λ (l : Layout). without_places l) (not_less index (length (proxies_of b)) (Grown n (replaced_at index (joining member inside) b) s) (Grown n b (replaced_at (index - length (proxies_of b)) (joining member inside) s)) h.0)
-        ∙ ap (λ (c : CutForest). Grown n (without_places b) c)
-        (joined_below (index - length (proxies_of b)) member inside at path s top h.1 some (sym (not_less index (length (proxies_of b)) (above_at index (Some n) b) (above_at (index - length (proxies_of b)) top s) h.0) ∙ above))
+        ∙ ap (λ (c : CutForest). Grown n.node (without_places b) c)
+        (joined_below (index - length (proxies_of b)) member inside at path s top h.1 some (sym (not_less index (length (proxies_of b)) (above_at index (Some n.node) b) (above_at (index - length (proxies_of b)) top s) h.0) ∙ above))
     joined_below zero member inside at path (Kept p m s) top h some above = absurd (not_empty path position h.2)
     joined_below (suc index) member inside at path (Kept p m s) top h some above =
-        ap (λ (c : CutForest). Kept tt (without_places m) c) (joined_below index member inside (at - width m) path s top h.1 some above) ∙ bare_behind (inserted rules node (way path)) at m s h.0
+        ap (λ (c : CutForest). Kept tt (without_places m) c) (joined_below index member inside (at - width m) path s top h.1 some above) ∙ bare_behind (inserted rules node.node (way path)) at m s h.0
 
     -- and in the interval of the row
     pub interval_joined : (index member : ℕ) (inside : Layout) (at : ℕ) (path : List ℕ) (row : Layout) (top : Option Node) → LeadsInto index member [] inside at (way path) row → 1 ≤ member → above_at index top row ≡ Some parent
-        → Kept tt (without_places (replaced_at index (joining member inside) row)) Bare ≡ changed_row at (inserted rules node (way path)) (Kept tt (without_places row) Bare)
+        → Kept tt (without_places (replaced_at index (joining member inside) row)) Bare ≡ changed_row at (inserted rules node.node (way path)) (Kept tt (without_places row) Bare)
     interval_joined index member inside at path row top h some above =
-        ap (λ (c : CutForest). Kept tt c Bare) (joined_below index member inside at path row top h some above) ∙ interval_changed (inserted rules node (way path)) at row Bare (into_there index member [] inside at (way path) row h)
+        ap (λ (c : CutForest). Kept tt c Bare) (joined_below index member inside at path row top h some above) ∙ interval_changed (inserted rules node.node (way path)) at row Bare (into_there index member [] inside at (way path) row h)

@@ -1,7 +1,6 @@
 -- An interval among the children of a tree of the record, in two: the pieces of what the record has then.
 use Rattle.std.proofs.Common.{◌≡◌, ℕ, zero, suc, ◌+◌, ◌<◌, ◌≤◌, List, [], ◌∷◌, ◌++◌, length, take, drop, Some, refl, sym, ap, ap₂, ◌∙◌, subst, arith, append-nil}
 use Rattle.std.specs.List.{slice_get}
-use Rattle.nx_tree.specs.declared.node.Node.{Node}
 use Rattle.nx_piece.specs.declared.piece.Piece.{Piece}
 use Rattle.nx_piece.specs.declared.piece.Proxy.{Proxy}
 use Rattle.nx_piece_edits.specs.Cutting.{IsWithRow, with_row}
@@ -10,8 +9,8 @@ use Rattle.nx_piece.specs.Locate.{Kept as Away, Inside, children_of, reached_in}
 use Rattle.nx_piece_edits.specs.Planting.{put_at, LeadsBetween, IsWithNode}
 use Rattle.nx_piece_edits.specs.Setting.{with_tree}
 use Rattle.nx_piece.specs.Valid.{IsPiece}
-use Rattle.nx_cuts.specs.Cut.{Bare, Grown, Kept, width, AreParts}
-use Rattle.nx_layouts.specs.Layout.{RecordPlace, Layout, piece_body, piece_of, proxies_of, proxy_of}
+use Rattle.nx_cuts.specs.Cut.{Bare, Grown, Kept, width}
+use Rattle.nx_layouts.specs.Layout.{RecordPlace, LaidNode, Layout, AreLaidParts, in_record, laid_near, piece_body, piece_of, proxies_of, proxy_of}
 use Rattle.nx_layouts.specs.Replace.{replaced_at}
 use Rattle.nx_layouts.specs.Cutting.{StaysIn, LeadsInto}
 use Rattle.nx_layouts.specs.Planting.{FallsBetween, with_node, changed_below}
@@ -39,7 +38,7 @@ row_piece index members new row changed less is gap some w =
 pub two_gap : (front back : RecordPlace) (ahead after : Layout) → piece_body (in_two front back ahead after) ≡ Gap (length (proxies_of (in_two front back ahead after))) End
 two_gap front back ahead after = refl
 
-module _ (members : Layout) (member : ℕ) (path : List ℕ) (position index before : ℕ) (front back : RecordPlace) (node : Node) (ahead after : Layout) (tree : GappedTree) (start : ℕ) (leads : reached_in (piece_of members) member path ≡ Inside tree start)
+module _ (members : Layout) (member : ℕ) (path : List ℕ) (position index before : ℕ) (front back : RecordPlace) (node : LaidNode) (ahead after : Layout) (tree : GappedTree) (start : ℕ) (leads : reached_in (piece_of members) member path ≡ Inside tree start)
     (inside : Layout) (into : LeadsInto index before [] inside member (path ++ position ∷ []) members) (some : 1 ≤ before) (wide : width ahead ≡ before) where
   stays : StaysIn member path members
   stays = (path_stays members member path tree start leads).stays
@@ -98,7 +97,7 @@ module _ (members : Layout) (member : ℕ) (path : List ℕ) (position index bef
       ∙ sym (s.same between)
 
   -- with the node there, the piece is that of the row with the node between the two
-  pub between_is : (k : ℕ) (placed : Piece) → AreParts k two_row → IsWithNode (piece_of two_row) member path position node placed → piece_of grown_row ≡ placed
+  pub between_is : (k : ℕ) (placed : Piece) → AreLaidParts k two_row → IsWithNode (piece_of two_row) member path position (in_record node) placed → piece_of grown_row ≡ placed
   between_is k placed parts p =
       let has = children_are_changed k two_row member path p.tree p.first p.leads in
       let falls : FallsBetween position has.below = subst (FallsBetween position) (ap row_below has.at) falls_two in
@@ -109,24 +108,25 @@ module _ (members : Layout) (member : ℕ) (path : List ℕ) (position index bef
       (ap piece_body (sym same_row) ∙ c.body []
       ∙ ap (λ (ps : List Proxy). with_tree member path (record { node = (p.tree).node; below = piece_body (with_node node position has.below) }) (piece_body two_row) ps) (append-nil (proxies_of two_row))
       ∙ ap (λ (g : Gapped). with_tree member path (record { node = (p.tree).node; below = g }) (piece_body two_row) (proxies_of two_row))
-      (goes.body (has.light_below parts) has.back ∙ ap₂ (λ (g : Gapped) (ps : List Proxy). put_at (λ f. Grow node End f) position g ps) has.below_is (sym has.rest))
+      (goes.body (has.light_below parts) has.back ∙ ap₂ (λ (g : Gapped) (ps : List Proxy). put_at (λ f. Grow (in_record node) End f) position g ps) has.below_is (sym has.rest))
       ∙ sym p.body)
       (ap proxies_of (sym same_row) ∙ c.proxies ∙ ap (λ (ps : List Proxy). has.front ++ (ps ++ has.back)) goes.proxies ∙ sym has.proxies_were ∙ sym p.proxies)
 
 -- some trees, so many
-some_trees : Node → ℕ → Layout
+some_trees : LaidNode → ℕ → Layout
 some_trees node zero = Bare
 some_trees node (suc n) = Grown node Bare (some_trees node n)
 
-trees_wide : (node : Node) (n : ℕ) → width (some_trees node n) ≡ n
+trees_wide : (node : LaidNode) (n : ℕ) → width (some_trees node n) ≡ n
 unfolding some_trees
 trees_wide node zero = refl
 trees_wide node (suc n) = let e = trees_wide node n in omega (arith, e)
 
 -- two proxies in the place of one, the first with as many roots as stand before the position
-pub stands_between : (piece two : Piece) (member : ℕ) (path : List ℕ) (position index before : ℕ) (proxy front back : Proxy) (node : Node) → IsPiece piece → IsWithin piece member path position proxy index before → front.roots ≡ before
+pub stands_between : (piece two : Piece) (member : ℕ) (path : List ℕ) (position index before : ℕ) (proxy front back : Proxy) → IsPiece piece → IsWithin piece member path position proxy index before → front.roots ≡ before
     → IsWithRow piece index (front ∷ back ∷ []) two → LeadsBetween two member path position
-stands_between piece two member path position index before proxy front back node valid w roots r =
+stands_between piece two member path position index before proxy front back valid w roots r =
+    let node : LaidNode = laid_near ((w.tree).node).node in
     let m = piece_has_members piece valid in
     let members : Layout = m.members in
     let leads : reached_in (piece_of members) member path ≡ Inside w.tree w.first = ap (λ (p : Piece). reached_in p member path) m.is ∙ w.leads in

@@ -1,35 +1,52 @@
 -- An interval that a path leads into was replaced, and then the record above it.
-use Rattle.std.proofs.Common.{◌≡◌, ℕ, zero, suc, ◌+◌, ◌-◌, ◌*◌, ◌<◌, ◌≤◌, Bool, List, [], ◌∷◌, ◌++◌, length, Option, None, Some, inl, inr, sym, ap, ap₂, ◌∙◌, subst, arith, append-nil, length-append}
+use Rattle.std.proofs.Common.{◌≡◌, ℕ, zero, suc, ◌+◌, ◌-◌, ◌*◌, ◌<◌, ◌≤◌, Bool, List, [], ◌∷◌, ◌++◌, length, Option, None, Some, inl, inr, sym, ap, ap₂, ◌∙◌, subst, arith, append-nil, length-append, IsPermutation}
 use Rattle.std.specs.Prelude.{IsSome, Contains}
-use Rattle.std.specs.List.{slice_get}
+use Rattle.std.specs.List.{slice_get, sum_by}
+use Rattle.std.proofs.lemmas.List.Sums.{sum_by-append}
+use Rattle.std.proofs.lemmas.List.Sorted.{sum_by-IsPermutation, Contains-permutation, IsPermutation-sym}
+use Rattle.std.proofs.lemmas.List.Elements.{Contains-append_right}
 use Rattle.nx_tree.specs.Forest.{nodes}
-use Rattle.nx_holdings.specs.Holdings.{Held}
+use Rattle.nx_holdings.specs.Holdings.{Held, chain_count}
+use Rattle.nx_holdings.specs.declared.header.Settings.{Settings}
+use Rattle.nx_piece.specs.declared.piece.Far.{Far}
 use Rattle.nx_piece.specs.declared.piece.Piece.{Piece}
 use Rattle.nx_piece.specs.declared.piece.Proxy.{Proxy}
 use Rattle.nx_piece.specs.Gapped as gapped
 use Rattle.nx_piece.specs.Gapped.{Gapped}
 use Rattle.nx_piece.proofs.LocateLemmas.{get_behind}
-use Rattle.nx_cuts.specs.Cut.{CutForest, Bare, Grown, Kept, forest, width, part_weight, AreFree}
-use Rattle.nx_layouts.specs.Layout.{RecordPlace, Layout, AreHeld, ArePlacedOnce, piece_of, places_of, proxies_of, proxy_of, without_places}
+use Rattle.nx_cuts.specs.Cut.{CutForest, Bare, Grown, Kept, width, AreFree, AreParts}
+use Rattle.nx_layouts.specs.Layout.{RecordPlace, LaidNode, Layout, AreHeld, ArePlacedOnce, laid_forest, laid_weight, piece_body, piece_of, places_of, proxies_of, proxy_of, nodes_in, lists_of, contents_of, without_places}
 use Rattle.nx_layouts.specs.Replace.{replaced_at}
-use Rattle.nx_layouts.specs.Cutting.{member_tree, LeadsInto, StandsIn}
-use Rattle.nx_layouts.proofs.ReplaceLemmas.{replaces}
-use Rattle.nx_layouts.proofs.PlaceLemmas.{no_place, first_among, later_among, once-left, once-right}
-use Rattle.nx_layouts.proofs.HeldLemmas.{HaveThere, held_there, layout_held}
-use Rattle.nx_layouts.proofs.FillLemmas.{interval_is_light}
+use Rattle.nx_layouts.specs.Cutting.{member_tree, LeadsInto, StandsIn, IsFilled}
+use Rattle.nx_layouts.proofs.PlaceLemmas.{no_place, first_among, later_among, AreDisjoint, once-append, once-left, once-right}
+use Rattle.nx_layouts.proofs.HeldLemmas.{layout_held}
+use Rattle.nx_layouts.proofs.DrawnLemmas.{drawn_free}
+use Rattle.nx_layouts.proofs.FillLemmas.{interval_is_light, row_is_filled}
 use Rattle.nx_layouts.proofs.StandLemmas.{interval_stands_in}
-use Rattle.nx_hold.specs.Changes.{place_named, piece_needs, UpdatesPiece}
-use Rattle.nx_hold.specs.Pieces.{record_at, HoldsPiece, NamesList, IsTidy, PieceMap}
+use Rattle.nx_hold.specs.Contents.{near_in, near_pages}
+use Rattle.nx_hold.specs.Changes.{place_named}
+use Rattle.nx_hold.specs.Pieces.{record_at, HoldsPiece, NamesList, IsTidy, PieceMap, held_by}
 use Rattle.nx_hold.specs.Documents.{MovesRecords}
-use Rattle.nx_hold.proofs.PieceLemmas.{pieces_stay, some_same}
-use Rattle.nx_hold.proofs.MapLemmas.{piece_map, held_at, told_some}
-use Rattle.nx_hold.proofs.MoveLemmas.{moves_more, update_moves}
-use Rattle.nx_nav.proofs.PartLemmas.{forest-without_places}
-use Rattle.nx_edit.specs.Editing.{places_off}
+use Rattle.nx_hold.proofs.PieceLemmas.{one_piece, pieces_stay, some_same}
+use Rattle.nx_hold.proofs.MapLemmas.{piece_map, held_at}
+use Rattle.nx_hold.proofs.TidyLemmas.{may_name_own}
+use Rattle.nx_hold.proofs.MoveLemmas.{moves_more}
+use Rattle.nx_hold.proofs.RecordsLemmas.{record_there}
+use Rattle.nx_edit.specs.Editing.{places_off, nodes_off}
+use Rattle.nx_edit.specs.Removing.{fars_of}
+use Rattle.nx_edit.specs.Passing.{PutsOrStays}
 use Rattle.nx_edit.specs.Rows.{row_nodes, IsHeldInterval, IsReplaced}
+use Rattle.nx_edit.proofs.CutLemmas.{nodes_inside}
 use Rattle.nx_edit.proofs.OffLemmas.{off_among, off_inside}
-use Rattle.nx_edit.proofs.ThroughLemmas.{IsAround, around_interval, above_stays, moves_through, once_through, around_stays, stays_on, around_held, come_held, apart}
-use Rattle.nx_edit.proofs.OwnLemmas.{nodes_bare, free_wide}
+use Rattle.nx_edit.proofs.ThroughLemmas.{IsAround, around_interval, above_stays, moves_through, once_there, once_through, around_stays, stays_on, apart}
+use Rattle.nx_edit.proofs.OwnLemmas.{free_wide}
+use Rattle.nx_edit.proofs.OrderLemmas.{fars_by_sums, lists_by_sums}
+use Rattle.nx_edit.proofs.FarLemmas.{sum_fars, sum_lists, near-append, near_filled, near_none, own_near}
+use Rattle.nx_edit.proofs.HeldLemmas.{held_through, row_there}
+use Rattle.nx_edit.proofs.PutLemmas.{IsPutAs, made_wide, put_as, stays_as}
+
+no_value : {A : Type 0} {x : A} {B : Type 0} → Some x ≡ None → B
+no_value e = absurd (cc)
 
 at_front : {A : Type 0} (front : List A) (x : A) (rest all : List A) (n : ℕ) → all ≡ front ++ (x ∷ rest) → length front ≡ n → slice_get all n ≡ Some x
 at_front front x rest all n e l = ap (λ ys. slice_get ys n) e ∙ ap (slice_get (front ++ (x ∷ rest))) (let place : n ≡ length front + 0 = omega (arith, l) in place) ∙ get_behind front (x ∷ rest) 0
@@ -83,107 +100,221 @@ module _ (was : Held) (pieces : PieceMap was) (known : Option Piece) (place : Re
       ap place_named (some_same (sym found ∙ at))
 
   pub members_free : AreFree members
-  members_free = (i.light).1
+  members_free = drawn_free members (i.light).1
 
   -- no more nodes are below than in all
-  pub inside_few : (left : Layout) → nodes (forest (replaced_at index left members)) + nodes (forest inside) ≡ nodes (forest members) + nodes (forest left)
+  pub inside_few : (left : Layout) → nodes (laid_forest (replaced_at index left members)) + nodes (laid_forest inside) ≡ nodes (laid_forest members) + nodes (laid_forest left)
   inside_few left = there.counted left
 
-  -- the path leads on to the same tree
-  pub down : member_tree (forest members) position path ≡ member_tree (forest inside) next rest → member_tree (forest (without_places members)) position path ≡ member_tree (forest (without_places inside)) next rest
-  down same = ap (λ f. member_tree f position path) (forest-without_places members) ∙ same ∙ ap (λ f. member_tree f next rest) (sym (forest-without_places inside))
-
-  pub inside_interval : member_tree (forest members) position path ≡ member_tree (forest inside) next rest → IsHeldInterval was pieces None place_inside next rest limit inside
+  pub inside_interval : member_tree (laid_forest members) position path ≡ member_tree (laid_forest inside) next rest → IsHeldInterval was pieces None place_inside next rest limit inside
   inside_interval same = record {
     is = tt;
-    held = there.held pieces.piece_at (i.held).1;
+    held = there.held (held_by pieces) (i.held).1;
     once = subst (λ (ps : List RecordPlace). ArePlacedOnce (there.at ∷ ps)) (sym (append-nil (places_of inside))) (once-left gone behind (once-right before (gone ++ behind) ((around.once).1)));
     light = there.light (i.light).3;
-    leads = subst IsSome (down same) i.leads;
+    leads = subst IsSome same i.leads;
     few =
         let most : row_nodes (without_places members) ≤ limit = i.few in
-        let m = nodes_bare members in
-        let n = nodes_bare inside in
         let c = inside_few Bare in
-        omega (arith, most, m, n, c);
+        omega (arith, most, c);
   }
 
   -- the record above is there when the interval below was replaced
-  pub above_there : {mid : Held} {come : List RecordPlace} {needs : ℕ} → IsTidy was → MovesRecords gone come needs was mid → HoldsPiece mid place (piece_of members)
-  above_there tidy moves = above_stays around moves tidy (piece_of members) (held_at was pieces place (piece_of members) (i.held).0)
+  pub above_there : {mid : Held} {come : List RecordPlace} {brought : List ℕ} {needs : ℕ} → IsTidy was → MovesRecords gone come [] brought needs was mid → HoldsPiece mid place (piece_of members)
+  above_there tidy moves = above_stays around moves tidy (piece_of members) (held_at was pieces place (piece_of members) ((i.held).0).there)
+
+  -- The nodes that are kept of the row are those kept of the interval below, with those around it.
+  pub record IsKeptAround (kept_in kept : List LaidNode) : Type 0 where
+    pub before_it : List LaidNode
+    pub behind_it : List LaidNode
+    pub off : kept ≡ before_it ++ (kept_in ++ behind_it)
+    pub were : nodes_in members ≡ before_it ++ (nodes_in inside ++ behind_it)
+    pub are : (left : Layout) → nodes_in (replaced_at index left members) ≡ before_it ++ (nodes_in left ++ behind_it)
+
+  -- all nodes are
+  pub all_around : IsKeptAround (nodes_in inside) (nodes_in members)
+  all_around = record { before_it = there.nodes_before; behind_it = there.nodes_behind; off = there.nodes_were; were = there.nodes_were; are = there.nodes_are }
+
+  -- those off a way are
+  pub off_around : (stays : Bool) (way way_below : List ℕ) → LeadsInto index next way_below inside position way members → IsKeptAround (nodes_off stays (next ∷ way_below) inside) (nodes_off stays (position ∷ way) members)
+  off_around stays way way_below leads =
+      let n = nodes_inside stays index next way_below inside position way members leads in
+      record { before_it = n.before; behind_it = n.behind; off = n.off; were = n.were; are = n.are }
 
   -- The interval below was replaced, where what is off some way stays, and then the record above:
-  module _ (way way_below : List ℕ) (leads : LeadsInto index next way_below inside position way members) {mid : Held} (tidy : IsTidy was) (stays : Bool) {Below : CutForest → Type 0} {proxies : List Proxy}
-      (r : IsReplaced k Below place_inside inside (places_off stays (next ∷ way_below) inside) proxies was mid) where
+  module _ (way way_below : List ℕ) (leads : LeadsInto index next way_below inside position way members) {mid : Held} (tidy : IsTidy was) (stays : Bool) {Below : CutForest → Type 0} {kept_in : List LaidNode} {put : List ℕ} {proxies : List Proxy}
+      {gone_fars : List Far} (r : IsReplaced k Below place_inside inside kept_in put (places_off stays (next ∷ way_below) inside) proxies gone_fars was mid) where
     abbrev pub here : Layout
     here = replaced_at index r.row members
 
-    module _ {now : Held} (tidier : IsTidy mid) (piece : Piece) (here_is : piece ≡ piece_of here) (proxy : Proxy) (roots : proxy.roots ≡ gapped.gapped_width piece.body.roots) (updates : UpdatesPiece place (place_named proxy) piece mid now) where
+    filled : IsFilled k index r.row members
+    filled = row_is_filled k index r.row members
+
+    -- the row is held in between
+    hole_held : (after : PieceMap mid) → AreHeld (held_by after) (replaced_at index Bare members)
+    hole_held after =
+        held_through tidy r.moves pieces after (replaced_at index Bare members) (filled.hole (held_by pieces) (i.held).1)
+        (λ far among. may_name_own was place (piece_of members) tidy (held_at was pieces place (piece_of members) ((i.held).0).there) far (subst (λ (fs : List Far). Contains fs far) filled.own among))
+        (λ other left went. apart around other went (later_among place (before ++ behind) other (subst (λ (ps : List RecordPlace). Contains ps other) (there.places_are Bare) left)))
+
+    pub here_held : (after : PieceMap mid) → AreHeld (held_by after) here
+    here_held after = filled.held (held_by after) (hole_held after) (r.held after)
+
+    places_here : before ++ (places_of r.row ++ behind) ≡ places_of here
+    places_here = sym (there.places_are r.row)
+
+    here_apart : Contains (places_of here) place → ⊥
+    here_apart among = (once_there around r.moves r.once).0 (subst (λ (ps : List RecordPlace). Contains ps place) (sym places_here) among)
+
+    -- the pages of what is kept suffice for what came below and for the record above
+    pub near_suffice : {kept : List LaidNode} → IsKeptAround kept_in kept → laid_weight r.row ≡ 0 → near_pages kept_in + near_in (piece_body here) ≤ near_pages kept
+    near_suffice {kept} around_it weightless =
+        let stay = ap (λ (ns : List LaidNode). near_pages ns) around_it.off in
+        let front = near-append around_it.before_it (kept_in ++ around_it.behind_it) in
+        let middle = near-append kept_in around_it.behind_it in
+        let fill = near_filled index r.row members in
+        let none = near_none r.row weightless in
+        let own = own_near (replaced_at index Bare members) in
+        let are = ap (λ (ns : List LaidNode). near_pages ns) (around_it.are Bare) in
+        let rest = near-append around_it.before_it around_it.behind_it in
+        omega (arith, stay, front, middle, fill, none, own, are, rest)
+
+    module _ {now : Held} (tidier : IsTidy mid) (piece : Piece) (here_is : piece ≡ piece_of here) (proxy : Proxy) (roots : proxy.roots ≡ gapped.gapped_width piece.body.roots) (puts : PutsOrStays place (place_named proxy) piece mid now)
+        (weightless : laid_weight r.row ≡ 0) where
       abbrev new : RecordPlace
       new = place_named proxy
 
-      two : MovesRecords (place ∷ []) (new ∷ []) (piece_needs piece) mid now
-      two = update_moves place new piece mid now updates
+      above : HoldsPiece mid place (piece_of members)
+      above = above_there tidy r.moves
 
-      hole_held : (after : PieceMap now) → AreHeld after.piece_at (replaced_at index Bare members)
-      hole_held after =
-          held_there pieces.piece_at after.piece_at (replaced_at index Bare members) (subst (HaveThere pieces.piece_at after.piece_at) (sym (there.places_are Bare)) (around_held around r.moves two tidy tidier pieces after))
-          ((replaces index members Bare less_index).beside pieces.piece_at (i.held).1)
+      here_light : laid_weight here ≤ (mid.settings).k
+      here_light =
+          let same = filled.heavy weightless in
+          let light : laid_weight members ≤ k = (i.light).2 in
+          let settled = ap (λ (s : Settings). s.k) (r.moves).settings in
+          omega (arith, same, light, settled)
 
-      row_held : (after : PieceMap now) → AreHeld after.piece_at r.row
-      row_held after = held_there (piece_map mid).piece_at after.piece_at r.row (come_held around r.moves two tidy tidier (piece_map mid) after) (r.held (piece_map mid))
+      -- the record above has the row then
+      as_put : PutsOrStays place new piece mid now → IsPutAs place new here mid now
+      as_put (inl far) = put_as far here here_is (record_there mid place (piece_of members) above) (piece_map mid) (here_held (piece_map mid)) here_apart here_light
+      as_put (inr same) =
+          subst (λ (p : RecordPlace). IsPutAs place p here mid now) (sym same.1)
+          (subst (λ (h : Held). IsPutAs place place here mid h) (sym same.0) (stays_as mid place here (subst (λ (p : Piece). HoldsPiece mid place p) here_is same.2) fits here_held))
+        where
+          fits : gapped.gapped_size (piece_body here) ≤ (mid.settings).k
+          fits =
+              let same_piece : piece_of members ≡ piece_of here = one_piece mid place (piece_of members) (piece_of here) above (subst (λ (p : Piece). HoldsPiece mid place p) here_is same.2) in
+              let small = ((i.held).0).fits in
+              let as_large = ap (λ (p : Piece). gapped.gapped_size p.body.roots) same_piece in
+              let settled = ap (λ (s : Settings). s.k) (r.moves).settings in
+              omega (arith, small, as_large, settled)
+
+      pub top : IsPutAs place new here mid now
+      top = as_put puts
 
       off_stays : (other : RecordPlace) → Contains (places_off stays (position ∷ way) members) other → (record_at now other ≡ record_at was other) × ((count chain : ℕ) → NamesList was other count chain → now.lists chain ≡ was.lists chain)
       off_stays other among =
           elim (off_inside stays index next way_below inside position way members leads other among) [
             | inl below ↦
                 let among_inside : Contains (places_of inside) other = off_among stays (next ∷ way_below) inside other below in
-                let found = layout_held pieces.piece_at inside other (there.held pieces.piece_at (i.held).1).1 among_inside in
+                let found = layout_held (held_by pieces) inside other (there.held (held_by pieces) (i.held).1).1 among_inside in
                 let holds : HoldsPiece was other found.0 = held_at was pieces other found.0 found.1 in
                 let same : record_at mid other ≡ record_at was other = r.records_stay other below in
                 let lists : (count chain : ℕ) → NamesList was other count chain → mid.lists chain ≡ was.lists chain = λ count chain names. r.lists_stay other count chain below names in
-                let stays = stays_on around r.moves two tidy tidier other found.0
+                let stays = stays_on around r.moves top.moves tidy tidier other found.0
                 (λ e. apart around other (later_among there.at (places_of inside) other among_inside) (subst (λ (p : RecordPlace). Contains (place ∷ (before ++ behind)) p) (sym e) (first_among place (before ++ behind))))
                 same (pieces_stay was mid other found.0 same lists holds) lists in
                 (stays.0, stays.2)
             | inr left_there ↦
                 let beside : Contains (before ++ behind) other = subst (λ (ps : List RecordPlace). Contains ps other) (there.places_are Bare) left_there in
                 let found = a_piece other beside in
-                let stays = around_stays around r.moves two tidy tidier other found.0 beside found.1 in
+                let stays = around_stays around r.moves top.moves tidy tidier other found.0 beside found.1 in
                 (stays.0, stays.2)
           ]
         where
           a_piece : (other : RecordPlace) → Contains (before ++ behind) other → (p : Piece) × HoldsPiece was other p
           a_piece other beside = around.there other (later_among place (before ++ behind) other beside)
 
-      places_here : before ++ (places_of r.row ++ behind) ≡ places_of here
-      places_here = sym (there.places_are r.row)
+      -- what came below and what comes above is not the same
+      brought_apart : AreDisjoint r.brought top.more
+      brought_apart first below comes =
+          let among : Contains (contents_of r.row) first =
+          Contains-permutation (lists_of kept_in ++ (put ++ r.brought)) (contents_of r.row) first (IsPermutation-sym (contents_of r.row) (lists_of kept_in ++ (put ++ r.brought)) r.contents_came)
+          (Contains-append_right (lists_of kept_in) (put ++ r.brought) first (Contains-append_right put r.brought first below)) in
+          no_value (sym (row_there mid (piece_map mid) r.row (r.held (piece_map mid)) first among).1 ∙ top.fresh first comes)
 
-      -- so the interval above was: it has the row in the place of the interval below
-      pub replaced_above : (Becomes : CutForest → Type 0) → Becomes (without_places (Kept new here Bare)) → part_weight r.row ≡ 0
-          → (row_nodes (without_places inside) + 2 * row_nodes (without_places r.row)) + piece_needs piece ≤ row_nodes (without_places members) + 2 * row_nodes (without_places (Kept new here Bare))
-          → IsReplaced k Becomes place members (places_off stays (position ∷ way) members) (proxy ∷ []) was now
-      replaced_above Becomes becomes weightless most = record {
-        row = Kept new here Bare;
-        becomes = becomes;
-        proxies_are =
-            ap (λ (n : ℕ). let q : Proxy = record { page = proxy.page; slot = proxy.slot; roots = n } in q ∷ [])
-            (roots ∙ ap (λ (p : Piece). gapped.gapped_width p.body.roots) here_is ∙ free_wide here ((replaces index members r.row less_index).free members_free));
-        held = λ after. (
-          told_some now new (piece_of here) (after.piece_at new) (after.are new) (subst (λ (p : Piece). HoldsPiece now new p) here_is updates.holds),
-          (replaces index members r.row less_index).held after.piece_at (hole_held after) (row_held after),
-          tt,
-        );
-        once =
-            subst (λ (ps : List RecordPlace). ArePlacedOnce (new ∷ ps)) (sym (append-nil (places_of here)))
-            (subst (λ (ps : List RecordPlace). ArePlacedOnce (new ∷ ps)) places_here (once_through around r.moves two (no_place new, tt) r.once));
-        light = interval_is_light k index place new r.row members i.light r.light weightless;
-        moves =
-            subst (λ (ps : List RecordPlace). MovesRecords (place ∷ places_of members) (new ∷ ps) (row_nodes (without_places members) + 2 * row_nodes (without_places (Kept new here Bare))) was now) (sym (append-nil (places_of here)))
-            (subst (λ (ps : List RecordPlace). MovesRecords (place ∷ places_of members) (new ∷ ps) (row_nodes (without_places members) + 2 * row_nodes (without_places (Kept new here Bare))) was now) places_here
-            (subst (λ (ps : List RecordPlace). MovesRecords (place ∷ ps) (new ∷ (before ++ (places_of r.row ++ behind))) (row_nodes (without_places members) + 2 * row_nodes (without_places (Kept new here Bare))) was now) (sym there.places_were)
-            (moves_more (place ∷ (before ++ (gone ++ behind))) (new ∷ (before ++ (places_of r.row ++ behind))) ((row_nodes (without_places inside) + 2 * row_nodes (without_places r.row)) + piece_needs piece)
-            (row_nodes (without_places members) + 2 * row_nodes (without_places (Kept new here Bare))) was now most (moves_through around r.moves two))));
-        records_stay = λ other among. (off_stays other among).0;
-        lists_stay = λ other count chain among. (off_stays other among).1 count chain;
-      }
+      module _ {kept : List LaidNode} (around_it : IsKeptAround kept_in kept) where
+        went : IsPermutation (fars_of kept ++ gone_fars) (fars_of (nodes_in members))
+        went =
+            fars_by_sums (fars_of kept ++ gone_fars) (fars_of (nodes_in members)) (λ f.
+            let all = sum_by-append f (fars_of kept) gone_fars in
+            let stay = ap (λ (ns : List LaidNode). sum_by f (fars_of ns)) around_it.off in
+            let were = ap (λ (ns : List LaidNode). sum_by f (fars_of ns)) around_it.were in
+            let front = sum_fars f around_it.before_it (kept_in ++ around_it.behind_it) in
+            let middle = sum_fars f kept_in around_it.behind_it in
+            let old_front = sum_fars f around_it.before_it (nodes_in inside ++ around_it.behind_it) in
+            let old_middle = sum_fars f (nodes_in inside) around_it.behind_it in
+            let low = sum_by-IsPermutation f (fars_of kept_in ++ gone_fars) (fars_of (nodes_in inside)) r.contents_went in
+            let inner = sum_by-append f (fars_of kept_in) gone_fars in
+            omega (arith, all, stay, were, front, middle, old_front, old_middle, low, inner))
+
+        came : IsPermutation (lists_of (nodes_in top.made ++ [])) (lists_of kept ++ (put ++ (r.brought ++ top.more)))
+        came =
+            lists_by_sums (lists_of (nodes_in top.made ++ [])) (lists_of kept ++ (put ++ (r.brought ++ top.more))) (λ f.
+            let whole = sum_lists f (nodes_in top.made) [] in
+            let all = sum_by-append f (lists_of kept) (put ++ (r.brought ++ top.more)) in
+            let more = sum_by-append f put (r.brought ++ top.more) in
+            let last = sum_by-append f r.brought top.more in
+            let stay = ap (λ (ns : List LaidNode). sum_by f (lists_of ns)) around_it.off in
+            let front = sum_lists f around_it.before_it (kept_in ++ around_it.behind_it) in
+            let middle = sum_lists f kept_in around_it.behind_it in
+            let are = ap (λ (ns : List LaidNode). sum_by f (lists_of ns)) (around_it.are r.row) in
+            let new_front = sum_lists f around_it.before_it (nodes_in r.row ++ around_it.behind_it) in
+            let new_middle = sum_lists f (nodes_in r.row) around_it.behind_it in
+            let here_came = sum_by-IsPermutation f (contents_of top.made) (contents_of here ++ top.more) top.came in
+            let here_more = sum_by-append f (contents_of here) top.more in
+            let low = sum_by-IsPermutation f (contents_of r.row) (lists_of kept_in ++ (put ++ r.brought)) r.contents_came in
+            let low_all = sum_by-append f (lists_of kept_in) (put ++ r.brought) in
+            let low_more = sum_by-append f put r.brought in
+            omega (arith, whole, all, more, last, stay, front, middle, are, new_front, new_middle, here_came, here_more, low, low_all, low_more))
+
+        -- so the interval above was: it has the row in the place of the interval below
+        pub replaced_above : (Becomes : CutForest → Type 0) → Becomes (without_places (Kept new here Bare))
+            → (row_nodes (without_places inside) + 2 * row_nodes (without_places r.row)) + (1 + chain_count (8 * length (proxies_of here))) ≤ row_nodes (without_places members) + 2 * row_nodes (without_places (Kept new here Bare))
+            → IsReplaced k Becomes place members kept put (places_off stays (position ∷ way) members) (proxy ∷ []) gone_fars was now
+        replaced_above Becomes becomes most =
+            let row : Layout = Kept new top.made Bare in
+            let same : without_places row ≡ without_places (Kept new here Bare) = ap (λ (c : CutForest). Kept tt c Bare) top.same in
+            let brought : List ℕ = r.brought ++ top.more in
+            let needs : ℕ = row_nodes (without_places members) + 2 * row_nodes (without_places row) + near_pages kept in
+            let enough : (row_nodes (without_places inside) + 2 * row_nodes (without_places r.row) + near_pages kept_in) + top.then ≤ needs =
+            let few = top.few in
+            let near = near_suffice around_it weightless in
+            let nodes = ap (λ (c : CutForest). row_nodes c) same in
+            omega (arith, few, near, nodes, most) in
+            record {
+              row = row;
+              becomes = subst Becomes (sym same) becomes;
+              proxies_are =
+                  ap (λ (n : ℕ). let q : Proxy = record { page = proxy.page; slot = proxy.slot; roots = n } in q ∷ [])
+                  (roots ∙ ap (λ (p : Piece). gapped.gapped_width p.body.roots) here_is ∙ free_wide here (filled.free members_free) ∙ sym (made_wide top));
+              held = λ after. (top.at after, top.held after, tt);
+              once =
+                  subst (λ (ps : List RecordPlace). ArePlacedOnce (new ∷ ps)) (sym (append-nil (places_of top.made)))
+                  (subst (λ (ps : List RecordPlace). ArePlacedOnce (new ∷ ps)) (sym top.places)
+                  (subst (λ (ps : List RecordPlace). ArePlacedOnce (new ∷ ps)) places_here (once_through around r.moves top.moves (no_place new, tt) r.once)));
+              light = subst (λ (c : CutForest). AreParts k c) (sym same) (interval_is_light k index place new r.row members i.light r.light weightless);
+              brought = brought;
+              moves =
+                  subst (λ (ps : List RecordPlace). MovesRecords (place ∷ places_of members) (new ∷ ps) [] brought needs was now) (sym (append-nil (places_of top.made)))
+                  (subst (λ (ps : List RecordPlace). MovesRecords (place ∷ places_of members) (new ∷ ps) [] brought needs was now) (sym top.places)
+                  (subst (λ (ps : List RecordPlace). MovesRecords (place ∷ places_of members) (new ∷ ps) [] brought needs was now) places_here
+                  (subst (λ (ps : List RecordPlace). MovesRecords (place ∷ ps) (new ∷ (before ++ (places_of r.row ++ behind))) [] brought needs was now) (sym there.places_were)
+                  (moves_more (place ∷ (before ++ (gone ++ behind))) (new ∷ (before ++ (places_of r.row ++ behind))) [] brought
+                  ((row_nodes (without_places inside) + 2 * row_nodes (without_places r.row) + near_pages kept_in) + top.then) needs was now enough (moves_through around r.moves top.moves)))));
+              contents_went = went;
+              contents_came = came;
+              brought_once = once-append r.brought top.more r.brought_once top.once brought_apart;
+              records_stay = λ other among. (off_stays other among).0;
+              lists_stay = λ other count chain among. (off_stays other among).1 count chain;
+            }

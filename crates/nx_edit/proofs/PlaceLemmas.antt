@@ -26,6 +26,7 @@ use Rattle.nx_layouts.specs.Layout.{RecordPlace}
 use Rattle.nx_hold.specs.Documents.{HasDocument}
 use Rattle.nx_nav.specs.declared.error.NavError.{NavError}
 use Rattle.nx_nav.specs.declared.error.NavError.TheVariants as nav
+use Rattle.nx_nav.specs.declared.finding.Outlined.{Outlined}
 use Rattle.nx_nav.specs.Refusals.{OfEach, HoldsNoDocument, IsRefused}
 use Rattle.nx_nav.specs.Shows.{kind_below}
 use Rattle.nx_edit.specs.declared.error.EditError.{EditError}
@@ -151,15 +152,15 @@ module _ (node : Node) (tree : OrderedTree) (parent : List ℕ) (children : ℕ)
   by_names t b e =
       e ∙ ap (λ f. list_any (bytes_eq node.name) (attribute_names f)) (forest_of-trees_of t.below) ∙ ap (λ (c : Bool). c && list_any (bytes_eq node.name) (attribute_names t.below)) (sym is)
 
-  module _ (position : ℕ) (other : Node) (left : IsLookedAt node.name tree parent children position) (below : IsChild tree parent position other) where
+  module _ (position : ℕ) (other : Outlined) (left : IsLookedAt node.name tree parent children position) (below : IsChild tree parent position other) where
     here : (t : OrderedTree) → at tree parent ≡ Some t → drop position (trees_of t.below) ≡ below.0 ∷ drop (position + 1) (trees_of t.below)
     here t there = drop_next (trees_of t.below) position below.0 (sym (at_child parent position tree t there) ∙ below.1)
 
     kind_is : (b : Bool) → is_attribute other.kind ≡ b → is_attribute (below.0).node.kind ≡ b
-    kind_is b e = ap (λ (n : Node). is_attribute n.kind) (sym below.2) ∙ e
+    kind_is b e = ap is_attribute (sym below.2) ∙ e
 
     name_is : (b : Bool) → bytes_eq node.name other.name ≡ b → bytes_eq node.name (below.0).node.name ≡ b
-    name_is b e = ap (λ (n : Node). bytes_eq node.name n.name) (sym below.2) ∙ e
+    name_is b e = ap (bytes_eq node.name) (sym below.3) ∙ e
 
     pub none_repeated : is_attribute other.kind ≡ false → OfParent tree parent children (λ t. false ≡ is_repeated node t)
     none_repeated kind t there counted = by_names t false (among_none node.name (trees_of t.below) position below.0 (left t there counted) (here t there) (kind_is false kind))
@@ -183,14 +184,14 @@ module _ (node : Node) (tree : OrderedTree) (parent : List ℕ) (children : ℕ)
         | None ↦ λ here h.
             let empty : 0 ≡ children = no_child tree parent children t there counted here in
             last_repeated (subst (λ (n : ℕ). IsLookedAt node.name tree parent children n) empty begins) t there counted
-        | Some x ↦ λ here h. none_repeated 0 x.node begins (x, here, refl) h t there counted
+        | Some x ↦ λ here h. none_repeated 0 (record { kind = x.node.kind; name = x.node.name; content = 0; children = 0 }) begins (x, here, refl, refl) h t there counted
       ]) refl none
 
 -- ---- why the node may not stand there
 
 -- tests of the parent
-abbrev pub outside : Kind → (position : ℕ) (parent : Node) (children : ℕ) → Bool
-outside kind position parent children = not (has_children parent.kind) || (is_doc parent.kind && not (is_instruction kind)) || nat_lt children position
+abbrev pub outside : Kind → (position : ℕ) (parent : Kind) (children : ℕ) → Bool
+outside kind position parent children = not (has_children parent) || (is_doc parent && not (is_instruction kind)) || nat_lt children position
 
 abbrev place_by : (out unordered repeated : Bool) → Option EditError
 place_by out unordered repeated = option_and_then refused_by (if out || unordered then Some why.BadPlace else if repeated then Some why.Twice else None)
@@ -199,10 +200,10 @@ module _ (node : Node) (position : ℕ) (parent : List ℕ) (tree t : OrderedTre
   fault_there : place_fault node position parent tree ≡ option_and_then refused_by (place_refusal node position t)
   fault_there = ap (λ (o : Option OrderedTree). option_map_or (λ (x : OrderedTree). option_and_then refused_by (place_refusal node position x)) o (Some error.NoNode)) there
 
-  module _ (shown : Node) (same : shown ≡ t.node) (children : ℕ) (counted : children ≡ length (trees_of t.below)) where
-    outside_there : (b : Bool) → outside node.kind position shown children ≡ b → outside node.kind position t.node (length (trees_of t.below)) ≡ b
+  module _ (shown : Kind) (same : shown ≡ t.node.kind) (children : ℕ) (counted : children ≡ length (trees_of t.below)) where
+    outside_there : (b : Bool) → outside node.kind position shown children ≡ b → outside node.kind position t.node.kind (length (trees_of t.below)) ≡ b
     outside_there b e =
-        ap (λ (n : ℕ). outside node.kind position t.node n) (sym counted) ∙ ap (λ (n : Node). outside node.kind position n children) (sym same) ∙ e
+        ap (λ (n : ℕ). outside node.kind position t.node.kind n) (sym counted) ∙ ap (λ (k : Kind). outside node.kind position k children) (sym same) ∙ e
 
     pub fault_outside : outside node.kind position shown children ≡ true → place_fault node position parent tree ≡ Some error.BadPlace
     fault_outside e = fault_there ∙ ap (λ (b : Bool). place_by b (is_unordered node.kind position (trees_of t.below)) (is_repeated node t)) (outside_there true e)
@@ -277,7 +278,7 @@ module _ {D : Type 0} (d : Ghosts D) (root : RecordPlace) (node : Node) (parent 
       let same : position ≡ children = omega (arith, within, end) in
       last_repeated node (tree_of document) parent children is (subst (IsLookedAt node.name (tree_of document) parent children) same (looking.left document has))
 
-  module _ (r2 : Records) (x2 : D) (other : Node) (leaves : LeavesRecords r1 r2) (below : OfEach d r1 x1 root (λ document. IsChild (tree_of document) parent position other)) where
+  module _ (r2 : Records) (x2 : D) (other : Outlined) (leaves : LeavesRecords r1 r2) (below : OfEach d r1 x1 root (λ document. IsChild (tree_of document) parent position other)) where
     pub leaves_more : LeavesRecords r0 r2
     leaves_more = leaves_add_up {r0 = r0} {r1 = r1} {r2 = r2} looking.leaves leaves
 

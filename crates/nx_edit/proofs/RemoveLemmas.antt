@@ -1,11 +1,12 @@
 -- The records of a row of intervals, taken away one after the other.
-use Rattle.std.proofs.Common.{◌≡◌, ℕ, ◌+◌, ◌-◌, ◌<◌, ◌≤◌, List, [], ◌∷◌, ◌++◌, length, map, Option, Some, inl, inr, refl, sym, ap, ap₂, ◌∙◌, subst, arith, append-nil, append_assoc}
+use Rattle.std.proofs.Common.{◌≡◌, ℕ, ◌+◌, ◌-◌, ◌<◌, ◌≤◌, List, [], ◌∷◌, ◌++◌, length, map, inl, inr, refl, sym, ap, ap₂, ◌∙◌, subst, arith, append-nil, append_assoc, IsPermutation}
 use Rattle.std.specs.Prelude.{◌⊎◌, ◌==◌, true, false, IsSome, Contains}
-use Rattle.std.specs.Option.{IsSomeAnd}
+use Rattle.std.specs.List.{sum_by}
 use Rattle.std.proofs.lemmas.Bool.{false≢true}
 use Rattle.std.proofs.lemmas.Bool.Decides.{eqb_tells}
 use Rattle.std.proofs.lemmas.List.{map-append}
 use Rattle.std.proofs.lemmas.List.Elements.{Contains-append_left, Contains-append_right, Contains-append_cases}
+use Rattle.std.proofs.lemmas.List.Sums.{sum_by-append}
 use Rattle.nx_host.specs.Disk.{Rose}
 use Rattle.nx_host.specs.declared.disk.Disk.{Ghosts}
 use Rattle.nx_host.specs.Still.{IsStill}
@@ -16,28 +17,31 @@ use Rattle.nx_records.specs.declared.error.StoreError.{StoreError}
 use Rattle.nx_records.specs.declared.error.StoreError.TheVariants as store
 use Rattle.nx_records.specs.Records.{has_ended, KeepsSaved, HasChanges}
 use Rattle.nx_records.specs.Refusals.{RunsOn, EndNow, NotChanged}
+use Rattle.nx_piece.specs.declared.piece.Far.{Far}
 use Rattle.nx_piece.specs.declared.piece.Piece.{Piece}
 use Rattle.nx_piece.specs.declared.piece.Proxy.{Proxy}
+use Rattle.nx_piece.specs.Contents.{fars_in}
 use Rattle.nx_piece.specs.Gapped.{Gapped, End, Grow, Gap, gapped_nodes}
 use Rattle.nx_cuts.specs.Cut.{CutTree, CutForest, Bare, Grown, Kept, forest}
 use Rattle.nx_tree.specs.Forest.{nodes}
-use Rattle.nx_layouts.specs.Layout.{RecordPlace, Layout, AreHeld, gap_more, piece_body, places_of, proxies_of, proxy_of, piece_of, ArePlacedOnce, IsLaidOutAs, whole}
+use Rattle.nx_layouts.specs.Layout.{RecordPlace, Layout, Stock, IsHeldAt, AreHeld, gap_more, laid_forest, piece_body, places_of, proxies_of, proxy_of, piece_of, nodes_in, ArePlacedOnce, IsLaidOutAs, whole}
 use Rattle.nx_layouts.proofs.PlaceLemmas.{no_place, one_place, first_among, later_among, AreDisjoint, between_cases, among_between, out_of_between, once-around, once-apart}
-use Rattle.nx_layouts.proofs.HeldLemmas.{HaveThere, held_there, held_along}
+use Rattle.nx_layouts.proofs.HeldLemmas.{held_along}
+use Rattle.nx_layouts.proofs.WithoutLemmas.{nodes_joined}
 use Rattle.nx_hold.specs.declared.entry.DocEntry.{DocEntry}
 use Rattle.nx_hold.specs.Changes.{place_of, place_named, RemovesPiece, ComesTidy}
-use Rattle.nx_hold.specs.Pieces.{record_at, HoldsPiece, HoldsNone, IsTidy, PieceMap}
+use Rattle.nx_hold.specs.Pieces.{record_at, HoldsPiece, HoldsNone, IsTidy, PieceMap, held_by}
 use Rattle.nx_hold.specs.Documents.{MovesRecords}
-use Rattle.nx_hold.proofs.MapLemmas.{piece_map, held_at, told_some}
-use Rattle.nx_hold.proofs.MoveLemmas.{moves_none, moves_beside, moves_add_up, remove_moves, pieces_stay_around}
+use Rattle.nx_hold.proofs.MapLemmas.{piece_map, held_at}
+use Rattle.nx_hold.proofs.MoveLemmas.{moves_none, moves_beside, moves_add_up, moves_same, same_self, remove_moves}
 use Rattle.nx_hold.proofs.RecordsLemmas.{record_there}
 use Rattle.nx_hold.proofs.RefusalLemmas.{runs_then, saved_then}
 use Rattle.nx_state.specs.State.{document_size}
 use Rattle.nx_state.proofs.StayLemmas.{one_map}
-use Rattle.nx_nav.proofs.PartLemmas.{forest-without_places}
-use Rattle.nx_nav.proofs.SplitLemmas.{nodes-joined}
-use Rattle.nx_edit.specs.Refusals.{edit_error}
-use Rattle.nx_edit.specs.Removing.{kept_nodes, IsRow, RemovesRow, OfRow, NotRemovedRow, RemovesDocument, NotRemoved}
+use Rattle.nx_edit.specs.Removing.{kept_nodes, fars_of, kept_fars, IsRow, RemovesRow, OfRow, NotRemovedRow}
+use Rattle.nx_edit.proofs.OrderLemmas.{fars_by_sums}
+use Rattle.nx_edit.proofs.FarLemmas.{own_and_kept_fars}
+use Rattle.nx_edit.proofs.HeldLemmas.{held_through}
 
 -- a record that is still there: its place, and the members of its interval
 pub record Left : Type 0 where
@@ -53,9 +57,9 @@ left_places [] = []
 left_places (l ∷ ls) = (l.place ∷ places_of l.members) ++ left_places ls
 
 -- the pieces of all of these are there
-abbrev pub AreLeft : (RecordPlace → Option Piece) → List Left → Type 0
-AreLeft pieces [] = Unit {0}
-AreLeft pieces (l ∷ ls) = (pieces l.place ≡ Some (piece_of l.members)) × AreHeld pieces l.members × AreLeft pieces ls
+abbrev pub AreLeft : Stock → List Left → Type 0
+AreLeft stock [] = Unit {0}
+AreLeft stock (l ∷ ls) = IsHeldAt stock l.place l.members × AreHeld stock l.members × AreLeft stock ls
 
 -- the records that the proxies of a piece name
 abbrev pub lefts_of : Layout → List Left
@@ -78,22 +82,22 @@ tops-lefts (Grown node below beside) =
     map-append place_left (lefts_of below) (lefts_of beside) ∙ ap₂ (λ (p q : List RecordPlace). p ++ q) (tops-lefts below) (tops-lefts beside) ∙ sym (map-append place_named (proxies_of below) (proxies_of beside))
 tops-lefts (Kept place members beside) = ap (λ (ps : List RecordPlace). place ∷ ps) (tops-lefts beside)
 
-left_joined : (pieces : RecordPlace → Option Piece) (a b : List Left) → AreLeft pieces a → AreLeft pieces b → AreLeft pieces (a ++ b)
-left_joined pieces [] b h k = k
-left_joined pieces (l ∷ a) b h k = (h.0, h.1, left_joined pieces a b h.2 k)
+left_joined : (stock : Stock) (a b : List Left) → AreLeft stock a → AreLeft stock b → AreLeft stock (a ++ b)
+left_joined stock [] b h k = k
+left_joined stock (l ∷ a) b h k = (h.0, h.1, left_joined stock a b h.2 k)
 
-left_first : (pieces : RecordPlace → Option Piece) (a b : List Left) → AreLeft pieces (a ++ b) → AreLeft pieces a
-left_first pieces [] b h = tt
-left_first pieces (l ∷ a) b h = (h.0, h.1, left_first pieces a b h.2)
+left_first : (stock : Stock) (a b : List Left) → AreLeft stock (a ++ b) → AreLeft stock a
+left_first stock [] b h = tt
+left_first stock (l ∷ a) b h = (h.0, h.1, left_first stock a b h.2)
 
-left_last : (pieces : RecordPlace → Option Piece) (a b : List Left) → AreLeft pieces (a ++ b) → AreLeft pieces b
-left_last pieces [] b h = h
-left_last pieces (l ∷ a) b h = left_last pieces a b h.2
+left_last : (stock : Stock) (a b : List Left) → AreLeft stock (a ++ b) → AreLeft stock b
+left_last stock [] b h = h
+left_last stock (l ∷ a) b h = left_last stock a b h.2
 
 -- how many nodes are in them and below them
 abbrev pub left_nodes : List Left → ℕ
 left_nodes [] = 0
-left_nodes (l ∷ ls) = nodes (forest l.members) + left_nodes ls
+left_nodes (l ∷ ls) = nodes (laid_forest l.members) + left_nodes ls
 
 left_nodes-append : (a b : List Left) → left_nodes (a ++ b) ≡ left_nodes a + left_nodes b
 left_nodes-append [] b = omega arith
@@ -104,75 +108,102 @@ nodes-lefts Bare = refl
 nodes-lefts (Grown node below beside) = omega (arith, left_nodes-append (lefts_of below) (lefts_of beside), nodes-lefts below, nodes-lefts beside)
 nodes-lefts (Kept place members beside) = omega (arith, nodes-lefts beside)
 
+-- the far contents of these
+abbrev pub left_fars : List Left → List Far
+left_fars [] = []
+left_fars (l ∷ ls) = fars_of (nodes_in l.members) ++ left_fars ls
+
+left_fars-append : (f : Far → ℕ) (a b : List Left) → sum_by f (left_fars (a ++ b)) ≡ sum_by f (left_fars a) + sum_by f (left_fars b)
+left_fars-append f [] b = omega arith
+left_fars-append f (l ∷ a) b =
+    let own : List Far = fars_of (nodes_in l.members) in
+    let all = sum_by-append f own (left_fars (a ++ b)) in
+    let one = sum_by-append f own (left_fars a) in
+    let rest = left_fars-append f a b in
+    omega (arith, all, one, rest)
+
+fars-lefts : (f : Far → ℕ) (a : Layout) → sum_by f (left_fars (lefts_of a)) ≡ sum_by f (kept_fars a)
+fars-lefts f Bare = refl
+fars-lefts f (Grown node below beside) = omega (arith, left_fars-append f (lefts_of below) (lefts_of beside), sum_by-append f (kept_fars below) (kept_fars beside), fars-lefts f below, fars-lefts f beside)
+fars-lefts f (Kept place members beside) =
+    let own : List Far = fars_of (nodes_in members) in
+    omega (arith, sum_by-append f own (left_fars (lefts_of beside)), sum_by-append f own (kept_fars beside), fars-lefts f beside)
+
 nodes_more : (x : Gapped) → gapped_nodes (gap_more x) ≡ gapped_nodes x
 nodes_more End = refl
 nodes_more (Grow n b s) = refl
 nodes_more (Gap c s) = refl
 
 -- the nodes of a row are those of its piece, and those in intervals
-pub own_and_kept : (a : Layout) → gapped_nodes (piece_body a) + kept_nodes a ≡ nodes (forest a)
+pub own_and_kept : (a : Layout) → gapped_nodes (piece_body a) + kept_nodes a ≡ nodes (laid_forest a)
 own_and_kept Bare = refl
 own_and_kept (Grown node below beside) = omega (arith, own_and_kept below, own_and_kept beside)
-own_and_kept (Kept place members beside) = omega (arith, nodes_more (piece_body beside), own_and_kept beside, nodes-joined (forest members) (forest beside))
+own_and_kept (Kept place members beside) = omega (arith, nodes_more (piece_body beside), own_and_kept beside, nodes_joined (laid_forest members) (laid_forest beside))
 
-held-lefts : (pieces : RecordPlace → Option Piece) (a : Layout) → AreHeld pieces a → AreLeft pieces (lefts_of a)
-held-lefts pieces Bare h = tt
-held-lefts pieces (Grown node below beside) h = left_joined pieces (lefts_of below) (lefts_of beside) (held-lefts pieces below h.0) (held-lefts pieces beside h.1)
-held-lefts pieces (Kept place members beside) h = (h.0, h.1, held-lefts pieces beside h.2)
+held-lefts : (stock : Stock) (a : Layout) → AreHeld stock a → AreLeft stock (lefts_of a)
+held-lefts stock Bare h = tt
+held-lefts stock (Grown node below beside) h = left_joined stock (lefts_of below) (lefts_of beside) (held-lefts stock below h.1) (held-lefts stock beside h.2)
+held-lefts stock (Kept place members beside) h = (h.0, h.1, held-lefts stock beside h.2)
 
-left_there : (one other : RecordPlace → Option Piece) (ls : List Left) → HaveThere one other (left_places ls) → AreLeft one ls → AreLeft other ls
-left_there one other [] all h = tt
-left_there one other (l ∷ ls) all h = (
-  all l.place _ (Contains-append_left (l.place ∷ places_of l.members) (left_places ls) l.place (first_among l.place (places_of l.members))) h.0,
-  held_there one other l.members (λ place piece among. all place piece (Contains-append_left (l.place ∷ places_of l.members) (left_places ls) place (later_among l.place (places_of l.members) place among))) h.1,
-  left_there one other ls (λ place piece among. all place piece (Contains-append_right (l.place ∷ places_of l.members) (left_places ls) place among)) h.2,
-)
+-- they stay where other records went
+left_through : {gone : List RecordPlace} {was now : Held} → IsTidy was → MovesRecords gone [] [] [] 0 was now → (pieces : PieceMap was) (after : PieceMap now) (ls : List Left) → AreDisjoint (left_places ls) gone → AreLeft (held_by pieces) ls
+    → AreLeft (held_by after) ls
+left_through tidy moves pieces after [] apart h = tt
+left_through {gone} {was} {now} tidy moves pieces after (l ∷ ls) apart h =
+    let own : List RecordPlace = l.place ∷ places_of l.members in
+    let stays : AreHeld (held_by after) (Kept l.place l.members Bare) =
+    held_through {gone = gone} {come = []} {brought = []} {needs = 0} {was = was} {now = now} tidy moves pieces after (Kept l.place l.members Bare) (h.0, h.1, tt) (λ far among. absurd (no_place far among))
+    (λ place one went. apart place (Contains-append_left own (left_places ls) place (subst (λ (ps : List RecordPlace). Contains (l.place ∷ ps) place) (append-nil (places_of l.members)) one)) went) in
+    (stays.0, stays.1, left_through {gone = gone} {was = was} {now = now} tidy moves pieces after ls (λ place one went. apart place (Contains-append_right own (left_places ls) place one) went) h.2)
 
--- Some records at these places went, with so many nodes, and the others are still there; these proxies name the ones on top of them.
-pub record IsRemoving (places : List RecordPlace) (total : ℕ) (stack : List Proxy) (went : ℕ) (was now : Held) : Type 0 where
+-- Some records at these places went, with so many nodes and these far contents, and the others are still there; these proxies name the ones on top of them.
+pub record IsRemoving (places : List RecordPlace) (total : ℕ) (all_fars : List Far) (stack : List Proxy) (went : ℕ) (fars : List Far) (was now : Held) : Type 0 where
   pub gone : List RecordPlace
   pub lefts : List Left
   pub tops : map place_left lefts ≡ map place_named stack
-  pub held : AreLeft (piece_map now).piece_at lefts
+  pub held : AreLeft (held_by (piece_map now)) lefts
   pub once : ArePlacedOnce (left_places lefts)
   pub apart : AreDisjoint gone (left_places lefts)
   pub all : (place : RecordPlace) → Contains places place → Contains gone place ⊎ Contains (left_places lefts) place
   pub gone_among : (place : RecordPlace) → Contains gone place → Contains places place
   pub left_among : (place : RecordPlace) → Contains (left_places lefts) place → Contains places place
   pub counted : went + left_nodes lefts ≡ total
-  pub moves : MovesRecords gone [] 0 was now
+  pub told : (f : Far → ℕ) → sum_by f fars + sum_by f (left_fars lefts) ≡ sum_by f all_fars
+  pub moves : MovesRecords gone [] [] [] 0 was now
 
 -- what one map of the pieces holds the other does
-pub held_by : (held : Held) (pieces other : PieceMap held) (a : Layout) → AreHeld pieces.piece_at a → AreHeld other.piece_at a
-held_by held pieces other a h = held_along pieces.piece_at other.piece_at a (λ place piece e. sym (one_map held pieces other place) ∙ e) h
+pub held_alike : (held : Held) (pieces other : PieceMap held) (a : Layout) → AreHeld (held_by pieces) a → AreHeld (held_by other) a
+held_alike held pieces other a h =
+    held_along (held_by pieces) (held_by other) a (record { pieces = λ place piece e. sym (one_map held pieces other place) ∙ e; lists = λ first bytes e. e; most = refl }) h
 
-pub begun : (was : Held) (pieces : PieceMap was) (proxies : List Proxy) (limit : ℕ) (row : Layout) → IsRow was pieces proxies limit row → IsRemoving (places_of row) (kept_nodes row) proxies 0 was was
+pub begun : (was : Held) (pieces : PieceMap was) (proxies : List Proxy) (limit : ℕ) (row : Layout) → IsRow was pieces proxies limit row → IsRemoving (places_of row) (kept_nodes row) (kept_fars row) proxies 0 [] was was
 begun was pieces proxies limit row is = record {
   gone = [];
   lefts = lefts_of row;
   tops = tops-lefts row ∙ ap (λ (ps : List Proxy). map place_named ps) (sym is.proxies_are);
-  held = held-lefts (piece_map was).piece_at row (held_by was pieces (piece_map was) row is.held);
+  held = held-lefts (held_by (piece_map was)) row (held_alike was pieces (piece_map was) row is.held);
   once = subst ArePlacedOnce (sym (places-lefts row)) is.once;
   apart = λ place one other. no_place place one;
   all = λ place among. inr (subst (λ (ps : List RecordPlace). Contains ps place) (sym (places-lefts row)) among);
   gone_among = λ place among. absurd (no_place place among);
   left_among = λ place among. subst (λ (ps : List RecordPlace). Contains ps place) (places-lefts row) among;
   counted = omega (arith, nodes-lefts row);
+  told = λ f. let same = fars-lefts f row in omega (arith, same);
   moves = moves_none was;
 }
 
 -- One record more went:
 
 -- beside those that went before it
-moves_then : (gone : List RecordPlace) (place : RecordPlace) (piece : Piece) (was now next : Held) → MovesRecords gone [] 0 was now → RemovesPiece place now next → (Contains gone place → ⊥) → HoldsPiece now place piece
-    → MovesRecords (place ∷ gone) [] 0 was next
+moves_then : (gone : List RecordPlace) (place : RecordPlace) (piece : Piece) (was now next : Held) → MovesRecords gone [] [] [] 0 was now → RemovesPiece place now next → (Contains gone place → ⊥) → HoldsPiece now place piece
+    → MovesRecords (place ∷ gone) [] [] [] 0 was next
 moves_then gone place piece was now next moves removes apart holds =
     let same : record_at now place ≡ record_at was place = moves.kept place apart (no_place place) in
     let there : IsSome (record_at was place) = subst IsSome same (record_there now place piece holds) in
-    let beside : MovesRecords (place ∷ gone) (place ∷ []) 0 was now =
-    moves_beside (place ∷ []) gone [] 0 was now (λ other among. subst (λ (p : RecordPlace). IsSome (record_at was p)) (sym (one_place place other among)) there)
+    let beside : MovesRecords (place ∷ gone) (place ∷ []) [] [] 0 was now =
+    moves_beside (place ∷ []) gone [] [] [] 0 was now (λ other among. subst (λ (p : RecordPlace). IsSome (record_at was p)) (sym (one_place place other among)) there)
     (λ other went among. apart (subst (λ (p : RecordPlace). Contains gone p) (one_place place other among) went)) moves in
-    moves_add_up (place ∷ gone) (place ∷ []) [] 0 0 was now next beside (remove_moves place now next removes)
+    moves_add_up (place ∷ gone) (place ∷ []) [] [] [] [] [] 0 0 was now next beside (remove_moves place now next removes)
 
 abbrev head_of : {A : Type 0} → A → List A → A
 head_of d [] = d
@@ -193,14 +224,15 @@ split_last (l ∷ ls) (x ∷ xs) y e =
     (l ∷ rest.0, rest.1, ap (λ (m : List Left). l ∷ m) rest.2, ap₂ (λ (p : RecordPlace) (ps : List RecordPlace). p ∷ ps) (ap (head_of l.place) e) rest.3, rest.4)
 
 -- what is on top
-pub record IsNext (places : List RecordPlace) (total : ℕ) (stack : List Proxy) (proxy : Proxy) (went : ℕ) (was now : Held) : Type 0 where
+pub record IsNext (places : List RecordPlace) (total : ℕ) (all_fars : List Far) (stack : List Proxy) (proxy : Proxy) (went : ℕ) (fars : List Far) (was now : Held) : Type 0 where
   pub members : Layout
   pub holds : HoldsPiece now (place_named proxy) (piece_of members)
   pub room : went + gapped_nodes (piece_body members) ≤ total
-  pub then : (next : Held) → RemovesPiece (place_named proxy) now next → IsRemoving places total (stack ++ proxies_of members) (went + gapped_nodes (piece_body members)) was next
+  pub then : (next : Held) → RemovesPiece (place_named proxy) now next → IsRemoving places total all_fars (stack ++ proxies_of members) (went + gapped_nodes (piece_body members)) (fars ++ fars_in (piece_body members)) was next
 
-pub next_one : (places : List RecordPlace) (total : ℕ) (stack : List Proxy) (proxy : Proxy) (went : ℕ) (was now : Held) → IsTidy now → IsRemoving places total (stack ++ (proxy ∷ [])) went was now → IsNext places total stack proxy went was now
-next_one places total stack proxy went was now tidy r =
+pub next_one : (places : List RecordPlace) (total : ℕ) (all_fars : List Far) (stack : List Proxy) (proxy : Proxy) (went : ℕ) (fars : List Far) (was now : Held) → IsTidy now → IsRemoving places total all_fars (stack ++ (proxy ∷ [])) went fars was now
+    → IsNext places total all_fars stack proxy went fars was now
+next_one places total all_fars stack proxy went fars was now tidy r =
     let split = split_last r.lefts (map place_named stack) (place_named proxy) (r.tops ∙ map-append place_named stack (proxy ∷ [])) in
     let before : List Left = split.0 in
     let l : Left = split.1 in
@@ -210,15 +242,15 @@ next_one places total stack proxy went was now tidy r =
     let lefts_are : left_places r.lefts ≡ a ++ (l.place ∷ b) =
     ap left_places split.2 ∙ left_places-append before (l ∷ []) ∙ ap (λ (ps : List RecordPlace). a ++ (l.place ∷ ps)) (append-nil b) in
     let once : ArePlacedOnce (a ++ (l.place ∷ b)) = subst ArePlacedOnce lefts_are r.once in
-    let held : AreLeft (piece_map now).piece_at (before ++ (l ∷ [])) = subst (AreLeft (piece_map now).piece_at) split.2 r.held in
-    let top = left_last (piece_map now).piece_at before (l ∷ []) held in
-    let holds : HoldsPiece now l.place (piece_of l.members) = held_at now (piece_map now) l.place (piece_of l.members) top.0 in
+    let held : AreLeft (held_by (piece_map now)) (before ++ (l ∷ [])) = subst (AreLeft (held_by (piece_map now))) split.2 r.held in
+    let top = left_last (held_by (piece_map now)) before (l ∷ []) held in
+    let holds : HoldsPiece now l.place (piece_of l.members) = held_at now (piece_map now) l.place (piece_of l.members) (top.0).there in
     let new_are : left_places (before ++ lefts_of l.members) ≡ a ++ b = left_places-append before (lefts_of l.members) ∙ ap (λ (ps : List RecordPlace). a ++ ps) (places-lefts l.members) in
     let gone_apart : Contains r.gone l.place → ⊥ =
     λ gone. r.apart l.place gone (subst (λ (ps : List RecordPlace). Contains ps l.place) (sym lefts_are) (among_between a (l.place ∷ []) b l.place (first_among l.place []))) in
     let apart : AreDisjoint (l.place ∷ []) (a ++ b) = once-apart a (l.place ∷ []) b once in
     let c : went + left_nodes r.lefts ≡ total = r.counted in
-    let were : left_nodes r.lefts ≡ left_nodes before + (nodes (forest l.members) + 0) = ap left_nodes split.2 ∙ left_nodes-append before (l ∷ []) in
+    let were : left_nodes r.lefts ≡ left_nodes before + (nodes (laid_forest l.members) + 0) = ap left_nodes split.2 ∙ left_nodes-append before (l ∷ []) in
     let own = own_and_kept l.members in
     record {
       members = l.members;
@@ -226,16 +258,14 @@ next_one places total stack proxy went was now tidy r =
       holds = subst (λ (p : RecordPlace). HoldsPiece now p (piece_of l.members)) place holds;
       then = λ next removes.
           let removes_top : RemovesPiece l.place now next = subst (λ (p : RecordPlace). RemovesPiece p now next) (sym place) removes in
-          let there : HaveThere (piece_map now).piece_at (piece_map next).piece_at (a ++ b) =
-          λ q piece among e.
-          told_some next q piece ((piece_map next).piece_at q) ((piece_map next).are q)
-          (pieces_stay_around (l.place ∷ []) [] 0 now next tidy (remove_moves l.place now next removes_top) q piece (held_at now (piece_map now) q piece e) (λ one. apart q one among)).1 in
+          let lefts_held : AreLeft (held_by (piece_map now)) (before ++ lefts_of l.members) =
+          left_joined (held_by (piece_map now)) before (lefts_of l.members) (left_first (held_by (piece_map now)) before (l ∷ []) held) (held-lefts (held_by (piece_map now)) l.members top.1) in
           record {
             gone = l.place ∷ r.gone;
             lefts = before ++ lefts_of l.members;
             tops = map-append place_left before (lefts_of l.members) ∙ ap₂ (λ (p q : List RecordPlace). p ++ q) split.3 (tops-lefts l.members) ∙ sym (map-append place_named stack (proxies_of l.members));
-            held = left_there (piece_map now).piece_at (piece_map next).piece_at (before ++ lefts_of l.members) (subst (HaveThere (piece_map now).piece_at (piece_map next).piece_at) (sym new_are) there)
-                (left_joined (piece_map now).piece_at before (lefts_of l.members) (left_first (piece_map now).piece_at before (l ∷ []) held) (held-lefts (piece_map now).piece_at l.members top.1));
+            held = left_through {gone = l.place ∷ []} {was = now} {now = next} tidy (remove_moves l.place now next removes_top) (piece_map now) (piece_map next) (before ++ lefts_of l.members)
+                (λ q among one. apart q one (subst (λ (ps : List RecordPlace). Contains ps q) new_are among)) lefts_held;
             once = subst ArePlacedOnce (sym new_are) (once-around a (l.place ∷ []) b once);
             apart = λ q one other.
                 let among : Contains (a ++ b) q = subst (λ (ps : List RecordPlace). Contains ps q) new_are other in
@@ -259,6 +289,16 @@ next_one places total stack proxy went was now tidy r =
                 let are = left_nodes-append before (lefts_of l.members) in
                 let below = nodes-lefts l.members in
                 omega (arith, c, were, own, are, below);
+            told = λ f.
+                let were = ap (λ (ls : List Left). sum_by f (left_fars ls)) split.2 in
+                let apart = left_fars-append f before (l ∷ []) in
+                let alone = sum_by-append f (fars_of (nodes_in l.members)) [] in
+                let are = left_fars-append f before (lefts_of l.members) in
+                let below = fars-lefts f l.members in
+                let all = own_and_kept_fars f l.members in
+                let more = sum_by-append f fars (fars_in (piece_body l.members)) in
+                let told = r.told f in
+                omega (arith, were, apart, alone, are, below, all, more, told);
             moves = moves_then r.gone l.place (piece_of l.members) was now next r.moves removes_top gone_apart holds;
           };
     }
@@ -269,40 +309,32 @@ none_left : (ls : List Left) → map place_left ls ≡ [] → ls ≡ []
 none_left [] e = refl
 none_left (l ∷ ls) e = absurd (cc)
 
-pub all_gone : (places : List RecordPlace) (total went : ℕ) (was now : Held) → IsRemoving places total [] went was now → MovesRecords places [] 0 was now × (went ≡ total)
-all_gone places total went was now r =
+pub all_gone : (places : List RecordPlace) (total : ℕ) (all_fars : List Far) (went : ℕ) (fars : List Far) (was now : Held) → IsRemoving places total all_fars [] went fars was now
+    → MovesRecords places [] [] [] 0 was now × (went ≡ total) × IsPermutation fars all_fars
+all_gone places total all_fars went fars was now r =
     let none = none_left r.lefts r.tops in
     let goes : (place : RecordPlace) → Contains places place → Contains r.gone place =
     λ place among. elim (r.all place among) [ inl gone ↦ gone | inr left ↦ absurd (no_place place (subst (λ (ls : List Left). Contains (left_places ls) place) none left)) ] in
     let c : went + left_nodes r.lefts ≡ total = r.counted in
-    let nothing : left_nodes r.lefts ≡ 0 = ap left_nodes none in
-    let moved : MovesRecords places [] 0 was now =
-    record {
-      fresh = λ place among apart. absurd (no_place place among);
-      came = λ place among. absurd (no_place place among);
-      went = λ place among apart. (r.moves).went place (goes place among) apart;
-      kept = λ place one other. (r.moves).kept place (λ gone. one (r.gone_among place gone)) other;
-      lists_stay = λ chain bytes there not. (r.moves).lists_stay chain bytes there (λ named. not (named.0, named.1, r.gone_among named.0 named.2, named.3));
-      lists_come = (r.moves).lists_come;
-      lists_go = λ chain bytes there named. (r.moves).lists_go chain bytes there (named.0, named.1, goes named.0 named.2, named.3);
-      lists_fresh = λ chain named none. absurd (no_place named.0 named.2);
-      settings = (r.moves).settings;
-      catalog = (r.moves).catalog;
-      free = (r.moves).free;
-    } in
-    (moved, omega (arith, c, nothing))
+    let nothing : left_nodes r.lefts ≡ 0 = ap left_nodes none in (
+      moves_same r.gone places [] [] [] [] [] [] 0 0 was now (λ place. (r.gone_among place, goes place)) (same_self []) (same_self []) (same_self []) (omega arith) r.moves,
+      omega (arith, c, nothing),
+      fars_by_sums fars all_fars (λ f. let told = r.told f in let without = ap (λ (ls : List Left). sum_by f (left_fars ls)) none in omega (arith, told, without)),
+    )
 
 -- of each such row so much went
-abbrev pub RemovesSome : List Proxy → (limit : ℕ) → List Proxy → ℕ → Held → Held → Type 0
-RemovesSome proxies limit stack went was now =
-    (pieces : PieceMap was) (row : Layout) → IsRow was pieces proxies limit row → IsRemoving (places_of row) (kept_nodes row) stack went was now
+abbrev pub RemovesSome : List Proxy → (limit : ℕ) → List Proxy → ℕ → List Far → Held → Held → Type 0
+RemovesSome proxies limit stack went fars was now =
+    (pieces : PieceMap was) (row : Layout) → IsRow was pieces proxies limit row → IsRemoving (places_of row) (kept_nodes row) (kept_fars row) stack went fars was now
 
--- How far the loop has come.
-pub record IsGoing {D : Type 0} (d : Ghosts D) (proxies : List Proxy) (limit : ℕ) (stack : List Proxy) (went : ℕ) (old new : Records) (before after : D) : Type 0 where
+-- How far the loop has come; these far contents were dropped before it, and are with those that it adds.
+pub record IsGoing {D : Type 0} (d : Ghosts D) (proxies : List Proxy) (limit : ℕ) (stack : List Proxy) (went : ℕ) (had has : List Far) (old new : Records) (before after : D) : Type 0 where
   pub runs : RunsOn old new
   pub keeps : KeepsSaved d old new before after
   pub still : IsStill d before after
-  pub comes : ComesTidy d old new before after (RemovesSome proxies limit stack went)
+  pub fars : List Far
+  pub pushed : has ≡ had ++ fars
+  pub comes : ComesTidy d old new before after (RemovesSome proxies limit stack went fars)
   pub few : went ≤ limit
   pub fresh : went ≡ 0 → stack ≡ proxies
   pub changed : 0 < went → HasChanges new
@@ -318,28 +350,32 @@ ends_behind one two = record {
   settings_stay = two.settings_stay ∙ one.settings_stay;
 }
 
-module _ {D : Type 0} {d : Ghosts D} {proxies : List Proxy} {limit : ℕ} {r0 : Records} {x0 : D} where
-  pub going_first : has_ended r0 ≡ false → IsGoing d proxies limit proxies 0 r0 r0 x0 x0
+module _ {D : Type 0} {d : Ghosts D} {proxies : List Proxy} {limit : ℕ} {had : List Far} {r0 : Records} {x0 : D} where
+  pub going_first : has_ended r0 ≡ false → IsGoing d proxies limit proxies 0 had had r0 r0 x0 x0
   going_first runs = record {
     runs = record { before = runs; after = runs; length_stays = refl; settings_stay = refl };
     keeps = λ saved has. has;
     still = none_still;
+    fars = [];
+    pushed = sym (append-nil had);
     comes = λ saved now stands tidy. (now, stands, tidy, λ pieces row is. begun now pieces proxies limit row is);
     few = omega arith;
     fresh = λ none. refl;
     changed = λ some. absurd (omega (arith, some));
   }
 
-module _ {D : Type 0} {d : Ghosts D} {proxies : List Proxy} {limit : ℕ} {r0 r1 : Records} {x0 x1 : D} (stack : List Proxy) (proxy : Proxy) (went : ℕ) (g : IsGoing d proxies limit (stack ++ (proxy ∷ [])) went r0 r1 x0 x1)
+module _ {D : Type 0} {d : Ghosts D} {proxies : List Proxy} {limit : ℕ} {had has : List Far} {r0 r1 : Records} {x0 x1 : D} (stack : List Proxy) (proxy : Proxy) (went : ℕ) (g : IsGoing d proxies limit (stack ++ (proxy ∷ [])) went had has r0 r1 x0 x1)
     (r2 : Records) (x2 : D) where
-  module _ (after : List Proxy) (own : ℕ) (runs : RunsOn r1 r2) (keeps : KeepsSaved d r1 r2 x1 x2)
+  module _ (after : List Proxy) (own : ℕ) (more : List Far) (runs : RunsOn r1 r2) (keeps : KeepsSaved d r1 r2 x1 x2)
       (removes : ComesTidy d r1 r2 x1 x2 (λ was now. RemovesPiece (place_named proxy) was now
-      × ((members : Layout) → HoldsPiece was (place_named proxy) (piece_of members) → (after ≡ stack ++ proxies_of members) × (own ≡ gapped_nodes (piece_body members))))) where
-    pub going_then : HasChanges r2 → IsStill d x1 x2 → 1 ≤ own → own ≤ limit - went → IsGoing d proxies limit after (went + own) r0 r2 x0 x2
-    going_then changed still some most = record {
+      × ((members : Layout) → HoldsPiece was (place_named proxy) (piece_of members) → (after ≡ stack ++ proxies_of members) × (own ≡ gapped_nodes (piece_body members)) × (more ≡ fars_in (piece_body members))))) where
+    pub going_then : (now_has : List Far) → now_has ≡ has ++ more → HasChanges r2 → IsStill d x1 x2 → 1 ≤ own → own ≤ limit - went → IsGoing d proxies limit after (went + own) had now_has r0 r2 x0 x2
+    going_then now_has adds changed still some most = record {
       runs = runs_then {r0 = r0} {r1 = r1} {r2 = r2} g.runs runs;
       keeps = saved_then {d = d} {r0 = r0} {r1 = r1} {r2 = r2} {x0 = x0} {x1 = x1} {x2 = x2} g.keeps keeps;
       still = still_then g.still still;
+      fars = g.fars ++ more;
+      pushed = adds ∙ ap (λ (l : List Far). l ++ more) g.pushed ∙ append_assoc had g.fars more;
       comes = λ saved was stands tidy.
           let mid = g.comes saved was stands tidy in
           let now = removes saved mid.0 mid.1 mid.2 in (
@@ -347,10 +383,12 @@ module _ {D : Type 0} {d : Ghosts D} {proxies : List Proxy} {limit : ℕ} {r0 r1
             now.1,
             now.2,
             λ pieces row is.
-                let one = next_one (places_of row) (kept_nodes row) stack proxy went was mid.0 mid.2 (mid.3 pieces row is) in
+                let one = next_one (places_of row) (kept_nodes row) (kept_fars row) stack proxy went g.fars was mid.0 mid.2 (mid.3 pieces row is) in
                 let told = (now.3).1 one.members one.holds in
-                subst (λ (ps : List Proxy). IsRemoving (places_of row) (kept_nodes row) ps (went + own) was now.0) (sym told.0)
-                (subst (λ (n : ℕ). IsRemoving (places_of row) (kept_nodes row) (stack ++ proxies_of one.members) (went + n) was now.0) (sym told.1) (one.then now.0 (now.3).0)),
+                subst (λ (ps : List Proxy). IsRemoving (places_of row) (kept_nodes row) (kept_fars row) ps (went + own) (g.fars ++ more) was now.0) (sym told.0)
+                (subst (λ (n : ℕ). IsRemoving (places_of row) (kept_nodes row) (kept_fars row) (stack ++ proxies_of one.members) (went + n) (g.fars ++ more) was now.0) (sym told.1)
+                (subst (λ (l : List Far). IsRemoving (places_of row) (kept_nodes row) (kept_fars row) (stack ++ proxies_of one.members) (went + gapped_nodes (piece_body one.members)) (g.fars ++ l) was now.0) (sym told.2)
+                (one.then now.0 (now.3).0))),
           );
       few = let f : went ≤ limit = g.few in omega (arith, most, f);
       fresh = λ none. absurd (omega (arith, none, some));
@@ -364,7 +402,7 @@ module _ {D : Type 0} {d : Ghosts D} {proxies : List Proxy} {limit : ℕ} {r0 r1
       λ saved was pieces row stands tidy is.
           let mid = g.comes saved was stands tidy in
           let now = removes saved mid.0 mid.1 mid.2 in
-          let one = next_one (places_of row) (kept_nodes row) stack proxy went was mid.0 mid.2 (mid.3 pieces row is) in
+          let one = next_one (places_of row) (kept_nodes row) (kept_fars row) stack proxy went g.fars was mid.0 mid.2 (mid.3 pieces row is) in
           let told = ((now.3).1 one.members one.holds).1 in
           let room = one.room in
           let few = is.few in
@@ -379,7 +417,7 @@ module _ {D : Type 0} {d : Ghosts D} {proxies : List Proxy} {limit : ℕ} {r0 r1
     ends_behind {r0 = r0} {r1 = r1} {r2 = r2} g.runs refused.ends,
     λ saved was pieces row stands tidy is.
         let mid = g.comes saved was stands tidy in
-        let one = next_one (places_of row) (kept_nodes row) stack proxy went was mid.0 mid.2 (mid.3 pieces row is) in
+        let one = next_one (places_of row) (kept_nodes row) (kept_fars row) stack proxy went g.fars was mid.0 mid.2 (mid.3 pieces row is) in
         refused.lacks saved mid.0 mid.1 (piece_of one.members) one.holds,
   )
   going_refused store.Ended refused = absurd (false≢true (sym (g.runs).after ∙ refused.0))
@@ -391,16 +429,22 @@ module _ {D : Type 0} {d : Ghosts D} {proxies : List Proxy} {limit : ℕ} {r0 r1
   going_refused store.NotAStore refused = absurd refused
   going_refused store.Full refused = absurd refused
 
-module _ {D : Type 0} {d : Ghosts D} {proxies : List Proxy} {limit : ℕ} {r0 r1 : Records} {x0 x1 : D} (stack : List Proxy) (went : ℕ) (none : stack ≡ []) (g : IsGoing d proxies limit stack went r0 r1 x0 x1) where
+module _ {D : Type 0} {d : Ghosts D} {proxies : List Proxy} {limit : ℕ} {had has : List Far} {r0 r1 : Records} {x0 x1 : D} (stack : List Proxy) (went : ℕ) (none : stack ≡ []) (g : IsGoing d proxies limit stack went had has r0 r1 x0 x1) where
   -- nothing is left
-  pub going_done : ComesTidy d r0 r1 x0 x1 (RemovesRow proxies limit went)
-  going_done saved was stands tidy =
-      let now = g.comes saved was stands tidy in (
-        now.0,
-        now.1,
-        now.2,
-        λ pieces row is. all_gone (places_of row) (kept_nodes row) went was now.0 (subst (λ (ps : List Proxy). IsRemoving (places_of row) (kept_nodes row) ps went was now.0) none (now.3 pieces row is)),
-      )
+  pub going_done : (fars : List Far) × (has ≡ had ++ fars) × ComesTidy d r0 r1 x0 x1 (RemovesRow proxies limit went fars)
+  going_done = (
+    g.fars,
+    g.pushed,
+    λ saved was stands tidy.
+        let now = g.comes saved was stands tidy in (
+          now.0,
+          now.1,
+          now.2,
+          λ pieces row is.
+              all_gone (places_of row) (kept_nodes row) (kept_fars row) went g.fars was now.0
+              (subst (λ (ps : List Proxy). IsRemoving (places_of row) (kept_nodes row) (kept_fars row) ps went g.fars was now.0) none (now.3 pieces row is)),
+        ),
+  )
 
   pub going_changed : (length proxies ≡ 0 → ⊥) → HasChanges r1
   going_changed some = elim (eqb_tells went 0) [
@@ -411,33 +455,14 @@ module _ {D : Type 0} {d : Ghosts D} {proxies : List Proxy} {limit : ℕ} {r0 r1
 -- A document, as the row of its root:
 
 module _ (was : Held) (pieces : PieceMap was) (entry : DocEntry) (document : CutTree) (layout : Layout) (proxy : Proxy) (is : proxy ≡ proxy_of (place_of entry.root) 1)
-    (laid : IsLaidOutAs (was.settings).k pieces.piece_at (place_of entry.root) document layout) (counted : entry.nodes ≡ document_size document) where
+    (laid : IsLaidOutAs (held_by pieces) (place_of entry.root) document layout) (counted : entry.nodes ≡ document_size document) where
   pub document_row : IsRow was pieces (proxy ∷ []) entry.nodes (whole (place_of entry.root) document.node layout)
   document_row = record {
     proxies_are = ap (λ (p : Proxy). p ∷ []) is;
     held = laid.held;
     once = laid.once;
-    few = let same = ap (λ (c : CutForest). nodes (forest c)) laid.same in let bare = ap nodes (forest-without_places layout) in omega (arith, counted, same, bare);
+    few = let same = ap (λ (c : CutForest). nodes (forest c)) laid.same in omega (arith, counted, same);
   }
-
-module _ {D : Type 0} (d : Ghosts D) (entry : DocEntry) (proxy : Proxy) (is : proxy ≡ proxy_of (place_of entry.root) 1) (r0 r1 : Records) (x0 x1 : D) where
-  pub document_gone : (gone : ℕ) → ComesTidy d r0 r1 x0 x1 (RemovesRow (proxy ∷ []) entry.nodes gone) → ComesTidy d r0 r1 x0 x1 (RemovesDocument entry)
-  document_gone gone comes saved was stands tidy =
-      let now = comes saved was stands tidy in
-      (now.0, now.1, now.2, λ pieces document layout laid counted. (now.3 pieces (whole (place_of entry.root) document.node layout) (document_row was pieces entry document layout proxy is laid counted)).0)
-
-  pub document_refused : (e : StoreError) → NotRemovedRow d (proxy ∷ []) entry.nodes e r0 r1 x0 x1 → IsSomeAnd (edit_error e) (λ told. NotRemoved d entry told r0 r1 x0 x1)
-  document_refused store.Disk refused = refused
-  document_refused (store.Damaged page) refused = (
-    refused.0,
-    λ document has tidy counted.
-        refused.1 has.saved has.now has.pieces (whole (place_of entry.root) document.node (has.laid).layout) has.stands tidy (document_row has.now has.pieces entry document (has.laid).layout proxy is (has.laid).laid counted),
-  )
-  document_refused store.Ended refused = absurd refused
-  document_refused store.Memory refused = refused
-  document_refused store.Exists refused = absurd refused
-  document_refused store.NotAStore refused = absurd refused
-  document_refused store.Full refused = absurd refused
 
 pub tested_none : (n : ℕ) → (n == 0) ≡ true → n ≡ 0
 tested_none n e = elim (eqb_tells n 0) [ inl s ↦ s.1 | inr a ↦ absurd (false≢true (sym a.0 ∙ e)) ]

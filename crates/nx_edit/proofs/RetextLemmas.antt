@@ -1,14 +1,16 @@
 -- Another content in a document, behind the look at the node.
-use Rattle.std.proofs.Common.{◌≡◌, ℕ, ◌+◌, ◌<◌, ◌≤◌, List, length, Option, None, Some, refl, sym, ap, ap₂, ◌∙◌, subst, arith}
+use Rattle.std.proofs.Common.{◌≡◌, ℕ, ◌+◌, ◌<◌, ◌≤◌, List, [], ◌∷◌, length, Option, None, Some, refl, sym, ap, ap₂, ◌∙◌, subst, arith}
 use Rattle.std.specs.Prelude.{nat_lt, nat_le, true, false, Bool, if◌then◌else◌, IfSome, option_and_then}
 use Rattle.std.specs.Option.{option_map_or, option_or}
+use Rattle.std.proofs.lemmas.Bool.{false≢true}
 use Rattle.std.proofs.lemmas.Bool.Decides.{nat_tests}
 use Rattle.nx_host.specs.declared.disk.Disk.{Ghosts}
 use Rattle.nx_host.specs.Still.{IsStill}
 use Rattle.nx_tree.specs.declared.node.Node.{Node}
 use Rattle.nx_tree.specs.declared.error.TreeError.TheVariants as tree
 use Rattle.nx_tree.specs.Forest.{OrderedTree, nodes}
-use Rattle.nx_tree.specs.Document.{longest_node}
+use Rattle.nx_tree.specs.declared.node.Kind.{Kind}
+use Rattle.nx_tree.specs.Document.{IsDocument, longest_node}
 use Rattle.nx_tree.specs.Edit.{at, has_children, retext, retext_refusal}
 use Rattle.nx_tree.proofs.EditLemmas.{nodes-retext}
 use Rattle.nx_tree.proofs.KeptLemmas.{document_retext}
@@ -19,18 +21,23 @@ use Rattle.nx_records.specs.Records.{has_ended, LeavesRecords, settings_of}
 use Rattle.nx_matrix.specs.declared.rule.Rule.{Rule}
 use Rattle.nx_cuts.specs.Cut.{CutTree, tree_of}
 use Rattle.nx_hold.specs.declared.entry.DocEntry.{DocEntry}
+use Rattle.nx_layouts.specs.Layout.{RecordPlace}
 use Rattle.nx_hold.specs.Changes.{place_of}
+use Rattle.nx_hold.specs.Contents.{bytes_pages}
+use Rattle.nx_hold.specs.Pieces.{held_by}
+use Rattle.nx_hold.proofs.PieceLemmas.{some_same}
 use Rattle.nx_hold.specs.Documents.{HasDocument}
-use Rattle.nx_nav.specs.declared.finding.Shown.{Shown}
+use Rattle.nx_nav.specs.declared.finding.Outlined.{Outlined}
 use Rattle.nx_nav.specs.Refusals.{OfEach}
-use Rattle.nx_nav.specs.Shows.{ShowsNode}
+use Rattle.nx_nav.specs.Shows.{OutlinesNode}
 use Rattle.nx_state.specs.State.{document_size}
 use Rattle.nx_drawn.proofs.EditLemmas.{tree-retexted}
 use Rattle.nx_drawn.proofs.BareLemmas.{laid_parts}
-use Rattle.nx_edit.specs.declared.changing.Change.TheVariants as put
+use Rattle.nx_edit.specs.Changing.{Content}
 use Rattle.nx_edit.specs.declared.error.EditError.{EditError}
 use Rattle.nx_edit.specs.declared.error.EditError.TheVariants as error
 use Rattle.nx_edit.specs.Removing.{OfEntry}
+use Rattle.nx_edit.specs.Editing.{nodes_off}
 use Rattle.nx_edit.specs.Refusals.{refused_by, edit_needs, LeavesLastCommit, NotEdited}
 use Rattle.nx_edit.specs.Retexting.{other_content, outweighs, outgrows, content_fault, is_of_content}
 use Rattle.nx_edit.proofs.DocumentLemmas.{IsFitting, left_there}
@@ -80,17 +87,29 @@ heavy_is k node is = ap (λ (b : Bool). if b then Some (error.TooHeavy (weight n
 pub light_is : (k : ℕ) (node : Node) → nat_lt k (weight node) ≡ false → outweighs k node ≡ None
 light_is k node is = ap (λ (b : Bool). if b then Some (error.TooHeavy (weight node)) else None) is
 
+-- the node that was looked at, with the content
+pub node_with : {D : Type 0} (d : Ghosts D) (root : RecordPlace) (content path : List ℕ) (r0 : Records) (x0 : D) (shown : Outlined) → OfEach d r0 x0 root (λ document. OutlinesNode (tree_of document) path shown)
+    → (node : Node) → node ≡ record { kind = shown.kind; name = shown.name; content = content } → OfEach d r0 x0 root (λ document. (x : OrderedTree) × (at (tree_of document) path ≡ Some x) × (node ≡ other_content content x))
+node_with d root content path r0 x0 shown shows node is document has =
+    let s = shows document has in
+    (s.0, s.1, is ∙ ap₂ (λ (k : Kind) (name : List ℕ). let n : Node = record { kind = k; name = name; content = content } in n) s.2 s.3)
+
+-- a leaf isn't the root
+below_root : (path : List ℕ) (tree x : OrderedTree) → IsDocument tree → at tree path ≡ Some x → has_children x.node.kind ≡ false → path ≡ [] → ⊥
+below_root [] tree x is there leaf none =
+    let root : has_children tree.node.kind ≡ true = ap has_children is.root in
+    let same : tree ≡ x = some_same there in
+    false≢true (sym leaf ∙ ap (λ (t : OrderedTree). has_children t.node.kind) (sym same) ∙ root)
+below_root (p ∷ path) tree x is there leaf none = absurd (cc)
+
 -- the call, behind the look at the document
 module _ {D : Type 0} (d : Ghosts D) (entry : DocEntry) (content path : List ℕ) (r0 r1 : Records) (x0 x1 : D) (still : IsStill d x0 x1) (runs : has_ended r0 ≡ false) (leaves : LeavesRecords r0 r1)
-    (shown : Shown) (shows : OfEach d r0 x0 (place_of entry.root) (λ document. ShowsNode (tree_of document) path shown)) (node : Node) (node_is : node ≡ record shown.node { content = content }) where
+    (node : Node) (node_there : OfEach d r0 x0 (place_of entry.root) (λ document. (x : OrderedTree) × (at (tree_of document) path ≡ Some x) × (node ≡ other_content content x))) where
   abbrev NotRetexted : EditError → Records → D → Type 0
-  NotRetexted e r x = NotEdited d is_of_content (content_fault content path (settings_of r0).k) (edit_needs (retext content path)) entry e r0 r x0 x
+  NotRetexted e r x = NotEdited d is_of_content (content_fault content path (settings_of r0).k) (edit_needs (retext content path) (nodes_off true path) (bytes_pages content)) entry e r0 r x0 x
 
   left_here : LeavesLastCommit d r0 r1 x0 x1
   left_here = left_there d r0 r1 x0 x1 still runs leaves
-
-  node_there : (document : CutTree) (has : HasDocument d r0 x0 (place_of entry.root) document) → (x : OrderedTree) × (at (tree_of document) path ≡ Some x) × (node ≡ other_content content x)
-  node_there document has = let there = shows document has in (there.0, there.1, node_is ∙ ap (λ (n : Node). record n { content = content }) there.2)
 
   pub long_refused : nat_le (length node.name + length node.content) longest_node ≡ false → NotRetexted error.TooLong r1 x1
   long_refused long = (
@@ -140,11 +159,11 @@ module _ {D : Type 0} (d : Ghosts D) (entry : DocEntry) (content path : List ℕ
       )
 
       module _ (light : weight node ≤ (settings_of r0).k) where
-        pub retext_allowed : OfEntry d r0 x0 entry (λ now document. content_fault content path (settings_of r0).k (tree_of document) ≡ None)
+        pub retext_allowed : OfEntry d r0 x0 entry (λ now document layout. content_fault content path (settings_of r0).k (tree_of document) ≡ None)
         retext_allowed document has tidy counted = fault_is document has ∙ light_is (settings_of r0).k node (grind (arith, nat_tests, light))
 
-        pub retext_fits : (rules : List Rule) → OfEntry d r0 x0 entry (λ now document. IsFitting (now.settings).k rules (put.Content content) path (retext content path) document)
-        retext_fits rules document has tidy counted =
+        pub retext_fits : (rules : List Rule) (list : Option ℕ) → OfEntry d r0 x0 entry (λ now document layout. IsFitting (now.settings).k rules (Content content list) path (retext content path) document)
+        retext_fits rules list document has tidy counted =
             let there = node_there document has in
             let settings : ((has.now).settings).k ≡ (settings_of r0).k = ap (λ (s : Settings). s.k) (((has.stands).holds).behind).settings in
             let same_weight : weight node ≡ weight (other_content content there.0) = ap weight there.2 in
@@ -154,8 +173,9 @@ module _ {D : Type 0} (d : Ghosts D) (entry : DocEntry) (content path : List ℕ
             record {
               there = there.0;
               leads = there.1;
+              deep = below_root path (tree_of document) there.0 laid.is_document there.1 (leaf_is there.0 there.2);
               made = omega (arith, same_weight, light, settings);
-              same = tree-retexted ((has.now).settings).k content path document (laid_parts ((has.now).settings).k (has.pieces).piece_at (place_of entry.root) document (has.laid).layout laid).3.0;
+              same = tree-retexted ((has.now).settings).k content path document (laid_parts (held_by has.pieces) (place_of entry.root) document (has.laid).layout laid).3.0;
               is_document = document_retext content path (tree_of document) fits laid.is_document (refusal_leaf path (tree_of document) there.0 there.1 (leaf_is there.0 there.2));
             }
 

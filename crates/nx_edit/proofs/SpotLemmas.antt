@@ -3,7 +3,6 @@ use Rattle.std.proofs.Common.{◌≡◌, ℕ, zero, suc, ◌+◌, ◌-◌, ◌<�
 use Rattle.std.specs.Prelude.{◌≢◌}
 use Rattle.std.specs.List.{slice_get}
 use Rattle.std.proofs.lemmas.List.{drop_at}
-use Rattle.nx_tree.specs.declared.node.Node.{Node}
 use Rattle.nx_piece.specs.declared.piece.Proxy.{Proxy}
 use Rattle.nx_piece.specs.Gapped.{GappedTree, proxies_in}
 use Rattle.nx_piece.specs.Locate.{PieceChild, Own, Kept as Away, Inside, Outside, children_of, reached, reached_in}
@@ -11,19 +10,18 @@ use Rattle.nx_piece_edits.specs.Taking.{led}
 use Rattle.nx_piece_edits.proofs.LeftLemmas.{less_is, not_less, tree_reached, first_reached}
 use Rattle.nx_matrix.specs.declared.rule.Entry.{Entry}
 use Rattle.nx_matrix.specs.declared.rule.Entry.TheVariants.{Standalone, Cluster, Free}
-use Rattle.nx_cuts.specs.Cut.{CutForest, Bare, Grown, Kept, width, part_weight}
+use Rattle.nx_cuts.specs.Cut.{CutForest, Bare, Grown, Kept, width}
 use Rattle.nx_cuts.specs.Rows.{first, behind}
 use Rattle.nx_cuts.proofs.FeasibleLemmas.{le_or}
-use Rattle.nx_layouts.specs.Layout.{RecordPlace, Layout, piece_body, piece_of, proxies_of, proxy_of, without_places}
+use Rattle.nx_layouts.specs.Layout.{RecordPlace, LaidNode, Layout, in_record, laid_weight, piece_body, piece_of, proxies_of, proxy_of, without_places}
 use Rattle.nx_layouts.specs.Replace.{joined_layout, replaced_at}
 use Rattle.nx_layouts.specs.Cutting.{StaysIn, LeadsInto}
 use Rattle.nx_layouts.specs.Planting.{FallsBetween, put_between, with_node, changed_below}
 use Rattle.nx_layouts.proofs.ChangeLemmas.{below_at}
+use Rattle.nx_layouts.proofs.DrawnLemmas.{drawn_wide}
 use Rattle.nx_layouts.proofs.PathLemmas.{StandBehind, all_behind, below_behind, beside_behind, behind_one, child_here, child_later, led_behind, path_leads_on}
 use Rattle.nx_drawn.specs.Edits.{placed_among, planted_row}
 use Rattle.nx_drawn.specs.Growth.{PartIsAtMost}
-use Rattle.nx_drawn.proofs.BareLemmas.{width_bare}
-use Rattle.nx_drawn.proofs.MarkLemmas.{bare_first, bare_behind}
 
 -- Where the path leads with one position more:
 
@@ -65,7 +63,7 @@ is_inside members member path position index before tree start leads there =
 stays_led : (all : List Proxy) (start used position : ℕ) (path : List ℕ) (row : Layout) → StandBehind all start row → StaysIn position path row
     → (tree : GappedTree) × (at : ℕ) × (led all start (piece_body row) used position path ≡ Inside tree at)
 stays_led all start used position path Bare h stays = absurd stays
-stays_led all start used zero [] (Grown n b s) h stays = (record { node = n; below = piece_body b }, start, refl)
+stays_led all start used zero [] (Grown n b s) h stays = (record { node = in_record n; below = piece_body b }, start, refl)
 stays_led all start used zero (q ∷ path) (Grown n b s) h stays = stays_led all start (used + 1) q path b (below_behind b s h.back h.front h.is h.long) stays
 stays_led all start used (suc position) path (Grown n b s) h stays = stays_led all (start + proxies_in (piece_body b)) used position path s (beside_behind b s h.back h.front h.is h.long) stays
 stays_led all start used position path (Kept p m s) h stays =
@@ -173,7 +171,7 @@ spot position path at before (suc index) inside (Kept p m s) h into =
 -- What comes in the place of an interval among the children:
 
 -- the members in front and those behind them as two intervals, and the node between them: outside of intervals, or as one of its own
-abbrev pub parted : (own front back : RecordPlace) → Entry → Node → (ahead after : Layout) → Layout
+abbrev pub parted : (own front back : RecordPlace) → Entry → LaidNode → (ahead after : Layout) → Layout
 parted own front back Standalone node ahead after = Kept front ahead (Kept own (Grown node Bare Bare) (Kept back after Bare))
 parted own front back Cluster node ahead after = Kept front ahead (Grown node Bare (Kept back after Bare))
 parted own front back Free node ahead after = Kept front ahead (Grown node Bare (Kept back after Bare))
@@ -187,49 +185,46 @@ at_zero nth before inside (Grown n b s) h = absurd h
 at_zero zero before inside (Kept p m s) h = h.1
 at_zero (suc nth) before inside (Kept p m s) h = at_zero nth before inside s (subst (λ (q : ℕ). LeadsInto nth before [] inside q [] s) (let e : 0 - width m ≡ 0 = omega arith in e) h.1)
 
-placed_joined : (own front back : RecordPlace) (entry : Entry) (node : Node) (x : ℕ) (m s : Layout) → entry ≢ Free
-    → without_places (joined_layout (parted own front back entry node (first x m) (behind x m)) s) ≡ placed_among tt tt tt entry node x (without_places m) (without_places s)
-placed_joined own front back Standalone node x m s not =
-    ap₂ (λ (c d : CutForest). Kept tt c (Kept tt (Grown node Bare Bare) (Kept tt d (without_places s)))) (bare_first x m) (bare_behind x m)
-placed_joined own front back Cluster node x m s not =
-    ap₂ (λ (c d : CutForest). Kept tt c (Grown node Bare (Kept tt d (without_places s)))) (bare_first x m) (bare_behind x m)
-placed_joined own front back Free node x m s not = absurd (not refl)
+placed_joined : (own front back : RecordPlace) (entry : Entry) (node : LaidNode) (ahead after s : Layout) (x : ℕ) (m : CutForest) → without_places ahead ≡ first x m → without_places after ≡ behind x m → entry ≢ Free
+    → without_places (joined_layout (parted own front back entry node ahead after) s) ≡ placed_among tt tt tt entry node.node x m (without_places s)
+placed_joined own front back Standalone node ahead after s x m one two not = ap₂ (λ (c d : CutForest). Kept tt c (Kept tt (Grown node.node Bare Bare) (Kept tt d (without_places s)))) one two
+placed_joined own front back Cluster node ahead after s x m one two not = ap₂ (λ (c d : CutForest). Kept tt c (Grown node.node Bare (Kept tt d (without_places s)))) one two
+placed_joined own front back Free node ahead after s x m one two not = absurd (not refl)
 
-module _ (own front back : RecordPlace) (entry : Entry) (node : Node) (before : ℕ) (inside : Layout) (some : 1 ≤ before) where
+module _ (own front back : RecordPlace) (entry : Entry) (node : LaidNode) (before : ℕ) (inside ahead after : Layout) (some : 1 ≤ before) (one : without_places ahead ≡ first before (without_places inside)) (two : without_places after ≡ behind before (without_places inside)) where
   abbrev divided : Layout
-  divided = parted own front back entry node (first before inside) (behind before inside)
+  divided = parted own front back entry node ahead after
 
   -- it is the document's change
-  pub parted_planted : entry ≢ Free → (nth position : ℕ) (row : Layout) → LeadsInto nth before [] inside position [] row → without_places (replaced_at nth divided row) ≡ planted_row tt tt entry node position (without_places row)
+  pub parted_planted : entry ≢ Free → (nth position : ℕ) (row : Layout) → LeadsInto nth before [] inside position [] row → without_places (replaced_at nth divided row) ≡ planted_row tt tt entry node.node position (without_places row)
   parted_planted not nth position Bare h = absurd h
   parted_planted not nth zero (Grown n b s) h = absurd h
   parted_planted not nth (suc position) (Grown n b s) h =
       ap (λ (l : Layout). without_places l) (not_less nth (length (proxies_of b)) (Grown n (replaced_at nth divided b) s) (Grown n b (replaced_at (nth - length (proxies_of b)) divided s)) h.0)
-      ∙ ap (λ (c : CutForest). Grown n (without_places b) c) (parted_planted not (nth - length (proxies_of b)) position s h.1)
+      ∙ ap (λ (c : CutForest). Grown n.node (without_places b) c) (parted_planted not (nth - length (proxies_of b)) position s h.1)
   parted_planted not nth zero (Kept p m s) h = let none = at_zero nth before inside (Kept p m s) h in absurd (omega (arith, none, some))
   parted_planted not zero (suc position) (Kept p m s) h =
       let bare : CutForest = without_places m in
       let rest : CutForest = without_places s in
-      ap₂ (λ (x : ℕ) (l : Layout). without_places (joined_layout (parted own front back entry node (first x l) (behind x l)) s)) h.1 h.3
-      ∙ placed_joined own front back entry node (suc position) m s not
-      ∙ sym (less_is (suc position) (width bare) (placed_among tt tt tt entry node (suc position) bare rest) (Kept tt bare (planted_row tt tt entry node (suc position - width bare) rest))
-      (subst (λ (w : ℕ). suc position < w) (sym (width_bare m)) h.0))
+      placed_joined own front back entry node ahead after s (suc position) bare (one ∙ ap₂ (λ (x : ℕ) (l : Layout). first x (without_places l)) h.1 h.3) (two ∙ ap₂ (λ (x : ℕ) (l : Layout). behind x (without_places l)) h.1 h.3) not
+      ∙ sym (less_is (suc position) (width bare) (placed_among tt tt tt entry node.node (suc position) bare rest) (Kept tt bare (planted_row tt tt entry node.node (suc position - width bare) rest))
+      (subst (λ (w : ℕ). suc position < w) (sym (drawn_wide m)) h.0))
   parted_planted not (suc nth) (suc position) (Kept p m s) h =
       let bare : CutForest = without_places m in
       let rest : CutForest = without_places s in
       ap (λ (c : CutForest). Kept tt bare c) (parted_planted not nth (suc position - width m) s h.1)
-      ∙ ap (λ (w : ℕ). Kept tt bare (planted_row tt tt entry node (suc position - w) rest)) (sym (width_bare m))
-      ∙ sym (not_less (suc position) (width bare) (placed_among tt tt tt entry node (suc position) bare rest) (Kept tt bare (planted_row tt tt entry node (suc position - width bare) rest))
-      (subst (λ (w : ℕ). w ≤ suc position) (sym (width_bare m)) h.0))
+      ∙ ap (λ (w : ℕ). Kept tt bare (planted_row tt tt entry node.node (suc position - w) rest)) (sym (drawn_wide m))
+      ∙ sym (not_less (suc position) (width bare) (placed_among tt tt tt entry node.node (suc position) bare rest) (Kept tt bare (planted_row tt tt entry node.node (suc position - width bare) rest))
+      (subst (λ (w : ℕ). w ≤ suc position) (sym (drawn_wide m)) h.0))
 
-module _ (front back : RecordPlace) (node : Node) (before : ℕ) (inside ahead after : Layout) (some : 1 ≤ before) (wide : width ahead ≡ before) where
+module _ (front back : RecordPlace) (node : LaidNode) (before : ℕ) (inside ahead after : Layout) (some : 1 ≤ before) (wide : width ahead ≡ before) where
   abbrev two : Layout
   two = in_two front back ahead after
 
   abbrev between : Layout
   between = Kept front ahead (Grown node Bare (Kept back after Bare))
 
-  beside : (nth : ℕ) (n : Node) (b s x : Layout) → length (proxies_of b) ≤ nth → replaced_at nth x (Grown n b s) ≡ Grown n b (replaced_at (nth - length (proxies_of b)) x s)
+  beside : (nth : ℕ) (n : LaidNode) (b s x : Layout) → length (proxies_of b) ≤ nth → replaced_at nth x (Grown n b s) ≡ Grown n b (replaced_at (nth - length (proxies_of b)) x s)
   beside nth n b s x most = not_less nth (length (proxies_of b)) (Grown n (replaced_at nth x b) s) (Grown n b (replaced_at (nth - length (proxies_of b)) x s)) most
 
   -- the position falls between the two
@@ -257,34 +252,34 @@ module _ (front back : RecordPlace) (node : Node) (before : ℕ) (inside ahead a
 
 -- What the part weighs then:
 
-weight_joined : (a b : Layout) → part_weight (joined_layout a b) ≡ part_weight a + part_weight b
+weight_joined : (a b : Layout) → laid_weight (joined_layout a b) ≡ laid_weight a + laid_weight b
 weight_joined Bare b = omega arith
 weight_joined (Grown n d s) b = let e = weight_joined s b in omega (arith, e)
 weight_joined (Kept p m s) b = weight_joined s b
 
-pub weight_replaced : (index member : ℕ) (rest : List ℕ) (inside new : Layout) (position : ℕ) (path : List ℕ) (row : Layout) → LeadsInto index member rest inside position path row → part_weight (replaced_at index new row) ≡ part_weight row + part_weight new
+pub weight_replaced : (index member : ℕ) (rest : List ℕ) (inside new : Layout) (position : ℕ) (path : List ℕ) (row : Layout) → LeadsInto index member rest inside position path row → laid_weight (replaced_at index new row) ≡ laid_weight row + laid_weight new
 weight_replaced index member rest inside new position path Bare h = absurd h
 weight_replaced index member rest inside new zero [] (Grown n b s) h = absurd h
 weight_replaced index member rest inside new zero (q ∷ path) (Grown n b s) h =
-    let row_is = ap (λ (l : Layout). part_weight l) (less_is index (length (proxies_of b)) (Grown n (replaced_at index new b) s) (Grown n b (replaced_at (index - length (proxies_of b)) new s)) h.0) in
+    let row_is = ap (λ (l : Layout). laid_weight l) (less_is index (length (proxies_of b)) (Grown n (replaced_at index new b) s) (Grown n b (replaced_at (index - length (proxies_of b)) new s)) h.0) in
     let e = weight_replaced index member rest inside new q path b h.1 in
     omega (arith, row_is, e)
 weight_replaced index member rest inside new (suc position) path (Grown n b s) h =
-    let row_is = ap (λ (l : Layout). part_weight l) (not_less index (length (proxies_of b)) (Grown n (replaced_at index new b) s) (Grown n b (replaced_at (index - length (proxies_of b)) new s)) h.0) in
+    let row_is = ap (λ (l : Layout). laid_weight l) (not_less index (length (proxies_of b)) (Grown n (replaced_at index new b) s) (Grown n b (replaced_at (index - length (proxies_of b)) new s)) h.0) in
     let e = weight_replaced (index - length (proxies_of b)) member rest inside new position path s h.1 in
     omega (arith, row_is, e)
 weight_replaced zero member rest inside new position path (Kept p m s) h = let e = weight_joined new s in omega (arith, e)
 weight_replaced (suc index) member rest inside new position path (Kept p m s) h = weight_replaced index member rest inside new (position - width m) path s h.1
 
-most_joined : (k : ℕ) (a b : Layout) → PartIsAtMost k a → PartIsAtMost k b → PartIsAtMost k (joined_layout a b)
+most_joined : (k : ℕ) (a b : Layout) → PartIsAtMost k (without_places a) → PartIsAtMost k (without_places b) → PartIsAtMost k (without_places (joined_layout a b))
 most_joined k Bare b h g = g
 most_joined k (Grown n d s) b h g = (h.0, h.1, most_joined k s b h.2 g)
 most_joined k (Kept p m s) b h g = most_joined k s b h g
 
-pub most_replaced : (k index : ℕ) (new row : Layout) → PartIsAtMost k new → PartIsAtMost k row → PartIsAtMost k (replaced_at index new row)
+pub most_replaced : (k index : ℕ) (new row : Layout) → PartIsAtMost k (without_places new) → PartIsAtMost k (without_places row) → PartIsAtMost k (without_places (replaced_at index new row))
 most_replaced k index new Bare h g = tt
 most_replaced k index new (Grown n b s) h g =
-    elim (nat_lt index (length (proxies_of b))) as (λ t. PartIsAtMost k (if t then Grown n (replaced_at index new b) s else Grown n b (replaced_at (index - length (proxies_of b)) new s))) [
+    elim (nat_lt index (length (proxies_of b))) as (λ t. PartIsAtMost k (without_places (if t then Grown n (replaced_at index new b) s else Grown n b (replaced_at (index - length (proxies_of b)) new s)))) [
       | true ↦ (g.0, most_replaced k index new b h g.1, g.2)
       | false ↦ (g.0, g.1, most_replaced k (index - length (proxies_of b)) new s h g.2)
     ]

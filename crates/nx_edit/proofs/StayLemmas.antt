@@ -16,34 +16,11 @@ use Rattle.nx_piece_edits.specs.Cutting.{with_row}
 use Rattle.nx_piece_edits.proofs.LeftLemmas.{less_is, not_less}
 use Rattle.nx_layouts.specs.Layout.{RecordPlace}
 use Rattle.nx_hold.specs.Pieces.{HoldsPiece}
-use Rattle.nx_hold.specs.Changes.{IsPieceRecord, UpdatesPiece, place_named}
+use Rattle.nx_hold.specs.Changes.{place_named}
 use Rattle.nx_nav.specs.declared.routing.PassedRecord.{PassedRecord}
 use Rattle.nx_edit.specs.RowPut.{PassesRow, piece_with_row}
 use Rattle.nx_edit.specs.Rows.{PassesLeft, with_left}
 use Rattle.nx_edit.proofs.PassedLemmas.{piece_same}
-
-has_record : (was : Held) (place : RecordPlace) (piece : Piece) → HoldsPiece was place piece → IsPieceRecord was place
-has_record was place piece (inl stored) = (_, stored)
-has_record was place piece (inr chained) = (_, chained.stored)
-
--- a piece came in its own place where nothing changed
-pub stays_updated : (was : Held) (place : RecordPlace) (piece : Piece) → HoldsPiece was place piece → UpdatesPiece place place piece was was
-stays_updated was place piece holds = record {
-  was_there = has_record was place piece holds;
-  was_free = λ other. absurd (other refl);
-  holds = holds;
-  stays = λ before after there then short. refl;
-  alone = record {
-    beside = λ at other another. refl;
-    went = λ at here not. absurd (not here);
-    lists = λ chain not none. refl;
-    freed = λ at count chain here names not. absurd (not at count here names);
-    fresh = λ at count chain here names not. absurd (not at count here names);
-    settings = refl;
-    catalog = refl;
-    free = omega arith;
-  };
-}
 
 -- one proxy in the place of one leaves trees and gaps
 row_of_one : (index : ℕ) (f : Gapped) → with_row index 1 f ≡ f
@@ -87,20 +64,14 @@ one_alone (x ∷ y ∷ row) proxy other one same = absurd (omega (arith, one))
 -- the record of a piece that a path leaves by a proxy stays, where the row is this proxy
 pub row_kept : (was : Held) (place : RecordPlace) (passed : PassedRecord) (row put : List Proxy) (own : Proxy) → row ≡ passed.proxy ∷ [] → place_named own ≡ place → own.roots ≡ passed.roots → put ≡ own ∷ [] → PassesRow place passed row put was was
 row_kept was place passed row put own alone named roots is piece holds at =
-    let same = sym (row_stays piece passed.index row passed.proxy at.0 alone) in (
-      own,
-      is,
-      roots ∙ at.1 ∙ ap (λ (p : Piece). gapped_width p.body.roots) same,
-      subst (λ (p : Piece). UpdatesPiece place (place_named own) p was was) same (subst (λ (new : RecordPlace). UpdatesPiece place new piece was was) (sym named) (stays_updated was place piece holds)),
-    )
+    let same : piece ≡ piece_with_row passed.index row piece = sym (row_stays piece passed.index row passed.proxy at.0 alone) in
+    (own, is, roots ∙ at.1 ∙ ap (λ (p : Piece). gapped_width p.body.roots) same, inr (refl, named, subst (λ (p : Piece). HoldsPiece was place p) same holds))
 
 -- so does the record where what is left of an interval has the proxy that it had
 pub left_kept : (was : Held) (place : RecordPlace) (passed : PassedRecord) (left : Option Proxy) (own : Proxy) → left ≡ Some passed.proxy → place_named own ≡ place → own.roots ≡ passed.roots → PassesLeft place passed left own was was
 left_kept was place passed left own is named roots piece holds at =
-    let same : piece ≡ with_left passed.index left piece = sym (ap (λ (o : Option Proxy). with_left passed.index o piece) is ∙ left_stays piece passed.index passed.proxy at.0) in (
-      roots ∙ at.1 ∙ ap (λ (p : Piece). gapped_width p.body.roots) same,
-      subst (λ (p : Piece). UpdatesPiece place (place_named own) p was was) same (subst (λ (new : RecordPlace). UpdatesPiece place new piece was was) (sym named) (stays_updated was place piece holds)),
-    )
+    let same : piece ≡ with_left passed.index left piece = sym (ap (λ (o : Option Proxy). with_left passed.index o piece) is ∙ left_stays piece passed.index passed.proxy at.0) in
+    (roots ∙ at.1 ∙ ap (λ (p : Piece). gapped_width p.body.roots) same, inr (refl, named, subst (λ (p : Piece). HoldsPiece was place p) same holds))
 
 -- records that nothing was done with run on
 pub left_alone : {D : Type 0} (d : Ghosts D) (records : Records) (disk : D) → has_ended records ≡ false → RunsOn records records × KeepsSaved d records records disk disk

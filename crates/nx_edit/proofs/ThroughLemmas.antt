@@ -7,11 +7,11 @@ use Rattle.nx_piece.specs.declared.piece.Piece.{Piece}
 use Rattle.nx_cuts.specs.Cut.{Bare, Kept}
 use Rattle.nx_layouts.specs.Layout.{RecordPlace, Layout, AreHeld, ArePlacedOnce, places_of}
 use Rattle.nx_layouts.proofs.PlaceLemmas.{one_place, first_among, later_among, is_among, AreDisjoint, once-append, between_cases, among_between, out_of_between, once-between, once-around, once-apart}
-use Rattle.nx_layouts.proofs.HeldLemmas.{HaveThere, layout_held}
-use Rattle.nx_hold.specs.Pieces.{record_at, HoldsPiece, NamesList, IsTidy, PieceMap}
+use Rattle.nx_layouts.proofs.HeldLemmas.{layout_held}
+use Rattle.nx_hold.specs.Pieces.{record_at, HoldsPiece, NamesList, IsTidy, PieceMap, held_by}
 use Rattle.nx_hold.specs.Documents.{HaveSame, MovesRecords}
-use Rattle.nx_hold.proofs.MapLemmas.{held_at, told_some}
-use Rattle.nx_hold.proofs.MoveLemmas.{moves_add_up, moves_beside, moves_same, pieces_stay_around}
+use Rattle.nx_hold.proofs.MapLemmas.{held_at}
+use Rattle.nx_hold.proofs.MoveLemmas.{moves_add_up, moves_beside, moves_same, same_self, pieces_stay_around}
 use Rattle.nx_hold.proofs.RecordsLemmas.{not_none, record_there, names_along}
 
 -- the same places in another order
@@ -47,7 +47,7 @@ pub record IsAround (was : Held) (place : RecordPlace) (before gone behind : Lis
   pub there : (other : RecordPlace) → Contains (place ∷ (before ++ behind)) other → (piece : Piece) × HoldsPiece was other piece
   pub once : ArePlacedOnce (place ∷ (before ++ (gone ++ behind)))
 
-pub around_interval : (was : Held) (pieces : PieceMap was) (place : RecordPlace) (members : Layout) (before gone behind : List RecordPlace) → AreHeld pieces.piece_at (Kept place members Bare) → ArePlacedOnce (places_of (Kept place members Bare))
+pub around_interval : (was : Held) (pieces : PieceMap was) (place : RecordPlace) (members : Layout) (before gone behind : List RecordPlace) → AreHeld (held_by pieces) (Kept place members Bare) → ArePlacedOnce (places_of (Kept place members Bare))
     → places_of members ++ [] ≡ before ++ (gone ++ behind) → IsAround was place before gone behind
 around_interval was pieces place members before gone behind held once e = record {
   there = λ other among.
@@ -57,7 +57,7 @@ around_interval was pieces place members before gone behind held once e = record
         | inl one ↦ Contains-append_left (place ∷ []) (before ++ (gone ++ behind)) other one
         | inr rest ↦ later_among place (before ++ (gone ++ behind)) other (between_cases before gone behind other rest)
       ]) in
-      let found = layout_held pieces.piece_at (Kept place members Bare) other held all in
+      let found = layout_held (held_by pieces) (Kept place members Bare) other held all in
       (found.0, held_at was pieces other found.0 found.1);
   once = subst (λ (ps : List RecordPlace). ArePlacedOnce (place ∷ ps)) e once;
 }
@@ -73,7 +73,7 @@ module _ {was : Held} {place : RecordPlace} {before gone behind : List RecordPla
   not_around : Contains (before ++ behind) place → ⊥
   not_around among = (a.once).0 (between_cases before gone behind place among)
 
-  module _ {mid : Held} {come : List RecordPlace} {needs : ℕ} (one : MovesRecords gone come needs was mid) where
+  module _ {mid : Held} {come : List RecordPlace} {brought : List ℕ} {needs : ℕ} (one : MovesRecords gone come [] brought needs was mid) where
     -- and so are those that came
     pub come_apart : AreDisjoint come (place ∷ (before ++ behind))
     come_apart other came among = elim (is_among gone other) [
@@ -95,14 +95,14 @@ module _ {was : Held} {place : RecordPlace} {before gone behind : List RecordPla
 
     -- the record above is there still, with its piece
     pub above_stays : IsTidy was → (piece : Piece) → HoldsPiece was place piece → HoldsPiece mid place piece
-    above_stays tidy piece holds = (pieces_stay_around gone come needs was mid tidy one place piece holds (λ went. apart place went (first_among place (before ++ behind)))).1
+    above_stays tidy piece holds = (pieces_stay_around gone come [] brought needs was mid tidy one place piece holds (λ went. apart place went (first_among place (before ++ behind)))).1
 
     -- the record above may be counted among those that moved, and those around
-    pub moves_around : MovesRecords (place ∷ (before ++ (gone ++ behind))) (place ∷ (before ++ (come ++ behind))) needs was mid
+    pub moves_around : MovesRecords (place ∷ (before ++ (gone ++ behind))) (place ∷ (before ++ (come ++ behind))) [] brought needs was mid
     moves_around =
-        moves_same ((place ∷ (before ++ behind)) ++ gone) (place ∷ (before ++ (gone ++ behind))) ((place ∷ (before ++ behind)) ++ come) (place ∷ (before ++ (come ++ behind))) needs needs was mid
-        (same_around place before gone behind) (same_around place before come behind) (omega arith)
-        (moves_beside (place ∷ (before ++ behind)) gone come needs was mid is_there apart one)
+        moves_same ((place ∷ (before ++ behind)) ++ gone) (place ∷ (before ++ (gone ++ behind))) ((place ∷ (before ++ behind)) ++ come) (place ∷ (before ++ (come ++ behind))) [] [] brought brought needs needs was mid
+        (same_around place before gone behind) (same_around place before come behind) (same_self []) (same_self brought) (omega arith)
+        (moves_beside (place ∷ (before ++ behind)) gone come [] brought needs was mid is_there apart one)
 
     pub once_there : ArePlacedOnce come → ArePlacedOnce (place ∷ (before ++ (come ++ behind)))
     once_there come_once = (
@@ -113,16 +113,18 @@ module _ {was : Held} {place : RecordPlace} {before gone behind : List RecordPla
     -- what stands around stays
     pub beside_stays : IsTidy was → (other : RecordPlace) (piece : Piece) → Contains (before ++ behind) other → HoldsPiece was other piece
         → (record_at mid other ≡ record_at was other) × HoldsPiece mid other piece × ((count chain : ℕ) → NamesList was other count chain → mid.lists chain ≡ was.lists chain)
-    beside_stays tidy other piece around holds = pieces_stay_around gone come needs was mid tidy one other piece holds (λ went. apart other went (later_among place (before ++ behind) other around))
+    beside_stays tidy other piece around holds =
+        let stays = pieces_stay_around gone come [] brought needs was mid tidy one other piece holds (λ went. apart other went (later_among place (before ++ behind) other around)) in
+        (stays.0, stays.1, λ count chain names. stays.2 chain (inl (count, names)))
 
-    module _ {now : Held} {top : List RecordPlace} {then : ℕ} (two : MovesRecords (place ∷ []) top then mid now) where
-      pub moves_through : MovesRecords (place ∷ (before ++ (gone ++ behind))) (top ++ (before ++ (come ++ behind))) (needs + then) was now
+    module _ {now : Held} {top : List RecordPlace} {more : List ℕ} {then : ℕ} (two : MovesRecords (place ∷ []) top [] more then mid now) where
+      pub moves_through : MovesRecords (place ∷ (before ++ (gone ++ behind))) (top ++ (before ++ (come ++ behind))) [] (brought ++ more) (needs + then) was now
       moves_through =
           let below : List RecordPlace = before ++ (come ++ behind) in
-          let second : MovesRecords (place ∷ below) (top ++ below) then mid now =
-          moves_same (below ++ (place ∷ [])) (place ∷ below) (below ++ top) (top ++ below) then then mid now (same_swapped below (place ∷ [])) (same_swapped below top) (omega arith)
-          (moves_beside below (place ∷ []) top then mid now below_there (λ other here among. not_below (subst (λ (p : RecordPlace). Contains below p) (one_place place other here) among)) two) in
-          moves_add_up (place ∷ (before ++ (gone ++ behind))) (place ∷ below) (top ++ below) needs then was mid now moves_around second
+          let second : MovesRecords (place ∷ below) (top ++ below) [] more then mid now =
+          moves_same (below ++ (place ∷ [])) (place ∷ below) (below ++ top) (top ++ below) [] [] more more then then mid now (same_swapped below (place ∷ [])) (same_swapped below top) (same_self []) (same_self more) (omega arith)
+          (moves_beside below (place ∷ []) top [] more then mid now below_there (λ other here among. not_below (subst (λ (p : RecordPlace). Contains below p) (one_place place other here) among)) two) in
+          moves_add_up (place ∷ (before ++ (gone ++ behind))) (place ∷ below) (top ++ below) [] [] brought more needs then was mid now moves_around second
 
       pub once_through : ArePlacedOnce top → ArePlacedOnce come → ArePlacedOnce (top ++ (before ++ (come ++ behind)))
       once_through new_once come_once =
@@ -137,10 +139,10 @@ module _ {was : Held} {place : RecordPlace} {before gone behind : List RecordPla
         pub stays_on : (other : RecordPlace) (piece : Piece) → (other ≡ place → ⊥) → record_at mid other ≡ record_at was other → HoldsPiece mid other piece → ((count chain : ℕ) → NamesList was other count chain → mid.lists chain ≡ was.lists chain)
             → (record_at now other ≡ record_at was other) × HoldsPiece now other piece × ((count chain : ℕ) → NamesList was other count chain → now.lists chain ≡ was.lists chain)
         stays_on other piece not same holds lists =
-            let then_stays = pieces_stay_around (place ∷ []) top then mid now tidier two other piece holds (λ here. not (one_place place other here)) in (
+            let then_stays = pieces_stay_around (place ∷ []) top [] more then mid now tidier two other piece holds (λ here. not (one_place place other here)) in (
               then_stays.0 ∙ same,
               then_stays.1,
-              λ count chain names. then_stays.2 count chain (names_along was mid other count chain same names) ∙ lists count chain names,
+              λ count chain names. then_stays.2 chain (inl (count, names_along was mid other count chain same names)) ∙ lists count chain names,
             )
 
         -- what stands around stays
@@ -149,13 +151,3 @@ module _ {was : Held} {place : RecordPlace} {before gone behind : List RecordPla
         around_stays other piece around holds =
             let first = beside_stays tidy other piece around holds in
             stays_on other piece (λ here. not_around (subst (λ (p : RecordPlace). Contains (before ++ behind) p) here around)) first.0 first.1 first.2
-
-        pub around_held : (pieces : PieceMap was) (after : PieceMap now) → HaveThere pieces.piece_at after.piece_at (before ++ behind)
-        around_held pieces after other piece around e =
-            told_some now other piece (after.piece_at other) (after.are other) (around_stays other piece around (held_at was pieces other piece e)).1
-
-        pub come_held : (pieces : PieceMap mid) (after : PieceMap now) → HaveThere pieces.piece_at after.piece_at come
-        come_held pieces after other piece came e =
-            told_some now other piece (after.piece_at other) (after.are other)
-            (pieces_stay_around (place ∷ []) top then mid now tidier two other piece (held_at mid pieces other piece e)
-            (λ here. come_apart other came (subst (λ (p : RecordPlace). Contains (place ∷ (before ++ behind)) p) (sym (one_place place other here)) (first_among place (before ++ behind))))).1

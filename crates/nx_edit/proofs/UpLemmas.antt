@@ -5,30 +5,33 @@ use Rattle.nx_tree.specs.declared.node.Node.{Node}
 use Rattle.nx_tree.specs.Forest.{OrderedTree, nodes}
 use Rattle.nx_tree.specs.Document.{most_nodes}
 use Rattle.nx_holdings.specs.Holdings.{Held}
+use Rattle.nx_piece.specs.declared.piece.Far.{Far}
 use Rattle.nx_piece.specs.declared.piece.Piece.{Piece}
 use Rattle.nx_piece.specs.declared.piece.Proxy.{Proxy}
 use Rattle.nx_piece.specs.Gapped as gapped
 use Rattle.nx_piece.specs.Gapped.{Gapped, End, Gap}
 use Rattle.nx_matrix.specs.declared.rule.Rule.{Rule}
-use Rattle.nx_cuts.specs.Cut.{CutForest, Bare, Grown, Kept, forest, width, part_weight}
+use Rattle.nx_cuts.specs.Cut.{CutForest, Bare, Grown, Kept, width}
 use Rattle.nx_cuts.specs.Rows.{changed_row}
 use Rattle.nx_cuts.proofs.DeepLemmas.{width-changed}
-use Rattle.nx_layouts.specs.Layout.{RecordPlace, Layout, piece_of, proxies_of, without_places}
+use Rattle.nx_layouts.specs.Layout.{RecordPlace, LaidNode, Layout, laid_forest, laid_weight, piece_of, proxies_of, without_places}
 use Rattle.nx_layouts.specs.Replace.{replaced_at, above_at}
 use Rattle.nx_layouts.specs.Cutting.{member_tree, LeadsInto, StandsIn}
-use Rattle.nx_hold.specs.Changes.{place_named, piece_needs, UpdatesPiece}
+use Rattle.nx_hold.specs.Changes.{place_named}
+use Rattle.nx_hold.specs.Contents.{near_pages}
 use Rattle.nx_hold.specs.Pieces.{IsTidy, PieceMap}
-use Rattle.nx_drawn.proofs.BareLemmas.{width_bare}
+use Rattle.nx_layouts.proofs.DrawnLemmas.{drawn_wide}
 use Rattle.nx_drawn.proofs.GrowthLemmas.{width_light}
-use Rattle.nx_edit.specs.declared.changing.Change.{Change}
 use Rattle.nx_edit.specs.Editing.{places_off}
 use Rattle.nx_edit.specs.Rows.{row_nodes, IsHeldInterval, IsReplaced}
-use Rattle.nx_edit.specs.declared.changing.Change.TheVariants as put
-use Rattle.nx_edit.specs.Changing.{changed, way_of, MayBeMade, changed_interval, IsPossibleIn, AreSplitOf, change_needs}
+use Rattle.nx_edit.specs.Changing as shape
+use Rattle.nx_edit.specs.Passing.{PutsOrStays, put_needs}
+use Rattle.nx_edit.specs.Changing.{Put, changed, kept_around, put_lists, way_of, MayBeMade, changed_interval, IsPossibleIn, AreSplitOf, change_needs}
 use Rattle.nx_edit.specs.RowPut.{MayHaveRow, piece_with_row}
 use Rattle.nx_edit.proofs.ChangedLemmas.{interval_changed, interval_changed_inside, changed_below}
-use Rattle.nx_edit.proofs.OwnLemmas.{nodes_bare, nodes_alone}
-use Rattle.nx_edit.proofs.PassedLemmas.{into_member, less_index, there, place_inside, down}
+use Rattle.nx_edit.proofs.FarLemmas.{near-append}
+use Rattle.nx_edit.proofs.OwnLemmas.{nodes_alone}
+use Rattle.nx_edit.proofs.PassedLemmas.{IsKeptAround, all_around, off_around, into_member, less_index, there, place_inside}
 use Rattle.nx_edit.proofs.AwayLemmas.{marked, marked_is}
 use Rattle.nx_edit.proofs.RefillLemmas.{row_may_stand, row_few, row_put}
 
@@ -41,12 +44,12 @@ leads_longer more index member rest inside (suc position) path (Grown n b s) h =
 leads_longer more zero member rest inside position path (Kept p m s) h = (h.0, h.1, ap (λ (ps : List ℕ). ps ++ more) h.2, h.3)
 leads_longer more (suc index) member rest inside position path (Kept p m s) h = (h.0, leads_longer more index member rest inside (position - width m) path s h.1)
 
-way_leads : (change : Change) (index next : ℕ) (rest : List ℕ) (inside : Layout) (position : ℕ) (path : List ℕ) (members : Layout) → LeadsInto index next rest inside position path members
-    → LeadsInto index next (way_of change rest) inside position (way_of change path) members
-way_leads (put.Content content) index next rest inside position path members into = into
-way_leads (put.Child child node) index next rest inside position path members into = leads_longer (child ∷ []) index next rest inside position path members into
+way_leads : (put : Put) (index next : ℕ) (rest : List ℕ) (inside : Layout) (position : ℕ) (path : List ℕ) (members : Layout) → LeadsInto index next rest inside position path members
+    → LeadsInto index next (way_of put rest) inside position (way_of put path) members
+way_leads (shape.Content content list) index next rest inside position path members into = into
+way_leads (shape.Child child node) index next rest inside position path members into = leads_longer (child ∷ []) index next rest inside position path members into
 
-module _ (rules : List Rule) (change : Change) (was : Held) (pieces : PieceMap was) (known : Option Piece) (place : RecordPlace) (position : ℕ) (path : List ℕ) (members : Layout) (i : IsHeldInterval was pieces known place position path most_nodes members)
+module _ (rules : List Rule) (put : Put) (was : Held) (pieces : PieceMap was) (known : Option Piece) (place : RecordPlace) (position : ℕ) (path : List ℕ) (members : Layout) (i : IsHeldInterval was pieces known place position path most_nodes members)
     (index next : ℕ) (rest : List ℕ) (inside : Layout) (into : LeadsInto index next rest inside position path members) where
   abbrev k : ℕ
   k = (was.settings).k
@@ -59,74 +62,90 @@ module _ (rules : List Rule) (change : Change) (was : Held) (pieces : PieceMap w
 
   -- the members below with the change, and the row with them
   abbrev below : Layout
-  below = marked (changed_row next (changed rules change rest) (without_places inside))
+  below = marked (changed_row next (changed rules put rest) (without_places inside))
 
   abbrev middle : Layout
   middle = replaced_at index (Kept place below Bare) members
 
-  below_is : Kept tt (without_places below) Bare ≡ changed_interval rules change next rest inside
-  below_is = ap (λ (c : CutForest). Kept tt c Bare) (marked_is (changed_row next (changed rules change rest) (without_places inside))) ∙ interval_changed (changed rules change rest) next inside Bare (into_member index next rest inside position path members into)
+  below_is : Kept tt (without_places below) Bare ≡ changed_interval rules put next rest inside
+  below_is = ap (λ (c : CutForest). Kept tt c Bare) (marked_is (changed_row next (changed rules put rest) (without_places inside))) ∙ interval_changed (changed rules put rest) next inside Bare (into_member index next rest inside position path members into)
 
-  whole_is : Kept tt (without_places middle) Bare ≡ changed_interval rules change position path members
+  whole_is : Kept tt (without_places middle) Bare ≡ changed_interval rules put position path members
   whole_is =
-      interval_changed_inside (changed rules change) (changed_below rules change) index next rest inside below place position path place members into (marked_is (changed_row next (changed rules change rest) (without_places inside)))
+      interval_changed_inside (changed rules put) (changed_below rules put) index next rest inside below place position path place members into (marked_is (changed_row next (changed rules put rest) (without_places inside)))
 
   some_wide : 1 ≤ width inside
   some_wide = let member = into_member index next rest inside position path members into in omega (arith, member)
 
   wide : width below ≡ width inside
   wide =
-      sym (width_bare below) ∙ ap (λ (c : CutForest). width c) (marked_is (changed_row next (changed rules change rest) (without_places inside))) ∙ width-changed next (changed rules change rest) (without_places inside) ∙ width_bare inside
+      sym (drawn_wide below) ∙ ap (λ (c : CutForest). width c) (marked_is (changed_row next (changed rules put rest) (without_places inside))) ∙ width-changed next (changed rules put rest) (without_places inside) ∙ drawn_wide inside
 
   some_below : 1 ≤ width below
   some_below = let s = some_wide in let w = wide in omega (arith, s, w)
 
   -- how many nodes they have
-  fewer_below : row_nodes (changed_interval rules change next rest inside) ≤ row_nodes (changed_interval rules change position path members)
+  fewer_below : row_nodes (changed_interval rules put next rest inside) ≤ row_nodes (changed_interval rules put position path members)
   fewer_below =
-      let b : row_nodes (changed_interval rules change next rest inside) ≡ nodes (forest (Kept place below Bare)) = ap row_nodes (sym below_is) ∙ nodes_bare (Kept place below Bare) in
-      let w : row_nodes (changed_interval rules change position path members) ≡ nodes (forest middle) = ap row_nodes (sym whole_is) ∙ nodes_bare (Kept place middle Bare) ∙ nodes_alone place middle in
+      let b : row_nodes (changed_interval rules put next rest inside) ≡ nodes (laid_forest (Kept place below Bare)) = ap row_nodes (sym below_is) in
+      let w : row_nodes (changed_interval rules put position path members) ≡ nodes (laid_forest middle) = ap row_nodes (sym whole_is) ∙ nodes_alone place middle in
       let c = stands.counted (Kept place below Bare) in
       let h = stands.counted Bare in
       omega (arith, b, w, c, h)
 
-  -- what is needed below is no more than what is needed here
-  pub change_below : change_needs rules change next rest inside ≤ change_needs rules change position path members
-  change_below = let f = fewer_below in let m = nodes_bare members in let n = nodes_bare inside in let h = stands.counted Bare in omega (arith, f, m, n, h)
+  -- the nodes that are kept below are among those kept here
+  kept_by : (p : Put) → IsKeptAround was pieces known place position path most_nodes members i index next rest inside into (kept_around p next rest inside) (kept_around p position path members)
+  kept_by (shape.Content content list) = off_around was pieces known place position path most_nodes members i index next rest inside into true path rest into
+  kept_by (shape.Child child node) = all_around was pieces known place position path most_nodes members i index next rest inside into
 
-  pub possible_below : member_tree (forest members) position path ≡ member_tree (forest inside) next rest → IsPossibleIn k rules change position path members → IsPossibleIn k rules change next rest inside
+  around_it : IsKeptAround was pieces known place position path most_nodes members i index next rest inside into (kept_around put next rest inside) (kept_around put position path members)
+  around_it = kept_by put
+
+  -- what is needed below is no more than what is needed here
+  pub change_below : change_needs rules put next rest inside ≤ change_needs rules put position path members
+  change_below =
+      let f = fewer_below in
+      let h = stands.counted Bare in
+      let off = ap (λ (ns : List LaidNode). near_pages ns) around_it.off in
+      let front = near-append around_it.before_it (kept_around put next rest inside ++ around_it.behind_it) in
+      let middle = near-append (kept_around put next rest inside) around_it.behind_it in
+      omega (arith, f, h, off, front, middle)
+
+  pub possible_below : member_tree (laid_forest members) position path ≡ member_tree (laid_forest inside) next rest → IsPossibleIn k rules put position path members → IsPossibleIn k rules put next rest inside
   possible_below same possible = record {
-    made = subst (λ (t : Option OrderedTree). IfSome t (λ there. MayBeMade k change there)) (down was pieces known place position path most_nodes members i index next rest inside into same) possible.made;
-    few = let f = fewer_below in let all : row_nodes (changed_interval rules change position path members) ≤ most_nodes = possible.few in omega (arith, f, all);
+    made = subst (λ (t : Option OrderedTree). IfSome t (λ there. MayBeMade k put there)) same possible.made;
+    few = let f = fewer_below in let all : row_nodes (changed_interval rules put position path members) ≤ most_nodes = possible.few in omega (arith, f, all);
   }
 
   -- the interval below was replaced
-  module _ (most : k ≤ 256) (possible : IsPossibleIn k rules change position path members) {mid : Held} (tidy : IsTidy was) (node : Node) (proxies : List Proxy)
-      (r : IsReplaced k (AreSplitOf was.settings rules (Some node) (changed_interval rules change next rest inside)) (place_inside was pieces known place position path most_nodes members i index next rest inside into) inside (places_off true (next ∷ way_of change rest) inside) proxies was mid) where
+  module _ (most : k ≤ 256) (possible : IsPossibleIn k rules put position path members) {mid : Held} (tidy : IsTidy was) (node : Node) {gone : List Far} (proxies : List Proxy)
+      (r : IsReplaced k (AreSplitOf was.settings rules (Some node) (changed_interval rules put next rest inside)) (place_inside was pieces known place position path most_nodes members i index next rest inside into) inside (kept_around put next rest inside) (put_lists put) (places_off true (next ∷ way_of put rest) inside) proxies gone was mid) where
     few_below : width below ≤ 257
     few_below =
         let parts = stands.light (i.light).3 in
-        let light : part_weight inside ≤ k = parts.2 in
-        let few = width_light inside parts.1 in
+        let light : laid_weight inside ≤ k = parts.2 in
+        let few = width_light (without_places inside) parts.1 in
+        let drawn = drawn_wide inside in
         let w = wide in
-        omega (arith, light, few, w, most)
+        omega (arith, light, few, drawn, w, most)
 
-    is_split : IsReplaced k (AreSplitOf was.settings rules (Some node) (Kept tt (without_places below) Bare)) (place_inside was pieces known place position path most_nodes members i index next rest inside into) inside (places_off true (next ∷ way_of change rest) inside) proxies was mid
+    is_split : IsReplaced k (AreSplitOf was.settings rules (Some node) (Kept tt (without_places below) Bare)) (place_inside was pieces known place position path most_nodes members i index next rest inside into) inside (kept_around put next rest inside) (put_lists put) (places_off true (next ∷ way_of put rest) inside) proxies gone was mid
     is_split =
-        subst (λ (c : CutForest). IsReplaced k (AreSplitOf was.settings rules (Some node) c) (place_inside was pieces known place position path most_nodes members i index next rest inside into) inside (places_off true (next ∷ way_of change rest) inside) proxies was mid) (sym below_is) r
+        subst (λ (c : CutForest). IsReplaced k (AreSplitOf was.settings rules (Some node) c) (place_inside was pieces known place position path most_nodes members i index next rest inside into) inside (kept_around put next rest inside) (put_lists put) (places_off true (next ∷ way_of put rest) inside) proxies gone was mid) (sym below_is) r
 
     pub may_have : (piece : Piece) → piece ≡ piece_of members → MayHaveRow piece proxies
     may_have piece is =
-        row_may_stand rules was pieces known place position path members i index next rest inside into below some_below few_below (changed_interval rules change position path members) whole_is most possible.few node proxies is_split piece is
+        row_may_stand rules was pieces known place position path members i index next rest inside into below some_below few_below (changed_interval rules put position path members) whole_is most possible.few node proxies is_split piece is
 
-    pub change_few : (piece : Piece) → piece ≡ piece_of members → mid.free < piece_needs (piece_with_row index proxies piece) → was.free < change_needs rules change position path members
+    pub change_few : (piece : Piece) → piece ≡ piece_of members → mid.free < put_needs (piece_with_row index proxies piece) → was.free < change_needs rules put position path members
     change_few piece is few =
-        row_few rules was pieces known place position path members i index next rest inside into below some_below few_below (changed_interval rules change position path members) whole_is most possible.few node proxies is_split piece is few
+        row_few rules was pieces known place position path members i index next rest inside into below some_below few_below (changed_interval rules put position path members) whole_is most possible.few (way_of put path) (way_of put rest)
+        (way_leads put index next rest inside position path members into) tidy node proxies is_split around_it piece is few
 
     module _ (above : Option Node) (above_is : above_at index above members ≡ Some node) where
       pub away_changed : {now : Held} (tidier : IsTidy mid) (piece : Piece) → piece ≡ piece_of members → (proxy : Proxy) → proxy.roots ≡ gapped.gapped_width (piece_with_row index proxies piece).body.roots
-          → UpdatesPiece place (place_named proxy) (piece_with_row index proxies piece) mid now
-          → IsReplaced k (AreSplitOf was.settings rules above (changed_interval rules change position path members)) place members (places_off true (position ∷ way_of change path) members) (proxy ∷ []) was now
-      away_changed tidier piece is proxy roots updates =
-          row_put rules was pieces known place position path members i index next rest inside into below some_below few_below (changed_interval rules change position path members) whole_is most possible.few (way_of change path) (way_of change rest)
-          (way_leads change index next rest inside position path members into) tidy node proxies is_split above above_is tidier piece is proxy roots updates
+          → PutsOrStays place (place_named proxy) (piece_with_row index proxies piece) mid now
+          → IsReplaced k (AreSplitOf was.settings rules above (changed_interval rules put position path members)) place members (kept_around put position path members) (put_lists put) (places_off true (position ∷ way_of put path) members) (proxy ∷ []) gone was now
+      away_changed tidier piece is proxy roots puts =
+          row_put rules was pieces known place position path members i index next rest inside into below some_below few_below (changed_interval rules put position path members) whole_is most possible.few (way_of put path) (way_of put rest)
+          (way_leads put index next rest inside position path members into) tidy node proxies is_split around_it above above_is tidier piece is proxy roots puts

@@ -1,5 +1,5 @@
 -- A piece that an edit made heavier, in the place of its record, and what stands there where it outweighs K.
-use Rattle.std.specs.Prelude.{◌≡◌, ℕ, ◌+◌, ◌*◌, ◌<◌, ◌≤◌, false, List, ◌∷◌, Option}
+use Rattle.std.specs.Prelude.{◌≡◌, ℕ, ◌+◌, ◌*◌, ◌<◌, ◌≤◌, false, List, [], ◌∷◌, Option}
 use Rattle.nx_host.specs.Disk.{Rose}
 use Rattle.nx_host.specs.declared.disk.Disk.{Ghosts}
 use Rattle.nx_tree.specs.declared.node.Node.{Node}
@@ -14,30 +14,33 @@ use Rattle.nx_piece.specs.declared.piece.Piece.{Piece}
 use Rattle.nx_piece.specs.declared.piece.Proxy.{Proxy}
 use Rattle.nx_matrix.specs.declared.rule.Rule.{Rule}
 use Rattle.nx_cuts.specs.Cut.{Bare, Kept}
-use Rattle.nx_layouts.specs.Layout.{RecordPlace, Layout, AreHeld, ArePlacedOnce, piece_of, places_of, without_places}
-use Rattle.nx_hold.specs.Pieces.{HoldsPiece, IsTidy, PieceMap}
+use Rattle.nx_layouts.specs.Layout.{RecordPlace, Layout, AreHeld, ArePlacedOnce, nodes_in, piece_body, piece_of, places_of, without_places}
+use Rattle.nx_hold.specs.Contents.{near_pages}
+use Rattle.nx_hold.specs.Pieces.{HoldsPiece, IsTidy, MayName, PieceMap, held_by}
 use Rattle.nx_drawn.specs.Growth.{MayBeHeavy}
 use Rattle.nx_edit.specs.Changing.{AreSplitOf}
 use Rattle.nx_edit.specs.Rows.{row_nodes, IsReplaced}
 
--- The piece is that of an interval with these members, which may outweigh K as far as one node more makes it, and has no more nodes than a document. The intervals below it are held in records that stand once each, and another than these is at the place, with any piece.
+-- The piece is that of an interval with these members, which may outweigh K as far as one node more makes it, and has no more nodes than a document. The intervals below it are held in records that stand once each, and another than these is at the place, with any piece; and the lists of its far contents may be named.
 pub record IsGrownMembers (now : Held) (pieces : PieceMap now) (piece : Piece) (place : RecordPlace) (members : Layout) : Type 0 where
   pub is : piece_of members ≡ piece
   pub there : (old : Piece) × HoldsPiece now place old
-  pub held : AreHeld pieces.piece_at members
+  pub held : AreHeld (held_by pieces) members
+  pub may : MayName now (piece_body members)
   pub once : ArePlacedOnce (place ∷ places_of members)
-  pub heavy : MayBeHeavy (now.settings).k ((now.settings).k + (now.settings).k) ((now.settings).k + 1) members
+  pub heavy : MayBeHeavy (now.settings).k ((now.settings).k + (now.settings).k) ((now.settings).k + 1) (without_places members)
   pub few : row_nodes (without_places members) ≤ most_nodes
 
--- Whatever members the piece is of: their interval stands in the place of the record, split where it outweighs K, and all records below it stay. At most two pages fewer are free for each of its nodes. `above` is the node above it.
+-- Whatever members the piece is of: their interval stands in the place of the record, split where it outweighs K, and all records below it stay. Contents that are too long for their items come into lists. At most two pages fewer are free for each of its nodes, and those of such contents. `above` is the node above it.
 abbrev pub PutsGrown : List Rule → (above : Option Node) → Piece → RecordPlace → (proxies : List Proxy) → (was now : Held) → Type 0
 PutsGrown rules above piece place proxies was now =
     (pieces : PieceMap was) (members : Layout) → IsGrownMembers was pieces piece place members
-    → (r : IsReplaced (was.settings).k (AreSplitOf was.settings rules above (Kept tt (without_places members) Bare)) place members (places_of members) proxies was now) × (was.free ≤ now.free + 2 * row_nodes (without_places r.row))
+    → (r : IsReplaced (was.settings).k (AreSplitOf was.settings rules above (Kept tt (without_places members) Bare)) place members (nodes_in members) [] (places_of members) proxies [] was now)
+    × (was.free ≤ now.free + (2 * row_nodes (without_places r.row) + near_pages (nodes_in members)))
 
 -- how many pages may be needed
 abbrev pub grown_needs : (members : Layout) → ℕ
-grown_needs members = 2 * row_nodes (without_places members)
+grown_needs members = 2 * row_nodes (without_places members) + near_pages (nodes_in members)
 
 -- of all members that the piece may be of
 abbrev pub OfGrown : {D : Type 0} → Ghosts D → Records → D → Piece → RecordPlace → (Held → Layout → Type 0) → Type 0

@@ -4,6 +4,7 @@ use Rattle.std.specs.Option.{option_map_or, option_or}
 use Rattle.nx_tree.specs.declared.node.Node.{Node}
 use Rattle.nx_tree.specs.Forest.{OrderedTree, trees_of}
 use Rattle.nx_tree.specs.Edit.{at, place_refusal, insert_refusal}
+use Rattle.nx_nav.specs.declared.finding.Outlined.{Outlined}
 use Rattle.nx_edit.specs.declared.error.EditError.{EditError}
 use Rattle.nx_edit.specs.declared.error.EditError.TheVariants as error
 use Rattle.nx_edit.specs.Refusals.{refused_by}
@@ -27,9 +28,9 @@ is_of_insertion _ = false
 abbrev pub place_fault : Node → (position : ℕ) (parent : List ℕ) → OrderedTree → Option EditError
 place_fault node position parent tree = option_map_or (λ t. option_and_then refused_by (place_refusal node position t)) (at tree parent) (Some error.NoNode)
 
--- the node stands at that position below the node at a path
-abbrev pub IsChild : OrderedTree → (parent : List ℕ) (position : ℕ) → Node → Type 0
-IsChild tree parent position node = (t : OrderedTree) × (at tree (parent ++ position ∷ []) ≡ Some t) × (node ≡ t.node)
+-- a node of this kind and name stands at that position below the node at a path
+abbrev pub IsChild : OrderedTree → (parent : List ℕ) (position : ℕ) → Outlined → Type 0
+IsChild tree parent position seen = (t : OrderedTree) × (at tree (parent ++ position ∷ []) ≡ Some t) × (seen.kind ≡ t.node.kind) × (seen.name ≡ t.node.name)
 
 -- of the node at a path, if it has so many children
 abbrev pub OfParent : OrderedTree → (parent : List ℕ) (children : ℕ) → (OrderedTree → Type 0) → Type 0

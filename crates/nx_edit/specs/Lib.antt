@@ -7,8 +7,10 @@ pub mod Retexting
 pub mod Changing
 pub mod Growing
 pub mod Passing
+pub mod Making
 pub mod RowPut
 pub mod Planting
 pub mod Parting
 pub mod Grown
 pub mod Inserting
+pub mod Laws

@@ -31,4 +31,4 @@ pub record IsWithin (piece : Piece) (member : ℕ) (path : List ℕ) (position :
 
 -- this is asked of the node below the node that the path leads to
 abbrev pub IsAskedThere : List Rule → Piece → (member : ℕ) (path : List ℕ) (node : Node) → Entry → Type 0
-IsAskedThere rules piece member path node entry = (tree : GappedTree) (first : ℕ) → reached_in piece member path ≡ Inside tree first → asked rules tree.node node ≡ entry
+IsAskedThere rules piece member path node entry = (tree : GappedTree) (first : ℕ) → reached_in piece member path ≡ Inside tree first → asked rules tree.node.node node ≡ entry

@@ -1,6 +1,5 @@
 -- A row of proxies that comes in the place of one, in the piece of a record.
 use Rattle.std.specs.Prelude.{◌≡◌, ℕ, ◌+◌, ◌≤◌, List, [], ◌∷◌, ◌++◌, length, take, drop}
-use Rattle.nx_tree.specs.declared.node.Node.{Node}
 use Rattle.nx_records.specs.Words.{Held}
 use Rattle.nx_piece.specs.declared.piece.Piece.{Piece}
 use Rattle.nx_piece.specs.declared.piece.Proxy.{Proxy}
@@ -10,9 +9,9 @@ use Rattle.nx_piece.specs.Locate.{Inside, reached_in}
 use Rattle.nx_piece.specs.Valid.{HaveRoots}
 use Rattle.nx_layouts.specs.Layout.{RecordPlace}
 use Rattle.nx_hold.specs.Pieces.{HoldsPiece}
-use Rattle.nx_hold.specs.Changes.{place_named, UpdatesPiece}
+use Rattle.nx_hold.specs.Changes.{place_named}
 use Rattle.nx_nav.specs.declared.routing.PassedRecord.{PassedRecord}
-use Rattle.nx_edit.specs.Passing.{IsPassedAs}
+use Rattle.nx_edit.specs.Passing.{IsPassedAs, PutsOrStays}
 
 -- the row may come in the place of a proxy of the piece
 pub record MayHaveRow (piece : Piece) (row : List Proxy) : Type 0 where
@@ -27,14 +26,16 @@ piece_with_row index row piece = record {
   proxies = take index piece.proxies ++ row ++ drop (index + 1) piece.proxies;
 }
 
--- the piece came in the place of a record, under one proxy
+-- the piece came in the place of a record, or stays there, under one proxy
 abbrev pub IsPutAlone : (place : RecordPlace) (piece : Piece) (row : List Proxy) (was now : Held) → Type 0
-IsPutAlone place piece row was now = (proxy : Proxy) × (row ≡ proxy ∷ []) × (proxy.roots ≡ gapped_width piece.body.roots) × UpdatesPiece place (place_named proxy) piece was now
+IsPutAlone place piece row was now = (proxy : Proxy) × (row ≡ proxy ∷ []) × (proxy.roots ≡ gapped_width piece.body.roots) × PutsOrStays place (place_named proxy) piece was now
 
--- the path leads to a tree of the piece, whose node this is
-abbrev pub IsNodeAt : Piece → ℕ → List ℕ → Node → Type 0
-IsNodeAt piece member path node = (tree : GappedTree) × (first : ℕ) × (reached_in piece member path ≡ Inside tree first) × (node ≡ tree.node)
+-- the path leads to this tree of the piece
+abbrev pub IsTreeAt : Piece → ℕ → List ℕ → GappedTree → Type 0
+IsTreeAt piece member path tree = (first : ℕ) × (reached_in piece member path ≡ Inside tree first)
 
 -- Whatever piece the record has that was passed: the row came in the place of its proxy, and the piece in the place of its record.
 abbrev pub PassesRow : (place : RecordPlace) → PassedRecord → (row put : List Proxy) → (was now : Held) → Type 0
-PassesRow place passed row put was now = (piece : Piece) → HoldsPiece was place piece → IsPassedAs passed piece → IsPutAlone place (piece_with_row passed.index row piece) put was now
+PassesRow place passed row put was now =
+    (piece : Piece) → HoldsPiece was place piece → IsPassedAs passed piece
+    → (own : Proxy) × (put ≡ own ∷ []) × (own.roots ≡ gapped_width (piece_with_row passed.index row piece).body.roots) × PutsOrStays place (place_named own) (piece_with_row passed.index row piece) was now

@@ -1,41 +1,52 @@
 // What comes in the place of an interval below which a node gets another content or another child.
-ghost use Rattle.std.specs.Prelude.{◌≡◌, ◌<◌, ◌≤◌, ◌∷◌, [], None, Some, false, length, IfOk, IfErr, OnOk, IsTrue, ◌↔◌};
-ghost use Rattle.std.specs.Option.{option_copied};
+ghost use Rattle.std.specs.Prelude.{◌≡◌, ◌<◌, ◌≤◌, ◌∷◌, [], ℕ, None, Some, false, length, IfOk, IfErr, OnOk, IsTrue, ◌↔◌};
+ghost use Rattle.std.specs.Option.{option_copied, option_to_list};
 ghost use Rattle.nx_host.specs.Still.{IsStill};
-ghost use Rattle.nx_weights.specs.Weight.{weight};
+ghost use Rattle.nx_weights.specs.Weight.{weight_of};
 ghost use Rattle.nx_records.specs.Records.{KeepsSaved, HasChanges, has_ended};
 ghost use Rattle.nx_records.specs.Refusals.{RunsOn, NotStored};
 ghost use Rattle.nx_piece_edits.specs.Setting.{LeadsInside};
 ghost use Rattle.nx_piece.specs.Valid.{HaveRoots, IsPiece, IsValidPiece};
-ghost use Rattle.nx_hold.specs.Pieces.{HoldsNone};
-ghost use Rattle.nx_hold.specs.Changes.{ComesTidy, piece_needs, place_of};
-ghost use Rattle.nx_edit.specs.declared.changing.Change.TheVariants as put;
+ghost use Rattle.nx_piece.specs.PieceNode.{IsFarWith, IsNearWith, length_with};
+ghost use Rattle.nx_hold.specs.Pieces.{HoldsNone, MayName};
+ghost use Rattle.nx_hold.specs.Changes.{ComesTidy, ComesTidyWhere, place_of};
+ghost use Rattle.nx_edit.specs.declared.changing.Change.TheVariants as change;
 ghost use Rattle.nx_nav.specs.Route.{EndsInside};
-ghost use Rattle.nx_edit.specs.Changing.{ChangesAlong, ChangesKnown, NotChangedAlong, NotChangedKnown};
-ghost use Rattle.nx_edit.specs.Passing.{NotPassed};
-ghost use Rattle.nx_edit.specs.RowPut.{IsNodeAt, IsPutAlone, MayHaveRow, PassesRow, piece_with_row};
+ghost use Rattle.nx_edit.specs.Changing.{Put, ChangesKnown, IsLaidPut, IsWrittenChange, MayChangeAlong, MayPutIn, NotChangedAlong, NotChangedKnown};
+ghost use Rattle.nx_edit.specs.Passing.{NotPassed, put_needs};
+ghost use Rattle.nx_edit.specs.RowPut.{IsPutAlone, IsTreeAt, MayHaveRow, PassesRow, piece_with_row};
 
 use crate::growing::put_grown;
 use crate::keeping::{is_alone, own_proxy};
+use crate::making::update_far;
 use crate::planting::plant_own;
 use crate::removing::damaged;
-use nx_hold::{read_piece, update_piece};
+use nx_hold::read_piece;
 use nx_host::Disk;
 use nx_matrix::Matrix;
 use nx_nav::{PassedRecord, Route};
-use nx_piece::{Located, Piece, Proxies, Proxy, locate};
+use nx_piece::{Far, Located, Piece, PieceTree, Proxies, Proxy, locate};
 use nx_piece_edits::{replace_by_row, set_content};
 use nx_records::{Records, Rid, StoreError};
 use nx_tree::{Bytes, Node};
+use nx_weights::weight_of;
 use std::alloc::Global;
 
 // What an edit puts at the end of a path.
 #[derive(Drop)]
 pub(crate) enum Change {
-    // Another content of the node there.
-    Content(Bytes),
+    // Another content of the node there. Where it is far, the bytes are empty.
+    Content(Bytes, Option<Far>),
     // A node without children, before the child at this position of the node there, or behind its last one.
-    Child { position: u32, node: Node },
+    Child { position: u32, leaf: PieceTree },
+}
+
+// What a change put in the place of an interval: the proxies of the intervals there, and the far content that no node has
+// any more, whose list is there still.
+#[derive(Drop)]
+pub(crate) struct Changed {
+    pub row: Proxies,
+    pub gone: Option<Far>,
 }
 
 // Makes a change of the node of a document that the path leads to, by the way that was kept, as `change_in`.
@@ -48,13 +59,14 @@ pub(crate) fn change_at<D: Disk>(
     path: &[u32],
     route: Route,
     change: Change,
-) -> Result<Proxies, StoreError>
+) -> Result<Changed, StoreError>
     requires runs { has_ended records.old ≡ false }
     requires ends { EndsInside 0 path.now route.passed.items route.last }
+    requires written { IsWrittenChange change }
     ensures still { IsStill D.Disk disk.old disk.new }
-    ensures ok { IfOk result (λ row. ComesTidy D.Disk records.old records.new disk.old disk.new (ChangesAlong route.passed.items route.last matrix.now None change (place_of root) 0 path.now row)) }
+    ensures ok { IfOk result (λ changed. (put : Put) → IsLaidPut change put → ComesTidyWhere D.Disk records.old records.new disk.old disk.new (λ was. MayChangeAlong was put (place_of root) 0 path.now route.passed.items route.last) (ChangesKnown matrix.now None None put (place_of root) 0 path.now changed.row (option_to_list changed.gone))) }
     ensures keeps { OnOk result (RunsOn records.old records.new × KeepsSaved D.Disk records.old records.new disk.old disk.new × HasChanges records.new) }
-    ensures refused { IfErr result (λ e. NotChangedAlong D.Disk route.passed.items route.last matrix.now change (place_of root) 0 path.now e records.old records.new disk.old disk.new) }
+    ensures refused { IfErr result (λ e. (put : Put) → IsLaidPut change put → NotChangedAlong D.Disk route.passed.items route.last matrix.now put (place_of root) 0 path.now e records.old records.new disk.old disk.new) }
 {
     let Route { passed, last } = route;
     change_in(
@@ -75,7 +87,7 @@ pub(crate) fn change_at<D: Disk>(
 // Makes a change of the node that the path leads to, which begins with the position of a member of the interval whose
 // record stands there, passes these records, and ends in the record of the last piece. It answers the proxies of the
 // intervals that come in its place: one, where its part doesn't outweigh K, or those of a split. `above` is the node above
-// the interval. It speaks of intervals of whose node the change may be made.
+// the interval. It speaks of intervals of whose node the change may be made. No list of a content goes.
 pub(crate) fn change_in<D: Disk>(
     alloc: Global,
     records: &mut Records,
@@ -88,13 +100,14 @@ pub(crate) fn change_in<D: Disk>(
     passed: &[PassedRecord],
     last: Piece,
     change: Change,
-) -> Result<Proxies, StoreError>
+) -> Result<Changed, StoreError>
     requires runs { has_ended records.old ≡ false }
     requires ends { EndsInside member path.now passed.now last }
+    requires written { IsWrittenChange change }
     ensures still { IsStill D.Disk disk.old disk.new }
-    ensures ok { IfOk result (λ row. ComesTidy D.Disk records.old records.new disk.old disk.new (ChangesAlong passed.now last matrix.now (option_copied above.entry) change (place_of rid) member path.now row)) }
+    ensures ok { IfOk result (λ changed. (put : Put) → IsLaidPut change put → ComesTidyWhere D.Disk records.old records.new disk.old disk.new (λ was. MayChangeAlong was put (place_of rid) member path.now passed.now last) (ChangesKnown matrix.now None (option_copied above.entry) put (place_of rid) member path.now changed.row (option_to_list changed.gone))) }
     ensures keeps { OnOk result (RunsOn records.old records.new × KeepsSaved D.Disk records.old records.new disk.old disk.new × HasChanges records.new) }
-    ensures refused { IfErr result (λ e. NotChangedAlong D.Disk passed.now last matrix.now change (place_of rid) member path.now e records.old records.new disk.old disk.new) }
+    ensures refused { IfErr result (λ e. (put : Put) → IsLaidPut change put → NotChangedAlong D.Disk passed.now last matrix.now put (place_of rid) member path.now e records.old records.new disk.old disk.new) }
 {
     let Some((first, more)) = passed.split_first() else {
         return change_own(
@@ -105,7 +118,7 @@ pub(crate) fn change_in<D: Disk>(
         page: first.proxy.page,
         slot: first.proxy.slot,
     };
-    let row = change_in(
+    let changed = change_in(
         alloc,
         records,
         disk,
@@ -118,7 +131,11 @@ pub(crate) fn change_in<D: Disk>(
         last,
         change,
     )?;
-    pass_row(alloc, records, disk, rid, first, row.as_slice())
+    let row = pass_row(alloc, records, disk, rid, first, changed.row.as_slice())?;
+    Ok(Changed {
+        row,
+        gone: changed.gone,
+    })
 }
 
 // The same where the node is one of the record's own, whose piece this is.
@@ -133,22 +150,27 @@ fn change_own<D: Disk>(
     member: u16,
     path: &[u32],
     change: Change,
-) -> Result<Proxies, StoreError>
+) -> Result<Changed, StoreError>
     requires runs { has_ended records.old ≡ false }
     requires valid { IsValidPiece piece }
     requires here { LeadsInside piece member path.now }
+    requires written { IsWrittenChange change }
     ensures still { IsStill D.Disk disk.old disk.new }
-    ensures ok { IfOk result (λ row. ComesTidy D.Disk records.old records.new disk.old disk.new (ChangesKnown matrix.now (Some piece) (option_copied above.entry) change (place_of rid) member path.now row)) }
+    ensures ok { IfOk result (λ changed. (put : Put) → IsLaidPut change put → ComesTidyWhere D.Disk records.old records.new disk.old disk.new (λ was. MayPutIn was put piece)
+        (ChangesKnown matrix.now (Some piece) (option_copied above.entry) put (place_of rid) member path.now changed.row (option_to_list changed.gone))) }
     ensures keeps { OnOk result (RunsOn records.old records.new × KeepsSaved D.Disk records.old records.new disk.old disk.new × HasChanges records.new) }
-    ensures refused { IfErr result (λ e. NotChangedKnown D.Disk matrix.now (Some piece) change (place_of rid) member path.now e records.old records.new disk.old disk.new) }
+    ensures refused { IfErr result (λ e. (put : Put) → IsLaidPut change put → NotChangedKnown D.Disk matrix.now (Some piece) put (place_of rid) member path.now e records.old records.new disk.old disk.new) }
 {
     match change {
-        Change::Content(content) => set_own(
-            alloc, records, disk, matrix, rid, above, piece, member, path, content,
+        Change::Content(content, far) => set_own(
+            alloc, records, disk, matrix, rid, above, piece, member, path, content, far,
         ),
-        Change::Child { position, node } => plant_own(
-            alloc, records, disk, matrix, rid, above, piece, member, path, position, node,
-        ),
+        Change::Child { position, leaf } => {
+            let row = plant_own(
+                alloc, records, disk, matrix, rid, above, piece, member, path, position, leaf,
+            )?;
+            Ok(Changed { row, gone: None })
+        }
     }
 }
 
@@ -164,46 +186,56 @@ fn set_own<D: Disk>(
     member: u16,
     path: &[u32],
     content: Bytes,
-) -> Result<Proxies, StoreError>
+    far: Option<Far>,
+) -> Result<Changed, StoreError>
     requires runs { has_ended records.old ≡ false }
     requires valid { IsValidPiece piece }
     requires here { LeadsInside piece member path.now }
+    requires written { IsWrittenChange (change.Content content far) }
     ensures still { IsStill D.Disk disk.old disk.new }
-    ensures ok { IfOk result (λ row. ComesTidy D.Disk records.old records.new disk.old disk.new (ChangesKnown matrix.now (Some piece) (option_copied above.entry) (put.Content content) (place_of rid) member path.now row)) }
+    ensures ok { IfOk result (λ changed. (put : Put) → IsLaidPut (change.Content content far) put → ComesTidyWhere D.Disk records.old records.new disk.old disk.new (λ was. MayPutIn was put piece)
+        (ChangesKnown matrix.now (Some piece) (option_copied above.entry) put (place_of rid) member path.now changed.row (option_to_list changed.gone))) }
     ensures keeps { OnOk result (RunsOn records.old records.new × KeepsSaved D.Disk records.old records.new disk.old disk.new × HasChanges records.new) }
-    ensures refused { IfErr result (λ e. NotChangedKnown D.Disk matrix.now (Some piece) (put.Content content) (place_of rid) member path.now e records.old records.new disk.old disk.new) }
+    ensures refused { IfErr result (λ e. (put : Put) → IsLaidPut (change.Content content far) put → NotChangedKnown D.Disk matrix.now (Some piece) put (place_of rid) member path.now e records.old records.new disk.old disk.new) }
 {
+    let tree = tree_at(&piece, member, path);
+    let gone = tree.far;
     if !may_have(
-        node_at(&piece, member, path),
+        tree.node.name.as_slice(),
         content.as_slice(),
+        far,
         records.settings().k,
     ) {
         return Err(damaged(records, rid.page));
     }
-    let piece = set_content(alloc, piece, member, path, content);
-    put_grown(alloc, records, disk, matrix, rid, above, piece)
+    let piece = set_content(alloc, piece, member, path, content, far);
+    let row = put_grown(alloc, records, disk, matrix, rid, above, piece)?;
+    Ok(Changed { row, gone })
 }
 
-// The node that the path leads to in the piece.
-pub(crate) fn node_at<'a>(piece: &'a Piece, member: u16, path: &[u32]) -> &'a Node
+// The tree that the path leads to in the piece.
+pub(crate) fn tree_at<'a>(piece: &'a Piece, member: u16, path: &[u32]) -> &'a PieceTree
     requires piece { IsPiece piece.now }
     requires leads { LeadsInside piece.now member path.now }
-    ensures { IsNodeAt piece.now member path.now result.now }
+    ensures { IsTreeAt piece.now member path.now result.now }
 {
     match locate(piece, member, path) {
-        Located::Here { tree, .. } => &tree.node,
+        Located::Here { tree, .. } => tree,
         Located::Away { .. } | Located::Nowhere => unreachable!(),
     }
 }
 
-// The node doesn't outweigh `k` with this content.
-pub(crate) fn may_have(node: &Node, content: &[u8], k: u32) -> bool
-    requires some { 1 ≤ k }
+// A node of this name doesn't outweigh `k` with this content, near or far.
+pub(crate) fn may_have(name: &[u8], content: &[u8], far: Option<Far>, k: u32) -> bool
     requires few { k ≤ 256 }
-    ensures { IsTrue result ↔ (weight (record node.now { content = content.now }) ≤ k) }
+    requires written { IsNearWith content.now far × IsFarWith content.now far }
+    ensures { IsTrue result ↔ (weight_of (length name.now) (length_with (length content.now) far) ≤ k) }
 {
-    let most = (k as usize - 1) * 8;
-    node.name.len() <= most && content.len() <= most - node.name.len()
+    let content = match far {
+        None => content.len() as u32,
+        Some(far) => far.length,
+    };
+    name.len() <= 2048 && weight_of(name.len() as u32, content) <= k
 }
 
 // Puts a row of proxies in the place of the one by which the path left a record's piece; it answers the record's own proxy.
@@ -252,9 +284,10 @@ pub(crate) fn put_row<D: Disk>(
     requires valid { IsValidPiece piece }
     requires within { index < length piece.proxies }
     ensures still { IsStill D.Disk disk.old disk.new }
-    ensures ok { IfOk result (λ put. MayHaveRow piece row.now × ComesTidy D.Disk records.old records.new disk.old disk.new (IsPutAlone (place_of rid) (piece_with_row index row.now piece) put)) }
+    ensures ok { IfOk result (λ put. MayHaveRow piece row.now
+        × ComesTidyWhere D.Disk records.old records.new disk.old disk.new (λ was. MayName was piece.body.roots) (IsPutAlone (place_of rid) (piece_with_row index row.now piece) put)) }
     ensures keeps { OnOk result (RunsOn records.old records.new × KeepsSaved D.Disk records.old records.new disk.old disk.new × HasChanges records.new) }
-    ensures refused { IfErr result (λ e. NotStored D.Disk (λ was. piece_needs (piece_with_row index row.now piece)) (λ was. MayHaveRow piece row.now → HoldsNone was (place_of rid)) rid.page e records.old records.new disk.old disk.new) }
+    ensures refused { IfErr result (λ e. (page : ℕ) × NotStored D.Disk (λ was. put_needs (piece_with_row index row.now piece)) (λ was. MayHaveRow piece row.now → HoldsNone was (place_of rid)) page e records.old records.new disk.old disk.new) }
 {
     if !may_have_row(&piece, row) {
         return Err(damaged(records, rid.page));
@@ -262,7 +295,7 @@ pub(crate) fn put_row<D: Disk>(
     let Ok(piece) = replace_by_row(alloc, piece, index, row) else {
         return Err(StoreError::Memory);
     };
-    let proxy = update_piece(alloc, records, disk, rid, &piece)?;
+    let proxy = update_far(alloc, records, disk, rid, piece)?;
     let Ok(put) = Proxies::from_slice(alloc, &[proxy]) else {
         return Err(StoreError::Memory);
     };

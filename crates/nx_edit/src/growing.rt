@@ -7,10 +7,12 @@ ghost use Rattle.nx_matrix.specs.declared.rule.Rule.{Rule};
 ghost use Rattle.nx_records.specs.Records.{KeepsSaved, HasChanges, has_ended, settings_of};
 ghost use Rattle.nx_records.specs.Refusals.{RunsOn};
 ghost use Rattle.nx_piece.specs.Gapped.{gapped_weight};
-ghost use Rattle.nx_piece.specs.Valid.{IsPiece};
-ghost use Rattle.nx_hold.specs.Changes.{ComesTidy, place_of};
+ghost use Rattle.nx_piece.specs.Valid.{AreNear, IsPiece};
+ghost use Rattle.nx_hold.specs.Pieces.{MayName};
+ghost use Rattle.nx_hold.specs.Changes.{ComesTidyWhere, place_of};
 ghost use Rattle.nx_edit.specs.Growing.{NotGrown, PutsGrown};
 
+use crate::making::make_far;
 use crate::removing::damaged;
 use nx_divide::{divide_at, may_be_divided};
 use nx_hold::update_piece;
@@ -23,7 +25,7 @@ use std::alloc::Global;
 
 // Puts a piece that an edit made heavier in the place of its record, or the records of a split of it where it outweighs
 // K, and answers the proxies of what stands there then. `above` is the node above the interval. It speaks of intervals of
-// which one part at most may be too heavy, their own.
+// which one part at most may be too heavy, their own. No content stays in its item that is too long for that.
 pub(crate) fn put_grown<D: Disk>(
     alloc: Global,
     records: &mut Records,
@@ -36,10 +38,11 @@ pub(crate) fn put_grown<D: Disk>(
     requires runs { has_ended records.old ≡ false }
     requires piece { IsPiece piece }
     ensures still { IsStill D.Disk disk.old disk.new }
-    ensures ok { IfOk result (λ row. ComesTidy D.Disk records.old records.new disk.old disk.new (PutsGrown matrix.now (option_copied above.entry) piece (place_of rid) row)) }
+    ensures ok { IfOk result (λ row. ComesTidyWhere D.Disk records.old records.new disk.old disk.new (λ was. MayName was piece.body.roots) (PutsGrown matrix.now (option_copied above.entry) piece (place_of rid) row)) }
     ensures keeps { OnOk result (RunsOn records.old records.new × KeepsSaved D.Disk records.old records.new disk.old disk.new × HasChanges records.new) }
     ensures refused { IfErr result (λ e. NotGrown D.Disk piece (place_of rid) e records.old records.new disk.old disk.new) }
 {
+    let piece = make_far(alloc, records, disk, piece)?;
     if weight(&piece.body) > records.settings().k {
         put_heavy(alloc, records, disk, matrix, rid, above, piece)
     } else {
@@ -57,9 +60,10 @@ fn put_light<D: Disk>(
 ) -> Result<Proxies, StoreError>
     requires runs { has_ended records.old ≡ false }
     requires piece { IsPiece piece.now }
+    requires near { AreNear piece.now.body.roots }
     requires light { gapped_weight piece.now.body.roots ≤ (settings_of records.old).k }
     ensures still { IsStill D.Disk disk.old disk.new }
-    ensures ok { IfOk result (λ row. (rules : List Rule) (above : Option AnyNode) → ComesTidy D.Disk records.old records.new disk.old disk.new (PutsGrown rules above piece.now (place_of rid) row)) }
+    ensures ok { IfOk result (λ row. (rules : List Rule) (above : Option AnyNode) → ComesTidyWhere D.Disk records.old records.new disk.old disk.new (λ was. MayName was piece.now.body.roots) (PutsGrown rules above piece.now (place_of rid) row)) }
     ensures keeps { OnOk result (RunsOn records.old records.new × KeepsSaved D.Disk records.old records.new disk.old disk.new × HasChanges records.new) }
     ensures refused { IfErr result (λ e. NotGrown D.Disk piece.now (place_of rid) e records.old records.new disk.old disk.new) }
 {
@@ -82,9 +86,10 @@ fn put_heavy<D: Disk>(
 ) -> Result<Proxies, StoreError>
     requires runs { has_ended records.old ≡ false }
     requires piece { IsPiece piece }
+    requires near { AreNear piece.body.roots }
     requires heavy { (settings_of records.old).k < gapped_weight piece.body.roots }
     ensures still { IsStill D.Disk disk.old disk.new }
-    ensures ok { IfOk result (λ row. ComesTidy D.Disk records.old records.new disk.old disk.new (PutsGrown matrix.now (option_copied above.entry) piece (place_of rid) row)) }
+    ensures ok { IfOk result (λ row. ComesTidyWhere D.Disk records.old records.new disk.old disk.new (λ was. MayName was piece.body.roots) (PutsGrown matrix.now (option_copied above.entry) piece (place_of rid) row)) }
     ensures keeps { OnOk result (RunsOn records.old records.new × KeepsSaved D.Disk records.old records.new disk.old disk.new × HasChanges records.new) }
     ensures refused { IfErr result (λ e. NotGrown D.Disk piece (place_of rid) e records.old records.new disk.old disk.new) }
 {

@@ -1,24 +1,25 @@
 // A node put into an interval below a node of a record's own, among the interval's members.
-ghost use Rattle.std.specs.Prelude.{◌≡◌, ◌≤◌, Some, false, IfOk, IfErr, OnOk};
+ghost use Rattle.std.specs.Prelude.{◌≡◌, ◌≤◌, [], Some, false, IfOk, IfErr, OnOk};
 ghost use Rattle.std.specs.Option.{option_copied};
 ghost use Rattle.nx_host.specs.Still.{IsStill};
-ghost use Rattle.nx_weights.specs.Weight.{weight};
+ghost use Rattle.nx_piece.specs.PieceNode.{node_weight};
+ghost use Rattle.nx_layouts.specs.Layout.{LaidNode, in_record};
 ghost use Rattle.nx_records.specs.Records.{KeepsSaved, HasChanges, has_ended, settings_of};
 ghost use Rattle.nx_records.specs.Refusals.{RunsOn};
 ghost use Rattle.nx_piece.specs.Valid.{IsValidPiece};
-ghost use Rattle.nx_hold.specs.Changes.{ComesTidy, place_of};
+ghost use Rattle.nx_hold.specs.Changes.{ComesTidyWhere, place_of};
 ghost use Rattle.nx_matrix.specs.declared.rule.Entry.TheVariants as ask;
-ghost use Rattle.nx_edit.specs.declared.changing.Change.TheVariants as put;
-ghost use Rattle.nx_edit.specs.Changing.{ChangesKnown, NotChangedKnown};
+ghost use Rattle.nx_edit.specs.Changing as put;
+ghost use Rattle.nx_edit.specs.Changing.{ChangesKnown, IsWrittenNode, MayPutIn, NotChangedKnown};
 ghost use Rattle.nx_edit.specs.Planting.{IsWithin, IsAskedThere};
 
-use crate::changing::{node_at, put_row};
+use crate::changing::{put_row, tree_at};
 use crate::growing::put_grown;
 use crate::removing::damaged;
 use nx_hold::read_piece;
 use nx_host::Disk;
 use nx_matrix::Matrix;
-use nx_piece::{Piece, Proxies, Proxy};
+use nx_piece::{Piece, PieceTree, Proxies, Proxy};
 use nx_piece_edits::plant_root;
 use nx_records::{Records, Rid, StoreError};
 use nx_tree::Node;
@@ -26,7 +27,7 @@ use std::alloc::Global;
 
 // Puts the node below the one that the path leads to, a node of the record's own, whose piece this is, into the interval
 // of a proxy, behind so many of its members. It answers the proxies of what comes in the place of the upper interval.
-// `above` is the node above that.
+// `above` is the node above that. The piece is read again once the record below is put.
 pub(crate) fn join_interval<D: Disk>(
     alloc: Global,
     records: &mut Records,
@@ -41,17 +42,19 @@ pub(crate) fn join_interval<D: Disk>(
     proxy: Proxy,
     index: u32,
     before: u16,
-    node: Node,
+    leaf: PieceTree,
 ) -> Result<Proxies, StoreError>
     requires runs { has_ended records.old ≡ false }
     requires valid { IsValidPiece piece }
     requires within { IsWithin piece member path.now position proxy index before }
-    requires light { weight node ≤ (settings_of records.old).k }
-    requires asked { IsAskedThere matrix.now piece member path.now node ask.Free }
+    requires light { node_weight leaf.node ≤ (settings_of records.old).k }
+    requires written { IsWrittenNode leaf.node }
+    requires asked { IsAskedThere matrix.now piece member path.now leaf.node.node ask.Free }
     ensures still { IsStill D.Disk disk.old disk.new }
-    ensures ok { IfOk result (λ row. ComesTidy D.Disk records.old records.new disk.old disk.new (ChangesKnown matrix.now (Some piece) (option_copied above.entry) (put.Child position node) (place_of rid) member path.now row)) }
+    ensures ok { IfOk result (λ row. (node : LaidNode) → leaf.node ≡ in_record node → ComesTidyWhere D.Disk records.old records.new disk.old disk.new (λ was. MayPutIn was (put.Child position node) piece)
+        (ChangesKnown matrix.now (Some piece) (option_copied above.entry) (put.Child position node) (place_of rid) member path.now row [])) }
     ensures keeps { OnOk result (RunsOn records.old records.new × KeepsSaved D.Disk records.old records.new disk.old disk.new × HasChanges records.new) }
-    ensures refused { IfErr result (λ e. NotChangedKnown D.Disk matrix.now (Some piece) (put.Child position node) (place_of rid) member path.now e records.old records.new disk.old disk.new) }
+    ensures refused { IfErr result (λ e. (node : LaidNode) → leaf.node ≡ in_record node → NotChangedKnown D.Disk matrix.now (Some piece) (put.Child position node) (place_of rid) member path.now e records.old records.new disk.old disk.new) }
 {
     let below = Rid {
         page: proxy.page,
@@ -61,10 +64,14 @@ pub(crate) fn join_interval<D: Disk>(
     if inner.body.roots.len() < usize::from(before) {
         return Err(damaged(records, below.page));
     }
-    let Ok(inner) = plant_root(alloc, inner, before, node) else {
+    let Ok(inner) = plant_root(alloc, inner, before, leaf.node, leaf.far) else {
         return Err(StoreError::Memory);
     };
-    let parent = node_at(&piece, member, path);
+    let parent = &tree_at(&piece, member, path).node;
     let row = put_grown(alloc, records, disk, matrix, below, Some(parent), inner)?;
-    put_row(alloc, records, disk, rid, piece, index, row.as_slice())
+    let upper = read_piece(alloc, records, disk, rid)?;
+    if upper.proxies.len() <= index as usize {
+        return Err(damaged(records, rid.page));
+    }
+    put_row(alloc, records, disk, rid, upper, index, row.as_slice())
 }

@@ -7,10 +7,13 @@
 mod changing;
 mod deleting;
 mod error;
+mod freeing;
 mod growing;
 mod inserting;
 mod joining;
 mod keeping;
+pub mod laws;
+mod making;
 mod parting;
 mod placing;
 mod planting;

@@ -1,26 +1,30 @@
 // A node put below a node of a record's own, into an interval that it divides.
-ghost use Rattle.std.specs.Prelude.{◌≡◌, ◌≢◌, ◌<◌, ◌≤◌, Some, false, length, IfOk, IfErr, OnOk};
+ghost use Rattle.std.specs.Prelude.{◌≡◌, ◌≢◌, ◌<◌, ◌≤◌, [], Some, false, length, IfOk, IfErr, OnOk};
 ghost use Rattle.std.specs.Option.{option_copied};
 ghost use Rattle.nx_host.specs.Still.{IsStill};
-ghost use Rattle.nx_weights.specs.Weight.{weight};
+ghost use Rattle.nx_piece.specs.PieceNode.{node_weight};
+ghost use Rattle.nx_piece.specs.Gapped.{End, Grow};
+ghost use Rattle.nx_layouts.specs.Layout.{LaidNode, in_record};
+ghost use Rattle.nx_hold.specs.Pieces.{MayName};
 ghost use Rattle.nx_records.specs.Records.{KeepsSaved, HasChanges, has_ended, settings_of};
 ghost use Rattle.nx_records.specs.Refusals.{RunsOn, NotStored};
 ghost use Rattle.nx_piece.specs.Valid.{IsPiece, IsValidPiece};
-ghost use Rattle.nx_hold.specs.Changes.{ComesTidy, piece_needs, place_of};
+ghost use Rattle.nx_hold.specs.Changes.{ComesTidy, ComesTidyWhere, piece_needs, place_of};
 ghost use Rattle.nx_matrix.specs.declared.rule.Entry.TheVariants as ask;
-ghost use Rattle.nx_edit.specs.declared.changing.Change.TheVariants as put;
-ghost use Rattle.nx_edit.specs.Changing.{ChangesKnown, NotChangedKnown};
+ghost use Rattle.nx_edit.specs.Changing as put;
+ghost use Rattle.nx_edit.specs.Changing.{ChangesKnown, IsWrittenNode, MayPutIn, NotChangedKnown};
 ghost use Rattle.nx_edit.specs.Parting.{HavePartRoots, IsRecordParted, IsNodePlaced, IsPlacedAlone, IsPlacedBetween, NotParted, alone_piece};
 ghost use Rattle.nx_edit.specs.Planting.{IsWithin, IsAskedThere};
 
 use crate::growing::put_grown;
+use crate::making::make_far;
 use crate::planting::piece_alone;
 use crate::removing::damaged;
 use nx_hold::{add_piece, read_piece, update_piece};
 use nx_host::Disk;
 use nx_lists::NoMemory;
 use nx_matrix::{Entry, Matrix};
-use nx_piece::{Piece, Proxies, Proxy};
+use nx_piece::{Piece, PieceTree, Proxies, Proxy};
 use nx_piece_edits::{divide_roots, plant_node, replace_by_row};
 use nx_records::{Records, Rid, StoreError};
 use nx_tree::Node;
@@ -44,18 +48,20 @@ pub(crate) fn divide_interval<D: Disk>(
     index: u32,
     before: u16,
     entry: Entry,
-    node: Node,
+    leaf: PieceTree,
 ) -> Result<Proxies, StoreError>
     requires runs { has_ended records.old ≡ false }
     requires valid { IsValidPiece piece }
     requires within { IsWithin piece member path.now position proxy index before }
-    requires light { weight node ≤ (settings_of records.old).k }
-    requires asked { IsAskedThere matrix.now piece member path.now node entry }
+    requires light { node_weight leaf.node ≤ (settings_of records.old).k }
+    requires written { IsWrittenNode leaf.node }
+    requires asked { IsAskedThere matrix.now piece member path.now leaf.node.node entry }
     requires bound { entry ≢ ask.Free }
     ensures still { IsStill D.Disk disk.old disk.new }
-    ensures ok { IfOk result (λ row. ComesTidy D.Disk records.old records.new disk.old disk.new (ChangesKnown matrix.now (Some piece) (option_copied above.entry) (put.Child position node) (place_of rid) member path.now row)) }
+    ensures ok { IfOk result (λ row. (node : LaidNode) → leaf.node ≡ in_record node → ComesTidyWhere D.Disk records.old records.new disk.old disk.new (λ was. MayPutIn was (put.Child position node) piece)
+        (ChangesKnown matrix.now (Some piece) (option_copied above.entry) (put.Child position node) (place_of rid) member path.now row [])) }
     ensures keeps { OnOk result (RunsOn records.old records.new × KeepsSaved D.Disk records.old records.new disk.old disk.new × HasChanges records.new) }
-    ensures refused { IfErr result (λ e. NotChangedKnown D.Disk matrix.now (Some piece) (put.Child position node) (place_of rid) member path.now e records.old records.new disk.old disk.new) }
+    ensures refused { IfErr result (λ e. (node : LaidNode) → leaf.node ≡ in_record node → NotChangedKnown D.Disk matrix.now (Some piece) (put.Child position node) (place_of rid) member path.now e records.old records.new disk.old disk.new) }
 {
     if piece.proxies.len() > 524_286 {
         return Err(damaged(records, rid.page));
@@ -67,7 +73,7 @@ pub(crate) fn divide_interval<D: Disk>(
     let (front, back) = part_record(alloc, records, disk, below, before)?;
     let piece = place_node(
         alloc, records, disk, piece, member, path, position, index, before, front, back, entry,
-        node,
+        leaf,
     )?;
     put_grown(alloc, records, disk, matrix, rid, above, piece)
 }
@@ -93,7 +99,8 @@ fn part_record<D: Disk>(
     if inner.body.roots.len() <= usize::from(before) {
         return Err(damaged(records, rid.page));
     }
-    let Ok((first, second)) = divide_roots(alloc, inner, before) else {
+    let made = make_far(alloc, records, disk, inner)?;
+    let Ok((first, second)) = divide_roots(alloc, made, before) else {
         return Err(StoreError::Memory);
     };
     let front = update_piece(alloc, records, disk, rid, &first)?;
@@ -116,25 +123,26 @@ fn place_node<D: Disk>(
     front: Proxy,
     back: Proxy,
     entry: Entry,
-    node: Node,
+    leaf: PieceTree,
 ) -> Result<Piece, StoreError>
     requires runs { has_ended records.old ≡ false }
     requires valid { IsValidPiece piece }
     requires few { length piece.proxies ≤ 524286 }
     requires within { (proxy : Proxy) × IsWithin piece member path.now position proxy index before }
     requires ranged { HavePartRoots before front back }
-    requires light { weight node ≤ 256 }
+    requires light { node_weight leaf.node ≤ 256 }
+    requires written { IsWrittenNode leaf.node }
     ensures still { IsStill D.Disk disk.old disk.new }
     ensures piece { IfOk result (λ placed. IsPiece placed) }
-    ensures ok { IfOk result (λ placed. ComesTidy D.Disk records.old records.new disk.old disk.new (IsNodePlaced entry piece member path.now position index front back node placed)) }
+    ensures ok { IfOk result (λ placed. ComesTidyWhere D.Disk records.old records.new disk.old disk.new (λ was. MayName was (Grow leaf.node End End)) (IsNodePlaced entry piece member path.now position index front back leaf.node placed)) }
     ensures keeps { OnOk result (RunsOn records.old records.new × KeepsSaved D.Disk records.old records.new disk.old disk.new) }
-    ensures refused { IfErr result (λ e. NotStored D.Disk (λ was. piece_needs (alone_piece node)) (λ was. ⊥) 0 e records.old records.new disk.old disk.new) }
+    ensures refused { IfErr result (λ e. NotStored D.Disk (λ was. piece_needs (alone_piece leaf.node)) (λ was. ⊥) 0 e records.old records.new disk.old disk.new) }
 {
     match entry {
-        Entry::Standalone => place_alone(alloc, records, disk, piece, index, front, back, node),
+        Entry::Standalone => place_alone(alloc, records, disk, piece, index, front, back, leaf),
         Entry::Cluster | Entry::Free => {
             let Ok(placed) = place_between(
-                alloc, piece, member, path, position, index, before, front, back, node,
+                alloc, piece, member, path, position, index, before, front, back, leaf,
             ) else {
                 return Err(StoreError::Memory);
             };
@@ -152,21 +160,22 @@ fn place_alone<D: Disk>(
     index: u32,
     front: Proxy,
     back: Proxy,
-    node: Node,
+    leaf: PieceTree,
 ) -> Result<Piece, StoreError>
     requires runs { has_ended records.old ≡ false }
     requires valid { IsValidPiece piece }
     requires few { length piece.proxies ≤ 524286 }
     requires within { index < length piece.proxies }
     requires ranged { (1 ≤ front.roots) × (front.roots ≤ 256) × (1 ≤ back.roots) × (back.roots ≤ 256) }
-    requires light { weight node ≤ 256 }
+    requires light { node_weight leaf.node ≤ 256 }
+    requires written { IsWrittenNode leaf.node }
     ensures still { IsStill D.Disk disk.old disk.new }
     ensures piece { IfOk result (λ placed. IsPiece placed) }
-    ensures ok { IfOk result (λ placed. ComesTidy D.Disk records.old records.new disk.old disk.new (IsPlacedAlone piece index front back node placed)) }
+    ensures ok { IfOk result (λ placed. ComesTidyWhere D.Disk records.old records.new disk.old disk.new (λ was. MayName was (Grow leaf.node End End)) (IsPlacedAlone piece index front back leaf.node placed)) }
     ensures keeps { OnOk result (RunsOn records.old records.new × KeepsSaved D.Disk records.old records.new disk.old disk.new) }
-    ensures refused { IfErr result (λ e. NotStored D.Disk (λ was. piece_needs (alone_piece node)) (λ was. ⊥) 0 e records.old records.new disk.old disk.new) }
+    ensures refused { IfErr result (λ e. NotStored D.Disk (λ was. piece_needs (alone_piece leaf.node)) (λ was. ⊥) 0 e records.old records.new disk.old disk.new) }
 {
-    let Ok(alone) = piece_alone(alloc, node) else {
+    let Ok(alone) = piece_alone(alloc, leaf) else {
         return Err(StoreError::Memory);
     };
     let own = add_piece(alloc, records, disk, &alone)?;
@@ -187,16 +196,17 @@ fn place_between(
     before: u16,
     front: Proxy,
     back: Proxy,
-    node: Node,
+    leaf: PieceTree,
 ) -> Result<Piece, NoMemory>
     requires valid { IsValidPiece piece }
     requires few { length piece.proxies ≤ 524286 }
     requires within { (proxy : Proxy) × IsWithin piece member path.now position proxy index before }
     requires ranged { HavePartRoots before front back }
-    requires light { weight node ≤ 256 }
+    requires light { node_weight leaf.node ≤ 256 }
+    requires written { IsWrittenNode leaf.node }
     ensures piece { IfOk result (λ placed. IsPiece placed) }
-    ensures ok { IfOk result (λ placed. IsPlacedBetween piece member path.now position index front back node placed) }
+    ensures ok { IfOk result (λ placed. IsPlacedBetween piece member path.now position index front back leaf.node placed) }
 {
     let two = replace_by_row(alloc, piece, index, &[front, back])?;
-    plant_node(alloc, two, member, path, position, node)
+    plant_node(alloc, two, member, path, position, leaf.node, leaf.far)
 }

@@ -17,7 +17,7 @@ use crate::EditError;
 use crate::error::seen_error;
 use nx_hold::DocEntry;
 use nx_host::Disk;
-use nx_nav::{NavError, Route, Routed, Shown, get, get_route};
+use nx_nav::{NavError, Outlined, Route, Routed, get_route, outline};
 use nx_records::{Records, Rid};
 use nx_tree::{Kind, Node};
 use std::alloc::Global;
@@ -37,7 +37,7 @@ pub(crate) fn check_place<D: Disk>(
     ensures route { IfOk result (λ route. IsRoute D.Disk records.old disk.old (place_of entry.root) parent.now route) }
     ensures ok { OnOk result (LeavesRecords records.old records.new × OfEach D.Disk records.old disk.old (place_of entry.root)
         (λ document. (t : OrderedTree) × (at (tree_of document) parent.now ≡ Some t) × (place_refusal node.now position t ≡ None))) }
-    ensures refused { IfErr result (λ e. NotEdited D.Disk is_of_insertion (place_fault node.now position parent.now) (λ document. 0) entry e records.old records.new disk.old disk.new) }
+    ensures refused { IfErr result (λ e. NotEdited D.Disk is_of_insertion (place_fault node.now position parent.now) (λ document layout. 0) entry e records.old records.new disk.old disk.new) }
 {
     let root = entry.root;
     let asked = neighbour(node.kind, position);
@@ -70,11 +70,11 @@ pub(crate) fn check_place<D: Disk>(
 }
 
 // No node of this kind stands at the position below the node that is shown.
-fn is_outside(shown: &Shown, kind: Kind, position: u32) -> bool
-    ensures is { result ≡ (not (has_children shown.now.node.kind) || (is_doc shown.now.node.kind && not (is_instruction kind)) || nat_lt shown.now.children position) }
+fn is_outside(shown: &Outlined, kind: Kind, position: u32) -> bool
+    ensures is { result ≡ (not (has_children shown.now.kind) || (is_doc shown.now.kind && not (is_instruction kind)) || nat_lt shown.now.children position) }
     ensures within { result ≡ false → position ≤ shown.now.children }
 {
-    let may_hold = match shown.node.kind {
+    let may_hold = match shown.kind {
         Kind::Doc => matches!(kind, Kind::Instruction),
         Kind::Element => true,
         _ => false,
@@ -150,7 +150,7 @@ fn is_repeated<D: Disk>(
     Ok(false)
 }
 
-// The node at a position below the node at a path.
+// The node at a position below the node at a path, without its content.
 fn child_at<D: Disk>(
     alloc: Global,
     records: &mut Records,
@@ -158,10 +158,10 @@ fn child_at<D: Disk>(
     root: Rid,
     parent: &[u32],
     position: u32,
-) -> Result<Node, NavError>
+) -> Result<Outlined, NavError>
     requires { has_ended records.old ≡ false }
     ensures still { IsStill D.Disk disk.old disk.new }
-    ensures ok { IfOk result (λ node. LeavesRecords records.old records.new × OfEach D.Disk records.old disk.old (place_of root) (λ document. IsChild (tree_of document) parent.now position node)) }
+    ensures ok { IfOk result (λ seen. LeavesRecords records.old records.new × OfEach D.Disk records.old disk.old (place_of root) (λ document. IsChild (tree_of document) parent.now position seen)) }
     ensures refused { IfErr result (λ e. IsRefused D.Disk (OfEach D.Disk records.old disk.old (place_of root) (λ document. at (tree_of document) (parent.now ++ position ∷ []) ≡ None)) ⊥
         (HoldsNoDocument D.Disk records.old disk.old (place_of root)) e records.old records.new disk.old disk.new) }
 {
@@ -172,8 +172,7 @@ fn child_at<D: Disk>(
     let Ok(()) = path.push(position) else {
         return Err(NavError::Memory);
     };
-    let shown = get(alloc, records, disk, root, path.as_slice())?;
-    Ok(shown.node)
+    outline(alloc, records, disk, root, path.as_slice())
 }
 
 // A node of this kind is an attribute.

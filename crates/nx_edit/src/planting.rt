@@ -2,19 +2,20 @@
 ghost use Rattle.std.specs.Prelude.{◌≡◌, ◌≢◌, ◌≤◌, ℕ, [], Some, false, IfOk, IfErr, OnOk};
 ghost use Rattle.std.specs.Option.{option_copied};
 ghost use Rattle.nx_host.specs.Still.{IsStill};
-ghost use Rattle.nx_weights.specs.Weight.{weight};
+ghost use Rattle.nx_piece.specs.PieceNode.{node_weight};
+ghost use Rattle.nx_layouts.specs.Layout.{LaidNode, in_record};
 ghost use Rattle.nx_records.specs.Records.{KeepsSaved, HasChanges, has_ended, settings_of};
 ghost use Rattle.nx_records.specs.Refusals.{RunsOn};
 ghost use Rattle.nx_piece.specs.Gapped.{Grow, End};
 ghost use Rattle.nx_piece_edits.specs.Setting.{LeadsInside};
 ghost use Rattle.nx_piece.specs.Valid.{IsValidPiece};
-ghost use Rattle.nx_hold.specs.Changes.{ComesTidy, place_of};
+ghost use Rattle.nx_hold.specs.Changes.{ComesTidyWhere, place_of};
 ghost use Rattle.nx_matrix.specs.declared.rule.Entry.TheVariants as ask;
-ghost use Rattle.nx_edit.specs.declared.changing.Change.TheVariants as put;
-ghost use Rattle.nx_edit.specs.Changing.{ChangesKnown, NotChangedKnown};
+ghost use Rattle.nx_edit.specs.Changing as put;
+ghost use Rattle.nx_edit.specs.Changing.{ChangesKnown, IsWrittenNode, MayPutIn, NotChangedKnown};
 ghost use Rattle.nx_edit.specs.Planting.{IsBetweenChildren, IsAskedThere};
 
-use crate::changing::{may_have, node_at};
+use crate::changing::{may_have, tree_at};
 use crate::growing::put_grown;
 use crate::joining::join_interval;
 use crate::parting::divide_interval;
@@ -42,30 +43,33 @@ pub(crate) fn plant_own<D: Disk>(
     member: u16,
     path: &[u32],
     position: u32,
-    node: Node,
+    leaf: PieceTree,
 ) -> Result<Proxies, StoreError>
     requires runs { has_ended records.old ≡ false }
     requires valid { IsValidPiece piece }
     requires here { LeadsInside piece member path.now }
+    requires written { IsWrittenNode leaf.node }
     ensures still { IsStill D.Disk disk.old disk.new }
-    ensures ok { IfOk result (λ row. ComesTidy D.Disk records.old records.new disk.old disk.new (ChangesKnown matrix.now (Some piece) (option_copied above.entry) (put.Child position node) (place_of rid) member path.now row)) }
+    ensures ok { IfOk result (λ row. (node : LaidNode) → leaf.node ≡ in_record node → ComesTidyWhere D.Disk records.old records.new disk.old disk.new (λ was. MayPutIn was (put.Child position node) piece)
+        (ChangesKnown matrix.now (Some piece) (option_copied above.entry) (put.Child position node) (place_of rid) member path.now row [])) }
     ensures keeps { OnOk result (RunsOn records.old records.new × KeepsSaved D.Disk records.old records.new disk.old disk.new × HasChanges records.new) }
-    ensures refused { IfErr result (λ e. NotChangedKnown D.Disk matrix.now (Some piece) (put.Child position node) (place_of rid) member path.now e records.old records.new disk.old disk.new) }
+    ensures refused { IfErr result (λ e. (node : LaidNode) → leaf.node ≡ in_record node → NotChangedKnown D.Disk matrix.now (Some piece) (put.Child position node) (place_of rid) member path.now e records.old records.new disk.old disk.new) }
 {
-    if !may_have(&node, node.content.as_slice(), records.settings().k) {
+    let (name, content) = (leaf.node.name.as_slice(), leaf.node.content.as_slice());
+    if !may_have(name, content, leaf.far, records.settings().k) {
         return Err(damaged(records, rid.page));
     }
-    let entry = matrix.entry(node_at(&piece, member, path), &node);
+    let entry = matrix.entry(&tree_at(&piece, member, path).node, &leaf.node);
     match fall_at(&piece, member, path, position) {
         Fall::Nowhere => Err(damaged(records, rid.page)),
         Fall::Between { index } => match entry {
             Entry::Standalone => plant_alone(
                 alloc, records, disk, matrix, rid, above, piece, member, path, position, index,
-                node,
+                leaf,
             ),
             Entry::Cluster | Entry::Free => plant_beside(
                 alloc, records, disk, matrix, rid, above, piece, member, path, position, entry,
-                node,
+                leaf,
             ),
         },
         Fall::Inside {
@@ -75,11 +79,11 @@ pub(crate) fn plant_own<D: Disk>(
         } => match entry {
             Entry::Free => join_interval(
                 alloc, records, disk, matrix, rid, above, piece, member, path, position, proxy,
-                index, before, node,
+                index, before, leaf,
             ),
             Entry::Standalone | Entry::Cluster => divide_interval(
                 alloc, records, disk, matrix, rid, above, piece, member, path, position, proxy,
-                index, before, entry, node,
+                index, before, entry, leaf,
             ),
         },
     }
@@ -99,22 +103,24 @@ fn plant_alone<D: Disk>(
     path: &[u32],
     position: u32,
     index: u32,
-    node: Node,
+    leaf: PieceTree,
 ) -> Result<Proxies, StoreError>
     requires runs { has_ended records.old ≡ false }
     requires valid { IsValidPiece piece }
     requires between { IsBetweenChildren piece member path.now position index }
-    requires light { weight node ≤ (settings_of records.old).k }
-    requires asked { IsAskedThere matrix.now piece member path.now node ask.Standalone }
+    requires light { node_weight leaf.node ≤ (settings_of records.old).k }
+    requires written { IsWrittenNode leaf.node }
+    requires asked { IsAskedThere matrix.now piece member path.now leaf.node.node ask.Standalone }
     ensures still { IsStill D.Disk disk.old disk.new }
-    ensures ok { IfOk result (λ row. ComesTidy D.Disk records.old records.new disk.old disk.new (ChangesKnown matrix.now (Some piece) (option_copied above.entry) (put.Child position node) (place_of rid) member path.now row)) }
+    ensures ok { IfOk result (λ row. (node : LaidNode) → leaf.node ≡ in_record node → ComesTidyWhere D.Disk records.old records.new disk.old disk.new (λ was. MayPutIn was (put.Child position node) piece)
+        (ChangesKnown matrix.now (Some piece) (option_copied above.entry) (put.Child position node) (place_of rid) member path.now row [])) }
     ensures keeps { OnOk result (RunsOn records.old records.new × KeepsSaved D.Disk records.old records.new disk.old disk.new × HasChanges records.new) }
-    ensures refused { IfErr result (λ e. NotChangedKnown D.Disk matrix.now (Some piece) (put.Child position node) (place_of rid) member path.now e records.old records.new disk.old disk.new) }
+    ensures refused { IfErr result (λ e. (node : LaidNode) → leaf.node ≡ in_record node → NotChangedKnown D.Disk matrix.now (Some piece) (put.Child position node) (place_of rid) member path.now e records.old records.new disk.old disk.new) }
 {
     if piece.proxies.len() >= 524_288 {
         return Err(damaged(records, rid.page));
     }
-    let Ok(alone) = piece_alone(alloc, node) else {
+    let Ok(alone) = piece_alone(alloc, leaf) else {
         return Err(StoreError::Memory);
     };
     let proxy = add_piece(alloc, records, disk, &alone)?;
@@ -137,32 +143,36 @@ fn plant_beside<D: Disk>(
     path: &[u32],
     position: u32,
     entry: Entry,
-    node: Node,
+    leaf: PieceTree,
 ) -> Result<Proxies, StoreError>
     requires runs { has_ended records.old ≡ false }
     requires valid { IsValidPiece piece }
     requires between { (index : ℕ) × IsBetweenChildren piece member path.now position index }
-    requires light { weight node ≤ (settings_of records.old).k }
-    requires asked { IsAskedThere matrix.now piece member path.now node entry }
+    requires light { node_weight leaf.node ≤ (settings_of records.old).k }
+    requires written { IsWrittenNode leaf.node }
+    requires asked { IsAskedThere matrix.now piece member path.now leaf.node.node entry }
     requires beside { entry ≢ ask.Standalone }
     ensures still { IsStill D.Disk disk.old disk.new }
-    ensures ok { IfOk result (λ row. ComesTidy D.Disk records.old records.new disk.old disk.new (ChangesKnown matrix.now (Some piece) (option_copied above.entry) (put.Child position node) (place_of rid) member path.now row)) }
+    ensures ok { IfOk result (λ row. (node : LaidNode) → leaf.node ≡ in_record node → ComesTidyWhere D.Disk records.old records.new disk.old disk.new (λ was. MayPutIn was (put.Child position node) piece)
+        (ChangesKnown matrix.now (Some piece) (option_copied above.entry) (put.Child position node) (place_of rid) member path.now row [])) }
     ensures keeps { OnOk result (RunsOn records.old records.new × KeepsSaved D.Disk records.old records.new disk.old disk.new × HasChanges records.new) }
-    ensures refused { IfErr result (λ e. NotChangedKnown D.Disk matrix.now (Some piece) (put.Child position node) (place_of rid) member path.now e records.old records.new disk.old disk.new) }
+    ensures refused { IfErr result (λ e. (node : LaidNode) → leaf.node ≡ in_record node → NotChangedKnown D.Disk matrix.now (Some piece) (put.Child position node) (place_of rid) member path.now e records.old records.new disk.old disk.new) }
 {
-    let Ok(piece) = plant_node(alloc, piece, member, path, position, node) else {
+    let Ok(piece) = plant_node(alloc, piece, member, path, position, leaf.node, leaf.far) else {
         return Err(StoreError::Memory);
     };
     put_grown(alloc, records, disk, matrix, rid, above, piece)
 }
 
 // A piece of one node.
-pub(crate) fn piece_alone(alloc: Global, node: Node) -> Result<Piece, NoMemory>
-    ensures { IfOk result (λ piece. (piece.body.roots ≡ Grow node End End) × (piece.proxies ≡ [])) }
+pub(crate) fn piece_alone(alloc: Global, leaf: PieceTree) -> Result<Piece, NoMemory>
+    ensures { IfOk result (λ piece. (piece.body.roots ≡ Grow leaf.node End End) × (piece.proxies ≡ [])) }
 {
+    let PieceTree { node, far, .. } = leaf;
     let mut roots = PieceTrees::new(alloc);
     roots.push(PieceTree {
         node,
+        far,
         children: Items::new(alloc),
     })?;
     Ok(Piece {

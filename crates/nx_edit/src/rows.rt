@@ -1,25 +1,28 @@
 // What comes in the place of an interval below which a tree is taken away.
-ghost use Rattle.std.specs.Prelude.{◌≡◌, ◌<◌, ◌≤◌, ℕ, [], ◌∷◌, Some, false, length, IfOk, IfErr, OnOk};
+ghost use Rattle.std.specs.Prelude.{◌≡◌, ◌<◌, ◌≤◌, ℕ, List as Elements, [], ◌∷◌, ◌++◌, Some, false, length, IfOk, IfErr, OnOk};
 ghost use Rattle.std.specs.Option.{option_to_list};
 ghost use Rattle.nx_host.specs.Still.{IsStill};
 ghost use Rattle.nx_records.specs.Records.{KeepsSaved, HasChanges, has_ended};
 ghost use Rattle.nx_records.specs.Refusals.{RunsOn, NotStored};
+ghost use Rattle.nx_piece.specs.declared.piece.Far.{Far};
 ghost use Rattle.nx_piece.specs.Gapped.{GappedTree, gapped_width};
 ghost use Rattle.nx_piece.specs.Locate.{Inside, reached_in};
 ghost use Rattle.nx_piece.specs.Valid.{HaveRoots, IsValidPiece};
-ghost use Rattle.nx_hold.specs.Pieces.{HoldsNone};
-ghost use Rattle.nx_hold.specs.Changes.{ComesTidy, piece_needs, place_of};
+ghost use Rattle.nx_hold.specs.Pieces.{HoldsNone, MayName};
+ghost use Rattle.nx_hold.specs.Changes.{ComesTidy, ComesTidyWhere, place_of};
 ghost use Rattle.nx_nav.specs.Route.{EndsInside};
-ghost use Rattle.nx_edit.specs.Passing.{NotPassed};
+ghost use Rattle.nx_edit.specs.Passing.{NotPassed, put_needs};
 ghost use Rattle.nx_edit.specs.Rows.{DeletesAlong, DeletesIn, IsRestPut, NotDeletedAlong, NotDeletedIn, PassesLeft, with_left};
 
+use crate::freeing::push_fars;
 use crate::keeping::{is_left_same, own_proxy};
+use crate::making::update_far;
 use crate::removing::{damaged, remove_rows};
-use nx_hold::{read_piece, remove_piece, update_piece};
+use nx_hold::{read_piece, remove_piece};
 use nx_host::Disk;
 use nx_nav::{PassedRecord, Route};
-use nx_piece::{Piece, Proxy, count_nodes};
-use nx_piece_edits::{remove_proxy, remove_tree, replace_proxy};
+use nx_piece::{Far, Piece, Proxy, count_nodes};
+use nx_piece_edits::{Removed, remove_proxy, remove_tree, replace_proxy};
 use nx_records::{Records, Rid, StoreError};
 use std::alloc::Global;
 
@@ -40,12 +43,13 @@ pub(crate) fn delete_at<D: Disk>(
     path: &[u32],
     route: Route,
     limit: u32,
+    gone: &mut Vec<Far>,
 ) -> Result<Taken, StoreError>
     requires runs { has_ended records.old ≡ false }
     requires ends { EndsInside 0 path.now route.passed.items route.last }
     ensures still { IsStill D.Disk disk.old disk.new }
     ensures few { IfOk result (λ taken. taken.gone ≤ limit) }
-    ensures ok { IfOk result (λ taken. ComesTidy D.Disk records.old records.new disk.old disk.new (DeletesAlong route.passed.items route.last (place_of root) 0 path.now limit taken.gone (option_to_list taken.left))) }
+    ensures ok { IfOk result (λ taken. (fars : Elements Far) × (gone.new.items ≡ gone.old.items ++ fars) × DeletesAlong D.Disk records.old records.new disk.old disk.new route.passed.items route.last (place_of root) 0 path.now limit taken.gone (option_to_list taken.left) fars) }
     ensures keeps { OnOk result (RunsOn records.old records.new × KeepsSaved D.Disk records.old records.new disk.old disk.new × HasChanges records.new) }
     ensures refused { IfErr result (λ e. NotDeletedAlong D.Disk route.passed.items route.last (place_of root) 0 path.now limit e records.old records.new disk.old disk.new) }
 {
@@ -60,6 +64,7 @@ pub(crate) fn delete_at<D: Disk>(
         passed.as_slice(),
         last,
         limit,
+        gone,
     )
 }
 
@@ -77,18 +82,19 @@ fn delete_in<D: Disk>(
     passed: &[PassedRecord],
     last: Piece,
     limit: u32,
+    gone: &mut Vec<Far>,
 ) -> Result<Taken, StoreError>
     requires runs { has_ended records.old ≡ false }
     requires ends { EndsInside member path.now passed.now last }
     ensures still { IsStill D.Disk disk.old disk.new }
     ensures few { IfOk result (λ taken. taken.gone ≤ limit) }
     ensures ranged { IfOk result (λ taken. HaveRoots (option_to_list taken.left)) }
-    ensures ok { IfOk result (λ taken. ComesTidy D.Disk records.old records.new disk.old disk.new (DeletesAlong passed.now last (place_of rid) member path.now limit taken.gone (option_to_list taken.left))) }
+    ensures ok { IfOk result (λ taken. (fars : Elements Far) × (gone.new.items ≡ gone.old.items ++ fars) × DeletesAlong D.Disk records.old records.new disk.old disk.new passed.now last (place_of rid) member path.now limit taken.gone (option_to_list taken.left) fars) }
     ensures keeps { OnOk result (RunsOn records.old records.new × KeepsSaved D.Disk records.old records.new disk.old disk.new × HasChanges records.new) }
     ensures refused { IfErr result (λ e. NotDeletedAlong D.Disk passed.now last (place_of rid) member path.now limit e records.old records.new disk.old disk.new) }
 {
     let Some((first, more)) = passed.split_first() else {
-        return delete_own(alloc, records, disk, rid, last, member, path, limit);
+        return delete_own(alloc, records, disk, rid, last, member, path, limit, gone);
     };
     let below = Rid {
         page: first.proxy.page,
@@ -104,6 +110,7 @@ fn delete_in<D: Disk>(
         more,
         last,
         limit,
+        gone,
     )?;
     let left = pass_left(alloc, records, disk, rid, first, taken.left)?;
     Ok(Taken {
@@ -122,6 +129,7 @@ fn delete_own<D: Disk>(
     member: u16,
     path: &[u32],
     limit: u32,
+    gone: &mut Vec<Far>,
 ) -> Result<Taken, StoreError>
     requires runs { has_ended records.old ≡ false }
     requires valid { IsValidPiece piece }
@@ -129,7 +137,7 @@ fn delete_own<D: Disk>(
     ensures still { IsStill D.Disk disk.old disk.new }
     ensures few { IfOk result (λ taken. taken.gone ≤ limit) }
     ensures ranged { IfOk result (λ taken. HaveRoots (option_to_list taken.left)) }
-    ensures ok { IfOk result (λ taken. ComesTidy D.Disk records.old records.new disk.old disk.new (DeletesIn (Some piece) (place_of rid) member path.now limit taken.gone (option_to_list taken.left))) }
+    ensures ok { IfOk result (λ taken. (fars : Elements Far) × (gone.new.items ≡ gone.old.items ++ fars) × DeletesIn D.Disk records.old records.new disk.old disk.new (Some piece) (place_of rid) member path.now limit taken.gone (option_to_list taken.left) fars) }
     ensures keeps { OnOk result (RunsOn records.old records.new × KeepsSaved D.Disk records.old records.new disk.old disk.new × HasChanges records.new) }
     ensures refused { IfErr result (λ e. NotDeletedIn D.Disk (Some piece) (place_of rid) member path.now limit e records.old records.new disk.old disk.new) }
 {
@@ -139,18 +147,21 @@ fn delete_own<D: Disk>(
     let Some(removed) = found else {
         unreachable!();
     };
-    let own = count_nodes(&removed.tree);
+    let Removed {
+        rest,
+        tree,
+        proxies,
+    } = removed;
+    let own = count_nodes(&tree);
     if limit < own {
         return Err(damaged(records, rid.page));
     }
-    let below = remove_rows(
-        alloc,
-        records,
-        disk,
-        removed.proxies.as_slice(),
-        limit - own,
-    )?;
-    let left = put_rest(alloc, records, disk, rid, &removed.rest)?;
+    let Ok(()) = push_fars(&tree, gone) else {
+        return Err(StoreError::Memory);
+    };
+    let room = limit - own;
+    let below = remove_rows(alloc, records, disk, proxies.as_slice(), room, gone)?;
+    let left = put_rest(alloc, records, disk, rid, rest)?;
     Ok(Taken {
         left,
         gone: own + below,
@@ -164,20 +175,21 @@ fn put_rest<D: Disk>(
     records: &mut Records,
     disk: &mut D,
     rid: Rid,
-    rest: &Piece,
+    rest: Piece,
 ) -> Result<Option<Proxy>, StoreError>
-    requires { 1 ≤ gapped_width rest.now.body.roots → IsValidPiece rest.now }
+    requires runs { has_ended records.old ≡ false }
+    requires valid { 1 ≤ gapped_width rest.body.roots → IsValidPiece rest }
     ensures still { IsStill D.Disk disk.old disk.new }
     ensures ranged { IfOk result (λ left. HaveRoots (option_to_list left)) }
-    ensures ok { IfOk result (λ left. ComesTidy D.Disk records.old records.new disk.old disk.new (IsRestPut (place_of rid) rest.now left)) }
+    ensures ok { IfOk result (λ left. ComesTidyWhere D.Disk records.old records.new disk.old disk.new (λ was. MayName was rest.body.roots) (IsRestPut (place_of rid) rest left)) }
     ensures keeps { OnOk result (RunsOn records.old records.new × KeepsSaved D.Disk records.old records.new disk.old disk.new × HasChanges records.new) }
-    ensures refused { IfErr result (λ e. NotStored D.Disk (λ was. piece_needs rest.now) (λ was. HoldsNone was (place_of rid)) rid.page e records.old records.new disk.old disk.new) }
+    ensures refused { IfErr result (λ e. (page : ℕ) × NotStored D.Disk (λ was. put_needs rest) (λ was. HoldsNone was (place_of rid)) page e records.old records.new disk.old disk.new) }
 {
     if rest.body.roots.is_empty() {
         remove_piece(alloc, records, disk, rid)?;
         return Ok(None);
     }
-    let proxy = update_piece(alloc, records, disk, rid, rest)?;
+    let proxy = update_far(alloc, records, disk, rid, rest)?;
     Ok(Some(proxy))
 }
 
@@ -209,7 +221,7 @@ fn pass_left<D: Disk>(
         return Err(damaged(records, rid.page));
     }
     let piece = put_left(alloc, piece, passed.index, left);
-    update_piece(alloc, records, disk, rid, &piece)
+    update_far(alloc, records, disk, rid, piece)
 }
 
 // A piece in which what is left of an interval comes in the place of its proxy.

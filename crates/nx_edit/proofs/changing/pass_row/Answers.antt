@@ -9,7 +9,7 @@ use Rattle.nx_edit.specs.Passing.{NotPassed}
 use Rattle.nx_edit.specs.RowPut.{IsPutAlone, MayHaveRow, piece_with_row}
 use Rattle.nx_edit.proofs.RowCalls.{ok_map, err_map}
 use Rattle.nx_edit.proofs.StayLemmas.{row_kept, left_alone}
-use Rattle.nx_edit.proofs.PassCalls.{unread_passed, short_passed, unstored_passed, stored_passed, keeps_passed}
+use Rattle.nx_edit.proofs.PassCalls.{unread_passed, short_passed, unstored_passed, far_passed, keeps_passed}
 use Rattle.nx_edit.proofs.changing.pass_row.Goals as goal
 
 pub returns-in_default-clause-refused : goal.returns-in_default-clause-refused
@@ -42,8 +42,17 @@ returns-then-len-passed-clause-refused g c =
 pub returns-clause-unwritten : goal.returns-clause-unwritten
 returns-clause-unwritten g c = ok_map c.put_row.result (λ put keeps alone. absurd (false≢true (sym c.if-is_alone.false ∙ c.is_alone.ensures.1 alone))) c.put_row.ensures.keeps
 
+pub put_row-requires-clause-valid : goal.put_row-requires-clause-valid
+put_row-requires-clause-valid g c = c.in_ok-piece.ensures.valid.0
+
+pub put_row-requires-clause-within : goal.put_row-requires-clause-within
+put_row-requires-clause-within g c = let not = c.if-len-passed.false in let len = c.len.ensures in omega (arith, not, len)
+
 pub returns-clause-ok : goal.returns-clause-ok
-returns-clause-ok g c = ok_map c.put_row.result (λ put comes. stored_passed g.D.Disk (place_of c.args.rid) c.args.passed.now (piece_with_row c.args.passed.now.index c.args.row.now) (λ (piece : Piece). MayHaveRow piece c.args.row.now) c.args.records.now c.read_piece.new.records c.args.disk.now c.read_piece.new.disk c.requires c.read_piece.ensures.still c.in_ok-piece.piece c.in_ok-piece.ensures.ok.1 c.in_ok-piece.ensures.ok.2 c.put_row.new.records c.put_row.new.disk (λ piece. IsPutAlone (place_of c.args.rid) (piece_with_row c.args.passed.now.index c.args.row.now piece) put) comes.1) c.put_row.ensures.ok
+returns-clause-ok g c =
+    ok_map c.put_row.result (λ put both.
+    far_passed g.D.Disk (place_of c.args.rid) c.args.passed.now (λ (piece : Piece). piece) (λ (piece : Piece). MayHaveRow piece c.args.row.now) c.args.records.now c.read_piece.new.records c.args.disk.now c.read_piece.new.disk c.requires c.read_piece.ensures.still c.in_ok-piece.piece c.in_ok-piece.ensures.ok.1 c.in_ok-piece.ensures.ok.2 c.put_row.new.records c.put_row.new.disk
+    (λ (piece : Piece). IsPutAlone (place_of c.args.rid) (piece_with_row c.args.passed.now.index c.args.row.now piece) put) c.in_ok-piece.ensures.holds (λ far among. among) both.1) c.put_row.ensures.ok
 
 pub returns-clause-keeps : goal.returns-clause-keeps
 returns-clause-keeps g c =
@@ -52,4 +61,7 @@ returns-clause-keeps g c =
     (on.0, on.1, λ had. keeps.2)) c.put_row.ensures.keeps
 
 pub returns-clause-refused : goal.returns-clause-refused
-returns-clause-refused g c = err_map c.put_row.result (λ e refused. unstored_passed g.D.Disk (place_of c.args.rid) c.args.passed.now (piece_with_row c.args.passed.now.index c.args.row.now) (λ (piece : Piece). MayHaveRow piece c.args.row.now) c.args.records.now c.read_piece.new.records c.args.disk.now c.read_piece.new.disk c.requires c.read_piece.ensures.still c.in_ok-piece.piece c.in_ok-piece.ensures.ok.1 c.in_ok-piece.ensures.ok.2 c.put_row.new.records c.put_row.new.disk c.args.rid.page e refused) c.put_row.ensures.refused
+returns-clause-refused g c =
+    err_map c.put_row.result (λ e refused.
+    unstored_passed g.D.Disk (place_of c.args.rid) c.args.passed.now (piece_with_row c.args.passed.now.index c.args.row.now) (λ (piece : Piece). MayHaveRow piece c.args.row.now) c.args.records.now c.read_piece.new.records c.args.disk.now c.read_piece.new.disk c.requires c.read_piece.ensures.still c.in_ok-piece.piece c.in_ok-piece.ensures.ok.1 c.in_ok-piece.ensures.ok.2 c.put_row.new.records c.put_row.new.disk refused.0 e refused.1)
+    c.put_row.ensures.refused

@@ -13,7 +13,7 @@ use Rattle.nx_edit.proofs.growing.put_heavy.Goals as goal
 pub returns-then-not-may_be_divided-clause-refused : goal.returns-then-not-may_be_divided-clause-refused
 returns-then-not-may_be_divided-clause-refused g c =
     subst (λ (e : StoreError). NotGrown g.D.Disk c.args.piece (place_of c.args.rid) e c.args.records.now c.damaged.new.records c.args.disk.now c.args.disk.now) (sym c.damaged.ensures.result)
-    (undivided g.D.Disk c.args.matrix.now (option_copied c.args.above) c.args.piece (place_of c.args.rid) c.args.records.now c.damaged.new.records c.args.disk.now c.args.disk.now c.args.records.now.head_range.settings.k.1
+    (undivided g.D.Disk c.args.matrix.now (option_copied c.args.above) c.args.piece (place_of c.args.rid) c.args.records.now c.damaged.new.records c.args.disk.now c.args.disk.now c.requires.near c.requires.piece.body.far c.args.records.now.head_range.settings.k.1
     (λ may. false≢true (sym c.if-not-may_be_divided.true ∙ c.may_be_divided.ensures.1 (subst (λ (s : Settings). MayBeDivided s.k c.args.piece) (sym c.settings.ensures) may)))
     (c.damaged.ensures.ends c.requires.runs))
 

@@ -1,67 +1,147 @@
-use Rattle.std.proofs.Common.{List, Some, sym, ◌∙◌, subst, arith}
+use Rattle.std.proofs.Common.{◌≡◌, ◌≤◌, List, Some, sym, ap, ◌∙◌, subst, arith}
 use Rattle.std.proofs.lemmas.Result.{err_from_is_err_and, on_ok_weaker}
 use Rattle.std.specs.Option.{option_copied}
+use Rattle.nx_tree.specs.declared.node.Node.{Node}
+use Rattle.nx_piece.specs.declared.piece.Piece.{Piece}
 use Rattle.nx_piece.specs.declared.piece.Proxy.{Proxy}
+use Rattle.nx_piece.specs.Gapped.{GappedTree, gapped_width}
+use Rattle.nx_piece.specs.PieceNode.{PieceNode, node_weight}
+use Rattle.nx_piece_edits.specs.Planting.{IsWithRoot}
 use Rattle.nx_records.specs.declared.error.StoreError.{StoreError}
 use Rattle.nx_records.specs.Records.{settings_of}
 use Rattle.nx_records.specs.Refusals.{NotStored}
+use Rattle.nx_records.specs.declared.error.StoreError.TheVariants as store
+use Rattle.nx_records.proofs.LeaveLemmas.{leaves_runs, leaves_saved}
 use Rattle.nx_records.proofs.RefusalLemmas.{err_passed}
-use Rattle.nx_hold.specs.Pieces.{HoldsNone}
-use Rattle.nx_hold.specs.Changes.{place_of, piece_needs, ComesTidy}
-use Rattle.nx_edit.specs.declared.changing.Change.TheVariants as put
-use Rattle.nx_edit.specs.Changing.{NotChangedKnown}
+use Rattle.nx_layouts.specs.Layout.{LaidNode, in_record}
+use Rattle.nx_hold.specs.Changes.{place_named, place_of, ComesTidyWhere}
+use Rattle.nx_hold.specs.Pieces.{HoldsNone, MayName}
+use Rattle.nx_hold.proofs.RefusalLemmas.{runs_then, saved_then}
+use Rattle.nx_matrix.specs.declared.rule.Entry.TheVariants.{Free}
+use Rattle.nx_edit.specs.Changing as put
+use Rattle.nx_edit.specs.Changing.{IsWrittenNode, NotChangedKnown}
+use Rattle.nx_edit.specs.Growing.{PutsGrown}
+use Rattle.nx_edit.specs.Passing.{put_needs}
+use Rattle.nx_edit.specs.Planting.{IsAskedThere}
 use Rattle.nx_edit.specs.RowPut.{IsPutAlone, MayHaveRow, piece_with_row}
-use Rattle.nx_edit.proofs.RowCalls.{get_within, ok_map, err_map}
+use Rattle.nx_edit.proofs.PassCalls.{far_passed, keeps_passed, short_passed, unread_passed, unstored_passed}
+use Rattle.nx_edit.proofs.RowCalls.{ok_map, err_map}
 use Rattle.nx_edit.proofs.SizeLemmas.{light_node}
-use Rattle.nx_edit.proofs.JoinCalls.{inner_unread, inner_short, inner_memory, inner_refused, upper_refused, joined_changed, joined_keeps}
+use Rattle.nx_edit.proofs.JoinCalls.{inner_unread, inner_short, inner_memory, inner_refused, upper_refused, joined_changed}
 use Rattle.nx_edit.proofs.joining.join_interval.Goals as goal
 
 pub returns-in_err-inner-clause-refused : goal.returns-in_err-inner-clause-refused
 returns-in_err-inner-clause-refused g c =
-    err_passed c.from_residual.result (λ (e : StoreError). NotChangedKnown g.D.Disk c.args.matrix.now (Some c.args.piece) (put.Child c.args.position c.args.node) (place_of c.args.rid) c.args.member c.args.path.now e c.args.records.now c.read_piece.new.records c.args.disk.now c.read_piece.new.disk)
+    err_passed c.from_residual.result (λ (e : StoreError). (node : LaidNode) → c.args.leaf.node ≡ in_record node → NotChangedKnown g.D.Disk c.args.matrix.now (Some c.args.piece) (put.Child c.args.position node) (place_of c.args.rid) c.args.member c.args.path.now e c.args.records.now c.read_piece.new.records c.args.disk.now c.read_piece.new.disk)
     c.in_err-inner.field-0.0 (err_from_is_err_and c.from_residual.result c.from_residual.ensures.1)
-    (inner_unread g.D.Disk c.args.matrix.now c.args.node c.args.piece (place_of c.args.rid) c.args.member c.args.path.now c.args.position c.args.proxy c.args.index c.args.before c.requires.within c.args.records.now c.read_piece.new.records c.args.disk.now c.read_piece.new.disk c.requires.runs c.read_piece.ensures.still c.args.proxy.page c.in_err-inner.field-0.0 c.in_err-inner.ensures.refused)
+    (λ node is. inner_unread g.D.Disk c.args.matrix.now node c.args.piece (place_of c.args.rid) c.args.member c.args.path.now c.args.position c.args.proxy c.args.index c.args.before c.requires.within c.args.records.now c.read_piece.new.records c.args.disk.now c.read_piece.new.disk c.requires.runs c.read_piece.ensures.still c.args.proxy.page c.in_err-inner.field-0.0 c.in_err-inner.ensures.refused)
 
 pub returns-then-len-from-clause-refused : goal.returns-then-len-from-clause-refused
 returns-then-len-from-clause-refused g c =
-    subst (λ (e : StoreError). NotChangedKnown g.D.Disk c.args.matrix.now (Some c.args.piece) (put.Child c.args.position c.args.node) (place_of c.args.rid) c.args.member c.args.path.now e c.args.records.now c.damaged.new.records c.args.disk.now c.read_piece.new.disk) (sym c.damaged.ensures.result)
-    (inner_short g.D.Disk c.args.matrix.now c.args.node c.args.piece (place_of c.args.rid) c.args.member c.args.path.now c.args.position c.args.proxy c.args.index c.args.before c.requires.within c.args.records.now c.read_piece.new.records c.args.disk.now c.read_piece.new.disk c.requires.runs c.read_piece.ensures.still c.in_ok-inner.ensures.ok.1 c.in_ok-inner.inner c.in_ok-inner.ensures.ok.2 c.args.proxy.page c.damaged.new.records (let long = c.len.ensures in let is = c.from.ensures in let short = c.if-len-from.true in omega (arith, long, is, short)) (c.damaged.ensures.ends ((c.in_ok-inner.ensures.ok.1).ended_stays ∙ c.requires.runs)))
+    subst (λ (e : StoreError). (node : LaidNode) → c.args.leaf.node ≡ in_record node → NotChangedKnown g.D.Disk c.args.matrix.now (Some c.args.piece) (put.Child c.args.position node) (place_of c.args.rid) c.args.member c.args.path.now e c.args.records.now c.damaged.new.records c.args.disk.now c.read_piece.new.disk) (sym c.damaged.ensures.result)
+    (λ node is. inner_short g.D.Disk c.args.matrix.now node c.args.piece (place_of c.args.rid) c.args.member c.args.path.now c.args.position c.args.proxy c.args.index c.args.before c.requires.within c.args.records.now c.read_piece.new.records c.args.disk.now c.read_piece.new.disk c.requires.runs c.read_piece.ensures.still
+    c.in_ok-inner.ensures.ok.1 c.in_ok-inner.inner c.in_ok-inner.ensures.ok.2 c.args.proxy.page c.damaged.new.records
+    (let long = c.len.ensures in let from = c.from.ensures in let short = c.if-len-from.true in omega (arith, long, from, short)) (c.damaged.ensures.ends ((c.in_ok-inner.ensures.ok.1).ended_stays ∙ c.requires.runs)))
 
 pub returns-in_default-clause-refused : goal.returns-in_default-clause-refused
-returns-in_default-clause-refused g c =
-    inner_memory g.D.Disk c.args.matrix.now c.args.node c.args.piece (place_of c.args.rid) c.args.member c.args.path.now c.args.position c.args.proxy c.args.index c.args.before c.requires.within c.args.records.now c.read_piece.new.records c.args.disk.now c.read_piece.new.disk c.requires.runs c.read_piece.ensures.still c.in_ok-inner.ensures.ok.1 c.in_ok-inner.inner c.in_ok-inner.ensures.ok.2
-
-pub returns-in_err-row-clause-refused : goal.returns-in_err-row-clause-refused
-returns-in_err-row-clause-refused g c =
-    err_passed c.from_residual-in_err-row.result (λ (e : StoreError). NotChangedKnown g.D.Disk c.args.matrix.now (Some c.args.piece) (put.Child c.args.position c.args.node) (place_of c.args.rid) c.args.member c.args.path.now e c.args.records.now c.put_grown.new.records c.args.disk.now c.put_grown.new.disk)
-    c.in_err-row.field-0.0 (err_from_is_err_and c.from_residual-in_err-row.result c.from_residual-in_err-row.ensures.1)
-    (inner_refused g.D.Disk c.args.matrix.now c.args.node c.args.piece (place_of c.args.rid) c.args.member c.args.path.now c.args.position c.args.proxy c.args.index c.args.before c.requires.within c.args.records.now c.read_piece.new.records c.args.disk.now c.read_piece.new.disk c.requires.runs c.read_piece.ensures.still c.in_ok-inner.ensures.ok.1 c.in_ok-inner.inner c.in_ok-inner.ensures.ok.2
-    c.in-Ok.inner c.in-Ok.ensures c.node_at-parent.result.now c.node_at-parent.ensures c.requires.asked (c.args.records.now.head_range.settings.k.1) c.requires.light c.put_grown.new.records c.put_grown.new.disk c.in_err-row.field-0.0 c.in_err-row.ensures.refused)
+returns-in_default-clause-refused g c = λ node is. inner_memory g.D.Disk c.args.matrix.now node c.args.piece (place_of c.args.rid) c.args.member c.args.path.now c.args.position c.args.proxy c.args.index c.args.before c.requires.within c.args.records.now c.read_piece.new.records c.args.disk.now c.read_piece.new.disk c.requires.runs c.read_piece.ensures.still
+    c.in_ok-inner.ensures.ok.1 c.in_ok-inner.inner c.in_ok-inner.ensures.ok.2
 
 pub put_grown-requires-clause-piece : goal.put_grown-requires-clause-piece
 put_grown-requires-clause-piece g c =
-    (c.in-Ok.ensures).heavy c.in_ok-inner.ensures.valid.0 (light_node (settings_of c.args.records.now).k c.args.node c.requires.light c.args.records.now.head_range.settings.k.1)
+    let node : PieceNode = record { node = c.leaf.inside.node; far = c.leaf.inside.far } in
+    let same : c.args.leaf.node ≡ node = sym (ap (λ (t : GappedTree). t.node) c.leaf.view_is) in
+    let written : IsWrittenNode node = subst IsWrittenNode same c.requires.written in
+    let light : node_weight node ≤ (settings_of c.args.records.now).k = subst (λ (n : PieceNode). node_weight n ≤ (settings_of c.args.records.now).k) same c.requires.light in
+    (c.in-Ok.ensures).large c.in_ok-inner.ensures.valid.0 written.1 (light_node (settings_of c.args.records.now).k node written light c.args.records.now.head_range.settings.k.1)
 
-pub put_row-requires-clause-within : goal.put_row-requires-clause-within
-put_row-requires-clause-within g c = get_within c.args.piece.proxies c.args.index c.args.proxy c.requires.within.named
+pub returns-in_err-row-clause-refused : goal.returns-in_err-row-clause-refused
+returns-in_err-row-clause-refused g c =
+    err_passed c.from_residual-in_err-row.result (λ (e : StoreError). (node : LaidNode) → c.args.leaf.node ≡ in_record node → NotChangedKnown g.D.Disk c.args.matrix.now (Some c.args.piece) (put.Child c.args.position node) (place_of c.args.rid) c.args.member c.args.path.now e c.args.records.now c.put_grown.new.records c.args.disk.now c.put_grown.new.disk)
+    c.in_err-row.field-0.0 (err_from_is_err_and c.from_residual-in_err-row.result c.from_residual-in_err-row.ensures.1)
+    (λ node is. inner_refused g.D.Disk c.args.matrix.now node c.args.piece (place_of c.args.rid) c.args.member c.args.path.now c.args.position c.args.proxy c.args.index c.args.before c.requires.within c.args.records.now c.read_piece.new.records c.args.disk.now c.read_piece.new.disk c.requires.runs c.read_piece.ensures.still
+    c.in_ok-inner.ensures.ok.1 c.in_ok-inner.inner c.in_ok-inner.ensures.ok.2 c.in_ok-inner.ensures.holds c.in-Ok.inner
+    (subst (λ (x : PieceNode). IsWithRoot c.in_ok-inner.inner c.args.before x c.in-Ok.inner) (ap (λ (t : GappedTree). t.node) c.leaf.view_is ∙ is) c.in-Ok.ensures) c.tree_at.result.now c.tree_at.ensures
+    (subst (λ (x : PieceNode). IsAskedThere c.args.matrix.now c.args.piece c.args.member c.args.path.now x.node Free) is c.requires.asked) (subst IsWrittenNode is c.requires.written) c.args.records.now.head_range.settings.k.1
+    (subst (λ (x : PieceNode). node_weight x ≤ (settings_of c.args.records.now).k) is c.requires.light) c.put_grown.new.records c.put_grown.new.disk c.in_err-row.field-0.0 c.in_err-row.ensures.refused)
+
+pub returns-in_err-upper-clause-refused : goal.returns-in_err-upper-clause-refused
+returns-in_err-upper-clause-refused g c =
+    err_passed c.from_residual-in_err-upper.result (λ (e : StoreError). (node : LaidNode) → c.args.leaf.node ≡ in_record node → NotChangedKnown g.D.Disk c.args.matrix.now (Some c.args.piece) (put.Child c.args.position node) (place_of c.args.rid) c.args.member c.args.path.now e c.args.records.now c.read_piece-2.new.records c.args.disk.now c.read_piece-2.new.disk)
+    c.in_err-upper.field-0.0 (err_from_is_err_and c.from_residual-in_err-upper.result c.from_residual-in_err-upper.ensures.1)
+    (λ node is. upper_refused g.D.Disk c.args.matrix.now node c.args.piece (place_of c.args.rid) c.args.member c.args.path.now c.args.position c.args.proxy c.args.index c.args.before c.requires.within c.args.records.now c.read_piece.new.records c.args.disk.now c.read_piece.new.disk c.requires.runs c.read_piece.ensures.still
+    c.in_ok-inner.ensures.ok.1 c.in_ok-inner.inner c.in_ok-inner.ensures.ok.2 c.in_ok-inner.ensures.holds c.in-Ok.inner
+    (subst (λ (x : PieceNode). IsWithRoot c.in_ok-inner.inner c.args.before x c.in-Ok.inner) (ap (λ (t : GappedTree). t.node) c.leaf.view_is ∙ is) c.in-Ok.ensures) c.tree_at.result.now c.tree_at.ensures
+    (subst (λ (x : PieceNode). IsAskedThere c.args.matrix.now c.args.piece c.args.member c.args.path.now x.node Free) is c.requires.asked) (subst IsWrittenNode is c.requires.written) c.args.records.now.head_range.settings.k.1
+    (subst (λ (x : PieceNode). node_weight x ≤ (settings_of c.args.records.now).k) is c.requires.light) c.put_grown.new.records c.put_grown.new.disk
+    c.put_grown.ensures.still c.in_ok-row.ensures.keeps.0 c.in_ok-row.ensures.keeps.1 c.in_ok-row.row
+    (subst
+    (λ (n : Node). ComesTidyWhere g.D.Disk c.read_piece.new.records c.put_grown.new.records c.read_piece.new.disk c.put_grown.new.disk (λ was. MayName was c.in-Ok.inner.body.roots) (PutsGrown c.args.matrix.now (Some n) c.in-Ok.inner (place_named c.args.proxy) c.in_ok-row.row))
+    (ap (λ (t : GappedTree). t.node.node) c.behind-piece.view_is) c.in_ok-row.ensures.ok) c.read_piece-2.new.records c.read_piece-2.new.disk c.in_err-upper.field-0.0
+    (unread_passed g.D.Disk (place_of c.args.rid) (record { roots = gapped_width c.args.piece.body.roots; index = c.args.index; proxy = c.args.proxy; member = 0; used = 0; above = (c.tree_at.result.now).node.node }) (piece_with_row c.args.index c.in_ok-row.row)
+    (λ (above : Piece). MayHaveRow above c.in_ok-row.row) c.put_grown.new.records c.read_piece-2.new.records c.put_grown.new.disk c.read_piece-2.new.disk (c.in_ok-row.ensures.keeps.0).after c.read_piece-2.ensures.still c.args.rid.page c.in_err-upper.field-0.0 c.in_err-upper.ensures.refused))
+
+pub returns-then-len-index-clause-refused : goal.returns-then-len-index-clause-refused
+returns-then-len-index-clause-refused g c =
+    subst (λ (e : StoreError). (node : LaidNode) → c.args.leaf.node ≡ in_record node → NotChangedKnown g.D.Disk c.args.matrix.now (Some c.args.piece) (put.Child c.args.position node) (place_of c.args.rid) c.args.member c.args.path.now e c.args.records.now c.damaged-then-len-index.new.records c.args.disk.now c.read_piece-2.new.disk) (sym c.damaged-then-len-index.ensures.result)
+    (λ node is. upper_refused g.D.Disk c.args.matrix.now node c.args.piece (place_of c.args.rid) c.args.member c.args.path.now c.args.position c.args.proxy c.args.index c.args.before c.requires.within c.args.records.now c.read_piece.new.records c.args.disk.now c.read_piece.new.disk c.requires.runs c.read_piece.ensures.still
+    c.in_ok-inner.ensures.ok.1 c.in_ok-inner.inner c.in_ok-inner.ensures.ok.2 c.in_ok-inner.ensures.holds c.in-Ok.inner
+    (subst (λ (x : PieceNode). IsWithRoot c.in_ok-inner.inner c.args.before x c.in-Ok.inner) (ap (λ (t : GappedTree). t.node) c.leaf.view_is ∙ is) c.in-Ok.ensures) c.tree_at.result.now c.tree_at.ensures
+    (subst (λ (x : PieceNode). IsAskedThere c.args.matrix.now c.args.piece c.args.member c.args.path.now x.node Free) is c.requires.asked) (subst IsWrittenNode is c.requires.written) c.args.records.now.head_range.settings.k.1
+    (subst (λ (x : PieceNode). node_weight x ≤ (settings_of c.args.records.now).k) is c.requires.light) c.put_grown.new.records c.put_grown.new.disk
+    c.put_grown.ensures.still c.in_ok-row.ensures.keeps.0 c.in_ok-row.ensures.keeps.1 c.in_ok-row.row
+    (subst
+    (λ (n : Node). ComesTidyWhere g.D.Disk c.read_piece.new.records c.put_grown.new.records c.read_piece.new.disk c.put_grown.new.disk (λ was. MayName was c.in-Ok.inner.body.roots) (PutsGrown c.args.matrix.now (Some n) c.in-Ok.inner (place_named c.args.proxy) c.in_ok-row.row))
+    (ap (λ (t : GappedTree). t.node.node) c.behind-piece.view_is) c.in_ok-row.ensures.ok) c.damaged-then-len-index.new.records c.read_piece-2.new.disk (store.Damaged c.args.rid.page)
+    (short_passed g.D.Disk (place_of c.args.rid) (record { roots = gapped_width c.args.piece.body.roots; index = c.args.index; proxy = c.args.proxy; member = 0; used = 0; above = (c.tree_at.result.now).node.node }) (piece_with_row c.args.index c.in_ok-row.row)
+    (λ (above : Piece). MayHaveRow above c.in_ok-row.row) c.put_grown.new.records c.read_piece-2.new.records c.put_grown.new.disk c.read_piece-2.new.disk (c.in_ok-row.ensures.keeps.0).after c.read_piece-2.ensures.still c.in_ok-upper.upper c.in_ok-upper.ensures.ok.1 c.in_ok-upper.ensures.ok.2 c.damaged-then-len-index.new.records
+    (let short = c.if-len-index.true in let len = c.len-2.ensures in omega (arith, short, len)) (c.damaged-then-len-index.ensures.ends ((c.in_ok-upper.ensures.ok.1).ended_stays ∙ (c.in_ok-row.ensures.keeps.0).after))))
 
 pub returns-clause-ok : goal.returns-clause-ok
 returns-clause-ok g c =
-    ok_map c.put_row.result (λ proxies comes.
-    joined_changed g.D.Disk c.args.matrix.now c.args.node c.args.piece (place_of c.args.rid) c.args.member c.args.path.now c.args.position c.args.proxy c.args.index c.args.before c.requires.within c.args.records.now c.read_piece.new.records c.args.disk.now c.read_piece.new.disk c.requires.runs c.read_piece.ensures.still c.in_ok-inner.ensures.ok.1 c.in_ok-inner.inner c.in_ok-inner.ensures.ok.2
-    c.in-Ok.inner c.in-Ok.ensures c.node_at-parent.result.now c.node_at-parent.ensures c.requires.asked (c.args.records.now.head_range.settings.k.1) c.requires.light c.put_grown.new.records c.put_grown.new.disk c.put_grown.ensures.still c.in_ok-row.ensures.keeps.0 c.in_ok-row.ensures.keeps.1 c.in_ok-row.row c.in_ok-row.ensures.ok c.put_row.new.records c.put_row.new.disk (option_copied c.args.above) proxies
-    (subst (λ (row : List Proxy). ComesTidy g.D.Disk c.put_grown.new.records c.put_row.new.records c.put_grown.new.disk c.put_row.new.disk (IsPutAlone (place_of c.args.rid) (piece_with_row c.args.index row c.args.piece) proxies)) c.as_slice.ensures comes.1)) c.put_row.ensures.ok
+    ok_map c.put_row.result (λ proxies comes. λ node is.
+    joined_changed g.D.Disk c.args.matrix.now node c.args.piece (place_of c.args.rid) c.args.member c.args.path.now c.args.position c.args.proxy c.args.index c.args.before c.requires.within c.args.records.now c.read_piece.new.records c.args.disk.now c.read_piece.new.disk c.requires.runs c.read_piece.ensures.still
+    c.in_ok-inner.ensures.ok.1 c.in_ok-inner.inner c.in_ok-inner.ensures.ok.2 c.in_ok-inner.ensures.holds c.in-Ok.inner
+    (subst (λ (x : PieceNode). IsWithRoot c.in_ok-inner.inner c.args.before x c.in-Ok.inner) (ap (λ (t : GappedTree). t.node) c.leaf.view_is ∙ is) c.in-Ok.ensures) c.tree_at.result.now c.tree_at.ensures
+    (subst (λ (x : PieceNode). IsAskedThere c.args.matrix.now c.args.piece c.args.member c.args.path.now x.node Free) is c.requires.asked) (subst IsWrittenNode is c.requires.written) c.args.records.now.head_range.settings.k.1
+    (subst (λ (x : PieceNode). node_weight x ≤ (settings_of c.args.records.now).k) is c.requires.light) c.put_grown.new.records c.put_grown.new.disk
+    c.put_grown.ensures.still c.in_ok-row.ensures.keeps.0 c.in_ok-row.ensures.keeps.1 c.in_ok-row.row
+    (subst
+    (λ (n : Node). ComesTidyWhere g.D.Disk c.read_piece.new.records c.put_grown.new.records c.read_piece.new.disk c.put_grown.new.disk (λ was. MayName was c.in-Ok.inner.body.roots) (PutsGrown c.args.matrix.now (Some n) c.in-Ok.inner (place_named c.args.proxy) c.in_ok-row.row))
+    (ap (λ (t : GappedTree). t.node.node) c.behind-piece.view_is) c.in_ok-row.ensures.ok) c.put_row.new.records c.put_row.new.disk (option_copied c.args.above) proxies
+    (far_passed g.D.Disk (place_of c.args.rid) (record { roots = gapped_width c.args.piece.body.roots; index = c.args.index; proxy = c.args.proxy; member = 0; used = 0; above = (c.tree_at.result.now).node.node }) (λ (above : Piece). above)
+    (λ (above : Piece). MayHaveRow above c.in_ok-row.row) c.put_grown.new.records c.read_piece-2.new.records c.put_grown.new.disk c.read_piece-2.new.disk (c.in_ok-row.ensures.keeps.0).after c.read_piece-2.ensures.still c.in_ok-upper.upper c.in_ok-upper.ensures.ok.1 c.in_ok-upper.ensures.ok.2 c.put_row.new.records c.put_row.new.disk
+    (λ (above : Piece). IsPutAlone (place_of c.args.rid) (piece_with_row c.args.index c.in_ok-row.row above) proxies) c.in_ok-upper.ensures.holds (λ far among. among)
+    (subst (λ (row : List Proxy). ComesTidyWhere g.D.Disk c.read_piece-2.new.records c.put_row.new.records c.read_piece-2.new.disk c.put_row.new.disk (λ was. MayName was c.in_ok-upper.upper.body.roots) (IsPutAlone (place_of c.args.rid) (piece_with_row c.args.index row c.in_ok-upper.upper) proxies))
+    c.as_slice.ensures comes.1))) c.put_row.ensures.ok
 
 pub returns-clause-keeps : goal.returns-clause-keeps
 returns-clause-keeps g c =
     on_ok_weaker c.put_row.result (λ keeps.
-    let on = joined_keeps g.D.Disk c.args.matrix.now c.args.node c.args.piece (place_of c.args.rid) c.args.member c.args.path.now c.args.position c.args.proxy c.args.index c.args.before c.requires.within c.args.records.now c.read_piece.new.records c.args.disk.now c.read_piece.new.disk c.requires.runs c.read_piece.ensures.still c.in_ok-inner.ensures.ok.1 c.in_ok-inner.inner c.in_ok-inner.ensures.ok.2
-    c.in-Ok.inner c.in-Ok.ensures c.node_at-parent.result.now c.node_at-parent.ensures c.requires.asked (c.args.records.now.head_range.settings.k.1) c.requires.light c.put_grown.new.records c.put_grown.new.disk c.put_grown.ensures.still c.in_ok-row.ensures.keeps.0 c.in_ok-row.ensures.keeps.1 c.in_ok-row.row c.in_ok-row.ensures.ok c.put_row.new.records c.put_row.new.disk keeps.0 keeps.1 in
-    (on.0, on.1, keeps.2)) c.put_row.ensures.keeps
+    let first = leaves_runs c.requires.runs c.in_ok-inner.ensures.ok.1 in
+    let first_saved = leaves_saved {d = g.D.Disk} c.in_ok-inner.ensures.ok.1 c.read_piece.ensures.still in
+    let below = runs_then {r0 = c.args.records.now} {r1 = c.read_piece.new.records} {r2 = c.put_grown.new.records} first c.in_ok-row.ensures.keeps.0 in
+    let below_saved = saved_then {d = g.D.Disk} {r0 = c.args.records.now} {r1 = c.read_piece.new.records} {r2 = c.put_grown.new.records} {x0 = c.args.disk.now} {x1 = c.read_piece.new.disk} {x2 = c.put_grown.new.disk} first_saved c.in_ok-row.ensures.keeps.1 in
+    let upper = keeps_passed g.D.Disk (place_of c.args.rid) (record { roots = gapped_width c.args.piece.body.roots; index = c.args.index; proxy = c.args.proxy; member = 0; used = 0; above = (c.tree_at.result.now).node.node }) (piece_with_row c.args.index c.in_ok-row.row)
+    (λ (above : Piece). MayHaveRow above c.in_ok-row.row) c.put_grown.new.records c.read_piece-2.new.records c.put_grown.new.disk c.read_piece-2.new.disk (c.in_ok-row.ensures.keeps.0).after c.read_piece-2.ensures.still c.in_ok-upper.upper c.in_ok-upper.ensures.ok.1 c.in_ok-upper.ensures.ok.2 c.put_row.new.records c.put_row.new.disk keeps.0 keeps.1 in (
+      runs_then {r0 = c.args.records.now} {r1 = c.put_grown.new.records} {r2 = c.put_row.new.records} below upper.0,
+      saved_then {d = g.D.Disk} {r0 = c.args.records.now} {r1 = c.put_grown.new.records} {r2 = c.put_row.new.records} {x0 = c.args.disk.now} {x1 = c.put_grown.new.disk} {x2 = c.put_row.new.disk} below_saved upper.1,
+      keeps.2,
+    )) c.put_row.ensures.keeps
 
 pub returns-clause-refused : goal.returns-clause-refused
 returns-clause-refused g c =
-    err_map c.put_row.result (λ e refused.
-    upper_refused g.D.Disk c.args.matrix.now c.args.node c.args.piece (place_of c.args.rid) c.args.member c.args.path.now c.args.position c.args.proxy c.args.index c.args.before c.requires.within c.args.records.now c.read_piece.new.records c.args.disk.now c.read_piece.new.disk c.requires.runs c.read_piece.ensures.still c.in_ok-inner.ensures.ok.1 c.in_ok-inner.inner c.in_ok-inner.ensures.ok.2
-    c.in-Ok.inner c.in-Ok.ensures c.node_at-parent.result.now c.node_at-parent.ensures c.requires.asked (c.args.records.now.head_range.settings.k.1) c.requires.light c.put_grown.new.records c.put_grown.new.disk c.put_grown.ensures.still c.in_ok-row.ensures.keeps.0 c.in_ok-row.ensures.keeps.1 c.in_ok-row.row c.in_ok-row.ensures.ok c.put_row.new.records c.put_row.new.disk c.args.rid.page e
-    (subst (λ (row : List Proxy). NotStored g.D.Disk (λ was. piece_needs (piece_with_row c.args.index row c.args.piece)) (λ was. MayHaveRow c.args.piece row → HoldsNone was (place_of c.args.rid)) c.args.rid.page e c.put_grown.new.records c.put_row.new.records c.put_grown.new.disk c.put_row.new.disk) c.as_slice.ensures refused)) c.put_row.ensures.refused
+    err_map c.put_row.result (λ e refused. λ node is.
+    upper_refused g.D.Disk c.args.matrix.now node c.args.piece (place_of c.args.rid) c.args.member c.args.path.now c.args.position c.args.proxy c.args.index c.args.before c.requires.within c.args.records.now c.read_piece.new.records c.args.disk.now c.read_piece.new.disk c.requires.runs c.read_piece.ensures.still
+    c.in_ok-inner.ensures.ok.1 c.in_ok-inner.inner c.in_ok-inner.ensures.ok.2 c.in_ok-inner.ensures.holds c.in-Ok.inner
+    (subst (λ (x : PieceNode). IsWithRoot c.in_ok-inner.inner c.args.before x c.in-Ok.inner) (ap (λ (t : GappedTree). t.node) c.leaf.view_is ∙ is) c.in-Ok.ensures) c.tree_at.result.now c.tree_at.ensures
+    (subst (λ (x : PieceNode). IsAskedThere c.args.matrix.now c.args.piece c.args.member c.args.path.now x.node Free) is c.requires.asked) (subst IsWrittenNode is c.requires.written) c.args.records.now.head_range.settings.k.1
+    (subst (λ (x : PieceNode). node_weight x ≤ (settings_of c.args.records.now).k) is c.requires.light) c.put_grown.new.records c.put_grown.new.disk
+    c.put_grown.ensures.still c.in_ok-row.ensures.keeps.0 c.in_ok-row.ensures.keeps.1 c.in_ok-row.row
+    (subst
+    (λ (n : Node). ComesTidyWhere g.D.Disk c.read_piece.new.records c.put_grown.new.records c.read_piece.new.disk c.put_grown.new.disk (λ was. MayName was c.in-Ok.inner.body.roots) (PutsGrown c.args.matrix.now (Some n) c.in-Ok.inner (place_named c.args.proxy) c.in_ok-row.row))
+    (ap (λ (t : GappedTree). t.node.node) c.behind-piece.view_is) c.in_ok-row.ensures.ok) c.put_row.new.records c.put_row.new.disk e
+    (unstored_passed g.D.Disk (place_of c.args.rid) (record { roots = gapped_width c.args.piece.body.roots; index = c.args.index; proxy = c.args.proxy; member = 0; used = 0; above = (c.tree_at.result.now).node.node }) (piece_with_row c.args.index c.in_ok-row.row)
+    (λ (above : Piece). MayHaveRow above c.in_ok-row.row) c.put_grown.new.records c.read_piece-2.new.records c.put_grown.new.disk c.read_piece-2.new.disk (c.in_ok-row.ensures.keeps.0).after c.read_piece-2.ensures.still c.in_ok-upper.upper c.in_ok-upper.ensures.ok.1 c.in_ok-upper.ensures.ok.2 c.put_row.new.records c.put_row.new.disk refused.0 e
+    (subst (λ (row : List Proxy). NotStored g.D.Disk (λ was. put_needs (piece_with_row c.args.index row c.in_ok-upper.upper)) (λ was. MayHaveRow c.in_ok-upper.upper row → HoldsNone was (place_of c.args.rid)) refused.0 e c.read_piece-2.new.records c.put_row.new.records c.read_piece-2.new.disk c.put_row.new.disk)
+    c.as_slice.ensures refused.1))) c.put_row.ensures.refused

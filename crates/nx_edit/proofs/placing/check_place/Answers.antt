@@ -11,7 +11,7 @@ use Rattle.nx_edit.proofs.placing.check_place.Goals as goal
 
 pub returns-in-Err-clause-refused : goal.returns-in-Err-clause-refused
 returns-in-Err-clause-refused g c =
-    told_so (seen_error c.in-Err.error) (λ (e : EditError). NotEdited g.D.Disk is_of_insertion (place_fault c.args.node.now c.args.position c.args.parent.now) (λ document. 0) c.args.entry e c.args.records.now c.get_route.new.records c.args.disk.now c.get_route.new.disk)
+    told_so (seen_error c.in-Err.error) (λ (e : EditError). NotEdited g.D.Disk is_of_insertion (place_fault c.args.node.now c.args.position c.args.parent.now) (λ document layout. 0) c.args.entry e c.args.records.now c.get_route.new.records c.args.disk.now c.get_route.new.disk)
     c.seen_error.result c.seen_error.ensures
     (parent_refused g.D.Disk c.args.entry c.args.node.now c.args.position c.args.parent.now c.args.records.now c.args.disk.now c.get_route.new.records c.get_route.new.disk c.get_route.ensures.still c.in-Err.error c.in-Err.ensures.refused)
 
@@ -28,7 +28,7 @@ returns-then-is_unordered-clause-refused g c =
 
 pub returns-in-Err-is_repeated-clause-refused : goal.returns-in-Err-is_repeated-clause-refused
 returns-in-Err-is_repeated-clause-refused g c =
-    told_so (seen_error c.in-Err-is_repeated.error) (λ (e : EditError). NotEdited g.D.Disk is_of_insertion (place_fault c.args.node.now c.args.position c.args.parent.now) (λ document. 0) c.args.entry e c.args.records.now c.is_repeated.new.records c.args.disk.now c.is_repeated.new.disk)
+    told_so (seen_error c.in-Err-is_repeated.error) (λ (e : EditError). NotEdited g.D.Disk is_of_insertion (place_fault c.args.node.now c.args.position c.args.parent.now) (λ document layout. 0) c.args.entry e c.args.records.now c.is_repeated.new.records c.args.disk.now c.is_repeated.new.disk)
     c.seen_error-in-Err-is_repeated.result c.seen_error-in-Err-is_repeated.ensures
     (look_refused g.D.Disk c.args.entry c.args.node.now c.args.position c.args.parent.now c.args.records.now c.args.disk.now c.requires c.in-Ok.found.shown (λ document has. (c.in-Ok.ensures.ok.2 document has).0) c.get_route.new.records c.get_route.new.disk c.in-Ok.ensures.ok.1 c.get_route.ensures.still c.is_repeated.new.records c.is_repeated.new.disk c.is_repeated.ensures.still c.in-Err-is_repeated.error c.in-Err-is_repeated.ensures.refused)
 

@@ -14,7 +14,7 @@ returns-in_default-clause-refused g c = (record { before = c.requires; after = c
 
 pub loop-proxy-init : goal.loop-proxy-init
 loop-proxy-init g c =
-    subst (λ (ps : List Proxy). IsGoing g.D.Disk c.args.proxies.now c.args.limit ps 0 c.args.records.now c.args.records.now c.args.disk.now c.args.disk.now)
+    subst (λ (ps : List Proxy). IsGoing g.D.Disk c.args.proxies.now c.args.limit ps 0 c.args.gone.now.items c.args.gone.now.items c.args.records.now c.args.records.now c.args.disk.now c.args.disk.now)
     (sym (c.in-Ok.ensures.items ∙ ap (λ (ps : List Proxy). ps ++ c.args.proxies.now) c.new-stack.ensures.items))
     (going_first c.requires)
 
@@ -22,8 +22,8 @@ pub returns-in_err-own-clause-refused : goal.returns-in_err-own-clause-refused
 returns-in_err-own-clause-refused g c =
     err_passed c.from_residual.result (λ (e : StoreError). NotRemovedRow g.D.Disk c.args.proxies.now c.args.limit e c.args.records.now c.remove_record.new.records c.args.disk.now c.remove_record.new.disk)
     c.in_err-own.field-0.0 (err_from_is_err_and c.from_residual.result c.from_residual.ensures.1)
-    (going_refused c.pop.new.self.items c.in-Some.proxy c.loop-proxy.gone
-    (subst (λ (ps : List Proxy). IsGoing g.D.Disk c.args.proxies.now c.args.limit ps c.loop-proxy.gone c.args.records.now c.loop-proxy.records c.args.disk.now c.loop-proxy.disk) c.in-Some.ensures.items c.loop-proxy.invariant)
+    (going_refused c.pop.new.self.items c.in-Some.proxy c.loop-proxy.went
+    (subst (λ (ps : List Proxy). IsGoing g.D.Disk c.args.proxies.now c.args.limit ps c.loop-proxy.went c.args.gone.now.items c.loop-proxy.gone.items c.args.records.now c.loop-proxy.records c.args.disk.now c.loop-proxy.disk) c.in-Some.ensures.items c.loop-proxy.invariant)
     c.remove_record.new.records c.remove_record.new.disk c.in_err-own.field-0.0 c.in_err-own.ensures.refused)
 
 pub returns-in_err-own-clause-still : goal.returns-in_err-own-clause-still
@@ -37,31 +37,31 @@ returns-then-room-own-clause-still g c = still_then c.loop-proxy.invariant.still
 
 pub returns-then-room-own-clause-refused : goal.returns-then-room-own-clause-refused
 returns-then-room-own-clause-refused g c =
-    let goes : IsGoing g.D.Disk c.args.proxies.now c.args.limit (c.pop.new.self.items ++ (c.in-Some.proxy ∷ [])) c.loop-proxy.gone c.args.records.now c.loop-proxy.records c.args.disk.now c.loop-proxy.disk =
-    subst (λ (ps : List Proxy). IsGoing g.D.Disk c.args.proxies.now c.args.limit ps c.loop-proxy.gone c.args.records.now c.loop-proxy.records c.args.disk.now c.loop-proxy.disk) c.in-Some.ensures.items c.loop-proxy.invariant in
+    let goes : IsGoing g.D.Disk c.args.proxies.now c.args.limit (c.pop.new.self.items ++ (c.in-Some.proxy ∷ [])) c.loop-proxy.went c.args.gone.now.items c.loop-proxy.gone.items c.args.records.now c.loop-proxy.records c.args.disk.now c.loop-proxy.disk =
+    subst (λ (ps : List Proxy). IsGoing g.D.Disk c.args.proxies.now c.args.limit ps c.loop-proxy.went c.args.gone.now.items c.loop-proxy.gone.items c.args.records.now c.loop-proxy.records c.args.disk.now c.loop-proxy.disk) c.in-Some.ensures.items c.loop-proxy.invariant in
     subst (λ (e : StoreError). NotRemovedRow g.D.Disk c.args.proxies.now c.args.limit e c.args.records.now c.damaged.new.records c.args.disk.now c.remove_record.new.disk) (sym c.damaged.ensures.result)
-    (going_many c.pop.new.self.items c.in-Some.proxy c.loop-proxy.gone goes c.remove_record.new.records c.remove_record.new.disk c.remove_record.new.stack.items c.in_ok-own.own c.in_ok-own.ensures.keeps.0 c.in_ok-own.ensures.keeps.1 c.in_ok-own.ensures.ok
+    (going_many c.pop.new.self.items c.in-Some.proxy c.loop-proxy.went goes c.remove_record.new.records c.remove_record.new.disk c.remove_record.new.stack.items c.in_ok-own.own c.in_ok-own.ensures.ok.0 c.in_ok-own.ensures.keeps.0 c.in_ok-own.ensures.keeps.1 c.in_ok-own.ensures.ok.2
     (let more = c.if-room-own.true in omega (arith, more)) (c.damaged.ensures.ends (c.in_ok-own.ensures.keeps.0).after))
 
-pub overflow_add-gone : goal.overflow_add-gone
-overflow_add-gone g c =
-    let f : c.loop-proxy.gone ≤ c.args.limit = c.loop-proxy.invariant.few in
+pub overflow_add-went : goal.overflow_add-went
+overflow_add-went g c =
+    let f : c.loop-proxy.went ≤ c.args.limit = c.loop-proxy.invariant.few in
     let most = c.if-room-own.false in
     search rules
 
 pub loop-proxy-smaller : goal.loop-proxy-smaller
 loop-proxy-smaller g c =
-    let f : c.loop-proxy.gone ≤ c.args.limit = c.loop-proxy.invariant.few in
+    let f : c.loop-proxy.went ≤ c.args.limit = c.loop-proxy.invariant.few in
     let most = c.if-room-own.false in
     let some = c.in_ok-own.ensures.some in
     omega (arith, f, most, some)
 
 pub loop-proxy-preserved : goal.loop-proxy-preserved
 loop-proxy-preserved g c =
-    let goes : IsGoing g.D.Disk c.args.proxies.now c.args.limit (c.pop.new.self.items ++ (c.in-Some.proxy ∷ [])) c.loop-proxy.gone c.args.records.now c.loop-proxy.records c.args.disk.now c.loop-proxy.disk =
-    subst (λ (ps : List Proxy). IsGoing g.D.Disk c.args.proxies.now c.args.limit ps c.loop-proxy.gone c.args.records.now c.loop-proxy.records c.args.disk.now c.loop-proxy.disk) c.in-Some.ensures.items c.loop-proxy.invariant in
-    going_then c.pop.new.self.items c.in-Some.proxy c.loop-proxy.gone goes c.remove_record.new.records c.remove_record.new.disk c.remove_record.new.stack.items c.in_ok-own.own c.in_ok-own.ensures.keeps.0 c.in_ok-own.ensures.keeps.1 c.in_ok-own.ensures.ok
-    c.in_ok-own.ensures.keeps.2 c.remove_record.ensures.still c.in_ok-own.ensures.some (let most = c.if-room-own.false in omega (arith, most))
+    let goes : IsGoing g.D.Disk c.args.proxies.now c.args.limit (c.pop.new.self.items ++ (c.in-Some.proxy ∷ [])) c.loop-proxy.went c.args.gone.now.items c.loop-proxy.gone.items c.args.records.now c.loop-proxy.records c.args.disk.now c.loop-proxy.disk =
+    subst (λ (ps : List Proxy). IsGoing g.D.Disk c.args.proxies.now c.args.limit ps c.loop-proxy.went c.args.gone.now.items c.loop-proxy.gone.items c.args.records.now c.loop-proxy.records c.args.disk.now c.loop-proxy.disk) c.in-Some.ensures.items c.loop-proxy.invariant in
+    going_then c.pop.new.self.items c.in-Some.proxy c.loop-proxy.went goes c.remove_record.new.records c.remove_record.new.disk c.remove_record.new.stack.items c.in_ok-own.own c.in_ok-own.ensures.ok.0 c.in_ok-own.ensures.keeps.0 c.in_ok-own.ensures.keeps.1 c.in_ok-own.ensures.ok.2
+    c.remove_record.new.gone.items c.in_ok-own.ensures.ok.1 c.in_ok-own.ensures.keeps.2 c.remove_record.ensures.still c.in_ok-own.ensures.some (let most = c.if-room-own.false in omega (arith, most))
 
 pub returns-clause-still : goal.returns-clause-still
 returns-clause-still g c = c.loop-proxy.invariant.still
@@ -72,9 +72,9 @@ returns-clause-few g c = c.loop-proxy.invariant.few
 pub returns-clause-ok : goal.returns-clause-ok
 returns-clause-ok g c =
     let none : length c.loop-proxy.stack.items ≡ 0 = omega (arith, c.in_default-pop.ensures.cases.0, c.loop-proxy.stack.ok.0) in
-    going_done c.loop-proxy.stack.items c.loop-proxy.gone (nil_from_length c.loop-proxy.stack.items none) c.loop-proxy.invariant
+    going_done c.loop-proxy.stack.items c.loop-proxy.went (nil_from_length c.loop-proxy.stack.items none) c.loop-proxy.invariant
 
 pub returns-clause-keeps : goal.returns-clause-keeps
 returns-clause-keeps g c =
     let none : length c.loop-proxy.stack.items ≡ 0 = omega (arith, c.in_default-pop.ensures.cases.0, c.loop-proxy.stack.ok.0) in
-    (c.loop-proxy.invariant.runs, c.loop-proxy.invariant.keeps, λ some. going_changed c.loop-proxy.stack.items c.loop-proxy.gone (nil_from_length c.loop-proxy.stack.items none) c.loop-proxy.invariant some)
+    (c.loop-proxy.invariant.runs, c.loop-proxy.invariant.keeps, λ some. going_changed c.loop-proxy.stack.items c.loop-proxy.went (nil_from_length c.loop-proxy.stack.items none) c.loop-proxy.invariant some)

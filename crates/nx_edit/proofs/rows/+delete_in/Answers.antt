@@ -4,7 +4,7 @@ use Rattle.std.proofs.lemmas.Result.{err_from_is_err_and}
 use Rattle.nx_host.proofs.DiskLemmas.{still_then}
 use Rattle.nx_records.specs.declared.error.StoreError.{StoreError}
 use Rattle.nx_records.proofs.RefusalLemmas.{err_passed}
-use Rattle.nx_hold.specs.Changes.{place_of, place_named, ComesTidy}
+use Rattle.nx_hold.specs.Changes.{place_of, place_named}
 use Rattle.nx_nav.specs.declared.routing.PassedRecord.{PassedRecord}
 use Rattle.nx_nav.specs.Route.{EndsInside}
 use Rattle.nx_nav.proofs.SeekLemmas.{part_left}
@@ -21,9 +21,12 @@ delete_own-requires-clause-here g t c = (subst (λ (ps : List PassedRecord). End
 pub returns-in_default-clause-ok : goal.returns-in_default-clause-ok
 returns-in_default-clause-ok g t c =
     let none : c.args.passed.now ≡ [] = none_passed c.args.passed.now c.in_default.ensures.cases in
-    ok_map c.delete_own.result (λ taken comes.
-    subst (λ (ps : List PassedRecord). ComesTidy g.D.Disk c.args.records.now c.delete_own.new.records c.args.disk.now c.delete_own.new.disk (DeletesAlong ps c.args.last (place_of c.args.rid) c.args.member c.args.path.now c.args.limit taken.gone (option_to_list taken.left))) (sym none)
-    (end_done g.D.Disk (place_of c.args.rid) c.args.member c.args.path.now c.args.limit c.args.last c.args.records.now c.delete_own.new.records c.args.disk.now c.delete_own.new.disk taken.gone (option_to_list taken.left) comes)) c.delete_own.ensures.ok
+    ok_map c.delete_own.result (λ taken ok. (
+      ok.0,
+      ok.1,
+      subst (λ (ps : List PassedRecord). DeletesAlong g.D.Disk c.args.records.now c.delete_own.new.records c.args.disk.now c.delete_own.new.disk ps c.args.last (place_of c.args.rid) c.args.member c.args.path.now c.args.limit taken.gone (option_to_list taken.left) ok.0) (sym none)
+          (end_done g.D.Disk (place_of c.args.rid) c.args.member c.args.path.now c.args.limit c.args.last c.args.records.now c.delete_own.new.records c.args.disk.now c.delete_own.new.disk taken.gone (option_to_list taken.left) ok.0 ok.2),
+    )) c.delete_own.ensures.ok
 
 pub returns-in_default-clause-refused : goal.returns-in_default-clause-refused
 returns-in_default-clause-refused g t c =
@@ -69,27 +72,30 @@ returns-in_err-left-clause-refused g t c =
     err_passed c.from_residual-in_err-left.result (λ (e : StoreError). NotDeletedAlong g.D.Disk c.args.passed.now c.args.last (place_of c.args.rid) c.args.member c.args.path.now c.args.limit e c.args.records.now c.pass_left.new.records c.args.disk.now c.pass_left.new.disk)
     c.in_err-left.field-0.0 (err_from_is_err_and c.from_residual-in_err-left.result c.from_residual-in_err-left.ensures.1)
     (subst (λ (ps : List PassedRecord). NotDeletedAlong g.D.Disk ps c.args.last (place_of c.args.rid) c.args.member c.args.path.now c.args.limit c.in_err-left.field-0.0 c.args.records.now c.pass_left.new.records c.args.disk.now c.pass_left.new.disk) (sym c.in-Some.ensures.cases.0)
-    (left_refused g.D.Disk (place_of c.args.rid) c.args.member c.args.path.now c.args.limit c.in-Some.first.now c.in-Some.more.now c.args.last c.args.records.now c.delete_in.new.records c.args.disk.now c.delete_in.new.disk c.delete_in.ensures.still c.in_ok-taken.ensures.keeps.0 c.in_ok-taken.ensures.keeps.1 c.in_ok-taken.taken.gone c.in_ok-taken.taken.left
-    (subst (λ (rest : List ℕ). ComesTidy g.D.Disk c.args.records.now c.delete_in.new.records c.args.disk.now c.delete_in.new.disk (DeletesAlong c.in-Some.more.now c.args.last (place_named c.in-Some.first.now.proxy) c.in-Some.first.now.member rest c.args.limit c.in_ok-taken.taken.gone (option_to_list c.in_ok-taken.taken.left)))
-    (part_left c.args.path.now c.in-Some.first.now.used) c.in_ok-taken.ensures.ok)
+    (left_refused g.D.Disk (place_of c.args.rid) c.args.member c.args.path.now c.args.limit c.in-Some.first.now c.in-Some.more.now c.args.last c.args.records.now c.delete_in.new.records c.args.disk.now c.delete_in.new.disk c.delete_in.ensures.still c.in_ok-taken.ensures.keeps.0 c.in_ok-taken.ensures.keeps.1 c.in_ok-taken.taken.gone c.in_ok-taken.taken.left c.in_ok-taken.ensures.ok.0
+    (subst (λ (rest : List ℕ). DeletesAlong g.D.Disk c.args.records.now c.delete_in.new.records c.args.disk.now c.delete_in.new.disk c.in-Some.more.now c.args.last (place_named c.in-Some.first.now.proxy) c.in-Some.first.now.member rest c.args.limit c.in_ok-taken.taken.gone (option_to_list c.in_ok-taken.taken.left) c.in_ok-taken.ensures.ok.0)
+    (part_left c.args.path.now c.in-Some.first.now.used) c.in_ok-taken.ensures.ok.2)
     c.pass_left.new.records c.pass_left.new.disk c.in_err-left.field-0.0 c.in_err-left.ensures.refused))
 
 pub returns-clause-ranged : goal.returns-clause-ranged
 returns-clause-ranged g t c = c.in_ok-left.ensures.ranged
 
 pub returns-clause-ok : goal.returns-clause-ok
-returns-clause-ok g t c =
-    subst (λ (ps : List PassedRecord). ComesTidy g.D.Disk c.args.records.now c.pass_left.new.records c.args.disk.now c.pass_left.new.disk (DeletesAlong ps c.args.last (place_of c.args.rid) c.args.member c.args.path.now c.args.limit c.in_ok-taken.taken.gone (option_to_list (Some c.in_ok-left.left)))) (sym c.in-Some.ensures.cases.0)
-    (away_done g.D.Disk (place_of c.args.rid) c.args.member c.args.path.now c.args.limit c.in-Some.first.now c.in-Some.more.now c.args.last c.args.records.now c.delete_in.new.records c.args.disk.now c.delete_in.new.disk c.delete_in.ensures.still c.in_ok-taken.ensures.keeps.0 c.in_ok-taken.ensures.keeps.1 c.in_ok-taken.taken.gone c.in_ok-taken.taken.left
-    (subst (λ (rest : List ℕ). ComesTidy g.D.Disk c.args.records.now c.delete_in.new.records c.args.disk.now c.delete_in.new.disk (DeletesAlong c.in-Some.more.now c.args.last (place_named c.in-Some.first.now.proxy) c.in-Some.first.now.member rest c.args.limit c.in_ok-taken.taken.gone (option_to_list c.in_ok-taken.taken.left)))
-    (part_left c.args.path.now c.in-Some.first.now.used) c.in_ok-taken.ensures.ok)
-    c.pass_left.new.records c.pass_left.new.disk c.in_ok-left.left c.in_ok-left.ensures.ok)
+returns-clause-ok g t c = (
+  c.in_ok-taken.ensures.ok.0,
+  c.in_ok-taken.ensures.ok.1,
+  subst (λ (ps : List PassedRecord). DeletesAlong g.D.Disk c.args.records.now c.pass_left.new.records c.args.disk.now c.pass_left.new.disk ps c.args.last (place_of c.args.rid) c.args.member c.args.path.now c.args.limit c.in_ok-taken.taken.gone (option_to_list (Some c.in_ok-left.left)) c.in_ok-taken.ensures.ok.0) (sym c.in-Some.ensures.cases.0)
+      (away_done g.D.Disk (place_of c.args.rid) c.args.member c.args.path.now c.args.limit c.in-Some.first.now c.in-Some.more.now c.args.last c.args.records.now c.delete_in.new.records c.args.disk.now c.delete_in.new.disk c.delete_in.ensures.still c.in_ok-taken.ensures.keeps.0 c.in_ok-taken.ensures.keeps.1 c.in_ok-taken.taken.gone c.in_ok-taken.taken.left c.in_ok-taken.ensures.ok.0
+      (subst (λ (rest : List ℕ). DeletesAlong g.D.Disk c.args.records.now c.delete_in.new.records c.args.disk.now c.delete_in.new.disk c.in-Some.more.now c.args.last (place_named c.in-Some.first.now.proxy) c.in-Some.first.now.member rest c.args.limit c.in_ok-taken.taken.gone (option_to_list c.in_ok-taken.taken.left) c.in_ok-taken.ensures.ok.0)
+      (part_left c.args.path.now c.in-Some.first.now.used) c.in_ok-taken.ensures.ok.2)
+      c.pass_left.new.records c.pass_left.new.disk c.in_ok-left.left c.in_ok-left.ensures.ok),
+)
 
 pub returns-clause-keeps : goal.returns-clause-keeps
 returns-clause-keeps g t c =
-    let on = left_keeps g.D.Disk (place_of c.args.rid) c.args.member c.args.path.now c.args.limit c.in-Some.first.now c.in-Some.more.now c.args.last c.args.records.now c.delete_in.new.records c.args.disk.now c.delete_in.new.disk c.delete_in.ensures.still c.in_ok-taken.ensures.keeps.0 c.in_ok-taken.ensures.keeps.1 c.in_ok-taken.taken.gone c.in_ok-taken.taken.left
-    (subst (λ (rest : List ℕ). ComesTidy g.D.Disk c.args.records.now c.delete_in.new.records c.args.disk.now c.delete_in.new.disk (DeletesAlong c.in-Some.more.now c.args.last (place_named c.in-Some.first.now.proxy) c.in-Some.first.now.member rest c.args.limit c.in_ok-taken.taken.gone (option_to_list c.in_ok-taken.taken.left)))
-    (part_left c.args.path.now c.in-Some.first.now.used) c.in_ok-taken.ensures.ok)
+    let on = left_keeps g.D.Disk (place_of c.args.rid) c.args.member c.args.path.now c.args.limit c.in-Some.first.now c.in-Some.more.now c.args.last c.args.records.now c.delete_in.new.records c.args.disk.now c.delete_in.new.disk c.delete_in.ensures.still c.in_ok-taken.ensures.keeps.0 c.in_ok-taken.ensures.keeps.1 c.in_ok-taken.taken.gone c.in_ok-taken.taken.left c.in_ok-taken.ensures.ok.0
+    (subst (λ (rest : List ℕ). DeletesAlong g.D.Disk c.args.records.now c.delete_in.new.records c.args.disk.now c.delete_in.new.disk c.in-Some.more.now c.args.last (place_named c.in-Some.first.now.proxy) c.in-Some.first.now.member rest c.args.limit c.in_ok-taken.taken.gone (option_to_list c.in_ok-taken.taken.left) c.in_ok-taken.ensures.ok.0)
+    (part_left c.args.path.now c.in-Some.first.now.used) c.in_ok-taken.ensures.ok.2)
     c.pass_left.new.records c.pass_left.new.disk c.in_ok-left.ensures.keeps.0 c.in_ok-left.ensures.keeps.1 in
     (on.0, on.1, c.in_ok-left.ensures.keeps.2 c.in_ok-taken.ensures.keeps.2)
 

@@ -1,6 +1,9 @@
-use Rattle.std.proofs.Common.{◌+◌, ◌-◌, List, Option, Some, refl, sym, subst, arith}
+use Rattle.std.proofs.Common.{◌+◌, ◌-◌, List, ◌++◌, Option, Some, refl, sym, ap, ◌∙◌, subst, arith, append_assoc}
 use Rattle.std.proofs.lemmas.Result.{err_from_is_err_and}
+use Rattle.nx_piece.specs.declared.piece.Far.{Far}
 use Rattle.nx_piece.specs.declared.piece.Proxy.{Proxy}
+use Rattle.nx_piece.specs.Contents.{fars_in}
+use Rattle.nx_piece.specs.Gapped.{End, Grow}
 use Rattle.nx_records.specs.declared.error.StoreError.{StoreError}
 use Rattle.nx_records.proofs.RefusalLemmas.{err_passed}
 use Rattle.nx_hold.specs.Changes.{place_of, ComesTidy}
@@ -21,7 +24,7 @@ returns-in_default-clause-refused g c = (record { before = c.requires.runs; afte
 pub count_nodes-own-requires : goal.count_nodes-own-requires
 count_nodes-own-requires g c =
     let w : IsWithoutTree c.args.piece c.args.member c.args.path.now c.in-Some.removed = subst (λ (o : Option Removed). IsTreeRemoved c.args.piece c.args.member c.args.path.now o) c.in-Some.is c.in-Ok.ensures in
-    w.part.light
+    w.part.small
 
 pub returns-then-limit-own-clause-refused : goal.returns-then-limit-own-clause-refused
 returns-then-limit-own-clause-refused g c =
@@ -39,8 +42,8 @@ returns-in_err-below-clause-refused g c =
     c.remove_rows.new.records c.remove_rows.new.disk c.in_err-below.field-0.0
     (subst (λ (ps : List Proxy). NotRemovedRow g.D.Disk ps (c.args.limit - c.count_nodes-own.result) c.in_err-below.field-0.0 c.args.records.now c.remove_rows.new.records c.args.disk.now c.remove_rows.new.disk) c.as_slice.ensures c.in_err-below.ensures.refused))
 
-pub put_rest-requires : goal.put_rest-requires
-put_rest-requires g c =
+pub put_rest-requires-clause-valid : goal.put_rest-requires-clause-valid
+put_rest-requires-clause-valid g c =
     let w : IsWithoutTree c.args.piece c.args.member c.args.path.now c.in-Some.removed = subst (λ (o : Option Removed). IsTreeRemoved c.args.piece c.args.member c.args.path.now o) c.in-Some.is c.in-Ok.ensures in
     w.valid c.requires.valid
 
@@ -50,17 +53,21 @@ returns-in_err-left-clause-refused g c =
     err_passed c.from_residual-in_err-left.result (λ (e : StoreError). NotDeletedIn g.D.Disk (Some c.args.piece) (place_of c.args.rid) c.args.member c.args.path.now c.args.limit e c.args.records.now c.put_rest.new.records c.args.disk.now c.put_rest.new.disk)
     c.in_err-left.field-0.0 (err_from_is_err_and c.from_residual-in_err-left.result c.from_residual-in_err-left.ensures.1)
     (put_refused g.D.Disk c.args.piece (place_of c.args.rid) c.args.member c.args.path.now c.args.limit c.in-Some.removed c.count_nodes-own.result w c.count_nodes-own.ensures c.args.records.now c.args.disk.now
-    c.remove_rows.new.records c.remove_rows.new.disk c.in_ok-below.below c.remove_rows.ensures.still c.in_ok-below.ensures.keeps.0 c.in_ok-below.ensures.keeps.1
-    (subst (λ (ps : List Proxy). ComesTidy g.D.Disk c.args.records.now c.remove_rows.new.records c.args.disk.now c.remove_rows.new.disk (RemovesRow ps (c.args.limit - c.count_nodes-own.result) c.in_ok-below.below)) c.as_slice.ensures c.in_ok-below.ensures.ok)
-    c.put_rest.new.records c.put_rest.new.disk c.args.rid.page c.in_err-left.field-0.0 c.in_err-left.ensures.refused)
+    c.remove_rows.new.records c.remove_rows.new.disk c.in_ok-below.below c.in_ok-below.ensures.ok.0 c.remove_rows.ensures.still c.in_ok-below.ensures.keeps.0 c.in_ok-below.ensures.keeps.1
+    (subst (λ (ps : List Proxy). ComesTidy g.D.Disk c.args.records.now c.remove_rows.new.records c.args.disk.now c.remove_rows.new.disk (RemovesRow ps (c.args.limit - c.count_nodes-own.result) c.in_ok-below.below c.in_ok-below.ensures.ok.0)) c.as_slice.ensures c.in_ok-below.ensures.ok.2)
+    c.put_rest.new.records c.put_rest.new.disk c.in_err-left.ensures.refused.0 c.in_err-left.field-0.0 c.in_err-left.ensures.refused.1)
 
 pub returns-clause-ok : goal.returns-clause-ok
 returns-clause-ok g c =
     let w : IsWithoutTree c.args.piece c.args.member c.args.path.now c.in-Some.removed = subst (λ (o : Option Removed). IsTreeRemoved c.args.piece c.args.member c.args.path.now o) c.in-Some.is c.in-Ok.ensures in
-    own_done g.D.Disk c.args.piece (place_of c.args.rid) c.args.member c.args.path.now c.args.limit c.in-Some.removed c.count_nodes-own.result w c.count_nodes-own.ensures c.args.records.now c.args.disk.now
-    c.remove_rows.new.records c.remove_rows.new.disk c.in_ok-below.below c.remove_rows.ensures.still c.in_ok-below.ensures.keeps.0 c.in_ok-below.ensures.keeps.1
-    (subst (λ (ps : List Proxy). ComesTidy g.D.Disk c.args.records.now c.remove_rows.new.records c.args.disk.now c.remove_rows.new.disk (RemovesRow ps (c.args.limit - c.count_nodes-own.result) c.in_ok-below.below)) c.as_slice.ensures c.in_ok-below.ensures.ok)
-    c.put_rest.new.records c.put_rest.new.disk c.in_ok-left.left (c.count_nodes-own.result + c.in_ok-below.below) refl c.in_ok-left.ensures.ok
+    let own : List Far = fars_in (Grow c.in-Some.removed.tree.node c.in-Some.removed.tree.below End) in (
+      own ++ c.in_ok-below.ensures.ok.0,
+      c.in_ok-below.ensures.ok.1 ∙ ap (λ (fs : List Far). fs ++ c.in_ok-below.ensures.ok.0) c.in-Ok-push_fars.ensures ∙ append_assoc c.args.gone.now.items own c.in_ok-below.ensures.ok.0,
+      own_done g.D.Disk c.args.piece (place_of c.args.rid) c.args.member c.args.path.now c.args.limit c.in-Some.removed c.count_nodes-own.result w c.count_nodes-own.ensures c.args.records.now c.args.disk.now
+          c.remove_rows.new.records c.remove_rows.new.disk c.in_ok-below.below c.in_ok-below.ensures.ok.0 c.remove_rows.ensures.still c.in_ok-below.ensures.keeps.0 c.in_ok-below.ensures.keeps.1
+          (subst (λ (ps : List Proxy). ComesTidy g.D.Disk c.args.records.now c.remove_rows.new.records c.args.disk.now c.remove_rows.new.disk (RemovesRow ps (c.args.limit - c.count_nodes-own.result) c.in_ok-below.below c.in_ok-below.ensures.ok.0)) c.as_slice.ensures c.in_ok-below.ensures.ok.2)
+          c.put_rest.new.records c.put_rest.new.disk c.in_ok-left.left (c.count_nodes-own.result + c.in_ok-below.below) refl c.in_ok-left.ensures.ok,
+    )
 
 pub returns-clause-keeps : goal.returns-clause-keeps
 returns-clause-keeps g c = (
