@@ -18,19 +18,21 @@ use Rattle.nx_script.specs.declared.reply.Reply.TheVariants as reply
 use Rattle.nx_script.specs.declared.reply.ReplyError.{ReplyError}
 use Rattle.nx_script.specs.declared.reply.ReplyError.TheVariants.{NoDocument, Exists, Pyx, NoNode, Full}
 use Rattle.nx_engine.specs.Step.{shown}
-use Rattle.nx_state.specs.State.{State, all_nodes}
+use Rattle.nx_hold.specs.Contents.{tree_pages}
+use Rattle.nx_state.specs.State.{State, all_nodes, all_pages}
 use Rattle.nx_steps.specs.Answers.{Answers, Refuses, by_stored_document, laid, Loads, MayBeFull, heavy_fault}
 use Rattle.nx_steps.specs.Refusal.{load_fault, node_fault}
-use Rattle.nx_steps.specs.Step.{Effect, FindsNoRoom, may_change, Step}
-use Rattle.nx_steps.proofs.CountLemmas.{load_nodes}
+use Rattle.nx_steps.specs.Step.{nodes_after, pages_after, Effect, FindsNoRoom, may_change, Step}
+use Rattle.nx_steps.proofs.CountLemmas.{load_sum}
 use Rattle.nx_steps.proofs.RunLemmas.{others_stay}
+use Rattle.nx_store.specs.Loading.{MayNotFit}
 
 -- the lines of a document under a name that is new: their fault, a node that is too heavy, or a load, which may find no room
 abbrev pub BodyStep : State → List ℕ → LoadBody → Reply → State → Type 0
 BodyStep state name (load.Wrong error) r next = Refuses state (Pyx error) r next
 BodyStep state name (load.Read tree) r next =
     MatchOption (heavy_fault (state.settings).k tree)
-    (Loads state name tree r next ⊎ (MayBeFull state (all_nodes state + (1 + nodes tree.below)) × Refuses state Full r next))
+    (Loads state name tree r next ⊎ (MayNotFit state tree × Refuses state Full r next))
     (λ error. Refuses state error r next)
 
 -- an answer that needs no room
@@ -57,16 +59,26 @@ none_there path tree error =
       | Some t ↦ λ e. cc
     ]
 
+-- the bound of room counts the nodes and the pages of a document with a new name
+load_fits : (state : State) (name : List ℕ) (tree : OrderedTree) → contains_key state.documents name ≡ false
+    → MayNotFit state tree ↔ MayBeFull state (nodes_after state (Load name (load.Read tree))) (pages_after state (Load name (load.Read tree)))
+load_fits state name tree new =
+    let nodes_are : nodes_after state (Load name (load.Read tree)) ≡ all_nodes state + (1 + nodes tree.below) = load_sum (λ t. 1 + nodes t.below) state name tree new in
+    let pages_are : pages_after state (Load name (load.Read tree)) ≡ all_pages state + tree_pages tree = load_sum tree_pages state name tree new in (
+      λ full. subst (λ n. MayBeFull state n (pages_after state (Load name (load.Read tree)))) (sym nodes_are) (subst (MayBeFull state (all_nodes state + (1 + nodes tree.below))) (sym pages_are) full),
+      λ full. subst (MayBeFull state (all_nodes state + (1 + nodes tree.below))) pages_are (subst (λ n. MayBeFull state n (pages_after state (Load name (load.Read tree)))) nodes_are full),
+    )
+
 read_step : (state : State) (name : List ℕ) (tree : OrderedTree) (r : Reply) (next : State) → contains_key state.documents name ≡ false
     → BodyStep state name (load.Read tree) r next
     ↔ MatchOption (heavy_fault (state.settings).k tree) (Loads state name tree r next ⊎ FindsNoRoom state (Load name (load.Read tree)) r next) (λ error. Refuses state error r next)
 read_step state name tree r next new =
-    let n = load_nodes state name tree new in
-    elim (heavy_fault (state.settings).k tree) as (λ f. MatchOption f (Loads state name tree r next ⊎ (MayBeFull state (all_nodes state + (1 + nodes tree.below)) × Refuses state Full r next)) (λ error. Refuses state error r next)
+    let same = load_fits state name tree new in
+    elim (heavy_fault (state.settings).k tree) as (λ f. MatchOption f (Loads state name tree r next ⊎ (MayNotFit state tree × Refuses state Full r next)) (λ error. Refuses state error r next)
     ↔ MatchOption f (Loads state name tree r next ⊎ FindsNoRoom state (Load name (load.Read tree)) r next) (λ error. Refuses state error r next)) [
       | None ↦ (
-        λ s. elim s [ inl l ↦ inl l | inr f ↦ inr (record { needs = refl; full = subst (MayBeFull state) (sym n) f.0; refused = f.1 }) ],
-        λ s. elim s [ inl l ↦ inl l | inr f ↦ inr (subst (MayBeFull state) n f.full, f.refused) ],
+        λ s. elim s [ inl l ↦ inl l | inr f ↦ inr (record { needs = refl; full = same.0 f.0; refused = f.1 }) ],
+        λ s. elim s [ inl l ↦ inl l | inr f ↦ inr (same.1 f.full, f.refused) ],
       )
       | Some error ↦ (λ a. a, λ a. a)
     ]

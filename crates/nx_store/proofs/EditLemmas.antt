@@ -1,12 +1,13 @@
 -- A document of a store edited, before the commit.
 use Rattle.std.proofs.Common.{◌≡◌, ℕ, ◌+◌, ◌*◌, ◌<◌, ◌≤◌, cond, inl, inr, List, [], ◌∷◌, ◌++◌, length, map, Option, None, Some, Bool, true, false, Less, Equal, Greater, is_eq, refl, sym, ap, ◌∙◌, subst, arith, append-nil}
-use Rattle.std.specs.Prelude.{◌≢◌, All, if◌then◌else◌, nat_lt, option_and_then, Ok, Err}
+use Rattle.std.specs.Prelude.{◌≢◌, All, IsPermutation, if◌then◌else◌, nat_lt, option_and_then, Ok, Err}
 use Rattle.std.specs.Option.{is_some, option_map, option_map_or, option_or, IsSomeAnd}
 use Rattle.std.specs.List.{sum}
-use Rattle.std.specs.FinMap.{entries, find, get, insert, get-entries}
+use Rattle.std.specs.FinMap.{entries, values, find, get, insert, get-entries}
 use Rattle.std.proofs.lemmas.Bool.{false≢true, le-ltb}
 use Rattle.std.proofs.lemmas.List.{length-map}
-use Rattle.std.proofs.lemmas.List.Elements.{All-nil, All-cons, All-head, All-tail}
+use Rattle.std.proofs.lemmas.List.Elements.{All-nil, All-cons, All-head, All-tail, Contains-append_left, Contains-append_right, Contains-append_cases}
+use Rattle.std.proofs.lemmas.List.Sorted.{Contains-permutation, IsPermutation-sym}
 use Rattle.nx_host.specs.declared.disk.Disk.{Ghosts}
 use Rattle.nx_host.specs.Still.{IsStill}
 use Rattle.nx_host.proofs.DiskLemmas.{untold}
@@ -29,8 +30,8 @@ use Rattle.nx_records.specs.declared.error.StoreError.TheVariants as below
 use Rattle.nx_records.specs.Records.{has_ended, settings_of, StandsFor, KeepsSaved, ComesTo}
 use Rattle.nx_records.specs.Changes.{SetsCatalog, catalog_needs}
 use Rattle.nx_records.specs.Refusals.{RunsOn, NotStored}
-use Rattle.nx_cuts.specs.Cut.{CutTree, tree_of}
-use Rattle.nx_layouts.specs.Layout.{RecordPlace, ArePlacedOnce}
+use Rattle.nx_cuts.specs.Cut.{CutTree, forest, tree_of}
+use Rattle.nx_layouts.specs.Layout.{RecordPlace, Layout, without_places, nodes_in, lists_of, contents_of, AreOnce, ArePlacedOnce}
 use Rattle.nx_script.specs.Field.{name_order, is_document_name}
 use Rattle.nx_script.specs.Rule.{HasLabels}
 use Rattle.nx_script.specs.Commands.{CanCome}
@@ -45,24 +46,28 @@ use Rattle.nx_script.specs.declared.reply.ReplyError.{ReplyError}
 use Rattle.nx_script.specs.declared.reply.ReplyError.TheVariants.{NoDocument, Pyx, TooHeavy, Full}
 use Rattle.nx_engine.specs.Step.{worded, insert_fault, delete_fault, retext_fault}
 use Rattle.nx_hold.specs.declared.entry.DocEntry.{DocEntry}
-use Rattle.nx_hold.specs.Changes.{ComesTidy}
+use Rattle.nx_hold.specs.Contents.{near_pages, tree_pages}
 use Rattle.nx_hold.specs.Documents.{MovesRecords}
-use Rattle.nx_hold.specs.Pieces.{IsTidy, PieceMap}
+use Rattle.nx_hold.specs.Pieces.{IsTidy, PieceMap, held_by}
 use Rattle.nx_hold.proofs.MapLemmas.{piece_map}
 use Rattle.nx_hold.proofs.RefusalLemmas.{runs_then, saved_then}
 use Rattle.nx_catalog.specs.Catalog.{Contents, Document, Entries, CanBeKept, IsCatalog, catalog_bytes}
 use Rattle.nx_catalog.proofs.LengthLemmas.{most_bytes, length_there}
-use Rattle.nx_state.specs.State.{State, document_size, all_nodes}
+use Rattle.nx_state.specs.State.{State, document_size, all_nodes, all_pages}
 use Rattle.nx_state.specs.Stands.{StoredDocument, IsStoredIn, HoldsDocuments, record_places, all_places}
+use Rattle.nx_state.specs.Laws.{ContentsChange}
 use Rattle.nx_state.proofs.ChangeLemmas.{documents_change, catalog_comes}
 use Rattle.nx_state.proofs.FreeLemmas.{documents_leave_free}
 use Rattle.nx_steps.specs.Answers.{with_document, MayBeFull}
 use Rattle.nx_steps.specs.Refusal.{refusal, document_fault, weight_fault, inserted_fault, retexted_fault}
-use Rattle.nx_steps.specs.Step.{nodes_after, may_need_room, Effect, Step}
+use Rattle.nx_steps.specs.Step.{sum_after, nodes_after, pages_after, may_need_room, Effect, Step}
+use Rattle.nx_steps.specs.Laws.{sum_of}
 use Rattle.nx_steps.proofs.CountLemmas.{room_counted}
-use Rattle.nx_edit.specs.Editing.{places_off, IsEdited, EditsDocument}
+use Rattle.nx_steps.proofs.SoundLemmas.{unworded, insert_named}
+use Rattle.nx_steps.proofs.TreesLaw.{none_of, first_of_two}
+use Rattle.nx_edit.specs.Editing.{places_off, nodes_off, edited_needs, IsEdited}
 use Rattle.nx_edit.specs.Removing.{document_places, OfEntry}
-use Rattle.nx_edit.specs.Refusals.{refused_by, edit_needs, edit_error, LeavesLastCommit, IsAtFault, NotEdited}
+use Rattle.nx_edit.specs.Refusals.{refused_by, edit_needs, edit_error, LeavesLastCommit, IsAtFault}
 use Rattle.nx_edit.specs.Retexting.{other_content, outweighs, outgrows}
 use Rattle.nx_edit.specs.declared.error.EditError.{EditError}
 use Rattle.nx_edit.specs.declared.error.EditError.TheVariants as edit
@@ -70,7 +75,7 @@ use Rattle.nx_store.specs.Store.{IsAt}
 use Rattle.nx_store.specs.Staying.{IsOffPath, IsLeftBy, RecordsStay}
 use Rattle.nx_store.specs.Loading.{IsStoreLeft}
 use Rattle.nx_store.specs.Changing.{Prepares, StepsRefused}
-use Rattle.nx_store.specs.Editing.{edit_command, said_command, said_edit, CanBeMade, edit_fault, is_of_edit, tree_edit, EditBecomes, stays_below, edit_reply, EditNotPrepared}
+use Rattle.nx_store.specs.Editing.{edit_command, said_command, said_edit, CanBeMade, edit_fault, is_of_edit, tree_edit, EditBecomes, stays_below, edit_kept, edit_pages, MakesEdit, NotMade, edit_reply, EditNotPrepared}
 use Rattle.nx_store.specs.declared.editing.Edit.{Edit}
 use Rattle.nx_store.specs.declared.editing.Edit.TheVariants as made
 use Rattle.nx_store.specs.declared.edits.EditBody.{EditBody}
@@ -78,11 +83,12 @@ use Rattle.nx_store.specs.declared.edits.EditBody.TheVariants as body
 use Rattle.nx_store.specs.declared.store.Store.{Store}
 use Rattle.nx_store.proofs.FoundLemmas.{at_none, same_some}
 use Rattle.nx_store.proofs.KeepLemmas.{later_rose, no_end}
-use Rattle.nx_store.proofs.RoomLemmas.{sum_between, nodes_stored, edit_room}
+use Rattle.nx_store.proofs.PageLemmas.{near_few, cut_within, retext_within, put_within}
+use Rattle.nx_store.proofs.RoomLemmas.{sum_between, sum_stored, nodes_stored, pages_stored, edit_room}
 use Rattle.nx_store.proofs.StepsLemmas.{refused_step, done_step, full_step}
 use Rattle.nx_store.proofs.OrderedLemmas.{name_same, replaced_between}
 use Rattle.nx_store.proofs.StayingLemmas.{off_within, change_leaves, catalog_leaves}
-use Rattle.nx_store.proofs.GoneLemmas.{none_needed, contents_at, entries_at, the_one, place, shown_there, holds_between, stored_one, told_entry}
+use Rattle.nx_store.proofs.GoneLemmas.{none_needed, contents_at, entries_at, the_one, place, shown_there, holds_between, stored_one, own_contents, told_entry, none_entry}
 
 -- ---- the entry of a name
 
@@ -194,11 +200,11 @@ edit_effect state name path made.Delete old document there is = (refl, record { 
 edit_effect state name path (made.Retext content) old document there is = (refl, record { old = old; new = document; there = there; becomes = is; next_is = refl })
 edit_effect state name path (made.Insert node) old document there is = (refl, record { old = old; new = document; there = there; becomes = is; next_is = refl })
 
-edit_counts : (state : State) (name path : List ℕ) (e : Edit) (old : CutTree) → get state.documents name ≡ Some old → refusal state (edit_command name path e) ≡ None
-    → nodes_after state (edit_command name path e) + document_size old ≡ all_nodes state + (1 + nodes (tree_edit e path (tree_of old)).below)
-edit_counts state name path made.Delete old there none = room_counted state (Delete name path) none old there
-edit_counts state name path (made.Retext content) old there none = room_counted state (Retext name path (said.Read content)) none old there
-edit_counts state name path (made.Insert node) old there none = room_counted state (Insert name path (line.Read node)) none old there
+edit_counts : (count : OrderedTree → ℕ) (state : State) (name path : List ℕ) (e : Edit) (old : CutTree) → get state.documents name ≡ Some old → refusal state (edit_command name path e) ≡ None
+    → sum_after count state (edit_command name path e) + count (tree_of old) ≡ sum_of count state + count (tree_edit e path (tree_of old))
+edit_counts count state name path made.Delete old there none = room_counted count state (Delete name path) none old there
+edit_counts count state name path (made.Retext content) old there none = room_counted count state (Retext name path (said.Read content)) none old there
+edit_counts count state name path (made.Insert node) old there none = room_counted count state (Insert name path (line.Read node)) none old there
 
 edit_needs_room : (name path : List ℕ) (e : Edit) → may_need_room (edit_command name path e) ≡ true
 edit_needs_room name path made.Delete = refl
@@ -220,11 +226,35 @@ done_edit state name path e old document there can fault is =
     done_step state (edit_command name path e) (with_document state name document) (free_edit state name path e old there can fault) (edit_effect state name path e old document there is)
 
 pub full_edit : (state : State) (name path : List ℕ) (e : Edit) (old : CutTree) → get state.documents name ≡ Some old → CanBeMade e → edit_fault e path (state.settings).k (tree_of old) ≡ None
-    → ((behind : ℕ) → behind + document_size old ≡ all_nodes state + (1 + nodes (tree_edit e path (tree_of old)).below) → MayBeFull state behind) → Step state (edit_command name path e) (reply.Refused Full) state
+    → ((behind pages_behind : ℕ) → behind + document_size old ≡ all_nodes state + (1 + nodes (tree_edit e path (tree_of old)).below)
+    → pages_behind + tree_pages (tree_of old) ≡ all_pages state + tree_pages (tree_edit e path (tree_of old)) → MayBeFull state behind pages_behind) → Step state (edit_command name path e) (reply.Refused Full) state
 full_edit state name path e old there can fault full =
     let none = free_edit state name path e old there can fault in
     full_step state (edit_command name path e) none
-    (record { needs = edit_needs_room name path e; full = full (nodes_after state (edit_command name path e)) (edit_counts state name path e old there none); refused = (refl, refl) })
+    (record {
+      needs = edit_needs_room name path e;
+      full = full (nodes_after state (edit_command name path e)) (pages_after state (edit_command name path e)) (edit_counts (λ t. 1 + nodes t.below) state name path e old there none)
+          (edit_counts tree_pages state name path e old there none);
+      refused = (refl, refl);
+    })
+
+-- the pages that it may need for contents are no more than those of the document behind it take
+pub contents_within : (state : State) (name path : List ℕ) (e : Edit) (old : CutTree) (layout : Layout) → get state.documents name ≡ Some old → CanBeMade e → edit_fault e path (state.settings).k (tree_of old) ≡ None
+    → without_places layout ≡ old.below → near_pages (edit_kept e path layout) + edit_pages e ≤ tree_pages (tree_edit e path (tree_of old))
+contents_within state name path made.Delete old layout there can fault same =
+    let within = cut_within (tree_of old) layout (ap forest same) path fault in
+    let few = near_few (nodes_off false path layout) in
+    omega (arith, within, few)
+contents_within state name path (made.Retext content) old layout there can fault same =
+    let within = retext_within (tree_of old) layout (ap forest same) content path (state.settings).k fault in
+    let few = near_few (nodes_off true path layout) in
+    omega (arith, within, few)
+contents_within state name path (made.Insert node) old layout there can fault same =
+    let free = none_of state name old (insert_fault path (line.Read node)) there
+    (first_of_two state name (insert_fault path (line.Read node)) (λ t. inserted_fault (state.settings).k path (line.Read node)) old there (free_edit state name path (made.Insert node) old there can fault)) in
+    let within = put_within (tree_of old) layout (ap forest same) node path (unworded (insert_refusal node path (tree_of old)) (insert_named node path (tree_of old)) free) in
+    let few = near_few (nodes_in layout) in
+    omega (arith, within, few)
 
 abbrev text_fault : State → List ℕ → TextBody → OrderedTree → Option ReplyError
 text_fault state path text tree = option_or (retext_fault path text tree) (retexted_fault (state.settings).k path text tree)
@@ -287,18 +317,25 @@ said_no_checkpoint name path (body.Insert said) is = cc
 
 -- ---- the state with the document edited
 
--- what an edit makes is told by the settings of the records
-pub by_settings : {D : Type 0} (d : Ghosts D) (r0 r1 : Records) (x0 x1 : D) (Becomes : Settings → CutTree → CutTree → Type 0) (stays : Bool) (path : List ℕ) (entry new : DocEntry)
-    → ComesTidy d r0 r1 x0 x1 (λ was now. EditsDocument (Becomes was.settings) stays path entry new was now) → ComesTidy d r0 r1 x0 x1 (EditsDocument (Becomes (settings_of r0)) stays path entry new)
-by_settings d r0 r1 x0 x1 Becomes stays path entry new comes saved now stands tidy =
-    let next = comes saved now stands tidy in
-    (next.0, next.1, next.2, subst (λ (s : Settings). EditsDocument (Becomes s) stays path entry new now next.0) ((stands.holds).behind).settings next.3)
-
 -- what an edit leaves is off its path
 left_off : (name path : List ℕ) (e : Edit) (s : StoredDocument) (p : RecordPlace) → IsLeftBy (edit_command name path e) s p → IsOffPath name (stays_below e) path s p
 left_off name path made.Delete s p left = left
 left_off name path (made.Retext content) s p left = left
 left_off name path (made.Insert node) s p left = left
+
+-- of the contents of a document these are kept, some went, and some came
+contents_change : (old new kept lost brought : List ℕ) → IsPermutation (kept ++ lost) old → IsPermutation new (kept ++ brought) → ContentsChange old new lost brought
+contents_change old new kept lost brought went came = record {
+  from = λ first among. elim (Contains-append_cases kept brought first (Contains-permutation new (kept ++ brought) first came among)) [
+    | inl stays ↦ inl (Contains-permutation (kept ++ lost) old first went (Contains-append_left kept lost first stays))
+    | inr fresh ↦ inr fresh
+  ];
+  went = λ first among. elim (Contains-append_cases kept lost first (Contains-permutation old (kept ++ lost) first (IsPermutation-sym (kept ++ lost) old went) among)) [
+    | inl stays ↦ inl (Contains-permutation (kept ++ brought) new first (IsPermutation-sym new (kept ++ brought) came) (Contains-append_left kept brought first stays))
+    | inr gone ↦ inr gone
+  ];
+  came = λ first among. Contains-permutation (kept ++ brought) new first (IsPermutation-sym new (kept ++ brought) came) (Contains-append_right kept brought first among);
+}
 
 -- The records are those of a state with another document in the place of one, whose catalog is not set yet.
 record IsRewritten (saved mid : Held) (state : State) (contents : Contents) (name : List ℕ) (new : DocEntry) (document : CutTree) : Type 0 where
@@ -314,51 +351,71 @@ module _ {D : Type 0} (d : Ghosts D) (s0 : Store) (x0 : D) (state : State) (at :
   abbrev pub old : StoredDocument
   old = (the_one d s0 x0 state at name entry there).0
 
-  moved_alone : (mid : Held) (now : StoredDocument) (needs : ℕ) → MovesRecords (record_places old) (record_places now) needs at.held mid → MovesRecords (all_places (old ∷ [])) (all_places (now ∷ [])) needs at.held mid
-  moved_alone mid now needs moves =
-      subst (λ (ps : List RecordPlace). MovesRecords ps (record_places now ++ []) needs at.held mid) (sym (append-nil (record_places old)))
-      (subst (λ (ps : List RecordPlace). MovesRecords (record_places old) ps needs at.held mid) (sym (append-nil (record_places now))) moves)
+  moved_alone : (mid : Held) (now : StoredDocument) (lost brought : List ℕ) (needs : ℕ) → MovesRecords (record_places old) (record_places now) lost brought needs at.held mid
+      → MovesRecords (all_places (old ∷ [])) (all_places (now ∷ [])) lost brought needs at.held mid
+  moved_alone mid now lost brought needs moves =
+      subst (λ (ps : List RecordPlace). MovesRecords ps (record_places now ++ []) lost brought needs at.held mid) (sym (append-nil (record_places old)))
+      (subst (λ (ps : List RecordPlace). MovesRecords (record_places old) ps lost brought needs at.held mid) (sym (append-nil (record_places now))) moves)
 
-  -- its records became those of another one
-  changed_between : (mid : Held) (now : StoredDocument) (needs : ℕ) → MovesRecords (record_places old) (record_places now) needs at.held mid → IsTidy mid
-      → ((pieces : PieceMap mid) → IsStoredIn (mid.settings).k pieces.piece_at now) → HoldsDocuments mid ((place d s0 x0 state at name entry there).before ++ now ∷ (place d s0 x0 state at name entry there).after)
-  changed_between mid now needs moves tidy stored =
+  -- its records and contents became those of another one
+  changed_between : (mid : Held) (now : StoredDocument) (lost brought : List ℕ) (needs : ℕ) → MovesRecords (record_places old) (record_places now) lost brought needs at.held mid → IsTidy mid
+      → AreOnce (contents_of now.layout) → ContentsChange (contents_of old.layout) (contents_of now.layout) lost brought → ((pieces : PieceMap mid) → IsStoredIn (held_by pieces) now)
+      → HoldsDocuments mid ((place d s0 x0 state at name entry there).before ++ now ∷ (place d s0 x0 state at name entry there).after)
+  changed_between mid now lost brought needs moves tidy once change stored =
       let among = place d s0 x0 state at name entry there in
-      documents_change needs at.held mid among.before (old ∷ []) (now ∷ []) among.after (holds_between d s0 x0 state at name entry there) (moved_alone mid now needs moves)
+      documents_change lost brought needs at.held mid among.before (old ∷ []) (now ∷ []) among.after (holds_between d s0 x0 state at name entry there) (moved_alone mid now lost brought needs moves)
       tidy (subst ArePlacedOnce (sym (append-nil (record_places now))) ((stored (piece_map mid)).laid).once)
-      (λ pieces. All-cons (IsStoredIn (mid.settings).k pieces.piece_at) now [] (stored pieces) (All-nil (IsStoredIn (mid.settings).k pieces.piece_at)))
+      (subst (λ (ls : List ℕ). AreOnce ls) (sym (append-nil (contents_of now.layout))) once)
+      (subst (λ (ls : List ℕ). ContentsChange ls (contents_of now.layout ++ []) lost brought) (sym (append-nil (contents_of old.layout)))
+      (subst (λ (ls : List ℕ). ContentsChange (contents_of old.layout) ls lost brought) (sym (append-nil (contents_of now.layout))) change))
+      (λ pieces. All-cons (IsStoredIn (held_by pieces)) now [] (stored pieces) (All-nil (IsStoredIn (held_by pieces))))
 
-  rewritten : (r1 : Records) (x1 : D) (new : DocEntry) (Becomes : CutTree → CutTree → Type 0) (stays : Bool) (path : List ℕ) → ComesTidy d s0.records r1 x0 x1 (EditsDocument Becomes stays path entry new)
-      → (mid : Held) × StandsFor d r1 x1 at.held mid × (document : CutTree) × Becomes old.document document × IsRewritten at.held mid state s0.catalog name new document × RecordsStay (IsOffPath name stays path) (at.state_is).stored at.held mid
-  rewritten r1 x1 new Becomes stays path comes =
-      let mid = comes at.held at.held at.stands ((at.state_is).holds).tidy in
-      let among = place d s0 x0 state at name entry there in
-      let stored = stored_one d s0 x0 state at name entry there in
-      let edited : IsEdited (Becomes old.document) (document_size old.document) (document_places old.entry old.document old.layout) (places_off stays path old.layout) new at.held mid.0 =
-      subst (λ (e : DocEntry). EditsDocument Becomes stays path e new at.held mid.0) (sym (the_one d s0 x0 state at name entry there).2) mid.3 (holds_between d s0 x0 state at name entry there).pieces old.document old.layout stored.laid stored.counted in
-      let now : StoredDocument = record { name = name; entry = new; document = edited.document; layout = edited.layout } in (
-        mid.0,
-        mid.1,
-        edited.document,
-        edited.becomes,
-        record {
-          stored = among.before ++ now ∷ among.after;
-          holds = changed_between mid.0 now (document_size old.document + 2 * document_size edited.document) edited.moves mid.2 (λ pieces. record { laid = edited.laid pieces; counted = edited.counted });
-          settings = (edited.moves).settings;
-          catalog = (edited.moves).catalog;
-          names = replaced_between (λ (s : StoredDocument). s.name) (λ (s : StoredDocument). s.entry) (s0.catalog).documents among.before old now among.after (sym among.named)
-              (entries_at d s0 x0 state at name entry there ∙ ap (map (λ (s : StoredDocument). (s.name, s.entry))) among.are);
-          documents = replaced_between (λ (s : StoredDocument). s.name) (λ (s : StoredDocument). s.document) state.documents among.before old now among.after (sym among.named)
-              ((at.state_is).documents ∙ ap (map (λ (s : StoredDocument). (s.name, s.document))) among.are);
-        },
-        subst (λ (l : List StoredDocument). RecordsStay (IsOffPath name stays path) l at.held mid.0) (sym among.are)
-            (change_leaves (IsOffPath name stays path) (document_size old.document + 2 * document_size edited.document) at.held mid.0 among.before old (now ∷ []) among.after
-            (holds_between d s0 x0 state at name entry there) (moved_alone mid.0 now (document_size old.document + 2 * document_size edited.document) edited.moves) (off_within name stays path)
-            (λ p left. elim left [
-              | inl of ↦ record { itself = edited.records_stay p of.1; list = λ count chain names. edited.lists_stay p count chain of.1 names }
-              | inr of ↦ absurd (of.0 among.named)
-            ])),
-      )
+  module _ (rules : List Rule) (e : Edit) (path : List ℕ) where
+    -- what becomes of it
+    abbrev Edited : (new : DocEntry) (mid : Held) → Type 0
+    Edited new mid =
+        IsEdited (EditBecomes (at.held).settings rules e path old.document) (edit_kept e path) (edit_pages e) (document_size old.document) (document_places old.entry old.document old.layout) (places_off (stays_below e) path old.layout)
+        old.layout new at.held mid
+
+    edited_one : (r1 : Records) (x1 : D) (new : DocEntry) → MakesEdit d s0.records r1 x0 x1 rules e path entry new → (mid : Held) × StandsFor d r1 x1 at.held mid × IsTidy mid × Edited new mid
+    edited_one r1 x1 new makes =
+        let stored = stored_one d s0 x0 state at name entry there in
+        subst (λ (x : DocEntry). MakesEdit d s0.records r1 x0 x1 rules e path x new) (sym (the_one d s0 x0 state at name entry there).2) makes at.held at.held (holds_between d s0 x0 state at name entry there).pieces
+        old.document old.layout at.stands (holds_between d s0 x0 state at name entry there).tidy stored.laid stored.counted (own_contents d s0 x0 state at name entry there)
+
+    rewritten : (r1 : Records) (x1 : D) (new : DocEntry) → MakesEdit d s0.records r1 x0 x1 rules e path entry new
+        → (mid : Held) × StandsFor d r1 x1 at.held mid × (document : CutTree) × EditBecomes (at.held).settings rules e path old.document document × IsRewritten at.held mid state s0.catalog name new document
+        × RecordsStay (IsOffPath name (stays_below e) path) (at.state_is).stored at.held mid
+    rewritten r1 x1 new makes =
+        let mid = edited_one r1 x1 new makes in
+        let among = place d s0 x0 state at name entry there in
+        let edited : Edited new mid.0 = mid.3 in
+        let now : StoredDocument = record { name = name; entry = new; document = edited.document; layout = edited.layout } in
+        let needs = edited_needs (edit_kept e path) (edit_pages e) (document_size old.document) (document_size edited.document) old.layout in (
+          mid.0,
+          mid.1,
+          edited.document,
+          edited.becomes,
+          record {
+            stored = among.before ++ now ∷ among.after;
+            holds = changed_between mid.0 now edited.lost edited.brought needs edited.moves mid.2 edited.contents_once
+                (contents_change (contents_of old.layout) (contents_of edited.layout) (lists_of (edit_kept e path old.layout)) edited.lost edited.brought edited.contents_went edited.contents_came)
+                (λ pieces. record { laid = edited.laid pieces; counted = edited.counted });
+            settings = (edited.moves).settings;
+            catalog = (edited.moves).catalog;
+            names = replaced_between (λ (s : StoredDocument). s.name) (λ (s : StoredDocument). s.entry) (s0.catalog).documents among.before old now among.after (sym among.named)
+                (entries_at d s0 x0 state at name entry there ∙ ap (map (λ (s : StoredDocument). (s.name, s.entry))) among.are);
+            documents = replaced_between (λ (s : StoredDocument). s.name) (λ (s : StoredDocument). s.document) state.documents among.before old now among.after (sym among.named)
+                ((at.state_is).documents ∙ ap (map (λ (s : StoredDocument). (s.name, s.document))) among.are);
+          },
+          subst (λ (l : List StoredDocument). RecordsStay (IsOffPath name (stays_below e) path) l at.held mid.0) (sym among.are)
+              (change_leaves (IsOffPath name (stays_below e) path) edited.lost edited.brought needs at.held mid.0 among.before old (now ∷ []) among.after
+              (holds_between d s0 x0 state at name entry there) (moved_alone mid.0 now edited.lost edited.brought needs edited.moves) (off_within name (stays_below e) path)
+              (λ p left. elim left [
+                | inl of ↦ record { itself = edited.records_stay p of.1; list = λ count chain names. edited.lists_stay p count chain of.1 names }
+                | inr of ↦ absurd (of.0 among.named)
+              ])),
+        )
 
   -- the same settings and rules are those of the state
   settings_at : settings_of s0.records ≡ state.settings
@@ -372,22 +429,22 @@ module _ {D : Type 0} (d : Ghosts D) (s0 : Store) (x0 : D) (state : State) (at :
 
   -- the edited document is entered
   pub edit_prepared : (path : List ℕ) (e : Edit) (can : CanBeMade e)
-      → OfEntry d s0.records x0 entry (λ now document. edit_fault e path (settings_of s0.records).k (tree_of document) ≡ None)
-      → (r1 : Records) (s2 : Store) (x1 x2 : D) (new : DocEntry) → ComesTidy d s0.records r1 x0 x1 (EditsDocument (EditBecomes (settings_of s0.records) (s0.catalog).rules e path) (stays_below e) path entry new)
+      → OfEntry d s0.records x0 entry (λ now document layout. edit_fault e path (settings_of s0.records).k (tree_of document) ≡ None)
+      → (r1 : Records) (s2 : Store) (x1 x2 : D) (new : DocEntry) → MakesEdit d s0.records r1 x0 x1 (s0.catalog).rules e path entry new
       → (s2.catalog).documents ≡ insert (s0.catalog).documents name new → (s2.catalog).rules ≡ (s0.catalog).rules
       → (All HasLabels (s0.catalog).rules → IsCatalog (catalog_bytes s2.catalog) s2.catalog) → ComesTo d r1 s2.records x1 x2 (λ was now. SetsCatalog (catalog_bytes s2.catalog) was now)
       → (made : Prepares d state (edit_command name path e) reply.Done s2 x2) × RecordsStay (IsLeftBy (edit_command name path e)) (at.state_is).stored at.held (made.prepared).now
   edit_prepared path e can free r1 s2 x1 x2 new comes documents rules form saves =
-      let mid = rewritten r1 x1 new (EditBecomes (settings_of s0.records) (s0.catalog).rules e path) (stays_below e) path comes in
+      let mid = rewritten (s0.catalog).rules e path r1 x1 new comes in
       let m = mid.4 in
       let now = saves at.held mid.0 mid.1 in
       let formed = form (at.catalog).labels in
       let becomes : EditBecomes state.settings state.rules e path old.document mid.2 =
-      subst (λ (s : Settings). EditBecomes s state.rules e path old.document mid.2) settings_at (subst (λ (rs : List Rule). EditBecomes (settings_of s0.records) rs e path old.document mid.2) rules_at mid.3) in (
+      subst (λ (s : Settings). EditBecomes s state.rules e path old.document mid.2) (at.state_is).settings (subst (λ (rs : List Rule). EditBecomes (at.held).settings rs e path old.document mid.2) rules_at mid.3) in (
         record {
           next = with_document state name mid.2;
           step = done_edit state name path e old.document mid.2 (shown_there d s0 x0 state at name entry there) can
-              (fault_at path e None (told_entry d s0 x0 state at name entry there (λ now document. edit_fault e path (settings_of s0.records).k (tree_of document) ≡ None) free)) becomes;
+              (fault_at path e None (told_entry d s0 x0 state at name entry there (λ now document layout. edit_fault e path (settings_of s0.records).k (tree_of document) ≡ None) free)) becomes;
           prepared = record {
             saved = at.held;
             now = now.0;
@@ -410,33 +467,43 @@ module _ {D : Type 0} (d : Ghosts D) (s0 : Store) (x0 : D) (state : State) (at :
       )
 
   -- the catalog, which is as long as it was, needs no page
-  pub entry_fits : (r1 : Records) (x1 : D) (new : DocEntry) (Becomes : CutTree → CutTree → Type 0) (stays : Bool) (path : List ℕ) → ComesTidy d s0.records r1 x0 x1 (EditsDocument Becomes stays path entry new)
+  pub entry_fits : (r1 : Records) (x1 : D) (new : DocEntry) (rules : List Rule) (e : Edit) (path : List ℕ) → MakesEdit d s0.records r1 x0 x1 rules e path entry new
       → ((saved now : Held) → StandsFor d r1 x1 saved now → now.free < catalog_needs (catalog_bytes (record { documents = insert (s0.catalog).documents name new; rules = (s0.catalog).rules })) now) → ⊥
-  entry_fits r1 x1 new Becomes stays path comes lacks =
-      let mid = rewritten r1 x1 new Becomes stays path comes in
+  entry_fits r1 x1 new rules e path comes lacks =
+      let mid = rewritten rules e path r1 x1 new comes in
       let same = length_there (s0.catalog).documents (s0.catalog).rules name new (ap is_some there) in
       let was : length (mid.0).catalog ≡ length (catalog_bytes s0.catalog) = ap (λ (b : List ℕ). length b) ((mid.4).catalog ∙ (at.catalog).spelled) in
       none_needed mid.0 (catalog_bytes (record { documents = insert (s0.catalog).documents name new; rules = (s0.catalog).rules })) (omega (arith, same, was)) (lacks at.held mid.0 mid.1)
 
-  -- no more pages were free than an edit may need, so there may be no room
-  pub may_fill : (behind new : ℕ) → behind + document_size old.document ≡ all_nodes state + new → (at.held).free < document_size old.document + 2 * new → MayBeFull state behind
-  may_fill behind new counted few =
-      let state_is = at.state_is in
+  -- what is counted of it is among what is counted of all
+  among_all : (count : CutTree → ℕ) → count old.document ≤ sum (map count (values state.documents))
+  among_all count =
       let among = place d s0 x0 state at name entry there in
+      let between = sum_between (λ (s : StoredDocument). count s.document) among.before old among.after in
+      let listed = ap (λ (l : List StoredDocument). sum (map (λ (s : StoredDocument). count s.document) l)) among.are in
+      let total = sum_stored count state (at.state_is).stored (at.state_is).documents in
+      omega (arith, between, listed, total)
+
+  -- no more pages were free than an edit may need, so there may be no room
+  pub may_fill : (behind pages_behind new put has : ℕ) → behind + document_size old.document ≡ all_nodes state + new → pages_behind + tree_pages (tree_of old.document) ≡ all_pages state + has → put ≤ has
+      → (at.held).free < document_size old.document + 2 * new + put → MayBeFull state behind pages_behind
+  may_fill behind pages_behind new put has counted told within few =
+      let state_is = at.state_is in
       let free = documents_leave_free (current (s0.records).wal ((at.stands).keeps).image) at.held state_is.stored ((s0.records).head, (at.stands).holds) state_is.holds in
       let all = free.few_records in
       let chains = free.few_chains in
-      let whole : ((at.held).settings).limit ≤ (at.held).free + (1 + free.records + free.chains + chain_count (length (at.held).catalog)) = free.free in
+      let listed = free.few_contents in
+      let whole : ((at.held).settings).limit ≤ (at.held).free + (1 + free.records + free.chains + free.contents + chain_count (length (at.held).catalog)) = free.free in
       let two = free.few_documents in
       let total = nodes_stored state state_is.stored state_is.documents in
+      let long = pages_stored state state_is.stored state_is.documents in
       let limit : ((at.held).settings).limit ≡ (state.settings).limit = ap (λ (t : Settings). t.limit) state_is.settings in
       let short = most_bytes (at.held).catalog state_is.contents state_is.catalog in
       let number : length (entries (state_is.contents).documents) ≡ length state_is.stored = ap length state_is.names ∙ length-map state_is.stored (λ (s : StoredDocument). (s.name, s.entry)) in
       let rules : length (state_is.contents).rules ≡ length state.rules = ap length state_is.rules in
-      let sizes = sum_between among.before old among.after in
-      let listed = ap (λ (l : List StoredDocument). sum (map (λ (s : StoredDocument). document_size s.document) l)) among.are in
-      edit_room (all_nodes state) behind (document_size old.document) new free.records free.chains (length state_is.stored) (length (at.held).catalog) (length state.rules) (at.held).free (state.settings).limit
-      (omega (arith, whole, limit)) (omega (arith, all, total)) chains (omega (arith, two, total)) (omega (arith, short, number, rules)) (omega (arith, sizes, listed, total)) counted few
+      edit_room (all_nodes state) behind (document_size old.document) new (all_pages state) pages_behind (tree_pages (tree_of old.document)) has put free.records free.chains free.contents (length state_is.stored)
+      (length (at.held).catalog) (length state.rules) (at.held).free (state.settings).limit (omega (arith, whole, limit)) (omega (arith, all, total)) chains (omega (arith, listed, long)) (omega (arith, two, total))
+      (omega (arith, short, number, rules)) (among_all document_size) counted (among_all (λ (document : CutTree). tree_pages (tree_of document))) told within few
 
 -- ---- why an edit wasn't prepared
 
@@ -448,22 +515,24 @@ module _ {D : Type 0} (d : Ghosts D) (s0 s1 : Store) (x0 x1 : D) (name : List �
       record { runs = (refused.1).0; saved = (refused.1).1; catalog = catalog },
       λ state at.
           refused_edit state name path e (old d s0 x0 state at name entry there).document error (shown_there d s0 x0 state at name entry there) can
-          (fault_at d s0 x0 state at name entry there path e (Some error) (told_entry d s0 x0 state at name entry there (λ now document. edit_fault e path (settings_of s0.records).k (tree_of document) ≡ Some error) refused.2)),
+          (fault_at d s0 x0 state at name entry there path e (Some error) (told_entry d s0 x0 state at name entry there (λ now document layout. edit_fault e path (settings_of s0.records).k (tree_of document) ≡ Some error) refused.2)),
     )
 
-    pub edit_unmade : (error : EditError) → NotEdited d (is_of_edit e) (edit_fault e path (settings_of s0.records).k) (edit_needs (tree_edit e path)) entry error s0.records s1.records x0 x1
-        → EditNotPrepared d (edit_command name path e) path error s0 s1 x0 x1
+    pub edit_unmade : (error : EditError) → NotMade d e path (settings_of s0.records).k entry error s0.records s1.records x0 x1 → EditNotPrepared d (edit_command name path e) path error s0 s1 x0 x1
     edit_unmade edit.Disk refused = (refused.0, ((refused.1).before, (refused.1).after))
     edit_unmade edit.Full refused = (
       record { runs = refused.runs; saved = refused.keeps; catalog = catalog },
       λ state at.
-          let t = told_entry d s0 x0 state at name entry there (λ now document. (edit_fault e path (settings_of s0.records).k (tree_of document) ≡ None) × (now.free < edit_needs (tree_edit e path) document)) refused.few in
-          let document = (old d s0 x0 state at name entry there).document in
-          full_edit state name path e document (shown_there d s0 x0 state at name entry there) can
-          (fault_at d s0 x0 state at name entry there path e None t.0)
-          (λ behind counted. may_fill d s0 x0 state at name entry there behind (1 + nodes (tree_edit e path (tree_of document)).below) counted t.1),
+          let t = told_entry d s0 x0 state at name entry there (λ now document layout. (edit_fault e path (settings_of s0.records).k (tree_of document) ≡ None)
+          × (now.free < edit_needs (tree_edit e path) (edit_kept e path) (edit_pages e) document layout)) refused.few in
+          let s = old d s0 x0 state at name entry there in
+          let shown = shown_there d s0 x0 state at name entry there in
+          let fault = fault_at d s0 x0 state at name entry there path e None t.0 in
+          full_edit state name path e s.document shown can fault
+          (λ behind pages_behind counted told. may_fill d s0 x0 state at name entry there behind pages_behind (1 + nodes (tree_edit e path (tree_of s.document)).below) (near_pages (edit_kept e path s.layout) + edit_pages e)
+          (tree_pages (tree_edit e path (tree_of s.document))) counted told (contents_within state name path e s.document s.layout shown can fault ((stored_one d s0 x0 state at name entry there).laid).same) t.1),
     )
-    edit_unmade (edit.Damaged page) refused = (((refused.0).before, (refused.0).after), λ state at. told_entry d s0 x0 state at name entry there (λ now document. ⊥) refused.1)
+    edit_unmade (edit.Damaged page) refused = (((refused.0).before, (refused.0).after), λ state at. none_entry d s0 x0 state at name entry there refused.1)
     edit_unmade edit.Ended refused = absurd (no_end s0.records runs refused.0)
     edit_unmade edit.Memory refused = record { runs = refused.0; saved = refused.1; catalog = catalog }
     edit_unmade edit.NoNode refused = by_fault edit.NoNode refused
@@ -476,8 +545,8 @@ module _ {D : Type 0} (d : Ghosts D) (s0 s1 : Store) (x0 x1 : D) (name : List �
     edit_unmade (edit.TooHeavy weight) refused = by_fault (edit.TooHeavy weight) refused
 
   -- ... or the catalog with the new entry not saved
-  module _ (s2 : Store) (x2 : D) (new : DocEntry) (Becomes : CutTree → CutTree → Type 0) (stays : Bool) (along : List ℕ) (still : IsStill d x0 x1) (goes : RunsOn s0.records s1.records) (keeps : KeepsSaved d s0.records s1.records x0 x1)
-      (comes : ComesTidy d s0.records s1.records x0 x1 (EditsDocument Becomes stays along entry new)) (same : s2.catalog ≡ s0.catalog) where
+  module _ (s2 : Store) (x2 : D) (new : DocEntry) (rules : List Rule) (along : List ℕ) (still : IsStill d x0 x1) (goes : RunsOn s0.records s1.records) (keeps : KeepsSaved d s0.records s1.records x0 x1)
+      (comes : MakesEdit d s0.records s1.records x0 x1 rules e along entry new) (same : s2.catalog ≡ s0.catalog) where
     left_unsaved : RunsOn s1.records s2.records → KeepsSaved d s1.records s2.records x1 x2 → IsStoreLeft d s0 s2 x0 x2
     left_unsaved runs saved = record {
       runs = runs_then {r0 = s0.records} {r1 = s1.records} {r2 = s2.records} goes runs;
@@ -488,10 +557,10 @@ module _ {D : Type 0} (d : Ghosts D) (s0 s1 : Store) (x0 x1 : D) (name : List �
     pub entry_unsaved : (error : StoreError) → NotStored d (λ was. catalog_needs (catalog_bytes (record { documents = insert (s0.catalog).documents name new; rules = (s0.catalog).rules })) was) (λ was. ⊥) 0 error s1.records s2.records x1 x2
         → IsSomeAnd (edit_error error) (λ told. EditNotPrepared d (edit_command name path e) path told s0 s2 x0 x2)
     entry_unsaved below.Disk refused = (later_rose (d.faults x0) (d.faults x1) (d.faults x2) still.faults_later refused.0, (goes.before, (refused.1).after))
-    entry_unsaved below.Full refused = (left_unsaved refused.runs refused.keeps, λ state at. absurd (entry_fits d s0 x0 state at name entry there s1.records x1 new Becomes stays along comes refused.few))
+    entry_unsaved below.Full refused = (left_unsaved refused.runs refused.keeps, λ state at. absurd (entry_fits d s0 x0 state at name entry there s1.records x1 new rules e along comes refused.few))
     entry_unsaved (below.Damaged page) refused = (
       (goes.before, (refused.ends).after),
-      λ state at. let mid = rewritten d s0 x0 state at name entry there s1.records x1 new Becomes stays along comes in refused.lacks at.held mid.0 mid.1,
+      λ state at. let mid = rewritten d s0 x0 state at name entry there rules e along s1.records x1 new comes in refused.lacks at.held mid.0 mid.1,
     )
     entry_unsaved below.Memory refused = left_unsaved refused.0 refused.1
     entry_unsaved below.Ended refused = absurd (no_end s1.records goes.after refused.0)

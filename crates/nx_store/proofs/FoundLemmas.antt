@@ -12,6 +12,7 @@ use Rattle.nx_cuts.specs.Cut.{CutTree}
 use Rattle.nx_script.specs.Field.{name_order}
 use Rattle.nx_hold.specs.declared.entry.DocEntry.{DocEntry}
 use Rattle.nx_hold.specs.Changes.{place_of}
+use Rattle.nx_hold.specs.Pieces.{held_by}
 use Rattle.nx_hold.specs.Documents.{HasDocument}
 use Rattle.nx_catalog.specs.Catalog.{Contents}
 use Rattle.nx_state.specs.State.{State, document_size}
@@ -101,8 +102,8 @@ module _ {D : Type 0} {d : Ghosts D} where
       let holds = (at.state_is).holds in
       let there = map_some (λ (s : StoredDocument). s.entry) (found name stored) entry
       (sym (get_found (store.catalog).documents (λ (s : StoredDocument). s.entry) name stored (at_entries at)) ∙ is) in
-      let one : IsStoredIn ((at.held).settings).k (holds.pieces).piece_at there.0 =
-      found_has (IsStoredIn ((at.held).settings).k (holds.pieces).piece_at) name stored (recursion_from_All _ stored holds.each) there.0 there.1 in
+      let one : IsStoredIn (held_by holds.pieces) there.0 =
+      found_has (IsStoredIn (held_by holds.pieces)) name stored (recursion_from_All _ stored holds.each) there.0 there.1 in
       record {
         document = (there.0).document;
         there = get_found state.documents (λ (s : StoredDocument). s.document) name stored (at.state_is).documents ∙ ap (option_map (λ (s : StoredDocument). s.document)) there.1;
@@ -122,5 +123,5 @@ module _ {D : Type 0} {d : Ghosts D} where
       let stored = (at.state_is).stored in
       let holds = (at.state_is).holds in
       ap (map line_of) (at_entries at)
-      ∙ same_lines stored (counted_all (IsStoredIn ((at.held).settings).k (holds.pieces).piece_at) (λ (s : StoredDocument). s.entry.nodes ≡ document_size s.document) stored (λ s one. one.counted) (recursion_from_All _ stored holds.each))
+      ∙ same_lines stored (counted_all (IsStoredIn (held_by holds.pieces)) (λ (s : StoredDocument). s.entry.nodes ≡ document_size s.document) stored (λ s one. one.counted) (recursion_from_All _ stored holds.each))
       ∙ ap (map cut_document_line) (sym (at.state_is).documents)

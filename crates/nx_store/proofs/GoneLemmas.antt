@@ -6,6 +6,7 @@ use Rattle.std.specs.FinMap.{entries, get, remove}
 use Rattle.std.proofs.Math.Nat.{mul-div-le}
 use Rattle.std.proofs.lemmas.Nat.{le-div}
 use Rattle.std.proofs.lemmas.List.Elements.{All-head, All-tail}
+use Rattle.std.proofs.lemmas.List.Sorted.{Contains-permutation, IsPermutation-sym}
 use Rattle.nx_host.specs.declared.disk.Disk.{Ghosts}
 use Rattle.nx_host.specs.Still.{IsStill}
 use Rattle.nx_host.proofs.DiskLemmas.{untold}
@@ -24,20 +25,21 @@ use Rattle.nx_script.specs.declared.reply.Reply.TheVariants as reply
 use Rattle.nx_script.specs.declared.reply.ReplyError.{ReplyError}
 use Rattle.nx_script.specs.declared.reply.ReplyError.TheVariants.{NoDocument}
 use Rattle.nx_hold.specs.declared.entry.DocEntry.{DocEntry}
-use Rattle.nx_hold.specs.Changes.{ComesTidy}
-use Rattle.nx_layouts.specs.Layout.{RecordPlace}
+use Rattle.nx_layouts.specs.Layout.{RecordPlace, Layout, contents_of}
+use Rattle.nx_hold.specs.Contents.{AreOwn}
 use Rattle.nx_hold.specs.Documents.{MovesRecords}
+use Rattle.nx_hold.specs.Pieces.{IsTidy, held_by}
 use Rattle.nx_hold.proofs.RefusalLemmas.{runs_then, saved_then}
 use Rattle.nx_catalog.specs.Catalog.{Contents, Entries, IsCatalog, catalog_bytes}
 use Rattle.nx_catalog.proofs.CatalogLemmas.{one_contents}
 use Rattle.nx_catalog.proofs.LengthLemmas.{length_less}
 use Rattle.nx_state.specs.State.{State}
 use Rattle.nx_state.specs.Stands.{StoredDocument, IsStoredIn, HoldsDocuments, record_places}
-use Rattle.nx_state.proofs.ChangeLemmas.{document_goes, catalog_comes}
+use Rattle.nx_state.proofs.ChangeLemmas.{document_goes, documents_own_contents, catalog_comes}
 use Rattle.nx_steps.specs.Step.{Step}
 use Rattle.nx_edit.specs.declared.error.EditError.{EditError}
 use Rattle.nx_edit.specs.declared.error.EditError.TheVariants as edit
-use Rattle.nx_edit.specs.Removing.{document_places, RemovesDocument, OfEntry, NotRemoved}
+use Rattle.nx_edit.specs.Removing.{document_places, RemovesDocument, OfEntry, HasNone, OwnComes, NotRemoved}
 use Rattle.nx_store.specs.Store.{IsAt}
 use Rattle.nx_store.specs.Staying.{IsLeftBy, RecordsStay}
 use Rattle.nx_store.specs.Changing.{Prepares, NotPrepared}
@@ -118,26 +120,45 @@ module _ {D : Type 0} (d : Ghosts D) (s0 : Store) (x0 : D) (state : State) (at :
   pub holds_between : HoldsDocuments at.held (place.before ++ the_one.0 ∷ place.after)
   holds_between = subst (HoldsDocuments at.held) place.are (at.state_is).holds
 
-  pub stored_one : IsStoredIn ((at.held).settings).k (holds_between.pieces).piece_at the_one.0
-  stored_one = one_of (IsStoredIn ((at.held).settings).k (holds_between.pieces).piece_at) place.before the_one.0 place.after holds_between.each
+  pub stored_one : IsStoredIn (held_by holds_between.pieces) the_one.0
+  stored_one = one_of (IsStoredIn (held_by holds_between.pieces)) place.before the_one.0 place.after holds_between.each
+
+  -- its contents are its own
+  pub own_contents : AreOwn at.held (record_places the_one.0) (contents_of (the_one.0).layout)
+  own_contents = documents_own_contents at.held place.before place.after the_one.0 holds_between
 
   -- what is said of each document of the entry is said of that one
-  pub told_entry : (P : Held → CutTree → Type 0) → OfEntry d s0.records x0 entry P → P at.held (the_one.0).document
+  pub told_entry : (P : Held → CutTree → Layout → Type 0) → OfEntry d s0.records x0 entry P → P at.held (the_one.0).document (the_one.0).layout
   told_entry P each =
       subst (λ (e : DocEntry). OfEntry d s0.records x0 e P) (sym the_one.2) each (the_one.0).document
       (record { saved = at.held; now = at.held; stands = at.stands; pieces = holds_between.pieces; laid = record { layout = (the_one.0).layout; laid = stored_one.laid } }) holds_between.tidy stored_one.counted
 
-  gone : (r1 : Records) (x1 : D) → ComesTidy d s0.records r1 x0 x1 (RemovesDocument entry) → (mid : Held) × StandsFor d r1 x1 at.held mid × IsGone at.held mid state s0.catalog name × RecordsStay (IsLeftBy (Discard name)) (at.state_is).stored at.held mid
+  -- so it isn't one that none is
+  pub none_entry : HasNone d s0.records x0 entry → ⊥
+  none_entry none =
+      subst (λ (e : DocEntry). AreOwn at.held (document_places e (the_one.0).document (the_one.0).layout) (contents_of (the_one.0).layout) → ⊥) (sym the_one.2)
+      (told_entry (λ now document layout. AreOwn now (document_places entry document layout) (contents_of layout) → ⊥) none) own_contents
+
+  -- it went, with its contents
+  gone_one : (r1 : Records) (x1 : D) → OwnComes d s0.records r1 x0 x1 entry (RemovesDocument entry) → (mid : Held) × StandsFor d r1 x1 at.held mid × IsTidy mid × RemovesDocument (the_one.0).entry (the_one.0).document (the_one.0).layout at.held mid
+  gone_one r1 x1 comes =
+      subst (λ (e : DocEntry). OwnComes d s0.records r1 x0 x1 e (RemovesDocument e)) (sym the_one.2) comes at.held at.held holds_between.pieces (the_one.0).document (the_one.0).layout at.stands holds_between.tidy stored_one.laid
+      stored_one.counted own_contents
+
+  gone : (r1 : Records) (x1 : D) → OwnComes d s0.records r1 x0 x1 entry (RemovesDocument entry)
+      → (mid : Held) × StandsFor d r1 x1 at.held mid × IsGone at.held mid state s0.catalog name × RecordsStay (IsLeftBy (Discard name)) (at.state_is).stored at.held mid
   gone r1 x1 comes =
-      let mid = comes at.held at.held at.stands ((at.state_is).holds).tidy in
+      let mid = gone_one r1 x1 comes in
       let s = the_one.0 in
-      let moves : MovesRecords (document_places s.entry s.document s.layout) [] 0 at.held mid.0 =
-      subst (λ (e : DocEntry). RemovesDocument e at.held mid.0) (sym the_one.2) mid.3 holds_between.pieces s.document s.layout stored_one.laid stored_one.counted in (
+      let went = mid.3 in
+      let lost : List ℕ = went.0 in
+      let moves : MovesRecords (record_places s) [] lost [] 0 at.held mid.0 = went.2 in (
         mid.0,
         mid.1,
         record {
           stored = place.before ++ place.after;
-          holds = document_goes 0 at.held mid.0 place.before place.after s holds_between moves mid.2;
+          holds = document_goes lost 0 at.held mid.0 place.before place.after s holds_between moves
+              (λ first among. Contains-permutation (contents_of s.layout) lost first (IsPermutation-sym lost (contents_of s.layout) went.1) among) mid.2;
           settings = moves.settings;
           catalog = moves.catalog;
           names = subst (λ (n : List ℕ). entries (remove (s0.catalog).documents n) ≡ map (λ (s : StoredDocument). (s.name, s.entry)) (place.before ++ place.after)) place.named
@@ -148,12 +169,12 @@ module _ {D : Type 0} (d : Ghosts D) (s0 : Store) (x0 : D) (state : State) (at :
               ((at.state_is).documents ∙ ap (map (λ (s : StoredDocument). (s.name, s.document))) place.are));
         },
         subst (λ (l : List StoredDocument). RecordsStay (IsLeftBy (Discard name)) l at.held mid.0) (sym place.are)
-            (change_leaves (IsLeftBy (Discard name)) 0 at.held mid.0 place.before s [] place.after holds_between
-            (subst (λ (ps : List RecordPlace). MovesRecords ps [] 0 at.held mid.0) (sym (append-nil (record_places s))) moves) (λ t p left. left.1) (λ p left. absurd (left.0 place.named))),
+            (change_leaves (IsLeftBy (Discard name)) lost [] 0 at.held mid.0 place.before s [] place.after holds_between
+            (subst (λ (ps : List RecordPlace). MovesRecords ps [] lost [] 0 at.held mid.0) (sym (append-nil (record_places s))) moves) (λ t p left. left.1) (λ p left. absurd (left.0 place.named))),
       )
 
   -- the document is no longer entered
-  pub gone_prepared : (r1 : Records) (s2 : Store) (x1 x2 : D) → ComesTidy d s0.records r1 x0 x1 (RemovesDocument entry) → (s2.catalog).documents ≡ remove (s0.catalog).documents name → (s2.catalog).rules ≡ (s0.catalog).rules
+  pub gone_prepared : (r1 : Records) (s2 : Store) (x1 x2 : D) → OwnComes d s0.records r1 x0 x1 entry (RemovesDocument entry) → (s2.catalog).documents ≡ remove (s0.catalog).documents name → (s2.catalog).rules ≡ (s0.catalog).rules
       → (All HasLabels (s0.catalog).rules → IsCatalog (catalog_bytes s2.catalog) s2.catalog) → ComesTo d r1 s2.records x1 x2 (λ was now. SetsCatalog (catalog_bytes s2.catalog) was now)
       → (made : Prepares d state (Discard name) reply.Done s2 x2) × RecordsStay (IsLeftBy (Discard name)) (at.state_is).stored at.held (made.prepared).now
   gone_prepared r1 s2 x1 x2 comes documents rules form saves =
@@ -186,7 +207,7 @@ module _ {D : Type 0} (d : Ghosts D) (s0 : Store) (x0 : D) (state : State) (at :
       )
 
   -- the shorter catalog needs no page
-  pub room_behind : (r1 : Records) (x1 : D) (comes : ComesTidy d s0.records r1 x0 x1 (RemovesDocument entry))
+  pub room_behind : (r1 : Records) (x1 : D) (comes : OwnComes d s0.records r1 x0 x1 entry (RemovesDocument entry))
       → ((saved now : Held) → StandsFor d r1 x1 saved now → now.free < catalog_needs (catalog_bytes (record { documents = remove (s0.catalog).documents name; rules = (s0.catalog).rules })) now) → ⊥
   room_behind r1 x1 comes lacks =
       let mid = gone r1 x1 comes in
@@ -198,7 +219,7 @@ module _ {D : Type 0} (d : Ghosts D) (s0 : Store) (x0 : D) (state : State) (at :
 module _ {D : Type 0} (d : Ghosts D) (s0 s1 : Store) (x0 x1 : D) (name : List ℕ) (entry : DocEntry) (runs : has_ended s0.records ≡ false) (there : get (s0.catalog).documents name ≡ Some entry) where
   pub stays_there : s1.catalog ≡ s0.catalog → (e : EditError) → NotRemoved d entry e s0.records s1.records x0 x1 → IsSomeAnd (told_removal e) (λ told. NotPrepared d told s0 s1 x0 x1)
   stays_there catalog edit.Disk refused = (refused.0, ((refused.1).before, (refused.1).after))
-  stays_there catalog (edit.Damaged page) refused = (((refused.0).before, (refused.0).after), λ state at. told_entry d s0 x0 state at name entry there (λ now document. ⊥) refused.1)
+  stays_there catalog (edit.Damaged page) refused = (((refused.0).before, (refused.0).after), λ state at. none_entry d s0 x0 state at name entry there refused.1)
   stays_there catalog edit.Memory refused = record { runs = refused.0; saved = refused.1; catalog = catalog }
   stays_there catalog edit.Ended refused = absurd (no_end s0.records runs refused.0)
   stays_there catalog edit.NoNode refused = absurd refused
@@ -212,7 +233,7 @@ module _ {D : Type 0} (d : Ghosts D) (s0 s1 : Store) (x0 x1 : D) (name : List �
   stays_there catalog edit.Full refused = absurd refused
 
   -- ... or the catalog without it not saved
-  pub stays_entered : (s2 : Store) (x2 : D) → IsStill d x0 x1 → RunsOn s0.records s1.records → KeepsSaved d s0.records s1.records x0 x1 → ComesTidy d s0.records s1.records x0 x1 (RemovesDocument entry) → s2.catalog ≡ s0.catalog → (e : StoreError)
+  pub stays_entered : (s2 : Store) (x2 : D) → IsStill d x0 x1 → RunsOn s0.records s1.records → KeepsSaved d s0.records s1.records x0 x1 → OwnComes d s0.records s1.records x0 x1 entry (RemovesDocument entry) → s2.catalog ≡ s0.catalog → (e : StoreError)
       → NotChanged d (λ was. was.free < catalog_needs (catalog_bytes (record { documents = remove (s0.catalog).documents name; rules = (s0.catalog).rules })) was) 0 e s1.records s2.records x1 x2 → IsSomeAnd (told_error e) (λ told. NotPrepared d told s0 s2 x0 x2)
   stays_entered s2 x2 still goes keeps comes same below.Disk refused = (later_rose (d.faults x0) (d.faults x1) (d.faults x2) still.faults_later refused.0, (goes.before, (refused.1).after))
   stays_entered s2 x2 still goes keeps comes same (below.Damaged page) refused = ((goes.before, (refused.ends).after), λ state at. room_behind d s0 x0 state at name entry there s1.records x1 comes refused.lacks)

@@ -1,5 +1,5 @@
 -- What the steps of a load leave of a store, and what they are refused for.
-use Rattle.std.proofs.Common.{◌≡◌, ◌⊎◌, ℕ, ◌+◌, ◌-◌, ◌*◌, ◌^◌, ◌≤◌, min, List, length, None, inl, inr, true, false, sym, ap, ap₂, ◌∙◌, subst, arith}
+use Rattle.std.proofs.Common.{◌≡◌, ◌⊎◌, ℕ, ◌+◌, ◌-◌, ◌^◌, ◌≤◌, min, List, length, None, inl, inr, true, false, sym, ap, ap₂, ◌∙◌, subst, arith}
 use Rattle.std.specs.Prelude.{All, Result, Ok, Err, IfErr}
 use Rattle.std.specs.FinMap.{entries, get, insert, remove}
 use Rattle.std.proofs.lemmas.Bool.{false≢true}
@@ -28,7 +28,7 @@ use Rattle.nx_hold.specs.Changes.{ComesTidy}
 use Rattle.nx_hold.proofs.RefusalLemmas.{runs_then, saved_then}
 use Rattle.nx_catalog.specs.Catalog.{Contents, Entries, IsCatalog, catalog_bytes}
 use Rattle.nx_state.specs.State.{State}
-use Rattle.nx_build.specs.Storing.{StoresDocument}
+use Rattle.nx_build.specs.Storing.{StoresDocument, store_needs}
 use Rattle.nx_store.specs.Store.{IsAt}
 use Rattle.nx_store.specs.Staying.{IsLeftBy, RecordsStay}
 use Rattle.nx_store.specs.Loading.{IsNew, IsKept, IsStoreLeft, NotKept}
@@ -75,13 +75,13 @@ module _ {D : Type 0} (d : Ghosts D) where
 
     -- what was brought by the records
     pub brought_at : (r1 : Records) (x1 : D) (name : List ℕ) (tree : OrderedTree) (parts : List Interval) (page slot count : ℕ) → IsNew s0 name → AreInOrder parts → count ≡ 1 + nodes tree.below
-        → ComesTidy d s0.records r1 x0 x1 (λ was now. StoresDocument (settings_of s0.records).k tree parts (record { page = page; slot = slot }) was now)
+        → ComesTidy d s0.records r1 x0 x1 (StoresDocument tree parts (record { page = page; slot = slot }))
         → (mid : Held) × StandsFor d r1 x1 at.held mid × IsBrought at.held mid state s0.catalog at.state_is name tree parts (record { root = record { page = page; slot = slot }; nodes = count })
     brought_at r1 x1 name tree parts page slot count new in_order counted comes =
         let mid = comes at.held at.held at.stands ((at.state_is).holds).tidy in (
           mid.0,
           mid.1,
-          brought at.held mid.0 state s0.catalog at.state_is at.catalog name new tree parts page slot count (settings_of s0.records).k mid.3 (ap (λ (t : Settings). t.k) (sym head_settings)) mid.2 counted in_order,
+          brought at.held mid.0 state s0.catalog at.state_is at.catalog name new tree parts page slot count mid.3 mid.2 counted in_order,
         )
 
     -- the catalog may be saved
@@ -112,7 +112,7 @@ module _ {D : Type 0} (d : Ghosts D) where
 
   -- why the records of a document weren't brought
   pub store_refused : (s0 s1 : Store) (x0 x1 : D) (tree : OrderedTree) (name : List ℕ) (e : StoreError) → has_ended s0.records ≡ false → IsNew s0 name → s1.catalog ≡ s0.catalog
-      → NotStored d (λ was. 2 * (1 + nodes tree.below)) (λ was. ⊥) 0 e s0.records s1.records x0 x1 → NotKept d tree e s0 s1 x0 x1
+      → NotStored d (λ was. store_needs tree) (λ was. ⊥) 0 e s0.records s1.records x0 x1 → NotKept d tree e s0 s1 x0 x1
   store_refused s0 s1 x0 x1 tree name error.Disk runs new same refused = (refused.0, ((refused.1).before, (refused.1).after))
   store_refused s0 s1 x0 x1 tree name error.Full runs new same refused = (
     record { runs = refused.runs; saved = refused.keeps; catalog = same },

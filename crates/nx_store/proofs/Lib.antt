@@ -15,6 +15,7 @@ pub mod NameLemmas
 pub mod OrderedLemmas
 pub mod GoneLemmas
 pub mod EditLemmas
+pub mod PageLemmas
 pub mod RoomLemmas
 pub mod LoadLemmas
 pub mod KeepLemmas

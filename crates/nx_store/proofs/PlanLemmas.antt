@@ -3,9 +3,9 @@ use Rattle.std.proofs.Common.{◌≡◌, ◌⊎◌, ℕ, zero, suc, List, [], �
 use Rattle.std.proofs.lemmas.List.Sorted.{Contains-permutation, IsPermutation-sym}
 use Rattle.nx_parts.specs.declared.interval.Interval.{Interval}
 use Rattle.nx_parts.specs.Order.{ComesBefore, first_member, AreInOrder}
-use Rattle.nx_cuts.specs.Cut.{Bare, Grown, Kept, CutTree, width, part_weight, AreFree, AreParts, parts_of}
+use Rattle.nx_cuts.specs.Cut.{CutTree, AreParts, parts_of}
 use Rattle.nx_cuts.proofs.OrderLemmas.{drawn_in_order}
-use Rattle.nx_layouts.specs.Layout.{RecordPlace, Layout, without_places, whole}
+use Rattle.nx_layouts.specs.Layout.{RecordPlace, Layout, without_places, AreLaidParts, whole}
 
 module _ {X : Type 0} where
   first_in : (x : X) (xs : List X) → Contains (x ∷ xs) x
@@ -70,33 +70,7 @@ in_one_order parts others one other same =
     one_order (λ a b. ComesBefore (first_member a) (first_member b)) (λ a b. apart_paths (first_member a) (first_member b)) parts others one other
     (λ z among. Contains-permutation parts others z same among) (λ z among. Contains-permutation others parts z (IsPermutation-sym parts others same) among)
 
-width-without : (a : Layout) → width (without_places a) ≡ width a
-width-without Bare = refl
-width-without (Grown node below beside) = let rest = width-without beside in omega (arith, rest)
-width-without (Kept place members beside) = let inside = width-without members in let rest = width-without beside in omega (arith, inside, rest)
-
-weight-without : (a : Layout) → part_weight (without_places a) ≡ part_weight a
-weight-without Bare = refl
-weight-without (Grown node below beside) = let inside = weight-without below in let rest = weight-without beside in omega (arith, inside, rest)
-weight-without (Kept place members beside) = weight-without beside
-
-free-without : (a : Layout) → AreFree a → AreFree (without_places a)
-free-without Bare free = tt
-free-without (Grown node below beside) free = free-without beside free
-free-without (Kept place members beside) free = free
-
-parts-without : (k : ℕ) (a : Layout) → AreParts k a → AreParts k (without_places a)
-parts-without k Bare h = tt
-parts-without k (Grown node below beside) h = (parts-without k below h.0, parts-without k beside h.1)
-parts-without k (Kept place members beside) h =
-    let wide = width-without members in
-    let heavy = weight-without members in
-    let some = h.0 in
-    let light = h.2 in
-    (omega (arith, wide, some), free-without members h.1, omega (arith, heavy, light), parts-without k members h.3, parts-without k beside h.4)
-
 -- The intervals of a document that is laid out are the parts in document order of which they are a permutation.
 pub parts_are_planned : (k : ℕ) (root : RecordPlace) (document : CutTree) (layout : Layout) (parts : List Interval) → without_places layout ≡ document.below
-    → AreParts k (whole root document.node layout) → AreInOrder parts → IsPermutation (parts_of document) parts → parts_of document ≡ parts
-parts_are_planned k root document layout parts same light in_order permuted =
-    in_one_order (parts_of document) parts (drawn_in_order k document (subst (AreParts k) same (parts-without k layout light.3.0))) in_order permuted
+    → AreLaidParts k (whole root document.node layout) → AreInOrder parts → IsPermutation (parts_of document) parts → parts_of document ≡ parts
+parts_are_planned k root document layout parts same light in_order permuted = in_one_order (parts_of document) parts (drawn_in_order k document (subst (AreParts k) same light.3.0)) in_order permuted

@@ -1,12 +1,12 @@
 -- A rule of a store made, before the commit.
-use Rattle.std.proofs.Common.{◌≡◌, ℕ, ◌+◌, ◌-◌, ◌*◌, ◌<◌, ◌≤◌, Bool, true, false, List, length, None, Some, inl, inr, refl, sym, ap, ◌∙◌, subst, arith}
+use Rattle.std.proofs.Common.{◌≡◌, ℕ, ◌+◌, ◌-◌, ◌<◌, ◌≤◌, Bool, true, false, List, length, None, Some, inl, inr, refl, sym, ap, ◌∙◌, subst, arith}
 use Rattle.std.specs.Prelude.{not, ◌&&◌, ◌==◌, if◌then◌else◌}
 use Rattle.std.specs.FinMap.{entries}
-use Rattle.std.proofs.Math.Nat.{mul-div-le}
 use Rattle.std.proofs.lemmas.List.{length-map}
 use Rattle.std.proofs.lemmas.Bool.{false≢true}
 use Rattle.std.proofs.lemmas.Bool.Decides.{eqb_tells}
 use Rattle.nx_host.specs.declared.disk.Disk.{Ghosts}
+use Rattle.nx_tree.specs.Forest.{nodes}
 use Rattle.nx_wal.specs.Wal.{current}
 use Rattle.nx_holdings.specs.declared.header.Settings.{Settings}
 use Rattle.nx_holdings.specs.Holdings.{chain_count}
@@ -30,13 +30,14 @@ use Rattle.nx_catalog.proofs.CatalogLemmas.{one_contents}
 use Rattle.nx_catalog.proofs.LengthLemmas.{most_bytes}
 use Rattle.nx_catalog.proofs.RuleLemmas.{one_rule_more, new_rule_more}
 use Rattle.nx_catalog.proofs.SavingLemmas.{makes_labels}
-use Rattle.nx_state.specs.State.{State, all_nodes}
+use Rattle.nx_hold.specs.Contents.{tree_pages}
+use Rattle.nx_state.specs.State.{State, all_nodes, all_pages}
 use Rattle.nx_state.specs.Stands.{StoredDocument}
 use Rattle.nx_state.proofs.ChangeLemmas.{catalog_comes}
 use Rattle.nx_state.proofs.FreeLemmas.{documents_leave_free}
 use Rattle.nx_steps.specs.Answers.{MayBeFull}
 use Rattle.nx_steps.specs.Refusal.{rule_fault}
-use Rattle.nx_steps.specs.Step.{nodes_after, Step}
+use Rattle.nx_steps.specs.Step.{nodes_after, pages_after, Step}
 use Rattle.nx_steps.proofs.CountLemmas.{room_counted}
 use Rattle.nx_store.specs.Store.{IsAt}
 use Rattle.nx_store.specs.Staying.{IsLeftBy, RecordsStay}
@@ -44,7 +45,7 @@ use Rattle.nx_store.specs.Changing.{Prepares, RuleNotPrepared}
 use Rattle.nx_store.specs.declared.store.Store.{Store}
 use Rattle.nx_store.proofs.KeepLemmas.{no_end}
 use Rattle.nx_store.proofs.StayingLemmas.{catalog_alone}
-use Rattle.nx_store.proofs.RoomLemmas.{nodes_stored}
+use Rattle.nx_store.proofs.RoomLemmas.{nodes_stored, pages_stored, rule_room}
 use Rattle.nx_store.proofs.StepsLemmas.{refused_step, done_step, full_step}
 
 -- ---- whether a rule fits
@@ -148,23 +149,27 @@ module _ {D : Type 0} (d : Ghosts D) (s0 : Store) (x0 : D) (state : State) (at :
       let made : MakesRule state.rules rule finds.rules = subst (λ (rs : List Rule). MakesRule rs rule finds.rules) rules_at finds.makes in
       let old : AreRules state.rules = subst AreRules rules_at (at.catalog).rules in
       let none = rule_fits state.rules finds.rules rule old made in
-      let counted : nodes_after state (SetRule rule) ≡ all_nodes state = room_counted state (SetRule rule) none in
-      full_step state (SetRule rule) none (record { needs = refl; full = room (nodes_after state (SetRule rule)) counted finds.rules labels finds.makes ((finds.full).few at.held at.held at.stands); refused = (refl, refl) })
+      let counted : nodes_after state (SetRule rule) ≡ all_nodes state = room_counted (λ t. 1 + nodes t.below) state (SetRule rule) none in
+      let told : pages_after state (SetRule rule) ≡ all_pages state = room_counted tree_pages state (SetRule rule) none in
+      full_step state (SetRule rule) none
+      (record {
+        needs = refl;
+        full = room (nodes_after state (SetRule rule)) (pages_after state (SetRule rule)) counted told finds.rules labels finds.makes ((finds.full).few at.held at.held at.stands);
+        refused = (refl, refl);
+      })
     where
-      counts : (all behind records chains documents bytes pages was rules more free limit : ℕ) → limit ≤ free + (1 + records + chains + was) → records ≤ all → 254 * chains ≤ records → 2 * documents ≤ all
-          → 8184 * pages ≤ bytes + 8183 → bytes ≤ 8 + 267 * documents + 2053 * more → more ≤ rules + 1 → behind ≡ all → free < pages - was → limit ≤ 3 * (all + behind) + rules + 8
-      counts all behind records chains documents bytes pages was rules more free limit whole few chained two filled short one same none = omega (arith, whole, few, chained, two, filled, short, one, same, none)
-
-      room : (behind : ℕ) → behind ≡ all_nodes state → (new : List Rule) → HasLabels rule → MakesRule (s0.catalog).rules rule new
-          → (at.held).free < chain_count (length (catalog_bytes (record { documents = (s0.catalog).documents; rules = new }))) - chain_count (length (at.held).catalog) → MayBeFull state behind
-      room behind same new labels makes few =
+      room : (behind pages_behind : ℕ) → behind ≡ all_nodes state → pages_behind ≡ all_pages state → (new : List Rule) → HasLabels rule → MakesRule (s0.catalog).rules rule new
+          → (at.held).free < chain_count (length (catalog_bytes (record { documents = (s0.catalog).documents; rules = new }))) - chain_count (length (at.held).catalog) → MayBeFull state behind pages_behind
+      room behind pages_behind same alike new labels makes few =
           let state_is = at.state_is in
           let free = documents_leave_free (current (s0.records).wal ((at.stands).keeps).image) at.held state_is.stored ((s0.records).head, (at.stands).holds) state_is.holds in
           let all = free.few_records in
           let chains = free.few_chains in
-          let whole : ((at.held).settings).limit ≤ (at.held).free + (1 + free.records + free.chains + chain_count (length (at.held).catalog)) = free.free in
+          let listed = free.few_contents in
+          let whole : ((at.held).settings).limit ≤ (at.held).free + (1 + free.records + free.chains + free.contents + chain_count (length (at.held).catalog)) = free.free in
           let two = free.few_documents in
           let total = nodes_stored state state_is.stored state_is.documents in
+          let long = pages_stored state state_is.stored state_is.documents in
           let limit : ((at.held).settings).limit ≡ (state.settings).limit = ap (λ (t : Settings). t.limit) state_is.settings in
           let bytes : List ℕ = catalog_bytes (record { documents = (s0.catalog).documents; rules = new }) in
           let short = most_bytes bytes (record { documents = (s0.catalog).documents; rules = new }) (with_rule new rule labels makes) in
@@ -172,8 +177,8 @@ module _ {D : Type 0} (d : Ghosts D) (s0 : Store) (x0 : D) (state : State) (at :
           ap (λ (c : Contents). length (entries c.documents)) (sym contents_at) ∙ ap length state_is.names ∙ length-map state_is.stored (λ (s : StoredDocument). (s.name, s.entry)) in
           let more = one_rule_more (s0.catalog).rules new rule.parent rule.child rule.entry (at.catalog).rules makes.are makes.sets in
           let ruled : length (s0.catalog).rules ≡ length state.rules = ap length rules_at in
-          counts (all_nodes state) behind free.records free.chains (length state_is.stored) (length bytes) (chain_count (length bytes)) (chain_count (length (at.held).catalog)) (length state.rules) (length new) (at.held).free (state.settings).limit
-          (omega (arith, whole, limit)) (omega (arith, all, total)) chains (omega (arith, two, total)) (mul-div-le (length bytes + 8183) 8184) (omega (arith, short, number)) (omega (arith, more, ruled)) same few
+          rule_room (all_nodes state) behind (all_pages state) pages_behind free.records free.chains free.contents (length state_is.stored) (length bytes) (length (at.held).catalog) (length state.rules) (length new) (at.held).free
+          (state.settings).limit (omega (arith, whole, limit)) (omega (arith, all, total)) chains (omega (arith, listed, long)) (omega (arith, two, total)) (omega (arith, short, number)) (omega (arith, more, ruled)) same alike few
 
 -- why a rule wasn't made
 pub rule_unprepared : {D : Type 0} (d : Ghosts D) (s0 s1 : Store) (x0 x1 : D) (rule : Rule) → has_ended s0.records ≡ false → HasLabels rule → s1.catalog ≡ s0.catalog → (e : RuleError)

@@ -90,7 +90,8 @@ module _ (Left : StoredDocument → RecordPlace → Type 0) where
   pub catalog_alone : (bytes : List ℕ) (was now : Held) (stored : List StoredDocument) → SetsCatalog bytes was now → RecordsStay Left stored was now
   catalog_alone bytes was now stored sets = catalog_leaves bytes was was now stored sets (same_rest was stored)
 
-  module _ (needs : ℕ) (was now : Held) (before old new after : List StoredDocument) (h : HoldsDocuments was (before ++ (old ++ after))) (moves : MovesRecords (all_places old) (all_places new) needs was now)
+  module _ (lost brought : List ℕ) (needs : ℕ) (was now : Held) (before old new after : List StoredDocument) (h : HoldsDocuments was (before ++ (old ++ after)))
+      (moves : MovesRecords (all_places old) (all_places new) lost brought needs was now)
       (within : (s : StoredDocument) (place : RecordPlace) → Left s place → Contains (record_places s) place) where
     beside_stay : (s : StoredDocument) (place : RecordPlace) → Contains before s ⊎ Contains after s → Left s place → RecordStays was now place
     beside_stay s place beside left =
@@ -100,24 +101,24 @@ module _ (Left : StoredDocument → RecordPlace → Type 0) where
           | inr late ↦ Contains-append_right (all_places before) (all_places after) place (place_there after s place late among)
         ] in
         let stays = rest_stays before old new after h moves place there in
-        record { itself = stays.0; list = stays.1 }
+        record { itself = stays.0; list = λ count chain names. stays.1 chain (inl (count, names)) }
 
   -- where the records of a document became others, the rest stays
-  pub change_leaves : (needs : ℕ) (was now : Held) (before : List StoredDocument) (old : StoredDocument) (new after : List StoredDocument) → HoldsDocuments was (before ++ old ∷ after)
-      → MovesRecords (all_places (old ∷ [])) (all_places new) needs was now → ((s : StoredDocument) (place : RecordPlace) → Left s place → Contains (record_places s) place)
+  pub change_leaves : (lost brought : List ℕ) (needs : ℕ) (was now : Held) (before : List StoredDocument) (old : StoredDocument) (new after : List StoredDocument) → HoldsDocuments was (before ++ old ∷ after)
+      → MovesRecords (all_places (old ∷ [])) (all_places new) lost brought needs was now → ((s : StoredDocument) (place : RecordPlace) → Left s place → Contains (record_places s) place)
       → ((place : RecordPlace) → Left old place → RecordStays was now place) → RecordsStay Left (before ++ old ∷ after) was now
-  change_leaves needs was now before old new after h moves within kept s place there left = elim (Contains-append_cases before (old ∷ after) s there) [
-    | inl early ↦ beside_stay needs was now before (old ∷ []) new after h moves within s place (inl early) left
+  change_leaves lost brought needs was now before old new after h moves within kept s place there left = elim (Contains-append_cases before (old ∷ after) s there) [
+    | inl early ↦ beside_stay lost brought needs was now before (old ∷ []) new after h moves within s place (inl early) left
     | inr later ↦ elim (Contains-append_cases (old ∷ []) after s later) [
       | inl one ↦ kept place (subst (λ (x : StoredDocument). Left x place) (sym (alone_there old s one)) left)
-      | inr late ↦ beside_stay needs was now before (old ∷ []) new after h moves within s place (inr late) left
+      | inr late ↦ beside_stay lost brought needs was now before (old ∷ []) new after h moves within s place (inr late) left
     ]
   ]
 
   -- where those of one more came, all stay
-  pub come_leaves : (needs : ℕ) (was now : Held) (before new after : List StoredDocument) → HoldsDocuments was (before ++ after) → MovesRecords [] (all_places new) needs was now
+  pub come_leaves : (brought : List ℕ) (needs : ℕ) (was now : Held) (before new after : List StoredDocument) → HoldsDocuments was (before ++ after) → MovesRecords [] (all_places new) [] brought needs was now
       → ((s : StoredDocument) (place : RecordPlace) → Left s place → Contains (record_places s) place) → RecordsStay Left (before ++ after) was now
-  come_leaves needs was now before new after h moves within s place there left = beside_stay needs was now before [] new after h moves within s place (Contains-append_cases before after s there) left
+  come_leaves brought needs was now before new after h moves within s place there left = beside_stay [] brought needs was now before [] new after h moves within s place (Contains-append_cases before after s there) left
 
 -- ---- a store that stands for what it held
 

@@ -34,14 +34,14 @@ use Rattle.nx_script.specs.declared.command.Command.TheVariants.{Load}
 use Rattle.nx_script.specs.declared.reply.Reply.{Reply}
 use Rattle.nx_script.specs.declared.reply.Reply.TheVariants as reply
 use Rattle.nx_script.specs.declared.reply.ReplyError.TheVariants.{Exists, Pyx, TooHeavy, Full}
-use Rattle.nx_state.specs.State.{State, all_nodes}
-use Rattle.nx_steps.specs.Answers.{Refuses, Loads, MayBeFull, heavy_fault, with_document}
+use Rattle.nx_state.specs.State.{State}
+use Rattle.nx_steps.specs.Answers.{Refuses, Loads, heavy_fault, with_document}
 use Rattle.nx_steps.specs.Step.{Step}
 use Rattle.nx_steps.proofs.StoredLemmas.{stored_sound}
 use Rattle.nx_script.specs.Field.{name_order}
 use Rattle.nx_store.proofs.CaseLemmas.{BodyStep, load_case}
 use Rattle.nx_store.specs.Store.{longest_log, IsAt, IsOfEither, Shows, ShowsBegun, IsApplied}
-use Rattle.nx_store.specs.Loading.{IsNew, IsChosen, IsKept}
+use Rattle.nx_store.specs.Loading.{IsNew, IsChosen, IsKept, MayNotFit}
 use Rattle.nx_store.specs.declared.store.Store.{Store}
 use Rattle.nx_store.proofs.AtLemmas.{shows_still}
 use Rattle.nx_store.proofs.FoundLemmas.{at_found, at_none}
@@ -76,15 +76,15 @@ pub new_step : (state : State) (name : List ℕ) (body : LoadBody) (r : Reply) (
 new_step state name body r next none step = load_case state name body r next (subst (λ o. MatchBool (is_some o) (Refuses state Exists r next) (BodyStep state name body r next)) (sym none) step)
 
 light_step : (state : State) (name : List ℕ) (tree : OrderedTree) (r : Reply) (next : State) → heavy_fault (state.settings).k tree ≡ None
-    → Loads state name tree r next ⊎ (MayBeFull state (all_nodes state + (1 + nodes tree.below)) × Refuses state Full r next) → BodyStep state name (Read tree) r next
+    → Loads state name tree r next ⊎ (MayNotFit state tree × Refuses state Full r next) → BodyStep state name (Read tree) r next
 light_step state name tree r next light step =
-    subst (λ o. MatchOption o (Loads state name tree r next ⊎ (MayBeFull state (all_nodes state + (1 + nodes tree.below)) × Refuses state Full r next)) (λ error. Refuses state error r next)) (sym light) step
+    subst (λ o. MatchOption o (Loads state name tree r next ⊎ (MayNotFit state tree × Refuses state Full r next)) (λ error. Refuses state error r next)) (sym light) step
 
 heavy_step : (state : State) (name : List ℕ) (tree : OrderedTree) (path : List ℕ) (slots : ℕ) → option_map weighed (first_heavy (state.settings).k tree) ≡ Some (path, slots)
     → BodyStep state name (Read tree) (reply.Refused (TooHeavy path slots)) state
 heavy_step state name tree path slots heavy =
     let r = reply.Refused (TooHeavy path slots) in
-    subst (λ o. MatchOption o (Loads state name tree r state ⊎ (MayBeFull state (all_nodes state + (1 + nodes tree.below)) × Refuses state Full r state)) (λ error. Refuses state error r state))
+    subst (λ o. MatchOption o (Loads state name tree r state ⊎ (MayNotFit state tree × Refuses state Full r state)) (λ error. Refuses state error r state))
     (sym (ap (option_map (λ (found : List ℕ × ℕ). TooHeavy found.0 found.1)) heavy)) (refl, refl)
 
 module _ {D : Type 0} {d : Ghosts D} where
@@ -118,7 +118,7 @@ module _ {D : Type 0} {d : Ghosts D} where
     light_at state at = subst (λ (t : Settings). heavy_fault t.k tree ≡ None) (settings_at s0 x0 state at) (no_heavy (settings_of s0.records).k tree parts ((chosen.lean).optimal).feasible)
 
     -- no page was free
-    pub full_answers : (state : State) → IsAt d s0 x0 state → MayBeFull state (all_nodes state + (1 + nodes tree.below)) → Step state (Load name (Read tree)) (reply.Refused Full) state
+    pub full_answers : (state : State) → IsAt d s0 x0 state → MayNotFit state tree → Step state (Load name (Read tree)) (reply.Refused Full) state
     full_answers state at full =
         body_answers s0 x0 name (Read tree) state (reply.Refused Full) state new at (light_step state name tree (reply.Refused Full) state (light_at state at) (inr (full, (refl, refl))))
 

@@ -6,7 +6,11 @@ use Rattle.nx_tree.specs.Forest.{OrderedTree}
 use Rattle.nx_tree.specs.Document.{IsNode, longest_node}
 use Rattle.nx_tree.specs.Edit.{cut_at, put, retext}
 use Rattle.nx_records.specs.Words.{Settings}
+use Rattle.nx_records.specs.declared.records.Records.{Records}
 use Rattle.nx_cuts.specs.Cut.{CutTree}
+use Rattle.nx_layouts.specs.Layout.{LaidNode, Layout, nodes_in}
+use Rattle.nx_hold.specs.declared.entry.DocEntry.{DocEntry}
+use Rattle.nx_hold.specs.Contents.{bytes_pages, content_pages}
 use Rattle.nx_matrix.specs.declared.rule.Rule.{Rule}
 use Rattle.nx_script.specs.declared.command.Command.{Command}
 use Rattle.nx_script.specs.declared.command.Command.TheVariants as command
@@ -17,7 +21,8 @@ use Rattle.nx_pyx.specs.declared.error.PyxFault.TheVariants.{LongLine}
 use Rattle.nx_pyx.specs.Fault.{fault_at}
 use Rattle.nx_drawn.specs.Edits.{deleted, inserted, retexted}
 use Rattle.nx_drawn.specs.Splits.{Splits}
-use Rattle.nx_edit.specs.Refusals.{deletion_fault, is_of_path}
+use Rattle.nx_edit.specs.Editing.{nodes_off, EditsDocument}
+use Rattle.nx_edit.specs.Refusals.{deletion_fault, is_of_path, edit_needs, NotEdited}
 use Rattle.nx_edit.specs.Inserting.{insertion_fault, is_of_insertion}
 use Rattle.nx_edit.specs.Retexting.{content_fault, is_of_content}
 use Rattle.nx_script.specs.declared.reply.Reply.{Reply}
@@ -91,6 +96,25 @@ abbrev pub stays_below : Edit → Bool
 stays_below made.Delete = false
 stays_below (made.Retext content) = true
 stays_below (made.Insert node) = true
+
+-- the nodes of a layout that the edit at a path keeps with their contents, and how many chain pages the content takes that it puts
+abbrev pub edit_kept : Edit → List ℕ → Layout → List LaidNode
+edit_kept made.Delete path = nodes_off false path
+edit_kept (made.Retext content) path = nodes_off true path
+edit_kept (made.Insert node) path = nodes_in
+
+abbrev pub edit_pages : Edit → ℕ
+edit_pages made.Delete = 0
+edit_pages (made.Retext content) = bytes_pages content
+edit_pages (made.Insert node) = content_pages node
+
+-- The document of an entry was edited so, and has another entry.
+abbrev pub MakesEdit : {D : Type 0} → Ghosts D → Records → Records → D → D → List Rule → Edit → List ℕ → (old new : DocEntry) → Type 0
+MakesEdit d old new before after rules edit path = EditsDocument d old new before after (λ settings. EditBecomes settings rules edit path) (stays_below edit) path (edit_kept edit path) (edit_pages edit)
+
+-- why it wasn't edited, where its parts weigh k at most, and what that leaves
+abbrev pub NotMade : {D : Type 0} → Ghosts D → Edit → List ℕ → (k : ℕ) → DocEntry → EditError → Records → Records → D → D → Type 0
+NotMade d edit path k = NotEdited d (is_of_edit edit) (edit_fault edit path k) (edit_needs (tree_edit edit path) (edit_kept edit path) (edit_pages edit))
 
 -- how a script words why an edit at a path is refused; the others are no refusals
 abbrev pub edit_reply : List ℕ → EditError → ReplyError

@@ -18,7 +18,8 @@ use Rattle.nx_script.specs.declared.reply.Reply.{Reply}
 use Rattle.nx_script.specs.declared.reply.Reply.TheVariants.{Refused}
 use Rattle.nx_script.specs.declared.reply.ReplyError.TheVariants.{Full}
 use Rattle.nx_script.specs.Reply.{reply_text}
-use Rattle.nx_state.specs.State.{State, all_nodes}
+use Rattle.nx_hold.specs.Contents.{tree_pages}
+use Rattle.nx_state.specs.State.{State, all_nodes, all_pages}
 use Rattle.nx_state.specs.Stands.{HoldsState}
 use Rattle.nx_steps.specs.Answers.{with_document, MayBeFull}
 use Rattle.nx_store.specs.Store.{IsAt, IsNowhere, EndsNow, IsApplied}
@@ -46,9 +47,13 @@ pub record IsKept {D : Type 0} (d : Ghosts D) (store : Store) (disk : D) (state 
   pub will : HoldsState now (with_document state name document)
   pub catalog : IsCatalog now.catalog store.catalog
 
--- whatever state the store was at, there may not be room for one document more with so many nodes
+-- there may not be room for one document more with so many nodes, and with contents as long as its
+abbrev pub MayNotFit : State → OrderedTree → Type 0
+MayNotFit state tree = MayBeFull state (all_nodes state + (1 + nodes tree.below)) (all_pages state + tree_pages tree)
+
+-- ... whatever state the store was at
 abbrev pub HasNoRoomForDocument : {D : Type 0} → Ghosts D → Store → D → OrderedTree → Type 0
-HasNoRoomForDocument d store disk tree = (state : State) → IsAt d store disk state → MayBeFull state (all_nodes state + (1 + nodes tree.below))
+HasNoRoomForDocument d store disk tree = (state : State) → IsAt d store disk state → MayNotFit state tree
 
 -- What is left of the store where a document wasn't kept: its catalog and its last commit.
 pub record IsStoreLeft {D : Type 0} (d : Ghosts D) (old new : Store) (before after : D) : Type 0 where

@@ -5,17 +5,14 @@ ghost use Rattle.nx_host.specs.Still.{IsStill, WritesAlone};
 ghost use Rattle.nx_records.specs.Records.{KeepsSaved, HasChanges, log_length_of, settings_of};
 ghost use Rattle.nx_records.specs.Refusals.{RunsOn};
 ghost use Rattle.nx_cuts.specs.Cut.{tree_of};
-ghost use Rattle.nx_hold.specs.Changes.{ComesTidy};
 ghost use Rattle.nx_edit.specs.Removing.{OfEntry};
-ghost use Rattle.nx_edit.specs.Editing.{EditsDocument};
-ghost use Rattle.nx_edit.specs.Refusals.{NotEdited, edit_needs};
 ghost use Rattle.nx_script.specs.Field.{is_document_name};
 ghost use Rattle.nx_state.specs.State.{State};
 ghost use Rattle.nx_store.specs.Store.{is_ended, longest_log, GoesOn, IsAt, IsApplied, NotApplied};
 ghost use Rattle.nx_store.specs.Loading.{reply_of, HasReplyText};
 ghost use Rattle.nx_store.specs.Staying.{IsLeftBy, RecordsStay, LeavesOthers};
 ghost use Rattle.nx_store.specs.Changing.{Prepares};
-ghost use Rattle.nx_store.specs.Editing.{edit_command, CanBeMade, edit_fault, is_of_edit, tree_edit, EditBecomes, stays_below, EditNotPrepared, IsEditRefusal};
+ghost use Rattle.nx_store.specs.Editing.{edit_command, CanBeMade, edit_fault, MakesEdit, NotMade, EditNotPrepared, IsEditRefusal};
 
 use crate::loading::told;
 use crate::{EngineError, Store};
@@ -148,10 +145,10 @@ fn make_edit<D: Disk>(
 ) -> Result<DocEntry, EditError>
     requires { CanBeMade edit }
     ensures still { IsStill D.Disk disk.old disk.new }
-    ensures allowed { OnOk result (OfEntry D.Disk records.old disk.old entry (λ now document. edit_fault edit path.now (settings_of records.old).k (tree_of document) ≡ None)) }
-    ensures ok { IfOk result (λ new. ComesTidy D.Disk records.old records.new disk.old disk.new (λ was now. EditsDocument (EditBecomes was.settings matrix.now edit path.now) (stays_below edit) path.now entry new was now)) }
+    ensures allowed { OnOk result (OfEntry D.Disk records.old disk.old entry (λ now document layout. edit_fault edit path.now (settings_of records.old).k (tree_of document) ≡ None)) }
+    ensures ok { IfOk result (λ new. MakesEdit D.Disk records.old records.new disk.old disk.new matrix.now edit path.now entry new) }
     ensures keeps { OnOk result (RunsOn records.old records.new × KeepsSaved D.Disk records.old records.new disk.old disk.new × HasChanges records.new) }
-    ensures refused { IfErr result (λ e. NotEdited D.Disk (is_of_edit edit) (edit_fault edit path.now (settings_of records.old).k) (edit_needs (tree_edit edit path.now)) entry e records.old records.new disk.old disk.new) }
+    ensures refused { IfErr result (λ e. NotMade D.Disk edit path.now (settings_of records.old).k entry e records.old records.new disk.old disk.new) }
 {
     match edit {
         Edit::Delete => delete(alloc, records, disk, entry, path),
