@@ -11,7 +11,7 @@ use std::process::Abort;
 use std::test::Fail;
 
 // How many bytes a name and a content have, and what a node of them weighs.
-const LENGTHS: [(usize, usize, u32); 8] = [
+const LENGTHS: [(usize, usize, u32); 10] = [
     (0, 0, 1),
     (0, 1, 2),
     (3, 4, 2),
@@ -19,7 +19,10 @@ const LENGTHS: [(usize, usize, u32); 8] = [
     (4, 5, 3),
     (0, 16, 3),
     (1, 16, 4),
-    (576, 1_048_000, 131_073),
+    // A content of more than 1,024 bytes counts for 8.
+    (0, 1_024, 129),
+    (0, 1_025, 2),
+    (576, 1_048_000, 74),
 ];
 
 // What a node of a name and a content of so many bytes weighs, by the node and by the two lengths.

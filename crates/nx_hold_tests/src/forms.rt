@@ -29,7 +29,7 @@ const INLINE: [Form; 4] = [
         page: 70_000,
     },
     Form {
-        slots: 249,
+        slots: 248,
         proxies: 768,
         page: 1,
     },
@@ -42,7 +42,7 @@ const INLINE: [Form; 4] = [
 
 const CHAINED: [Form; 5] = [
     Form {
-        slots: 249,
+        slots: 248,
         proxies: 769,
         page: 1,
     },

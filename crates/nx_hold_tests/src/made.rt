@@ -1,15 +1,15 @@
 // Pieces, made of bytes that are written with nothing of `nx_piece`.
 ghost use Rattle.std.specs.Prelude.{IfOk};
-ghost use Rattle.nx_piece.specs.Valid.{IsValidPiece};
+ghost use Rattle.nx_piece.specs.Valid.{AreNear, IsValidPiece};
 
 use nx_hold::TakenPiece;
 use nx_lists::NoMemory;
-use nx_piece::{Item, Piece, Proxy, Stored, decode, decode_proxies};
+use nx_piece::{Far, Item, Piece, PieceTree, Proxy, Stored, decode, decode_proxies, size, weight};
 use std::alloc::Global;
 use std::process::Abort;
 
-/// What a piece is made of: an element with a text of so many slots of content before a run of so many
-/// proxies, the first of which names this page.
+/// What a piece is made of: an element with so many slots of content, in texts of at most 128 each, before a run of so
+/// many proxies, the first of which names this page.
 #[derive(Clone, Copy, Debug, PartialEq, Eq)]
 pub struct Form {
     pub slots: u8,
@@ -18,9 +18,26 @@ pub struct Form {
 }
 
 impl Form {
+    /// How many texts it has, 1 at least.
+    fn texts(self) -> u8 {
+        if self.slots > 128 { 2 } else { 1 }
+    }
+
+    /// How many slots of content its text with this index has.
+    fn text_slots(self, index: u8) -> u8 {
+        if index == 0 {
+            self.slots.min(128)
+        } else {
+            self.slots.saturating_sub(128)
+        }
+    }
+
     /// How many bytes its record has with its proxies.
     pub fn inline_length(self) -> u32 {
-        let items = if self.proxies == 0 { 2 } else { 3 };
+        let runs = if self.proxies == 0 { 0 } else { 1 };
+        let items = u32::from(self.texts())
+            .saturating_add(runs)
+            .saturating_add(1);
         let groups = self
             .proxies
             .saturating_add(u32::from(self.slots))
@@ -61,19 +78,23 @@ fn push_long(bytes: &mut Vec<u8>, number: u32) -> Result<(), NoMemory> {
 // The head and the items.
 fn nodes(alloc: Global, form: Form) -> Result<Vec<u8>, NoMemory> {
     let mut bytes = Vec::new(alloc);
-    let (items, below) = if form.proxies == 0 { (2, 1) } else { (3, 2) };
+    let runs = if form.proxies == 0 { 0 } else { 1 };
+    let below = form.texts().saturating_add(runs);
     bytes.push(if form.chain_pages() == 0 { 1 } else { 2 })?;
     bytes.push(0)?;
     push_short(&mut bytes, 1)?;
-    push_long(&mut bytes, items)?;
+    push_long(&mut bytes, u32::from(below).saturating_add(1))?;
     push_long(&mut bytes, form.proxies)?;
     push_long(&mut bytes, 0)?;
     bytes.extend_from_slice(&[2, 0, 0, 0, 0, 0, 0, below])?;
-    bytes.extend_from_slice(&[4, 0, 0, 0])?;
-    push_short(&mut bytes, u32::from(form.slots).saturating_mul(8))?;
-    push_short(&mut bytes, 0)?;
-    for _ in 0..form.slots {
-        bytes.extend_from_slice(b"contents")?;
+    for index in 0..form.texts() {
+        let slots = form.text_slots(index);
+        bytes.extend_from_slice(&[4, 0, 0, 0])?;
+        push_short(&mut bytes, u32::from(slots).saturating_mul(8))?;
+        push_short(&mut bytes, 0)?;
+        for _ in 0..slots {
+            bytes.extend_from_slice(b"contents")?;
+        }
     }
     if form.proxies > 0 {
         bytes.extend_from_slice(&[6, 0, 0, 0])?;
@@ -95,7 +116,8 @@ fn proxies(alloc: Global, form: Form) -> Result<Vec<u8>, NoMemory> {
 
 /// The piece of this form.
 pub fn made(rt: &impl Abort, alloc: Global, form: Form) -> Result<Piece, NoMemory>
-    ensures { IfOk result (λ piece. IsValidPiece piece) }
+    ensures valid { IfOk result (λ piece. IsValidPiece piece) }
+    ensures near { IfOk result (λ piece. AreNear piece.body.roots) }
 {
     let list = proxies(alloc, form)?;
     made_of(rt, alloc, form, list)
@@ -103,7 +125,8 @@ pub fn made(rt: &impl Abort, alloc: Global, form: Form) -> Result<Piece, NoMemor
 
 /// The piece of this form but for the proxy with this index, which names another slot.
 pub fn made_but(rt: &impl Abort, alloc: Global, form: Form, index: usize) -> Result<Piece, NoMemory>
-    ensures { IfOk result (λ piece. IsValidPiece piece) }
+    ensures valid { IfOk result (λ piece. IsValidPiece piece) }
+    ensures near { IfOk result (λ piece. AreNear piece.body.roots) }
 {
     let mut list = proxies(alloc, form)?;
     if let Some(byte) = list.get_mut(index.saturating_mul(8).saturating_add(5)) {
@@ -114,7 +137,8 @@ pub fn made_but(rt: &impl Abort, alloc: Global, form: Form, index: usize) -> Res
 
 // The piece of this form with these proxies.
 fn made_of(rt: &impl Abort, alloc: Global, form: Form, list: Vec<u8>) -> Result<Piece, NoMemory>
-    ensures { IfOk result (λ piece. IsValidPiece piece) }
+    ensures valid { IfOk result (λ piece. IsValidPiece piece) }
+    ensures near { IfOk result (λ piece. AreNear piece.body.roots) }
 {
     let mut record = nodes(alloc, form)?;
     if form.chain_pages() == 0 {
@@ -124,14 +148,42 @@ fn made_of(rt: &impl Abort, alloc: Global, form: Form, list: Vec<u8>) -> Result<
         panic!(rt; "no record was made");
     };
     match stored {
-        Stored::Inline(piece) => Ok(piece),
+        Stored::Inline(piece) => Ok(near(rt, piece)),
         Stored::Chained { body, count, .. } => {
             let Some(proxies) = decode_proxies(alloc, list.as_slice(), count)? else {
                 panic!(rt; "no proxies were made");
             };
-            Ok(Piece { body, proxies })
+            Ok(near(rt, Piece { body, proxies }))
         }
     }
+}
+
+// The piece, in which no content of more than 1,024 bytes stands: its nodes weigh what their items take.
+#[tactic(auto, using(nx_piece::proofs::Laws::are_short, nx_piece::proofs::Laws::little_weight, crate::proofs::NearLemmas::near_by_size))]
+fn near(rt: &impl Abort, piece: Piece) -> Piece
+    requires { IsValidPiece piece }
+    ensures valid { IsValidPiece result }
+    ensures near { AreNear result.body.roots }
+{
+    assert_eq!(rt; size(&piece.body), weight(&piece.body));
+    piece
+}
+
+/// A piece of one element, with a text that names this list for its content.
+pub fn made_far(rt: &impl Abort, alloc: Global, far: Far) -> Result<Piece, NoMemory>
+    ensures valid { IfOk result (λ piece. IsValidPiece piece) }
+    ensures near { IfOk result (λ piece. AreNear piece.body.roots) }
+{
+    let mut record = Vec::new(alloc);
+    record.extend_from_slice(&[1, 0, 0, 1, 0, 0, 0, 2, 0, 0, 0, 0, 0, 0, 0, 0])?;
+    record.extend_from_slice(&[2, 0, 0, 0, 0, 0, 0, 1])?;
+    record.extend_from_slice(&[4, 1, 0, 0, 0, 8, 0, 0])?;
+    push_long(&mut record, far.first)?;
+    push_long(&mut record, far.length)?;
+    let Some(Stored::Inline(piece)) = decode(alloc, record.as_slice())? else {
+        panic!(rt; "no record was made");
+    };
+    Ok(near(rt, piece))
 }
 
 /// Checks that the piece is of this form, whole.
@@ -139,24 +191,34 @@ pub fn check(rt: &impl Abort, piece: &Piece, form: Form) {
     let [root] = piece.body.roots.as_slice() else {
         panic!(rt; "there is not one root");
     };
-    let [Item::Tree(text), runs @ ..] = root.children.as_slice() else {
-        panic!(rt; "there is no text");
-    };
-    assert_eq!(rt; text.node.content.len(), usize::from(form.slots) * 8);
-    for group in text.node.content.as_slice().chunks(8) {
-        assert_eq!(rt; group, b"contents".as_slice());
+    let mut items = root.children.as_slice().iter();
+    for index in 0..form.texts() {
+        let Some(Item::Tree(text)) = items.next() else {
+            panic!(rt; "there is no text");
+        };
+        check_text(rt, text, form.text_slots(index));
     }
-    match runs {
-        [] => assert_eq!(rt; form.proxies, 0),
-        [Item::Run { count }] => assert_eq!(rt; *count, form.proxies),
-        _ => panic!(rt; "there is more than one run"),
+    match items.next() {
+        None => assert_eq!(rt; form.proxies, 0),
+        Some(Item::Run { count }) => assert_eq!(rt; *count, form.proxies),
+        Some(Item::Tree(_)) => panic!(rt; "there is more than the texts"),
     }
+    assert!(rt; items.next().is_none(), "there is more than one run");
     check_proxies(rt, piece.proxies.as_slice(), form);
 }
 
-/// Checks that what was taken away is a piece of this form, which has two nodes.
+// The text has so many slots of content.
+fn check_text(rt: &impl Abort, text: &PieceTree, slots: u8) {
+    assert_eq!(rt; text.node.content.len(), usize::from(slots) * 8);
+    for group in text.node.content.as_slice().chunks(8) {
+        assert_eq!(rt; group, b"contents".as_slice());
+    }
+}
+
+/// Checks that what was taken away is a piece of this form: an element with its texts, none of which is far.
 pub fn check_taken(rt: &impl Abort, taken: &TakenPiece, form: Form) {
-    assert_eq!(rt; taken.nodes, 2);
+    assert_eq!(rt; taken.nodes, u32::from(form.texts()) + 1);
+    assert!(rt; taken.fars.as_slice().is_empty());
     check_proxies(rt, taken.proxies.as_slice(), form);
 }
 

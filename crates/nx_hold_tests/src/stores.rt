@@ -1,13 +1,18 @@
 // Pieces over a host in memory, which are asked for nothing that they don't promise to do.
 ghost use Rattle.std.specs.Prelude.{◌≡◌, ◌≢◌, [], true};
-ghost use Rattle.nx_piece.specs.Valid.{IsValidPiece};
+ghost use Rattle.nx_piece.specs.Valid.{AreNear, IsValidPiece};
+ghost use Rattle.nx_weights.specs.Weight.{IsShort};
 ghost use Rattle.nx_wal.specs.Wal.{pending};
 
-use nx_hold::{TakenPiece, add_piece, read_piece, remove_piece, take_piece, update_piece};
+use nx_hold::{
+    TakenPiece, add_piece, content, free_content, hold_node, read_piece, remove_piece, take_piece,
+    update_piece,
+};
 use nx_lists::{List, NoMemory};
 use nx_memory::{Image, MemoryHost};
-use nx_piece::{Piece, Proxy};
+use nx_piece::{Piece, PieceTree, Proxy};
 use nx_records::{Records, Rid, Settings, StoreError};
+use nx_tree::{Bytes, Node};
 use std::alloc::Global;
 use std::process::Abort;
 
@@ -81,7 +86,8 @@ impl Store {
         host: &mut MemoryHost,
         piece: &Piece,
     ) -> Result<Proxy, StoreError>
-        requires { IsValidPiece piece.now }
+        requires valid { IsValidPiece piece.now }
+        requires near { AreNear piece.now.body.roots }
     {
         match add_piece(alloc, &mut self.records, host, piece) {
             Ok(proxy) => {
@@ -103,7 +109,8 @@ impl Store {
         place: Rid,
         piece: &Piece,
     ) -> Result<Proxy, StoreError>
-        requires { IsValidPiece piece.now }
+        requires valid { IsValidPiece piece.now }
+        requires near { AreNear piece.now.body.roots }
     {
         match update_piece(alloc, &mut self.records, host, place, piece) {
             Ok(proxy) => {
@@ -148,6 +155,57 @@ impl Store {
                 self.changed = true;
                 Ok(taken)
             }
+            Err(error) => {
+                self.changed = false;
+                self.records.abandon();
+                Err(error)
+            }
+        }
+    }
+
+    /// The node as a piece has it. A list that comes isn't counted as a change: a record that names it is.
+    pub fn hold(
+        &mut self,
+        alloc: Global,
+        host: &mut MemoryHost,
+        node: Node,
+    ) -> Result<PieceTree, StoreError>
+        requires { IsShort node }
+    {
+        match hold_node(alloc, &mut self.records, host, node) {
+            Ok(made) => Ok(made),
+            Err(error) => {
+                self.changed = false;
+                self.records.abandon();
+                Err(error)
+            }
+        }
+    }
+
+    pub fn content(
+        &mut self,
+        alloc: Global,
+        host: &mut MemoryHost,
+        at: &PieceTree,
+    ) -> Result<Bytes, StoreError> {
+        match content(alloc, &mut self.records, host, at) {
+            Ok(bytes) => Ok(bytes),
+            Err(error) => {
+                self.changed = false;
+                self.records.abandon();
+                Err(error)
+            }
+        }
+    }
+
+    pub fn free(
+        &mut self,
+        alloc: Global,
+        host: &mut MemoryHost,
+        at: &PieceTree,
+    ) -> Result<(), StoreError> {
+        match free_content(alloc, &mut self.records, host, at) {
+            Ok(()) => Ok(()),
             Err(error) => {
                 self.changed = false;
                 self.records.abandon();

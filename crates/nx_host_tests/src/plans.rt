@@ -70,6 +70,34 @@ fn a_document_has_a_plan(rt: HostRuntime) -> Result<(), Fail> {
     Ok(())
 }
 
+// How many letters the text of an element has, how a run ends that cuts it in parts of at most 128 slots, and its output.
+const LONG: [(usize, Status, &[u8]); 2] = [
+    (1_024, Status::Refused, b"refused too-heavy /0/0 129\n"),
+    (
+        1_025,
+        Status::Done,
+        b"root 5\nbound 0 1 5 1\nbound 1 1 4 2\nbound 2 1 2 2\n",
+    ),
+];
+
+fn long_text(alloc: Global, letters: usize) -> Result<Vec<u8>, NoMemory> {
+    let text = Vec::from_elem(alloc, b'x', letters)?;
+    let parts: [&[u8]; 3] = [b"(a\n-", text.as_slice(), b"\n)a\n"];
+    Ok(parts.concat(alloc)?)
+}
+
+// A content of more than 1,024 bytes weighs as one of 8.
+#[test]
+fn long_contents_weigh_little(rt: HostRuntime) -> Result<(), Fail> {
+    let words = words_of(rt.alloc(), &["_", "plan", "128"])?;
+    for (letters, status, output) in LONG {
+        let document = long_text(rt.alloc(), letters)?;
+        let given = (document.as_slice(), 4_096);
+        check_run(&rt, rt.alloc(), &words, given, status, output)?;
+    }
+    Ok(())
+}
+
 // A document of 6,000 texts of 3 slots each.
 fn long_document(alloc: Global) -> Result<Vec<u8>, NoMemory> {
     let mut text = Vec::from_slice(alloc, b"(a\n")?;

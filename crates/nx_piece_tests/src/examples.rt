@@ -83,6 +83,9 @@ fn check_attribute(
 ) -> Result<(), NoMemory> {
     assert_eq!(rt; attribute.node.kind, Kind::Attribute);
     assert_eq!(rt; attribute.children.len(), 0);
+    if attribute.node.far.is_some() {
+        panic!(rt; "the content stands elsewhere");
+    }
     assert_eq!(rt;
         attribute.node.to_node(alloc)?.content.as_slice(),
         b"1".as_slice()

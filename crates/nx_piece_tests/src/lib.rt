@@ -6,6 +6,8 @@ mod cutting;
 #[cfg(test)]
 mod examples;
 #[cfg(test)]
+mod far;
+#[cfg(test)]
 mod made;
 #[cfg(test)]
 mod random;

@@ -105,7 +105,12 @@ fn push_tree(
     depth: u32,
 ) -> Result<u32, NoMemory> {
     let place = parts.items.len();
-    let slots = random.below(room.min(6)).saturating_add(1);
+    let slots = if room > 140 && random.below(4) == 0 {
+        // Room for a content of more than 1,024 bytes.
+        random.below(room.saturating_sub(132)).saturating_add(132)
+    } else {
+        random.below(room.min(6)).saturating_add(1)
+    };
     push_node(random, parts, slots)?;
     let mut room = room.saturating_sub(slots);
     let mut items: u32 = 0;
@@ -132,23 +137,48 @@ fn push_tree(
     Ok(children)
 }
 
-// A node of so many slots, without child items.
+// A node whose item takes so many slots, without child items.
 fn push_node(random: &mut Random, parts: &mut Parts, slots: u32) -> Result<(), NoMemory> {
     let room = slots.saturating_sub(1).saturating_mul(8);
     let bytes = room.saturating_sub(random.below(8));
-    let name = random.below(bytes.saturating_add(1));
+    let far = bytes >= 8 && random.below(3) == 0;
+    let name = if far {
+        bytes.saturating_sub(8)
+    } else {
+        random.below(bytes.saturating_add(1))
+    };
+    let place = bytes.saturating_sub(name);
+    let counted = if place > 1_024 { 8 } else { place };
+    let weight = name.saturating_add(counted).div_ceil(8).saturating_add(1);
     parts.items.push(1 + (random.below(5) % 5) as u8)?;
-    parts.items.push(0)?;
+    parts.items.push(u8::from(far))?;
     push_short(&mut parts.items, name)?;
-    push_short(&mut parts.items, bytes.saturating_sub(name))?;
+    push_short(&mut parts.items, place)?;
     push_short(&mut parts.items, 0)?;
-    for place in 0..room {
-        let byte = if place < bytes { random.below(256) } else { 0 };
-        parts.items.push((byte % 256) as u8)?;
+    push_random(random, &mut parts.items, name)?;
+    if far {
+        push_long(&mut parts.items, random.below(4_000_000_000))?;
+        push_long(
+            &mut parts.items,
+            random.below(1_047_552).saturating_add(1_025),
+        )?;
+    } else {
+        push_random(random, &mut parts.items, place)?;
+    }
+    for _ in bytes..room {
+        parts.items.push(0)?;
     }
     parts.item_count = parts.item_count.saturating_add(1);
-    parts.weight = parts.weight.saturating_add(slots);
+    parts.weight = parts.weight.saturating_add(weight);
     parts.size = parts.size.saturating_add(slots);
+    Ok(())
+}
+
+// So many bytes.
+fn push_random(random: &mut Random, bytes: &mut Vec<u8>, count: u32) -> Result<(), NoMemory> {
+    for _ in 0..count {
+        bytes.push((random.below(256) % 256) as u8)?;
+    }
     Ok(())
 }
 

@@ -123,7 +123,8 @@ fn split_piece(
         target,
         tolerance,
     } = division;
-    if weight(&piece.body) <= k || !are_light(k, piece.body.roots.as_slice()) {
+    let heavy = weight(&piece.body);
+    if heavy <= k || !are_light(k, piece.body.roots.as_slice()) {
         return Ok(None);
     }
     Ok(Some(split(alloc, piece, above, matrix, k, target, tolerance)?))
@@ -179,7 +180,7 @@ pub(crate) fn numbers(alloc: Global, parts: &Partitioning) -> Result<Vec<u32>, N
 }
 
 // The marks of the piece, `None` where there is no such piece.
-#[tactic(auto, using(nx_piece::proofs::Laws::inline_is_piece))]
+#[tactic(auto, using(nx_piece::proofs::Laws::inline_is_piece, nx_piece::proofs::Laws::are_short, nx_piece::proofs::Laws::little_weight))]
 pub(crate) fn marks_of(
     alloc: Global,
     roots: u16,

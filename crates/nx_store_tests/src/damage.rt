@@ -8,7 +8,7 @@ use std::alloc::{AllocError, Global};
 use std::process::Abort;
 use std::test::Fail;
 
-const PAGE: usize = 8_192;
+pub const PAGE: usize = 8_192;
 
 // The lines that load three documents, and empty the log.
 fn loads(alloc: Global) -> Result<Vec<u8>, AllocError> {
@@ -26,8 +26,8 @@ fn with_documents(rt: &impl Abort, alloc: Global) -> Result<Image, Fail> {
     Ok(stored(rt, alloc, &empty, script.as_slice())?)
 }
 
-// The image with these bytes over those at an offset of its pages, where they are all within.
-fn changed(alloc: Global, image: &Image, at: usize, bytes: &[u8]) -> Result<Image, NoMemory> {
+/// The image with these bytes over those at an offset of its pages, where they are all within.
+pub fn changed(alloc: Global, image: &Image, at: usize, bytes: &[u8]) -> Result<Image, NoMemory> {
     let mut pages = Vec::from_slice(alloc, image.pages.as_slice())?;
     overwrite(&mut pages, at, bytes);
     Ok(Image {

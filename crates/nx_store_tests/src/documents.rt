@@ -28,6 +28,27 @@ pub fn load(alloc: Global, name: &[u8], document: &[u8]) -> Result<Vec<u8>, Allo
     parts.concat(alloc)
 }
 
+/// The text with 1,024 letters for each `!`, 1,025 for `~`, 8,184 for `*` and 8,185 for `^`: the most that an item holds
+/// and that a chain page holds, and one more.
+pub fn spelled(alloc: Global, text: &[u8]) -> Result<Vec<u8>, AllocError> {
+    let mut spelled = Vec::new(alloc);
+    for byte in text {
+        match *byte {
+            b'!' => push_letters(alloc, &mut spelled, 1_024)?,
+            b'~' => push_letters(alloc, &mut spelled, 1_025)?,
+            b'*' => push_letters(alloc, &mut spelled, 8_184)?,
+            b'^' => push_letters(alloc, &mut spelled, 8_185)?,
+            letter => spelled.push(letter)?,
+        }
+    }
+    Ok(spelled)
+}
+
+fn push_letters(alloc: Global, text: &mut Vec<u8>, letters: usize) -> Result<(), AllocError> {
+    let line = Vec::from_elem(alloc, b'x', letters)?;
+    text.extend_from_slice(line.as_slice())
+}
+
 /// Numbers that look random and are the same in each run.
 #[derive(Drop)]
 pub struct Random {
@@ -55,26 +76,60 @@ impl Random {
     }
 }
 
-// Adds a content of at most so many letters, which often has as many, and the line's end.
-fn push_content(text: &mut Vec<u8>, random: &mut Random, longest: u32) -> Result<(), AllocError> {
-    let letter = random.letter(26);
-    let letters = match random.below(4) {
-        0 => longest,
-        _ => random.below(longest),
-    };
-    for _ in 0..letters {
-        text.push(letter)?;
+/// How long drawn contents are: up to so many letters, or one of some other lengths.
+#[derive(Clone, Copy, Debug)]
+pub struct Lengths {
+    pub longest: u32,
+    pub others: &'static [u32],
+}
+
+impl Lengths {
+    /// One of the other lengths, now and then, if there are some.
+    pub fn other(self, random: &mut Random) -> Option<u32> {
+        if self.others.is_empty() || random.below(4) > 0 {
+            return None;
+        }
+        let others = (self.others.len() % 256) as u32;
+        self.others.get(random.below(others) as usize).copied()
     }
+
+    // Often the longest.
+    fn any(self, random: &mut Random) -> u32 {
+        match self.other(random) {
+            Some(other) => other,
+            None if random.below(4) == 0 => self.longest,
+            None => random.below(self.longest),
+        }
+    }
+
+    // The longest by so many letters shorter.
+    fn less(self, letters: u32) -> Lengths {
+        let longest = self.longest.saturating_sub(letters);
+        Lengths { longest, ..self }
+    }
+}
+
+// Adds a content and the line's end.
+fn push_content(
+    alloc: Global,
+    text: &mut Vec<u8>,
+    random: &mut Random,
+    lengths: Lengths,
+) -> Result<(), AllocError> {
+    let letter = random.letter(26);
+    let letters = lengths.any(random);
+    text.extend_from_slice(Vec::from_elem(alloc, letter, letters as usize)?.as_slice())?;
     text.push(b'\n')?;
     Ok(())
 }
 
 // Adds an element's beginning, an element's end, an instruction or a text, and says how deep it is then.
 fn push_line(
+    alloc: Global,
     text: &mut Vec<u8>,
     random: &mut Random,
     depth: u32,
-    longest: u32,
+    lengths: Lengths,
 ) -> Result<u32, AllocError> {
     match random.below(10) {
         0..=2 if depth < 200 => {
@@ -85,34 +140,35 @@ fn push_line(
             text.extend_from_slice(b")b\n")?;
             return Ok(depth.saturating_sub(1));
         }
-        5 => push_leaf(text, random, b"?p ", longest.saturating_sub(1))?,
-        _ => push_leaf(text, random, b"-", longest)?,
+        5 => push_leaf(alloc, text, random, b"?p ", lengths.less(1))?,
+        _ => push_leaf(alloc, text, random, b"-", lengths)?,
     }
     Ok(depth)
 }
 
 fn push_leaf(
+    alloc: Global,
     text: &mut Vec<u8>,
     random: &mut Random,
     code: &[u8],
-    longest: u32,
+    lengths: Lengths,
 ) -> Result<(), AllocError> {
     text.extend_from_slice(code)?;
-    push_content(text, random, longest)
+    push_content(alloc, text, random, lengths)
 }
 
 /// A document with so many lines in its root's element, some of which end elements again, and with contents of
-/// at most so many letters.
+/// these lengths.
 pub fn random_document(
     alloc: Global,
     random: &mut Random,
     lines: u32,
-    longest: u32,
+    lengths: Lengths,
 ) -> Result<Vec<u8>, AllocError> {
     let mut text = Vec::from_slice(alloc, b"?p\n(a\n")?;
     let mut depth = 0u32;
     for _ in 0..lines {
-        depth = push_line(&mut text, random, depth, longest)?;
+        depth = push_line(alloc, &mut text, random, depth, lengths)?;
     }
     for _ in 0..depth {
         text.extend_from_slice(b")b\n")?;

@@ -1,7 +1,7 @@
 // Drawn edits of documents, and rules for the labels that drawn documents have.
 ghost use Rattle.nx_tree.specs.Document.{IsDocument};
 
-use crate::documents::Random;
+use crate::documents::{Lengths, Random};
 use nx_matrix::Entry;
 use nx_tree::{Kind, NoMemory, Path, Tree, node_at};
 use std::alloc::{AllocError, Global};
@@ -204,26 +204,33 @@ pub fn any_node(
     alloc: Global,
     random: &mut Random,
     child: usize,
-    longest: u32,
+    lengths: Lengths,
 ) -> Result<Vec<u8>, AllocError> {
     let mut line = Vec::from_slice(alloc, code_of(child))?;
     if child != 1 {
-        line.extend_from_slice(any_content(alloc, random, longest)?.as_slice())?;
+        line.extend_from_slice(any_content(alloc, random, lengths)?.as_slice())?;
     }
     Ok(line)
 }
 
-/// A content of at most so many letters, or of one more.
+/// A content of one of these lengths, or of a letter more than the longest has.
 pub fn any_content(
     alloc: Global,
     random: &mut Random,
-    longest: u32,
+    lengths: Lengths,
 ) -> Result<Vec<u8>, AllocError> {
     let letter = random.letter(26);
-    let letters = match random.below(8) {
+    let letters = match lengths.other(random) {
+        Some(other) => other,
+        None => any_length(random, lengths.longest),
+    };
+    Vec::from_elem(alloc, letter, letters as usize)
+}
+
+fn any_length(random: &mut Random, longest: u32) -> u32 {
+    match random.below(8) {
         0 => longest.saturating_add(1),
         1 => longest,
         _ => random.below(longest),
-    };
-    Vec::from_elem(alloc, letter, letters as usize)
+    }
 }

@@ -3,6 +3,8 @@
 #![tactic(auto)]
 
 #[cfg(test)]
+mod chains;
+#[cfg(test)]
 mod damage;
 #[cfg(test)]
 mod documents;
@@ -13,7 +15,11 @@ mod init;
 #[cfg(test)]
 mod intervals;
 #[cfg(test)]
+mod laid;
+#[cfg(test)]
 mod memory_session;
+#[cfg(test)]
+mod old;
 #[cfg(test)]
 mod rows;
 #[cfg(test)]

@@ -95,27 +95,69 @@ fn load_wide(
     load(alloc, name, wide(alloc, texts, letters)?.as_slice())
 }
 
-// A text of 2,040 letters takes a part for itself, and one of more letters is too heavy.
+// Texts of more than 1,024 letters stand outside of the record, however long they are.
 #[test]
-fn heavy_texts(rt: HostRuntime) -> Result<(), Fail> {
-    let fitting = load_wide(rt.alloc(), b"t", 1, 2_040)?;
-    let heavy = load_wide(rt.alloc(), b"u", 1, 2_041)?;
-    let commands: [&[u8]; 2] = [fitting.as_slice(), heavy.as_slice()];
-    let output = b"ok 3 2\nerror too-heavy /0/0 257\n";
-    check_heavy(&rt, rt.alloc(), &commands, output)
+fn long_texts(rt: HostRuntime) -> Result<(), Fail> {
+    let one = load_wide(rt.alloc(), b"t", 1, 2_040)?;
+    let other = load_wide(rt.alloc(), b"u", 1, 2_041)?;
+    let commands: [&[u8]; 2] = [one.as_slice(), other.as_slice()];
+    check_heavy(&rt, rt.alloc(), &commands, b"ok 3 1\nok 3 1\n")
 }
 
-// The root's record has its 1,500 proxies in two chain pages.
+// The longest content, which takes 129 chain pages.
+#[test]
+fn the_longest_text(rt: HostRuntime) -> Result<(), Fail> {
+    let content = Vec::from_elem(rt.alloc(), b'x', 1_048_576)?;
+    let document = wide(rt.alloc(), 1, 1_048_576)?;
+    let load = load(rt.alloc(), b"t", document.as_slice())?;
+    let retext: [&[u8]; 3] = [b"retext t /0/0 ", content.as_slice(), b"\n"];
+    let retext = retext.concat(rt.alloc())?;
+    let commands: [&[u8]; 5] = [
+        load.as_slice(),
+        b"retext t /0/0 hi\n",
+        retext.as_slice(),
+        b"get t /0/0\n",
+        b"export t\n",
+    ];
+    let output: [&[u8]; 5] = [
+        b"ok 3 1\nok\nok\nnode 0 -",
+        content.as_slice(),
+        b"\n",
+        document.as_slice(),
+        b".\n",
+    ];
+    let output = output.concat(rt.alloc())?;
+    check_heavy(&rt, rt.alloc(), &commands, output.as_slice())
+}
+
+// A text of 1,024 letters outweighs 128 slots, and one of more letters doesn't.
+#[test]
+fn heavy_texts(rt: HostRuntime) -> Result<(), Fail> {
+    let settings = Settings { k: 128, ..HEAVY };
+    let heavy = load_wide(rt.alloc(), b"t", 1, 1_024)?;
+    let long = load_wide(rt.alloc(), b"u", 1, 1_025)?;
+    let text = wide(rt.alloc(), 1, 1_025)?;
+    let commands: [&[u8]; 3] = [heavy.as_slice(), long.as_slice(), b"export u\n"];
+    let output = [
+        b"error too-heavy /0/0 129\nok 3 1\n",
+        text.as_slice(),
+        b".\n",
+    ]
+    .concat(rt.alloc())?;
+    check(&rt, rt.alloc(), settings, &commands, output.as_slice())
+}
+
+// The root's record has its 1,499 proxies in two chain pages.
 #[test]
 fn many_parts(rt: HostRuntime) -> Result<(), Fail> {
-    let document = wide(rt.alloc(), 1_500, 2_040)?;
+    let document = wide(rt.alloc(), 1_500, 1_024)?;
     let lines = load(rt.alloc(), b"w", document.as_slice())?;
-    let output = [b"ok 1502 1501\n", document.as_slice(), b".\n"].concat(rt.alloc())?;
+    let output = [b"ok 1502 1500\n", document.as_slice(), b".\n"].concat(rt.alloc())?;
     let commands: [&[u8]; 2] = [lines.as_slice(), b"export w\n"];
     check_heavy(&rt, rt.alloc(), &commands, output.as_slice())
 }
 
-// The 251 records take more than the 63 pages beside the header have.
+// The 251 contents take more than the 63 pages beside the header.
 #[test]
 fn no_room(rt: HostRuntime) -> Result<(), Fail> {
     let settings = Settings { limit: 64, ..HEAVY };
@@ -476,19 +518,19 @@ fn trees_stay_away(rt: HostRuntime) -> Result<(), Fail> {
     Ok(())
 }
 
-// Each text has a record for itself, and its page comes back with it.
+// Each text but one has a record for itself, which goes with it.
 #[test]
 fn texts_go(rt: HostRuntime) -> Result<(), Fail> {
     let settings = Settings { limit: 64, ..HEAVY };
-    let large = load_wide(rt.alloc(), b"d", 100, 2_040)?;
-    let left = wide(rt.alloc(), 98, 2_040)?;
+    let large = load_wide(rt.alloc(), b"d", 100, 1_024)?;
+    let left = wide(rt.alloc(), 98, 1_024)?;
     let commands: [&[u8]; 4] = [
         large.as_slice(),
         b"delete d /0/99\n",
         b"delete d /0/0\n",
         b"export d\n",
     ];
-    let output = [b"ok 102 101\nok\nok\n", left.as_slice(), b".\n"].concat(rt.alloc())?;
+    let output = [b"ok 102 100\nok\nok\n", left.as_slice(), b".\n"].concat(rt.alloc())?;
     check(&rt, rt.alloc(), settings, &commands, output.as_slice())
 }
 
@@ -523,11 +565,11 @@ fn documents_stay_away(rt: HostRuntime) -> Result<(), Fail> {
     Ok(())
 }
 
-// The 101 records take more than half of the 63 pages beside the header, which come back each time.
+// The 40 contents take more than half of the 63 pages beside the header, which come back each time.
 #[test]
 fn pages_come_back(rt: HostRuntime) -> Result<(), Fail> {
     let settings = Settings { limit: 64, ..HEAVY };
-    let large = load_wide(rt.alloc(), b"d", 100, 2_040)?;
+    let large = load_wide(rt.alloc(), b"d", 40, 2_040)?;
     let commands: [&[u8]; 5] = [
         large.as_slice(),
         b"drop d\n",
@@ -540,6 +582,6 @@ fn pages_come_back(rt: HostRuntime) -> Result<(), Fail> {
         rt.alloc(),
         settings,
         &commands,
-        b"ok 102 101\nok\nok 102 101\nok\nok 102 101\n",
+        b"ok 42 1\nok\nok 42 1\nok\nok 42 1\n",
     )
 }

@@ -1,12 +1,13 @@
 // Stores that are stopped, or a call of whose host fails: what is out and what is left go together.
-use crate::documents::{BOOK, SMALL, load, wide};
+use crate::documents::{BOOK, SMALL, load, spelled, wide};
+use crate::laid::old_store;
 use crate::stores::{
     CHOICES, HEAVY, LIGHT, answers, apply, host_with, left, new_store, open, run_script, stored,
 };
 use nx_front::Status;
 use nx_memory::{Choice, Image, MemoryHost};
 use nx_store::{EngineError, Store};
-use nx_tree::NoMemory;
+use nx_tree::{Bytes, NoMemory};
 use std::alloc::Global;
 use std::process::Abort;
 use std::test::Fail;
@@ -254,6 +255,48 @@ const EDITS: Story = Story {
     ],
 };
 
+// Contents that go to lists of other lengths and back into their items, and that go.
+const FAR_EDITS: Story = Story {
+    steps: &[
+        (b"load f\n(a\nAx ~\n-^\n)a\n.\n", b"ok 4 1\n", 1),
+        (b"retext f /0/1 *\n", b"ok\n", 2),
+        (b"retext f /0/1 !\n", b"ok\n", 3),
+        (b"retext f /0/1 ^\n", b"ok\n", 1),
+        (b"insert f /0/2 ?p ~\n", b"ok\n", 4),
+        (b"retext f /0/0\n", b"ok\n", 5),
+        (b"delete f /0/2\n", b"ok\n", 6),
+        (b"drop f\n", b"ok\n", 0),
+    ],
+    looks: b"names\nlayout f\nexport f\n",
+    left: &[
+        b".\nerror no-document\nerror no-document\n",
+        b"doc f 4\n.\nroot 8\n.\n(a\nAx ~\n-^\n)a\n.\n",
+        b"doc f 4\n.\nroot 8\n.\n(a\nAx ~\n-*\n)a\n.\n",
+        b"doc f 4\n.\nroot 135\n.\n(a\nAx ~\n-!\n)a\n.\n",
+        b"doc f 5\n.\nroot 11\n.\n(a\nAx ~\n-^\n?p ~\n)a\n.\n",
+        b"doc f 5\n.\nroot 10\n.\n(a\nAx \n-^\n?p ~\n)a\n.\n",
+        b"doc f 4\n.\nroot 7\n.\n(a\nAx \n-^\n)a\n.\n",
+    ],
+};
+
+// The same in a store of format 1, whose document has a text in a record.
+const OLD_EDITS: Story = Story {
+    steps: &[
+        (b"insert u /0/0 -~\n", b"ok\n", 1),
+        (b"retext u /0/2 hi\n", b"ok\n", 2),
+        (b"delete u /0/0\n", b"ok\n", 3),
+        (b"delete t /0/0\n", b"ok\n", 4),
+    ],
+    looks: b"layout u\nget u /0/0\nget u /0\nnames\n",
+    left: &[
+        b"root 7\n.\nnode 0 -hi\nnode 2 (r\ndoc t 3\ndoc u 4\n.\n",
+        b"root 9\n.\nnode 0 -~\nnode 3 (r\ndoc t 3\ndoc u 5\n.\n",
+        b"root 9\n.\nnode 0 -~\nnode 3 (r\ndoc t 3\ndoc u 5\n.\n",
+        b"root 7\n.\nnode 0 -hi\nnode 2 (r\ndoc t 3\ndoc u 4\n.\n",
+        b"root 7\n.\nnode 0 -hi\nnode 2 (r\ndoc t 2\ndoc u 4\n.\n",
+    ],
+};
+
 // With so many bytes out, what stores answer in the state behind the commands that were answered, and behind
 // one more.
 fn left_after(story: Story, out: usize) -> (Option<&'static [u8]>, Option<&'static [u8]>) {
@@ -311,10 +354,18 @@ fn check_left(
     for choice in CHOICES {
         let image = left(host, choice)?;
         let found = answers(rt, alloc, &image, story.looks)?;
-        let text = Some(found.as_slice());
-        assert!(rt; text == before || text == after, "{choice:?}");
+        let is_left = is_spelled(alloc, &found, before)? || is_spelled(alloc, &found, after)?;
+        assert!(rt; is_left, "{choice:?}");
     }
     Ok(())
+}
+
+// Whether the text is this, spelled out.
+fn is_spelled(alloc: Global, found: &Bytes, text: Option<&[u8]>) -> Result<bool, NoMemory> {
+    match text {
+        Some(text) => Ok(found.as_slice() == spelled(alloc, text)?.as_slice()),
+        None => Ok(false),
+    }
 }
 
 // Runs the steps where this call fails, and says whether all was done.
@@ -336,7 +387,7 @@ fn is_done(
 fn all_lines(alloc: Global, story: Story) -> Result<Vec<u8>, NoMemory> {
     let mut script = Vec::new(alloc);
     for (lines, _, _) in story.steps {
-        script.extend_from_slice(lines)?;
+        script.extend_from_slice(spelled(alloc, lines)?.as_slice())?;
     }
     Ok(script)
 }
@@ -369,15 +420,15 @@ fn steps_host(
 fn check_calls(
     rt: &impl Abort,
     alloc: Global,
+    store: &Image,
     story: Story,
     piece: u32,
     alone: bool,
 ) -> Result<(), Fail> {
-    let store = new_store(alloc, LIGHT)?;
     let script = all_lines(alloc, story)?;
     let replies = all_replies(alloc, story)?;
     for number in 1..CALLS {
-        let host = steps_host(rt, alloc, script.as_slice(), &store, piece, number, alone)?;
+        let host = steps_host(rt, alloc, script.as_slice(), store, piece, number, alone)?;
         if is_done(rt, alloc, story, host, replies.as_slice())? {
             return Ok(());
         }
@@ -387,22 +438,62 @@ fn check_calls(
 
 #[test]
 fn each_call_fails_in_turn(rt: HostRuntime) -> Result<(), Fail> {
-    check_calls(&rt, rt.alloc(), LOADS, 65_536, true)
+    check_calls(
+        &rt,
+        rt.alloc(),
+        &new_store(rt.alloc(), LIGHT)?,
+        LOADS,
+        65_536,
+        true,
+    )
 }
 
 #[test]
 fn each_call_is_the_last_in_turn(rt: HostRuntime) -> Result<(), Fail> {
-    check_calls(&rt, rt.alloc(), LOADS, 30, false)
+    check_calls(
+        &rt,
+        rt.alloc(),
+        &new_store(rt.alloc(), LIGHT)?,
+        LOADS,
+        30,
+        false,
+    )
 }
 
 #[test]
 fn each_call_of_an_edit_fails_in_turn(rt: HostRuntime) -> Result<(), Fail> {
-    check_calls(&rt, rt.alloc(), EDITS, 65_536, true)
+    check_calls(
+        &rt,
+        rt.alloc(),
+        &new_store(rt.alloc(), LIGHT)?,
+        EDITS,
+        65_536,
+        true,
+    )
 }
 
 #[test]
 fn each_call_of_an_edit_is_the_last_in_turn(rt: HostRuntime) -> Result<(), Fail> {
-    check_calls(&rt, rt.alloc(), EDITS, 30, false)
+    check_calls(
+        &rt,
+        rt.alloc(),
+        &new_store(rt.alloc(), LIGHT)?,
+        EDITS,
+        30,
+        false,
+    )
+}
+
+#[test]
+fn each_call_with_far_contents_is_the_last_in_turn(rt: HostRuntime) -> Result<(), Fail> {
+    let store = new_store(rt.alloc(), HEAVY)?;
+    check_calls(&rt, rt.alloc(), &store, FAR_EDITS, 65_536, false)
+}
+
+#[test]
+fn each_call_at_an_old_store_is_the_last_in_turn(rt: HostRuntime) -> Result<(), Fail> {
+    let store = old_store(rt.alloc())?;
+    check_calls(&rt, rt.alloc(), &store, OLD_EDITS, 65_536, false)
 }
 
 // Loads where the host is stopped, and says whether the store has ended.

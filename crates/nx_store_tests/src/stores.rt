@@ -97,6 +97,16 @@ pub fn settings_of(alloc: Global, image: Image) -> Result<Option<Settings>, Fail
     }
 }
 
+fn opened_format(alloc: Global, host: &mut MemoryHost) -> Result<u16, StoreError> {
+    Ok(Records::open(alloc, host)?.format())
+}
+
+/// The format of the store that an image has.
+pub fn format_of(alloc: Global, image: Image) -> Result<u16, Fail> {
+    let mut host = host_of(alloc, image)?;
+    Ok(opened_format(alloc, &mut host)?)
+}
+
 /// The command of these lines.
 pub fn command_of(alloc: Global, lines: &[u8]) -> Result<Command, ScriptError>
     ensures { IfOk result (λ command. CanCome command) }

@@ -1,7 +1,7 @@
 // Random scripts over a store beside plain trees.
 ghost use Rattle.nx_holdings.specs.Header.{AreSettings};
 
-use crate::documents::{Random, random_document};
+use crate::documents::{Lengths, Random, random_document};
 use crate::drawn::{any_content, any_entry, any_node, any_pair, edit_line};
 use crate::intervals::Change;
 use crate::stores::{CHOICES, HEAVY, LIGHT};
@@ -11,13 +11,33 @@ use std::alloc::{AllocError, Global};
 use std::process::Abort;
 use std::test::Fail;
 
-// How many documents there are, and how large.
+// How many documents there are, how large, and with which contents.
 #[derive(Clone, Copy, Debug)]
 struct Size {
     names: u8,
     lines: u32,
-    longest: u32,
+    lengths: Lengths,
 }
+
+// Contents of at most so many letters.
+const fn up_to(longest: u32) -> Lengths {
+    Lengths {
+        longest,
+        others: &[],
+    }
+}
+
+// Short contents, and some of lengths from which on another is stored otherwise.
+const SOME_FAR: Lengths = Lengths {
+    longest: 100,
+    others: &[1_023, 1_024, 1_025, 8_184, 8_185],
+};
+
+// Some that take one chain page or two.
+const MANY_FAR: Lengths = Lengths {
+    longest: 120,
+    others: &[1_025, 8_184, 8_185],
+};
 
 // The line of a command of one document.
 fn line_of(alloc: Global, word: &[u8], name: u8) -> Result<Vec<u8>, AllocError> {
@@ -60,8 +80,15 @@ fn load(
     size: Size,
 ) -> Result<(), Fail> {
     let lines = random.below(size.lines);
-    let longest = size.longest.saturating_add(u32::from(random.below(8) == 0));
-    let text = random_document(alloc, random, lines, longest)?;
+    let longest = size
+        .lengths
+        .longest
+        .saturating_add(u32::from(random.below(8) == 0));
+    let lengths = Lengths {
+        longest,
+        ..size.lengths
+    };
+    let text = random_document(alloc, random, lines, lengths)?;
     twins.load(rt, &[name], text.as_slice())
 }
 
@@ -82,7 +109,7 @@ fn insert(
     let path = twins.any_path(&[name], random)?;
     let child = random.below(4) as usize;
     let change = twins.coming(&[name], path.as_slice(), child);
-    let node = any_node(alloc, random, child, size.longest)?;
+    let node = any_node(alloc, random, child, size.lengths)?;
     let line = edit_line(alloc, b"insert", name, path.as_slice(), node.as_slice())?;
     twins.edit(rt, &[name], path.as_slice(), change, line.as_slice())
 }
@@ -108,7 +135,7 @@ fn retext(
     size: Size,
 ) -> Result<(), Fail> {
     let path = twins.any_path(&[name], random)?;
-    let content = any_content(alloc, random, size.longest)?;
+    let content = any_content(alloc, random, size.lengths)?;
     let rest = [b" ", content.as_slice()].concat(alloc)?;
     let line = edit_line(alloc, b"retext", name, path.as_slice(), rest.as_slice())?;
     twins.edit(rt, &[name], path.as_slice(), Change::Stays, line.as_slice())
@@ -189,24 +216,39 @@ fn trial(
     Ok(twins.tried)
 }
 
+// Each thing was tried at least so often, and something was refused for want of room just where that is wanted.
+fn check_tried(rt: &impl Abort, tried: Tried, least: Tried) {
+    assert!(rt;
+        least.loaded <= tried.loaded
+            && least.heavy <= tried.heavy
+            && least.full <= tried.full
+            && (least.full > 0 || tried.full == 0)
+            && least.laid <= tried.laid
+            && least.edited <= tried.edited
+            && least.split <= tried.split,
+        "{tried:?}"
+    );
+}
+
+const ROOMY: Tried = Tried {
+    loaded: 10,
+    heavy: 1,
+    full: 0,
+    laid: 10,
+    edited: 10,
+    split: 4,
+};
+
 #[test]
 fn parts_of_few_slots(rt: HostRuntime) -> Result<(), Fail> {
     let settings = Settings { k: 4, ..LIGHT };
     let size = Size {
         names: 5,
         lines: 90,
-        longest: 24,
+        lengths: up_to(24),
     };
     let tried = trial(&rt, rt.alloc(), settings, size, 300)?;
-    assert!(rt;
-        tried.loaded > 9
-            && tried.heavy > 0
-            && tried.full == 0
-            && tried.laid > 9
-            && tried.edited > 9
-            && tried.split > 3,
-        "{tried:?}"
-    );
+    check_tried(&rt, tried, ROOMY);
     Ok(())
 }
 
@@ -215,39 +257,60 @@ fn parts_of_some_slots(rt: HostRuntime) -> Result<(), Fail> {
     let size = Size {
         names: 5,
         lines: 60,
-        longest: 120,
+        lengths: up_to(120),
     };
     let tried = trial(&rt, rt.alloc(), LIGHT, size, 300)?;
-    assert!(rt;
-        tried.loaded > 9
-            && tried.heavy > 0
-            && tried.full == 0
-            && tried.laid > 9
-            && tried.edited > 9
-            && tried.split > 3,
-        "{tried:?}"
-    );
+    check_tried(&rt, tried, ROOMY);
     Ok(())
 }
 
-// There are few pages, so that many documents find no room.
+const NARROW: Tried = Tried {
+    loaded: 4,
+    heavy: 0,
+    full: 4,
+    laid: 4,
+    edited: 10,
+    split: 4,
+};
+
+// There are few pages, so that many documents find no room. No content outweighs a part.
 #[test]
 fn parts_of_many_slots(rt: HostRuntime) -> Result<(), Fail> {
     let settings = Settings { limit: 64, ..HEAVY };
     let size = Size {
         names: 26,
-        lines: 100,
-        longest: 2_040,
+        lines: 240,
+        lengths: up_to(1_023),
     };
     let tried = trial(&rt, rt.alloc(), settings, size, 300)?;
-    assert!(rt;
-        tried.loaded > 3
-            && tried.heavy > 0
-            && tried.full > 3
-            && tried.laid > 3
-            && tried.edited > 9
-            && tried.split > 3,
-        "{tried:?}"
-    );
+    check_tried(&rt, tried, NARROW);
+    Ok(())
+}
+
+// Contents in items, and contents in lists of a page and of two.
+#[test]
+fn some_far_contents(rt: HostRuntime) -> Result<(), Fail> {
+    let size = Size {
+        names: 6,
+        lines: 60,
+        lengths: SOME_FAR,
+    };
+    let least = Tried { heavy: 0, ..ROOMY };
+    let tried = trial(&rt, rt.alloc(), HEAVY, size, 300)?;
+    check_tried(&rt, tried, least);
+    Ok(())
+}
+
+// There are few pages, and the lists take many.
+#[test]
+fn many_far_contents(rt: HostRuntime) -> Result<(), Fail> {
+    let settings = Settings { limit: 64, ..LIGHT };
+    let size = Size {
+        names: 8,
+        lines: 160,
+        lengths: MANY_FAR,
+    };
+    let tried = trial(&rt, rt.alloc(), settings, size, 300)?;
+    check_tried(&rt, tried, NARROW);
     Ok(())
 }

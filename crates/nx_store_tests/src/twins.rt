@@ -33,6 +33,13 @@ pub struct Tried {
     pub split: u32,
 }
 
+// What documents have: nodes, and chain pages of contents that are too long for their items.
+#[derive(Clone, Copy, Default)]
+struct Stored {
+    nodes: u32,
+    pages: u32,
+}
+
 /// A store beside plain trees.
 #[derive(Drop)]
 pub struct Twins {
@@ -88,15 +95,26 @@ impl Twins {
         self.check_same(rt, &found, &want)
     }
 
-    // The number of nodes of all documents.
-    fn nodes(&mut self) -> Result<u32, Fail> {
-        let mut nodes = 0u32;
+    // What all documents have.
+    fn stored(&mut self) -> Result<Stored, Fail> {
+        let mut stored = Stored::default();
         if let Reply::Names(lines) = self.apply_plain(b"names\n")? {
             for line in lines.as_slice() {
-                nodes = nodes.saturating_add(line.nodes);
+                let pages = self.pages_of(line.name.as_slice())?;
+                stored.nodes = stored.nodes.saturating_add(line.nodes);
+                stored.pages = stored.pages.saturating_add(pages);
             }
         }
-        Ok(nodes)
+        Ok(stored)
+    }
+
+    // How many chain pages the long contents of a document take.
+    fn pages_of(&mut self, name: &[u8]) -> Result<u32, Fail> {
+        let lines = [b"export ", name, b"\n"].concat(self.alloc)?;
+        match self.apply_plain(lines.as_slice())? {
+            Reply::Exported(text) => Ok(pages_in(text.as_slice())),
+            _ => Ok(0),
+        }
     }
 
     /// Loads a document.
@@ -127,7 +145,7 @@ impl Twins {
                 self.forget(name)
             }
             Reply::Refused(ReplyError::Full) => {
-                let after = self.nodes()?;
+                let after = self.stored()?;
                 self.forget(name)?;
                 self.check_full(rt, after)
             }
@@ -164,12 +182,18 @@ impl Twins {
         Ok(())
     }
 
-    // There may be no room: three times the nodes before and after, the rules and 8 reach the limit of pages.
-    fn check_full(&mut self, rt: &impl Abort, after: u32) -> Result<(), Fail> {
+    // There may be no room: three times the nodes, and the chain pages of long contents, both before and after, with the
+    // rules and 8 reach the limit of pages.
+    fn check_full(&mut self, rt: &impl Abort, after: Stored) -> Result<(), Fail> {
         self.tried.full = self.tried.full.saturating_add(1);
-        let nodes = self.nodes()?.saturating_add(after);
+        let before = self.stored()?;
+        let nodes = before.nodes.saturating_add(after.nodes);
+        let pages = before.pages.saturating_add(after.pages);
         let rules = self.entries.count().saturating_add(8);
-        let bound = nodes.saturating_mul(3).saturating_add(rules);
+        let bound = nodes
+            .saturating_mul(3)
+            .saturating_add(pages)
+            .saturating_add(rules);
         assert!(rt; self.settings.limit <= bound);
         Ok(())
     }
@@ -188,8 +212,8 @@ impl Twins {
         self.entries.set(pair, entry);
         let found = self.apply(lines.as_slice())?;
         if let Reply::Refused(ReplyError::Full) = found {
-            let nodes = self.nodes()?;
-            self.check_full(rt, nodes)?;
+            let after = self.stored()?;
+            self.check_full(rt, after)?;
             self.entries.set(pair, old);
             return Ok(());
         }
@@ -314,7 +338,7 @@ impl Twins {
             }
             Reply::Refused(ReplyError::Full) => {
                 self.check_same(rt, &Reply::Done, want)?;
-                let after = self.nodes()?;
+                let after = self.stored()?;
                 self.restore(name, reload)?;
                 self.check_full(rt, after)
             }
@@ -385,6 +409,37 @@ fn discard(alloc: Global, plain: &mut Plain, name: &[u8]) -> Result<(), NoMemory
     let name = Bytes::from_slice(alloc, name)?;
     plain.apply(Command::Discard { name })?;
     Ok(())
+}
+
+// How many chain pages the long contents of this text take, none of whose letters is escaped. A content is what stands
+// behind a text's first letter, and behind the space of another line.
+fn pages_in(text: &[u8]) -> u32 {
+    let mut pages = 0u32;
+    let mut length = 0u32;
+    let mut begins = true;
+    let mut inside = false;
+    for byte in text {
+        if *byte == b'\n' {
+            pages = pages.saturating_add(chain_pages(length));
+            length = 0;
+            begins = true;
+            inside = false;
+        } else if inside {
+            length = length.saturating_add(1);
+        } else {
+            inside = *byte == b' ' || (begins && *byte == b'-');
+            begins = false;
+        }
+    }
+    pages
+}
+
+// So many chain pages a content of that length takes, if it is too long for an item.
+fn chain_pages(length: u32) -> u32 {
+    if length <= 1_024 {
+        return 0;
+    }
+    length.div_ceil(8_184)
 }
 
 // Whether a document of so many nodes was loaded.

@@ -129,9 +129,11 @@ pub(super) fn root_weight(nodes: &[Placed<'_>], parts: &[Interval]) -> u64 {
     }
 }
 
-/// What the node weighs.
+/// What the node weighs: a content of more than 1,024 bytes counts for 8.
 pub(super) fn slots(node: &Node) -> u64 {
-    let bytes = node.name.len().saturating_add(node.content.len());
+    let content = node.content.len();
+    let counted = if content > 1_024 { 8 } else { content };
+    let bytes = node.name.len().saturating_add(counted);
     (bytes.div_ceil(8) as u64).saturating_add(1)
 }
 

@@ -1,4 +1,4 @@
-use Rattle.std.proofs.Common.{rules, ◌+◌, ◌≤◌, suc, ap, ◌∙◌, subst}
+use Rattle.std.proofs.Common.{rules, ◌≤◌, suc, ap, ◌∙◌, subst}
 use Rattle.nx_piece.specs.Gapped.{GappedTree, item_count}
 use Rattle.nx_piece.specs.Items.{gapped_of}
 use Rattle.nx_piece.specs.Weight.{HaveShortNodes}
