@@ -1,6 +1,6 @@
 """Draws stores and scripts of all commands over them, by the state in which a model is: for tools/test-scripts."""
 
-from script_model import DEEPEST, LONGEST, LONGEST_LINE, MOST_NODES, MOST_RULES, Command, path_text
+from script_model import DEEPEST, LIST_PAGE, LONGEST, LONGEST_LINE, LONGEST_NEAR, MOST_NODES, MOST_RULES, Command, path_text
 from sessions import Element
 
 SMALL_K = (2, 3, 4, 5, 6, 8, 10, 12, 16, 24)
@@ -8,11 +8,12 @@ LARGE_K = (32, 64, 100, 128, 200, 255, 256)
 MOST_PAGES = 16_777_216
 LETTERS = b"abcdefghijklmnopqrstuvwxyz ABCDEFGHIJKLMNOPQRSTUVWXYZ0123456789.,;:-_" * 30
 # What a store is like, and how many of ten thousand are so.
-CHARACTERS = {"mixed": 4600, "hot": 2500, "splits": 1800, "deep": 350, "wide": 200, "full": 300, "catalog": 100, "labels": 100, "long": 40, "rules": 8, "nodes": 2}
+CHARACTERS = {"mixed": 3900, "far": 700, "hot": 2500, "splits": 1800, "deep": 350, "wide": 200, "full": 300, "catalog": 100, "labels": 100, "long": 40, "rules": 8, "nodes": 2}
 WORDS = ("insert", "delete", "retext", "load", "drop", "rule", "get", "export", "layout", "names", "rules", "checkpoint", "junk")
 # How often which command comes, by character.
 SHARES = {
     "mixed": (40, 8, 12, 9, 3, 7, 8, 3, 1, 2, 2, 2, 4),
+    "far": (30, 8, 30, 12, 4, 5, 8, 2, 1, 1, 1, 2, 1),
     "hot": (70, 4, 6, 4, 1, 5, 2, 1, 1, 1, 1, 1, 1),
     "splits": (45, 2, 25, 5, 1, 14, 2, 1, 1, 1, 1, 1, 1),
     "deep": (50, 6, 8, 10, 2, 3, 12, 2, 1, 1, 1, 1, 2),
@@ -43,11 +44,13 @@ def drawn_settings(draw, character):
     k = draw.choice(SMALL_K if draw.random() < 0.7 else LARGE_K)
     if draw.random() < 0.15:
         k = draw.randint(1, 256)
+    if character == "far":
+        k = draw.choice((2, 3, 4, 5, 8, 16, 64, 127, 128, 129, 130, 131, 200, 256))
     if character in ("full", "long"):
         k = draw.choice((64, 128, 200, 256, 256)) if character == "full" else 256
     target = draw.choice((50, 50, 50, 0, 1, 25, 33, 66, 75, 99, 100, draw.randint(0, 100)))
     tolerance = draw.choice((k // 4, k // 4, k // 2, 0, 1, 2, k, 256, draw.randint(0, min(256, 2 * k))))
-    small = character in ("full", "catalog", "labels")
+    small = character in ("full", "catalog", "labels") or (character == "far" and draw.random() < 0.5)
     limit = draw.choice((64, 64, 64, 65, 80)) if small else draw.choice((MOST_PAGES, MOST_PAGES, 1_000_000, 10_000, 200, 64))
     said = 4 if small else draw.randint(1, 4)
     if said < 2:
@@ -65,7 +68,7 @@ class Drawer:
         self.room = 8 * (model.k - 1)
         self.labels = self.drawn_names()
         self.documents = [b"d0", b"d1", b"d2", draw.choice((b".", b"~", b"!", b"x-y")), b"n" * draw.choice((255, 254, 100))]
-        self.serial, self.excess = 0, 0.03
+        self.serial, self.excess, self.far = 0, 0.03, {"far": 0.4, "mixed": 0.01, "deep": 0.01}.get(character, 0)
 
     def drawn_names(self):
         names = [b"a", b"b", b"item", b"\xc3\xa9t\xc3\xa9"][: 2 if self.character == "splits" else 4]
@@ -78,6 +81,8 @@ class Drawer:
     def length(self, room):
         draw = self.draw
         room = max(room, 0)
+        if room >= 8 - (draw.random() < self.excess) and draw.random() < self.far:
+            return self.long_length()
         kind = draw.random()
         if self.character in ("full", "wide") and kind < 0.8:
             return draw.randint(room // 2, room) if self.character == "full" else draw.randint(0, min(room, 12))
@@ -89,16 +94,29 @@ class Drawer:
             return min(room, max(0, 8 * draw.randint(0, room // 8) + draw.choice((-1, 0, 0, 1))))
         return room if draw.random() > self.excess * 10 else room + draw.choice((1, 8, 100))
 
+    def long_length(self):
+        """Around what a record keeps of a content, or around full pages of a list."""
+        draw, kind = self.draw, self.draw.random()
+        if self.model.limit < 100 and kind < 0.5:
+            return draw.randint(20_000, 250_000)
+        if kind < 0.4:
+            return LONGEST_NEAR + draw.choice((0, 1, 1, 1, 2, 8))
+        if kind < 0.7:
+            return LIST_PAGE * draw.choice((1, 1, 2, 3)) + draw.choice((-1, 0, 0, 1))
+        return draw.randint(LONGEST_NEAR, draw.choice((3_000, 3_000, 20_000, 200_000)))
+
     def content(self, room):
         """As a line has it."""
         draw, length = self.draw, self.length(room)
         if draw.random() < 0.85:
             at = draw.randint(0, 60)
-            return LETTERS[at : at + length].ljust(length, b"x")
+            return (LETTERS * (length // len(LETTERS) + 2))[at : at + length]
         content = bytes(draw.choice(b"ntr\\\t\r ab.\x00\x80\xff-") for _ in range(length))
         return content.replace(b"\\", b"\\\\") if draw.random() < 0.5 else content
 
     def name(self):
+        if self.draw.random() < self.excess / 10:
+            return b"h" * (self.room + self.draw.choice((1, 8, 9)))
         return self.draw.choice(self.labels)
 
     def line(self, kind=None):
@@ -124,6 +142,8 @@ class Drawer:
             return draw.randint(5, 80)
         if self.character in ("catalog", "labels"):
             return 2
+        if self.character == "far" and self.model.limit < 100:
+            return draw.randint(2, 8)
         return max(2, round(draw.choice((8, 20, 20, 60, 200)) ** draw.random()))
 
     def body(self):
@@ -353,7 +373,9 @@ class Drawer:
             Command(b"retext d0 /0/0 " + b"x" * (LONGEST_LINE - 15 + more)),
             Command(b"y" * (LONGEST_LINE + more)),
             Command(b"load " + b"z" * (LONGEST_LINE - 5 + more), b"names", b"."),
-            Command(b"load d3", b"(a", b"-" + b"x" * 2040, b"-" + b"x" * (2040 + more), b"A" + b"n" * 1024, b")a", b"."),
+            Command(b"load d3", b"(a", b"A" + b"n" * 1024, b"-" + b"x" * 2040, b"?" + b"n" * 2032 + b" " + b"x" * (1025 - more), b")a", b"."),
+            Command(b"retext d0 /0/0 " + b"x" * 1025),
+            Command(b"retext d0 /0/0 " + b"x" * 1024),
             Command(b"load d4", b"(a", b"A" + b"n" * 1023 + b" " + b"x" * (1017 + more), b")a", b"."),
             Command(b"drop d4"),
         ]

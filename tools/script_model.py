@@ -15,6 +15,9 @@ from splits import Part, Wrong
 LONGEST = 1_048_576
 LONGEST_LINE = 4_194_304
 LONGEST_LABEL = 1_024
+# A content of more bytes stands in a list of its own, on pages that hold so many.
+LONGEST_NEAR = 1_024
+LIST_PAGE = 8_184
 MOST_NODES = 524_288
 DEEPEST = 256
 MOST_RULES = 4_096
@@ -74,7 +77,7 @@ class Node:
 
     def put(self, content):
         self.content = content
-        self.weight = weight(len(self.name) + len(content))
+        self.weight = weight(len(self.name), len(content))
 
     def label(self):
         return {b"#": b"#doc", b"(": b"", b"A": b"@", b"-": b"#text", b"?": b"?"}[self.kind] + self.name
@@ -87,8 +90,14 @@ class Node:
         return {b"#": b"#doc", b"(": b"(" + self.name, b"-": b"-" + escaped(self.content)}[self.kind]
 
 
-def weight(length):
-    return 1 + -(-length // 8)
+def weight(name, content):
+    """What a node weighs whose name and content have so many bytes."""
+    return 1 + -(-(name + (content if content <= LONGEST_NEAR else 8)) // 8)
+
+
+def content_pages(length):
+    """On how many pages a content stands that isn't in its record."""
+    return -(-length // LIST_PAGE) if length > LONGEST_NEAR else 0
 
 
 def read_document(lines):
@@ -145,8 +154,13 @@ def lines_below(node, found):
     return found
 
 
-def nodes_from(node):
-    return 1 + sum(nodes_from(child) for child in node.children)
+def counts_from(node):
+    """How many nodes a tree has, and on how many pages their long contents stand."""
+    nodes, pages = 1, content_pages(len(node.content))
+    for child in node.children:
+        more = counts_from(child)
+        nodes, pages = nodes + more[0], pages + more[1]
+    return nodes, pages
 
 
 # Commands.
@@ -215,10 +229,10 @@ def node_at(root, path):
 
 
 class Document:
-    """`waits` says what the next `layout` has to answer for: a load, an edit that made a part too heavy, or nothing."""
+    """`pages` are those of its long contents. `waits` says what the next `layout` has to answer for: a load, an edit that made a part too heavy, or nothing."""
 
-    def __init__(self, root, nodes, intervals):
-        self.root, self.nodes, self.intervals, self.waits = root, nodes, intervals, "load"
+    def __init__(self, root, nodes, pages, intervals):
+        self.root, self.nodes, self.pages, self.intervals, self.waits = root, nodes, pages, intervals, "load"
 
 
 class Model:
@@ -277,18 +291,19 @@ class Model:
         if heavy > self.k:
             raise Refused(f"too-heavy {path_text(path)} {heavy}")
 
-    def is_full(self, reply, nodes):
-        """Whether a command that nothing forbids was refused for want of room, where it would leave so many nodes."""
+    def is_full(self, reply, nodes=0, pages=0):
+        """Whether a command that nothing forbids was refused for want of room, where it would add so many nodes and pages of long
+        contents, or take them away."""
         if reply != [b"error full"]:
             return False
-        before = self.nodes()
-        if not self.law.may_be_full(before, nodes, len(self.rules), self.limit):
-            raise Wrong(f"the reply is full, with {before} nodes before, {nodes} after and {len(self.rules)} rules in {self.limit} pages")
+        documents = self.documents.values()
+        before = sum(document.nodes for document in documents), sum(document.pages for document in documents)
+        after = before[0] + nodes, before[1] + pages
+        if not self.law.may_be_full(before[0] + after[0], before[1] + after[1], len(self.rules), self.limit):
+            raise Wrong(f"the reply is full, with {before} nodes and pages before, {after} after and {len(self.rules)} rules in {self.limit} pages")
         self.seen["refusal full"] += 1
+        self.seen["full with long contents"] += before[1] + after[1] > 0
         return True
-
-    def nodes(self):
-        return sum(document.nodes for document in self.documents.values())
 
     # Each command: what it has to be answered, None where that has been judged.
 
@@ -297,12 +312,14 @@ class Model:
             raise Refused("exists")
         root, nodes = read_document(lines)
         self.weigh(root, ())
-        if self.is_full(reply, self.nodes() + nodes):
+        pages = counts_from(root)[1]
+        if self.is_full(reply, nodes, pages):
             return None
         found = re.fullmatch(rb"ok (\d+) (\d+)", reply[0]) if len(reply) == 1 else None
         if not found or int(found[1]) != nodes:
             raise Wrong(f"the reply is {some(reply)}, and not of {nodes} nodes")
-        self.documents[name] = Document(root, nodes, int(found[2]))
+        self.documents[name] = Document(root, nodes, pages, int(found[2]))
+        self.seen["loads with long contents"] += pages > 0
         return None
 
     def weigh(self, node, path):
@@ -334,7 +351,7 @@ class Model:
     def ask_rule(self, reply, parent, child, entry):
         if entry != "free" and (parent, child) not in self.rules and len(self.rules) == MOST_RULES:
             raise Refused("too-many-rules")
-        if self.is_full(reply, self.nodes()):
+        if self.is_full(reply):
             return None
         self.rules.pop((parent, child), None)
         if entry != "free":
@@ -361,12 +378,14 @@ class Model:
             raise Refused("too-many")
         node = Node(code, label, content)
         self.light(path, node.weight)
-        if self.is_full(reply, self.nodes() + 1):
+        pages = content_pages(len(content))
+        if self.is_full(reply, 1, pages):
             return None
         entry = self.rules.get((parent.label(), node.label()), "free")
         parent.runs = self.law.runs_with(entry, at, parent.runs)
         parent.children.insert(at, node)
-        document.nodes += 1
+        document.nodes, document.pages = document.nodes + 1, document.pages + pages
+        self.seen["inserts of long contents"] += pages > 0
         document.waits = document.waits or "edit"
         return [b"ok"]
 
@@ -385,12 +404,13 @@ class Model:
         gone, parent = node_at(document.root, path), node_at(document.root, path[:-1])
         if parent.kind == b"#" and gone.kind == b"(":
             raise Refused("bad-place")
-        nodes = nodes_from(gone)
-        if self.is_full(reply, self.nodes() - nodes):
+        nodes, pages = counts_from(gone)
+        if self.is_full(reply, -nodes, -pages):
             return None
         parent.runs = self.law.runs_without(path[-1], parent.runs)
         del parent.children[path[-1]]
-        document.nodes -= nodes
+        document.nodes, document.pages = document.nodes - nodes, document.pages - pages
+        self.seen["deletes of long contents"] += pages > 0
         return [b"ok"]
 
     def ask_retext(self, reply, name, path, content):
@@ -405,10 +425,14 @@ class Model:
             raise missing
         if node.kind in (b"#", b"("):
             raise Refused("no-content")
-        self.light(path, weight(len(node.name) + len(content)))
-        if self.is_full(reply, self.nodes()):
+        self.light(path, weight(len(node.name), len(content)))
+        was, pages = content_pages(len(node.content)), content_pages(len(content))
+        if self.is_full(reply, 0, pages - was):
             return None
         node.put(content)
+        document.pages += pages - was
+        if was or pages:
+            self.seen[f"retexts from a {('short', 'long')[was > 0]} content to a {('short', 'long')[pages > 0]} one"] += 1
         document.waits = document.waits or "edit"
         return [b"ok"]
 

@@ -10,6 +10,8 @@ NATIX = os.environ.get("NATIX", os.path.join(driven.ROOT, "crates", "natix", "ou
 READER = os.path.join(driven.ROOT, "tools", "read-store")
 LETTERS = "abcdefghijklmnopqrstuvwxyz"
 DEEPEST = 250
+# A content of more bytes stands in a list of its own, on pages that hold so many.
+LONGEST_NEAR, LIST_PAGE = 1024, 8184
 # How many seconds a run may take.
 PATIENCE = 120
 
@@ -43,9 +45,11 @@ def drawn_name(draw):
     return "".join(draw.choices(LETTERS, k=draw.randint(1, 8))).encode()
 
 
-def drawn_content(draw, most):
-    """At most so many bytes, escaped: any bytes, or letters."""
-    length = draw.randint(0, min(most, draw.choice((8, 8, 40, 2048))))
+def drawn_content(draw, room):
+    """Any bytes, or letters, escaped: at most so many, or where there is room for 8 now and then more than a record keeps."""
+    length = draw.randint(0, min(room, draw.choice((8, 8, 40, 2048))))
+    if room >= 8 and draw.random() < 0.04:
+        length = draw.choice((LONGEST_NEAR + 1, draw.randint(LONGEST_NEAR + 1, 3000), LIST_PAGE, LIST_PAGE + 1, draw.randint(LIST_PAGE, 40_000)))
     content = draw.randbytes(length) if draw.random() < 0.2 else "".join(draw.choices(LETTERS + " ", k=length)).encode()
     for byte, pair in ((b"\\", b"\\\\"), (b"\n", b"\\n"), (b"\t", b"\\t"), (b"\r", b"\\r")):
         content = content.replace(byte, pair)
@@ -55,6 +59,11 @@ def drawn_content(draw, most):
 def drawn_instruction(draw, k):
     content = drawn_content(draw, 8 * (k - 1) - 8)
     return b"?" + drawn_name(draw) + (b" " + content if content else b"")
+
+
+def drawn_size(draw):
+    """How many nodes a document has: mostly few, and at most 2,000."""
+    return max(2, round(draw.choice((20, 20, 20, 200, 200, 2000)) ** draw.random()))
 
 
 def drawn_document(draw, nodes, k):
@@ -114,7 +123,8 @@ def name_and_content(line):
 
 def weight(line):
     name, content = name_and_content(line)
-    return 1 + -(-len(name + re.sub(rb"\\[ntr\\]", b".", content)) // 8)
+    length = len(re.sub(rb"\\[ntr\\]", b".", content))
+    return 1 + -(-(len(name) + (length if length <= LONGEST_NEAR else 8)) // 8)
 
 
 # Edits: what the document is then, whose intervals aren't known, or by which words it is refused.

@@ -10,8 +10,9 @@ class Wrong(Exception):
 class Law:
     """What a test may turn, to see that it is found."""
 
-    def may_be_full(self, before, after, rules, limit):
-        return 3 * (before + after) + rules + 8 >= limit
+    def may_be_full(self, nodes, pages, rules, limit):
+        """Nodes, and pages of long contents, are those before and those after together."""
+        return 3 * nodes + pages + rules + 8 >= limit
 
     def rule_order(self, pair):
         return pair
