@@ -138,11 +138,11 @@ def load(name, lines):
     yield "."
 
 
-# Those that are partitioned, for a number of nodes and a `k`.
+# Those that are partitioned, for a number of nodes and a `k`. Their contents have fewer than 1,024 bytes.
 
 
 def weight(length):
-    """What a text of so many bytes weighs."""
+    """What a text of so many bytes weighs, where it has at most 1,024."""
     return 1 + math.ceil(length / 8)
 
 
@@ -203,16 +203,55 @@ def savings(nodes, k):
 # Those that are put into stores.
 
 
-def long():
-    """Parts of forty texts of 1,000 to 2,000 bytes: 42 megabytes, and no node too heavy for 256 slots."""
-    yield "(long"
-    for index in range(28_000):
+def parts(name, texts, length):
+    """Parts of forty texts, of a length by their numbers."""
+    yield f"({name}"
+    for index in range(texts):
         if index % 40 == 0:
             yield "(part"
-        yield text(index, 1_000 + index * 37 % 1_001)
-        if index % 40 == 39:
+        yield text(index, length(index))
+        if index % 40 == 39 or index == texts - 1:
             yield ")part"
-    yield ")long"
+    yield f"){name}"
+
+
+def long():
+    """Texts of 1,000 to 2,000 bytes, 42 megabytes. All but 700 are so long that each has a page of its own."""
+    return parts("long", 28_000, lambda index: 1_000 + index * 37 % 1_001)
+
+
+BOOK_TEXTS = 4_000
+
+
+def books():
+    """Texts of 16 KiB, 66 megabytes."""
+    return parts("books", BOOK_TEXTS, lambda index: 16_384)
+
+
+def book_gets():
+    """20,000 commands `get` of a text of `books`."""
+    draw = random.Random(6)
+    for _ in range(20_000):
+        index = draw.randrange(BOOK_TEXTS)
+        yield f"get d /0/{index // 40}/{index % 40}"
+
+
+def book_edits(words, edits):
+    """So many edits of texts of `books` at random places, these words in turn. Each part keeps a text."""
+    draw = random.Random(7)
+    texts = [40] * (BOOK_TEXTS // 40)
+    for index in range(edits):
+        word = words[index % len(words)]
+        part = draw.choice([at for at, count in enumerate(texts) if count > 1 or word != "delete"])
+        place = f"d /0/{part}/{draw.randrange(texts[part])}"
+        texts[part] += {"insert": 1, "delete": -1}.get(word, 0)
+        content = prose(index, 16_384)
+        yield {"insert": f"insert {place} -{content}", "delete": f"delete {place}", "retext": f"retext {place} {content}"}[word]
+
+
+def novel():
+    """Twenty texts as long as a text may be."""
+    return parts("novel", 20, lambda index: CONTENT_LIMIT)
 
 
 def thousand():

@@ -315,7 +315,11 @@ pub fn write_tree(tree: &Tree, out: &mut impl Write) -> io::Result<()> {
     }
     write_trees(&tree.children, out)?;
     match tree.node.kind {
-        Kind::Element => write_line(&[b")", &tree.node.name], b"", out),
+        Kind::Element => {
+            out.write_all(b")")?;
+            out.write_all(&tree.node.name)?;
+            out.write_all(b"\n")
+        }
         _ => Ok(()),
     }
 }
@@ -325,26 +329,43 @@ pub fn write_node(node: &Node, out: &mut impl Write) -> io::Result<()> {
     write_parts(node.kind, &node.name, &node.content, out)
 }
 
-pub fn write_parts(kind: Kind, name: &[u8], content: &[u8], out: &mut impl Write) -> io::Result<()> {
-    match kind {
-        Kind::Doc => write_line(&[b"#doc"], content, out),
-        Kind::Element => write_line(&[b"(", name], content, out),
-        Kind::Attribute => write_line(&[b"A", name, b" "], content, out),
-        Kind::Text => write_line(&[b"-"], content, out),
-        Kind::Instruction if content.is_empty() => write_line(&[b"?", name], content, out),
-        Kind::Instruction => write_line(&[b"?", name, b" "], content, out),
-    }
+pub fn write_parts(
+    kind: Kind,
+    name: &[u8],
+    content: &[u8],
+    out: &mut impl Write,
+) -> io::Result<()> {
+    write_start(kind, name, content.is_empty(), out)?;
+    write_escaped(content, out)?;
+    out.write_all(b"\n")
+}
+
+/// Writes what stands in a node's line before its content.
+pub fn write_start(
+    kind: Kind,
+    name: &[u8],
+    is_empty: bool,
+    out: &mut impl Write,
+) -> io::Result<()> {
+    let (code, behind): (&[u8], &[u8]) = match kind {
+        Kind::Doc => (b"#doc", b""),
+        Kind::Element => (b"(", b""),
+        Kind::Attribute => (b"A", b" "),
+        Kind::Text => (b"-", b""),
+        Kind::Instruction if is_empty => (b"?", b""),
+        Kind::Instruction => (b"?", b" "),
+    };
+    out.write_all(code)?;
+    out.write_all(name)?;
+    out.write_all(behind)
 }
 
 fn write_trees(trees: &[Tree], out: &mut impl Write) -> io::Result<()> {
     trees.iter().try_for_each(|tree| write_tree(tree, out))
 }
 
-/// Writes the parts of the head as they are and the content escaped.
-fn write_line(head: &[&[u8]], mut content: &[u8], out: &mut impl Write) -> io::Result<()> {
-    for part in head {
-        out.write_all(part)?;
-    }
+/// Writes a content, or a part of one, escaped.
+pub fn write_escaped(mut content: &[u8], out: &mut impl Write) -> io::Result<()> {
     // Most contents have none of the four, and a search for one byte is fast.
     let plain = !b"\n\t\r\\".iter().any(|byte| content.contains(byte));
     let escaped = |byte: &u8| matches!(byte, b'\n' | b'\t' | b'\r' | b'\\');
@@ -358,6 +379,5 @@ fn write_line(head: &[&[u8]], mut content: &[u8], out: &mut impl Write) -> io::R
         })?;
         content = &content[at + 1..];
     }
-    out.write_all(content)?;
-    out.write_all(b"\n")
+    out.write_all(content)
 }

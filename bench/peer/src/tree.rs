@@ -17,10 +17,18 @@ pub struct Node {
     pub content: Vec<u8>,
 }
 
+/// A content with more bytes stands outside of records.
+pub const LONGEST_NEAR: usize = 1_024;
+
+/// What a node with a name and a content of so many bytes counts for, in slots of 8 bytes.
+pub fn weight_of(name: usize, content: usize) -> u32 {
+    let counted = if content <= LONGEST_NEAR { content } else { 8 };
+    1 + (name + counted).div_ceil(8) as u32
+}
+
 impl Node {
-    /// In slots of 8 bytes.
     pub fn weight(&self) -> u32 {
-        1 + (self.name.len() + self.content.len()).div_ceil(8) as u32
+        weight_of(self.name.len(), self.content.len())
     }
 }
 

@@ -21,8 +21,16 @@ struct Node {
     content: Vec<u8>,
 }
 
+#[derive(Clone, Copy)]
+#[allow(dead_code)]
+struct Far {
+    first: u32,
+    length: u32,
+}
+
 struct PieceTree {
     node: Node,
+    far: Option<Far>,
     children: Vec<Item>,
 }
 
@@ -67,8 +75,19 @@ fn long(bytes: &[u8]) -> u32 {
     u32::from_be_bytes([bytes[0], bytes[1], bytes[2], bytes[3]])
 }
 
-fn weight(node: &Node) -> u32 {
-    1 + (node.name.len() + node.content.len()).div_ceil(8) as u32
+fn weight(tree: &PieceTree) -> u32 {
+    let length = tree.far.map_or(tree.node.content.len(), |far| far.length as usize);
+    let counted = if length <= 1_024 { length } else { 8 };
+    1 + (tree.node.name.len() + counted).div_ceil(8) as u32
+}
+
+/// What an item says of a far content.
+fn far(bytes: &[u8]) -> Option<Far> {
+    if bytes.len() != 8 {
+        return None;
+    }
+    let (first, length) = (long(bytes), long(&bytes[4..]));
+    (1_025..=1_048_576).contains(&length).then_some(Far { first, length })
 }
 
 fn decode(bytes: &[u8]) -> Option<Stored> {
@@ -122,17 +141,19 @@ fn tree(rest: &mut &[u8], left: &mut Left) -> Option<PieceTree> {
     let name = usize::from(short(&head[2..]));
     let end = name + usize::from(short(&head[4..]));
     let slots = end.div_ceil(8);
-    if head[1] != 0 || slots as u32 >= left.room {
+    if head[1] > 1 || slots as u32 >= left.room {
         return None;
     }
     let (bytes, behind) = behind.split_at_checked(8 * slots)?;
     if bytes[end..].iter().any(|byte| *byte != 0) {
         return None;
     }
+    let content = &bytes[name..end];
+    let far = if head[1] == 1 { Some(far(content)?) } else { None };
     let node = Node {
         kind,
         name: bytes[..name].to_vec(),
-        content: bytes[name..end].to_vec(),
+        content: if far.is_some() { Vec::new() } else { content.to_vec() },
     };
     *rest = behind;
     left.room -= 1 + slots as u32;
@@ -147,7 +168,7 @@ fn tree(rest: &mut &[u8], left: &mut Left) -> Option<PieceTree> {
             None => Item::Tree(tree(rest, left)?),
         });
     }
-    Some(PieceTree { node, children })
+    Some(PieceTree { node, far, children })
 }
 
 fn run(rest: &mut &[u8], left: &mut Left) -> Option<u32> {
@@ -183,7 +204,7 @@ fn proxies(bytes: &[u8], count: u32) -> Option<Vec<Proxy>> {
 }
 
 fn tree_weight(tree: &PieceTree) -> u64 {
-    let mut sum = u64::from(weight(&tree.node));
+    let mut sum = u64::from(weight(tree));
     for item in &tree.children {
         if let Item::Tree(child) = item {
             sum += tree_weight(child);

@@ -2,7 +2,7 @@
 
 use crate::Failure;
 use crate::partition::Cut;
-use crate::piece::{Growing, Proxy};
+use crate::piece::{Content, Growing, Proxy};
 use crate::records::{Place, Records};
 use crate::shape::Shape;
 use crate::tree::{Node, Tree};
@@ -59,6 +59,10 @@ impl Building<'_> {
             name,
             content,
         } = &tree.node;
+        let content = match Content::Near(content) {
+            near if near.long().is_none() => near,
+            _ => Content::Far(self.records.add_far(content)?),
+        };
         let at = piece.push_node(*kind, name, content);
         let mut items = 0;
         let mut run = None;

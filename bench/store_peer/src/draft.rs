@@ -1,6 +1,8 @@
 //! A piece that is changed: its items in document order with their depths, and its proxies.
 
-use crate::piece::{Growing, PROXY, Piece, Proxy, What};
+use crate::Failure;
+use crate::piece::{Content, Growing, PROXY, Piece, Proxy, What};
+use crate::records::Records;
 
 #[derive(Clone, Copy)]
 pub struct Line<'a> {
@@ -32,6 +34,18 @@ impl<'a> Draft<'a> {
             lines,
             proxies: piece.proxies.to_vec(),
         }
+    }
+
+    /// Puts each long content that stands in no list yet into one.
+    pub fn make_far(&mut self, records: &mut Records) -> Result<(), Failure> {
+        for line in &mut self.lines {
+            if let What::Node { content, .. } = &mut line.what
+                && let Some(long) = content.long()
+            {
+                *content = Content::Far(records.add_far(long)?);
+            }
+        }
+        Ok(())
     }
 
     pub fn weight(&self) -> u32 {

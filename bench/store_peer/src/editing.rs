@@ -5,7 +5,7 @@ use crate::catalog::Entry;
 use crate::dividing::{add, divide};
 use crate::draft::{Draft, Line, Writer};
 use crate::fields::write_path;
-use crate::piece::{Piece, Proxy, What};
+use crate::piece::{Content, Item, Piece, Proxy, What};
 use crate::pyx::{CONTENT_LIMIT, DEPTH_LIMIT, NODE_LIMIT};
 use crate::records::Records;
 use crate::rules::{Asked, Named, Rules};
@@ -167,7 +167,7 @@ impl Editing<'_> {
                 }
                 let mut draft = Draft::new(&piece);
                 draft.replace_proxy(away.run, away.index, &row);
-                Ok(self.put(&stored, &draft, above)?)
+                Ok(self.put(&stored, &mut draft, above)?)
             }
             Child::Nowhere => match self.change {
                 Change::Content(content) if content.len() > CONTENT_LIMIT => {
@@ -196,12 +196,14 @@ impl Editing<'_> {
         let what = What::Node {
             kind,
             name,
-            content,
+            content: Content::Near(content),
         };
         self.check_weight(what)?;
         let mut draft = Draft::new(piece);
         draft.lines[item as usize].what = what;
-        Ok(self.put(stored, &draft, above)?)
+        let row = self.put(stored, &mut draft, above)?;
+        self.remove_contents(&piece.items[item as usize..][..1])?;
+        Ok(row)
     }
 
     fn delete(
@@ -217,6 +219,7 @@ impl Editing<'_> {
         let end = piece.items[item as usize].end;
         let own = &piece.items[item as usize..end as usize];
         self.gone += own.iter().filter(|item| item.what.is_node()).count() as u32;
+        self.remove_contents(own)?;
         let proxies = (piece.proxies_before(item), piece.proxies_before(end));
         let below = (proxies.0..proxies.1).map(|index| piece.proxy(index));
         self.remove_row(below.collect())?;
@@ -226,7 +229,7 @@ impl Editing<'_> {
             self.remove(stored)?;
             return Ok(Vec::new());
         }
-        Ok(self.put(stored, &draft, above)?)
+        Ok(self.put(stored, &mut draft, above)?)
     }
 
     /// Puts a node below the one that is this item.
@@ -248,12 +251,12 @@ impl Editing<'_> {
         let what = What::Node {
             kind: node.kind,
             name: &node.name,
-            content: &node.content,
+            content: Content::Near(&node.content),
         };
         self.check_weight(what)?;
         let mut draft = Draft::new(piece);
         self.plant(piece, parent, gap, what, &mut draft)?;
-        Ok(self.put(stored, &draft, above)?)
+        Ok(self.put(stored, &mut draft, above)?)
     }
 
     /// Puts a node into a gap between the children of the one that is this item: into the draft of the piece, where
@@ -304,26 +307,27 @@ impl Editing<'_> {
         let root = root_item(&piece, member);
         if asked == Asked::Free {
             draft.plant(root, 0, Line { depth: 0, what });
-            return self.put(&stored, &draft, Some(above));
+            return self.put(&stored, &mut draft, Some(above));
         }
         let end = piece.items.len() as u32;
         let (lines, proxies) = (
             (root, end),
             (piece.proxies_before(root), piece.proxies_before(end)),
         );
-        let behind = draft.part(lines, proxies);
+        draft.make_far(self.records)?;
+        let mut behind = draft.part(lines, proxies);
         draft.cut(lines, proxies);
         let mut row = vec![self.replace(&stored, &draft)?];
         if asked == Asked::Standalone {
             row.push(self.alone(what)?);
         }
-        row.push(self.add(&behind)?);
+        row.push(self.add(&mut behind)?);
         Ok(row)
     }
 
     /// Puts the record of a node that is an interval alone.
     fn alone(&mut self, what: What) -> Result<Proxy, Failure> {
-        self.add(&Draft {
+        self.add(&mut Draft {
             lines: vec![Line { depth: 0, what }],
             proxies: Vec::new(),
         })
@@ -433,6 +437,7 @@ impl Editing<'_> {
                 return Err(Failure::Damaged(proxy.place.page));
             }
             row.extend((0..piece.proxies_before(u32::MAX)).map(|index| piece.proxy(index)));
+            self.remove_contents(&piece.items)?;
             self.remove(&stored)?;
         }
         Ok(())
@@ -446,14 +451,29 @@ impl Editing<'_> {
         Ok(())
     }
 
+    /// Takes the lists of these items' far contents away.
+    fn remove_contents(&mut self, items: &[Item]) -> Result<(), Failure> {
+        for item in items {
+            if let What::Node {
+                content: Content::Far(far),
+                ..
+            } = item.what
+            {
+                self.records.remove_far(far)?;
+            }
+        }
+        Ok(())
+    }
+
     /// Puts a piece in the place of a record, or the records of a split of it, where it is too heavy.
     fn put(
         &mut self,
         stored: &Stored,
-        draft: &Draft,
+        draft: &mut Draft,
         above: Option<Named>,
     ) -> Result<Row, Failure> {
         let k = self.records.head.k.into();
+        draft.make_far(self.records)?;
         if draft.weight() <= k {
             return Ok(vec![self.replace(stored, draft)?]);
         }
@@ -486,7 +506,8 @@ impl Editing<'_> {
         Ok(Proxy { place, roots })
     }
 
-    fn add(&mut self, draft: &Draft) -> Result<Proxy, Failure> {
+    fn add(&mut self, draft: &mut Draft) -> Result<Proxy, Failure> {
+        draft.make_far(self.records)?;
         self.writer.clear();
         draft.write(&mut self.writer);
         add(self.records, &mut self.writer, &mut None)

@@ -43,6 +43,8 @@ mod shape;
 #[path = "../../peer/src/tree.rs"]
 mod tree;
 
+use header::Header;
+use page::MOST_PAGES;
 use std::env;
 use std::io;
 use std::process::ExitCode;
@@ -71,9 +73,22 @@ impl From<io::Error> for Failure {
     }
 }
 
-fn init(name: &str, k: &str) -> Result<(), Failure> {
-    let k = fields::number_of(k.as_bytes()).filter(|k| (1..=256).contains(k));
-    Store::create(name, k.ok_or(Failure::Usage)? as u16)?;
+/// K, and where more is said the split target, the split tolerance and the limit of pages.
+fn init(name: &str, settings: &[&str]) -> Result<(), Failure> {
+    let ranges = [1..=256, 0..=100, 0..=256, 64..=MOST_PAGES];
+    let mut numbers = [None; 4];
+    for (at, (word, range)) in settings.iter().zip(ranges).enumerate() {
+        let number = fields::number_of(word.as_bytes()).filter(|number| range.contains(number));
+        numbers[at] = Some(number.ok_or(Failure::Usage)?);
+    }
+    let [Some(k), target, tolerance, limit] = numbers else {
+        return Err(Failure::Usage);
+    };
+    let mut header = Header::new(k as u16);
+    header.target = target.map_or(header.target, |target| target as u16);
+    header.tolerance = tolerance.map_or(header.tolerance, |tolerance| tolerance as u16);
+    header.limit = limit.unwrap_or(header.limit);
+    Store::create(name, header)?;
     println!("ok");
     Ok(())
 }
@@ -87,7 +102,9 @@ fn main() -> ExitCode {
     let words: Vec<String> = env::args().skip(1).collect();
     let words: Vec<&str> = words.iter().map(String::as_str).collect();
     let ended = match words[..] {
-        [name, "init", k] => init(name, k),
+        [name, "init", ref settings @ ..] if (1..=4).contains(&settings.len()) => {
+            init(name, settings)
+        }
         [name, "run"] => run(name),
         _ => Err(Failure::Usage),
     };
@@ -97,7 +114,10 @@ fn main() -> ExitCode {
             println!("refused exists");
             return ExitCode::from(2);
         }
-        Err(Failure::Usage) => (1, "usage: store_peer STORE init K | run".to_string()),
+        Err(Failure::Usage) => (
+            1,
+            "usage: store_peer STORE init K [TARGET [TOLERANCE [PAGES]]] | run".to_string(),
+        ),
         Err(Failure::Disk | Failure::Full) => (3, "disk fault".to_string()),
         Err(Failure::Read) => (4, "read fault".to_string()),
         Err(Failure::Write) => (5, "write fault".to_string()),

@@ -1,9 +1,10 @@
 //! Records of a piece: the nodes of a part, and proxies for what hangs below them.
 
 use crate::page::{is_zero, set, u16_at, u32_at};
+use crate::pyx::CONTENT_LIMIT;
 use crate::records::Place;
 use crate::rules::Named;
-use crate::tree::Kind;
+use crate::tree::{Kind, LONGEST_NEAR, weight_of};
 use std::iter::from_fn;
 
 const HEAD: usize = 16;
@@ -43,6 +44,37 @@ impl Proxy {
     }
 }
 
+/// The list in which a content stands: its first page, and its length.
+#[derive(Clone, Copy)]
+pub struct Far {
+    pub first: u32,
+    pub length: u32,
+}
+
+/// A node's content: as bytes, or in a list of its own.
+#[derive(Clone, Copy)]
+pub enum Content<'a> {
+    Near(&'a [u8]),
+    Far(Far),
+}
+
+impl<'a> Content<'a> {
+    fn len(&self) -> usize {
+        match self {
+            Content::Near(content) => content.len(),
+            Content::Far(far) => far.length as usize,
+        }
+    }
+
+    /// One that is to be put into a list before its record is written.
+    pub fn long(&self) -> Option<&'a [u8]> {
+        match *self {
+            Content::Near(content) => (content.len() > LONGEST_NEAR).then_some(content),
+            Content::Far(_) => None,
+        }
+    }
+}
+
 /// A piece that grows in document order, as the bytes of its record.
 pub struct Growing {
     bytes: Vec<u8>,
@@ -60,9 +92,18 @@ impl Growing {
     }
 
     /// Adds a node, and answers where the number of its child items is to be put.
-    pub fn push_node(&mut self, kind: Kind, name: &[u8], content: &[u8]) -> usize {
+    pub fn push_node(&mut self, kind: Kind, name: &[u8], content: Content) -> usize {
+        let mut list = [0; 8];
+        let (is_far, content) = match content {
+            Content::Near(content) => (0, content),
+            Content::Far(far) => {
+                set(&mut list, 0, &far.first.to_be_bytes());
+                set(&mut list, 4, &far.length.to_be_bytes());
+                (1, &list[..])
+            }
+        };
         let at = self.bytes.len();
-        self.bytes.extend([code(kind), 0]);
+        self.bytes.extend([code(kind), is_far]);
         self.bytes.extend((name.len() as u16).to_be_bytes());
         self.bytes.extend((content.len() as u16).to_be_bytes());
         self.bytes.extend([0, 0]);
@@ -140,13 +181,26 @@ fn kind_of(code: u8) -> Option<Kind> {
     })
 }
 
+/// The content of a node whose item has these bytes of it, and says so whether it is far.
+fn content_of(is_far: u8, bytes: &[u8]) -> Option<Content<'_>> {
+    match is_far {
+        0 => Some(Content::Near(bytes)),
+        1 if bytes.len() == 8 => {
+            let (first, length) = (u32_at(bytes, 0), u32_at(bytes, 4));
+            let is_long = (LONGEST_NEAR + 1..=CONTENT_LIMIT).contains(&(length as usize));
+            is_long.then_some(Content::Far(Far { first, length }))
+        }
+        _ => None,
+    }
+}
+
 /// What stands at one place below a node, or is a root.
 #[derive(Clone, Copy)]
 pub enum What<'a> {
     Node {
         kind: Kind,
         name: &'a [u8],
-        content: &'a [u8],
+        content: Content<'a>,
     },
     /// So many of the next proxies.
     Run(u32),
@@ -168,7 +222,7 @@ impl<'a> What<'a> {
     /// In slots of 8 bytes; proxies weigh nothing.
     pub fn weight(&self) -> u32 {
         match self {
-            What::Node { name, content, .. } => 1 + (name.len() + content.len()).div_ceil(8) as u32,
+            What::Node { name, content, .. } => weight_of(name.len(), content.len()),
             What::Run(_) => 0,
         }
     }
@@ -187,8 +241,9 @@ pub struct Item<'a> {
 pub struct Piece<'a> {
     pub items: Vec<Item<'a>>,
     pub roots: u16,
-    /// What its nodes weigh.
+    /// What its nodes weigh, and how many slots of 8 bytes their items take.
     pub weight: u32,
+    size: u32,
     pub proxies: &'a [u8],
     proxy_count: u32,
 }
@@ -224,6 +279,7 @@ impl<'a> Piece<'a> {
             items: Vec::with_capacity((bytes.len() / 8).min(rest.items as usize)),
             roots: u16_at(head, 2),
             weight: 0,
+            size: 0,
             proxies: list,
             proxy_count: u32_at(head, 8),
         };
@@ -249,7 +305,7 @@ impl<'a> Piece<'a> {
         (formed && all && piece.proxies.chunks_exact(PROXY).all(fits)).then_some(piece)
     }
 
-    /// Reads an item with all below it. A node weighs at least a slot, so that the recursion ends.
+    /// Reads an item with all below it. That of a node takes a slot at least, so that the recursion ends.
     fn item(&mut self, rest: &mut Rest<'a>, may_run: bool) -> Option<()> {
         let (head, bytes) = rest.bytes.split_at_checked(8)?;
         rest.items = rest.items.checked_sub(1)?;
@@ -279,15 +335,17 @@ impl<'a> Piece<'a> {
             .split_at_checked(text.next_multiple_of(8))?
             .0
             .split_at(text);
-        self.weight += 1 + text.len().div_ceil(8) as u32;
-        if head[1] != 0 || !is_zero(pad) || self.weight > MOST_SLOTS {
+        self.size += 1 + text.len().div_ceil(8) as u32;
+        if !is_zero(pad) || self.size > MOST_SLOTS {
             return None;
         }
+        let (name, content) = text.split_at(name);
         item.what = What::Node {
             kind: kind_of(head[0])?,
-            name: &text[..name],
-            content: &text[name..],
+            name,
+            content: content_of(head[1], content)?,
         };
+        self.weight += item.what.weight();
         rest.bytes = &bytes[text.len() + pad.len()..];
         self.items.push(item);
         let mut after_run = false;

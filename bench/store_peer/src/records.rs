@@ -4,6 +4,7 @@ use crate::Failure;
 use crate::header::Header;
 use crate::log::Log;
 use crate::page::{CHAIN_BYTES, PAGE, Page, chain_link, fill_chain, fill_free, next_free};
+use crate::piece::Far;
 use crate::slots;
 use std::collections::BTreeMap;
 
@@ -32,12 +33,12 @@ pub struct Records {
 }
 
 impl Records {
-    pub fn create(name: &str, k: u16) -> Result<Records, Failure> {
+    pub fn create(name: &str, header: Header) -> Result<Records, Failure> {
         let log = Log::open(name)?;
         if log.has_pages()? {
             return Err(Failure::Exists);
         }
-        let mut records = Records::new(log, Header::new(k));
+        let mut records = Records::new(log, header);
         fill_chain(records.change(1), 0, &[0; 8]);
         records.commit_as(0)?;
         Ok(records)
@@ -231,6 +232,37 @@ impl Records {
             return Err(Failure::Damaged(first));
         }
         Ok(list)
+    }
+
+    /// Adds a content as a list.
+    pub fn add_far(&mut self, content: &[u8]) -> Result<Far, Failure> {
+        Ok(Far {
+            first: self.add_list(content)?,
+            length: content.len() as u32,
+        })
+    }
+
+    /// Gives a far content page by page.
+    pub fn each_part(
+        &mut self,
+        far: Far,
+        mut give: impl FnMut(&[u8]) -> Result<(), Failure>,
+    ) -> Result<(), Failure> {
+        let wrong = || Failure::Damaged(far.first);
+        let (mut page, mut left) = (far.first, far.length as usize);
+        while left > 0 {
+            let (next, content) = chain_link(self.read(page)?).ok_or_else(wrong)?;
+            left = left.checked_sub(content.len()).ok_or_else(wrong)?;
+            give(content)?;
+            page = next;
+        }
+        if page == 0 { Ok(()) } else { Err(wrong()) }
+    }
+
+    pub fn remove_far(&mut self, far: Far) -> Result<(), Failure> {
+        let list = self.list(far.first, far.length.into())?;
+        self.remove_list(&list);
+        Ok(())
     }
 
     pub fn catalog(&mut self) -> Result<List, Failure> {

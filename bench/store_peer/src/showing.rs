@@ -3,8 +3,8 @@
 use crate::Failure;
 use crate::catalog::Entry;
 use crate::fields::write_path;
-use crate::piece::{Item, Piece, Proxy, What};
-use crate::pyx::write_parts;
+use crate::piece::{Content, Item, Piece, Proxy, What};
+use crate::pyx::{write_escaped, write_parts, write_start};
 use crate::records::{Place, Records};
 use crate::script::BLOCK;
 use crate::stored::{Child, Stored, root_of, way};
@@ -40,7 +40,7 @@ pub fn get(
         let way = way(&piece, member, rest);
         match way.child {
             Child::Here(index) => {
-                write_shown(&piece, index, out).expect("memory");
+                write_shown(records, &piece, index, out)?;
                 return Ok(true);
             }
             Child::Away(away) => {
@@ -51,15 +51,32 @@ pub fn get(
     }
 }
 
-fn write_shown(piece: &Piece, index: u32, out: &mut Vec<u8>) -> io::Result<()> {
-    if let What::Node {
+fn write_shown(
+    records: &mut Records,
+    piece: &Piece,
+    index: u32,
+    out: &mut Vec<u8>,
+) -> Result<(), Failure> {
+    const MEMORY: &str = "memory";
+    let What::Node {
         kind,
         name,
         content,
     } = piece.items[index as usize].what
-    {
-        write!(out, "node {} ", count_children(piece, index))?;
-        write_parts(kind, name, content, out)?;
+    else {
+        return Ok(());
+    };
+    write!(out, "node {} ", count_children(piece, index)).expect(MEMORY);
+    match content {
+        Content::Near(content) => write_parts(kind, name, content, out).expect(MEMORY),
+        Content::Far(far) => {
+            write_start(kind, name, false, out).expect(MEMORY);
+            records.each_part(far, |part| {
+                write_escaped(part, out).expect(MEMORY);
+                Ok(())
+            })?;
+            out.push(b'\n');
+        }
     }
     Ok(())
 }
@@ -70,6 +87,11 @@ trait Teller {
     fn begin(&mut self, roots: u16, weight: u32) -> io::Result<()>;
     fn open(&mut self, kind: Kind, name: &[u8], content: &[u8]) -> io::Result<()>;
     fn close(&mut self, kind: Kind, name: &[u8]) -> io::Result<()>;
+    /// Opens a node whose content comes in parts, if the teller asks for it.
+    fn open_far(&mut self, kind: Kind, name: &[u8]) -> io::Result<()>;
+    const TAKES_PARTS: bool;
+    fn part(&mut self, content: &[u8]) -> io::Result<()>;
+    fn end_parts(&mut self) -> io::Result<()>;
 }
 
 struct Walk<'a, T> {
@@ -127,13 +149,31 @@ impl<T: Teller> Walk<'_, T> {
                         return Err(Failure::Damaged(at.place.page));
                     }
                     self.left -= 1;
-                    let opened = self.teller.open(kind, name, content);
-                    opened.map_err(|_| Failure::Write)?;
+                    self.open(kind, name, content)?;
                     self.items(piece, index + 1, item.end, at, levels - 1)?;
                     let closed = self.teller.close(kind, name);
                     closed.map_err(|_| Failure::Write)?;
                 }
             }
+        }
+        Ok(())
+    }
+
+    fn open(&mut self, kind: Kind, name: &[u8], content: Content) -> Result<(), Failure> {
+        let far = match content {
+            Content::Near(content) => {
+                let opened = self.teller.open(kind, name, content);
+                return opened.map_err(|_| Failure::Write);
+            }
+            Content::Far(far) => far,
+        };
+        let opened = self.teller.open_far(kind, name);
+        opened.map_err(|_| Failure::Write)?;
+        if T::TAKES_PARTS {
+            let teller = &mut self.teller;
+            self.records
+                .each_part(far, |part| teller.part(part).map_err(|_| Failure::Write))?;
+            teller.end_parts().map_err(|_| Failure::Write)?;
         }
         Ok(())
     }
@@ -145,13 +185,19 @@ struct Text<'a, W> {
     out: &'a mut W,
 }
 
-impl<W: Write> Teller for Text<'_, W> {
-    fn begin(&mut self, _: u16, _: u32) -> io::Result<()> {
+impl<W: Write> Text<'_, W> {
+    fn give(&mut self) -> io::Result<()> {
         if self.block.len() >= BLOCK {
             self.out.write_all(self.block)?;
             self.block.clear();
         }
         Ok(())
+    }
+}
+
+impl<W: Write> Teller for Text<'_, W> {
+    fn begin(&mut self, _: u16, _: u32) -> io::Result<()> {
+        self.give()
     }
 
     fn open(&mut self, kind: Kind, name: &[u8], content: &[u8]) -> io::Result<()> {
@@ -167,6 +213,22 @@ impl<W: Write> Teller for Text<'_, W> {
         }
         self.block.push(b')');
         self.block.extend_from_slice(name);
+        self.block.push(b'\n');
+        Ok(())
+    }
+
+    fn open_far(&mut self, kind: Kind, name: &[u8]) -> io::Result<()> {
+        write_start(kind, name, false, self.block)
+    }
+
+    const TAKES_PARTS: bool = true;
+
+    fn part(&mut self, content: &[u8]) -> io::Result<()> {
+        self.give()?;
+        write_escaped(content, self.block)
+    }
+
+    fn end_parts(&mut self) -> io::Result<()> {
         self.block.push(b'\n');
         Ok(())
     }
@@ -209,6 +271,20 @@ impl Teller for Layout<'_> {
 
     fn close(&mut self, _: Kind, _: &[u8]) -> io::Result<()> {
         self.position = self.path.pop().map_or(0, |last| last + 1);
+        Ok(())
+    }
+
+    fn open_far(&mut self, kind: Kind, name: &[u8]) -> io::Result<()> {
+        self.open(kind, name, &[])
+    }
+
+    const TAKES_PARTS: bool = false;
+
+    fn part(&mut self, _: &[u8]) -> io::Result<()> {
+        Ok(())
+    }
+
+    fn end_parts(&mut self) -> io::Result<()> {
         Ok(())
     }
 }

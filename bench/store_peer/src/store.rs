@@ -4,6 +4,7 @@ use crate::Failure;
 use crate::building;
 use crate::catalog::{Catalog, Entry};
 use crate::editing::{Change, Stop, edit, remove_document};
+use crate::header::Header;
 use crate::partition;
 use crate::records::Records;
 use crate::rules::Asked;
@@ -25,9 +26,9 @@ pub struct Loaded {
 }
 
 impl Store {
-    pub fn create(name: &str, k: u16) -> Result<Store, Failure> {
+    pub fn create(name: &str, header: Header) -> Result<Store, Failure> {
         Ok(Store {
-            records: Records::create(name, k)?,
+            records: Records::create(name, header)?,
             catalog: Catalog::default(),
         })
     }
