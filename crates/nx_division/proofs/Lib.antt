@@ -11,5 +11,7 @@ pub mod SeparatedLemmas
 pub mod SeparateLemmas
 pub mod RunLemmas
 pub mod PlannedLemmas
+pub mod RaisedLemmas
+pub mod RaiseLemmas
 pub mod ComponentLemmas
 pub mod SplitLemmas

@@ -184,7 +184,7 @@ module _ (s : Sketch) (t tol : ℕ) (r : AreRising 0 s) where
       ] in (begin, end)
 
 -- the whole sketch, as a row below the helper
-top_row : (s : Sketch) (t tol : ℕ) → IsSketch s → IsRow (placed s) t tol [] 0 0 true true None s
+pub top_row : (s : Sketch) (t tol : ℕ) → IsSketch s → IsRow (placed s) t tol [] 0 0 true true None s
 top_row s t tol h = record {
   rising = h.rising;
   weighed = all_weighed s h.rising;

@@ -2,4 +2,5 @@ pub mod Parts
 pub mod Drawn
 pub mod Settled
 pub mod Separated
+pub mod Raised
 pub mod Divided

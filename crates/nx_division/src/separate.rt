@@ -96,7 +96,7 @@ fn side_of(kind: Kind, position: u32, left: bool) -> Option<Side>
 }
 
 // Whether a subtree of that weight, which so much comes before, is of the separator.
-fn is_marked(t: u64, tolerance: u32, before: u64, within: u64) -> bool
+pub(crate) fn is_marked(t: u64, tolerance: u32, before: u64, within: u64) -> bool
     requires before { before < 2 ^ 63 }
     requires within { within < 2 ^ 32 }
     ensures { result ≡ mark_by t tolerance before within }

@@ -1,4 +1,4 @@
-// The separator and the split of a piece.
+// The separator and the division of a piece.
 ghost use Rattle.std.specs.Prelude.{◌≡◌, ◌<◌, List, Option, IfOk};
 ghost use Rattle.std.specs.Option.{option_copied};
 ghost use Rattle.nx_tree.specs.declared.node.Node.{Node};
@@ -6,13 +6,13 @@ ghost use Rattle.nx_matrix.specs.declared.rule.Rule.{Rule};
 ghost use Rattle.nx_piece.specs.Gapped.{gapped_weight};
 ghost use Rattle.nx_piece.specs.Valid.{IsPiece};
 ghost use Rattle.nx_sketch.specs.Separator.{marks, point};
-ghost use Rattle.nx_sketch.specs.Split.{IsSplit};
+ghost use Rattle.nx_sketch.specs.Split.{IsDivision};
 ghost use Rattle.nx_split.specs.Piece.{AreGappedAtMost, placed_of};
 
 use crate::listing::list_nodes;
+use nx_division::Division;
 use nx_lists::NoMemory;
 use nx_matrix::Matrix;
-use nx_parts::Partitioning;
 use nx_piece::Piece;
 use nx_sketch::Marks;
 use nx_tree::Node;
@@ -45,6 +45,10 @@ pub fn separator(
 /// beside each other, with no node and no proxy between them and no standalone member, weigh `k` or less
 /// together; where no cluster component weighs more than `k`, no cluster edge is cut.
 ///
+/// The separator's plan is raised where one of its nodes is a root of the piece, that root isn't standalone, and its
+/// part in the plan weighs at most `room`: then the root's interval is left out, and the nodes of its part join the part of
+/// the node above the piece. `room` is what that part has left below `k`, and 0 where `above` is `None`.
+///
 /// The entry of a child is the matrix's for its parent and itself. The parent of a root is `above`, which is
 /// `None` where the piece holds the document's `Doc` node; a root that is asked to stay with it counts as
 /// free. Paths begin at a helper above the roots: the first position is a root's index, and later ones count
@@ -59,16 +63,17 @@ pub fn split(
     alloc: Global,
     piece: &Piece,
     above: Option<&Node>,
+    room: u32,
     matrix: &Matrix,
     k: u32,
     target: u32,
     tolerance: u32,
-) -> Result<Partitioning, NoMemory>
+) -> Result<Division, NoMemory>
     requires piece { IsPiece piece.now }
     requires heavy { k < gapped_weight piece.now.body.roots }
     requires nodes { AreGappedAtMost k piece.now.body.roots }
-    ensures { IfOk result (λ parts. IsSplit k (placed_of matrix.now (option_copied above.entry) piece.now) target tolerance parts) }
+    ensures { IfOk result (λ division. IsDivision k (placed_of matrix.now (option_copied above.entry) piece.now) room target tolerance division.parts division.raised) }
 {
     let spots = list_nodes(alloc, piece, above, matrix)?;
-    nx_division::split(alloc, &spots, k, target, tolerance)
+    nx_division::split(alloc, &spots, room, k, target, tolerance)
 }

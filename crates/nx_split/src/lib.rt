@@ -1,6 +1,6 @@
-//! The split of a piece that became too heavy, and the separator that divides it.
+//! The division of a piece that became too heavy, and the separator that divides it.
 //!
-//! What the separator and a split are stands in `nx_sketch`, over a list of nodes with their paths, weights and
+//! What the separator, a split and a division are stands in `nx_sketch`, over a list of nodes with their paths, weights and
 //! entries. Here that list is made of a piece (`specs/Piece.antt`).
 #![tactic(auto)]
 
@@ -9,4 +9,5 @@ pub mod laws;
 mod listing;
 
 pub use division::{separator, split};
+pub use nx_division::Division;
 pub use nx_sketch::Marks;

@@ -30,10 +30,10 @@ fn main(rt: HostRuntime) -> io::Result<()> {
     let mut intervals: u64 = 0;
     if let Some(piece) = &pair {
         for _ in 0..rounds {
-            let parts = split(alloc, piece, None, &matrix, K, 50, 64).map_err(
+            let division = split(alloc, piece, None, 0, &matrix, K, 50, 64).map_err(
                 |_| io::ErrorKind::OutOfMemory,
             )?;
-            intervals = intervals.wrapping_add(parts.len() as u64);
+            intervals = intervals.wrapping_add(division.parts.len() as u64);
         }
     }
     println!(rt; "{rounds} times, {intervals} intervals")?;

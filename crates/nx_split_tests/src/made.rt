@@ -1,4 +1,4 @@
-// Small pieces, written as records and read again, and what splits of them are.
+// Small pieces, written as records and read again, and what divisions of them are.
 ghost use Rattle.std.specs.Prelude.{IsTrue};
 ghost use Rattle.nx_piece.specs.Gapped.{grown_of};
 ghost use Rattle.nx_piece.specs.Valid.{IsValidInline};
@@ -11,7 +11,7 @@ use nx_lists::NoMemory;
 use nx_matrix::{Entry, Matrix, MatrixError};
 use nx_parts::{Interval, Partitioning};
 use nx_piece::{Item, Piece, PieceTree, Stored, decode, weight};
-use nx_split::{Marks, separator, split};
+use nx_split::{Division, Marks, separator, split};
 use nx_tree::Node;
 use std::alloc::Global;
 
@@ -30,7 +30,8 @@ pub(crate) enum Made {
 
 // How a piece is divided.
 #[derive(Clone, Copy)]
-pub(crate) struct Division {
+pub(crate) struct Limits {
+    pub(crate) room: u32,
     pub(crate) k: u32,
     pub(crate) target: u32,
     pub(crate) tolerance: u32,
@@ -91,43 +92,46 @@ fn push_node(bytes: &mut Vec<u8>, kind: u8, weight: u16, items: u16) -> Result<(
     Ok(())
 }
 
-// The split of the piece. `None` where there is no such piece, or it may not be split.
-pub(crate) fn split_of(
+// The division of the piece. `None` where there is no such piece, or it may not be divided.
+pub(crate) fn division_of(
     alloc: Global,
     roots: u16,
     items: &[Made],
     above: Option<&Node>,
     matrix: &Matrix,
-    division: Division,
-) -> Result<Option<Partitioning>, NoMemory> {
+    limits: Limits,
+) -> Result<Option<Division>, NoMemory> {
     let bytes = record(alloc, roots, items)?;
     let Some(Stored::Inline(piece)) = decode(alloc, bytes.as_slice())? else {
         return Ok(None);
     };
-    split_piece(alloc, &piece, above, matrix, division)
+    divide_piece(alloc, &piece, above, matrix, limits)
 }
 
-// The split of a piece, where it may be split.
+// The division of a piece, where it may be divided.
 #[tactic(auto, using(nx_piece::proofs::Laws::inline_is_piece, nx_piece::proofs::Laws::are_short, nx_piece::proofs::Laws::little_weight))]
-fn split_piece(
+fn divide_piece(
     alloc: Global,
     piece: &Piece,
     above: Option<&Node>,
     matrix: &Matrix,
-    division: Division,
-) -> Result<Option<Partitioning>, NoMemory>
+    limits: Limits,
+) -> Result<Option<Division>, NoMemory>
     requires { IsValidInline piece.now.body.roots piece.now.proxies }
 {
-    let Division {
+    let Limits {
+        room,
         k,
         target,
         tolerance,
-    } = division;
+    } = limits;
     let heavy = weight(&piece.body);
     if heavy <= k || !are_light(k, piece.body.roots.as_slice()) {
         return Ok(None);
     }
-    Ok(Some(split(alloc, piece, above, matrix, k, target, tolerance)?))
+    Ok(Some(split(
+        alloc, piece, above, room, matrix, k, target, tolerance,
+    )?))
 }
 
 // Whether no node of these trees weighs more than k.

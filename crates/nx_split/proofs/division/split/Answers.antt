@@ -19,5 +19,5 @@ returns c =
     let above = option_copied c.args.above in
     let piece = c.args.piece.now in
     IfOk-weaker c.split.result _ _
-    (λ parts h. h (sketch_of rules above piece) (c.deref.ensures.value ∙ c.in_ok-spots.ensures) (piece_is_sketch rules above piece) (piece_is_light c.args.k rules above piece c.requires.nodes))
+    (λ division h. h (sketch_of rules above piece) (c.deref.ensures.value ∙ c.in_ok-spots.ensures) (piece_is_sketch rules above piece) (piece_is_light c.args.k rules above piece c.requires.nodes))
     c.split.ensures
