@@ -23,12 +23,12 @@ use Rattle.nx_cuts.specs.Cut.{Cut, CutForest, Bare, Grown, Kept, forest, width, 
 use Rattle.nx_cuts.proofs.FeasibleLemmas.{Members, IsDrawn, agrees-drawn, owned-drawn, weight_at, weight-light, weight-above, length-intervals, child_reaches, le_or, or_nothing, top_nothing, from, trees, trees-forest}
 use Rattle.nx_cuts.proofs.PartitionLemmas.{drawn_feasible}
 use Rattle.nx_sketch.specs.Sketch.{Placed, placed_in}
-use Rattle.nx_sketch.specs.Plan as plan
 use Rattle.nx_sketch.specs.Plan.{IsPlaced, IsInside, IsFeasiblePlan}
 use Rattle.nx_sketch.specs.Split.{IsSplit}
 use Rattle.nx_split.specs.Piece.{asked, asked_of_root}
 use Rattle.nx_holdings.specs.declared.header.Settings.{Settings}
 use Rattle.nx_drawn.specs.Splits.{part_sketch, part_nodes, Divides}
+use Rattle.nx_drawn.proofs.DivisionLemmas.{AreLightRuns, runs_own, division_light}
 use Rattle.nx_drawn.proofs.OwnLemmas.{or_above, own, own_sketch, own-same, own_sketch-same, own-joined, asked_of, owned-own, sketch_sum, any_holds, told, any_holder, none_at, not_true, told_other, asked-told}
 
 -- a heavier limit
@@ -183,7 +183,7 @@ none_some e h = cc
 -- the intervals of a split, and those below the part that is divided
 module _ (rules : List Rule) (parts below : List Interval) (clear : Members (IsClear (holder below) []) parts) where
   -- what both lists together answer of an interval
-  abbrev both : Interval → List ℕ → Option Bool
+  abbrev pub both : Interval → List ℕ → Option Bool
   both x q = told (has_member x q) (any_holds parts q || any_holds below q)
 
   held_some : (q : List ℕ) (e : ℕ) → holder below q ≡ Some e → any_holds below q ≡ true
@@ -202,28 +202,26 @@ module _ (rules : List Rule) (parts below : List Interval) (clear : Members (IsC
   none_below : (path : List ℕ) (p : ℕ) → ((next : ℕ) (rest : List ℕ) → any_holds parts (path ++ next ∷ rest) ≡ false) → (next : ℕ) (rest : List ℕ) → any_holds parts ((path ++ p ∷ []) ++ next ∷ rest) ≡ false
   none_below path p none next rest = ap (any_holds parts) (append_assoc path (p ∷ []) (next ∷ rest)) ∙ none p (next ∷ rest)
 
-  module _ (i : ℕ) (lt : i < length parts) where
-    -- an interval of the split has nothing there
-    deep_none : (f : Forest) (path : List ℕ) (position : ℕ) → ((p : ℕ) (rest : List ℕ) → any_holds parts (path ++ p ∷ rest) ≡ false) → own (both (get_or parts i Root)) false path position f ≡ 0
+  module _ (x : Interval) (within : (q : List ℕ) → any_holds parts q ≡ false → has_member x q ≡ false) where
+    -- an interval whose members are members of the split has nothing there
+    deep_none : (f : Forest) (path : List ℕ) (position : ℕ) → ((p : ℕ) (rest : List ℕ) → any_holds parts (path ++ p ∷ rest) ≡ false) → own (both x) false path position f ≡ 0
     deep_none Empty path position none = refl
     deep_none (Plant n b s) path position none =
-        let x = get_or parts i Root in
         let q = path ++ position ∷ [] in
-        let e : or_above (both x q) false ≡ false = no_claim (has_member x q) (any_holds parts q || any_holds below q) (none_at q parts i (none position []) lt) in
+        let e : or_above (both x q) false ≡ false = no_claim (has_member x q) (any_holds parts q || any_holds below q) (within q (none position [])) in
         let a : (if or_above (both x q) false then weight n else 0) ≡ 0 = ap (λ (t : Bool). if t then weight n else 0) e in
         let y : own (both x) (or_above (both x q) false) q 0 b ≡ 0 = ap (λ (t : Bool). own (both x) t q 0 b) e ∙ deep_none b q 0 (none_below path position none) in
         let z = deep_none s path (position + 1) none in
         omega (arith, a, y, z)
 
     members_none : (e base : ℕ) (here : Option ℕ) (mine : Bool) (path : List ℕ) (position : ℕ) (c : CutForest) → AreFree c → here ≡ Some e → IsDrawn (holder below) here base path position c
-        → own (both (get_or parts i Root)) mine path position (forest c) ≡ 0
+        → own (both x) mine path position (forest c) ≡ 0
     members_none e base here mine path position Bare f is d = refl
     members_none e base here mine path position (Grown n b s) f is d =
-        let x = get_or parts i Root in
         let q = path ++ position ∷ [] in
         let held : holder below q ≡ Some e = d.0 ∙ is in
         let o : or_above (both x q) mine ≡ false =
-        ap (λ (o : Option Bool). or_above o mine) (told_other (has_member x q) (any_holds parts q || any_holds below q) (none_at q parts i (away path position [] e held) lt) (either_true (any_holds parts q) (any_holds below q) (held_some q e held))) in
+        ap (λ (o : Option Bool). or_above o mine) (told_other (has_member x q) (any_holds parts q || any_holds below q) (within q (away path position [] e held)) (either_true (any_holds parts q) (any_holds below q) (held_some q e held))) in
         let a : (if or_above (both x q) mine then weight n else 0) ≡ 0 = ap (λ (t : Bool). if t then weight n else 0) o in
         let y : own (both x) (or_above (both x q) mine) q 0 (forest b) ≡ 0 = ap (λ (t : Bool). own (both x) t q 0 (forest b)) o ∙ deep_none (forest b) q 0 (away_below path position e held) in
         let z = members_none e (base + cuts b) here mine path (position + 1) s f is d.2 in
@@ -231,11 +229,10 @@ module _ (rules : List Rule) (parts below : List Interval) (clear : Members (IsC
     members_none e base here mine path position (Kept u m s) f is d = absurd f
 
     -- of the part it has what the split gives it
-    walk_parts : (limit : ℕ) (asks : Node → Entry) (base : ℕ) (mine : Bool) (path : List ℕ) (position : ℕ) (c : CutForest) → AreParts limit c → IsDrawn (holder below) None base path position c
-        → own (both (get_or parts i Root)) mine path position (forest c) ≡ own_sketch (λ q. told (has_member (get_or parts i Root) q) (any_holds parts q)) mine path (part_sketch rules asks position c)
+    pub walk_parts : (limit : ℕ) (asks : Node → Entry) (base : ℕ) (mine : Bool) (path : List ℕ) (position : ℕ) (c : CutForest) → AreParts limit c → IsDrawn (holder below) None base path position c
+        → own (both x) mine path position (forest c) ≡ own_sketch (λ q. told (has_member x q) (any_holds parts q)) mine path (part_sketch rules asks position c)
     walk_parts limit asks base mine path position Bare h d = refl
     walk_parts limit asks base mine path position (Grown n b s) h d =
-        let x = get_or parts i Root in
         let ask : List ℕ → Option Bool = λ q. told (has_member x q) (any_holds parts q) in
         let q = path ++ position ∷ [] in
         let o : or_above (both x q) mine ≡ or_above (ask q) mine =
@@ -246,7 +243,6 @@ module _ (rules : List Rule) (parts below : List Interval) (clear : Members (IsC
         let z = walk_parts limit asks (base + cuts b) mine path (position + 1) s h.1 d.2 in
         omega (arith, a, y, z)
     walk_parts limit asks base mine path position (Kept u m s) h d =
-        let x = get_or parts i Root in
         let j = own-joined (both x) mine path position (forest m) (forest s) in
         let none = members_none base (base + 1) (Some base) mine path position m h.1 refl d.0 in
         let t : own (both x) mine path (position + trees (forest m)) (forest s) ≡ own (both x) mine path (position + width m) (forest s) = ap (λ w. own (both x) mine path (position + w) (forest s)) (trees-forest m) in
@@ -324,15 +320,15 @@ no_helper h c = let e = c.leads in cc
 pub no_holder : (parts : List Interval) (q : List ℕ) → any_holds parts q ≡ false → holder parts q ≡ None
 no_holder parts q none = (elim (holder parts q) as (λ o. is_some o ≡ false → o ≡ None) [ None ↦ λ e. refl | Some i ↦ λ e. cc ]) (any_holder q parts ∙ none)
 
-module _ (settings : Settings) (rules : List Rule) (above : Option Node) (m now : CutForest) (limit : ℕ) (most : settings.k ≤ limit) (h : AreParts limit m) (d : Divides settings rules above m now) where
-  feasible : IsFeasiblePlan settings.k (part_nodes rules above m) d.parts
-  feasible = feasible_plan settings (part_nodes rules above m) d.parts d.split
+module _ (settings : Settings) (rules : List Rule) (above : Option Node) (m now : CutForest) (limit : ℕ) (h : AreParts limit m) (room : ℕ) (d : Divides settings rules room above m now) where
+  runs : AreLightRuns settings.k (part_sketch rules (asked_of_root rules above) 0 m) d.parts
+  runs = division_light settings.k room settings.target settings.tolerance (part_sketch rules (asked_of_root rules above) 0 m) d.parts d.raised d.division
 
-  split_clear : Members (IsClear (holder (intervals [] 0 m)) []) d.parts
+  pub split_clear : Members (IsClear (holder (intervals [] 0 m)) []) d.parts
   split_clear =
       members_clear (holder (intervals [] 0 m)) (part_nodes rules above m) d.parts
       (nodes_clear rules (holder (intervals [] 0 m)) None (asked_of_root rules above) 0 [] 0 m refl (drawn_agrees limit m h))
-      (recursion_from_All (IsInside (part_nodes rules above m)) d.parts (feasible.plan).inside)
+      (recursion_from_All (IsInside (part_nodes rules above m)) d.parts runs.inside)
 
   -- what the interval at an index has, of the intervals of the split and those below the part
   drawn_both : (n : Node) (index : ℕ) → index < length (intervals [] 0 now)
@@ -346,63 +342,59 @@ module _ (settings : Settings) (rules : List Rule) (above : Option Node) (m now 
       ∙ ap (told (has_member x q)) (list_any-IsPermutation (λ (y : Interval). has_member y q) all (d.parts ++ below) d.drawn ∙ list_any-append (λ (y : Interval). has_member y q) d.parts below))
       ∙ ap (own (both rules d.parts below split_clear x) false [] 0) d.same
 
-  -- an interval of the split
-  split_light : (i : ℕ) → i < length d.parts → own (both rules d.parts (intervals [] 0 m) split_clear (get_or d.parts i Root)) false [] 0 (forest m) ≤ limit
-  split_light i lt =
-      let below = intervals [] 0 m in
-      let sketch = part_sketch rules (asked_of_root rules above) 0 m in
-      let a = walk_parts rules d.parts below split_clear i lt limit (asked_of_root rules above) 0 false [] 0 m h (drawn_agrees limit m h) in
-      let b = own_sketch-same false [] sketch (λ q. asked-told d.parts i (feasible.plan).disjoint lt q) in
-      let top : owner d.parts [] ≡ None = owner-root d.parts ∙ no_holder d.parts [] (none_holds (IsClear (holder below) []) d.parts split_clear [] (no_helper (holder below))) in
-      let c : plan.placed_part_weight (part_nodes rules above m) d.parts i ≡ own_sketch (asked_of d.parts i) false [] sketch =
-      sketch_sum d.parts i [] sketch ∙ ap (λ (o : Option ℕ). own_sketch (asked_of d.parts i) (is_place i o) [] sketch) top in
-      let e = feasible.light i lt in
-      omega (arith, a, b, c, e, most)
+  module _ (most : settings.k ≤ limit) where
+    -- an interval of the split
+    split_light : (i : ℕ) → i < length d.parts → own (both rules d.parts (intervals [] 0 m) split_clear (get_or d.parts i Root)) false [] 0 (forest m) ≤ limit
+    split_light i lt =
+        let a = walk_parts rules d.parts (intervals [] 0 m) split_clear (get_or d.parts i Root) (λ q none. none_at q d.parts i none lt) limit (asked_of_root rules above) 0 false [] 0 m h (drawn_agrees limit m h) in
+        let b = runs_own (part_sketch rules (asked_of_root rules above) 0 m) d.parts runs.inside runs.disjoint i lt in
+        let e = runs.light i lt in
+        omega (arith, a, b, e, most)
 
-  -- an interval below the part
-  below_light : (n : Node) (j : ℕ) → j < length (intervals [] 0 m) → own (both rules d.parts (intervals [] 0 m) split_clear (get_or (intervals [] 0 m) j Root)) false [] 0 (forest m) ≤ limit
-  below_light n j lt =
-      let below = intervals [] 0 m in
-      let a = walk_below rules d.parts below split_clear j lt limit 0 [] 0 m h (drawn_agrees limit m h) in
-      let b = own-same false [] 0 (forest m) (λ q. asked-told below j (drawn_apart limit n m h) lt q) in
-      let c = drawn_own limit m h j in
-      let e = weight-light limit j 0 m h in
-      omega (arith, a, b, c, e, most)
+    -- an interval below the part
+    below_light : (n : Node) (j : ℕ) → j < length (intervals [] 0 m) → own (both rules d.parts (intervals [] 0 m) split_clear (get_or (intervals [] 0 m) j Root)) false [] 0 (forest m) ≤ limit
+    below_light n j lt =
+        let below = intervals [] 0 m in
+        let a = walk_below rules d.parts below split_clear j lt limit 0 [] 0 m h (drawn_agrees limit m h) in
+        let b = own-same false [] 0 (forest m) (λ q. asked-told below j (drawn_apart limit n m h) lt q) in
+        let c = drawn_own limit m h j in
+        let e = weight-light limit j 0 m h in
+        omega (arith, a, b, c, e, most)
 
-  pub divided_parts : AreParts limit now
-  divided_parts = parts_by_weight limit d.limit 0 now d.formed light
-    where
-      n : Node
-      n = record { kind = Text; name = []; content = [] }
+    pub divided_parts : AreParts limit now
+    divided_parts = parts_by_weight limit d.limit 0 now d.formed light
+      where
+        n : Node
+        n = record { kind = Text; name = []; content = [] }
 
-      of_either : (index : ℕ) → index < length (intervals [] 0 now) → weight_at index 0 now ≤ limit
-      of_either index lt =
-          let x = get_or (intervals [] 0 now) index Root in
-          let w = drawn_both n index lt in
-          let c = Contains-permutation (intervals [] 0 now) (d.parts ++ intervals [] 0 m) x d.drawn (index, lt, any_default (intervals [] 0 now) index x Root lt) in
-          let long = length-append d.parts (intervals [] 0 m) in
-          let within = c.1 in
-          elim (le_or c.0 (length d.parts)) [
-            | inl l ↦
-                let e : x ≡ get_or d.parts c.0 Root = sym c.2 ∙ get_or_append_left d.parts (intervals [] 0 m) x c.0 l ∙ any_default d.parts c.0 x Root l in
-                let f : own (both rules d.parts (intervals [] 0 m) split_clear x) false [] 0 (forest m) ≡ own (both rules d.parts (intervals [] 0 m) split_clear (get_or d.parts c.0 Root)) false [] 0 (forest m) =
-                ap (λ (y : Interval). own (both rules d.parts (intervals [] 0 m) split_clear y) false [] 0 (forest m)) e in
-                let g = split_light c.0 l in
-                omega (arith, w, f, g)
-            | inr r ↦
-                let s : c.0 - length d.parts < length (intervals [] 0 m) = omega arith in
-                let e : x ≡ get_or (intervals [] 0 m) (c.0 - length d.parts) Root =
-                sym c.2 ∙ get_or-append_right d.parts (intervals [] 0 m) (length d.parts) c.0 x refl r ∙ any_default (intervals [] 0 m) (c.0 - length d.parts) x Root s in
-                let f : own (both rules d.parts (intervals [] 0 m) split_clear x) false [] 0 (forest m) ≡ own (both rules d.parts (intervals [] 0 m) split_clear (get_or (intervals [] 0 m) (c.0 - length d.parts) Root)) false [] 0 (forest m) =
-                ap (λ (y : Interval). own (both rules d.parts (intervals [] 0 m) split_clear y) false [] 0 (forest m)) e in
-                let g = below_light n (c.0 - length d.parts) s in
-                omega (arith, w, f, g)
-          ]
+        of_either : (index : ℕ) → index < length (intervals [] 0 now) → weight_at index 0 now ≤ limit
+        of_either index lt =
+            let x = get_or (intervals [] 0 now) index Root in
+            let w = drawn_both n index lt in
+            let c = Contains-permutation (intervals [] 0 now) (d.parts ++ intervals [] 0 m) x d.drawn (index, lt, any_default (intervals [] 0 now) index x Root lt) in
+            let long = length-append d.parts (intervals [] 0 m) in
+            let within = c.1 in
+            elim (le_or c.0 (length d.parts)) [
+              | inl l ↦
+                  let e : x ≡ get_or d.parts c.0 Root = sym c.2 ∙ get_or_append_left d.parts (intervals [] 0 m) x c.0 l ∙ any_default d.parts c.0 x Root l in
+                  let f : own (both rules d.parts (intervals [] 0 m) split_clear x) false [] 0 (forest m) ≡ own (both rules d.parts (intervals [] 0 m) split_clear (get_or d.parts c.0 Root)) false [] 0 (forest m) =
+                  ap (λ (y : Interval). own (both rules d.parts (intervals [] 0 m) split_clear y) false [] 0 (forest m)) e in
+                  let g = split_light c.0 l in
+                  omega (arith, w, f, g)
+              | inr r ↦
+                  let s : c.0 - length d.parts < length (intervals [] 0 m) = omega arith in
+                  let e : x ≡ get_or (intervals [] 0 m) (c.0 - length d.parts) Root =
+                  sym c.2 ∙ get_or-append_right d.parts (intervals [] 0 m) (length d.parts) c.0 x refl r ∙ any_default (intervals [] 0 m) (c.0 - length d.parts) x Root s in
+                  let f : own (both rules d.parts (intervals [] 0 m) split_clear x) false [] 0 (forest m) ≡ own (both rules d.parts (intervals [] 0 m) split_clear (get_or (intervals [] 0 m) (c.0 - length d.parts) Root)) false [] 0 (forest m) =
+                  ap (λ (y : Interval). own (both rules d.parts (intervals [] 0 m) split_clear y) false [] 0 (forest m)) e in
+                  let g = below_light n (c.0 - length d.parts) s in
+                  omega (arith, w, f, g)
+            ]
 
-      light : (index : ℕ) → weight_at index 0 now ≤ limit
-      light index =
-          let long = length-intervals [] 0 now in
-          elim (le_or index (cuts now)) [
-            | inl lt ↦ of_either index (omega arith)
-            | inr ge ↦ let z = weight-above index 0 now (omega arith) in omega (arith, z)
-          ]
+        light : (index : ℕ) → weight_at index 0 now ≤ limit
+        light index =
+            let long = length-intervals [] 0 now in
+            elim (le_or index (cuts now)) [
+              | inl lt ↦ of_either index (omega arith)
+              | inr ge ↦ let z = weight-above index 0 now (omega arith) in omega (arith, z)
+            ]

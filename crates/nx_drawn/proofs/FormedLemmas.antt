@@ -162,25 +162,25 @@ formed_retexted bytes [] t h = h
 formed_retexted bytes (p ∷ path) t h = formed_changed (retexted bytes path) (λ u g. formed_retexted bytes path u g) p t.below h
 
 module _ (settings : Settings) (rules : List Rule) where
-  free_split : (above : Option Node) (old new : CutForest) → AreFree old → SplitsRow settings rules above old new → AreFree new
-  free_split above Bare new f h = subst AreFree (sym h) tt
-  free_split above (Grown n b s) new f h = subst AreFree (sym h.4) (free_split above s h.1 f h.3)
-  free_split above (Kept u m s) new f h = absurd f
+  free_split : (room : ℕ) (above : Option Node) (old new : CutForest) → AreFree old → SplitsRow settings rules room above old new → AreFree new
+  free_split room above Bare new f h = subst AreFree (sym h) tt
+  free_split room above (Grown n b s) new f h = subst AreFree (sym h.4) (free_split room above s h.1 f h.3)
+  free_split room above (Kept u m s) new f h = absurd f
 
-  interval_light : (above : Option Node) (m now : CutForest) (t : Bool) → nat_lt settings.k (part_weight m) ≡ t → 1 ≤ width m → AreFree m → AreParts settings.k m
-      → MatchBool t (Divides settings rules above m now) (now ≡ Kept tt m Bare) → AreParts settings.k now
-  interval_light above m now true e w f a h = divided_parts settings rules above m now settings.k (omega arith) a h
-  interval_light above m now false e w f a h = subst (AreParts settings.k) (sym h) (w, f, (let l : part_weight m ≤ settings.k = grind (arith, nat_tests) in l), a, tt)
+  interval_light : (room : ℕ) (above : Option Node) (m now : CutForest) (t : Bool) → nat_lt settings.k (part_weight m) ≡ t → 1 ≤ width m → AreFree m → AreParts settings.k m
+      → MatchBool t (Divides settings rules room above m now) (now ≡ Kept tt m Bare) → AreParts settings.k now
+  interval_light room above m now true e w f a h = divided_parts settings rules above m now settings.k a room h (omega arith)
+  interval_light room above m now false e w f a h = subst (AreParts settings.k) (sym h) (w, f, (let l : part_weight m ≤ settings.k = grind (arith, nat_tests) in l), a, tt)
 
-  row_light : (above : Option Node) (old new : CutForest) → AreFormed old → SplitsRow settings rules above old new → AreParts settings.k new
-  row_light above Bare new f h = subst (AreParts settings.k) (sym h) tt
-  row_light above (Grown n b s) new f h = subst (AreParts settings.k) (sym h.4) (row_light (Some n) b h.0 f.0 h.2, row_light above s h.1 f.1 h.3)
-  row_light above (Kept u m s) new f h =
-      let a = row_light above m h.0 f.2 h.3 in
-      let w : width h.0 ≡ width m = sym (trees-forest h.0) ∙ ap trees (same_row settings rules above m h.0 h.3) ∙ trees-forest m in
+  row_light : (room : ℕ) (above : Option Node) (old new : CutForest) → AreFormed old → SplitsRow settings rules room above old new → AreParts settings.k new
+  row_light room above Bare new f h = subst (AreParts settings.k) (sym h) tt
+  row_light room above (Grown n b s) new f h = subst (AreParts settings.k) (sym h.4) (row_light room (Some n) b h.0 f.0 h.2, row_light room above s h.1 f.1 h.3)
+  row_light room above (Kept u m s) new f h =
+      let a = row_light (settings.k - part_weight m) above m h.0 f.2 h.3 in
+      let w : width h.0 ≡ width m = sym (trees-forest h.0) ∙ ap trees (same_row settings rules (settings.k - part_weight m) above m h.0 h.3) ∙ trees-forest m in
       let x = f.0 in
-      let r = interval_light above h.0 h.1 (nat_lt settings.k (part_weight h.0)) refl (omega arith) (free_split above m h.0 f.1 h.3) a h.4 in
-      subst (AreParts settings.k) (sym h.6) (parts-joined_row settings.k h.1 h.2 r (row_light above s h.2 f.3 h.5))
+      let r = interval_light room above h.0 h.1 (nat_lt settings.k (part_weight h.0)) refl (omega arith) (free_split (settings.k - part_weight m) above m h.0 f.1 h.3) a h.4 in
+      subst (AreParts settings.k) (sym h.6) (parts-joined_row settings.k h.1 h.2 r (row_light room above s h.2 f.3 h.5))
 
   pub splits_light : (old new : CutTree) → AreFormed old.below → Splits settings rules old new → AreParts settings.k (whole_document new)
-  splits_light old new f h = row_light None (whole_document old) (whole_document new) (omega arith, tt, (f, tt), tt) h
+  splits_light old new f h = row_light 0 None (whole_document old) (whole_document new) (omega arith, tt, (f, tt), tt) h

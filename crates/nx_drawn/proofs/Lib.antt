@@ -2,6 +2,7 @@ pub mod EditLemmas
 pub mod SplitLemmas
 pub mod DeleteLemmas
 pub mod OwnLemmas
+pub mod DivisionLemmas
 pub mod DividedLemmas
 pub mod FormedLemmas
 pub mod BareLemmas
@@ -10,3 +11,4 @@ pub mod PlacementLemmas
 pub mod MarkLemmas
 pub mod EditLaws
 pub mod GrowthLemmas
+pub mod RoomLemmas

@@ -1,8 +1,8 @@
 -- The laws of edits and splits.
-use Rattle.std.specs.Prelude.{◌≡◌, ◌↔◌, ◌≤◌, ℕ, List, Option}
+use Rattle.std.specs.Prelude.{◌≡◌, ◌↔◌, ◌-◌, ◌≤◌, ℕ, List, Option}
 use Rattle.nx_tree.specs.declared.node.Node.{Node}
 use Rattle.nx_tree.specs.Edit.{put, cut_at, retext}
-use Rattle.nx_cuts.specs.Cut.{CutForest, CutTree, AreParts, tree_of}
+use Rattle.nx_cuts.specs.Cut.{CutForest, CutTree, AreParts, part_weight, tree_of}
 use Rattle.nx_cuts.specs.Rows.{joined_row}
 use Rattle.nx_matrix.specs.declared.rule.Entry.{Entry}
 use Rattle.nx_matrix.specs.declared.rule.Rule.{Rule}
@@ -10,7 +10,8 @@ use Rattle.nx_holdings.specs.declared.header.Settings.{Settings}
 use Rattle.nx_layouts.specs.Layout.{RecordPlace, LaidNode, Layout, piece_of, without_places}
 use Rattle.nx_split.specs.Piece.{placed_of}
 use Rattle.nx_drawn.specs.Edits.{planted_row, removed_row, inserted, deleted, retexted}
-use Rattle.nx_drawn.specs.Splits.{part_nodes, Divides, whole_document, Splits}
+use Rattle.nx_drawn.specs.Growth.{IsHeavyOnce}
+use Rattle.nx_drawn.specs.Splits.{part_nodes, Divides, SplitsRow, whole_document, Splits}
 
 -- An edit of what is drawn is the edit of the tree.
 pub record EditsAreOfTrees (k : ℕ) (document : CutTree) : Type 0 where
@@ -38,10 +39,21 @@ SplitsLeaveTrees = (settings : Settings) (rules : List Rule) (old new : CutTree)
 abbrev pub LightStays : Type 0
 LightStays = (settings : Settings) (rules : List Rule) (old new : CutTree) → AreParts settings.k (whole_document old) → Splits settings rules old new ↔ (new ≡ old)
 
--- A part that is divided by a split has no part that weighs more than the limit, k or more, where none below it does.
+-- A part that is divided has no part that weighs more than the limit, k or more, where none below it does.
 abbrev pub DividedIsLight : Type 0
 DividedIsLight =
-    (settings : Settings) (rules : List Rule) (above : Option Node) (members now : CutForest) (limit : ℕ) → settings.k ≤ limit → AreParts limit members → Divides settings rules above members now → AreParts limit now
+    (settings : Settings) (rules : List Rule) (room : ℕ) (above : Option Node) (members now : CutForest) (limit : ℕ) → settings.k ≤ limit → AreParts limit members → Divides settings rules room above members now → AreParts limit now
+
+-- What joins the part above weighs no more than its room.
+abbrev pub RaisedHasRoom : Type 0
+RaisedHasRoom =
+    (settings : Settings) (rules : List Rule) (room : ℕ) (above : Option Node) (members now : CutForest) (limit : ℕ) → AreParts limit members → Divides settings rules room above members now → part_weight now ≤ room
+
+-- So nothing above is split: where one part below at most is too heavy, a part that doesn't outweigh k doesn't so behind the splits below it.
+abbrev pub NothingAboveIsSplit : Type 0
+NothingAboveIsSplit =
+    (settings : Settings) (rules : List Rule) (above : Option Node) (limit wide : ℕ) (members now : CutForest) → IsHeavyOnce settings.k limit wide members → part_weight members ≤ settings.k
+    → SplitsRow settings rules (settings.k - part_weight members) above members now → part_weight now ≤ settings.k
 
 -- A split sees of the piece of an interval what it sees of the interval's part.
 abbrev pub PieceIsPart : Type 0

@@ -1,7 +1,7 @@
 //! What holds of edits and splits.
 ghost use Rattle.nx_drawn.specs.Placement.{PlantsRuns, RemovesRuns};
 ghost use Rattle.nx_drawn.specs.Growth.{InsertGrowsLittle, PlantGrowsLittle, RetextGrowsLittle};
-ghost use Rattle.nx_drawn.specs.Laws.{DividedIsLight, DrawnEditsAreEdits, DrawnEditsStayLight, LightStays, MarksAreLeft, PieceIsPart, SplitsLeaveTrees};
+ghost use Rattle.nx_drawn.specs.Laws.{DividedIsLight, DrawnEditsAreEdits, DrawnEditsStayLight, LightStays, MarksAreLeft, NothingAboveIsSplit, PieceIsPart, RaisedHasRoom, SplitsLeaveTrees};
 
 /// An edit of what is drawn is the edit of the tree.
 pub fn drawn_edits_are_edits()
@@ -23,9 +23,19 @@ pub fn light_stays()
     ensures { LightStays }
 {}
 
-/// A part that is divided by a split has no part that is too heavy, also under a limit above K.
+/// A part that is divided has no part that is too heavy, also under a limit above K.
 pub fn divided_is_light()
     ensures { DividedIsLight }
+{}
+
+/// What joins the part above a divided one weighs no more than the room that there was.
+pub fn raised_has_room()
+    ensures { RaisedHasRoom }
+{}
+
+/// Where one part at most is too heavy, nothing above it is split.
+pub fn nothing_above_is_split()
+    ensures { NothingAboveIsSplit }
 {}
 
 /// A split sees of the piece of an interval what it sees of the interval's part.
