@@ -62,25 +62,25 @@ at_all : (P : ℕ → Type 0) → ((p : ℕ) → P p) → (s : Sketch) → AtRoo
 at_all P f Empty = tt
 at_all P f (Plant p w e b s) = (f p, at_all P f s)
 
-own_sketch-below : {ask other : List ℕ → Option Bool} (mine : Bool) (path : List ℕ) (s : Sketch) → ((step : ℕ) (rest : List ℕ) → ask (path ++ step ∷ rest) ≡ other (path ++ step ∷ rest)) → own_sketch ask mine path s ≡ own_sketch other mine path s
-own_sketch-below mine path Empty same = refl
-own_sketch-below {ask} {other} mine path (Plant p w e b s) same =
+own_sketch-below : (ask other : List ℕ → Option Bool) (mine : Bool) (path : List ℕ) (s : Sketch) → ((step : ℕ) (rest : List ℕ) → ask (path ++ step ∷ rest) ≡ other (path ++ step ∷ rest)) → own_sketch ask mine path s ≡ own_sketch other mine path s
+own_sketch-below ask other mine path Empty same = refl
+own_sketch-below ask other mine path (Plant p w e b s) same =
     let q = path ++ p ∷ [] in
     let o : or_above (ask q) mine ≡ or_above (other q) mine = ap (λ (x : Option Bool). or_above x mine) (same p []) in
     let a : (if or_above (ask q) mine then w else 0) ≡ (if or_above (other q) mine then w else 0) = ap (λ (t : Bool). if t then w else 0) o in
     let y : own_sketch ask (or_above (ask q) mine) q b ≡ own_sketch other (or_above (other q) mine) q b =
-    own_sketch-below {ask} {other} (or_above (ask q) mine) q b (λ step rest. let l = append_assoc path (p ∷ []) (step ∷ rest) in ap ask l ∙ same p (step ∷ rest) ∙ sym (ap other l)) ∙ ap (λ (t : Bool). own_sketch other t q b) o in
-    let z = own_sketch-below {ask} {other} mine path s same in
+    own_sketch-below ask other (or_above (ask q) mine) q b (λ step rest. let l = append_assoc path (p ∷ []) (step ∷ rest) in ap ask l ∙ same p (step ∷ rest) ∙ sym (ap other l)) ∙ ap (λ (t : Bool). own_sketch other t q b) o in
+    let z = own_sketch-below ask other mine path s same in
     omega (arith, a, y, z)
 
-pub own_sketch-top : {ask other : List ℕ → Option Bool} (m n : Bool) (s : Sketch) → AtRoots (λ p. or_above (ask (p ∷ [])) m ≡ or_above (other (p ∷ [])) n) s
+pub own_sketch-top : (ask other : List ℕ → Option Bool) (m n : Bool) (s : Sketch) → AtRoots (λ p. or_above (ask (p ∷ [])) m ≡ or_above (other (p ∷ [])) n) s
     → ((p next : ℕ) (rest : List ℕ) → ask (p ∷ next ∷ rest) ≡ other (p ∷ next ∷ rest)) → own_sketch ask m [] s ≡ own_sketch other n [] s
-own_sketch-top m n Empty top deep = refl
-own_sketch-top {ask} {other} m n (Plant p w e b s) top deep =
+own_sketch-top ask other m n Empty top deep = refl
+own_sketch-top ask other m n (Plant p w e b s) top deep =
     let a : (if or_above (ask (p ∷ [])) m then w else 0) ≡ (if or_above (other (p ∷ [])) n then w else 0) = ap (λ (t : Bool). if t then w else 0) top.0 in
     let y : own_sketch ask (or_above (ask (p ∷ [])) m) (p ∷ []) b ≡ own_sketch other (or_above (other (p ∷ [])) n) (p ∷ []) b =
-    own_sketch-below {ask} {other} (or_above (ask (p ∷ [])) m) (p ∷ []) b (deep p) ∙ ap (λ (t : Bool). own_sketch other t (p ∷ []) b) top.0 in
-    let z = own_sketch-top {ask} {other} m n s top.1 deep in
+    own_sketch-below ask other (or_above (ask (p ∷ [])) m) (p ∷ []) b (deep p) ∙ ap (λ (t : Bool). own_sketch other t (p ∷ []) b) top.0 in
+    let z = own_sketch-top ask other m n s top.1 deep in
     omega (arith, a, y, z)
 
 -- no interval of a part's nodes has the helper
@@ -134,7 +134,7 @@ module _ (before behind : List Interval) (root : ℕ) where
     same_weight : (i j : ℕ) → i < length others → j < length whole → get_or others i Root ≡ get_or whole j Root → placed_part_weight (placed s) others i ≡ placed_part_weight (placed s) whole j
     same_weight i j lt more same =
         runs_own s others others_inside others_disjoint i lt
-        ∙ own_sketch-top false false s (at_all _ (λ p. claim_same (has_member (get_or others i Root) (p ∷ [])) (any_holds others (p ∷ [])) (any_holds whole (p ∷ []))) s) (λ p next rest. ap (told (has_member (get_or others i Root) (p ∷ next ∷ rest))) (deep_holds p next rest))
+        ∙ own_sketch-top (λ q. told (has_member (get_or others i Root) q) (any_holds others q)) (λ q. told (has_member (get_or others i Root) q) (any_holds whole q)) false false s (at_all _ (λ p. claim_same (has_member (get_or others i Root) (p ∷ [])) (any_holds others (p ∷ [])) (any_holds whole (p ∷ []))) s) (λ p next rest. ap (told (has_member (get_or others i Root) (p ∷ next ∷ rest))) (deep_holds p next rest))
         ∙ ap (λ (y : Interval). own_sketch (λ q. told (has_member y q) (any_holds whole q)) false [] s) same
         ∙ sym (runs_own s whole plan.plan.inside plan.plan.disjoint j more)
       where

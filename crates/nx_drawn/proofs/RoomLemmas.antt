@@ -3,7 +3,7 @@ use Rattle.std.proofs.Common.{◌≡◌, ℕ, zero, suc, ◌+◌, ◌-◌, ◌<�
 use Rattle.std.specs.Prelude.{Contains}
 use Rattle.std.specs.Bool.{MatchBool}
 use Rattle.std.specs.List.{All, AllPairs, AllByRecursion}
-use Rattle.std.specs.Option.{option_map}
+use Rattle.std.specs.Option.{is_some, option_map}
 use Rattle.std.proofs.lemmas.Bool.{cases_Bool}
 use Rattle.std.proofs.lemmas.Bool.Decides.{nat_tests}
 use Rattle.std.proofs.lemmas.List.{get_or_append_left, get_or-append_right}
@@ -91,7 +91,7 @@ own_none ask never path (Plant p w e b s) =
 -- a plan owns all
 plan_owns : (s : Sketch) (parts : List Interval) → IsPlanOfPart (placed s) parts → unowned parts s ≡ 0
 plan_owns s parts plan =
-    own_sketch-top true false s
+    own_sketch-top (λ q. told (has_member nobody q) (any_holds parts q)) (λ q. told (has_member nobody q) (any_holds parts q)) true false s
     (with_roots _ _ s (λ p held. ap (λ t. or_above (told (has_member nobody (p ∷ [])) t) true) held ∙ known (has_member nobody (p ∷ [])) ∙ sym (ap (λ t. or_above (told (has_member nobody (p ∷ [])) t) false) held)) (roots_held (placed s) parts plan s (λ x c. c)))
     (λ p next rest. refl)
     ∙ own_none (λ q. told (has_member nobody q) (any_holds parts q)) (λ q. ap (λ t. or_above (told t (any_holds parts q)) false) (has_nobody q) ∙ other (any_holds parts q)) [] s
@@ -158,7 +158,7 @@ module _ (before behind : List Interval) (root : ℕ) (s : Sketch) (k : ℕ) (pl
 
   raised_owned : unowned (before ++ behind) s ≡ placed_part_weight (placed s) (before ++ raised_run ∷ behind) (length before)
   raised_owned =
-      own_sketch-top true false s (with_roots _ _ s top_same (roots_held (placed s) (before ++ raised_run ∷ behind) plan.plan s (λ x c. c))) (λ p next rest. ap (told false) (deep_holds before behind root p next rest))
+      own_sketch-top (λ q. told (has_member nobody q) (any_holds (before ++ behind) q)) (λ q. told (has_member raised_run q) (any_holds (before ++ raised_run ∷ behind) q)) true false s (with_roots _ _ s top_same (roots_held (placed s) (before ++ raised_run ∷ behind) plan.plan s (λ x c. c))) (λ p next rest. (λ i. told (has_nobody (p ∷ next ∷ rest) i) (deep_holds before behind root p next rest i)))
       ∙ ap (λ (y : Interval). own_sketch (λ q. told (has_member y q) (any_holds (before ++ raised_run ∷ behind) q)) false [] s) (sym (at_root Root))
       ∙ sym (runs_own s (before ++ raised_run ∷ behind) plan.plan.inside plan.plan.disjoint (length before) (omega (arith, long)))
 
@@ -174,17 +174,13 @@ division_unowned k room target tolerance s parts (Some root) d =
 fresh_asked : (parts : List Interval) (q : List ℕ) → asked_of parts (length parts) q ≡ told (has_member nobody q) (any_holds parts q)
 fresh_asked parts q =
     (elim (holder parts q) as (λ o. holder parts q ≡ o → option_map (λ place. place == length parts) o ≡ told (has_member nobody q) (any_holds parts q)) [
-      | None ↦ λ e. sym ((λ i. told (has_nobody q i) ((sym (any_holder q parts) ∙ ap is_there e) i)))
+      | None ↦ λ e. sym ((λ i. told (has_nobody q i) ((sym (any_holder q parts) ∙ ap is_some e) i)))
       | Some a ↦ λ e.
           let p = position-Some (λ x. has_member x q) parts a Root e in
           let lt = p.0 in
           let f : (a == length parts) ≡ false = grind (arith, nat_tests) in
-          ap Some f ∙ sym ((λ i. told (has_nobody q i) ((sym (any_holder q parts) ∙ ap is_there e) i)))
+          ap Some f ∙ sym ((λ i. told (has_nobody q i) ((sym (any_holder q parts) ∙ ap is_some e) i)))
     ]) refl
-  where
-    abbrev is_there : Option ℕ → Bool
-    is_there None = false
-    is_there (Some x) = true
 
 module _ (settings : Settings) (rules : List Rule) (above : Option Node) (m now : CutForest) (limit : ℕ) (h : AreParts limit m) (room : ℕ) (d : Divides settings rules room above m now) where
   -- what a divided part leaves with the node above
