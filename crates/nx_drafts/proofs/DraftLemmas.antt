@@ -1,8 +1,10 @@
--- A split, drawn into the layout of the part that it divides.
-use Rattle.std.proofs.Common.{◌≡◌, ℕ, zero, suc, ◌+◌, ◌-◌, ◌≤◌, false, IsTrue, List, [], ◌∷◌, ◌++◌, Option, None, Some, refl, sym, ap, subst, ◌∙◌, arith, IsPermutation, AllPairs}
+-- A division, drawn into the layout of the part that it divides.
+use Rattle.std.proofs.Common.{◌≡◌, ℕ, zero, suc, ◌+◌, ◌-◌, ◌≤◌, nat_le, Bool, true, false, ◌&&◌, IsTrue, List, [], ◌∷◌, ◌++◌, Option, None, Some, refl, sym, ap, subst, ◌∙◌, arith, IsPermutation, AllPairs, inl, inr}
 use Rattle.std.specs.Prelude.{Contains, ◌||◌}
 use Rattle.std.specs.List.{AllByRecursion}
 use Rattle.std.specs.Option.{is_some}
+use Rattle.std.proofs.lemmas.Bool.{cases_Bool}
+use Rattle.std.proofs.lemmas.Bool.Decides.{nat_tests}
 use Rattle.std.proofs.lemmas.List.Folds.{list_any-append}
 use Rattle.std.proofs.lemmas.List.Sorted.{IsPermutation-refl, IsPermutation-trans, IsPermutation-cons, IsPermutation-sym, All-permutation, list_any-IsPermutation}
 use Rattle.std.proofs.lemmas.List.Elements.{All-from_recursion, recursion_from_All}
@@ -22,15 +24,17 @@ use Rattle.nx_cuts.proofs.FreeLemmas.{IsApart, free_at}
 use Rattle.nx_cuts.proofs.DeepLemmas.{drawn_adds}
 use Rattle.nx_cuts.proofs.FeasibleLemmas.{IsDrawn, Members, no_truth}
 use Rattle.nx_layouts.specs.Layout.{Layout, without_places, laid_forest}
-use Rattle.nx_sketch.specs.Sketch.{Placed}
-use Rattle.nx_sketch.specs.Plan.{IsInside, IsPlanOfPart}
+use Rattle.nx_sketch.specs.Sketch.{Sketch, Placed, placed}
+use Rattle.nx_sketch.specs.Plan.{IsInside, IsPlaced}
+use Rattle.nx_sketch.specs.Split.{IsDivision}
 use Rattle.nx_split.specs.Piece.{asked_of_root}
-use Rattle.nx_drawn.specs.Splits.{part_nodes, Divides}
-use Rattle.nx_drafts.specs.Draft.{Draft, Ends, Grows, Stands, Comes, drawn_forest, layout_before, AreHeldAll}
-use Rattle.nx_drafts.specs.Laws.{SplitIsDrafted}
+use Rattle.nx_drawn.specs.Splits.{part_nodes, part_sketch, Divides}
+use Rattle.nx_drafts.specs.Draft.{Draft, Ends, Grows, Stands, Comes, drawn_forest, layout_before, AreHeldBut}
+use Rattle.nx_drafts.specs.Laws.{DivisionIsDrafted}
 use Rattle.nx_layouts.proofs.DrawnLemmas.{drawn_wide}
 use Rattle.nx_drawn.proofs.OwnLemmas.{any_holds, any_holder, either_false}
-use Rattle.nx_drawn.proofs.DividedLemmas.{IsClear, heavier_parts, nodes_clear, members_clear, drawn_agrees, feasible_plan, divided_parts}
+use Rattle.nx_drawn.proofs.DivisionLemmas.{division_light, split_feasible, whole_holds}
+use Rattle.nx_drawn.proofs.DividedLemmas.{IsClear, heavier_parts, nodes_clear, members_clear, drawn_agrees, divided_parts}
 use Rattle.nx_cuts.proofs.FoldLemmas.{drawn_keeps}
 use Rattle.nx_drafts.proofs.OpenLemmas.{OpenRow, OpenAt, LeadsTo, leads, open_behind, top_placed, placed_open}
 use Rattle.nx_drafts.proofs.DraftEdit.{gathered_at}
@@ -137,42 +141,75 @@ pub all_apart : (ys parts : List Interval) → Members (IsClear (holder ys) []) 
 all_apart ys [] m = tt
 all_apart ys (x ∷ parts) m = (apart_from x ys (λ q t. not_held ys q (m.0 q t)), all_apart ys parts m.1)
 
--- where each root is held, all are members of intervals
-all_held : (h : List ℕ → Option ℕ) (base position : ℕ) (c : Draft (Unit {0})) → IsDrawn h None base [] position (drawn_forest c) → ((step : ℕ) → OpenRow step (λ b. Unit {0}) (layout_before c) → h ((position + step) ∷ []) ≡ None → ⊥) → AreHeldAll c
-all_held h base position Ends d f = tt
-all_held h base position (Grows n b s) d f = f 0 tt (ap (λ (i : ℕ). h (i ∷ [])) (let e : position + 0 ≡ position = omega arith in e) ∙ d.0)
-all_held h base position (Stands r m s) d f =
+-- where each root but one is held, all but that are members of intervals
+all_held : (h : List ℕ → Option ℕ) (raised : Option ℕ) (base position : ℕ) (c : Draft (Unit {0})) → IsDrawn h None base [] position (drawn_forest c)
+    → ((step : ℕ) → OpenRow step (λ b. Unit {0}) (layout_before c) → h ((position + step) ∷ []) ≡ None → raised ≡ Some (position + step)) → AreHeldBut raised position c
+all_held h raised base position Ends d f = tt
+all_held h raised base position (Grows n b s) d f =
+    let here : position + 0 ≡ position = omega arith in (
+      f 0 tt (ap (λ (i : ℕ). h (i ∷ [])) here ∙ d.0) ∙ ap Some here,
+      all_held h raised (base + cuts (drawn_forest b)) (position + 1) s d.2
+          (λ step o none. let same : position + suc step ≡ position + 1 + step = omega arith in f (suc step) o (ap (λ (i : ℕ). h (i ∷ [])) same ∙ none) ∙ ap Some same),
+    )
+all_held h raised base position (Stands r m s) d f =
     let w = drawn_wide m in
-    all_held h (base + 1 + cuts (without_places m)) (position + width (without_places m)) s d.1
-    (λ step o none. f (width m + step) (omega arith, subst (λ (i : ℕ). OpenRow i (λ b. Unit {0}) (layout_before s)) (let e : step ≡ width m + step - width m = omega arith in e) o)
-    (ap (λ (i : ℕ). h (i ∷ [])) (let e : position + (width m + step) ≡ position + width (without_places m) + step = omega (arith, w) in e) ∙ none))
-all_held h base position (Comes u m s) d f =
+    subst (λ (i : ℕ). AreHeldBut raised i s) (let e : position + width (without_places m) ≡ position + width m = omega (arith, w) in e)
+    (all_held h raised (base + 1 + cuts (without_places m)) (position + width (without_places m)) s d.1
+    (λ step o none.
+        let same : position + (width m + step) ≡ position + width (without_places m) + step = omega (arith, w) in
+        f (width m + step) (omega arith, subst (λ (i : ℕ). OpenRow i (λ b. Unit {0}) (layout_before s)) (let e : step ≡ width m + step - width m = omega arith in e) o)
+        (ap (λ (i : ℕ). h (i ∷ [])) same ∙ none)
+        ∙ ap Some same))
+all_held h raised base position (Comes u m s) d f =
     let w = width-layout_before m in
-    all_held h (base + 1 + cuts (drawn_forest m)) (position + width (drawn_forest m)) s d.1
-    (λ step o none. f (width (layout_before m) + step) (open_behind (λ b. Unit {0}) step (layout_before m) (layout_before s) o)
-    (ap (λ (i : ℕ). h (i ∷ [])) (let e : position + (width (layout_before m) + step) ≡ position + width (drawn_forest m) + step = omega (arith, w) in e) ∙ none))
+    all_held h raised (base + 1 + cuts (drawn_forest m)) (position + width (drawn_forest m)) s d.1
+    (λ step o none.
+        let same : position + (width (layout_before m) + step) ≡ position + width (drawn_forest m) + step = omega (arith, w) in
+        f (width (layout_before m) + step) (open_behind (λ b. Unit {0}) step (layout_before m) (layout_before s) o) (ap (λ (i : ℕ). h (i ∷ [])) same ∙ none) ∙ ap Some same)
 
 held_any : (parts : List Interval) (x : Interval) (q : List ℕ) → Contains parts x → IsTrue (has_member x q) → any_holds parts q ≡ false → ⊥
 held_any [] x q c t none = let lt = c.1 in absurd (omega arith)
 held_any (y ∷ parts) x q (zero, lt, e) t none = no_truth (sym (either_false (has_member y q) (any_holds parts q) none).0 ∙ ap (λ (z : Interval). has_member z q) e ∙ t)
 held_any (y ∷ parts) x q (suc i, lt, e) t none = held_any parts x q (i, omega arith, e) t (either_false (has_member y q) (any_holds parts q) none).1
 
-pub split_is_drafted : SplitIsDrafted
-split_is_drafted settings rules above k members parts most light split =
+-- the one root that no interval of a division has is the one that is raised
+unheld_root : (k room target tolerance : ℕ) (s : Sketch) (parts : List Interval) (raised : Option ℕ) → IsDivision k (placed s) room target tolerance parts raised → (p : ℕ) → IsPlaced (placed s) (p ∷ []) → any_holds parts (p ∷ []) ≡ false → raised ≡ Some p
+unheld_root k room target tolerance s parts None d p at none =
+    let held = (split_feasible k (placed s) target tolerance parts d.0).plan.rooted p at in
+    absurd (held_any parts held.0 (p ∷ []) held.1 held.2 none)
+unheld_root k room target tolerance s parts (Some root) d p at none =
+    let held = d.split.feasible.plan.rooted p at in
+    let others : any_holds (d.before ++ d.behind) (p ∷ []) ≡ false = ap (λ (xs : List Interval). any_holds xs (p ∷ [])) (sym d.others) ∙ none in
+    elim (cases_Bool (has_member (Run [] root root) (p ∷ []))) [
+      | inl mine ↦ ap Some (only_root root p mine)
+      | inr not ↦ absurd (held_any (d.before ++ Run [] root root ∷ d.behind) held.0 (p ∷ []) held.1 held.2 (whole_holds d.before d.behind root (p ∷ []) ∙ (λ i. not i || others i)))
+    ]
+  where
+    both_true : (a b : Bool) → a && b ≡ true → (a ≡ true) × (b ≡ true)
+    both_true true true e = (refl, refl)
+    both_true true false e = cc
+    both_true false b e = cc
+
+    only_root : (root p : ℕ) → nat_le root p && nat_le p root ≡ true → root ≡ p
+    only_root root p e = let f = both_true (nat_le root p) (nat_le p root) e in let x = f.0 in let y = f.1 in grind (arith, nat_tests)
+
+pub division_is_drafted : DivisionIsDrafted
+division_is_drafted settings rules room above k members parts raised most light division =
     let old = without_places members in
     let olds = intervals [] 0 old in
     let nodes = part_nodes rules above old in
-    let feasible = feasible_plan settings nodes parts split in
-    let plan : IsPlanOfPart nodes parts = feasible.plan in
+    let sketch = part_sketch rules (asked_of_root rules above) 0 old in
+    let runs = division_light settings.k room settings.target settings.tolerance sketch parts raised division in
     let form : AreParts k old = light in
     let big = k + total (forest old) in
-    let inside = recursion_from_All (IsInside nodes) parts plan.inside in
+    let inside = recursion_from_All (IsInside nodes) parts runs.inside in
     let clear : Members (IsClear (holder olds) []) parts =
     members_clear (holder olds) nodes parts (nodes_clear rules (holder olds) None (asked_of_root rules above) 0 [] 0 old refl (drawn_agrees k old form)) inside in
-    let d : IsGathered big members parts = all_gathered rules above big members (omega arith) parts inside (pairs_of parts plan.disjoint) (all_apart olds parts clear) (heavier_parts k big old (omega arith) form) in
-    let divides : Divides settings rules above old (drawn_forest d.draft) = record {
+    let d : IsGathered big members parts = all_gathered rules above big members (omega arith) parts inside (pairs_of parts runs.disjoint) (all_apart olds parts clear) (heavier_parts k big old (omega arith) form) in
+    let divides : Divides settings rules room above old (drawn_forest d.draft) = record {
       parts = parts;
-      split = split;
+      raised = raised;
+      division = division;
       same = sym (forest-layout_before d.draft) ∙ ap laid_forest d.stands;
       drawn = d.drawn_are;
       limit = big;
@@ -183,13 +220,12 @@ split_is_drafted settings rules above k members parts most light split =
       draft = d.draft;
       stands = d.stands;
       drawn = d.drawn_are;
-      light = divided_parts settings rules above old (drawn_forest d.draft) k most form divides;
-      held = all_held (holder all) 0 0 d.draft (drawn_agrees big (drawn_forest d.draft) d.form)
+      light = divided_parts settings rules above old (drawn_forest d.draft) k form room divides most;
+      held = all_held (holder all) raised 0 0 d.draft (drawn_agrees big (drawn_forest d.draft) d.form)
           (λ step o none.
           let top = top_placed rules (asked_of_root rules above) [] 0 step members (subst (OpenRow step (λ b. Unit {0})) d.stands o) in
-          let held = plan.rooted (0 + step) top in
           let some : any_holds all ((0 + step) ∷ []) ≡ false = sym (any_holder ((0 + step) ∷ []) all) ∙ ap (λ (o : Option ℕ). is_some o) none in
           let list : any_holds parts ((0 + step) ∷ []) || any_holds olds ((0 + step) ∷ []) ≡ false =
           sym (list_any-append (λ (x : Interval). has_member x ((0 + step) ∷ [])) parts olds) ∙ sym (list_any-IsPermutation (λ (x : Interval). has_member x ((0 + step) ∷ [])) all (parts ++ olds) d.drawn_are) ∙ some in
-          held_any parts held.0 ((0 + step) ∷ []) held.1 held.2 (either_false (any_holds parts ((0 + step) ∷ [])) (any_holds olds ((0 + step) ∷ [])) list).0);
+          unheld_root settings.k room settings.target settings.tolerance sketch parts raised division (0 + step) top (either_false (any_holds parts ((0 + step) ∷ [])) (any_holds olds ((0 + step) ∷ [])) list).0);
     }

@@ -1,9 +1,9 @@
 -- A layout some of whose intervals are to come: their records aren't there yet, or have just come.
-use Rattle.std.specs.Prelude.{ℕ, ◌+◌, ◌*◌, if◌then◌else◌, nat_le, List, [], ◌∷◌, ◌++◌}
+use Rattle.std.specs.Prelude.{◌≡◌, ℕ, ◌+◌, ◌*◌, if◌then◌else◌, nat_le, List, [], ◌∷◌, ◌++◌, Option, Some}
 use Rattle.nx_holdings.specs.Holdings.{chain_count}
 use Rattle.nx_piece.specs.Gapped.{Gapped, End, Grow}
 use Rattle.nx_piece.specs.Valid.{inline_length, longest_inline}
-use Rattle.nx_cuts.specs.Cut.{CutForest, Bare, Grown, Kept}
+use Rattle.nx_cuts.specs.Cut.{CutForest, Bare, Grown, Kept, width}
 use Rattle.nx_layouts.specs.Layout.{RecordPlace, LaidNode, Layout, without_places, in_record, gap_more}
 use Rattle.nx_layouts.specs.Replace.{joined_layout}
 
@@ -74,9 +74,9 @@ draft_needs (Grows node below beside) = draft_needs below + draft_needs beside
 draft_needs (Stands place members beside) = draft_needs beside
 draft_needs (Comes mark members beside) = record_pages (draft_body members) (draft_count members) + draft_needs members + draft_needs beside
 
--- each of these trees is a member of an interval
-abbrev pub AreHeldAll : {P : Type 0} → Draft P → Type 0
-AreHeldAll Ends = Unit {0}
-AreHeldAll (Grows node below beside) = ⊥
-AreHeldAll (Stands place members beside) = AreHeldAll beside
-AreHeldAll (Comes mark members beside) = AreHeldAll beside
+-- Each of these trees is a member of an interval, but the one at a position, where one is named. The first of them has this position.
+abbrev pub AreHeldBut : {P : Type 0} → Option ℕ → (position : ℕ) → Draft P → Type 0
+AreHeldBut raised position Ends = Unit {0}
+AreHeldBut raised position (Grows node below beside) = (raised ≡ Some position) × AreHeldBut raised (position + 1) beside
+AreHeldBut raised position (Stands place members beside) = AreHeldBut raised (position + width members) beside
+AreHeldBut raised position (Comes mark members beside) = AreHeldBut raised (position + width (drawn_forest members)) beside

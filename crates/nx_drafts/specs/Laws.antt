@@ -9,23 +9,23 @@ use Rattle.nx_holdings.specs.declared.header.Settings.{Settings}
 use Rattle.nx_piece.specs.declared.piece.Piece.{Piece}
 use Rattle.nx_piece.specs.Valid.{IsPiece}
 use Rattle.nx_layouts.specs.Layout.{RecordPlace, Layout, laid_forest, AreLaidParts, piece_of, places_of, nodes_in, without_places}
-use Rattle.nx_sketch.specs.Split.{IsSplit}
+use Rattle.nx_sketch.specs.Split.{IsDivision}
 use Rattle.nx_drawn.specs.Splits.{part_nodes}
-use Rattle.nx_drafts.specs.Draft.{Draft, drawn_forest, layout_before, layout_after, came, draft_needs, AreHeldAll}
+use Rattle.nx_drafts.specs.Draft.{Draft, drawn_forest, layout_before, layout_after, came, draft_needs, AreHeldBut}
 
--- These intervals are drawn into a layout, in which all others stand as they did.
-pub record IsDrafted (k : ℕ) (members : Layout) (parts : List Interval) : Type 0 where
+-- These intervals are drawn into a layout, in which all others stand as they did, and each root but the one that is raised is a member of one.
+pub record IsDrafted (k : ℕ) (members : Layout) (parts : List Interval) (raised : Option ℕ) : Type 0 where
   pub draft : Draft (Unit {0})
   pub stands : layout_before draft ≡ members
   pub drawn : IsPermutation (intervals [] 0 (drawn_forest draft)) (parts ++ intervals [] 0 (without_places members))
   pub light : AreParts k (drawn_forest draft)
-  pub held : AreHeldAll draft
+  pub held : AreHeldBut raised 0 draft
 
--- A split can be drawn into the layout of the part that it divides: no part weighs more than the limit, where none below it does, and each root is a member of one of its intervals.
-abbrev pub SplitIsDrafted : Type 0
-SplitIsDrafted =
-    (settings : Settings) (rules : List Rule) (above : Option Node) (limit : ℕ) (members : Layout) (parts : List Interval) → settings.k ≤ limit → AreLaidParts limit members
-    → IsSplit settings.k (part_nodes rules above (without_places members)) settings.target settings.tolerance parts → IsDrafted limit members parts
+-- A division can be drawn into the layout of the part that it divides: no part weighs more than the limit, where none below it does.
+abbrev pub DivisionIsDrafted : Type 0
+DivisionIsDrafted =
+    (settings : Settings) (rules : List Rule) (room : ℕ) (above : Option Node) (limit : ℕ) (members : Layout) (parts : List Interval) (raised : Option ℕ) → settings.k ≤ limit → AreLaidParts limit members
+    → IsDivision settings.k (part_nodes rules above (without_places members)) room settings.target settings.tolerance parts raised → IsDrafted limit members parts raised
 
 -- Of a draft whose records have all come, the places are those that came and those that stood.
 abbrev pub PlacesAreBoth : Type 0

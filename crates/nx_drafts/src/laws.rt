@@ -1,11 +1,11 @@
 //! What holds of splits in documents that are drawn, and of drafts.
-ghost use Rattle.nx_drafts.specs.Laws.{NeedsAreFew, NodesStayInOrder, PieceHasMembers, PlacesAreBoth, SplitIsDrafted};
+ghost use Rattle.nx_drafts.specs.Laws.{DivisionIsDrafted, NeedsAreFew, NodesStayInOrder, PieceHasMembers, PlacesAreBoth};
 ghost use Rattle.nx_drafts.specs.Once.{HeavyIsThere};
 ghost use Rattle.nx_drafts.specs.Rows.{LightRowStays, OneIsSplit, RootIsSplit, RowSplitsAbove, RowSplitsByLabel, SplitStaysAbove};
 
-/// A split can be drawn into the layout of the part that it divides.
-pub fn split_is_drafted()
-    ensures { SplitIsDrafted }
+/// A division can be drawn into the layout of the part that it divides.
+pub fn division_is_drafted()
+    ensures { DivisionIsDrafted }
 {}
 
 /// Where one interval is replaced by a split of it, the whole row is split.
