@@ -6,7 +6,7 @@ use Rattle.std.specs.Str.{bytes_eq}
 use Rattle.std.proofs.lemmas.Bool.{and_parts, cases_Bool, cases_order, false≢true}
 use Rattle.std.proofs.lemmas.Bool.Decides.{Decides-and, Decides-at, Decides-eqb, Decides-like, Decides-not, Decides-or}
 use Rattle.std.proofs.lemmas.List.{get_or_default}
-use Rattle.std.proofs.lemmas.List.Elements.{All-contains, Contains-append_left, Contains-get_or, Contains-push, Contains-push_cases}
+use Rattle.std.proofs.lemmas.List.Elements.{Contains-append_left, Contains-get_or, Contains-push, Contains-push_cases}
 use Rattle.std.proofs.lemmas.List.Quantifiers.{all_pairs_push}
 use Rattle.std.proofs.lemmas.Slice.Eq.{bytes_eq-Decides}
 use Rattle.nx_lists.proofs.ListLemmas.{contains_here, contains_there, contains_parts}
@@ -18,10 +18,11 @@ use Rattle.nx_parts.specs.Order.{AreInOrder, ComesBefore, first_member}
 use Rattle.nx_sketch.specs.Sketch.{Placed}
 use Rattle.nx_sketch.specs.Plan.{IsPlaced}
 use Rattle.nx_sketch.specs.Separator.{IsLoose, IsSeparatorPlan, IsSeparatorRun, IsSingle, is_before, is_left, is_marked}
+use Rattle.nx_sketch.proofs.OrderLemmas.{comes_itself}
 use Rattle.nx_division_tests.specs.Runs.{AddsRun, BeginsRow, IsNoStart, IsOnlyRun, IsRowEnd, IsStart}
 use Rattle.nx_division_tests.specs.Tests.{is_loose, is_single, is_standalone, loose_test, same_bool, single_test}
 use Rattle.nx_matrix.specs.Rules.{is_free}
-use Rattle.nx_division_tests.proofs.TestLemmas.{any_decides, pairs_head, pairs_tail}
+use Rattle.nx_division_tests.proofs.TestLemmas.{any_decides}
 use Rattle.nx_division_tests.proofs.PathLemmas.{before_decides, same_ends}
 use Rattle.nx_division_tests.proofs.PlanLemmas.{standalone_decides}
 
@@ -136,21 +137,6 @@ opened_else {m} parent r e h = Decides-at r (eqb (length parent) 0 || m) (h ∙ 
 pub begun_decides : {P : ℕ → Type 0} (r : Bool) (first before : ℕ) → before + 1 ≡ first → Decides r (P before) → Decides (not r) ((position : ℕ) → position + 1 ≡ first → ¬ P position)
 begun_decides {P} r first before e d =
     Decides-like (not r) (λ n position at loose. n (subst P (let same : position ≡ before = omega arith in same) loose)) (λ f. f before e) (Decides-not r d)
-
--- the order of paths
-pub comes_itself : (p : List ℕ) → ComesBefore p p → ⊥
-comes_itself [] h = absurd h
-comes_itself (x ∷ p) (inl less) = absurd (omega arith)
-comes_itself (x ∷ p) (inr same) = comes_itself p same.1
-
-pub comes_back : (p q : List ℕ) → ComesBefore p q → ComesBefore q p → ⊥
-comes_back [] [] h g = absurd h
-comes_back [] (y ∷ q) h g = absurd g
-comes_back (x ∷ p) [] h g = absurd h
-comes_back (x ∷ p) (y ∷ q) (inl less) (inl more) = absurd (omega arith)
-comes_back (x ∷ p) (y ∷ q) (inl less) (inr same) = absurd (let e = same.0 in omega arith)
-comes_back (x ∷ p) (y ∷ q) (inr same) (inl more) = absurd (let e = same.0 in omega arith)
-comes_back (x ∷ p) (y ∷ q) (inr same) (inr also) = comes_back p q same.1 also.1
 
 abbrev pub AreOrdered : List Placed → Type 0
 AreOrdered nodes = AllPairs (λ (a b : Placed). IsTrue (is_before a.path b.path)) nodes
@@ -367,42 +353,3 @@ planned_end nodes t tolerance index found end s =
             s.each interval at.1.0 at.0 run (let h = at.1.1 in omega arith) (sym at.2 ∙ ap (λ (n : Placed). n.path) (sym at.1.2)),
       );
     }
-
--- two lists in document order with the same intervals are one list
-nothing : {A : Type 0} (x : A) → Contains [] x → ⊥
-nothing x c = let h = c.1 in absurd (omega arith)
-
-abbrev Comes : Interval → Interval → Type 0
-Comes a b = ComesBefore (first_member a) (first_member b)
-
-comes_later : (x y : Interval) (xs : List Interval) → AreInOrder (x ∷ xs) → Contains xs y → Comes x y
-comes_later x y xs o c = All-contains (Comes x) xs y (pairs_head Comes x xs o) c
-
-same_head : (x y : Interval) (xs ys : List Interval) → AreInOrder (x ∷ xs) → AreInOrder (y ∷ ys) → Contains (y ∷ ys) x → Contains (x ∷ xs) y → x ≡ y
-same_head x y xs ys ox oy cx cy = elim (contains_parts y ys x cx) [
-  | inl same ↦ sym same
-  | inr later ↦ elim (contains_parts x xs y cy) [
-    | inl same ↦ same
-    | inr also ↦ absurd (comes_back (first_member y) (first_member x) (comes_later y x ys oy later) (comes_later x y xs ox also))
-  ]
-]
-
-into_tail : (x y z : Interval) (xs ys : List Interval) → AreInOrder (x ∷ xs) → x ≡ y → Contains xs z → Contains (y ∷ ys) z → Contains ys z
-into_tail x y z xs ys o same c all = elim (contains_parts y ys z all) [
-  | inl here ↦ absurd (comes_itself (first_member z) (subst (λ (w : Interval). Comes w z) (same ∙ here) (comes_later x z xs o c)))
-  | inr later ↦ later
-]
-
-pub same_list : (xs ys : List Interval) → AreInOrder xs → AreInOrder ys → ((z : Interval) → Contains xs z → Contains ys z) → ((z : Interval) → Contains ys z → Contains xs z) → xs ≡ ys
-same_list [] [] ox oy f g = refl
-same_list [] (y ∷ ys) ox oy f g = absurd (nothing y (g y (contains_here y ys y refl)))
-same_list (x ∷ xs) [] ox oy f g = absurd (nothing x (f x (contains_here x xs x refl)))
-same_list (x ∷ xs) (y ∷ ys) ox oy f g =
-    let same = same_head x y xs ys ox oy (f x (contains_here x xs x refl)) (g y (contains_here y ys y refl)) in
-    let rest = same_list xs ys (pairs_tail Comes x xs ox) (pairs_tail Comes y ys oy)
-    (λ z c. into_tail x y z xs ys ox same c (f z (contains_there x xs z c)))
-    (λ z c. into_tail y x z ys xs oy (sym same) c (g z (contains_there y ys z c))) in
-    λ i. same i ∷ rest i
-
-pub one_plan : (nodes : List Placed) (t tolerance : ℕ) (xs ys : List Interval) → IsSeparatorPlan nodes t tolerance xs → IsSeparatorPlan nodes t tolerance ys → xs ≡ ys
-one_plan nodes t tolerance xs ys p q = same_list xs ys p.order q.order (λ z c. (q.runs z).1 ((p.runs z).0 c)) (λ z c. (p.runs z).1 ((q.runs z).0 c))

@@ -13,7 +13,7 @@ use Rattle.nx_sketch.specs.Plan.{AreComponentsLight, AreNeighboursFull, IsFeasib
 use Rattle.nx_sketch.specs.Separator.{IsSeparatorPlan, point}
 use Rattle.nx_sketch.specs.Split.{IsSplit}
 use Rattle.nx_division_tests.specs.Tests.{same_interval}
-use Rattle.nx_division_tests.proofs.RunLemmas.{one_plan}
+use Rattle.nx_sketch.proofs.OrderLemmas.{one_plan}
 
 -- equal intervals
 pub same_interval-Decides : (one other : Interval) → Decides (same_interval one other) (one ≡ other)

@@ -132,7 +132,7 @@ fn divide(
     let spots = sketch(alloc, read(alloc, example.sketch.as_bytes())?.as_slice())?;
     assert!(rt; k < 1 << 24 && target <= 100);
     assert!(rt; is_splittable(k, spots.as_slice()));
-    let parts = split(alloc, spots.as_slice(), k, target, tolerance)?;
+    let parts = split(alloc, spots.as_slice(), 0, k, target, tolerance)?.parts;
     let nodes = nodes(alloc, spots.as_slice())?;
     assert!(rt; nodes.len() < 1 << 20);
     assert!(rt; are_ordered(nodes.as_slice()));
@@ -198,7 +198,7 @@ fn many_roots(rt: HostRuntime) -> Result<(), Fail> {
     }
     let spots = sketch(alloc, read(alloc, text.as_str().as_bytes())?.as_slice())?;
     assert!(rt; is_splittable(256, spots.as_slice()));
-    let parts = split(alloc, spots.as_slice(), 256, 50, 64)?;
+    let parts = split(alloc, spots.as_slice(), 0, 256, 50, 64)?.parts;
     let text = written(alloc, parts.as_slice(), &[0, 0])?;
     assert_eq!(rt; text.as_str(), "/ 0 127: 0, / 128 256: 0, ");
     assert_eq!(rt; parts.len(), 2);

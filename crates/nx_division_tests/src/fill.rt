@@ -25,7 +25,7 @@ fn count(rt: &impl Abort, alloc: Global, seed: u64, k: u32, rules: Rules) -> Res
         let spots = sketch(alloc, items.as_slice())?;
         assert!(rt; k < 1 << 24);
         assert!(rt; is_splittable(k, spots.as_slice()));
-        let parts = split(alloc, spots.as_slice(), k, 100, 0)?;
+        let parts = split(alloc, spots.as_slice(), 0, k, 100, 0)?.parts;
         sketches = sketches.saturating_add(1);
         intervals = intervals.saturating_add(u32::try_from(parts.len())?);
     }

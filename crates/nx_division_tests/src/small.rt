@@ -1,10 +1,11 @@
 // All parts of up to four nodes, which weigh 1 or 3 slots each.
 use crate::nodes::nodes;
-use crate::plain::{are_ordered, is_split};
+use crate::plain::{are_ordered, is_same, is_split, part_weight};
 use crate::sketches::{Item, is_splittable, sketch};
 use nx_division::split;
 use nx_lists::NoMemory;
 use nx_matrix::Entry;
+use nx_parts::Interval;
 use nx_sketch::Spot;
 use std::alloc::Global;
 use std::process::Abort;
@@ -87,7 +88,8 @@ fn try_all(rt: &impl Abort, alloc: Global, target: u32, tolerance: u32) -> Resul
     Ok(tried)
 }
 
-// The intervals are a split by its plain definition.
+// Without room above the intervals are a split by its plain definition. With room it is the plan without the interval of
+// a root, just where that root's part weighs no more than that.
 fn try_one(
     rt: &impl Abort,
     alloc: Global,
@@ -101,17 +103,55 @@ fn try_one(
     let nodes = nodes(alloc, spots)?;
     assert!(rt; nodes.len() < 1 << 20);
     assert!(rt; are_ordered(nodes.as_slice()));
-    let parts = split(alloc, spots, k, target, tolerance)?;
-    let answer = is_split(
-        alloc,
-        nodes.as_slice(),
-        k,
-        target,
-        tolerance,
-        parts.as_slice(),
-    )?;
+    let plan = split(alloc, spots, 0, k, target, tolerance)?;
+    let parts = plan.parts.as_slice();
+    let answer = is_split(alloc, nodes.as_slice(), k, target, tolerance, parts)?;
     assert!(rt; answer, "{spots:?} {k} {target} {tolerance}");
+    assert_eq!(rt; plan.raised, None);
+    let division = split(alloc, spots, k, k, target, tolerance)?;
+    let others = division.parts.as_slice();
+    let Some(root) = division.raised else {
+        assert_eq!(rt; others.len(), parts.len());
+        return Ok(());
+    };
+    let Some(index) = place_of(parts, others, root) else {
+        panic!(rt; "{spots:?} {k} {target} {tolerance}");
+    };
+    let room = part_weight(nodes.as_slice(), parts, index);
+    for (room, want) in [(room.saturating_sub(1), None), (room, Some(root))] {
+        let room = u32::try_from(room)?;
+        let division = split(alloc, spots, room, k, target, tolerance)?;
+        assert_eq!(rt; division.raised, want);
+    }
     Ok(())
+}
+
+// Where the interval of that root alone stands in a plan of which the others are these.
+fn place_of(plan: &[Interval], others: &[Interval], root: u32) -> Option<usize> {
+    let mut place = None;
+    let mut left = others.iter();
+    for (index, interval) in plan.iter().enumerate() {
+        if is_root_alone(interval, root) {
+            place = Some(index);
+        } else if !is_same(interval, left.next()?) {
+            return None;
+        }
+    }
+    if left.next().is_some() {
+        return None;
+    }
+    place
+}
+
+fn is_root_alone(interval: &Interval, root: u32) -> bool {
+    match interval {
+        Interval::Root => false,
+        Interval::Run {
+            parent,
+            first,
+            last,
+        } => parent.is_empty() && *first == root && *last == root,
+    }
 }
 
 // As many parts and numbers there are.

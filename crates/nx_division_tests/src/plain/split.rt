@@ -18,7 +18,7 @@ use nx_lists::NoMemory;
 use nx_parts::Interval;
 use std::alloc::Global;
 
-fn is_same(one: &Interval, other: &Interval) -> bool
+pub(crate) fn is_same(one: &Interval, other: &Interval) -> bool
     ensures { result ≡ same_interval one.now other.now }
 {
     match (one, other) {
