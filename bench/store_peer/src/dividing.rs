@@ -1,25 +1,28 @@
 //! A piece that became too heavy, divided into records of its own.
 
 use crate::Failure;
-use crate::draft::{Draft, Writer};
+use crate::draft::{Draft, Row, Sink, Writer};
 use crate::piece::{PROXY, Proxy, What};
 use crate::records::{List, Records};
 use crate::rules::{Asked, Named, Rules};
 use crate::split::{Cut, Spot, split};
 
-/// Puts a record for each interval of a split of a piece, and answers the proxies of those that hold its roots.
-/// `above` is the node above the piece, if there is one, and `list` the list that the piece had.
+/// Puts a record for each interval of a split of a piece, and answers what comes in the place of its proxy: the proxies
+/// of those that hold its roots, and the tree that joins the piece above. `above` is the node above the piece, if there
+/// is one, `room` what its part may still weigh, and `list` the list that the piece had.
 pub fn divide(
     records: &mut Records,
     rules: &Rules,
     draft: &Draft,
     above: Option<Named>,
+    room: u32,
     list: Option<&List>,
-) -> Result<Vec<Proxy>, Failure> {
+) -> Result<Row, Failure> {
     let head = &records.head;
     let spots = spots_of(draft, rules, above);
     let cuts = split(
         &spots,
+        room,
         head.k.into(),
         head.target.into(),
         head.tolerance.into(),
@@ -32,9 +35,14 @@ pub fn divide(
         line: 0,
         proxy: 0,
     };
-    let mut row = Vec::new();
+    let mut row = Row::default();
     while dividing.line < draft.lines.len() {
-        row.push(dividing.interval(0)?);
+        if dividing.cuts.first() == Some(&Cut::Stays) {
+            dividing.tree(0, 0, &mut row)?;
+        } else {
+            let proxy = dividing.interval(0)?;
+            row.run(0, &proxy.bytes());
+        }
     }
     if let Some(list) = dividing.list {
         dividing.records.remove_list(list);
@@ -129,7 +137,7 @@ impl Dividing<'_> {
     }
 
     /// Adds the tree that begins with the next line to a piece whose roots have depth `base`.
-    fn tree(&mut self, depth: usize, base: usize, writer: &mut Writer) -> Result<(), Failure> {
+    fn tree(&mut self, depth: usize, base: usize, writer: &mut impl Sink) -> Result<(), Failure> {
         let draft = self.draft;
         writer.node(depth - base, draft.lines[self.line].what);
         self.line += 1;

@@ -1,8 +1,9 @@
 //! A piece that is changed: its items in document order with their depths, and its proxies.
 
 use crate::Failure;
-use crate::piece::{Content, Growing, PROXY, Piece, Proxy, What};
+use crate::piece::{Content, Far, Growing, PROXY, Piece, Proxy, What};
 use crate::records::Records;
+use crate::tree::Kind;
 
 #[derive(Clone, Copy)]
 pub struct Line<'a> {
@@ -52,14 +53,38 @@ impl<'a> Draft<'a> {
         self.lines.iter().map(|line| line.what.weight()).sum()
     }
 
-    /// Puts proxies in the place of one, which is the one with this index and stands in the run that is this item.
-    pub fn replace_proxy(&mut self, run: u32, index: u32, row: &[Proxy]) {
+    /// Puts a row in the place of a proxy, which is the one with this index and stands in the run that is this item.
+    pub fn replace_proxy(&mut self, run: u32, index: u32, row: &'a Row) {
         let at = PROXY * index as usize;
-        let bytes = row.iter().flat_map(Proxy::bytes);
+        let bytes = row.proxies.iter().copied();
         self.proxies.splice(at..at + PROXY, bytes);
-        if let What::Run(count) = &mut self.lines[run as usize].what {
-            *count = *count + row.len() as u32 - 1;
+        let run = run as usize;
+        let own = self.lines[run];
+        let What::Run(count) = own.what else {
+            return;
+        };
+        let part = |count| Line {
+            what: What::Run(count),
+            ..own
+        };
+        let more = match row.lines[..] {
+            [] => Some(0),
+            [RowLine { what: RowWhat::Run(more), .. }] => Some(more),
+            _ => None,
+        };
+        if let Some(more) = more {
+            self.lines[run] = part(count + more - 1);
+            return;
         }
+        let first: u32 = self.lines[..run].iter().map(|line| line.what.proxies()).sum();
+        let before = index - first;
+        let inner = row.lines.iter().map(|line| line.below(own.depth));
+        let lines: Vec<Line> = [part(before)]
+            .into_iter()
+            .chain(inner)
+            .chain([part(count - before - 1)])
+            .collect();
+        self.lines.splice(run..run + 1, lines);
     }
 
     /// Puts a line before an item, or behind so many of its proxies where it is a run.
@@ -118,6 +143,105 @@ impl<'a> Draft<'a> {
     }
 }
 
+/// What a piece is written into, node by node.
+pub trait Sink {
+    fn node(&mut self, depth: usize, what: What);
+    fn run(&mut self, depth: usize, proxies: &[u8]);
+}
+
+enum RowWhat {
+    Near(Kind, Vec<u8>, Vec<u8>),
+    Far(Kind, Vec<u8>, Far),
+    Run(u32),
+}
+
+struct RowLine {
+    depth: usize,
+    what: RowWhat,
+}
+
+impl RowLine {
+    /// The line below a node of that depth.
+    fn below(&self, depth: usize) -> Line<'_> {
+        let what = match &self.what {
+            RowWhat::Near(kind, name, content) => What::Node {
+                kind: *kind,
+                name,
+                content: Content::Near(content),
+            },
+            RowWhat::Far(kind, name, far) => What::Node {
+                kind: *kind,
+                name,
+                content: Content::Far(*far),
+            },
+            RowWhat::Run(count) => What::Run(*count),
+        };
+        Line {
+            depth: depth + self.depth,
+            what,
+        }
+    }
+}
+
+/// What comes in the place of one proxy: proxies, and where a root joins the piece above, its tree among them.
+#[derive(Default)]
+pub struct Row {
+    lines: Vec<RowLine>,
+    proxies: Vec<u8>,
+}
+
+impl Row {
+    pub fn of(proxies: &[Proxy]) -> Row {
+        let mut row = Row::default();
+        for proxy in proxies {
+            row.run(0, &proxy.bytes());
+        }
+        row
+    }
+
+    /// Its one proxy, where there is nothing else.
+    pub fn only(&self) -> Option<Proxy> {
+        match self.lines[..] {
+            [RowLine { what: RowWhat::Run(1), .. }] => Some(Proxy::read(&self.proxies)),
+            _ => None,
+        }
+    }
+}
+
+impl Sink for Row {
+    fn node(&mut self, depth: usize, what: What) {
+        let what = match what {
+            What::Node {
+                kind,
+                name,
+                content: Content::Near(content),
+            } => RowWhat::Near(kind, name.to_vec(), content.to_vec()),
+            What::Node {
+                kind,
+                name,
+                content: Content::Far(far),
+            } => RowWhat::Far(kind, name.to_vec(), far),
+            What::Run(count) => RowWhat::Run(count),
+        };
+        self.lines.push(RowLine { depth, what });
+    }
+
+    fn run(&mut self, depth: usize, proxies: &[u8]) {
+        let more = (proxies.len() / PROXY) as u32;
+        self.proxies.extend_from_slice(proxies);
+        match self.lines.last_mut() {
+            Some(RowLine {
+                depth: last,
+                what: RowWhat::Run(count),
+            }) if *last == depth => *count += more,
+            _ => self.lines.push(RowLine {
+                depth,
+                what: RowWhat::Run(more),
+            }),
+        }
+    }
+}
+
 /// A node to which children come.
 struct Open {
     /// Where the number of its child items is to be put.
@@ -143,7 +267,27 @@ impl Writer {
         }
     }
 
-    pub fn node(&mut self, depth: usize, what: What) {
+    /// Closes the nodes that no line of this depth stands below.
+    fn close(&mut self, depth: usize) {
+        for node in self.open.drain(depth..) {
+            self.piece.set_items(node.at, node.items);
+        }
+    }
+
+    /// Nothing more comes.
+    pub fn finish(&mut self) {
+        self.close(0);
+    }
+
+    pub fn clear(&mut self) {
+        self.piece.clear();
+        self.roots = 0;
+        self.open.clear();
+    }
+}
+
+impl Sink for Writer {
+    fn node(&mut self, depth: usize, what: What) {
         let What::Node {
             kind,
             name,
@@ -168,7 +312,7 @@ impl Writer {
         });
     }
 
-    pub fn run(&mut self, depth: usize, proxies: &[u8]) {
+    fn run(&mut self, depth: usize, proxies: &[u8]) {
         self.close(depth);
         let Some(parent) = self.open.last_mut().filter(|_| !proxies.is_empty()) else {
             return;
@@ -178,23 +322,5 @@ impl Writer {
             self.piece.push_run()
         });
         self.piece.push_proxies(run, proxies);
-    }
-
-    /// Closes the nodes that no line of this depth stands below.
-    fn close(&mut self, depth: usize) {
-        for node in self.open.drain(depth..) {
-            self.piece.set_items(node.at, node.items);
-        }
-    }
-
-    /// Nothing more comes.
-    pub fn finish(&mut self) {
-        self.close(0);
-    }
-
-    pub fn clear(&mut self) {
-        self.piece.clear();
-        self.roots = 0;
-        self.open.clear();
     }
 }

@@ -3,7 +3,7 @@
 use crate::Failure;
 use crate::catalog::Entry;
 use crate::dividing::{add, divide};
-use crate::draft::{Draft, Line, Writer};
+use crate::draft::{Draft, Line, Row, Writer};
 use crate::fields::write_path;
 use crate::piece::{Content, Item, Piece, Proxy, What};
 use crate::pyx::{CONTENT_LIMIT, DEPTH_LIMIT, NODE_LIMIT};
@@ -61,9 +61,9 @@ pub fn edit(
         gone: 0,
         writer: Writer::new(),
     };
-    let row = editing.interval(root_of(entry.root), None, 0, way)?;
-    match row[..] {
-        [Proxy { place, roots: 1 }] => Ok(Entry {
+    let row = editing.interval(root_of(entry.root), None, 0, 0, way)?;
+    match row.only() {
+        Some(Proxy { place, roots: 1 }) => Ok(Entry {
             root: place,
             nodes: entry.nodes + comes - editing.gone,
         }),
@@ -137,15 +137,14 @@ struct Editing<'a> {
     writer: Writer,
 }
 
-type Row = Vec<Proxy>;
-
 impl Editing<'_> {
     /// Edits below or in an interval, from one of its members on, and answers what comes in its place. `above` is the
-    /// node above it.
+    /// node above it, and `room` what that node's part may still weigh.
     fn interval(
         &mut self,
         at: Proxy,
         above: Option<Named>,
+        room: u32,
         member: u32,
         path: &[u32],
     ) -> Result<Row, Stop> {
@@ -154,20 +153,23 @@ impl Editing<'_> {
         let way = way(&piece, member, path);
         match way.child {
             Child::Here(item) => match self.change {
-                Change::Content(content) => self.retext(&stored, &piece, item, content, above),
-                Change::Comes(node) => self.insert(&stored, &piece, item, node, above),
-                Change::Goes => self.delete(&stored, &piece, item, above),
+                Change::Content(content) => {
+                    self.retext(&stored, &piece, item, content, above, room)
+                }
+                Change::Comes(node) => self.insert(&stored, &piece, item, node, above, room),
+                Change::Goes => self.delete(&stored, &piece, item, above, room),
             },
             Child::Away(away) => {
                 let below = piece.proxy(away.index);
                 let parent = way.above.map(|item| named(&piece, item));
-                let row = self.interval(below, parent, away.member, way.rest)?;
-                if row == [below] {
-                    return Ok(vec![at]);
+                let inner = self.room_in(&piece);
+                let row = self.interval(below, parent, inner, away.member, way.rest)?;
+                if row.only() == Some(below) {
+                    return Ok(Row::of(&[at]));
                 }
                 let mut draft = Draft::new(&piece);
                 draft.replace_proxy(away.run, away.index, &row);
-                Ok(self.put(&stored, &mut draft, above)?)
+                Ok(self.put(&stored, &mut draft, above, room)?)
             }
             Child::Nowhere => match self.change {
                 Change::Content(content) if content.len() > CONTENT_LIMIT => {
@@ -185,6 +187,7 @@ impl Editing<'_> {
         item: u32,
         content: &'p [u8],
         above: Option<Named>,
+        room: u32,
     ) -> Result<Row, Stop> {
         let (kind, name) = named(piece, item);
         if name.len() + content.len() > CONTENT_LIMIT {
@@ -201,7 +204,7 @@ impl Editing<'_> {
         self.check_weight(what)?;
         let mut draft = Draft::new(piece);
         draft.lines[item as usize].what = what;
-        let row = self.put(stored, &mut draft, above)?;
+        let row = self.put(stored, &mut draft, above, room)?;
         self.remove_contents(&piece.items[item as usize..][..1])?;
         Ok(row)
     }
@@ -212,6 +215,7 @@ impl Editing<'_> {
         piece: &Piece,
         item: u32,
         above: Option<Named>,
+        room: u32,
     ) -> Result<Row, Stop> {
         if self.path.len() == 1 && named(piece, item).0 == Kind::Element {
             return refused("bad-place");
@@ -227,9 +231,9 @@ impl Editing<'_> {
         draft.cut((item, end), proxies);
         if draft.lines.is_empty() {
             self.remove(stored)?;
-            return Ok(Vec::new());
+            return Ok(Row::default());
         }
-        Ok(self.put(stored, &mut draft, above)?)
+        Ok(self.put(stored, &mut draft, above, room)?)
     }
 
     /// Puts a node below the one that is this item.
@@ -240,6 +244,7 @@ impl Editing<'_> {
         parent: u32,
         node: &'p Node,
         above: Option<Named>,
+        room: u32,
     ) -> Result<Row, Stop> {
         let position = *self.path.last().expect("a path to a child");
         let gap = gap_at(piece, parent, position);
@@ -254,28 +259,44 @@ impl Editing<'_> {
             content: Content::Near(&node.content),
         };
         self.check_weight(what)?;
+        let around = named(piece, parent);
+        let asked = self.rules.asked(around, what.named());
+        let row = match &gap {
+            Gap::Within(away) => {
+                let inner = self.room_in(piece);
+                let proxy = piece.proxy(away.index);
+                Some(self.within(proxy, away.member, asked, what, around, inner)?)
+            }
+            Gap::Between { .. } => None,
+        };
         let mut draft = Draft::new(piece);
-        self.plant(piece, parent, gap, what, &mut draft)?;
-        Ok(self.put(stored, &mut draft, above)?)
+        self.plant(piece, parent, gap, row.as_ref(), asked, what, &mut draft)?;
+        Ok(self.put(stored, &mut draft, above, room)?)
+    }
+
+    /// What the part of a piece may still weigh.
+    fn room_in(&self, piece: &Piece) -> u32 {
+        let weight: u32 = piece.items.iter().map(|item| item.what.weight()).sum();
+        u32::from(self.records.head.k).saturating_sub(weight)
     }
 
     /// Puts a node into a gap between the children of the one that is this item: into the draft of the piece, where
-    /// it isn't for another record.
+    /// it isn't for another record. Of an interval that it falls into this row comes in the place of its proxy.
     fn plant<'p>(
         &mut self,
-        piece: &Piece<'p>,
+        piece: &Piece,
         parent: u32,
         gap: Gap,
+        row: Option<&'p Row>,
+        asked: Asked,
         what: What<'p>,
         draft: &mut Draft<'p>,
     ) -> Result<(), Failure> {
-        let around = named(piece, parent);
-        let asked = self.rules.asked(around, what.named());
         let depth = draft.lines[parent as usize].depth + 1;
         match gap {
             Gap::Within(away) => {
-                let row = self.within(piece.proxy(away.index), away.member, asked, what, around)?;
-                draft.replace_proxy(away.run, away.index, &row);
+                let row = row.expect("a row for the interval");
+                draft.replace_proxy(away.run, away.index, row);
                 if asked == Asked::Cluster {
                     let before = away.index - piece.proxies_before(away.run);
                     draft.plant(away.run, before + 1, Line { depth, what });
@@ -300,6 +321,7 @@ impl Editing<'_> {
         asked: Asked,
         what: What,
         above: Named,
+        room: u32,
     ) -> Result<Row, Failure> {
         let stored = Stored::read(self.records, proxy)?;
         let piece = stored.piece()?;
@@ -307,7 +329,7 @@ impl Editing<'_> {
         let root = root_item(&piece, member);
         if asked == Asked::Free {
             draft.plant(root, 0, Line { depth: 0, what });
-            return self.put(&stored, &mut draft, Some(above));
+            return self.put(&stored, &mut draft, Some(above), room);
         }
         let end = piece.items.len() as u32;
         let (lines, proxies) = (
@@ -322,7 +344,7 @@ impl Editing<'_> {
             row.push(self.alone(what)?);
         }
         row.push(self.add(&mut behind)?);
-        Ok(row)
+        Ok(Row::of(&row))
     }
 
     /// Puts the record of a node that is an interval alone.
@@ -427,7 +449,7 @@ impl Editing<'_> {
     }
 
     /// Takes the records of intervals away, and all below them.
-    fn remove_row(&mut self, mut row: Row) -> Result<(), Failure> {
+    fn remove_row(&mut self, mut row: Vec<Proxy>) -> Result<(), Failure> {
         while let Some(proxy) = row.pop() {
             let stored = Stored::read(self.records, proxy)?;
             let piece = stored.piece()?;
@@ -471,18 +493,19 @@ impl Editing<'_> {
         stored: &Stored,
         draft: &mut Draft,
         above: Option<Named>,
+        room: u32,
     ) -> Result<Row, Failure> {
         let k = self.records.head.k.into();
         draft.make_far(self.records)?;
         if draft.weight() <= k {
-            return Ok(vec![self.replace(stored, draft)?]);
+            return Ok(Row::of(&[self.replace(stored, draft)?]));
         }
         if draft.lines.iter().any(|line| line.what.weight() > k) {
             return Err(Failure::Damaged(stored.proxy.place.page));
         }
         self.records.remove(stored.proxy.place)?;
         let list = stored.list.as_ref();
-        divide(self.records, self.rules, draft, above, list)
+        divide(self.records, self.rules, draft, above, room, list)
     }
 
     fn replace(&mut self, stored: &Stored, draft: &Draft) -> Result<Proxy, Failure> {

@@ -219,6 +219,14 @@ impl<'a> What<'a> {
         }
     }
 
+    /// How many proxies it stands for.
+    pub fn proxies(&self) -> u32 {
+        match *self {
+            What::Node { .. } => 0,
+            What::Run(count) => count,
+        }
+    }
+
     /// In slots of 8 bytes; proxies weigh nothing.
     pub fn weight(&self) -> u32 {
         match self {

@@ -27,8 +27,9 @@ pub enum Cut {
 
 /// How each node stands in the split of a part that is too heavy and none of whose nodes is. Where no part of the
 /// separator's plan weighs more than `k`, it is that; else a plan whose neighbours don't fit together, and that cuts
-/// no cluster edge where it needn't.
-pub fn split(spots: &[Spot], k: u32, target: u32, tolerance: u32) -> Vec<Cut> {
+/// no cluster edge where it needn't. In the first case the root of the separator stays with the node above, where that
+/// has room for what stays with the root, which isn't standalone.
+pub fn split(spots: &[Spot], room: u32, k: u32, target: u32, tolerance: u32) -> Vec<Cut> {
     let whole: u32 = spots.iter().map(|spot| spot.weight).sum();
     let mut plan = Plan {
         spots,
@@ -45,6 +46,8 @@ pub fn split(spots: &[Spot], k: u32, target: u32, tolerance: u32) -> Vec<Cut> {
         plan.cuts.fill(Cut::Begins);
         plan.wish(0, spots.len());
         plan.settle(0, spots.len(), 0);
+    } else {
+        plan.raise(room);
     }
     plan.cuts
 }
@@ -125,6 +128,23 @@ impl Plan<'_> {
             at = next;
         }
         found
+    }
+
+    /// Lets the root of the separator stay with the node above, where it may.
+    fn raise(&mut self, room: u32) {
+        let (mut at, mut begins) = (0, 0);
+        while at < self.spots.len() {
+            let (spot, next) = (&self.spots[at], self.end(at));
+            let ends = begins + spot.within;
+            if begins <= self.point && self.point < ends && spot.within > self.tolerance {
+                let own = spot.weight + self.weigh(at + 1, next).left;
+                if spot.asked != Asked::Standalone && own <= room {
+                    self.cuts[at] = Cut::Stays;
+                }
+                return;
+            }
+            (at, begins) = (next, ends);
+        }
     }
 
     fn stays(&self, at: usize) -> bool {
