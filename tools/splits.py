@@ -52,6 +52,14 @@ class Law:
     def is_left(self, spot, point):
         return spot.ends <= point
 
+    def room(self, k, weight):
+        """What the part above a heavy one has left."""
+        return k - weight
+
+    def may_be_raised(self, entry, weight, room):
+        """Whether a root of the separator joins the part above, by what its part weighs in the plan."""
+        return entry != "standalone" and weight <= room
+
     def do_not_fit(self, weight, k):
         return weight > k
 
@@ -61,12 +69,12 @@ class Law:
 
 
 class Part:
-    """The interval of children of a node, from a first to a last one, and the weight of its part. That of the root has no node."""
+    """The interval of children of a node, from a first to a last one, the part that the node is in, and the weight of its own part. That of the root has no node, and none above."""
 
-    __slots__ = ("node", "path", "first", "last", "weight")
+    __slots__ = ("node", "path", "first", "last", "above", "weight")
 
-    def __init__(self, node, path, first, last):
-        self.node, self.path, self.first, self.last, self.weight = node, path, first, last, 0
+    def __init__(self, node, path, first, last, above):
+        self.node, self.path, self.first, self.last, self.above, self.weight = node, path, first, last, above, 0
 
     def key(self):
         return self.path, self.first, self.last
@@ -79,7 +87,7 @@ class Part:
 
 def parts_of(root):
     """The intervals with the weights of their parts, in document order of the first members."""
-    part = Part(None, None, 0, 0)
+    part = Part(None, None, 0, 0, None)
     part.weight = root.weight
     return add_parts(root, b"", part, [part])
 
@@ -89,7 +97,7 @@ def add_parts(node, path, own, found):
     run, inside = next(runs, None), None
     for at, child in enumerate(node.children):
         if run and at == run[0]:
-            inside = Part(node, path, *run)
+            inside = Part(node, path, *run, own)
             found.append(inside)
         owner = inside or own
         owner.weight += child.weight
@@ -148,6 +156,7 @@ class Sketch:
 
     def __init__(self, model, root, part):
         self.model, self.k, self.law = model, model.k, model.law
+        self.room = self.law.room(self.k, part.above.weight) if part.above else 0
         self.helper = Spot(0, 0, "free", None)
         self.spots, self.weight = [], 0
         if part.node is None:
@@ -217,13 +226,20 @@ class Sketch:
     def component(self, spot):
         return spot.weight + sum(self.component(child) for child in spot.children if child.entry == "cluster")
 
+    def raised(self, weights):
+        """The interval of the root that joins the part above, by what the parts of the separator's plan weigh: a set with it, or an empty one."""
+        roots = ((spot.entry, (self.helper.path, spot.position, spot.position)) for spot in self.helper.children if spot.marked)
+        return {interval for entry, interval in roots if self.law.may_be_raised(entry, weights[interval], self.room)}
+
     def check(self, plan, seen):
         """Says by `Wrong` why these intervals, each of the part's nodes, are no split."""
         separators = self.separators_plan()
-        if max(self.weights(separators).values()) <= self.k:
-            seen["splits by the separator"] += 1
-            if plan != separators:
-                raise Wrong(f"the split {shown(plan)} isn't the separator's plan {shown(separators)}")
+        weights = self.weights(separators)
+        if max(weights.values()) <= self.k:
+            raised = self.raised(weights)
+            seen["splits by the separator" + (", which joins the part above" if raised else "")] += 1
+            if plan != separators - raised:
+                raise Wrong(f"the split {shown(plan)} isn't the separator's plan {shown(separators)} without {shown(raised) or 'any'}")
             return
         seen["splits of another kind"] += 1
         weights = self.weights(plan)
