@@ -302,6 +302,43 @@ fn intervals_are_divided_or_joined(rt: HostRuntime) -> Result<(), Fail> {
     check_light(&rt, rt.alloc(), &DIVIDES, DIVIDED)
 }
 
+// An element with one below it over six texts, in a part beside the document's node.
+const NESTED: &[u8] =
+    b"load d\n(a\n(b\n-12345678\n-12345678\n-12345678\n-12345678\n-12345678\n-12345678\n)b\n)a\n.\n";
+
+const RAISES: [&[u8]; 4] = [
+    NESTED,
+    b"layout d\n",
+    b"insert d /0/0/6 -12345678\n",
+    b"layout d\n",
+];
+
+const RAISED: &[u8] =
+    b"ok 9 2\nroot 1\nrun / 0 0 16\n.\nok\nroot 5\nrun /0/0 0 1 4\nrun /0/0 2 6 10\n.\n";
+
+// The separator joins the part of the document's node, which has room.
+#[test]
+fn separators_join_the_part_above(rt: HostRuntime) -> Result<(), Fail> {
+    check_light(&rt, rt.alloc(), &RAISES, RAISED)
+}
+
+const STAYS: [&[u8]; 5] = [
+    b"rule #doc a standalone\n",
+    NESTED,
+    b"layout d\n",
+    b"insert d /0/0/6 -12345678\n",
+    b"layout d\n",
+];
+
+const STAYED: &[u8] =
+    b"ok\nok 9 2\nroot 1\nrun / 0 0 16\n.\nok\nroot 1\nrun / 0 0 4\nrun /0/0 0 1 4\nrun /0/0 2 6 10\n.\n";
+
+// A root that is to be alone doesn't.
+#[test]
+fn standalone_separators_stay(rt: HostRuntime) -> Result<(), Fail> {
+    check_light(&rt, rt.alloc(), &STAYS, STAYED)
+}
+
 const EDITS: [&[u8]; 13] = [
     b"load e\n(a\nAx 1\n-hi\n)a\n.\n",
     b"insert e /0/1 Ax 2\n",
