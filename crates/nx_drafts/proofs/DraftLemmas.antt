@@ -156,16 +156,16 @@ all_held h raised base position (Stands r m s) d f =
     subst (λ (i : ℕ). AreHeldBut raised i s) (let e : position + width (without_places m) ≡ position + width m = omega (arith, w) in e)
     (all_held h raised (base + 1 + cuts (without_places m)) (position + width (without_places m)) s d.1
     (λ step o none.
-        let same : position + (width m + step) ≡ position + width (without_places m) + step = omega (arith, w) in
-        f (width m + step) (omega arith, subst (λ (i : ℕ). OpenRow i (λ b. Unit {0}) (layout_before s)) (let e : step ≡ width m + step - width m = omega arith in e) o)
-        (ap (λ (i : ℕ). h (i ∷ [])) same ∙ none)
-        ∙ ap Some same))
+    let same : position + (width m + step) ≡ position + width (without_places m) + step = omega (arith, w) in
+    f (width m + step) (omega arith, subst (λ (i : ℕ). OpenRow i (λ b. Unit {0}) (layout_before s)) (let e : step ≡ width m + step - width m = omega arith in e) o)
+    (ap (λ (i : ℕ). h (i ∷ [])) same ∙ none)
+    ∙ ap Some same))
 all_held h raised base position (Comes u m s) d f =
     let w = width-layout_before m in
     all_held h raised (base + 1 + cuts (drawn_forest m)) (position + width (drawn_forest m)) s d.1
     (λ step o none.
-        let same : position + (width (layout_before m) + step) ≡ position + width (drawn_forest m) + step = omega (arith, w) in
-        f (width (layout_before m) + step) (open_behind (λ b. Unit {0}) step (layout_before m) (layout_before s) o) (ap (λ (i : ℕ). h (i ∷ [])) same ∙ none) ∙ ap Some same)
+    let same : position + (width (layout_before m) + step) ≡ position + width (drawn_forest m) + step = omega (arith, w) in
+    f (width (layout_before m) + step) (open_behind (λ b. Unit {0}) step (layout_before m) (layout_before s) o) (ap (λ (i : ℕ). h (i ∷ [])) same ∙ none) ∙ ap Some same)
 
 held_any : (parts : List Interval) (x : Interval) (q : List ℕ) → Contains parts x → IsTrue (has_member x q) → any_holds parts q ≡ false → ⊥
 held_any [] x q c t none = let lt = c.1 in absurd (omega arith)

@@ -138,7 +138,10 @@ fn entries_by_labels(rt: HostRuntime) -> Result<(), Fail> {
         panic!(rt; "no piece was divided");
     };
     let want = [0, 0, 0, 2, 0, 0, 0, 0];
-    assert_eq!(rt; numbers(alloc, &division.parts)?.as_slice(), want.as_slice());
+    assert_eq!(rt;
+        numbers(alloc, &division.parts)?.as_slice(),
+        want.as_slice()
+    );
     Ok(())
 }
 

@@ -129,9 +129,7 @@ fn divide_piece(
     if heavy <= k || !are_light(k, piece.body.roots.as_slice()) {
         return Ok(None);
     }
-    Ok(Some(split(
-        alloc, piece, above, room, matrix, k, target, tolerance,
-    )?))
+    Ok(Some(split(alloc, piece, above, room, matrix, k, target, tolerance)?))
 }
 
 // Whether no node of these trees weighs more than k.
