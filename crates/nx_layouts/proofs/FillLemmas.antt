@@ -1,5 +1,5 @@
 -- Rows in which an interval is replaced.
-use Rattle.std.proofs.Common.{ℕ, zero, suc, ◌-◌, ◌≤◌, nat_lt, if◌then◌else◌, true, false, List, ◌++◌, length, ◌≡◌, refl, sym, ap, ◌∙◌, subst}
+use Rattle.std.proofs.Common.{ℕ, zero, suc, ◌-◌, ◌≤◌, nat_lt, if◌then◌else◌, true, false, List, ◌++◌, length, ◌≡◌, refl, sym, ap, ◌∙◌, subst, arith}
 use Rattle.std.specs.Option.{option_to_list}
 use Rattle.nx_cuts.specs.Cut.{Bare, Grown, Kept}
 use Rattle.nx_piece.specs.declared.piece.Far.{Far}
@@ -9,7 +9,7 @@ use Rattle.nx_layouts.specs.Layout.{Layout, in_record, AreLaidParts, gap_more, p
 use Rattle.nx_layouts.specs.Replace.{replaced_at}
 use Rattle.nx_layouts.specs.Cutting.{RowIsFilled, IntervalIsLight}
 use Rattle.nx_layouts.proofs.DrawnLemmas.{drawn_wide, drawn_free, free_drawn}
-use Rattle.nx_layouts.proofs.ReplaceLemmas.{held_filled, held_hole, light_joined, light_filled, free_filled, wide_filled, heavy_filled}
+use Rattle.nx_layouts.proofs.ReplaceLemmas.{held_filled, held_hole, light_joined, light_filled, free_filled, wide_filled, heavy_filled, weight_filled}
 
 -- what is light without the interval and of what comes is so together
 pub parts_filled : (k index : ℕ) (left row : Layout) → AreLaidParts k (replaced_at index Bare row) → AreLaidParts k left → AreLaidParts k (replaced_at index left row)
@@ -54,12 +54,12 @@ row_is_filled k index left row = record {
 }
 
 pub interval_is_light : IntervalIsLight
-interval_is_light k index place new left members h e none =
+interval_is_light k index place new left members h e room =
     let free = drawn_free members h.1 in
     let now : Layout = replaced_at index left members in (
       subst (λ (w : ℕ). 1 ≤ w) (sym (drawn_wide now ∙ wide_filled index left members free ∙ sym (drawn_wide members))) h.0,
       free_drawn now (free_filled index left members free),
-      subst (λ (w : ℕ). w ≤ k) (sym (heavy_filled index left members none)) h.2,
+      (let w = weight_filled index left members in omega (arith, w, room)),
       light_filled k index left members h.3 e,
       tt,
     )

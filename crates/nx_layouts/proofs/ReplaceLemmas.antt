@@ -1,10 +1,12 @@
 -- One interval replaced by several, in the proxies and in what is held.
-use Rattle.std.proofs.Common.{◌≡◌, ℕ, zero, suc, ◌+◌, ◌-◌, ◌<◌, ◌≤◌, nat_lt, if◌then◌else◌, Bool, true, false, List, [], ◌∷◌, ◌++◌, length, take, drop, Some, refl, sym, ap, ◌∙◌, arith, length-append, append_assoc}
+use Rattle.std.proofs.Common.{◌≡◌, ℕ, zero, suc, ◌+◌, ◌-◌, ◌<◌, ◌≤◌, nat_lt, if◌then◌else◌, Bool, true, false, List, [], ◌∷◌, ◌++◌, length, take, drop, Some, refl, sym, ap, ◌∙◌, arith, length-append, append_assoc, inl, inr}
 use Rattle.std.proofs.lemmas.Grind.{common_steps}
+use Rattle.std.proofs.lemmas.Bool.{cases_lt}
 use Rattle.std.proofs.lemmas.Bool.Decides.{nat_tests}
 use Rattle.std.proofs.Math.Seq.{take-append-add, drop-append-add}
 use Rattle.nx_tree.specs.Forest.{Plant}
 use Rattle.nx_piece.specs.declared.piece.Proxy.{Proxy}
+use Rattle.nx_piece_edits.proofs.LeftLemmas.{less_is, not_less}
 use Rattle.nx_weights.specs.Weight.{weight}
 use Rattle.nx_cuts.specs.Cut.{Bare, Grown, Kept, joined, width, AreFree}
 use Rattle.nx_cuts.proofs.RowLemmas.{joined_assoc}
@@ -87,15 +89,31 @@ weight_joined Bare b = omega arith
 weight_joined (Grown n d s) b = let e = weight_joined s b in omega (arith, e)
 weight_joined (Kept p m s) b = weight_joined s b
 
-pub heavy_filled : (index : ℕ) (left row : Layout) → laid_weight left ≡ 0 → laid_weight (replaced_at index left row) ≡ laid_weight row
-heavy_filled index left Bare e = refl
-heavy_filled index left (Grown n b s) e =
-    elim (nat_lt index (length (proxies_of b))) as (λ t. laid_weight (if t then Grown n (replaced_at index left b) s else Grown n b (replaced_at (index - length (proxies_of b)) left s)) ≡ weight n.node + laid_weight b + laid_weight s) [
-      | true ↦ ap (λ (w : ℕ). weight n.node + w + laid_weight s) (heavy_filled index left b e)
-      | false ↦ ap (λ (w : ℕ). weight n.node + laid_weight b + w) (heavy_filled (index - length (proxies_of b)) left s e)
+pub heavy_filled : (index : ℕ) (left row : Layout) → index < length (proxies_of row) → laid_weight (replaced_at index left row) ≡ laid_weight row + laid_weight left
+heavy_filled index left Bare h = absurd (omega (arith, h))
+heavy_filled index left (Grown n b s) h =
+    let l = length-append (proxies_of b) (proxies_of s) in
+    elim (cases_lt index (length (proxies_of b))) [
+      | inl here ↦
+          let e = ap laid_weight (less_is index (length (proxies_of b)) (Grown n (replaced_at index left b) s) (Grown n b (replaced_at (index - length (proxies_of b)) left s)) here) in
+          let f = heavy_filled index left b here in omega (arith, e, f)
+      | inr behind ↦
+          let e = ap laid_weight (not_less index (length (proxies_of b)) (Grown n (replaced_at index left b) s) (Grown n b (replaced_at (index - length (proxies_of b)) left s)) behind) in
+          let f = heavy_filled (index - length (proxies_of b)) left s (omega (arith, l, h, behind)) in omega (arith, e, f)
     ]
-heavy_filled zero left (Kept p m s) e = let f = weight_joined left s in omega (arith, e, f)
-heavy_filled (suc index) left (Kept p m s) e = heavy_filled index left s e
+heavy_filled zero left (Kept p m s) h = let f = weight_joined left s in omega (arith, f)
+heavy_filled (suc index) left (Kept p m s) h = heavy_filled index left s (omega (arith, h))
+
+-- where no interval has that index nothing comes
+pub weight_filled : (index : ℕ) (left row : Layout) → laid_weight (replaced_at index left row) ≤ laid_weight row + laid_weight left
+weight_filled index left Bare = omega arith
+weight_filled index left (Grown n b s) =
+    elim (nat_lt index (length (proxies_of b))) as (λ t. laid_weight (if t then Grown n (replaced_at index left b) s else Grown n b (replaced_at (index - length (proxies_of b)) left s)) ≤ weight n.node + laid_weight b + laid_weight s + laid_weight left) [
+      | true ↦ let f = weight_filled index left b in omega (arith, f)
+      | false ↦ let f = weight_filled (index - length (proxies_of b)) left s in omega (arith, f)
+    ]
+weight_filled zero left (Kept p m s) = let f = weight_joined left s in omega (arith, f)
+weight_filled (suc index) left (Kept p m s) = weight_filled index left s
 
 same_replaced : (index : ℕ) (new old members : Layout) → kept_at index old ≡ Some members → laid_forest new ≡ laid_forest members → laid_forest (replaced_at index new old) ≡ laid_forest old
 same_replaced index new Bare members e f = refl
@@ -169,7 +187,7 @@ replaces index old new h = record {
   light = λ k. light_filled k index new old;
   free = free_filled index new old;
   wide = wide_filled index new old;
-  heavy = heavy_filled index new old;
+  heavy = heavy_filled index new old h;
   same = same_replaced index new old;
   changes = nodes_replaced index new old;
 }

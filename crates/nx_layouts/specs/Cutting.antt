@@ -6,9 +6,9 @@ use Rattle.nx_tree.specs.Edit.{child, at}
 use Rattle.nx_piece.specs.declared.piece.Piece.{Piece}
 use Rattle.nx_piece.specs.declared.piece.Proxy.{Proxy}
 use Rattle.std.specs.List.{sum_by}
-use Rattle.nx_piece.specs.Gapped.{GappedTree, End, Grow, Gap, gapped_nodes, proxies_in}
+use Rattle.nx_piece.specs.Gapped.{GappedTree, End, Grow, gapped_nodes, proxies_in}
 use Rattle.nx_piece.specs.Locate.{Inside, Outside, Missing, reached_in}
-use Rattle.nx_piece_edits.specs.Cutting.{without_tree, without_proxy, with_row}
+use Rattle.nx_piece_edits.specs.Cutting.{without_tree, without_proxy, with_items_at}
 use Rattle.nx_piece.specs.Contents.{fars_in}
 use Rattle.nx_cuts.specs.Cut.{Bare, Grown, Kept, width, AreFree}
 use Rattle.nx_layouts.specs.Layout.{RecordPlace, LaidNode, Layout, Stock, in_record, laid_forest, laid_weight, AreLaidParts, piece_body, piece_of, proxies_of, proxy_of, places_of, nodes_in, AreHeld}
@@ -80,11 +80,11 @@ pub record GoesWithTree (k position : ℕ) (path : List ℕ) (row : Layout) : Ty
 abbrev pub TreeGoesOut : Type 0
 TreeGoesOut = (k position : ℕ) (path : List ℕ) (row : Layout) → StaysIn position path row → GoesWithTree k position path row
 
--- Where one interval stands in the place of another, the record has the same nodes and gaps; where none does, it has one proxy less. Where some come that stand beside each other, with no tree between them, it has as many proxies in the place of the one.
+-- Where one interval stands in the place of another, the record has the same nodes and gaps; where none does, it has one proxy less. Where a row comes in its place, it has what a record has of that row in the place of the proxy.
 pub record RunsStay (index : ℕ) (row : Layout) : Type 0 where
   pub one : (place : RecordPlace) (members : Layout) → piece_body (replaced_at index (Kept place members Bare) row) ≡ piece_body row
   pub none : piece_body (replaced_at index Bare row) ≡ without_proxy index (piece_body row)
-  pub many : (new : Layout) → piece_body new ≡ Gap (length (proxies_of new)) End → 1 ≤ length (proxies_of new) → piece_body (replaced_at index new row) ≡ with_row index (length (proxies_of new)) (piece_body row)
+  pub many : (new : Layout) → piece_body (replaced_at index new row) ≡ with_items_at index (piece_body new) (piece_body row)
 
 abbrev pub RunsAfter : Type 0
 RunsAfter = (index : ℕ) (row : Layout) → index < length (proxies_of row) → RunsStay index row
@@ -112,8 +112,8 @@ pub record StandsIn (k index : ℕ) (inside row : Layout) : Type 0 where
 abbrev pub IntervalStandsIn : Type 0
 IntervalStandsIn = (k index member : ℕ) (rest : List ℕ) (inside : Layout) (position : ℕ) (path : List ℕ) (row : Layout) → LeadsInto index member rest inside position path row → StandsIn k index inside row
 
--- A row in which an interval is replaced: what is held and light without it and of what comes is so together, and what was held and light is so without it. A free row stays free,
--- as wide and as heavy. The far contents of the record stay where the interval goes.
+-- A row in which an interval is replaced: what is held and light without it and of what comes is so together, and what was held and light is so without it. A free row stays free
+-- and as wide, and weighs as much more as what comes. The far contents of the record stay where the interval goes.
 pub record IsFilled (k index : ℕ) (left row : Layout) : Type 0 where
   pub held : (stock : Stock) → AreHeld stock (replaced_at index Bare row) → AreHeld stock left → AreHeld stock (replaced_at index left row)
   pub hole : (stock : Stock) → AreHeld stock row → AreHeld stock (replaced_at index Bare row)
@@ -121,15 +121,15 @@ pub record IsFilled (k index : ℕ) (left row : Layout) : Type 0 where
   pub hole_light : AreLaidParts k row → AreLaidParts k (replaced_at index Bare row)
   pub free : AreFree row → AreFree (replaced_at index left row)
   pub wide : AreFree row → width (replaced_at index left row) ≡ width row
-  pub heavy : laid_weight left ≡ 0 → laid_weight (replaced_at index left row) ≡ laid_weight row
+  pub heavy : index < length (proxies_of row) → laid_weight (replaced_at index left row) ≡ laid_weight row + laid_weight left
   pub own : fars_in (piece_body (replaced_at index Bare row)) ≡ fars_in (piece_body row)
 
 abbrev pub RowIsFilled : Type 0
 RowIsFilled = (k index : ℕ) (left row : Layout) → IsFilled k index left row
 
--- An interval with something replaced in its row is light where it was and where what comes is.
+-- An interval with something replaced in its row is light where it was and where what comes is, for which it has room.
 abbrev pub IntervalIsLight : Type 0
-IntervalIsLight = (k index : ℕ) (place new : RecordPlace) (left members : Layout) → AreLaidParts k (Kept place members Bare) → AreLaidParts k left → laid_weight left ≡ 0
+IntervalIsLight = (k index : ℕ) (place new : RecordPlace) (left members : Layout) → AreLaidParts k (Kept place members Bare) → AreLaidParts k left → laid_weight left + laid_weight members ≤ k
     → AreLaidParts k (Kept new (replaced_at index left members) Bare)
 
 -- the tree where a path leads that begins at one of these trees

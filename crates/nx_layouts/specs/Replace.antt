@@ -37,8 +37,8 @@ above_at zero above (Kept place members beside) = above
 above_at (suc index) above (Kept place members beside) = above_at index above beside
 
 -- What a record has after one of its proxies was replaced by several, where these hold the same trees. What is held but that interval, with what is held of the
--- others, is held so, and so is what is light. The nodes of the others stand in the place of its own. Where no tree stands outside of the intervals, the row is
--- as wide, and as heavy where none does in the new ones.
+-- others, is held so, and so is what is light. The nodes of the others stand in the place of its own. The row weighs as much more as the trees that come outside of
+-- intervals, and where all of its own did it is as wide.
 pub record Replaces (index : ℕ) (old new : Layout) : Type 0 where
   pub proxies_are : proxies_of (replaced_at index new old) ≡ take index (proxies_of old) ++ proxies_of new ++ drop (index + 1) (proxies_of old)
   pub beside : (stock : Stock) → AreHeld stock old → AreHeld stock (replaced_at index Bare old)
@@ -46,7 +46,7 @@ pub record Replaces (index : ℕ) (old new : Layout) : Type 0 where
   pub light : (k : ℕ) → AreLaidParts k old → AreLaidParts k new → AreLaidParts k (replaced_at index new old)
   pub free : AreFree old → AreFree (replaced_at index new old)
   pub wide : AreFree old → width (replaced_at index new old) ≡ width old
-  pub heavy : laid_weight new ≡ 0 → laid_weight (replaced_at index new old) ≡ laid_weight old
+  pub heavy : laid_weight (replaced_at index new old) ≡ laid_weight old + laid_weight new
   pub same : (members : Layout) → kept_at index old ≡ Some members → laid_forest new ≡ laid_forest members → laid_forest (replaced_at index new old) ≡ laid_forest old
   pub changes : (members : Layout) → kept_at index old ≡ Some members → NodesChange (nodes_in old) (nodes_in (replaced_at index new old)) (nodes_in members) (nodes_in new)
 

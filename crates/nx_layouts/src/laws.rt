@@ -39,8 +39,8 @@ pub fn held_stays()
 {}
 
 /// Where one interval of a piece is replaced by others, just its proxy is replaced by theirs. With these held, and all
-/// but that interval, the new layout is held, and it is light where both are. The row is as wide and as heavy, and with
-/// the same trees in them the forest is the same.
+/// but that interval, the new layout is held, and it is light where both are. The row is as wide, it weighs as much more as
+/// the trees that come outside of intervals, and with the same trees in them the forest is the same.
 pub fn one_for_several()
     ensures { OneForSeveral }
 {}
@@ -58,7 +58,7 @@ pub fn tree_goes_out()
     ensures { TreeGoesOut }
 {}
 
-/// What becomes of the runs of a record where one of its proxies changes or goes, or several come in its place.
+/// What becomes of what a record has where one of its proxies changes or goes, or a row comes in its place.
 pub fn runs_after()
     ensures { RunsAfter }
 {}
@@ -73,7 +73,7 @@ pub fn row_is_filled()
     ensures { RowIsFilled }
 {}
 
-/// An interval in whose row one is replaced by light ones is light.
+/// An interval in whose row one is replaced by light ones, for which it has room, is light.
 pub fn interval_is_light()
     ensures { IntervalIsLight }
 {}

@@ -15,9 +15,9 @@ use Rattle.nx_piece.specs.Contents.{fars_in}
 use Rattle.nx_piece.specs.Gapped.{Gapped, GappedTree, End, Grow, Gap, proxies_in, with_gap}
 use Rattle.nx_piece.specs.Locate.{PieceChild, Inside, roots_of, kept_from, children_of}
 use Rattle.nx_piece.proofs.LocateLemmas.{kept_length}
-use Rattle.nx_piece_edits.specs.Contents.{KeepsContents, BringsContent, EditsKeepContents, EditsBringContent}
+use Rattle.nx_piece_edits.specs.Contents.{KeepsContents, BringsContent, BringsContents, EditsKeepContents, EditsBringContent}
 use Rattle.nx_piece_edits.specs.declared.cutting.Removed.{Removed}
-use Rattle.nx_piece_edits.specs.Cutting.{without_tree, smaller_gap, without_proxy, with_row, IsWithoutTree, IsWithoutProxy, IsWithRow}
+use Rattle.nx_piece_edits.specs.Cutting.{without_tree, smaller_gap, without_proxy, gap_before, joined_items, with_items_at, with_row, IsWithoutTree, IsWithoutProxy, IsWithItems, IsWithRow}
 use Rattle.nx_piece_edits.specs.Dividing.{first_roots, roots_behind, AreDivided}
 use Rattle.nx_piece_edits.specs.Planting.{passed, put_in_gap, put_at, put_below, IsWithNode, IsWithProxyAt, IsWithRoot}
 use Rattle.nx_piece_edits.specs.Setting.{with_tree, node_with_content, with_content, IsWithContent}
@@ -243,6 +243,77 @@ tree_comes node proxies first used position path (Gap c s) t before new e h =
     let own : BringsContent node s (with_tree (position - roots_of (take c (drop first proxies))) path new s (drop c (drop first proxies))) = subst (λ g. BringsContent node s g) (sym d) k in
     record { fars = own.fars; near = own.near }
 
+-- Where items come:
+
+before_stays : (count : ℕ) (f : Gapped) → KeepsContents f (gap_before count f)
+before_stays zero f = all_stay f
+before_stays (suc count) f = stay_gap (suc count) f
+
+none_come : (items f : Gapped) → BringsContents items f f
+none_come items f = record { fars = λ far c. inr c; near = λ own x. x }
+
+items_grown : {items : Gapped} (n : PieceNode) {b s c t : Gapped} → BringsContents items b c → BringsContents items s t → BringsContents items (Grow n b s) (Grow n c t)
+items_grown {items} n {b} {s} {c} {t} h k = record {
+  fars = λ far. either_alike (option_to_list n.far) (fars_in b) (fars_in s) (fars_in c) (fars_in t) far (h.fars far) (k.fars far);
+  near = λ own x. (x.0, h.near own x.1, k.near own x.2);
+}
+
+both_come : (items f : Gapped) → BringsContents items f (joined_items items f)
+both_come End f = none_come End f
+both_come (Grow n b s) f =
+    let rest = both_come s f in
+    record {
+      fars = λ far c. elim (Contains-append_cases (option_to_list n.far) (fars_in b ++ fars_in (joined_items s f)) far c) [
+        | inl mine ↦ inl (Contains-append_left (option_to_list n.far) (fars_in b ++ fars_in s) far mine)
+        | inr others ↦ elim (Contains-append_cases (fars_in b) (fars_in (joined_items s f)) far others) [
+          | inl under ↦ inl (Contains-append_right (option_to_list n.far) (fars_in b ++ fars_in s) far (Contains-append_left (fars_in b) (fars_in s) far under))
+          | inr next ↦ elim (rest.fars far next) [
+            | inl new ↦ inl (Contains-append_right (option_to_list n.far) (fars_in b ++ fars_in s) far (Contains-append_right (fars_in b) (fars_in s) far new))
+            | inr old ↦ inr old
+          ]
+        ]
+      ];
+      near = λ own x. (own.0, own.1, rest.near own.2 x);
+    }
+both_come (Gap c s) f =
+    let rest = both_come s f in
+    let gap = stay_gap c (joined_items s f) in
+    record { fars = λ far x. rest.fars far (gap.fars far x); near = λ own x. gap.near (rest.near own x) }
+
+pub items_leave : (index : ℕ) (items f : Gapped) → BringsContents items f (with_items_at index items f)
+items_leave index items End = none_come items End
+items_leave index items (Grow n b s) =
+    elim (nat_lt index (proxies_in b)) as (λ t. BringsContents items (Grow n b s) (if t then Grow n (with_items_at index items b) s else Grow n b (with_items_at (index - proxies_in b) items s))) [
+      | true ↦ items_grown n (items_leave index items b) (none_come items s)
+      | false ↦ items_grown n (none_come items b) (items_leave (index - proxies_in b) items s)
+    ]
+items_leave index items (Gap had s) =
+    let rest : Gapped = gap_before (had - 1 - index) s in
+    let inner = before_stays (had - 1 - index) s in
+    let both = both_come items rest in
+    let outer = before_stays index (joined_items items rest) in
+    let behind = items_leave (index - had) items s in
+    elim (nat_lt index had) as (λ t. BringsContents items (Gap had s) (if t then gap_before index (joined_items items rest) else Gap had (with_items_at (index - had) items s))) [
+      | true ↦ record {
+        fars = λ far x. elim (both.fars far (outer.fars far x)) [
+          | inl new ↦ inl new
+          | inr old ↦ inr (inner.fars far old)
+        ];
+        near = λ own x. outer.near (both.near own (inner.near x));
+      }
+      | false ↦ record { fars = behind.fars; near = behind.near }
+    ]
+
+-- proxies alone bring none
+pub proxies_bring_none : (count : ℕ) {f g : Gapped} → BringsContents (Gap count End) f g → KeepsContents f g
+proxies_bring_none count h = record {
+  fars = λ far c. elim (h.fars far c) [
+    | inl new ↦ absurd (let less = new.1 in omega (arith, less))
+    | inr old ↦ old
+  ];
+  near = λ x. h.near tt x;
+}
+
 -- What a change of a piece leaves and brings:
 
 set_brings : (piece : Piece) (member : ℕ) (path content : List ℕ) (far : Option Far) (changed : Piece) → (h : IsWithContent piece member path content far changed) → BringsContent (node_with_content content far h.tree.node) piece.body.roots changed.body.roots
@@ -306,5 +377,8 @@ edits_keep_contents = record {
   divided = roots_divided;
 }
 
+items_planted : (piece : Piece) (index : ℕ) (items : Gapped) (proxies : List Proxy) (changed : Piece) → IsWithItems piece index items proxies changed → BringsContents items piece.body.roots changed.body.roots
+items_planted piece index items proxies changed h = subst (λ g. BringsContents items piece.body.roots g) (sym h.body) (items_leave index items piece.body.roots)
+
 pub edits_bring_content : EditsBringContent
-edits_bring_content = record { content_set = set_brings; node_comes = node_planted; root_comes = root_planted }
+edits_bring_content = record { content_set = set_brings; node_comes = node_planted; root_comes = root_planted; items_come = items_planted }

@@ -1,6 +1,7 @@
 pub mod TakeLemmas
 pub mod RootLemmas
 pub mod LeftLemmas
+pub mod JoinedLemmas
 pub mod ShortLemmas
 pub mod SetLemmas
 pub mod WiderLemmas

@@ -1,17 +1,19 @@
--- Runs that get one proxy shorter.
-use Rattle.std.proofs.Common.{◌≡◌, ℕ, zero, suc, ◌+◌, ◌-◌, ◌<◌, ◌≤◌, List, [], ◌∷◌, ◌++◌, length, take, drop, set, refl, sym, ap, ap₂, ◌∙◌, arith}
-use Rattle.std.proofs.lemmas.List.{drop_all, set_split}
+-- Runs that get one proxy shorter, or that items come into.
+use Rattle.std.proofs.Common.{◌≡◌, ℕ, zero, suc, ◌+◌, ◌-◌, ◌<◌, ◌≤◌, List, [], ◌∷◌, ◌++◌, length, take, drop, set, refl, sym, ap, ap₂, ◌∙◌, subst, arith}
+use Rattle.std.proofs.lemmas.List.{drop_all, set_split, take-append-drop}
 use Rattle.nx_piece.specs.PieceNode.{PieceNode}
 use Rattle.nx_piece.specs.declared.piece.Item.{Item}
 use Rattle.nx_piece.specs.declared.piece.Item.TheVariants.{Tree, Run}
-use Rattle.nx_piece.specs.Gapped.{Gapped, GappedTree, Grow, Gap, proxies_in, grown_of}
+use Rattle.nx_piece.specs.Gapped.{Gapped, GappedTree, End, Grow, Gap, proxies_in, grown_of}
 use Rattle.nx_piece.specs.Items.{gapped_of}
-use Rattle.nx_piece_edits.specs.Cutting.{smaller_gap, without_proxy, with_row}
+use Rattle.nx_piece.specs.Valid.{AreApart, BeginsNoGap}
+use Rattle.nx_piece_edits.specs.Cutting.{smaller_gap, without_proxy, gap_before, joined_items, with_items_at}
 use Rattle.nx_piece_edits.specs.Shortening.{grown_before, items_before, IsRootOf, IsItemOf, WithoutRun}
 use Rattle.nx_piece.proofs.FoundLemmas.{take_next}
-use Rattle.nx_piece_edits.proofs.TakeLemmas.{there_within, items_append, gapped_append}
+use Rattle.nx_piece_edits.proofs.TakeLemmas.{there_within, items_append, gapped_append, apart_behind}
 use Rattle.nx_piece_edits.proofs.RootLemmas.{grown_set}
 use Rattle.nx_piece_edits.proofs.LeftLemmas.{less_is, not_less}
+use Rattle.nx_piece_edits.proofs.JoinedLemmas.{closed_joined, apart_joined, apart_before, both_apart}
 
 -- with another item in the place of one
 pub item_set : (items : List Item) (i : ℕ) (x : Item) → i < length items → gapped_of (set items i x) ≡ items_before (take i items) (gapped_of (x ∷ drop (i + 1) items))
@@ -24,10 +26,10 @@ item_set items i x within =
 pub record IsOnItems (items : List Item) (index left place : ℕ) : Type 0 where
   pub within : left < proxies_in (gapped_of (drop place items))
   pub same : without_proxy index (gapped_of items) ≡ items_before (take place items) (without_proxy left (gapped_of (drop place items)))
-  pub grows : (count : ℕ) → with_row index count (gapped_of items) ≡ items_before (take place items) (with_row left count (gapped_of (drop place items)))
+  pub grows : (row : Gapped) → with_items_at index row (gapped_of items) ≡ items_before (take place items) (with_items_at left row (gapped_of (drop place items)))
 
 pub on_items : (items : List Item) (index : ℕ) → index < proxies_in (gapped_of items) → IsOnItems items index index 0
-on_items items index there = record { within = there; same = refl; grows = λ count. refl }
+on_items items index there = record { within = there; same = refl; grows = λ row. refl }
 
 passed_item : (x : Item) (items : List Item) (left own : ℕ) → own ≡ proxies_in (gapped_of (x ∷ [])) → own ≤ left → without_proxy left (gapped_of (x ∷ items)) ≡ items_before (x ∷ []) (without_proxy (left - own) (gapped_of items))
 passed_item (Tree t) items left own is most =
@@ -39,15 +41,15 @@ passed_item (Run c) items left own is most =
     not_less left c (smaller_gap c (gapped_of items)) (Gap c (without_proxy (left - c) (gapped_of items))) (omega arith)
     ∙ ap (λ (n : ℕ). Gap c (without_proxy (left - n) (gapped_of items))) e
 
-passed_row : (x : Item) (items : List Item) (left own count : ℕ) → own ≡ proxies_in (gapped_of (x ∷ [])) → own ≤ left → with_row left count (gapped_of (x ∷ items)) ≡ items_before (x ∷ []) (with_row (left - own) count (gapped_of items))
-passed_row (Tree t) items left own count is most =
+passed_row : (x : Item) (items : List Item) (left own : ℕ) (row : Gapped) → own ≡ proxies_in (gapped_of (x ∷ [])) → own ≤ left → with_items_at left row (gapped_of (x ∷ items)) ≡ items_before (x ∷ []) (with_items_at (left - own) row (gapped_of items))
+passed_row (Tree t) items left own row is most =
     let e : proxies_in t.below ≡ own = omega arith in
-    not_less left (proxies_in t.below) (Grow t.node (with_row left count t.below) (gapped_of items)) (Grow t.node t.below (with_row (left - proxies_in t.below) count (gapped_of items))) (omega arith)
-    ∙ ap (λ (n : ℕ). Grow t.node t.below (with_row (left - n) count (gapped_of items))) e
-passed_row (Run c) items left own count is most =
+    not_less left (proxies_in t.below) (Grow t.node (with_items_at left row t.below) (gapped_of items)) (Grow t.node t.below (with_items_at (left - proxies_in t.below) row (gapped_of items))) (omega arith)
+    ∙ ap (λ (n : ℕ). Grow t.node t.below (with_items_at (left - n) row (gapped_of items))) e
+passed_row (Run c) items left own row is most =
     let e : c ≡ own = omega arith in
-    not_less left c (Gap (c - 1 + count) (gapped_of items)) (Gap c (with_row (left - c) count (gapped_of items))) (omega arith)
-    ∙ ap (λ (n : ℕ). Gap c (with_row (left - n) count (gapped_of items))) e
+    not_less left c (gap_before left (joined_items row (gap_before (c - 1 - left) (gapped_of items)))) (Gap c (with_items_at (left - c) row (gapped_of items))) (omega arith)
+    ∙ ap (λ (n : ℕ). Gap c (with_items_at (left - n) row (gapped_of items))) e
 
 count_item : (x : Item) (items : List Item) → proxies_in (gapped_of (x ∷ items)) ≡ proxies_in (gapped_of (x ∷ [])) + proxies_in (gapped_of items)
 count_item (Tree t) items = omega arith
@@ -74,12 +76,12 @@ item_passed {items} {index} {left} {place} {own} x h d is most =
           ∙ ap (λ (f : Gapped). items_before (take place items) f) (passed_item x rest left own is most)
           ∙ sym (items_append (take place items) (x ∷ []) (without_proxy (left - own) (gapped_of rest)))
           ∙ ap (λ (xs : List Item). items_before xs (without_proxy (left - own) (gapped_of rest))) (sym (take_next items place x d));
-      grows = λ count.
-          h.grows count
-          ∙ ap (λ (xs : List Item). items_before (take place items) (with_row left count (gapped_of xs))) d
-          ∙ ap (λ (f : Gapped). items_before (take place items) f) (passed_row x rest left own count is most)
-          ∙ sym (items_append (take place items) (x ∷ []) (with_row (left - own) count (gapped_of rest)))
-          ∙ ap (λ (xs : List Item). items_before xs (with_row (left - own) count (gapped_of rest))) (sym (take_next items place x d));
+      grows = λ row.
+          h.grows row
+          ∙ ap (λ (xs : List Item). items_before (take place items) (with_items_at left row (gapped_of xs))) d
+          ∙ ap (λ (f : Gapped). items_before (take place items) f) (passed_row x rest left own row is most)
+          ∙ sym (items_append (take place items) (x ∷ []) (with_items_at (left - own) row (gapped_of rest)))
+          ∙ ap (λ (xs : List Item). items_before xs (with_items_at (left - own) row (gapped_of rest))) (sym (take_next items place x d));
     }
 
 pub item_found : {items : List Item} {index left place own : ℕ} (x : Item) → IsOnItems items index left place → drop place items ≡ x ∷ drop (place + 1) items → own ≡ proxies_in (gapped_of (x ∷ [])) → left < own → IsItemOf items index (place, left)
@@ -156,10 +158,10 @@ take_root (y ∷ roots) (suc i) t e =
 pub record IsOnRoots (roots : List GappedTree) (index left place : ℕ) : Type 0 where
   pub within : left < proxies_in (grown_of (drop place roots))
   pub same : without_proxy index (grown_of roots) ≡ grown_before (take place roots) (without_proxy left (grown_of (drop place roots)))
-  pub grows : (count : ℕ) → with_row index count (grown_of roots) ≡ grown_before (take place roots) (with_row left count (grown_of (drop place roots)))
+  pub grows : (row : Gapped) → with_items_at index row (grown_of roots) ≡ grown_before (take place roots) (with_items_at left row (grown_of (drop place roots)))
 
 pub on_roots : (roots : List GappedTree) (index : ℕ) → index < proxies_in (grown_of roots) → IsOnRoots roots index index 0
-on_roots roots index there = record { within = there; same = refl; grows = λ count. refl }
+on_roots roots index there = record { within = there; same = refl; grows = λ row. refl }
 
 count_roots : (roots : List GappedTree) (place : ℕ) → proxies_in (grown_of (drop place roots)) ≤ proxies_in (grown_of roots)
 count_roots roots zero = omega arith
@@ -180,13 +182,13 @@ root_passed {roots} {index} {left} {place} {own} t h d is most =
           ∙ ap (λ (n : ℕ). grown_before (take place roots) (Grow t.node t.below (without_proxy (left - n) rest))) (sym is)
           ∙ sym (grown_append (take place roots) (t ∷ []) (without_proxy (left - own) rest))
           ∙ ap (λ (xs : List GappedTree). grown_before xs (without_proxy (left - own) rest)) (sym (take_root roots place t d));
-      grows = λ count.
-          h.grows count
-          ∙ ap (λ (xs : List GappedTree). grown_before (take place roots) (with_row left count (grown_of xs))) d
-          ∙ ap (λ (f : Gapped). grown_before (take place roots) f) (not_less left (proxies_in t.below) (Grow t.node (with_row left count t.below) rest) (Grow t.node t.below (with_row (left - proxies_in t.below) count rest)) (omega arith))
-          ∙ ap (λ (n : ℕ). grown_before (take place roots) (Grow t.node t.below (with_row (left - n) count rest))) (sym is)
-          ∙ sym (grown_append (take place roots) (t ∷ []) (with_row (left - own) count rest))
-          ∙ ap (λ (xs : List GappedTree). grown_before xs (with_row (left - own) count rest)) (sym (take_root roots place t d));
+      grows = λ row.
+          h.grows row
+          ∙ ap (λ (xs : List GappedTree). grown_before (take place roots) (with_items_at left row (grown_of xs))) d
+          ∙ ap (λ (f : Gapped). grown_before (take place roots) f) (not_less left (proxies_in t.below) (Grow t.node (with_items_at left row t.below) rest) (Grow t.node t.below (with_items_at (left - proxies_in t.below) row rest)) (omega arith))
+          ∙ ap (λ (n : ℕ). grown_before (take place roots) (Grow t.node t.below (with_items_at (left - n) row rest))) (sym is)
+          ∙ sym (grown_append (take place roots) (t ∷ []) (with_items_at (left - own) row rest))
+          ∙ ap (λ (xs : List GappedTree). grown_before xs (with_items_at (left - own) row rest)) (sym (take_root roots place t d));
     }
 
 pub root_found : {roots : List GappedTree} {index left place own : ℕ} (t : GappedTree) → IsOnRoots roots index left place → drop place roots ≡ t ∷ drop (place + 1) roots → own ≡ proxies_in t.below → left < own → IsRootOf roots index (place, left)
@@ -208,32 +210,46 @@ root_shorter {roots} {index} {found} new h node below =
     ∙ ap (λ (xs : List GappedTree). grown_before (take found.0 roots) (without_proxy found.1 (grown_of xs))) (sym h.there)
     ∙ sym h.same
 
--- A row in the place of the proxy:
+-- Items in the place of the proxy:
 
-pub tree_wider : {items : List Item} {index : ℕ} {found : ℕ × ℕ} (count : ℕ) (t new : GappedTree) → IsItemOf items index found → drop found.0 items ≡ Tree t ∷ drop (found.0 + 1) items → found.1 < proxies_in t.below
-    → new.node ≡ t.node → new.below ≡ with_row found.1 count t.below → gapped_of (set items found.0 (Tree new)) ≡ with_row index count (gapped_of items)
-tree_wider {items} {index} {found} count t new h d less node below =
+pub tree_wider : {items : List Item} {index : ℕ} {found : ℕ × ℕ} (row : Gapped) (t new : GappedTree) → IsItemOf items index found → drop found.0 items ≡ Tree t ∷ drop (found.0 + 1) items → found.1 < proxies_in t.below
+    → new.node ≡ t.node → new.below ≡ with_items_at found.1 row t.below → gapped_of (set items found.0 (Tree new)) ≡ with_items_at index row (gapped_of items)
+tree_wider {items} {index} {found} row t new h d less node below =
     let rest : Gapped = gapped_of (drop (found.0 + 1) items) in
     item_set items found.0 (Tree new) (there_within items found.0 (Tree t) d)
     ∙ ap₂ (λ (n : PieceNode) (b : Gapped). items_before (take found.0 items) (Grow n b rest)) node below
     ∙ ap (λ (f : Gapped). items_before (take found.0 items) f)
-    (sym (less_is found.1 (proxies_in t.below) (Grow t.node (with_row found.1 count t.below) rest) (Grow t.node t.below (with_row (found.1 - proxies_in t.below) count rest)) less))
-    ∙ ap (λ (xs : List Item). items_before (take found.0 items) (with_row found.1 count (gapped_of xs))) (sym d)
-    ∙ sym (h.grows count)
+    (sym (less_is found.1 (proxies_in t.below) (Grow t.node (with_items_at found.1 row t.below) rest) (Grow t.node t.below (with_items_at (found.1 - proxies_in t.below) row rest)) less))
+    ∙ ap (λ (xs : List Item). items_before (take found.0 items) (with_items_at found.1 row (gapped_of xs))) (sym d)
+    ∙ sym (h.grows row)
 
-pub run_wider : {items : List Item} {index : ℕ} {found : ℕ × ℕ} (count had now : ℕ) → IsItemOf items index found → drop found.0 items ≡ Run had ∷ drop (found.0 + 1) items → found.1 < had → now ≡ had - 1 + count
-    → gapped_of (set items found.0 (Run now)) ≡ with_row index count (gapped_of items)
-run_wider {items} {index} {found} count had now h d less is =
+-- a run stays apart from what is behind it
+pub apart_behind_run : (items : List Item) (place had : ℕ) → drop place items ≡ Run had ∷ drop (place + 1) items → AreApart (gapped_of items) → BeginsNoGap (gapped_of (drop (place + 1) items))
+apart_behind_run items place had d apart =
+    (apart_behind (take place items) (Run had ∷ drop (place + 1) items) (subst (λ xs. AreApart (gapped_of xs)) (sym (take-append-drop place items) ∙ ap (λ (xs : List Item). take place items ++ xs) d) apart)).1
+
+pub run_wider : {items : List Item} {index : ℕ} {found : ℕ × ℕ} (row : Gapped) (had : ℕ) (all new : List Item) → IsItemOf items index found → drop found.0 items ≡ Run had ∷ drop (found.0 + 1) items → found.1 < had
+    → AreApart (gapped_of items) → AreApart row → gapped_of all ≡ gap_before found.1 (joined_items row (gap_before (had - 1 - found.1) End)) → new ≡ take found.0 items ++ (all ++ drop (found.0 + 1) items)
+    → gapped_of new ≡ with_items_at index row (gapped_of items)
+run_wider {items} {index} {found} row had all new h d less apart own all_is is =
+    let behind : ℕ = had - 1 - found.1 in
     let rest : Gapped = gapped_of (drop (found.0 + 1) items) in
-    item_set items found.0 (Run now) (there_within items found.0 (Run had) d)
-    ∙ ap (λ (n : ℕ). items_before (take found.0 items) (Gap n rest)) is
-    ∙ ap (λ (f : Gapped). items_before (take found.0 items) f) (sym (less_is found.1 had (Gap (had - 1 + count) rest) (Gap had (with_row (found.1 - had) count rest)) less))
-    ∙ ap (λ (xs : List Item). items_before (take found.0 items) (with_row found.1 count (gapped_of xs))) (sym d)
-    ∙ sym (h.grows count)
+    let all_apart : AreApart (gapped_of all) =
+    subst AreApart (sym all_is) (apart_before found.1 (joined_items row (gap_before behind End)) (both_apart row (gap_before behind End) own (apart_before behind End tt))) in
+    ap gapped_of is
+    ∙ gapped_append (take found.0 items) (all ++ drop (found.0 + 1) items)
+    ∙ ap (λ (f : Gapped). items_before (take found.0 items) f)
+    (gapped_append all (drop (found.0 + 1) items)
+    ∙ apart_joined all rest all_apart (apart_behind_run items found.0 had d apart)
+    ∙ ap (λ (f : Gapped). joined_items f rest) all_is
+    ∙ closed_joined found.1 behind row rest
+    ∙ sym (less_is found.1 had (gap_before found.1 (joined_items row (gap_before behind rest))) (Gap had (with_items_at (found.1 - had) row rest)) less))
+    ∙ ap (λ (xs : List Item). items_before (take found.0 items) (with_items_at found.1 row (gapped_of xs))) (sym d)
+    ∙ sym (h.grows row)
 
-pub root_wider : {roots : List GappedTree} {index : ℕ} {found : ℕ × ℕ} (count : ℕ) (new : GappedTree) (h : IsRootOf roots index found) → new.node ≡ h.root.node → new.below ≡ with_row found.1 count h.root.below
-    → grown_of (set roots found.0 new) ≡ with_row index count (grown_of roots)
-root_wider {roots} {index} {found} count new h node below =
+pub root_wider : {roots : List GappedTree} {index : ℕ} {found : ℕ × ℕ} (row : Gapped) (new : GappedTree) (h : IsRootOf roots index found) → new.node ≡ h.root.node → new.below ≡ with_items_at found.1 row h.root.below
+    → grown_of (set roots found.0 new) ≡ with_items_at index row (grown_of roots)
+root_wider {roots} {index} {found} row new h node below =
     let t : GappedTree = h.root in
     let rest : Gapped = grown_of (drop (found.0 + 1) roots) in
     let next : suc found.0 ≡ found.0 + 1 = omega arith in
@@ -241,6 +257,17 @@ root_wider {roots} {index} {found} count new h node below =
     ∙ ap (λ (n : ℕ). grown_before (take found.0 roots) (Grow new.node new.below (grown_of (drop n roots)))) next
     ∙ ap₂ (λ (n : PieceNode) (b : Gapped). grown_before (take found.0 roots) (Grow n b rest)) node below
     ∙ ap (λ (f : Gapped). grown_before (take found.0 roots) f)
-    (sym (less_is found.1 (proxies_in t.below) (Grow t.node (with_row found.1 count t.below) rest) (Grow t.node t.below (with_row (found.1 - proxies_in t.below) count rest)) h.within))
-    ∙ ap (λ (xs : List GappedTree). grown_before (take found.0 roots) (with_row found.1 count (grown_of xs))) (sym h.there)
-    ∙ sym (h.grows count)
+    (sym (less_is found.1 (proxies_in t.below) (Grow t.node (with_items_at found.1 row t.below) rest) (Grow t.node t.below (with_items_at (found.1 - proxies_in t.below) row rest)) h.within))
+    ∙ ap (λ (xs : List GappedTree). grown_before (take found.0 roots) (with_items_at found.1 row (grown_of xs))) (sym h.there)
+    ∙ sym (h.grows row)
+
+-- the roots are apart where all is
+pub apart_root : (roots : List GappedTree) (place : ℕ) (t : GappedTree) → drop place roots ≡ t ∷ drop (place + 1) roots → AreApart (grown_of roots) → AreApart t.below
+apart_root [] zero t d h = absurd (cc)
+apart_root [] (suc place) t d h = absurd (cc)
+apart_root (u ∷ roots) zero t d h = subst (λ (v : GappedTree). AreApart v.below) (ap (λ (xs : List GappedTree). first_of t xs) d) h.0
+  where
+    first_of : GappedTree → List GappedTree → GappedTree
+    first_of x [] = x
+    first_of x (y ∷ ys) = y
+apart_root (u ∷ roots) (suc place) t d h = apart_root roots place t (d ∙ ap (λ (n : ℕ). t ∷ drop n (u ∷ roots)) (let e : suc place + 1 ≡ suc (place + 1) = omega arith in e)) h.1

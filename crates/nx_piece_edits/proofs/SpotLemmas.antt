@@ -13,6 +13,7 @@ use Rattle.nx_piece.specs.Locate.{Kept, kept_from, children_of}
 use Rattle.nx_piece.specs.Found.{children_in}
 use Rattle.nx_piece.proofs.LocateLemmas.{IsReached, is_kept, kept_length, ranged_drop}
 use Rattle.nx_piece.proofs.FoundLemmas.{IsPassing, proxies_of_items, take_next}
+use Rattle.nx_piece_edits.specs.Cutting.{gap_before}
 use Rattle.nx_piece_edits.specs.Planting.{passed, put_in_gap, put_at, FallsApart}
 use Rattle.nx_piece_edits.specs.Editing.{IsSpot}
 use Rattle.nx_piece_edits.proofs.TakeLemmas.{EndsApart, gap_apart, gapped_parts, proxies_there, there_within, tree_behind, with_items_apart, with_items_join, apart_front, apart_behind}
@@ -155,35 +156,56 @@ proxy_there {items} {proxies} {position} {index} (suc before) new spot is =
     ∙ ap (λ (n : ℕ). with_items (take index items) (Gap n (gapped_of (drop (index + 1) items)))) sum
     ∙ sym (spot.inside run.0 some run.1 (λ f. with_gap 1 f))
 
-pub run_before_grows : (items : List Item) (index a : ℕ) → AreApart (gapped_of items) → 1 ≤ index → drop (index - 1) items ≡ Run a ∷ drop index items
-    → gapped_of (set items (index - 1) (Run (a + 1))) ≡ with_items (take index items) (with_gap 1 (gapped_of (drop index items)))
-run_before_grows items zero a apart some d = absurd (omega (arith, some))
-run_before_grows items (suc i) a apart some d =
+gap_some : (count : ℕ) (f : Gapped) → 1 ≤ count → gap_before count f ≡ with_gap count f
+gap_some zero f some = absurd (omega (arith, some))
+gap_some (suc count) f some = refl
+
+pub run_before_grows : (items : List Item) (index a more : ℕ) → 1 ≤ more → AreApart (gapped_of items) → 1 ≤ index → drop (index - 1) items ≡ Run a ∷ drop index items
+    → gapped_of (set items (index - 1) (Run (a + more))) ≡ with_items (take index items) (gap_before more (gapped_of (drop index items)))
+run_before_grows items zero a more many apart some d = absurd (omega (arith, some))
+run_before_grows items (suc i) a more many apart some d =
     let place : suc i - 1 ≡ i = omega arith in
     let next : suc i ≡ i + 1 = omega arith in
     let e : drop i items ≡ Run a ∷ drop (suc i) items = ap (λ (n : ℕ). drop n items) (sym place) ∙ d in
     let there : drop i items ≡ Run a ∷ drop (i + 1) items = e ∙ ap (λ (n : ℕ). Run a ∷ drop n items) next in
     let last : take (suc i) items ≡ take i items ++ Run a ∷ [] = ap (λ (n : ℕ). take n items) next ∙ take_next items i (Run a) there in
-    let behind : BeginsNoGap (gapped_of (drop (suc i) items)) = (subst (λ xs. AreApart (gapped_of xs)) e (apart_drop items i apart)).1 in
-    ap (λ (n : ℕ). gapped_of (set items n (Run (a + 1)))) place
-    ∙ ap gapped_of (set_split items i (Run (a + 1)) (there_within items i (Run a) there))
-    ∙ sym (with_items_join (take i items) (drop (suc i) items) a 1 (subst (λ xs. AreApart (gapped_of xs)) last (apart_take items (suc i) apart)))
-    ∙ ap₂ (λ (xs : List Item) (f : Gapped). with_items xs f) (sym last) (sym (gap_apart 1 (gapped_of (drop (suc i) items)) behind))
+    let rest : Gapped = gapped_of (drop (suc i) items) in
+    let behind : BeginsNoGap rest = (subst (λ xs. AreApart (gapped_of xs)) e (apart_drop items i apart)).1 in
+    ap (λ (n : ℕ). gapped_of (set items n (Run (a + more)))) place
+    ∙ ap gapped_of (set_split items i (Run (a + more)) (there_within items i (Run a) there))
+    ∙ sym (with_items_join (take i items) (drop (suc i) items) a more (subst (λ xs. AreApart (gapped_of xs)) last (apart_take items (suc i) apart)))
+    ∙ ap₂ (λ (xs : List Item) (f : Gapped). with_items xs f) (sym last) (sym (gap_some more rest many ∙ gap_apart more rest behind))
 
-pub run_at_grows : (items : List Item) (index c : ℕ) → AreApart (gapped_of items) → drop index items ≡ Run c ∷ drop (index + 1) items
-    → gapped_of (set items index (Run (c + 1))) ≡ with_items (take index items) (with_gap 1 (gapped_of (drop index items)))
-run_at_grows items index c apart d =
+pub run_at_grows : (items : List Item) (index c more : ℕ) → 1 ≤ more → AreApart (gapped_of items) → drop index items ≡ Run c ∷ drop (index + 1) items
+    → gapped_of (set items index (Run (c + more))) ≡ with_items (take index items) (gap_before more (gapped_of (drop index items)))
+run_at_grows items index c more many apart d =
     let next : suc index ≡ index + 1 = omega arith in
-    let sum : c + 1 ≡ 1 + c = omega arith in
-    let there : List Item = Run (c + 1) ∷ drop (index + 1) items in
-    ap gapped_of (set_split items index (Run (c + 1)) (there_within items index (Run c) d) ∙ ap (λ (n : ℕ). take index items ++ Run (c + 1) ∷ drop n items) next)
+    let sum : c + more ≡ more + c = omega arith in
+    let there : List Item = Run (c + more) ∷ drop (index + 1) items in
+    ap gapped_of (set_split items index (Run (c + more)) (there_within items index (Run c) d) ∙ ap (λ (n : ℕ). take index items ++ Run (c + more) ∷ drop n items) next)
     ∙ sym (with_items_apart (take index items) there (apart_take items index apart) (run_apart items index c (gapped_of there) apart d))
     ∙ ap (λ (n : ℕ). with_items (take index items) (Gap n (gapped_of (drop (index + 1) items)))) sum
-    ∙ ap (λ (xs : List Item). with_items (take index items) (with_gap 1 (gapped_of xs))) (sym d)
+    ∙ ap (λ (xs : List Item). with_items (take index items) (with_gap more (gapped_of xs))) (sym d)
+    ∙ ap (with_items (take index items)) (sym (gap_some more (gapped_of (drop index items)) many))
 
-pub run_begins : (items : List Item) (index : ℕ) → ((more : List Item) → with_items (take index items) (gapped_of more) ≡ gapped_of (take index items ++ more)) → BeginsNoGap (gapped_of (drop index items))
-    → gapped_of (insert items index (Run 1)) ≡ with_items (take index items) (with_gap 1 (gapped_of (drop index items)))
-run_begins items index front behind = sym (front (Run 1 ∷ drop index items)) ∙ ap (with_items (take index items)) (sym (gap_apart 1 (gapped_of (drop index items)) behind))
+pub run_begins : (items : List Item) (index more : ℕ) → 1 ≤ more → ((others : List Item) → with_items (take index items) (gapped_of others) ≡ gapped_of (take index items ++ others)) → BeginsNoGap (gapped_of (drop index items))
+    → gapped_of (insert items index (Run more)) ≡ with_items (take index items) (gap_before more (gapped_of (drop index items)))
+run_begins items index more many front behind =
+    let rest : Gapped = gapped_of (drop index items) in
+    sym (front (Run more ∷ drop index items)) ∙ ap (with_items (take index items)) (sym (gap_some more rest many ∙ gap_apart more rest behind))
+
+-- no proxies come
+pub none_come : (items : List Item) (index count : ℕ) → count ≡ 0 → AreApart (gapped_of items) → gapped_of items ≡ with_items (take index items) (gap_before count (gapped_of (drop index items)))
+none_come items index count none apart =
+    ap gapped_of (sym (take-append-drop index items))
+    ∙ sym (with_items_apart (take index items) (drop index items) (apart_take items index apart) (ends_apart (take index items) (drop index items) (subst (λ xs. AreApart (gapped_of xs)) (sym (take-append-drop index items)) apart)))
+    ∙ ap (λ (n : ℕ). with_items (take index items) (gap_before n (gapped_of (drop index items)))) (sym none)
+  where
+    ends_apart : (items more : List Item) → AreApart (gapped_of (items ++ more)) → EndsApart items (gapped_of more)
+    ends_apart [] more h = tt
+    ends_apart (Tree t ∷ items) more h = ends_apart items more h.1
+    ends_apart (Run c ∷ []) more h = h.1
+    ends_apart (Run c ∷ x ∷ items) more h = ends_apart (x ∷ items) more h.2
 
 -- no run stands before the index
 pub none_joins : (items : List Item) (index : ℕ) → AreApart (gapped_of items) → 1 ≤ index → index ≤ length items → BeginsNoGap (gapped_of (drop (index - 1) items)) → (more : List Item)
@@ -207,12 +229,12 @@ pub run_is_before : (items : List Item) (index : ℕ) (found : Option ℕ) → A
 run_is_before items index None apart some within h = none_joins items index apart some within h
 run_is_before items index (Some count) apart some within h = (some, h ∙ ap (λ (n : ℕ). Run count ∷ drop n items) (let e : index - 1 + 1 ≡ index = omega (arith, some) in e))
 
-pub run_few : (items : List Item) (index count : ℕ) → drop index items ≡ Run count ∷ drop (index + 1) items → proxies_in (gapped_of items) ≤ 524288 → count ≤ 524288
-run_few items index count d few = let sum = proxies_there items index (Run count) d in omega (arith, sum, few)
+pub run_few : (items : List Item) (index count : ℕ) → drop index items ≡ Run count ∷ drop (index + 1) items → count ≤ proxies_in (gapped_of items)
+run_few items index count d = let sum = proxies_there items index (Run count) d in omega (arith, sum)
 
-pub run_before_few : (items : List Item) (index count : ℕ) → 1 ≤ index → drop (index - 1) items ≡ Run count ∷ drop index items → proxies_in (gapped_of items) ≤ 524288 → count ≤ 524288
-run_before_few items index count some d few =
-    run_few items (index - 1) count (d ∙ ap (λ (n : ℕ). Run count ∷ drop n items) (let e : index ≡ index - 1 + 1 = omega (arith, some) in e)) few
+pub run_before_few : (items : List Item) (index count : ℕ) → 1 ≤ index → drop (index - 1) items ≡ Run count ∷ drop index items → count ≤ proxies_in (gapped_of items)
+run_before_few items index count some d =
+    run_few items (index - 1) count (d ∙ ap (λ (n : ℕ). Run count ∷ drop n items) (let e : index ≡ index - 1 + 1 = omega (arith, some) in e))
 
 pub none_first : (items : List Item) (index : ℕ) → index ≡ 0 → (more : List Item) → with_items (take index items) (gapped_of more) ≡ gapped_of (take index items ++ more)
 none_first items index e more = subst (λ (n : ℕ). with_items (take n items) (gapped_of more) ≡ gapped_of (take n items ++ more)) (sym e) refl

@@ -3,9 +3,9 @@ use Rattle.std.specs.Prelude.{◌≡◌, ℕ, zero, suc, ◌+◌, ◌-◌, ◌�
 use Rattle.nx_piece.specs.declared.piece.Piece.{Piece}
 use Rattle.nx_piece.specs.declared.piece.Proxy.{Proxy}
 use Rattle.nx_piece_edits.specs.declared.cutting.Removed.{Removed}
-use Rattle.nx_piece.specs.Gapped.{Gapped, GappedTree, End, Grow, Gap, gapped_width, proxies_in, with_gap}
+use Rattle.nx_piece.specs.Gapped.{Gapped, GappedTree, End, Grow, Gap, gapped_width, gapped_size, gapped_weight, proxies_in, with_gap}
 use Rattle.nx_piece.specs.Locate.{Inside, roots_of, reached_in, IsPartOf}
-use Rattle.nx_piece.specs.Valid.{HaveRoots, IsValidPiece}
+use Rattle.nx_piece.specs.Valid.{AreFar, HaveRoots, IsPiece, IsValidPiece}
 
 -- What is left of trees and gaps without the tree that a position and a path lead to. The proxies are those of the gaps; each stands for as many trees as it has roots.
 abbrev pub without_tree : ℕ → List ℕ → Gapped → List Proxy → Gapped
@@ -25,6 +25,25 @@ without_proxy index End = End
 without_proxy index (Grow node below beside) =
     if nat_lt index (proxies_in below) then Grow node (without_proxy index below) beside else Grow node below (without_proxy (index - proxies_in below) beside)
 without_proxy index (Gap count beside) = if nat_lt index count then smaller_gap count beside else Gap count (without_proxy (index - count) beside)
+
+-- so many proxies more in front, if any; gaps that become neighbours are one
+abbrev pub gap_before : ℕ → Gapped → Gapped
+gap_before zero f = f
+gap_before (suc count) f = with_gap (suc count) f
+
+-- trees and gaps with others beside them; gaps that become neighbours are one
+abbrev pub joined_items : Gapped → Gapped → Gapped
+joined_items End last = last
+joined_items (Grow node below beside) last = Grow node below (joined_items beside last)
+joined_items (Gap count beside) last = with_gap count (joined_items beside last)
+
+-- Trees and gaps with others in the place of the proxy at an index, whose gap is divided around them.
+abbrev pub with_items_at : (index : ℕ) (items : Gapped) → Gapped → Gapped
+with_items_at index items End = End
+with_items_at index items (Grow node below beside) =
+    if nat_lt index (proxies_in below) then Grow node (with_items_at index items below) beside else Grow node below (with_items_at (index - proxies_in below) items beside)
+with_items_at index items (Gap had beside) =
+    if nat_lt index had then gap_before index (joined_items items (gap_before (had - 1 - index) beside)) else Gap had (with_items_at (index - had) items beside)
 
 -- Trees and gaps with so many proxies in the place of the one at an index.
 abbrev pub with_row : (index count : ℕ) → Gapped → Gapped
@@ -59,6 +78,16 @@ pub record IsWithProxy (piece : Piece) (index : ℕ) (proxy : Proxy) (changed : 
   pub body : changed.body ≡ piece.body
   pub proxies : changed.proxies ≡ take index piece.proxies ++ proxy ∷ drop (index + 1) piece.proxies
   pub valid : IsValidPiece piece → 1 ≤ proxy.roots → proxy.roots ≤ 256 → IsValidPiece changed
+
+-- The proxy at an index is replaced by items, and by the proxies of their gaps. A valid piece may be split then, where the items take no more slots than a piece's may, and is valid where all of them take no more.
+pub record IsWithItems (piece : Piece) (index : ℕ) (items : Gapped) (proxies : List Proxy) (changed : Piece) : Type 0 where
+  pub body : changed.body.roots ≡ with_items_at index items piece.body.roots
+  pub proxies_are : changed.proxies ≡ take index piece.proxies ++ proxies ++ drop (index + 1) piece.proxies
+  pub weighs : gapped_weight changed.body.roots ≡ gapped_weight piece.body.roots + gapped_weight items
+  pub sized : gapped_size changed.body.roots ≡ gapped_size piece.body.roots + gapped_size items
+  pub width : gapped_width changed.body.roots ≡ gapped_width piece.body.roots
+  pub large : IsValidPiece piece → AreFar items → HaveRoots proxies → length piece.proxies + length proxies ≤ 524289 → gapped_size items ≤ 256 → IsPiece changed
+  pub valid : IsValidPiece piece → AreFar items → HaveRoots proxies → length piece.proxies + length proxies ≤ 524289 → gapped_size changed.body.roots ≤ 256 → IsValidPiece changed
 
 -- the proxy at an index is replaced by a row of others
 pub record IsWithRow (piece : Piece) (index : ℕ) (row : List Proxy) (changed : Piece) : Type 0 where

@@ -4,7 +4,7 @@ use Rattle.nx_piece.specs.declared.piece.Item.{Item}
 use Rattle.nx_piece.specs.declared.piece.Item.TheVariants.{Tree, Run}
 use Rattle.nx_piece.specs.Gapped.{Gapped, GappedTree, Grow, Gap, proxies_in, grown_of}
 use Rattle.nx_piece.specs.Items.{gapped_of}
-use Rattle.nx_piece_edits.specs.Cutting.{smaller_gap, without_proxy, with_row}
+use Rattle.nx_piece_edits.specs.Cutting.{smaller_gap, without_proxy, with_items_at}
 
 -- these trees, and others beside them
 abbrev pub grown_before : List GappedTree → Gapped → Gapped
@@ -23,7 +23,7 @@ pub record IsRootOf (roots : List GappedTree) (index : ℕ) (found : ℕ × ℕ)
   pub there : drop found.0 roots ≡ root ∷ drop (found.0 + 1) roots
   pub within : found.1 < proxies_in root.below
   pub same : without_proxy index (grown_of roots) ≡ grown_before (take found.0 roots) (without_proxy found.1 (grown_of (drop found.0 roots)))
-  pub grows : (count : ℕ) → with_row index count (grown_of roots) ≡ grown_before (take found.0 roots) (with_row found.1 count (grown_of (drop found.0 roots)))
+  pub grows : (row : Gapped) → with_items_at index row (grown_of roots) ≡ grown_before (take found.0 roots) (with_items_at found.1 row (grown_of (drop found.0 roots)))
 
 -- the proxy at an index stands in or below the item at a place, at another index among those there
 pub record IsItemOf (items : List Item) (index : ℕ) (found : ℕ × ℕ) : Type 0 where
@@ -31,7 +31,7 @@ pub record IsItemOf (items : List Item) (index : ℕ) (found : ℕ × ℕ) : Typ
   pub there : drop found.0 items ≡ item ∷ drop (found.0 + 1) items
   pub within : found.1 < proxies_in (gapped_of (item ∷ []))
   pub same : without_proxy index (gapped_of items) ≡ items_before (take found.0 items) (without_proxy found.1 (gapped_of (drop found.0 items)))
-  pub grows : (count : ℕ) → with_row index count (gapped_of items) ≡ items_before (take found.0 items) (with_row found.1 count (gapped_of (drop found.0 items)))
+  pub grows : (row : Gapped) → with_items_at index row (gapped_of items) ≡ items_before (take found.0 items) (with_items_at found.1 row (gapped_of (drop found.0 items)))
 
 -- the run of so many proxies at a place is one shorter, or gone
 abbrev pub WithoutRun : List Item → ℕ → ℕ → List Item → Type 0

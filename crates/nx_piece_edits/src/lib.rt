@@ -1,4 +1,4 @@
-//! Edits of pieces: a tree taken out, a proxy taken away, replaced by another one or by a row, another content of a
+//! Edits of pieces: a tree taken out, a proxy taken away, replaced by another one, by a row or by items, another content of a
 //! node, a node or a proxy planted, and roots divided. It stands on the pieces of `nx_piece`.
 //!
 //! What a piece is afterwards is said over its forest with gaps: `specs/Cutting.antt`, `Setting.antt`, `Planting.antt`,
@@ -21,4 +21,4 @@ pub use planting::{plant_node, plant_proxy};
 pub use roots::{divide_roots, plant_root};
 pub use setting::set_content;
 pub use shortening::{remove_proxy, replace_proxy};
-pub use widening::replace_by_row;
+pub use widening::{replace_by_items, replace_by_row};

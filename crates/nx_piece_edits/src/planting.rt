@@ -7,6 +7,7 @@ ghost use Rattle.nx_piece.specs.Gapped.{Gapped, proxies_in, with_gap};
 ghost use Rattle.nx_piece.specs.Items.{gapped_of, with_items};
 ghost use Rattle.nx_piece.specs.Locate.{children_of};
 ghost use Rattle.nx_piece.specs.Valid.{AreApart, BeginsNoGap, HaveRoots, IsPiece};
+ghost use Rattle.nx_piece_edits.specs.Cutting.{gap_before};
 ghost use Rattle.nx_piece_edits.specs.Planting.{put_below, FallsApart, LeadsBetween, IsWithNode, IsWithProxyAt};
 ghost use Rattle.nx_piece_edits.specs.Editing.{HasLongerRun};
 
@@ -134,7 +135,7 @@ pub(crate) fn put_proxy(
 {
     let (index, _) = spot_at(tree.children.as_slice(), proxies, first, position);
     let mut items = mem::replace(&mut tree.children, Items::new(alloc)).into_vec();
-    insert_proxy(&mut items, index)?;
+    insert_run(&mut items, index, 1)?;
     tree.children = Items::from_vec(items);
     Ok(())
 }
@@ -161,22 +162,25 @@ fn insert_item(items: &mut Vec<Item>, index: usize, before: u32, item: Item) -> 
     Ok(())
 }
 
-// Makes the run one longer that ends or begins at the index, or puts one there.
-fn insert_proxy(items: &mut Vec<Item>, index: usize) -> Result<(), NoMemory>
+// Puts so many proxies at the index, into a run that ends or begins there or into one of their own.
+pub(crate) fn insert_run(items: &mut Vec<Item>, index: usize, count: u32) -> Result<(), NoMemory>
     requires within { index ≤ vec_len items.old }
-    requires few { proxies_in (gapped_of items.old.items) ≤ 524288 }
+    requires fits { count + proxies_in (gapped_of items.old.items) ≤ 4294967295 }
     requires apart { AreApart (gapped_of items.old.items) }
-    ensures { OnOk result (gapped_of items.new.items ≡ with_items (take index items.old.items) (with_gap 1 (gapped_of (drop index items.old.items)))) }
+    ensures { OnOk result (gapped_of items.new.items ≡ with_items (take index items.old.items) (gap_before count (gapped_of (drop index items.old.items)))) }
 {
-    if let Some(count) = run_before(items.as_slice(), index) {
-        items[index - 1] = Item::Run { count: count + 1 };
+    if count == 0 {
         return Ok(());
     }
-    if let Some(count) = run_at(items.as_slice(), index) {
-        items[index] = Item::Run { count: count + 1 };
+    if let Some(had) = run_before(items.as_slice(), index) {
+        items[index - 1] = Item::Run { count: had + count };
         return Ok(());
     }
-    items.insert(index, Item::Run { count: 1 })?;
+    if let Some(had) = run_at(items.as_slice(), index) {
+        items[index] = Item::Run { count: had + count };
+        return Ok(());
+    }
+    items.insert(index, Item::Run { count })?;
     Ok(())
 }
 

@@ -1,12 +1,13 @@
-use Rattle.std.proofs.Common.{rules, arith, ◌≡◌, ◌+◌, ◌-◌, set, ◌<◌, ◌≤◌, ◌∷◌, suc, List, length, drop, refl, sym, ap, ◌∙◌, subst}
+use Rattle.std.proofs.Common.{rules, arith, ◌≡◌, ◌+◌, ◌<◌, ◌≤◌, ◌∷◌, ◌++◌, suc, set, List, length, take, drop, sym, ap, ◌∙◌, subst}
 use Rattle.nx_piece.specs.declared.piece.Item.{Item}
 use Rattle.nx_piece.specs.declared.piece.Item.TheVariants.{Tree, Run}
 use Rattle.nx_piece.specs.Gapped.{Gapped, GappedTree, item_count, proxies_in}
 use Rattle.nx_piece.specs.Items.{gapped_of}
-use Rattle.nx_piece_edits.specs.Cutting.{with_row}
+use Rattle.nx_piece.specs.Valid.{AreApart}
+use Rattle.nx_piece_edits.specs.Cutting.{with_items_at}
 use Rattle.nx_piece_edits.specs.Shortening.{IsItemOf}
 use Rattle.nx_piece.proofs.WalkLemmas.{next_falls}
-use Rattle.nx_piece_edits.proofs.TakeLemmas.{same_items, there_within, there_is, set_there, proxies_there}
+use Rattle.nx_piece_edits.proofs.TakeLemmas.{same_items, there_within, there_is, set_there, proxies_there, apart_there}
 use Rattle.nx_piece_edits.proofs.ShortLemmas.{tree_within, run_within, tree_wider, run_wider}
 use Rattle.nx_piece_edits.proofs.widening.+widen_below.Goals as goal
 
@@ -33,45 +34,11 @@ widen_below-requires t c =
     let all = ap proxies_in whole in
     let few = c.requires.few in
     let most : proxies_in c.in-Tree.child.below ≤ 524288 = omega arith in
-    (search rules, (tree_within c.in-Tree.child h there, (most, c.requires.fits)))
+    let apart : AreApart (gapped_of items) = subst AreApart (sym whole) c.requires.apart in
+    (search rules, (tree_within c.in-Tree.child h there, (most, (apart_there items c.item_of-place.result.0 c.in-Tree.child there apart, (c.requires.fits, c.requires.row)))))
 
-pub returns-in-Tree-clause-below : goal.returns-in-Tree-clause-below
-returns-in-Tree-clause-below t c =
-    let items : List Item = c.into_vec-items.result.items in
-    let whole : gapped_of items ≡ c.args.tree.now.below = c.into_vec-items.ensures ∙ c.replace.ensures.value ∙ ap (λ (x : GappedTree). x.below) c.tree.view_is in
-    let same : c.as_slice.result.now ≡ items = same_items c.as_slice.result.now items (c.as_slice.ensures ∙ ap (λ (x : GappedTree). x.below) c.tree.view_is ∙ sym whole) in
-    let h : IsItemOf items c.args.index c.item_of-place.result = subst (λ xs. IsItemOf xs c.args.index c.item_of-place.result) same c.item_of-place.ensures in
-    let within : c.item_of-place.result.0 < length items = there_within items c.item_of-place.result.0 h.item h.there in
-    let is : h.item ≡ Tree c.in-Tree.child = sym (c.index_mut.ensures.value ∙ there_is items c.item_of-place.result.0 h.item c.index_mut.result.now h.there) ∙ c.in-Tree.is in
-    let there : drop c.item_of-place.result.0 items ≡ Tree c.in-Tree.child ∷ drop (c.item_of-place.result.0 + 1) items = h.there ∙ ap (λ (x : Item). x ∷ drop (c.item_of-place.result.0 + 1) items) is in
-    c.from_vec.ensures ∙ tree_wider c.args.more c.in-Tree.child c.widen_below.new.tree h there (tree_within c.in-Tree.child h there) c.widen_below.ensures.node c.widen_below.ensures.below
-    ∙ ap (λ (f : Gapped). with_row c.args.index c.args.more f) whole
-
-pub returns-in-Run-clause-below : goal.returns-in-Run-clause-below
-returns-in-Run-clause-below t c =
-    let items : List Item = c.into_vec-items.result.items in
-    let whole : gapped_of items ≡ c.args.tree.now.below = c.into_vec-items.ensures ∙ c.replace.ensures.value ∙ ap (λ (x : GappedTree). x.below) c.tree.view_is in
-    let same : c.as_slice.result.now ≡ items = same_items c.as_slice.result.now items (c.as_slice.ensures ∙ ap (λ (x : GappedTree). x.below) c.tree.view_is ∙ sym whole) in
-    let h : IsItemOf items c.args.index c.item_of-place.result = subst (λ xs. IsItemOf xs c.args.index c.item_of-place.result) same c.item_of-place.ensures in
-    let within : c.item_of-place.result.0 < length items = there_within items c.item_of-place.result.0 h.item h.there in
-    let is : h.item ≡ Run c.in-Run.count = sym (c.index_mut.ensures.value ∙ there_is items c.item_of-place.result.0 h.item c.index_mut.result.now h.there) ∙ c.in-Run.is in
-    let there : drop c.item_of-place.result.0 items ≡ Run c.in-Run.count ∷ drop (c.item_of-place.result.0 + 1) items = h.there ∙ ap (λ (x : Item). x ∷ drop (c.item_of-place.result.0 + 1) items) is in
-    let now : List Item = set items c.item_of-place.result.0 (Run (c.in-Run.count - 1 + c.args.more)) in
-    let put : c.put_run.new.items.items ≡ now = c.put_run.ensures ∙ ap (λ (xs : List Item). set xs c.item_of-place.result.0 (Run (c.in-Run.count - 1 + c.args.more))) (set_there items c.item_of-place.result.0 (Run c.in-Run.count) there) in
-    c.from_vec-in-Run.ensures ∙ ap gapped_of put
-    ∙ run_wider c.args.more c.in-Run.count (c.in-Run.count - 1 + c.args.more) h there (run_within c.in-Run.count h there) refl ∙ ap (λ (f : Gapped). with_row c.args.index c.args.more f) whole
-
-pub put_run-requires : goal.put_run-requires
-put_run-requires t c =
-    let items : List Item = c.into_vec-items.result.items in
-    let whole : gapped_of items ≡ c.args.tree.now.below = c.into_vec-items.ensures ∙ c.replace.ensures.value ∙ ap (λ (x : GappedTree). x.below) c.tree.view_is in
-    let same : c.as_slice.result.now ≡ items = same_items c.as_slice.result.now items (c.as_slice.ensures ∙ ap (λ (x : GappedTree). x.below) c.tree.view_is ∙ sym whole) in
-    let h : IsItemOf items c.args.index c.item_of-place.result = subst (λ xs. IsItemOf xs c.args.index c.item_of-place.result) same c.item_of-place.ensures in
-    let within : c.item_of-place.result.0 < length items = there_within items c.item_of-place.result.0 h.item h.there in
-    omega arith
-
-pub overflow_sub-count : goal.overflow_sub-count
-overflow_sub-count t c =
+pub overflow_sub-behind : goal.overflow_sub-behind
+overflow_sub-behind t c =
     let items : List Item = c.into_vec-items.result.items in
     let whole : gapped_of items ≡ c.args.tree.now.below = c.into_vec-items.ensures ∙ c.replace.ensures.value ∙ ap (λ (x : GappedTree). x.below) c.tree.view_is in
     let same : c.as_slice.result.now ≡ items = same_items c.as_slice.result.now items (c.as_slice.ensures ∙ ap (λ (x : GappedTree). x.below) c.tree.view_is ∙ sym whole) in
@@ -82,8 +49,8 @@ overflow_sub-count t c =
     let less : c.item_of-place.result.1 < c.in-Run.count = run_within c.in-Run.count h there in
     omega arith
 
-pub overflow_add-count : goal.overflow_add-count
-overflow_add-count t c =
+pub overflow_sub-behind-in-Run : goal.overflow_sub-behind-in-Run
+overflow_sub-behind-in-Run t c =
     let items : List Item = c.into_vec-items.result.items in
     let whole : gapped_of items ≡ c.args.tree.now.below = c.into_vec-items.ensures ∙ c.replace.ensures.value ∙ ap (λ (x : GappedTree). x.below) c.tree.view_is in
     let same : c.as_slice.result.now ≡ items = same_items c.as_slice.result.now items (c.as_slice.ensures ∙ ap (λ (x : GappedTree). x.below) c.tree.view_is ∙ sym whole) in
@@ -91,8 +58,65 @@ overflow_add-count t c =
     let within : c.item_of-place.result.0 < length items = there_within items c.item_of-place.result.0 h.item h.there in
     let is : h.item ≡ Run c.in-Run.count = sym (c.index_mut.ensures.value ∙ there_is items c.item_of-place.result.0 h.item c.index_mut.result.now h.there) ∙ c.in-Run.is in
     let there : drop c.item_of-place.result.0 items ≡ Run c.in-Run.count ∷ drop (c.item_of-place.result.0 + 1) items = h.there ∙ ap (λ (x : Item). x ∷ drop (c.item_of-place.result.0 + 1) items) is in
+    let less : c.item_of-place.result.1 < c.in-Run.count = run_within c.in-Run.count h there in
+    omega arith
+
+pub closed-requires-clause-fits : goal.closed-requires-clause-fits
+closed-requires-clause-fits t c =
+    let items : List Item = c.into_vec-items.result.items in
+    let whole : gapped_of items ≡ c.args.tree.now.below = c.into_vec-items.ensures ∙ c.replace.ensures.value ∙ ap (λ (x : GappedTree). x.below) c.tree.view_is in
+    let same : c.as_slice.result.now ≡ items = same_items c.as_slice.result.now items (c.as_slice.ensures ∙ ap (λ (x : GappedTree). x.below) c.tree.view_is ∙ sym whole) in
+    let h : IsItemOf items c.args.index c.item_of-place.result = subst (λ xs. IsItemOf xs c.args.index c.item_of-place.result) same c.item_of-place.ensures in
+    let within : c.item_of-place.result.0 < length items = there_within items c.item_of-place.result.0 h.item h.there in
+    let is : h.item ≡ Run c.in-Run.count = sym (c.index_mut.ensures.value ∙ there_is items c.item_of-place.result.0 h.item c.index_mut.result.now h.there) ∙ c.in-Run.is in
+    let there : drop c.item_of-place.result.0 items ≡ Run c.in-Run.count ∷ drop (c.item_of-place.result.0 + 1) items = h.there ∙ ap (λ (x : Item). x ∷ drop (c.item_of-place.result.0 + 1) items) is in
+    let less : c.item_of-place.result.1 < c.in-Run.count = run_within c.in-Run.count h there in
     let sum = proxies_there items c.item_of-place.result.0 (Run c.in-Run.count) there in
     let all = ap proxies_in whole in
     let few = c.requires.few in
     let fits = c.requires.fits in
     omega arith
+
+pub put_items-requires : goal.put_items-requires
+put_items-requires t c =
+    let items : List Item = c.into_vec-items.result.items in
+    let whole : gapped_of items ≡ c.args.tree.now.below = c.into_vec-items.ensures ∙ c.replace.ensures.value ∙ ap (λ (x : GappedTree). x.below) c.tree.view_is in
+    let same : c.as_slice.result.now ≡ items = same_items c.as_slice.result.now items (c.as_slice.ensures ∙ ap (λ (x : GappedTree). x.below) c.tree.view_is ∙ sym whole) in
+    let h : IsItemOf items c.args.index c.item_of-place.result = subst (λ xs. IsItemOf xs c.args.index c.item_of-place.result) same c.item_of-place.ensures in
+    let within : c.item_of-place.result.0 < length items = there_within items c.item_of-place.result.0 h.item h.there in
+    omega arith
+
+pub returns-in_ok-widen_below-in-Tree : goal.returns-in_ok-widen_below-in-Tree
+returns-in_ok-widen_below-in-Tree t c =
+    let items : List Item = c.into_vec-items.result.items in
+    let whole : gapped_of items ≡ c.args.tree.now.below = c.into_vec-items.ensures ∙ c.replace.ensures.value ∙ ap (λ (x : GappedTree). x.below) c.tree.view_is in
+    let same : c.as_slice.result.now ≡ items = same_items c.as_slice.result.now items (c.as_slice.ensures ∙ ap (λ (x : GappedTree). x.below) c.tree.view_is ∙ sym whole) in
+    let h : IsItemOf items c.args.index c.item_of-place.result = subst (λ xs. IsItemOf xs c.args.index c.item_of-place.result) same c.item_of-place.ensures in
+    let within : c.item_of-place.result.0 < length items = there_within items c.item_of-place.result.0 h.item h.there in
+    let is : h.item ≡ Tree c.in-Tree.child = sym (c.index_mut.ensures.value ∙ there_is items c.item_of-place.result.0 h.item c.index_mut.result.now h.there) ∙ c.in-Tree.is in
+    let there : drop c.item_of-place.result.0 items ≡ Tree c.in-Tree.child ∷ drop (c.item_of-place.result.0 + 1) items = h.there ∙ ap (λ (x : Item). x ∷ drop (c.item_of-place.result.0 + 1) items) is in
+    let put = c.in_ok-widen_below-in-Tree.ensures in (
+      ap (λ (x : GappedTree). x.node) c.tree.view_is,
+      c.from_vec.ensures ∙ tree_wider (gapped_of c.args.row.items) c.in-Tree.child c.widen_below.new.tree h there (tree_within c.in-Tree.child h there) put.0 put.1
+          ∙ ap (λ (f : Gapped). with_items_at c.args.index (gapped_of c.args.row.items) f) whole,
+    )
+
+pub returns-in_ok-put_items-in-Run : goal.returns-in_ok-put_items-in-Run
+returns-in_ok-put_items-in-Run t c =
+    let items : List Item = c.into_vec-items.result.items in
+    let whole : gapped_of items ≡ c.args.tree.now.below = c.into_vec-items.ensures ∙ c.replace.ensures.value ∙ ap (λ (x : GappedTree). x.below) c.tree.view_is in
+    let same : c.as_slice.result.now ≡ items = same_items c.as_slice.result.now items (c.as_slice.ensures ∙ ap (λ (x : GappedTree). x.below) c.tree.view_is ∙ sym whole) in
+    let h : IsItemOf items c.args.index c.item_of-place.result = subst (λ xs. IsItemOf xs c.args.index c.item_of-place.result) same c.item_of-place.ensures in
+    let within : c.item_of-place.result.0 < length items = there_within items c.item_of-place.result.0 h.item h.there in
+    let is : h.item ≡ Run c.in-Run.count = sym (c.index_mut.ensures.value ∙ there_is items c.item_of-place.result.0 h.item c.index_mut.result.now h.there) ∙ c.in-Run.is in
+    let there : drop c.item_of-place.result.0 items ≡ Run c.in-Run.count ∷ drop (c.item_of-place.result.0 + 1) items = h.there ∙ ap (λ (x : Item). x ∷ drop (c.item_of-place.result.0 + 1) items) is in
+    let less : c.item_of-place.result.1 < c.in-Run.count = run_within c.in-Run.count h there in
+    let apart : AreApart (gapped_of items) = subst AreApart (sym whole) c.requires.apart in
+    let old : List Item = set items c.item_of-place.result.0 (Run c.in-Run.count) in
+    let same_old : old ≡ items = set_there items c.item_of-place.result.0 (Run c.in-Run.count) there in
+    let put : c.put_items.new.items.items ≡ take c.item_of-place.result.0 items ++ (c.in_ok-all-in-Run.all.items ++ drop (c.item_of-place.result.0 + 1) items) =
+    c.in_ok-put_items-in-Run.ensures ∙ ap (λ (xs : List Item). take c.item_of-place.result.0 xs ++ (c.in_ok-all-in-Run.all.items ++ drop (c.item_of-place.result.0 + 1) xs)) same_old in (
+      ap (λ (x : GappedTree). x.node) c.tree.view_is,
+      c.from_vec-in-Run.ensures ∙ run_wider (gapped_of c.args.row.items) c.in-Run.count c.in_ok-all-in-Run.all.items c.put_items.new.items.items h there less apart c.requires.row c.in_ok-all-in-Run.ensures put
+          ∙ ap (λ (f : Gapped). with_items_at c.args.index (gapped_of c.args.row.items) f) whole,
+    )
