@@ -5,7 +5,7 @@ use Rattle.nx_host.specs.declared.disk.Disk.{Ghosts}
 use Rattle.nx_records.specs.Words.{Held}
 use Rattle.nx_records.specs.declared.records.Records.{Records}
 use Rattle.nx_piece.specs.declared.piece.Piece.{Piece}
-use Rattle.nx_piece.specs.Gapped.{GappedTree, gapped_width}
+use Rattle.nx_piece.specs.Gapped.{GappedTree, gapped_weight, gapped_width}
 use Rattle.nx_piece.specs.Locate.{Inside, Outside, reached_in}
 use Rattle.nx_piece.specs.Valid.{IsValidPiece}
 use Rattle.nx_cuts.specs.Cut.{CutTree}
@@ -21,6 +21,7 @@ pub record IsPassedRecord (piece : Piece) (member : ℕ) (path : List ℕ) (pass
   pub leads : reached_in piece member path ≡ Outside passed.index passed.member passed.used
   pub proxy_is : slice_get piece.proxies passed.index ≡ Some passed.proxy
   pub roots_are : passed.roots ≡ gapped_width piece.body.roots
+  pub weighs : passed.weight ≡ gapped_weight piece.body.roots
   pub above : (tree : GappedTree) × (first : ℕ) × (reached_in piece member (take (passed.used - 1) path) ≡ Inside tree first) × (passed.above ≡ tree.node.node)
 
 -- From a member of the piece in the record at this place on, the path passes these records of what is held, and ends in the record with the last piece.

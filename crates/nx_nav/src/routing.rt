@@ -20,6 +20,8 @@ use std::alloc::Global;
 pub struct PassedRecord {
     /// How many roots the piece has.
     pub roots: u16,
+    /// What the piece weighs, in slots of 8 bytes.
+    pub weight: u32,
     /// Which of the piece's proxies it is.
     pub index: u32,
     /// The proxy.
@@ -67,6 +69,7 @@ pub fn pass_record(
         let above = node_at(alloc, piece, from, &path[..used as usize - 1])?;
         passed.push(PassedRecord {
             roots: piece.body.root_count(),
+            weight: piece.body.weight(),
             index,
             proxy,
             member,
