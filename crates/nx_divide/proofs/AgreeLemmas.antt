@@ -17,16 +17,17 @@ use Rattle.nx_cuts.proofs.WeightLemmas.{AreDistinct}
 use Rattle.nx_layouts.specs.Layout.{Layout, without_places, AreLaidParts}
 use Rattle.nx_layouts.specs.Replace.{joined_layout}
 use Rattle.nx_sketch.specs.Sketch.{Placed}
-use Rattle.nx_sketch.specs.Plan.{IsInside, IsPlanOfPart}
+use Rattle.nx_sketch.specs.Plan.{IsInside}
 use Rattle.nx_split.specs.Piece.{asked_of_root}
 use Rattle.nx_build.specs.Marked as cut
 use Rattle.nx_build.proofs.HolderLemmas.{drawn_agrees, first_held}
 use Rattle.nx_build.proofs.MarkedLemmas as mark
-use Rattle.nx_drawn.specs.Splits.{part_nodes}
+use Rattle.nx_drawn.specs.Splits.{part_nodes, part_sketch}
 use Rattle.nx_drafts.specs.Draft.{Draft, Ends, Grows, Stands, Comes, drawn_forest, layout_before}
 use Rattle.nx_drafts.specs.Laws.{IsDrafted}
 use Rattle.nx_layouts.proofs.DrawnLemmas.{drawn_wide}
 use Rattle.nx_drawn.proofs.DividedLemmas as divided
+use Rattle.nx_drawn.proofs.DivisionLemmas.{AreLightRuns}
 use Rattle.nx_drawn.proofs.DividedLemmas.{IsClear, nodes_clear, members_clear, drawn_apart, away, no_holder}
 use Rattle.nx_drafts.proofs.DraftLemmas.{all_apart, both_apart}
 use Rattle.nx_drafts.proofs.GatherLemmas.{width-layout_before}
@@ -146,9 +147,9 @@ helper : Node
 helper = record { kind = Text; name = []; content = [] }
 
 -- the marks of a plan, and its draft
-pub plan_agrees : (rules : List Rule) (above : Option Node) (limit : ℕ) (members : Layout) (parts : List Interval) → AreLaidParts limit members → IsPlanOfPart (part_nodes rules above (without_places members)) parts → (made : IsDrafted limit members parts)
+pub plan_agrees : (rules : List Rule) (above : Option Node) (limit : ℕ) (members : Layout) (parts : List Interval) → AreLaidParts limit members → (k : ℕ) → AreLightRuns k (part_sketch rules (asked_of_root rules above) 0 (without_places members)) parts → (raised : Option ℕ) (made : IsDrafted limit members parts raised)
     → IsHeldAs None (holder parts) 0 made.draft
-plan_agrees rules above limit members parts light plan made =
+plan_agrees rules above limit members parts light k plan raised made =
     let old = without_places members in
     let olds = intervals [] 0 old in
     let nodes = part_nodes rules above old in

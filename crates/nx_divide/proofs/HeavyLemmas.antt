@@ -5,7 +5,7 @@ use Rattle.nx_piece.specs.declared.piece.Proxy.{Proxy}
 use Rattle.nx_piece.specs.Gapped as gapped
 use Rattle.nx_piece.specs.Gapped.{Gapped, End, Grow, Gap, gapped_size, gapped_weight, proxies_in}
 use Rattle.nx_piece.specs.Valid.{AreTrees, HaveRoots}
-use Rattle.nx_cuts.specs.Cut.{CutForest, Bare, Grown, Kept, forest, width, part_weight, AreFree, AreParts}
+use Rattle.nx_cuts.specs.Cut.{CutForest, Bare, Grown, Kept, forest, width, AreFree}
 use Rattle.nx_layouts.specs.Layout.{Layout, without_places, laid_forest, laid_weight, AreLaidParts, gap_more, piece_body, proxies_of}
 use Rattle.nx_layouts.proofs.LayoutLemmas.{proxies_counted}
 use Rattle.nx_layouts.proofs.NodeLemmas.{item_weighs}
@@ -40,7 +40,8 @@ roots_both : (ps qs : List Proxy) → HaveRoots ps → HaveRoots qs → HaveRoot
 roots_both [] qs h k = k
 roots_both (p ∷ ps) qs h k = (h.0, h.1, roots_both ps qs h.2 k)
 
-rooted : (a : Layout) → AreLaidParts 256 a → HaveRoots (proxies_of a)
+-- what proxies stand for has 1 to 256 members
+pub rooted : (a : Layout) → AreLaidParts 256 a → HaveRoots (proxies_of a)
 rooted Bare h = tt
 rooted (Grown n b s) h = roots_both (proxies_of b) (proxies_of s) (rooted b h.0) (rooted s h.1)
 rooted (Kept r m s) h =

@@ -16,17 +16,19 @@ use Rattle.nx_piece.specs.declared.piece.Piece.{Piece}
 use Rattle.nx_piece.specs.declared.piece.Proxy.{Proxy}
 use Rattle.nx_piece.specs.Gapped as gapped
 use Rattle.nx_piece.specs.Gapped.{Gapped, proxies_in}
+use Rattle.nx_divide.specs.declared.dividing.Row.{Row}
 use Rattle.nx_piece.specs.Items.{gapped_of}
 use Rattle.nx_cuts.specs.Cut.{width, AreFree}
-use Rattle.nx_layouts.specs.Layout.{RecordPlace, proxies_of}
+use Rattle.nx_layouts.specs.Layout.{RecordPlace, piece_body, proxies_of}
+use Rattle.nx_build.specs.Rows.{with_proxy}
 use Rattle.nx_hold.specs.Pieces.{record_at, HoldsNone, MayName}
 use Rattle.nx_hold.specs.Changes.{place_named, piece_needs, UpdatesPiece, ComesTidyWhere}
-use Rattle.nx_drafts.specs.Draft.{Draft, Ends, Comes, drawn_forest, layout_after, unmarked, draft_needs}
+use Rattle.nx_drafts.specs.Draft.{Draft, Ends, Comes, drawn_forest, layout_before, layout_after, unmarked, draft_count, draft_needs}
 use Rattle.nx_drafts.proofs.PlacesLemmas.{body-layout_after}
-use Rattle.nx_divide.specs.Marked.{IsMarkedDraft, IsMarkedRow, AreMarkedMembers, HasMarkedDraft, HasMarkedMembers}
+use Rattle.nx_divide.specs.Marked.{IsMarkedDraft, IsMarkedRow, AreMarkedMembers, HasMarkedDraft, HasMarkedMembers, many}
 use Rattle.nx_divide.specs.Putting.{ArePut, PutsRow, GathersPiece}
 use Rattle.nx_divide.specs.Dividing.{ArePutAt, PutsRowAt, NotPutAt}
-use Rattle.nx_divide.proofs.RowLemmas.{joined_draft, unmarked-joined, proxies-joined, needs-joined, needs-unmarked, width-layout_after, drawn_forest-unmarked}
+use Rattle.nx_divide.proofs.RowLemmas.{joined_draft, unmarked-joined, proxies-joined, needs-joined, needs-unmarked, count-joined, count-unmarked, count_few, body-comes, proxies-body, width-layout_after, drawn_forest-unmarked}
 use Rattle.nx_divide.proofs.CallLemmas.{put_both, put_refused}
 use Rattle.nx_divide.proofs.WalkLemmas.{proxy_is, free_width, members_written}
 use Rattle.nx_divide.proofs.StepLemmas.{gathered_needs}
@@ -88,6 +90,16 @@ module _ (marks : List Mark) (roots : List Item) (olds : List Proxy) (len first 
       front_needs : draft_needs put.draft ≡ draft_needs parted.front
       front_needs = sym (needs-unmarked put.draft) ∙ ap draft_needs put.same
 
+      -- the last proxy can be counted with them
+      pub front_room : many (gapped_of roots) ≤ 524288 → proxies_in made < 524288
+      front_room most =
+          let own : proxies_in made ≡ draft_count put.draft = ap proxies_in put.body_is ∙ proxies-body put.draft in
+          let same : draft_count parted.front ≡ draft_count put.draft = ap draft_count (sym put.same) ∙ count-unmarked put.draft in
+          let both : draft_count drawn ≡ draft_count parted.front + draft_count (Comes tt parted.members Ends) = ap draft_count (sym parted.is) ∙ count-joined parted.front (Comes tt parted.members Ends) in
+          let few = count_few 256 drawn (m.marked).light in
+          let items : many (piece_body (layout_before drawn)) ≡ many (gapped_of roots) = ap many (m.marked).items_are in
+          omega (arith, own, same, both, few, items, most)
+
       members : AreMarkedMembers (holder_by_marks marks) first (gapped_of (take (len - first) lasts)) left parted.members
       members = last_marked fronts lasts left fronts_are lasts_are left_is
 
@@ -130,12 +142,22 @@ module _ (marks : List Mark) (roots : List Item) (olds : List Proxy) (len first 
           pub row_memory : NotPutAt d place (draft_needs drawn) error.Memory r0 r4 x0 x4
           row_memory = (0, (at.runs, at.keeps))
 
-          pub row_put : (all : List Proxy) → all ≡ row ++ proxy ∷ [] → PutsRowAt d place r0 r4 x0 x4 drawn all
-          row_put all are = record {
-            draft = joined_draft put.draft (Comes (place_named proxy) gathered.draft Ends);
-            same = unmarked-joined put.draft (Comes (place_named proxy) gathered.draft Ends) ∙ ap (λ (c : Plan). joined_draft c (Comes tt (unmarked gathered.draft) Ends)) put.same
-                ∙ ap (λ (c : Plan). joined_draft parted.front (Comes tt c Ends)) gathered.same ∙ parted.is;
-            proxies_are = are ∙ ap (λ (l : List Proxy). l ++ proxy ∷ []) put.proxies_are ∙ ap (λ (p : Proxy). proxies_of (layout_after put.draft) ++ p ∷ []) (proxy_is proxy (width (layout_after gathered.draft)) roots_are)
-                ∙ sym (proxies-joined put.draft (Comes (place_named proxy) gathered.draft Ends));
+          abbrev last_draft : Draft RecordPlace
+          last_draft = joined_draft put.draft (Comes (place_named proxy) gathered.draft Ends)
+
+          last_same : unmarked last_draft ≡ drawn
+          last_same = unmarked-joined put.draft (Comes (place_named proxy) gathered.draft Ends) ∙ ap (λ (c : Plan). joined_draft c (Comes tt (unmarked gathered.draft) Ends)) put.same
+              ∙ ap (λ (c : Plan). joined_draft parted.front (Comes tt c Ends)) gathered.same ∙ parted.is
+
+          last_proxies : (all : List Proxy) → all ≡ row ++ proxy ∷ [] → all ≡ proxies_of (layout_after last_draft)
+          last_proxies all are = are ∙ ap (λ (l : List Proxy). l ++ proxy ∷ []) put.proxies_are ∙ ap (λ (p : Proxy). proxies_of (layout_after put.draft) ++ p ∷ []) (proxy_is proxy (width (layout_after gathered.draft)) roots_are)
+              ∙ sym (proxies-joined put.draft (Comes (place_named proxy) gathered.draft Ends))
+
+          pub row_put : (all : Row) → all.items ≡ with_proxy made → all.proxies ≡ row ++ proxy ∷ [] → PutsRowAt d place r0 r4 x0 x4 drawn all
+          row_put all items_is are = record {
+            draft = last_draft;
+            same = last_same;
+            items_are = items_is ∙ ap with_proxy put.body_is ∙ sym (body-comes put.draft (place_named proxy) gathered.draft) ∙ sym (body-layout_after last_draft);
+            proxies_are = last_proxies all.proxies are;
             put = at;
           }

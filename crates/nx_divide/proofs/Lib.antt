@@ -7,11 +7,13 @@ pub mod MarkedLemmas
 pub mod PartedLemmas
 pub mod PlaceLemmas
 pub mod LastLemmas
+pub mod RaisedLemmas
 pub mod WalkLemmas
 pub mod AgreeLemmas
 pub mod RunLemmas
 pub mod StepLemmas
 pub mod TopLemmas
+pub mod FitLemmas
 pub mod LeftLemmas
 pub mod KeepLemmas
 pub mod HeavyLemmas

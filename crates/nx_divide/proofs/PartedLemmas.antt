@@ -14,7 +14,7 @@ use Rattle.nx_cuts.proofs.FeasibleLemmas.{le_or}
 use Rattle.nx_layouts.specs.Layout.{Layout, in_record, gap_more, piece_body, proxies_of}
 use Rattle.nx_layouts.specs.Replace.{joined_layout}
 use Rattle.nx_layouts.proofs.ReplaceLemmas.{proxies-joined_layout}
-use Rattle.nx_drafts.specs.Draft.{Draft, Ends, Grows, Stands, Comes, drawn_forest, layout_before, AreHeldAll}
+use Rattle.nx_drafts.specs.Draft.{Draft, Ends, Grows, Stands, Comes, drawn_forest, layout_before, AreHeldBut}
 use Rattle.nx_divide.specs.Marked.{BeginsApart, AreWritten, IsMarkedDraft, AreMarkedMembers, ComeAll}
 use Rattle.nx_divide.proofs.WrittenLemmas.{written-append}
 use Rattle.nx_divide.proofs.RowLemmas.{joined_draft}
@@ -197,8 +197,11 @@ trees_behind (Grown n d s) b t = trees_behind s b t
 trees_behind (Kept r m s) b t = absurd (no_trees (piece_body (joined_layout s b)) t)
 
 -- trees that intervals hold are members of intervals that come
-pub all_come : (c : Plan) → AreHeldAll c → AreTrees (piece_body (layout_before c)) → ComeAll c
-all_come Ends held trees = tt
-all_come (Grows n b s) held trees = absurd held
-all_come (Stands r m s) held trees = absurd (no_trees (piece_body (layout_before s)) trees)
-all_come (Comes u i s) held trees = all_come s held (trees_behind (layout_before i) (layout_before s) trees)
+pub all_come : (position : ℕ) (c : Plan) → AreHeldBut None position c → AreTrees (piece_body (layout_before c)) → ComeAll c
+all_come position Ends held trees = tt
+all_come position (Grows n b s) held trees = absurd (none_named held.0)
+  where
+    none_named : {p : ℕ} → None ≡ Some p → ⊥
+    none_named e = cc
+all_come position (Stands r m s) held trees = absurd (no_trees (piece_body (layout_before s)) trees)
+all_come position (Comes u i s) held trees = all_come (position + width (drawn_forest i)) s held (trees_behind (layout_before i) (layout_before s) trees)

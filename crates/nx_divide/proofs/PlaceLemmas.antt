@@ -85,7 +85,7 @@ module _ (place : RecordPlace) (come : List RecordPlace) (needs : ℕ) (was now 
         held_apart s (λ among. apart (later_among p (places_of m ++ places_of s) place (Contains-append_right (places_of m) (places_of s) place among))) (behind_named was p m s may) h.2,
       )
 
-turned : (place : RecordPlace) (rest : List RecordPlace) → HaveSame (rest ++ place ∷ []) (place ∷ rest)
+pub turned : (place : RecordPlace) (rest : List RecordPlace) → HaveSame (rest ++ place ∷ []) (place ∷ rest)
 turned place rest other = (
   λ among. elim (Contains-append_cases rest (place ∷ []) other among) [
     | inl inside ↦ later_among place rest other inside

@@ -23,17 +23,21 @@ use Rattle.nx_layouts.proofs.SizeLemmas.{body_weight}
 use Rattle.nx_layouts.proofs.FillLemmas.{parts_filled, row_is_filled}
 use Rattle.nx_hold.specs.Pieces.{MayName, held_by}
 use Rattle.nx_drawn.specs.Splits.{Divides, SplitsInterval}
-use Rattle.nx_drafts.specs.Draft.{layout_after, came, draft_needs}
+use Rattle.nx_drafts.specs.Draft.{layout_before, layout_after, came, draft_needs}
 use Rattle.nx_drafts.proofs.RowLemmas.{one_is_split}
 use Rattle.nx_divide.specs.Dividing.{DividesMembers, NotPutAt, StandApart, NotSplitAt, SplitsAt}
+use Rattle.nx_hold.proofs.MoveLemmas.{may_name_still}
+use Rattle.nx_divide.specs.declared.dividing.Row.{Row}
+use Rattle.nx_drawn.proofs.RoomLemmas.{raised_has_room}
+use Rattle.nx_divide.proofs.WrittenLemmas.{fars_after}
 use Rattle.nx_divide.proofs.PutLemmas.{may_fewer}
 use Rattle.nx_divide.proofs.PlaceLemmas.{held_apart}
 use Rattle.nx_divide.proofs.TopLemmas.{GivesUpAt}
 
 -- a part that is too heavy is divided
-divided_interval : (settings : Settings) (rules : List Rule) (above : Option Node) (m now : CutForest) (t : Bool) → t ≡ true → Divides settings rules above m now → MatchBool t (Divides settings rules above m now) (now ≡ Kept tt m Bare)
-divided_interval settings rules above m now true e d = d
-divided_interval settings rules above m now false e d = cc
+divided_interval : (settings : Settings) (rules : List Rule) (room : ℕ) (above : Option Node) (m now : CutForest) (t : Bool) → t ≡ true → Divides settings rules room above m now → MatchBool t (Divides settings rules room above m now) (now ≡ Kept tt m Bare)
+divided_interval settings rules room above m now true e d = d
+divided_interval settings rules room above m now false e d = cc
 
 heavy_part : (piece : Piece) (members : Layout) (k : ℕ) → piece_of members ≡ piece → k < gapped_weight piece.body.roots → nat_lt k (laid_weight members) ≡ true
 heavy_part piece members k e heavy =
@@ -47,19 +51,21 @@ hole_named : (was : Held) (index : ℕ) (whole : Layout) → MayName was (piece_
 hole_named was index whole =
     may_fewer was (piece_body (replaced_at index Bare whole)) (piece_body whole) (λ far among. subst (λ (fs : List Far). Contains fs far) (row_is_filled 0 index Bare whole).own among)
 
-module _ {D : Type 0} (d : Ghosts D) (settings : Settings) (rules : List Rule) (above : Option Node) (place : RecordPlace) (r0 r1 : Records) (same : settings_of r0 ≡ settings) (x0 x1 : D) (piece : Piece) where
-  split_at : (top : Option Node) (index : ℕ) (whole members : Layout) (row : List Proxy) → kept_at index whole ≡ Some members → piece_of members ≡ piece → settings.k < gapped_weight piece.body.roots
-      → above_at index top whole ≡ above → AreLaidParts settings.k (replaced_at index Bare whole) → AreLaidParts settings.k members → index < length (proxies_of whole) → DividesMembers d settings rules above place r0 r1 x0 x1 members row
-      → SplitsAt d settings rules top index place r0 r1 x0 x1 whole members row
+module _ {D : Type 0} (d : Ghosts D) (settings : Settings) (rules : List Rule) (room : ℕ) (above : Option Node) (place : RecordPlace) (r0 r1 : Records) (same : settings_of r0 ≡ settings) (x0 x1 : D) (piece : Piece) where
+  split_at : (top : Option Node) (index : ℕ) (whole members : Layout) (row : Row) → kept_at index whole ≡ Some members → piece_of members ≡ piece → settings.k < gapped_weight piece.body.roots
+      → above_at index top whole ≡ above → AreLaidParts settings.k (replaced_at index Bare whole) → AreLaidParts settings.k members → index < length (proxies_of whole) → DividesMembers d settings rules room above place r0 r1 x0 x1 members row
+      → SplitsAt d settings rules room top index place r0 r1 x0 x1 whole members row
   split_at top index whole members row kept is heavy node hole light low made = record {
     draft = made.draft;
     stands = made.stands;
-    splits = one_is_split settings rules top index whole members (layout_after made.draft) kept hole light
-        (subst (λ (o : Option Node). SplitsInterval settings rules o (without_places members) (without_places (layout_after made.draft))) (sym node)
-        (divided_interval settings rules above (without_places members) (without_places (layout_after made.draft)) (nat_lt settings.k (laid_weight members)) (heavy_part piece members settings.k is heavy) made.divides));
+    splits = one_is_split settings rules room top index whole members (layout_after made.draft) kept hole light
+        (subst (λ (o : Option Node). SplitsInterval settings rules room o (without_places members) (without_places (layout_after made.draft))) (sym node)
+        (divided_interval settings rules room above (without_places members) (without_places (layout_after made.draft)) (nat_lt settings.k (laid_weight members)) (heavy_part piece members settings.k is heavy) made.divides));
     light = parts_filled settings.k index (layout_after made.draft) whole hole made.light;
-    gap = made.gap;
-    proxies = subst (λ (l : List Proxy). proxies_of (replaced_at index (layout_after made.draft) whole) ≡ take index (proxies_of whole) ++ l ++ drop (index + 1) (proxies_of whole)) (sym made.row_is)
+    fits = raised_has_room settings rules room above (without_places members) (without_places (layout_after made.draft)) settings.k light made.divides;
+    items_are = made.items_are;
+    proxies_are = made.proxies_are;
+    proxies = subst (λ (l : List Proxy). proxies_of (replaced_at index (layout_after made.draft) whole) ≡ take index (proxies_of whole) ++ l ++ drop (index + 1) (proxies_of whole)) (sym made.proxies_are)
         (replaces index whole (layout_after made.draft) low).proxies_are;
     comes = λ saved was stands tidy may.
         let now = (made.put).puts saved was stands tidy (subst (λ (l : Layout). MayName was (piece_body l)) (sym made.stands) may) in
@@ -71,6 +77,7 @@ module _ {D : Type 0} (d : Ghosts D) (settings : Settings) (rules : List Rule) (
           (
             puts.moves,
             puts.once,
+            may_name_still (piece_body (layout_after made.draft)) tidy puts.moves (may_fewer was (piece_body (layout_after made.draft)) (piece_body (layout_before made.draft)) (fars_after made.draft) (subst (λ (l : Layout). MayName was (piece_body l)) (sym made.stands) may)),
             λ before after beside_apart below_apart named beside below.
                 held_filled (held_by after) index (layout_after made.draft) whole
                 (held_apart place (came made.draft) (draft_needs made.draft) was now.0 tidy puts.moves before after (replaced_at index Bare whole) beside_apart (hole_named was index whole named) beside)
@@ -81,16 +88,16 @@ module _ {D : Type 0} (d : Ghosts D) (settings : Settings) (rules : List Rule) (
   }
 
   -- what the call answers
-  pub splits_ok : settings.k < gapped_weight piece.body.roots → (r : Result (List Proxy) StoreError)
-      → IfOk r (λ row. (members : Layout) → piece_of members ≡ piece → AreLaidParts settings.k members → DividesMembers d settings rules above place r0 r1 x0 x1 members row)
+  pub splits_ok : settings.k < gapped_weight piece.body.roots → (r : Result Row StoreError)
+      → IfOk r (λ row. (members : Layout) → piece_of members ≡ piece → AreLaidParts settings.k members → DividesMembers d settings rules room above place r0 r1 x0 x1 members row)
       → IfOk r (λ row. (top : Option Node) (index : ℕ) (whole members : Layout) → kept_at index whole ≡ Some members → piece_of members ≡ piece → above_at index top whole ≡ above → AreLaidParts settings.k (replaced_at index Bare whole) → AreLaidParts settings.k members
-      → index < length (proxies_of whole) → SplitsAt d settings rules top index place r0 r1 x0 x1 whole members row)
+      → index < length (proxies_of whole) → SplitsAt d settings rules room top index place r0 r1 x0 x1 whole members row)
   splits_ok heavy (Ok row) made = λ top index whole members kept is node hole light low. split_at top index whole members row kept is heavy node hole light low (made members is light)
   splits_ok heavy (Err e) made = tt
 
   -- why it gave up
-  split_refused : (e : StoreError) → (needs : ℕ) × NotPutAt d place needs e r0 r1 x0 x1 → ((members : Layout) → piece_of members ≡ piece → AreLaidParts settings.k members → GivesUpAt d settings rules above place e r0 r1 x0 x1 members)
-      → NotSplitAt d settings rules above place piece e r0 r1 x0 x1
+  split_refused : (e : StoreError) → (needs : ℕ) × NotPutAt d place needs e r0 r1 x0 x1 → ((members : Layout) → piece_of members ≡ piece → AreLaidParts settings.k members → GivesUpAt d settings rules room above place e r0 r1 x0 x1 members)
+      → NotSplitAt d settings rules room above place piece e r0 r1 x0 x1
   split_refused error.Disk why each = (why.1).1
   split_refused (error.Damaged page) why each = let w = (why.1).1 in (w.ends, λ saved now stands tidy. w.lacks saved now stands tidy)
   split_refused error.Ended why each = (why.1).1
@@ -105,7 +112,7 @@ module _ {D : Type 0} (d : Ghosts D) (settings : Settings) (rules : List Rule) (
   split_refused error.Exists why each = absurd (why.1).1
   split_refused error.NotAStore why each = absurd (why.1).1
 
-  pub splits_refused : (r : Result (List Proxy) StoreError) → IfErr r (λ e. (needs : ℕ) × NotPutAt d place needs e r0 r1 x0 x1)
-      → IfErr r (λ e. (members : Layout) → piece_of members ≡ piece → AreLaidParts settings.k members → GivesUpAt d settings rules above place e r0 r1 x0 x1 members) → IfErr r (λ e. NotSplitAt d settings rules above place piece e r0 r1 x0 x1)
+  pub splits_refused : (r : Result Row StoreError) → IfErr r (λ e. (needs : ℕ) × NotPutAt d place needs e r0 r1 x0 x1)
+      → IfErr r (λ e. (members : Layout) → piece_of members ≡ piece → AreLaidParts settings.k members → GivesUpAt d settings rules room above place e r0 r1 x0 x1 members) → IfErr r (λ e. NotSplitAt d settings rules room above place piece e r0 r1 x0 x1)
   splits_refused (Ok row) why each = tt
   splits_refused (Err e) why each = split_refused e why each

@@ -1,5 +1,5 @@
--- A part that was put by a draft of its split is divided.
-use Rattle.std.proofs.Common.{◌≡◌, ℕ, zero, suc, ◌+◌, ◌*◌, ◌^◌, ◌≤◌, ◌<◌, List, [], ◌∷◌, ◌++◌, length, Option, None, refl, sym, ap, subst, ◌∙◌, arith, append-nil, length-append}
+-- A part that was put by a draft of its division is divided.
+use Rattle.std.proofs.Common.{◌≡◌, ℕ, ◌+◌, ◌*◌, ◌^◌, ◌≤◌, ◌<◌, List, [], ◌∷◌, ◌++◌, length, Option, None, Some, refl, sym, ap, subst, ◌∙◌, arith, append-nil, length-append}
 use Rattle.std.specs.Prelude.{Result, Ok, Err, IfOk, IfErr}
 use Rattle.std.proofs.lemmas.List.Sorted.{length_permutation}
 use Rattle.nx_host.specs.declared.disk.Disk.{Ghosts}
@@ -25,69 +25,39 @@ use Rattle.nx_piece.specs.Valid.{IsPiece, AreApart, AreNear, AreTrees, BeginsNoG
 use Rattle.nx_parts.specs.declared.marks.Mark.{Mark}
 use Rattle.nx_parts.specs.Marks.{marked, marked_in, holder_by_marks}
 use Rattle.nx_layouts.specs.Replace.{joined_layout}
-use Rattle.nx_layouts.specs.Layout.{RecordPlace, Layout, without_places, laid_forest, AreLaidParts, gap_more, piece_body, proxies_of, piece_of}
-use Rattle.nx_sketch.specs.Split.{IsSplit}
-use Rattle.nx_split.specs.Piece.{placed_of}
-use Rattle.nx_drawn.specs.Splits.{part_nodes, Divides}
+use Rattle.nx_layouts.specs.Layout.{RecordPlace, Layout, without_places, laid_forest, AreLaidParts, piece_body, proxies_of, piece_of}
+use Rattle.nx_sketch.specs.Split.{IsDivision}
+use Rattle.nx_split.specs.Piece.{asked_of_root, placed_of}
+use Rattle.nx_divide.specs.declared.dividing.Row.{Row}
+use Rattle.nx_drawn.specs.Splits.{part_nodes, part_sketch, Divides}
 use Rattle.nx_drafts.specs.Laws.{IsDrafted}
-use Rattle.nx_drafts.specs.Draft.{Draft, Ends, Grows, Stands, Comes, drawn_forest, layout_before, layout_after, came, unmarked, draft_body, draft_count, draft_needs, AreHeldAll}
-use Rattle.nx_drawn.proofs.DividedLemmas.{heavier_parts, feasible_plan}
-use Rattle.nx_drafts.proofs.DraftLemmas.{split_is_drafted}
+use Rattle.nx_drafts.specs.Draft.{Draft, Ends, Grows, Stands, Comes, drawn_forest, layout_before, layout_after, came, draft_needs, AreHeldBut}
+use Rattle.nx_drawn.proofs.DivisionLemmas.{division_light}
+use Rattle.nx_drawn.proofs.DividedLemmas.{heavier_parts}
+use Rattle.nx_drafts.proofs.DraftLemmas.{division_is_drafted}
 use Rattle.nx_drafts.proofs.GatherLemmas.{forest-layout_before}
 use Rattle.nx_drawn.proofs.PieceLemmas.{piece_part}
-use Rattle.nx_drafts.proofs.PlacesLemmas.{body-layout_after, count-layout_after, drawn_forest-layout_after}
+use Rattle.nx_drafts.proofs.PlacesLemmas.{drawn_forest-layout_after}
 use Rattle.nx_drafts.proofs.SomeLemmas.{piece_has_members}
-use Rattle.nx_divide.specs.Marked.{AreWritten, IsMarkedDraft, IsMarkedRow, many}
-use Rattle.nx_divide.proofs.WrittenLemmas.{written_both}
+use Rattle.nx_divide.specs.Marked.{AreWritten, IsMarkedDivision, IsMarkedDraft, IsMarkedRow, many}
+use Rattle.nx_divide.proofs.WrittenLemmas.{written_both, fars_after}
+use Rattle.nx_divide.proofs.PutLemmas.{may_fewer}
 use Rattle.nx_divide.proofs.MarkedLemmas.{marked_same}
 use Rattle.nx_divide.proofs.PartedLemmas.{all_come}
-use Rattle.nx_divide.specs.Dividing.{DividesMembers, IsSplitOf, NotPutAt, PutsRowAt, PutsSome}
+use Rattle.nx_divide.specs.Dividing.{DividesMembers, IsDivisionOf, NotPutAt, PutsRowAt, PutsSome}
 use Rattle.nx_hold.specs.Pieces.{MayName}
 use Rattle.nx_hold.specs.Changes.{ComesTidyWhere}
+use Rattle.nx_hold.proofs.MoveLemmas.{may_name_still}
 use Rattle.nx_divide.proofs.RowLemmas.{drawn_forest-unmarked, layout_before-unmarked, many-gap_more, many-joined}
 use Rattle.nx_divide.proofs.AgreeLemmas.{plan_agrees}
 
--- where all are held, the piece has one gap
-gap_next : (n : ℕ) (g : Gapped) → (n ≡ 0 → g ≡ End) × (1 ≤ n → g ≡ Gap n End) → (1 + n ≡ 0 → gap_more g ≡ End) × (1 ≤ 1 + n → gap_more g ≡ Gap (1 + n) End)
-gap_next zero g h = (λ e. absurd (omega (arith, e)), λ some. ap gap_more (h.0 refl))
-gap_next (suc n) g h = (λ e. absurd (omega (arith, e)), λ some. ap gap_more (h.1 (omega arith)) ∙ ap (λ (i : ℕ). Gap i End) (let e : suc n + 1 ≡ 1 + suc n = omega arith in e))
-
-one_gap : {P : Type 0} (c : Draft P) → AreHeldAll c → (draft_count c ≡ 0 → draft_body c ≡ End) × (1 ≤ draft_count c → draft_body c ≡ Gap (draft_count c) End)
-one_gap Ends h = (λ e. refl, λ some. absurd (omega (arith, some)))
-one_gap (Grows n b s) h = absurd h
-one_gap (Stands r m s) h = gap_next (draft_count s) (draft_body s) (one_gap s h)
-one_gap (Comes u m s) h = gap_next (draft_count s) (draft_body s) (one_gap s h)
-
-held-unmarked : (c : Draft RecordPlace) → AreHeldAll (unmarked c) → AreHeldAll c
-held-unmarked Ends h = tt
-held-unmarked (Grows n b s) h = absurd h
-held-unmarked (Stands r m s) h = held-unmarked s h
-held-unmarked (Comes u m s) h = held-unmarked s h
-
-no_end : (roots : Gapped) → End ≡ roots → 1 ≤ gapped.gapped_width roots → ⊥
-no_end End e some = omega (arith, some)
-no_end (Grow n b s) e some = cc
-no_end (Gap count s) e some = cc
-
-all_gap : (made : Draft RecordPlace) (c : Draft (Unit {0})) → unmarked made ≡ c → AreHeldAll c → (roots : Gapped) → piece_body (layout_before c) ≡ roots → 1 ≤ gapped.gapped_width roots → piece_body (layout_after made) ≡ Gap (draft_count made) End
-all_gap made c same held roots are some =
-    let all : AreHeldAll made = held-unmarked made (subst AreHeldAll (sym same) held) in
-    let n : 1 ≤ draft_count made = one_left made c same held roots are some in
-    body-layout_after made ∙ (one_gap made all).1 n
-  where
-    one_left : (made : Draft RecordPlace) (c : Draft (Unit {0})) → unmarked made ≡ c → AreHeldAll c → (roots : Gapped) → piece_body (layout_before c) ≡ roots → 1 ≤ gapped.gapped_width roots → 1 ≤ draft_count made
-    one_left Ends c same held roots are some = absurd (no_end roots (ap (λ (x : Draft (Unit {0})). piece_body (layout_before x)) same ∙ are) some)
-    one_left (Grows n b s) c same held roots are some = absurd (subst AreHeldAll (sym same) held)
-    one_left (Stands r m s) c same held roots are some = omega arith
-    one_left (Comes u m s) c same held roots are some = omega arith
-
-module _ (settings : Settings) (rules : List Rule) (above : Option Node) (most : settings.k ≤ 256) (piece : Piece) (parts : List Interval) (split : IsSplit settings.k (placed_of rules above piece) settings.target settings.tolerance parts)
+module _ (settings : Settings) (rules : List Rule) (above : Option Node) (most : settings.k ≤ 256) (piece : Piece) (parts : List Interval) (room : ℕ) (raised : Option ℕ) (division : IsDivision settings.k (placed_of rules above piece) room settings.target settings.tolerance parts raised)
     (written : AreWritten piece.body.roots) (members : Layout) (is : piece_of members ≡ piece) (limit : ℕ) (heavier : settings.k ≤ limit) (few : limit ≤ 256) (light : AreLaidParts limit members) where
-  split_part : IsSplit settings.k (part_nodes rules above (without_places members)) settings.target settings.tolerance parts
-  split_part = subst (λ l. IsSplit settings.k l settings.target settings.tolerance parts) (ap (placed_of rules above) (sym is) ∙ piece_part rules above members) split
+  division_part : IsDivision settings.k (part_nodes rules above (without_places members)) room settings.target settings.tolerance parts raised
+  division_part = subst (λ l. IsDivision settings.k l room settings.target settings.tolerance parts raised) (ap (placed_of rules above) (sym is) ∙ piece_part rules above members) division
 
-  pub made : IsDrafted limit members parts
-  made = split_is_drafted settings rules above limit members parts heavier light split_part
+  pub made : IsDrafted limit members parts raised
+  made = division_is_drafted settings rules room above limit members parts raised heavier light division_part
 
   pub made_marked : IsMarkedDraft None (holder parts) 0 piece.body.roots piece.proxies made.draft
   made_marked = record {
@@ -96,65 +66,67 @@ module _ (settings : Settings) (rules : List Rule) (above : Option Node) (most :
     behind = [];
     olds_are = ap (λ (p : Piece). p.proxies) (sym is) ∙ ap proxies_of (sym made.stands) ∙ sym (append-nil (proxies_of (layout_before made.draft)));
     light = heavier_parts limit 256 (drawn_forest made.draft) few made.light;
-    agrees = plan_agrees rules above limit members parts light (feasible_plan settings (part_nodes rules above (without_places members)) parts split_part).plan made;
+    agrees = plan_agrees rules above limit members parts light settings.k
+        (division_light settings.k room settings.target settings.tolerance (part_sketch rules (asked_of_root rules above) 0 (without_places members)) parts raised division_part) raised made;
   }
 
-  pub made_divides : Divides settings rules above (without_places members) (drawn_forest made.draft)
+  pub made_divides : Divides settings rules room above (without_places members) (drawn_forest made.draft)
   made_divides = record {
     parts = parts;
-    split = split_part;
+    raised = raised;
+    division = division_part;
     same = sym (forest-layout_before made.draft) ∙ ap laid_forest made.stands;
     drawn = made.drawn;
     limit = limit;
     formed = made.light;
   }
 
--- the roots of a piece that intervals hold are members of intervals that come
-row_come : (h : List ℕ → Option ℕ) (piece : Piece) (c : Draft (Unit {0})) → AreHeldAll c → IsPiece piece → IsMarkedDraft None h 0 piece.body.roots piece.proxies c → IsMarkedRow h piece.body.roots piece.proxies c
-row_come h piece c held valid m = record { marked = m; come = all_come c held (subst AreTrees (sym m.items_are) valid.body.trees) }
+-- the roots of a piece that intervals hold are members of intervals that come, but the one that is raised
+row_come : (raised : Option ℕ) (h : List ℕ → Option ℕ) (piece : Piece) (c : Draft (Unit {0})) → AreHeldBut raised 0 c → IsPiece piece → IsMarkedDraft None h 0 piece.body.roots piece.proxies c → IsMarkedDivision raised h piece.body.roots piece.proxies c
+row_come None h piece c held valid m = record { marked = m; come = all_come 0 c held (subst AreTrees (sym m.items_are) valid.body.trees) }
+row_come (Some root) h piece c held valid m = m
 
--- A call gave up, and this is a split of these members whose records it was to put in the place of one.
-pub record GivesUpAt {D : Type 0} (d : Ghosts D) (settings : Settings) (rules : List Rule) (above : Option Node) (place : RecordPlace) (e : StoreError) (old new : Records) (before after : D) (members : Layout) : Type 0 where
+-- A call gave up, and this is a division of these members whose records it was to put in the place of one.
+pub record GivesUpAt {D : Type 0} (d : Ghosts D) (settings : Settings) (rules : List Rule) (room : ℕ) (above : Option Node) (place : RecordPlace) (e : StoreError) (old new : Records) (before after : D) (members : Layout) : Type 0 where
   pub draft : Draft (Unit {0})
   pub stands : layout_before draft ≡ members
-  pub divides : Divides settings rules above (without_places members) (drawn_forest draft)
+  pub divides : Divides settings rules room above (without_places members) (drawn_forest draft)
   pub refused : NotPutAt d place (draft_needs draft) e old new before after
 
-module _ {D : Type 0} (d : Ghosts D) (settings : Settings) (rules : List Rule) (above : Option Node) (most : settings.k ≤ 256) (piece : Piece) (parts : List Interval) (split : IsSplit settings.k (placed_of rules above piece) settings.target settings.tolerance parts)
+module _ {D : Type 0} (d : Ghosts D) (settings : Settings) (rules : List Rule) (above : Option Node) (most : settings.k ≤ 256) (piece : Piece) (parts : List Interval) (room : ℕ) (raised : Option ℕ) (division : IsDivision settings.k (placed_of rules above piece) room settings.target settings.tolerance parts raised)
     (written : AreWritten piece.body.roots) (valid : IsPiece piece) (place : RecordPlace) (r0 r1 : Records) (x0 x1 : D) where
   made_row : (members : Layout) (is : piece_of members ≡ piece) (light : AreLaidParts settings.k members)
-      → IsMarkedRow (holder parts) piece.body.roots piece.proxies (made settings rules above most piece parts split written members is settings.k (omega arith) most light).draft
+      → IsMarkedDivision raised (holder parts) piece.body.roots piece.proxies (made settings rules above most piece parts room raised division written members is settings.k (omega arith) most light).draft
   made_row members is light =
-      let m = made settings rules above most piece parts split written members is settings.k (omega arith) most light in
-      row_come (holder parts) piece m.draft m.held valid (made_marked settings rules above most piece parts split written members is settings.k (omega arith) most light)
+      let m = made settings rules above most piece parts room raised division written members is settings.k (omega arith) most light in
+      row_come raised (holder parts) piece m.draft m.held valid (made_marked settings rules above most piece parts room raised division written members is settings.k (omega arith) most light)
 
-  pub divides_ok : (r : Result (List Proxy) StoreError) → IfOk r (λ row. (drawn : Draft (Unit {0})) → IsMarkedRow (holder parts) piece.body.roots piece.proxies drawn → PutsRowAt d place r0 r1 x0 x1 drawn row)
-      → IfOk r (λ row. (members : Layout) → piece_of members ≡ piece → AreLaidParts settings.k members → DividesMembers d settings rules above place r0 r1 x0 x1 members row)
+  pub divides_ok : (r : Result Row StoreError) → IfOk r (λ row. (drawn : Draft (Unit {0})) → IsMarkedDivision raised (holder parts) piece.body.roots piece.proxies drawn → PutsRowAt d place r0 r1 x0 x1 drawn row)
+      → IfOk r (λ row. (members : Layout) → piece_of members ≡ piece → AreLaidParts settings.k members → DividesMembers d settings rules room above place r0 r1 x0 x1 members row)
   divides_ok (Err e) h = tt
   divides_ok (Ok row) h = λ members is light.
-      let m = made settings rules above most piece parts split written members is settings.k (omega arith) most light in
+      let m = made settings rules above most piece parts room raised division written members is settings.k (omega arith) most light in
       let p = h m.draft (made_row members is light) in
       let bare : without_places (layout_after p.draft) ≡ drawn_forest m.draft = drawn_forest-layout_after p.draft ∙ sym (drawn_forest-unmarked p.draft) ∙ ap drawn_forest p.same in
-      let row_is : row ≡ proxies_of (layout_after p.draft) = p.proxies_are in
       record {
         draft = p.draft;
         stands = sym (layout_before-unmarked p.draft) ∙ ap layout_before p.same ∙ m.stands;
-        divides = subst (Divides settings rules above (without_places members)) (sym bare) (made_divides settings rules above most piece parts split written members is settings.k (omega arith) most light);
+        divides = subst (Divides settings rules room above (without_places members)) (sym bare) (made_divides settings rules above most piece parts room raised division written members is settings.k (omega arith) most light);
         light = subst (AreParts settings.k) (sym bare) m.light;
-        row_is = row_is;
-        gap = all_gap p.draft m.draft p.same m.held piece.body.roots (ap piece_body m.stands ∙ ap (λ (q : Piece). q.body.roots) is) valid.body.some ∙ ap (λ (i : ℕ). Gap i End) (sym (count-layout_after p.draft) ∙ ap length (sym row_is));
+        items_are = p.items_are;
+        proxies_are = p.proxies_are;
         put = p.put;
       }
 
-  pub gives_up : (r : Result (List Proxy) StoreError) → IfErr r (λ e. (drawn : Draft (Unit {0})) → IsMarkedRow (holder parts) piece.body.roots piece.proxies drawn → NotPutAt d place (draft_needs drawn) e r0 r1 x0 x1)
-      → IfErr r (λ e. (members : Layout) → piece_of members ≡ piece → AreLaidParts settings.k members → GivesUpAt d settings rules above place e r0 r1 x0 x1 members)
+  pub gives_up : (r : Result Row StoreError) → IfErr r (λ e. (drawn : Draft (Unit {0})) → IsMarkedDivision raised (holder parts) piece.body.roots piece.proxies drawn → NotPutAt d place (draft_needs drawn) e r0 r1 x0 x1)
+      → IfErr r (λ e. (members : Layout) → piece_of members ≡ piece → AreLaidParts settings.k members → GivesUpAt d settings rules room above place e r0 r1 x0 x1 members)
   gives_up (Ok row) h = tt
   gives_up (Err e) h = λ members is light.
-      let m = made settings rules above most piece parts split written members is settings.k (omega arith) most light in
+      let m = made settings rules above most piece parts room raised division written members is settings.k (omega arith) most light in
       record {
         draft = m.draft;
         stands = m.stands;
-        divides = made_divides settings rules above most piece parts split written members is settings.k (omega arith) most light;
+        divides = made_divides settings rules above most piece parts room raised division written members is settings.k (omega arith) most light;
         refused = h m.draft (made_row members is light);
       }
 
@@ -191,8 +163,8 @@ coming_few k (Comes u m s) p =
     let x = many-joined (layout_before m) (layout_before s) in
     (omega (arith, some, inside, along, x), λ f. absurd f)
 
-parts_are_few : (k : ℕ) (members : Layout) (parts : List Interval) (made : IsDrafted k members parts) → length parts ≤ many (piece_body members)
-parts_are_few k members parts made =
+parts_are_few : (k : ℕ) (members : Layout) (parts : List Interval) (raised : Option ℕ) (made : IsDrafted k members parts raised) → length parts ≤ many (piece_body members)
+parts_are_few k members parts raised made =
     let olds = intervals [] 0 (without_places members) in
     let all = length_permutation (intervals [] 0 (drawn_forest made.draft)) (parts ++ olds) made.drawn in
     let a = length-append parts olds in
@@ -204,34 +176,53 @@ parts_are_few k members parts made =
     let h : many (piece_body (layout_before made.draft)) ≡ many (piece_body members) = ap (λ (l : Layout). many (piece_body l)) made.stands in
     omega (arith, all, a, b, c, e, f, g, h)
 
--- a piece in memory, with the intervals of a split of it
-module _ (settings : Settings) (most : settings.k ≤ 256) (piece : Piece) (parts : List Interval) (split : IsSplitOf settings piece parts) (valid : IsPiece piece) (near : AreNear piece.body.roots) where
+-- a piece in memory, with the intervals of a division of it
+module _ (settings : Settings) (most : settings.k ≤ 256) (piece : Piece) (parts : List Interval) (raised : Option ℕ) (division : IsDivisionOf settings piece parts raised) (valid : IsPiece piece) (near : AreNear piece.body.roots) where
   pub some_written : AreWritten piece.body.roots
   some_written = written_both piece.body.roots near valid.body.far
 
-  abbrev pub some_draft : IsDrafted 256 (piece_has_members piece valid).members parts
-  some_draft = made settings split.rules split.above most piece parts split.split some_written (piece_has_members piece valid).members (piece_has_members piece valid).is 256 most (omega arith) (piece_has_members piece valid).light
+  abbrev pub some_draft : IsDrafted 256 (piece_has_members piece valid).members parts raised
+  some_draft = made settings division.rules division.above most piece parts division.room raised division.division some_written (piece_has_members piece valid).members (piece_has_members piece valid).is 256 most (omega arith) (piece_has_members piece valid).light
 
   pub some_marked : IsMarkedDraft None (holder parts) 0 piece.body.roots piece.proxies some_draft.draft
-  some_marked = made_marked settings split.rules split.above most piece parts split.split some_written (piece_has_members piece valid).members (piece_has_members piece valid).is 256 most (omega arith) (piece_has_members piece valid).light
+  some_marked = made_marked settings division.rules division.above most piece parts division.room raised division.division some_written (piece_has_members piece valid).members (piece_has_members piece valid).is 256 most (omega arith) (piece_has_members piece valid).light
 
-  pub some_row : IsMarkedRow (holder parts) piece.body.roots piece.proxies some_draft.draft
-  some_row = row_come (holder parts) piece some_draft.draft some_draft.held valid some_marked
+  pub some_divides : Divides settings division.rules division.room division.above (without_places (piece_has_members piece valid).members) (drawn_forest some_draft.draft)
+  some_divides = made_divides settings division.rules division.above most piece parts division.room raised division.division some_written (piece_has_members piece valid).members (piece_has_members piece valid).is 256 most (omega arith) (piece_has_members piece valid).light
+
+  pub some_row : IsMarkedDivision raised (holder parts) piece.body.roots piece.proxies some_draft.draft
+  some_row = row_come raised (holder parts) piece some_draft.draft some_draft.held valid some_marked
 
   pub few_parts : many piece.body.roots ≤ 524288 → length parts < 2 ^ 32
   few_parts few =
-      let p = parts_are_few 256 (piece_has_members piece valid).members parts some_draft in
+      let p = parts_are_few 256 (piece_has_members piece valid).members parts raised some_draft in
       let e : many (piece_body (piece_has_members piece valid).members) ≡ many piece.body.roots = ap (λ (q : Piece). many q.body.roots) (piece_has_members piece valid).is in
       omega (arith, p, e, few)
 
 -- the marks of the roots say which interval of the split holds each node
+pub draft_marked : (mark : Mark) (below : List Mark) (parts : List Interval) (roots items : Gapped) (olds left : List Proxy) (c : Draft (Unit {0})) → ((path : List ℕ) → marked mark path ≡ holder parts path) → ((position : ℕ) (path : List ℕ) → marked_in below position path ≡ marked mark (position ∷ path))
+    → items ≡ roots → left ≡ olds → IsMarkedDraft None (holder parts) 0 roots olds c → IsMarkedDraft None (holder_by_marks below) 0 items left c
+draft_marked mark below parts roots items olds left c holds are items_are left_is m =
+    subst (λ (g : Gapped). IsMarkedDraft None (holder_by_marks below) 0 g left c) (sym items_are)
+    (marked_same None (holder parts) (holder_by_marks below) 0 roots olds left c (λ p path. sym (holds (p ∷ path)) ∙ sym (are p path)) (sym left_is) m)
+
 pub roots_marked : (mark : Mark) (below : List Mark) (parts : List Interval) (roots items : Gapped) (olds left : List Proxy) (c : Draft (Unit {0})) → ((path : List ℕ) → marked mark path ≡ holder parts path) → ((position : ℕ) (path : List ℕ) → marked_in below position path ≡ marked mark (position ∷ path))
     → items ≡ roots → left ≡ olds → IsMarkedRow (holder parts) roots olds c → IsMarkedRow (holder_by_marks below) items left c
 roots_marked mark below parts roots items olds left c holds are items_are left_is m = record {
-  marked = subst (λ (g : Gapped). IsMarkedDraft None (holder_by_marks below) 0 g left c) (sym items_are)
-      (marked_same None (holder parts) (holder_by_marks below) 0 roots olds left c (λ p path. sym (holds (p ∷ path)) ∙ sym (are p path)) (sym left_is) m.marked);
+  marked = draft_marked mark below parts roots items olds left c holds are items_are left_is m.marked;
   come = m.come;
 }
+
+-- ... and so of a division
+pub division_marked : (raised : Option ℕ) (mark : Mark) (below : List Mark) (parts : List Interval) (roots items : Gapped) (olds left : List Proxy) (c : Draft (Unit {0})) → ((path : List ℕ) → marked mark path ≡ holder parts path)
+    → ((position : ℕ) (path : List ℕ) → marked_in below position path ≡ marked mark (position ∷ path)) → items ≡ roots → left ≡ olds → IsMarkedDivision raised (holder parts) roots olds c → IsMarkedDivision raised (holder_by_marks below) items left c
+division_marked None mark below parts roots items olds left c holds are items_are left_is m = roots_marked mark below parts roots items olds left c holds are items_are left_is m
+division_marked (Some root) mark below parts roots items olds left c holds are items_are left_is m = draft_marked mark below parts roots items olds left c holds are items_are left_is m
+
+no_end : (roots : Gapped) → End ≡ roots → 1 ≤ gapped.gapped_width roots → ⊥
+no_end End e some = omega (arith, some)
+no_end (Grow n b s) e some = cc
+no_end (Gap count s) e some = cc
 
 -- a piece has a root
 pub some_roots : (items : List Item) (roots : Gapped) → gapped_of items ≡ roots → 1 ≤ gapped.gapped_width roots → 1 ≤ length items
@@ -254,31 +245,40 @@ items_few piece p =
     let y = p.body.small in
     omega (arith, x, y)
 
-module _ {D : Type 0} (d : Ghosts D) (settings : Settings) (most : settings.k ≤ 256) (piece : Piece) (parts : List Interval) (split : IsSplitOf settings piece parts) (valid : IsPiece piece) (near : AreNear piece.body.roots) (place : RecordPlace) (r0 r1 : Records) (x0 x1 : D) where
-  abbrev Rows : List Proxy → Type 0
-  Rows row = (drawn : Draft (Unit {0})) → IsMarkedRow (holder parts) piece.body.roots piece.proxies drawn → PutsRowAt d place r0 r1 x0 x1 drawn row
+module _ {D : Type 0} (d : Ghosts D) (settings : Settings) (most : settings.k ≤ 256) (piece : Piece) (parts : List Interval) (raised : Option ℕ) (division : IsDivisionOf settings piece parts raised) (valid : IsPiece piece) (near : AreNear piece.body.roots) (place : RecordPlace) (r0 r1 : Records) (x0 x1 : D) where
+  abbrev pub Rows : Row → Type 0
+  Rows row = (drawn : Draft (Unit {0})) → IsMarkedDivision raised (holder parts) piece.body.roots piece.proxies drawn → PutsRowAt d place r0 r1 x0 x1 drawn row
 
-  row_put : (row : List Proxy) → Rows row → PutsRowAt d place r0 r1 x0 x1 (some_draft settings most piece parts split valid near).draft row
-  row_put row puts = puts (some_draft settings most piece parts split valid near).draft (some_row settings most piece parts split valid near)
+  pub row_put : (row : Row) → Rows row → PutsRowAt d place r0 r1 x0 x1 (some_draft settings most piece parts raised division valid near).draft row
+  row_put row puts = puts (some_draft settings most piece parts raised division valid near).draft (some_row settings most piece parts raised division valid near)
+
+  -- the items that stood are those of the piece
+  pub row_before : (row : Row) (p : PutsRowAt d place r0 r1 x0 x1 (some_draft settings most piece parts raised division valid near).draft row) → piece_body (layout_before p.draft) ≡ piece.body.roots
+  row_before row p =
+      ap piece_body (sym (layout_before-unmarked p.draft)) ∙ ap (λ (c : Draft (Unit {0})). piece_body (layout_before c)) p.same ∙ (some_marked settings most piece parts raised division valid near).items_are
 
   -- the lists that the row names are those of the piece
-  row_named : (row : List Proxy) (p : PutsRowAt d place r0 r1 x0 x1 (some_draft settings most piece parts split valid near).draft row) (was : Held) → MayName was piece.body.roots → MayName was (piece_body (layout_before p.draft))
-  row_named row p was may =
-      subst (λ (g : Gapped). MayName was g)
-      (sym (ap piece_body (sym (layout_before-unmarked p.draft)) ∙ ap (λ (c : Draft (Unit {0})). piece_body (layout_before c)) p.same ∙ (some_marked settings most piece parts split valid near).items_are)) may
+  row_named : (row : Row) (p : PutsRowAt d place r0 r1 x0 x1 (some_draft settings most piece parts raised division valid near).draft row) (was : Held) → MayName was piece.body.roots → MayName was (piece_body (layout_before p.draft))
+  row_named row p was may = subst (λ (g : Gapped). MayName was g) (sym (row_before row p)) may
 
-  pub parts_come : (r : Result (List Proxy) StoreError) → IfOk r Rows → IfOk r (λ row. ComesTidyWhere d r0 r1 x0 x1 (λ was. MayName was piece.body.roots) (PutsSome place))
+  pub parts_come : (r : Result Row StoreError) → IfOk r Rows → IfOk r (λ row. ComesTidyWhere d r0 r1 x0 x1 (λ was. MayName was piece.body.roots) (PutsSome place row))
   parts_come (Err e) puts = tt
   parts_come (Ok row) puts = λ saved was stands tidy may.
       let p = row_put row puts in
-      let now = (p.put).puts saved was stands tidy (row_named row p was may) in
-      (now.0, now.1, now.2, (came p.draft, draft_needs p.draft, (now.3).moves))
+      let named = row_named row p was may in
+      let now = (p.put).puts saved was stands tidy named in
+      let after : MayName was (piece_body (layout_after p.draft)) = may_fewer was (piece_body (layout_after p.draft)) (piece_body (layout_before p.draft)) (fars_after p.draft) named in (
+        now.0,
+        now.1,
+        now.2,
+        (came p.draft, draft_needs p.draft, (now.3).moves, subst (λ (g : Gapped). MayName now.0 g) (sym p.items_are) (may_name_still (piece_body (layout_after p.draft)) tidy (now.3).moves after)),
+      )
 
-  pub parts_keep : (r : Result (List Proxy) StoreError) → IfOk r Rows → IfOk r (λ row. RunsOn r0 r1 × KeepsSaved d r0 r1 x0 x1 × HasChanges r1)
+  pub parts_keep : (r : Result Row StoreError) → IfOk r Rows → IfOk r (λ row. RunsOn r0 r1 × KeepsSaved d r0 r1 x0 x1 × HasChanges r1)
   parts_keep (Err e) puts = tt
   parts_keep (Ok row) puts = let p = row_put row puts in ((p.put).runs, (p.put).keeps, (p.put).changes)
 
-  pub parts_cause : (r : Result (List Proxy) StoreError) → IfErr r (λ e. (drawn : Draft (Unit {0})) → IsMarkedRow (holder parts) piece.body.roots piece.proxies drawn → NotPutAt d place (draft_needs drawn) e r0 r1 x0 x1)
+  pub parts_cause : (r : Result Row StoreError) → IfErr r (λ e. (drawn : Draft (Unit {0})) → IsMarkedDivision raised (holder parts) piece.body.roots piece.proxies drawn → NotPutAt d place (draft_needs drawn) e r0 r1 x0 x1)
       → IfErr r (λ e. (needs : ℕ) × NotPutAt d place needs e r0 r1 x0 x1)
   parts_cause (Ok row) refused = tt
-  parts_cause (Err e) refused = let m = some_draft settings most piece parts split valid near in (draft_needs m.draft, refused m.draft (some_row settings most piece parts split valid near))
+  parts_cause (Err e) refused = let m = some_draft settings most piece parts raised division valid near in (draft_needs m.draft, refused m.draft (some_row settings most piece parts raised division valid near))

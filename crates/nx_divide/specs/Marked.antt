@@ -58,6 +58,11 @@ pub record IsMarkedRow (holder : List ℕ → Option ℕ) (items : Gapped) (olds
   pub marked : IsMarkedDraft None holder 0 items olds drawn
   pub come : ComeAll drawn
 
+-- ... of one with a root that is raised, or of one without: then all trees are members of intervals that come
+abbrev pub IsMarkedDivision : (raised : Option ℕ) → (List ℕ → Option ℕ) → Gapped → List Proxy → Draft (Unit {0}) → Type 0
+IsMarkedDivision None holder items olds drawn = IsMarkedRow holder items olds drawn
+IsMarkedDivision (Some root) holder items olds drawn = IsMarkedDraft None holder 0 items olds drawn
+
 -- the items can be drawn so
 abbrev pub HasMarkedDraft : (List ℕ → Option ℕ) → ℕ → Gapped → List Proxy → Type 0
 HasMarkedDraft holder position items olds = (drawn : Draft (Unit {0})) × IsMarkedDraft None holder position items olds drawn
@@ -69,6 +74,10 @@ HasMarkedMembers holder position items olds = (members : Draft (Unit {0})) × Ar
 -- ... as such a row
 abbrev pub HasMarkedRow : (List ℕ → Option ℕ) → Gapped → List Proxy → Type 0
 HasMarkedRow holder items olds = (drawn : Draft (Unit {0})) × IsMarkedRow holder items olds drawn
+
+-- ... as one of which a root may be raised
+abbrev pub HasMarkedDivision : (raised : Option ℕ) → (List ℕ → Option ℕ) → Gapped → List Proxy → Type 0
+HasMarkedDivision raised holder items olds = (drawn : Draft (Unit {0})) × IsMarkedDivision raised holder items olds drawn
 
 -- how many nodes and proxies these items have
 abbrev pub many : Gapped → ℕ

@@ -8,4 +8,4 @@ mod row;
 mod walk;
 
 pub use checking::may_be_divided;
-pub use dividing::divide_at;
+pub use dividing::{Row, divide_at};

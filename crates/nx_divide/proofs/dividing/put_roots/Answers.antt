@@ -7,8 +7,9 @@ use Rattle.nx_records.specs.declared.error.StoreError.{StoreError}
 use Rattle.nx_records.proofs.RefusalLemmas.{err_passed}
 use Rattle.nx_piece.specs.declared.piece.Item.{Item}
 use Rattle.nx_piece.specs.declared.piece.Proxy.{Proxy}
-use Rattle.nx_piece.specs.Gapped.{item_count}
+use Rattle.nx_piece.specs.Gapped.{item_count, proxies_in}
 use Rattle.nx_piece.specs.Items.{gapped_of}
+use Rattle.nx_build.specs.Rows.{with_proxy}
 use Rattle.nx_hold.specs.Changes.{place_of}
 use Rattle.nx_drafts.specs.Draft.{Draft, Ends, draft_needs}
 use Rattle.nx_divide.specs.Marked.{IsMarkedRow, many}
@@ -17,7 +18,7 @@ use Rattle.nx_divide.specs.Dividing.{NotPutAt}
 use Rattle.nx_divide.proofs.LeftLemmas.{many-take, many-drop, count-take, count-drop}
 use Rattle.nx_divide.proofs.CallLemmas.{put_read}
 use Rattle.nx_divide.proofs.PlaceLemmas.{not_read, no_memory}
-use Rattle.nx_divide.proofs.LastLemmas.{front_can, last_can, front_not, last_not, update_not, row_put, row_memory}
+use Rattle.nx_divide.proofs.LastLemmas.{front_can, last_can, front_not, front_room, last_not, update_not, row_put, row_memory}
 use Rattle.nx_divide.proofs.dividing.put_roots.Goals as goal
 
 pub returns-in_err-read-clause-refused : goal.returns-in_err-read-clause-refused
@@ -47,17 +48,17 @@ items_of-requires-clause-small g c =
 pub items_of-requires-clause-marked : goal.items_of-requires-clause-marked
 items_of-requires-clause-marked g c = front_can c.args.marks.now c.args.roots.items (into_iter_items c.args.olds.now) c.len-len.result c.last_begin-first.result (omega (arith, c.len-len.ensures, c.args.roots.ok.0)) c.last_begin-first.ensures.within c.last_begin-first.ensures.held c.last_begin-first.ensures.begins c.requires.marked.0 c.requires.marked.1 c.split_off.new.self.items c.in-Ok.ensures.items
 
-pub returns-in_err-items_of-clause-refused : goal.returns-in_err-items_of-clause-refused
-returns-in_err-items_of-clause-refused g c =
-    err_passed c.from_residual-in_err-items_of.result
+pub returns-in_err-front-clause-refused : goal.returns-in_err-front-clause-refused
+returns-in_err-front-clause-refused g c =
+    err_passed c.from_residual-in_err-front.result
     (λ (e : StoreError). (drawn : Draft (Unit {0})) → IsMarkedRow (holder_by_marks c.args.marks.now) (gapped_of c.args.roots.items) (into_iter_items c.args.olds.now) drawn → NotPutAt g.D.Disk (place_of c.args.rid) (draft_needs drawn) e c.args.records.now c.items_of.new.records c.args.disk.now c.items_of.new.disk)
-    c.in_err-items_of.field-0.0 (err_from_is_err_and c.from_residual-in_err-items_of.result c.from_residual-in_err-items_of.ensures.1)
-    (λ drawn m. front_not c.args.marks.now c.args.roots.items (into_iter_items c.args.olds.now) c.len-len.result c.last_begin-first.result (omega (arith, c.len-len.ensures, c.args.roots.ok.0)) c.last_begin-first.ensures.within c.last_begin-first.ensures.held c.last_begin-first.ensures.begins drawn m {d = g.D.Disk} (place_of c.args.rid) (put_read {d = g.D.Disk} c.in_ok-read.ensures.ok.0 c.in_ok-read.ensures.ok.1 c.read.ensures.still) c.split_off.new.self.items c.in-Ok.ensures.items c.items_of.new.records c.items_of.new.disk c.in_err-items_of.field-0.0 c.in_err-items_of.ensures.refused)
+    c.in_err-front.field-0.0 (err_from_is_err_and c.from_residual-in_err-front.result c.from_residual-in_err-front.ensures.1)
+    (λ drawn m. front_not c.args.marks.now c.args.roots.items (into_iter_items c.args.olds.now) c.len-len.result c.last_begin-first.result (omega (arith, c.len-len.ensures, c.args.roots.ok.0)) c.last_begin-first.ensures.within c.last_begin-first.ensures.held c.last_begin-first.ensures.begins drawn m {d = g.D.Disk} (place_of c.args.rid) (put_read {d = g.D.Disk} c.in_ok-read.ensures.ok.0 c.in_ok-read.ensures.ok.1 c.read.ensures.still) c.split_off.new.self.items c.in-Ok.ensures.items c.items_of.new.records c.items_of.new.disk c.in_err-front.field-0.0 c.in_err-front.ensures.refused)
 
 pub gather_piece-requires-clause-runs : goal.gather_piece-requires-clause-runs
 gather_piece-requires-clause-runs g c =
     let front = front_can c.args.marks.now c.args.roots.items (into_iter_items c.args.olds.now) c.len-len.result c.last_begin-first.result (omega (arith, c.len-len.ensures, c.args.roots.ok.0)) c.last_begin-first.ensures.within c.last_begin-first.ensures.held c.last_begin-first.ensures.begins c.requires.marked.0 c.requires.marked.1 c.split_off.new.self.items c.in-Ok.ensures.items in
-    (((c.in_ok-items_of.ensures.ok front.0 front.1).put).runs).after
+    (((c.in_ok-front.ensures.ok front.0 front.1).put).runs).after
 
 pub gather_piece-requires-clause-few : goal.gather_piece-requires-clause-few
 gather_piece-requires-clause-few g c =
@@ -74,24 +75,31 @@ gather_piece-requires-clause-small g c =
     omega (arith, e, less, most)
 
 pub gather_piece-requires-clause-marked : goal.gather_piece-requires-clause-marked
-gather_piece-requires-clause-marked g c = last_can c.args.marks.now c.args.roots.items (into_iter_items c.args.olds.now) c.len-len.result c.last_begin-first.result (omega (arith, c.len-len.ensures, c.args.roots.ok.0)) c.last_begin-first.ensures.within c.last_begin-first.ensures.held c.last_begin-first.ensures.begins c.requires.marked.0 c.requires.marked.1 c.split_off.new.self.items (into_iter_items c.into_iter-left.result) (into_iter_items c.items_of.new.olds) c.in-Ok.ensures.items (c.into_iter-left.ensures.rest ∙ c.in-Ok.ensures.tail) c.in_ok-items_of.ensures.olds
+gather_piece-requires-clause-marked g c = last_can c.args.marks.now c.args.roots.items (into_iter_items c.args.olds.now) c.len-len.result c.last_begin-first.result (omega (arith, c.len-len.ensures, c.args.roots.ok.0)) c.last_begin-first.ensures.within c.last_begin-first.ensures.held c.last_begin-first.ensures.begins c.requires.marked.0 c.requires.marked.1 c.split_off.new.self.items (into_iter_items c.into_iter-left.result) (into_iter_items c.items_of.new.olds) c.in-Ok.ensures.items (c.into_iter-left.ensures.rest ∙ c.in-Ok.ensures.tail) c.in_ok-front.ensures.olds
 
 pub returns-in_err-last-clause-refused : goal.returns-in_err-last-clause-refused
 returns-in_err-last-clause-refused g c =
     err_passed c.from_residual-in_err-last.result
     (λ (e : StoreError). (drawn : Draft (Unit {0})) → IsMarkedRow (holder_by_marks c.args.marks.now) (gapped_of c.args.roots.items) (into_iter_items c.args.olds.now) drawn → NotPutAt g.D.Disk (place_of c.args.rid) (draft_needs drawn) e c.args.records.now c.gather_piece.new.records c.args.disk.now c.gather_piece.new.disk)
     c.in_err-last.field-0.0 (err_from_is_err_and c.from_residual-in_err-last.result c.from_residual-in_err-last.ensures.1)
-    (λ drawn m. last_not c.args.marks.now c.args.roots.items (into_iter_items c.args.olds.now) c.len-len.result c.last_begin-first.result (omega (arith, c.len-len.ensures, c.args.roots.ok.0)) c.last_begin-first.ensures.within c.last_begin-first.ensures.held c.last_begin-first.ensures.begins drawn m {d = g.D.Disk} (place_of c.args.rid) (put_read {d = g.D.Disk} c.in_ok-read.ensures.ok.0 c.in_ok-read.ensures.ok.1 c.read.ensures.still) c.split_off.new.self.items c.in-Ok.ensures.items c.in_ok-items_of.field-0 c.items_of.new.proxies (λ front marked. subst (λ (l : List Proxy). PutsRow g.D.Disk c.read.new.self c.items_of.new.records c.read.new.disk c.items_of.new.disk front c.in_ok-items_of.field-0 l c.items_of.new.proxies) c.new-row.ensures (c.in_ok-items_of.ensures.ok front marked)) (into_iter_items c.into_iter-left.result) (into_iter_items c.items_of.new.olds) (c.into_iter-left.ensures.rest ∙ c.in-Ok.ensures.tail) c.in_ok-items_of.ensures.olds c.gather_piece.new.records c.gather_piece.new.disk c.in_err-last.field-0.0 c.in_err-last.ensures.refused)
+    (λ drawn m. last_not c.args.marks.now c.args.roots.items (into_iter_items c.args.olds.now) c.len-len.result c.last_begin-first.result (omega (arith, c.len-len.ensures, c.args.roots.ok.0)) c.last_begin-first.ensures.within c.last_begin-first.ensures.held c.last_begin-first.ensures.begins drawn m {d = g.D.Disk} (place_of c.args.rid) (put_read {d = g.D.Disk} c.in_ok-read.ensures.ok.0 c.in_ok-read.ensures.ok.1 c.read.ensures.still) c.split_off.new.self.items c.in-Ok.ensures.items c.in_ok-front.front c.items_of.new.proxies (λ front marked. subst (λ (l : List Proxy). PutsRow g.D.Disk c.read.new.self c.items_of.new.records c.read.new.disk c.items_of.new.disk front c.in_ok-front.front l c.items_of.new.proxies) c.new-proxies.ensures (c.in_ok-front.ensures.ok front marked)) (into_iter_items c.into_iter-left.result) (into_iter_items c.items_of.new.olds) (c.into_iter-left.ensures.rest ∙ c.in-Ok.ensures.tail) c.in_ok-front.ensures.olds c.gather_piece.new.records c.gather_piece.new.disk c.in_err-last.field-0.0 c.in_err-last.ensures.refused)
 
 pub returns-in_err-proxy-clause-refused : goal.returns-in_err-proxy-clause-refused
 returns-in_err-proxy-clause-refused g c =
     err_passed c.from_residual-in_err-proxy.result
     (λ (e : StoreError). (drawn : Draft (Unit {0})) → IsMarkedRow (holder_by_marks c.args.marks.now) (gapped_of c.args.roots.items) (into_iter_items c.args.olds.now) drawn → NotPutAt g.D.Disk (place_of c.args.rid) (draft_needs drawn) e c.args.records.now c.update_piece.new.records c.args.disk.now c.update_piece.new.disk)
     c.in_err-proxy.field-0.0 (err_from_is_err_and c.from_residual-in_err-proxy.result c.from_residual-in_err-proxy.ensures.1)
-    (λ drawn m. update_not c.args.marks.now c.args.roots.items (into_iter_items c.args.olds.now) c.len-len.result c.last_begin-first.result (omega (arith, c.len-len.ensures, c.args.roots.ok.0)) c.last_begin-first.ensures.within c.last_begin-first.ensures.held c.last_begin-first.ensures.begins drawn m {d = g.D.Disk} (place_of c.args.rid) (put_read {d = g.D.Disk} c.in_ok-read.ensures.ok.0 c.in_ok-read.ensures.ok.1 c.read.ensures.still) c.split_off.new.self.items c.in-Ok.ensures.items c.in_ok-items_of.field-0 c.items_of.new.proxies (λ front marked. subst (λ (l : List Proxy). PutsRow g.D.Disk c.read.new.self c.items_of.new.records c.read.new.disk c.items_of.new.disk front c.in_ok-items_of.field-0 l c.items_of.new.proxies) c.new-row.ensures (c.in_ok-items_of.ensures.ok front marked)) (into_iter_items c.into_iter-left.result) (into_iter_items c.items_of.new.olds) (c.into_iter-left.ensures.rest ∙ c.in-Ok.ensures.tail) c.in_ok-items_of.ensures.olds c.in_ok-last.last c.in_ok-last.ensures.ok c.update_piece.new.records c.update_piece.new.disk c.args.rid.page c.in_err-proxy.field-0.0 c.in_err-proxy.ensures.refused)
+    (λ drawn m. update_not c.args.marks.now c.args.roots.items (into_iter_items c.args.olds.now) c.len-len.result c.last_begin-first.result (omega (arith, c.len-len.ensures, c.args.roots.ok.0)) c.last_begin-first.ensures.within c.last_begin-first.ensures.held c.last_begin-first.ensures.begins drawn m {d = g.D.Disk} (place_of c.args.rid) (put_read {d = g.D.Disk} c.in_ok-read.ensures.ok.0 c.in_ok-read.ensures.ok.1 c.read.ensures.still) c.split_off.new.self.items c.in-Ok.ensures.items c.in_ok-front.front c.items_of.new.proxies (λ front marked. subst (λ (l : List Proxy). PutsRow g.D.Disk c.read.new.self c.items_of.new.records c.read.new.disk c.items_of.new.disk front c.in_ok-front.front l c.items_of.new.proxies) c.new-proxies.ensures (c.in_ok-front.ensures.ok front marked)) (into_iter_items c.into_iter-left.result) (into_iter_items c.items_of.new.olds) (c.into_iter-left.ensures.rest ∙ c.in-Ok.ensures.tail) c.in_ok-front.ensures.olds c.in_ok-last.last c.in_ok-last.ensures.ok c.update_piece.new.records c.update_piece.new.disk c.args.rid.page c.in_err-proxy.field-0.0 c.in_err-proxy.ensures.refused)
 
-pub returns-in_default-push-clause-refused : goal.returns-in_default-push-clause-refused
-returns-in_default-push-clause-refused g c = λ drawn m. row_memory c.args.marks.now c.args.roots.items (into_iter_items c.args.olds.now) c.len-len.result c.last_begin-first.result (omega (arith, c.len-len.ensures, c.args.roots.ok.0)) c.last_begin-first.ensures.within c.last_begin-first.ensures.held c.last_begin-first.ensures.begins drawn m {d = g.D.Disk} (place_of c.args.rid) (put_read {d = g.D.Disk} c.in_ok-read.ensures.ok.0 c.in_ok-read.ensures.ok.1 c.read.ensures.still) c.split_off.new.self.items c.in-Ok.ensures.items c.in_ok-items_of.field-0 c.items_of.new.proxies (λ front marked. subst (λ (l : List Proxy). PutsRow g.D.Disk c.read.new.self c.items_of.new.records c.read.new.disk c.items_of.new.disk front c.in_ok-items_of.field-0 l c.items_of.new.proxies) c.new-row.ensures (c.in_ok-items_of.ensures.ok front marked)) (into_iter_items c.into_iter-left.result) (into_iter_items c.items_of.new.olds) (c.into_iter-left.ensures.rest ∙ c.in-Ok.ensures.tail) c.in_ok-items_of.ensures.olds c.in_ok-last.last c.in_ok-last.ensures.ok c.in_ok-proxy.proxy (λ saved now stands. ap is_some (c.in_ok-read.ensures.ok.2 saved now stands)) c.in_ok-proxy.ensures.roots c.in_ok-proxy.ensures.keeps.0 c.in_ok-proxy.ensures.keeps.1 c.in_ok-proxy.ensures.keeps.2 c.in_ok-proxy.ensures.ok
+pub add_proxy-requires : goal.add_proxy-requires
+add_proxy-requires g c =
+    let room = front_room c.args.marks.now c.args.roots.items (into_iter_items c.args.olds.now) c.len-len.result c.last_begin-first.result (omega (arith, c.len-len.ensures, c.args.roots.ok.0)) c.last_begin-first.ensures.within c.last_begin-first.ensures.held c.last_begin-first.ensures.begins c.requires.marked.0 c.requires.marked.1 {d = g.D.Disk} (place_of c.args.rid) (put_read {d = g.D.Disk} c.in_ok-read.ensures.ok.0 c.in_ok-read.ensures.ok.1 c.read.ensures.still) c.split_off.new.self.items c.in-Ok.ensures.items c.in_ok-front.front c.items_of.new.proxies (λ front marked. subst (λ (l : List Proxy). PutsRow g.D.Disk c.read.new.self c.items_of.new.records c.read.new.disk c.items_of.new.disk front c.in_ok-front.front l c.items_of.new.proxies) c.new-proxies.ensures (c.in_ok-front.ensures.ok front marked)) (into_iter_items c.into_iter-left.result) (into_iter_items c.items_of.new.olds) (c.into_iter-left.ensures.rest ∙ c.in-Ok.ensures.tail) c.in_ok-front.ensures.olds c.requires.few in
+    let e : proxies_in (gapped_of c.into_vec-items.result.items) ≡ proxies_in c.in_ok-front.front = ap proxies_in c.into_vec-items.ensures in
+    omega (arith, room, e)
+
+pub returns-in_default-add_proxy-clause-refused : goal.returns-in_default-add_proxy-clause-refused
+returns-in_default-add_proxy-clause-refused g c = λ drawn m. row_memory c.args.marks.now c.args.roots.items (into_iter_items c.args.olds.now) c.len-len.result c.last_begin-first.result (omega (arith, c.len-len.ensures, c.args.roots.ok.0)) c.last_begin-first.ensures.within c.last_begin-first.ensures.held c.last_begin-first.ensures.begins drawn m {d = g.D.Disk} (place_of c.args.rid) (put_read {d = g.D.Disk} c.in_ok-read.ensures.ok.0 c.in_ok-read.ensures.ok.1 c.read.ensures.still) c.split_off.new.self.items c.in-Ok.ensures.items c.in_ok-front.front c.items_of.new.proxies (λ front marked. subst (λ (l : List Proxy). PutsRow g.D.Disk c.read.new.self c.items_of.new.records c.read.new.disk c.items_of.new.disk front c.in_ok-front.front l c.items_of.new.proxies) c.new-proxies.ensures (c.in_ok-front.ensures.ok front marked)) (into_iter_items c.into_iter-left.result) (into_iter_items c.items_of.new.olds) (c.into_iter-left.ensures.rest ∙ c.in-Ok.ensures.tail) c.in_ok-front.ensures.olds c.in_ok-last.last c.in_ok-last.ensures.ok c.in_ok-proxy.proxy (λ saved now stands. ap is_some (c.in_ok-read.ensures.ok.2 saved now stands)) c.in_ok-proxy.ensures.roots c.in_ok-proxy.ensures.keeps.0 c.in_ok-proxy.ensures.keeps.1 c.in_ok-proxy.ensures.keeps.2 c.in_ok-proxy.ensures.ok
 
 pub returns-clause-ok : goal.returns-clause-ok
-returns-clause-ok g c = λ drawn m. row_put c.args.marks.now c.args.roots.items (into_iter_items c.args.olds.now) c.len-len.result c.last_begin-first.result (omega (arith, c.len-len.ensures, c.args.roots.ok.0)) c.last_begin-first.ensures.within c.last_begin-first.ensures.held c.last_begin-first.ensures.begins drawn m {d = g.D.Disk} (place_of c.args.rid) (put_read {d = g.D.Disk} c.in_ok-read.ensures.ok.0 c.in_ok-read.ensures.ok.1 c.read.ensures.still) c.split_off.new.self.items c.in-Ok.ensures.items c.in_ok-items_of.field-0 c.items_of.new.proxies (λ front marked. subst (λ (l : List Proxy). PutsRow g.D.Disk c.read.new.self c.items_of.new.records c.read.new.disk c.items_of.new.disk front c.in_ok-items_of.field-0 l c.items_of.new.proxies) c.new-row.ensures (c.in_ok-items_of.ensures.ok front marked)) (into_iter_items c.into_iter-left.result) (into_iter_items c.items_of.new.olds) (c.into_iter-left.ensures.rest ∙ c.in-Ok.ensures.tail) c.in_ok-items_of.ensures.olds c.in_ok-last.last c.in_ok-last.ensures.ok c.in_ok-proxy.proxy (λ saved now stands. ap is_some (c.in_ok-read.ensures.ok.2 saved now stands)) c.in_ok-proxy.ensures.roots c.in_ok-proxy.ensures.keeps.0 c.in_ok-proxy.ensures.keeps.1 c.in_ok-proxy.ensures.keeps.2 c.in_ok-proxy.ensures.ok c.push.new.self c.in-Ok-push.ensures.ok
+returns-clause-ok g c = λ drawn m. row_put c.args.marks.now c.args.roots.items (into_iter_items c.args.olds.now) c.len-len.result c.last_begin-first.result (omega (arith, c.len-len.ensures, c.args.roots.ok.0)) c.last_begin-first.ensures.within c.last_begin-first.ensures.held c.last_begin-first.ensures.begins drawn m {d = g.D.Disk} (place_of c.args.rid) (put_read {d = g.D.Disk} c.in_ok-read.ensures.ok.0 c.in_ok-read.ensures.ok.1 c.read.ensures.still) c.split_off.new.self.items c.in-Ok.ensures.items c.in_ok-front.front c.items_of.new.proxies (λ front marked. subst (λ (l : List Proxy). PutsRow g.D.Disk c.read.new.self c.items_of.new.records c.read.new.disk c.items_of.new.disk front c.in_ok-front.front l c.items_of.new.proxies) c.new-proxies.ensures (c.in_ok-front.ensures.ok front marked)) (into_iter_items c.into_iter-left.result) (into_iter_items c.items_of.new.olds) (c.into_iter-left.ensures.rest ∙ c.in-Ok.ensures.tail) c.in_ok-front.ensures.olds c.in_ok-last.last c.in_ok-last.ensures.ok c.in_ok-proxy.proxy (λ saved now stands. ap is_some (c.in_ok-read.ensures.ok.2 saved now stands)) c.in_ok-proxy.ensures.roots c.in_ok-proxy.ensures.keeps.0 c.in_ok-proxy.ensures.keeps.1 c.in_ok-proxy.ensures.keeps.2 c.in_ok-proxy.ensures.ok (record { items = c.from_vec.result; proxies = c.add_proxy.new.proxies })
+    (c.from_vec.ensures ∙ c.in-Ok-add_proxy.ensures.items ∙ ap with_proxy c.into_vec-items.ensures) c.in-Ok-add_proxy.ensures.proxies
