@@ -25,7 +25,7 @@ use Rattle.nx_layouts.specs.Cutting.{LeadsInto}
 use Rattle.nx_edit.specs.Rows.{row_nodes, IsHeldInterval, IsReplaced, IsLeftOf, left_of, left_needs, with_left}
 use Rattle.nx_edit.proofs.CountLemmas.{proxies_few}
 use Rattle.nx_edit.proofs.CutLemmas.{interval_inside, nodes_inside, if_less}
-use Rattle.nx_edit.proofs.FarLemmas.{near-append}
+use Rattle.nx_edit.proofs.FarLemmas.{near-append, near_none}
 use Rattle.nx_layouts.proofs.RunLemmas.{runs_after}
 use Rattle.nx_edit.proofs.FillLemmas.{left_is_interval}
 use Rattle.nx_edit.proofs.OwnLemmas.{nodes_alone}
@@ -52,17 +52,17 @@ IsOne (Kept p m Bare) (Some q) = q ≡ proxy_of p (width m)
 IsOne (Kept p m (Grown n b s)) o = ⊥
 IsOne (Kept p m (Kept q t s)) o = ⊥
 
-abbrev IsAlone : CutForest → Type 0
-IsAlone c = (c ≡ Bare) ⊎ ((m : CutForest) × (c ≡ Kept tt m Bare))
+abbrev IsOneProxy : CutForest → Type 0
+IsOneProxy c = (c ≡ Bare) ⊎ ((m : CutForest) × (c ≡ Kept tt m Bare))
 
-alone_kept : (c : CutForest) → IsAlone (kept tt c Bare)
+alone_kept : (c : CutForest) → IsOneProxy (kept tt c Bare)
 alone_kept Bare = inl refl
 alone_kept (Grown n b s) = inr (Grown n b s, refl)
 alone_kept (Kept m c s) = inr (Kept m c s, refl)
 
-left_alone : (position : ℕ) (path : List ℕ) (members : Layout) → position < width members → IsAlone (left_of position path members)
+left_alone : (position : ℕ) (path : List ℕ) (members : Layout) → position < width members → IsOneProxy (left_of position path members)
 left_alone position [] members less =
-    subst IsAlone
+    subst IsOneProxy
     (sym (if_less position (width (without_places members)) (kept tt (removed_row position (without_places members)) Bare) (Kept tt (without_places members) (removed_row (position - width (without_places members)) Bare))
     (subst (λ (w : ℕ). position < w) (sym (drawn_wide members)) less)))
     (alone_kept (removed_row position (without_places members)))
@@ -76,7 +76,7 @@ left_alone position (q ∷ path) members less =
 first_same : (a b : Proxy) (ps : List Proxy) → a ∷ [] ≡ b ∷ ps → a ≡ b
 first_same a b ps e = cc
 
-one_left : (left : Layout) (o : Option Proxy) → IsAlone (without_places left) → option_to_list o ≡ proxies_of left → IsOne left o
+one_left : (left : Layout) (o : Option Proxy) → IsOneProxy (without_places left) → option_to_list o ≡ proxies_of left → IsOne left o
 one_left Bare None h e = tt
 one_left Bare (Some q) h e = absurd (cc)
 one_left (Grown n b s) o (inl h) e = absurd (cc)
@@ -193,7 +193,7 @@ module _ (was : Held) (pieces : PieceMap was) (known : Option Piece) (place : Re
     left = r.row
 
     one : IsOne left o
-    one = one_left left o (subst IsAlone (sym (r.becomes).0) (left_alone next rest inside within)) r.proxies_are
+    one = one_left left o (subst IsOneProxy (sym (r.becomes).0) (left_alone next rest inside within)) r.proxies_are
 
     weightless : laid_weight left ≡ 0
     weightless = left_is_interval next rest inside left within (r.becomes).0
@@ -204,7 +204,7 @@ module _ (was : Held) (pieces : PieceMap was) (known : Option Piece) (place : Re
         let same : put_needs (with_left index o piece) ≡ put_needs (piece_of (replaced_at index left members)) = ap put_needs (row_piece left (r.becomes).0 o one piece is) in
         let all = row_needs left (r.becomes).0 o one in
         let near =
-        near_suffice was pieces known place position path limit members i index next rest inside into path rest into tidy false r (off_around was pieces known place position path limit members i index next rest inside into false path rest into) weightless in
+        near_suffice was pieces known place position path limit members i index next rest inside into path rest into tidy false r (off_around was pieces known place position path limit members i index next rest inside into false path rest into) (near_none left weightless) in
         let moved : was.free ≤ mid.free + (row_nodes (without_places inside) + 2 * row_nodes (without_places left) + near_pages (nodes_off false (next ∷ rest) inside)) = (r.moves).free in
         omega (arith, same, all, near, moved, few)
 
@@ -217,5 +217,10 @@ module _ (was : Held) (pieces : PieceMap was) (known : Option Piece) (place : Re
         let here_is : with_left index o piece ≡ piece_of here = row_piece left (r.becomes).0 o one piece piece_is in
         let n : row_nodes (without_places (Kept new here Bare)) ≡ row_nodes (left_of position path members) = ap row_nodes (row_is left (r.becomes).0 new) in
         let all = row_needs left (r.becomes).0 o one in
-        replaced_above was pieces known place position path limit members i index next rest inside into path rest into tidy false r tidier (with_left index o piece) here_is proxy roots puts weightless
-        (off_around was pieces known place position path limit members i index next rest inside into false path rest into) (IsLeftOf position path gone_nodes members) (becomes left (r.becomes).0 new gone_nodes r.becomes) (omega (arith, n, all))
+        let around_it = off_around was pieces known place position path limit members i index next rest inside into false path rest into in
+        let near = near_suffice was pieces known place position path limit members i index next rest inside into path rest into tidy false r around_it (near_none left weightless) in
+        let light : laid_weight members ≤ k = (i.light).2 in
+        let none = weightless in
+        (replaced_above was pieces known place position path limit members i index next rest inside into path rest into tidy false r tidier (with_left index o piece) here_is proxy roots puts (omega (arith, none, light))
+        around_it (IsLeftOf position path gone_nodes members) (becomes left (r.becomes).0 new gone_nodes r.becomes) (row_nodes (without_places inside) + 2 * row_nodes (without_places left) + near_pages (nodes_off false (next ∷ rest) inside))
+        (r.moves).free (omega (arith, n, all, near))).0

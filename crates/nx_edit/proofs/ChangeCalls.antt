@@ -1,70 +1,58 @@
 -- The calls that make a change below an interval, one behind the other.
-use Rattle.std.proofs.Common.{◌≡◌, ℕ, ◌-◌, ◌≤◌, nat_lt, Bool, true, false, List, [], ◌∷◌, take, drop, Option, None, Some, refl, sym, ap, ◌∙◌, subst, arith}
-use Rattle.std.specs.Bool.{MatchBool}
+use Rattle.std.proofs.Common.{◌≡◌, ℕ, ◌+◌, ◌-◌, ◌*◌, ◌≤◌, true, List, [], ◌∷◌, length, take, drop, Option, None, Some, refl, sym, ap, ◌∙◌, subst, arith}
 use Rattle.std.specs.List.{slice_get}
 use Rattle.nx_host.specs.declared.disk.Disk.{Ghosts}
 use Rattle.nx_host.specs.Still.{IsStill}
 use Rattle.nx_tree.specs.declared.node.Node.{Node}
 use Rattle.nx_tree.specs.Document.{most_nodes}
 use Rattle.nx_holdings.specs.Holdings.{Held}
+use Rattle.nx_holdings.specs.declared.header.Settings.{Settings}
 use Rattle.nx_records.specs.declared.records.Records.{Records}
 use Rattle.nx_records.specs.declared.error.StoreError.{StoreError}
 use Rattle.nx_records.specs.declared.error.StoreError.TheVariants as store
 use Rattle.nx_records.specs.Records.{settings_of, KeepsSaved, StandsFor}
-use Rattle.nx_records.specs.Refusals.{RunsOn, NotStored}
+use Rattle.nx_records.specs.Refusals.{RunsOn}
 use Rattle.nx_piece.specs.declared.piece.Far.{Far}
 use Rattle.nx_piece.specs.declared.piece.Piece.{Piece}
 use Rattle.nx_piece.specs.PieceNode.{PieceNode}
-use Rattle.nx_piece.specs.declared.piece.Proxy.{Proxy}
-use Rattle.nx_piece.specs.Gapped.{GappedTree}
+use Rattle.nx_piece.specs.Gapped.{Gapped, GappedTree, End, Gap, gapped_weight}
 use Rattle.nx_piece.specs.Locate.{Reached, Inside, Outside, Missing, reached_in}
+use Rattle.nx_piece.specs.Valid.{AreNear}
 use Rattle.nx_matrix.specs.declared.rule.Rule.{Rule}
-use Rattle.nx_cuts.specs.Cut.{AreFree, CutForest, Bare, Grown, Kept, part_weight}
 use Rattle.nx_matrix.specs.Label.{label}
-use Rattle.nx_matrix.specs.Rules.{entry_of}
-use Rattle.nx_matrix.specs.declared.rule.Entry.{Entry}
-use Rattle.nx_sketch.specs.Sketch.{placed}
-use Rattle.nx_sketch.specs.Split.{IsSplit}
-use Rattle.nx_split.specs.Piece.{asked_of_root, freed}
-use Rattle.nx_drawn.specs.Splits.{Divides, SplitsRow, part_sketch}
-use Rattle.nx_holdings.specs.declared.header.Settings.{Settings}
-use Rattle.nx_layouts.specs.Layout.{RecordPlace, LaidNode, Layout, in_record, shown_with, piece_of, without_places}
-use Rattle.nx_layouts.proofs.DrawnLemmas.{drawn_free}
+use Rattle.nx_cuts.specs.Cut.{AreFree}
+use Rattle.nx_layouts.specs.Layout.{RecordPlace, LaidNode, Layout, in_record, shown_with, piece_body, piece_of, without_places}
 use Rattle.nx_layouts.specs.Replace.{above_at}
 use Rattle.nx_layouts.specs.Cutting.{LeadsOn}
 use Rattle.nx_layouts.proofs.AboveLemmas.{above_stands}
+use Rattle.nx_layouts.proofs.DrawnLemmas.{drawn_free}
 use Rattle.nx_layouts.proofs.PathLemmas.{path_leads_on}
-use Rattle.nx_hold.specs.Changes.{place_named, ComesTidy, ComesTidyWhere}
-use Rattle.nx_hold.proofs.TidyLemmas.{may_name_own}
-use Rattle.nx_hold.specs.Pieces.{HoldsPiece, PieceMap}
+use Rattle.nx_layouts.proofs.PlaceLemmas.{no_place}
+use Rattle.nx_drafts.proofs.LabelLemmas.{row_splits_by_label}
+use Rattle.nx_divide.specs.declared.dividing.Row.{Row}
+use Rattle.nx_hold.specs.Changes.{place_named, ComesTidyWhere}
+use Rattle.nx_hold.specs.Contents.{near_pages}
+use Rattle.nx_hold.specs.Pieces.{HoldsPiece, MayName, PieceMap}
 use Rattle.nx_hold.proofs.RefusalLemmas.{runs_then, saved_then}
+use Rattle.nx_hold.proofs.TidyLemmas.{may_name_own}
 use Rattle.nx_nav.specs.declared.routing.PassedRecord.{PassedRecord}
 use Rattle.nx_nav.specs.Route.{IsPassedRecord}
 use Rattle.nx_edit.specs.Editing.{places_off}
-use Rattle.nx_edit.specs.Rows.{IsHeldInterval, IsReplaced}
+use Rattle.nx_edit.specs.Rows.{row_nodes, IsHeldInterval}
 use Rattle.nx_edit.specs.declared.changing.Change.TheVariants as change
 use Rattle.nx_edit.specs.Changing as shape
-use Rattle.nx_edit.specs.Changing.{Put, IsLaidPut, MayChangeAlong, MayPutIn, changed_interval, kept_around, put_lists, way_of, AreSplitOf, IsPossibleIn, ChangesKnown, NotChangedKnown, NotChangedAlong}
+use Rattle.nx_edit.specs.Changing.{Put, IsLaidPut, MayChangeAlong, MayPutIn, changed_interval, kept_around, put_lists, way_of, AreSplitOf, IsReplacedByRow, IsPossibleIn, ChangesKnown, NotChangedKnown, NotChangedAlong}
 use Rattle.nx_edit.specs.Passing.{NotPassed}
 use Rattle.nx_edit.specs.RowPut.{MayHaveRow, PassesRow, piece_with_row}
 use Rattle.nx_edit.proofs.RemoveLemmas.{later_rose, ends_behind}
 use Rattle.nx_edit.proofs.RowCalls.{as_held}
 use Rattle.nx_edit.proofs.PassedLemmas.{place_inside, inside_proxy, inside_interval, above_there}
+use Rattle.nx_edit.proofs.RefillLemmas.{replaced_as}
 use Rattle.nx_edit.proofs.UpLemmas.{change_below, possible_below, may_have, change_few, away_changed}
 
 -- no part is allowed to weigh more than 256
 pub most_weight : {D : Type 0} {d : Ghosts D} {records : Records} {disk : D} {saved now : Held} → (settings_of records).k ≤ 256 → StandsFor d records disk saved now → (now.settings).k ≤ 256
 most_weight {records = records} most stands = subst (λ (k : ℕ). k ≤ 256) (sym (ap (λ s. s.k) ((stands.holds).behind).settings)) most
-
--- what a call says that gives up, where it lacks less
-pub only_lacks : {D : Type 0} (d : Ghosts D) (needs : Held → ℕ) (Lacks : Held → Type 0) (Only : Type 0) (named : ℕ) (e : StoreError) (r0 r1 : Records) (x0 x1 : D) → NotStored d needs Lacks named e r0 r1 x0 x1 → NotStored d needs (λ was. Only → Lacks was) named e r0 r1 x0 x1
-only_lacks d needs Lacks Only named store.Disk r0 r1 x0 x1 refused = refused
-only_lacks d needs Lacks Only named store.Full r0 r1 x0 x1 refused = refused
-only_lacks d needs Lacks Only named (store.Damaged page) r0 r1 x0 x1 refused = record { page = refused.page; ends = refused.ends; lacks = λ saved now stands only. refused.lacks saved now stands }
-only_lacks d needs Lacks Only named store.Ended r0 r1 x0 x1 refused = refused
-only_lacks d needs Lacks Only named store.Memory r0 r1 x0 x1 refused = refused
-only_lacks d needs Lacks Only named store.Exists r0 r1 x0 x1 refused = refused
-only_lacks d needs Lacks Only named store.NotAStore r0 r1 x0 x1 refused = refused
 
 -- what is kept by one call and by the next one is kept by both
 pub keeps_after : {D : Type 0} (d : Ghosts D) (r0 r1 r2 : Records) (x0 x1 x2 : D) → RunsOn r0 r1 → KeepsSaved d r0 r1 x0 x1 → RunsOn r1 r2 → KeepsSaved d r1 r2 x1 x2 → RunsOn r0 r2 × KeepsSaved d r0 r2 x0 x2
@@ -92,11 +80,11 @@ module _ {D : Type 0} (d : Ghosts D) (rules : List Rule) (put : Put) (place : Re
   end_unchanged store.Exists refused = absurd refused
   end_unchanged store.NotAStore refused = absurd refused
 
-  pub end_changed : (above : Option Node) (proxies : List Proxy) (gone : List Far) → ComesTidyWhere d r0 r1 x0 x1 (λ was. MayPutIn was put last) (ChangesKnown rules (Some last) above put place member path proxies gone)
-      → ComesTidyWhere d r0 r1 x0 x1 (λ was. MayChangeAlong was put place member path [] last) (ChangesKnown rules None above put place member path proxies gone)
-  end_changed above proxies gone comes saved was stands tidy may =
+  pub end_changed : (room : ℕ) (above : Option Node) (row : Row) (gone : List Far) → ComesTidyWhere d r0 r1 x0 x1 (λ was. MayPutIn was put last) (ChangesKnown rules (Some last) room above put place member path row gone)
+      → ComesTidyWhere d r0 r1 x0 x1 (λ was. MayChangeAlong was put place member path [] last) (ChangesKnown rules None room above put place member path row gone)
+  end_changed room above row gone comes saved was stands tidy may =
       let now = comes saved was stands tidy (may_name_own was place last tidy may.0, may.1) in
-      (now.0, now.1, now.2, λ pieces members i possible. now.3 pieces members (as_held place member path most_nodes pieces members last may.0 i) possible)
+      (now.0, now.1, now.2, ((now.3).0, λ pieces members i possible. (now.3).1 pieces members (as_held place member path most_nodes pieces members last may.0 i) possible))
 
 -- The node above the interval below:
 
@@ -126,58 +114,6 @@ node_above piece member path index next used members node top free is leads at =
       alike = ap label (at.3 ∙ ap (λ (t : GappedTree). t.node.node) (sym same)) ∙ ap (λ (n : PieceNode). label n.node) from.shown ∙ same_label (from.node).node (from.node).list;
       above = from.above top;
     }
-
--- A split looks at the label of the node above alone:
-
-matched : {A B : Type 0} (C : Type 0) (b : Bool) → (A → B) → MatchBool b A C → MatchBool b B C
-matched C true f h = f h
-matched C false f h = h
-
-module _ (settings : Settings) (rules : List Rule) (one other : Node) (alike : label one ≡ label other) where
-  asked_alike : asked_of_root rules (Some one) ≡ asked_of_root rules (Some other)
-  asked_alike = ap (λ (l : List ℕ). λ (root : Node). freed (entry_of rules l (label root))) alike
-
-  divided_alike : (members now : CutForest) → Divides settings rules (Some one) members now → Divides settings rules (Some other) members now
-  divided_alike members now h = record {
-    parts = h.parts;
-    split = subst (λ (asks : Node → Entry). IsSplit settings.k (placed (part_sketch rules asks 0 members)) settings.target settings.tolerance h.parts) asked_alike h.split;
-    same = h.same;
-    drawn = h.drawn;
-    limit = h.limit;
-    formed = h.formed;
-  }
-
-  pub splits_alike : (old new : CutForest) → SplitsRow settings rules (Some one) old new → SplitsRow settings rules (Some other) old new
-  splits_alike Bare new h = h
-  splits_alike (Grown node below beside) new h = (h.0, h.1, h.2, splits_alike beside h.1 h.3, h.4)
-  splits_alike (Kept mark members beside) new h = (
-    h.0,
-    h.1,
-    h.2,
-    splits_alike members h.0 h.3,
-    matched (h.1 ≡ Kept tt h.0 Bare) (nat_lt settings.k (part_weight h.0)) (divided_alike h.0 h.1) h.4,
-    splits_alike beside h.2 h.5,
-    h.6,
-  )
-
--- what is replaced so is replaced so, where as much is said of the row
-becomes_as : {k : ℕ} {Becomes Other : CutForest → Type 0} {place : RecordPlace} {members : Layout} {kept : List LaidNode} {put : List ℕ} {stay : List RecordPlace} {proxies : List Proxy} {gone : List Far} {was now : Held} → ((c : CutForest) → Becomes c → Other c)
-    → IsReplaced k Becomes place members kept put stay proxies gone was now → IsReplaced k Other place members kept put stay proxies gone was now
-becomes_as other r = record {
-  row = r.row;
-  becomes = other (without_places r.row) r.becomes;
-  proxies_are = r.proxies_are;
-  held = r.held;
-  once = r.once;
-  light = r.light;
-  brought = r.brought;
-  moves = r.moves;
-  contents_went = r.contents_went;
-  contents_came = r.contents_came;
-  brought_once = r.brought_once;
-  records_stay = r.records_stay;
-  lists_stay = r.lists_stay;
-}
 
 -- A change below an interval that the path leads into:
 
@@ -211,16 +147,18 @@ module _ {D : Type 0} (d : Ghosts D) (rules : List Rule) (put : Put) (place : Re
         possible_below rules put now pieces (Some piece) place member path members i first.index first.member (drop first.used path) w.inside w.into w.same possible
 
     -- what became of the interval below, where it stands
+    abbrev IsChangedInside : {was : Held} (pieces : PieceMap was) (members : Layout) → IsHeldInterval was pieces (Some piece) place member path most_nodes members → (at : RecordPlace) (room : ℕ) (row : Row) (gone : List Far) (mid : Held) → Type 0
+    IsChangedInside {was} pieces members i at room row gone mid =
+        (r : IsReplacedByRow (was.settings).k (AreSplitOf was.settings rules room (Some first.above) (changed_interval rules put first.member (drop first.used path) (way members i.is).inside)) at (way members i.is).inside
+        (kept_around put first.member (drop first.used path) (way members i.is).inside) (put_lists put) (places_off true (first.member ∷ way_of put (drop first.used path)) (way members i.is).inside) row gone was mid)
+        × (was.free + length row.proxies ≤ mid.free + (row_nodes (without_places (way members i.is).inside) + 2 * row_nodes (without_places (r.0).row) + near_pages (kept_around put first.member (drop first.used path) (way members i.is).inside)))
+
     replaced : {was mid : Held} (pieces : PieceMap was) (members : Layout) (i : IsHeldInterval was pieces (Some piece) place member path most_nodes members) → IsPossibleIn (was.settings).k rules put member path members
-        → (row : List Proxy) (gone : List Far) → ChangesKnown rules None (Some first.above) put (place_named first.proxy) first.member (drop first.used path) row gone was mid
-        → IsReplaced (was.settings).k (AreSplitOf was.settings rules (Some first.above) (changed_interval rules put first.member (drop first.used path) (way members i.is).inside))
-        (place_inside was pieces (Some piece) place member path most_nodes members i first.index first.member (drop first.used path) (way members i.is).inside (way members i.is).into)
-        (way members i.is).inside (kept_around put first.member (drop first.used path) (way members i.is).inside) (put_lists put) (places_off true (first.member ∷ way_of put (drop first.used path)) (way members i.is).inside) row gone was mid
-    replaced {was} {mid} pieces members i possible row gone changes =
-        let w = way members i.is in
-        subst (λ (p : RecordPlace). IsReplaced (was.settings).k (AreSplitOf was.settings rules (Some first.above) (changed_interval rules put first.member (drop first.used path) w.inside)) p w.inside (kept_around put first.member (drop first.used path) w.inside) (put_lists put) (places_off true (first.member ∷ way_of put (drop first.used path)) w.inside) row gone was mid)
-        (at_inside pieces members i)
-        (changes pieces w.inside (inner pieces members i) (possible_inner pieces members i possible))
+        → (room : ℕ) (row : Row) (gone : List Far) → ChangesKnown rules None room (Some first.above) put (place_named first.proxy) first.member (drop first.used path) row gone was mid
+        → IsChangedInside pieces members i (place_inside was pieces (Some piece) place member path most_nodes members i first.index first.member (drop first.used path) (way members i.is).inside (way members i.is).into) room row gone mid
+    replaced {was} {mid} pieces members i possible room row gone changes =
+        subst (λ (p : RecordPlace). IsChangedInside pieces members i p room row gone mid) (at_inside pieces members i)
+        (changes.1 pieces (way members i.is).inside (inner pieces members i) (possible_inner pieces members i possible))
 
   pub unchanged_below : (e : StoreError) → NotChangedAlong d more last rules put (place_named first.proxy) first.member (drop first.used path) e r0 r1 x0 x1 → NotChangedAway e r1 x1
   unchanged_below store.Disk refused = refused
@@ -250,9 +188,19 @@ module _ {D : Type 0} (d : Ghosts D) (rules : List Rule) (put : Put) (place : Re
   unchanged_below store.Exists refused = absurd refused
   unchanged_below store.NotAStore refused = absurd refused
 
-  module _ (small : (settings_of r0).k ≤ 256) (still : IsStill d x0 x1) (runs : RunsOn r0 r1) (keeps : KeepsSaved d r0 r1 x0 x1) (row : List Proxy) (gone : List Far)
-      (below : ComesTidyWhere d r0 r1 x0 x1 (λ was. MayChangeAlong was put (place_named first.proxy) first.member (drop first.used path) more last) (ChangesKnown rules None (Some first.above) put (place_named first.proxy) first.member (drop first.used path) row gone)) (r2 : Records) (x2 : D) where
-    pub pass_refused : (e : StoreError) → NotPassed d place first (piece_with_row first.index row) (λ piece. MayHaveRow piece row) e r1 r2 x1 x2 → NotChangedAway e r2 x2
+  module _ (still : IsStill d x0 x1) (runs : RunsOn r0 r1) (keeps : KeepsSaved d r0 r1 x0 x1) (room : ℕ) (room_is : room ≡ (settings_of r0).k - first.weight) (row : Row) (near : AreNear row.items) (gone : List Far)
+      (below : ComesTidyWhere d r0 r1 x0 x1 (λ was. MayChangeAlong was put (place_named first.proxy) first.member (drop first.used path) more last) (ChangesKnown rules None room (Some first.above) put (place_named first.proxy) first.member (drop first.used path) row gone))
+      (r2 : Records) (x2 : D) where
+    -- the room is what the part above has left
+    room_there : {saved now : Held} → StandsFor d r0 x0 saved now → (piece : Piece) → IsPassedRecord piece member path first → (members : Layout) → piece ≡ piece_of members → room ≡ (now.settings).k - gapped_weight (piece_body members)
+    room_there stands piece is members same =
+        let settled = ap (λ (s : Settings). s.k) ((stands.holds).behind).settings in
+        let weighs = is.weighs in
+        let own = ap (λ (p : Piece). gapped_weight p.body.roots) same in
+        let told = room_is in
+        omega (arith, settled, weighs, own, told)
+
+    pub pass_refused : (e : StoreError) → NotPassed d place first (piece_with_row first.index row) (λ piece. MayHaveRow (settings_of r1).k piece row) e r1 r2 x1 x2 → NotChangedAway e r2 x2
     pass_refused store.Disk refused = (later_rose (d.faults x0) (d.faults x1) (d.faults x2) still.faults_later refused.0, ends_behind {r0 = r0} {r1 = r1} {r2 = r2} runs refused.1)
     pass_refused store.Full refused = record {
       runs = runs_then {r0 = r0} {r1 = r1} {r2 = r2} runs refused.runs;
@@ -264,9 +212,9 @@ module _ {D : Type 0} (d : Ghosts D) (rules : List Rule) (put : Put) (place : Re
           let j = as_held place member path most_nodes pieces members piece (route.0).1 i in
           let w = way piece is members j.is in
           let mid = below saved now stands tidy (route.1, may) in
-          let r = replaced piece is pieces members j possible row gone mid.3 in
-          let there = above_there now pieces (Some piece) place member path most_nodes members j first.index first.member (drop first.used path) w.inside w.into tidy r.moves in
-          change_few rules put now pieces (Some piece) place member path members j first.index first.member (drop first.used path) w.inside w.into (most_weight small stands) possible tidy first.above row r piece j.is
+          let r = replaced piece is pieces members j possible room row gone mid.3 in
+          let there = above_there now pieces (Some piece) place member path most_nodes members j first.index first.member (drop first.used path) w.inside w.into tidy ((r.0).0).moves in
+          change_few rules put now pieces (Some piece) place member path members j first.index first.member (drop first.used path) w.inside w.into possible tidy first.above room (room_there stands piece is members j.is) row r.0 near r.1 piece j.is
           (refused.few saved mid.0 piece mid.1 (subst (λ (p : Piece). HoldsPiece mid.0 place p) (sym j.is) there) (is.proxy_is, is.roots_are));
     }
     pass_refused (store.Damaged page) refused = (
@@ -277,10 +225,12 @@ module _ {D : Type 0} (d : Ghosts D) (rules : List Rule) (put : Put) (place : Re
           let j = as_held place member path most_nodes pieces members piece (route.0).1 i in
           let w = way piece is members j.is in
           let mid = below saved now stands tidy (route.1, may) in
-          let r = replaced piece is pieces members j possible row gone mid.3 in
-          let there = above_there now pieces (Some piece) place member path most_nodes members j first.index first.member (drop first.used path) w.inside w.into tidy r.moves in
+          let r = replaced piece is pieces members j possible room row gone mid.3 in
+          let there = above_there now pieces (Some piece) place member path most_nodes members j first.index first.member (drop first.used path) w.inside w.into tidy ((r.0).0).moves in
+          let settled : (now.settings).k ≡ (settings_of r1).k = ap (λ (s : Settings). s.k) (((stands.holds).behind).settings ∙ sym runs.settings_stay) in
           refused.1 saved mid.0 piece mid.1 (subst (λ (p : Piece). HoldsPiece mid.0 place p) (sym j.is) there) (is.proxy_is, is.roots_are)
-          (may_have rules put now pieces (Some piece) place member path members j first.index first.member (drop first.used path) w.inside w.into (most_weight small stands) possible tidy first.above row r piece j.is),
+          (subst (λ (k : ℕ). MayHaveRow k piece row) settled
+          (may_have rules put now pieces (Some piece) place member path members j first.index first.member (drop first.used path) w.inside w.into possible tidy first.above room (room_there stands piece is members j.is) row r.0 piece j.is)),
     )
     pass_refused store.Memory refused = (
       runs_then {r0 = r0} {r1 = r1} {r2 = r2} runs refused.0,
@@ -290,30 +240,31 @@ module _ {D : Type 0} (d : Ghosts D) (rules : List Rule) (put : Put) (place : Re
     pass_refused store.Exists refused = absurd refused
     pass_refused store.NotAStore refused = absurd refused
 
-    pub changed_away : (above : Option Node) (own : List Proxy) → ComesTidy d r1 r2 x1 x2 (PassesRow place first row own)
-        → ComesTidyWhere d r0 r2 x0 x2 (λ was. MayChangeAlong was put place member path (first ∷ more) last) (ChangesKnown rules None above put place member path own gone)
-    changed_away above own passes saved was stands tidy may =
+    pub changed_away : (outer : ℕ) (above : Option Node) (own : Row) → own.items ≡ Gap 1 End → ComesTidyWhere d r1 r2 x1 x2 (λ was. MayName was row.items) (PassesRow place first row own)
+        → ComesTidyWhere d r0 r2 x0 x2 (λ was. MayChangeAlong was put place member path (first ∷ more) last) (ChangesKnown rules None outer above put place member path own gone)
+    changed_away outer above own one passes saved was stands tidy may =
         let route = may.0 in
         let mid = below saved was stands tidy (route.1, may.1) in
-        let now = passes saved mid.0 mid.1 mid.2 in (
+        let now = passes saved mid.0 mid.1 mid.2 (mid.3).0 in (
           now.0,
           now.1,
           now.2,
-          λ pieces members i possible.
-              let piece = (route.0).0 in
-              let is : IsPassedRecord piece member path first = (route.0).2 in
-              let j = as_held place member path most_nodes pieces members piece (route.0).1 i in
-              let w = way piece is members j.is in
-              let up = node_above piece member path first.index first.member first.used members first.above above (drop_free members (j.light).1) j.is is.leads is.above in
-              let r = replaced piece is pieces members j possible row gone mid.3 in
-              let s = becomes_as (λ c h. (splits_alike was.settings rules first.above up.whole up.alike (changed_interval rules put first.member (drop first.used path) w.inside) c h.0, h.1)) r in
-              let there = above_there was pieces (Some piece) place member path most_nodes members j first.index first.member (drop first.used path) w.inside w.into tidy r.moves in
-              let put_is = now.3 piece (subst (λ (p : Piece). HoldsPiece mid.0 place p) (sym j.is) there) (is.proxy_is, is.roots_are) in
-              subst (λ (ps : List Proxy). IsReplaced (was.settings).k (AreSplitOf was.settings rules above (changed_interval rules put member path members)) place members (kept_around put member path members) (put_lists put)
-              (places_off true (member ∷ way_of put path) members) ps gone was now.0) (sym put_is.1)
-              (away_changed rules put was pieces (Some piece) place member path members j first.index first.member (drop first.used path) w.inside w.into (most_weight small stands) possible tidy up.whole row s above up.above mid.2 piece j.is put_is.0
-              put_is.2 put_is.3),
+          (
+            subst (λ (items : Gapped). MayName now.0 items) (sym one) (λ far among. absurd (no_place far among)),
+            λ pieces members i possible.
+                let piece = (route.0).0 in
+                let is : IsPassedRecord piece member path first = (route.0).2 in
+                let j = as_held place member path most_nodes pieces members piece (route.0).1 i in
+                let w = way piece is members j.is in
+                let up = node_above piece member path first.index first.member first.used members first.above above (drawn_free members (j.light).1) j.is is.leads is.above in
+                let r = replaced piece is pieces members j possible room row gone mid.3 in
+                let there = above_there was pieces (Some piece) place member path most_nodes members j first.index first.member (drop first.used path) w.inside w.into tidy ((r.0).0).moves in
+                let put_is = now.3 piece (subst (λ (p : Piece). HoldsPiece mid.0 place p) (sym j.is) there) (is.proxy_is, is.roots_are) in
+                away_changed rules put was pieces (Some piece) place member path members j first.index first.member (drop first.used path) w.inside w.into possible tidy up.whole room (room_there stands piece is members j.is) row (
+                  replaced_as refl
+                      (λ c h. (row_splits_by_label was.settings rules room first.above up.whole (changed_interval rules put first.member (drop first.used path) w.inside) c up.alike h.0, h.1)) (r.0).0,
+                  (r.0).1,
+                )
+                near r.1 outer above up.above mid.2 piece j.is own put_is,
+          ),
         )
-      where
-        drop_free : (a : Layout) → AreFree (without_places a) → AreFree a
-        drop_free a free = drawn_free a free

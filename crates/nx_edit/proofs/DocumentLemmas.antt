@@ -14,6 +14,7 @@ use Rattle.nx_tree.specs.declared.node.Node.{Node}
 use Rattle.nx_tree.specs.Forest.{OrderedTree, Forest, Empty, Plant, nodes}
 use Rattle.nx_tree.specs.Document.{IsDocument, most_nodes}
 use Rattle.nx_tree.specs.Edit.{at}
+use Rattle.nx_weights.proofs.SumLemmas.{weight_least}
 use Rattle.nx_records.specs.Words.{Held}
 use Rattle.nx_holdings.specs.declared.header.Settings.{Settings}
 use Rattle.nx_records.specs.declared.records.Records.{Records}
@@ -26,7 +27,7 @@ use Rattle.nx_piece.specs.declared.piece.Far.{Far}
 use Rattle.nx_piece.specs.declared.piece.Piece.{Piece}
 use Rattle.nx_piece.specs.declared.piece.Proxy.{Proxy}
 use Rattle.nx_matrix.specs.declared.rule.Rule.{Rule}
-use Rattle.nx_cuts.specs.Cut.{CutForest, CutTree, Bare, Grown, Kept, forest, tree_of, AreFree, joined}
+use Rattle.nx_cuts.specs.Cut.{CutForest, CutTree, Bare, Grown, Kept, forest, part_weight, tree_of, AreFree, joined}
 use Rattle.nx_cuts.specs.Rows.{changed_row}
 use Rattle.nx_layouts.specs.Layout.{RecordPlace, LaidNode, Layout, AreHeld, AreLaidParts, AreOnce, laid_near, laid_forest, piece_of, nodes_in, contents_of, proxies_of, proxy_of, without_places, whole, IsLaidOutAs}
 use Rattle.nx_layouts.proofs.DrawnLemmas.{drawn_free}
@@ -46,6 +47,7 @@ use Rattle.nx_nav.specs.declared.error.NavError.{NavError}
 use Rattle.nx_nav.specs.declared.error.NavError.TheVariants as nav
 use Rattle.nx_nav.specs.Refusals.{HoldsNoDocument, IsRefused}
 use Rattle.nx_state.specs.State.{document_size}
+use Rattle.nx_divide.specs.declared.dividing.Row.{Row}
 use Rattle.nx_drawn.specs.Splits.{Splits, SplitsRow, whole_document}
 use Rattle.nx_drawn.proofs.SplitLemmas.{same_row, same_tree}
 use Rattle.nx_edit.specs.declared.error.EditError.{EditError}
@@ -54,7 +56,7 @@ use Rattle.nx_edit.specs.Removing.{document_places, fars_of, OfEntry, HasNone, A
 use Rattle.nx_edit.specs.Editing.{places_off, nodes_off, EditsDocument}
 use Rattle.nx_edit.specs.Refusals.{edit_needs, edit_error, seen_error, LeavesLastCommit, NotEdited}
 use Rattle.nx_edit.specs.Rows.{row_nodes, IsHeldInterval, IsReplaced}
-use Rattle.nx_edit.specs.Changing.{Put, Content, Child, put_lists, put_list, MayPut, MayChangeAlong, changed, way_of, MayBeMade, changed_interval, IsPossibleIn, AreAllKept, AreSplitOf, kept_around, ChangesKnown, change_needs, NotChangedAlong}
+use Rattle.nx_edit.specs.Changing.{Put, Content, Child, put_lists, put_list, MayPut, MayChangeAlong, changed, way_of, MayBeMade, changed_interval, IsPossibleIn, AreSplitOf, kept_around, ChangesKnown, change_needs, NotChangedAlong}
 use Rattle.nx_edit.proofs.RemoveLemmas.{later_rose, ends_behind}
 use Rattle.nx_edit.proofs.FreeLemmas.{firsts}
 use Rattle.nx_edit.proofs.FinishLemmas.{root_near, laid_then, gone_unnamed, finished}
@@ -72,7 +74,7 @@ pub record IsFitting (k : ℕ) (rules : List Rule) (put : Put) (path : List ℕ)
   pub same : tree_of (changed rules put path document) ≡ edit (tree_of document)
   pub is_document : IsDocument (edit (tree_of document))
 
--- A row that holds one tree in intervals is that of one interval, of that tree:
+-- A row that holds one tree, of which no node joins a part above, is that of one interval, of that tree:
 
 pub record IsOne (row : Layout) : Type 0 where
   pub place : RecordPlace
@@ -93,22 +95,23 @@ bare_free Bare h e = refl
 bare_free (Grown n b s) h e = absurd (cc)
 bare_free (Kept p m s) h e = absurd h
 
-bare_kept : (k : ℕ) (a : Layout) → AreLaidParts k a → AreAllKept (without_places a) → laid_forest a ≡ Empty → a ≡ Bare
-bare_kept k Bare parts h e = refl
-bare_kept k (Grown n b s) parts h e = absurd h
-bare_kept k (Kept p Bare s) parts h e = absurd (let some = parts.0 in omega arith)
-bare_kept k (Kept p (Grown n b r) s) parts h e = absurd (cc)
-bare_kept k (Kept p (Kept q m r) s) parts h e = absurd (parts.1)
+bare_row : (k : ℕ) (a : Layout) → AreLaidParts k a → laid_forest a ≡ Empty → a ≡ Bare
+bare_row k Bare parts e = refl
+bare_row k (Grown n b s) parts e = absurd (cc)
+bare_row k (Kept p Bare s) parts e = absurd (let some = parts.0 in omega arith)
+bare_row k (Kept p (Grown n b r) s) parts e = absurd (cc)
+bare_row k (Kept p (Kept q m r) s) parts e = absurd (parts.1)
 
-one_of : (k : ℕ) (row : Layout) (node : Node) (below : Forest) → AreLaidParts k row → AreAllKept (without_places row) → laid_forest row ≡ Plant node below Empty → IsOne row
-one_of k Bare node below parts h e = absurd (cc)
-one_of k (Grown n b s) node below parts h e = absurd h
-one_of k (Kept p Bare s) node below parts h e = absurd (let some = parts.0 in omega arith)
-one_of k (Kept p (Kept q m r) s) node below parts h e = absurd (parts.1)
-one_of k (Kept p (Grown n b r) s) node below parts h e =
+-- no tree stands outside of intervals where the row weighs nothing
+one_of : (k : ℕ) (row : Layout) (node : Node) (below : Forest) → AreLaidParts k row → part_weight (without_places row) ≤ 0 → laid_forest row ≡ Plant node below Empty → IsOne row
+one_of k Bare node below parts none e = absurd (cc)
+one_of k (Grown n b s) node below parts none e = absurd (let some = weight_least n.node in omega (arith, none, some))
+one_of k (Kept p Bare s) node below parts none e = absurd (let some = parts.0 in omega arith)
+one_of k (Kept p (Kept q m r) s) node below parts none e = absurd (parts.1)
+one_of k (Kept p (Grown n b r) s) node below parts none e =
     let rest = none_beside (laid_forest r) (laid_forest s) (ap beside_of e) in
     let bare : r ≡ Bare = bare_free r (drawn_free r parts.1) rest.0 in
-    let last : s ≡ Bare = bare_kept k s parts.4 h rest.1 in
+    let last : s ≡ Bare = bare_row k s parts.4 rest.1 in
     record { place = p; root = n; below = b; is = ap₂ (λ (x y : Layout). Kept p (Grown n b x) y) bare last }
 
 pub none_first : (row : List Proxy) → None ≡ slice_get row 0 → row ≡ []
@@ -199,12 +202,12 @@ module _ (was : Held) (pieces : PieceMap was) (entry : DocEntry) (document : Cut
   top_needs pages = let near = kept_near in omega (arith, nodes_now, top_nodes, near)
 
   module _ (proxies : List Proxy) (gone : List Far) (mid : Held)
-      (r : IsReplaced (was.settings).k (AreSplitOf was.settings rules None (changed_interval rules put 0 path top_row)) (place_of entry.root) top_row (kept_around put 0 path top_row) (put_lists put) (places_off true (0 ∷ way_of put path) top_row) proxies gone was mid) where
-    splits_row : SplitsRow was.settings rules None (whole_document (changed rules put path document)) (without_places r.row)
-    splits_row = subst (λ (c : CutForest). SplitsRow was.settings rules None c (without_places r.row)) row_now (r.becomes).0
+      (r : IsReplaced (was.settings).k (AreSplitOf was.settings rules 0 None (changed_interval rules put 0 path top_row)) (place_of entry.root) top_row (kept_around put 0 path top_row) (put_lists put) (places_off true (0 ∷ way_of put path) top_row) proxies gone was mid) where
+    splits_row : SplitsRow was.settings rules 0 None (whole_document (changed rules put path document)) (without_places r.row)
+    splits_row = subst (λ (c : CutForest). SplitsRow was.settings rules 0 None c (without_places r.row)) row_now (r.becomes).0
 
     forest_now : laid_forest r.row ≡ Plant (changed rules put path document).node (forest (changed rules put path document).below) Empty
-    forest_now = same_row was.settings rules None (whole_document (changed rules put path document)) (without_places r.row) splits_row
+    forest_now = same_row was.settings rules 0 None (whole_document (changed rules put path document)) (without_places r.row) splits_row
 
     pub one_row : IsOne r.row
     one_row = one_of (was.settings).k r.row (changed rules put path document).node (forest (changed rules put path document).below) r.light (r.becomes).1 forest_now
@@ -213,7 +216,7 @@ module _ (was : Held) (pieces : PieceMap was) (entry : DocEntry) (document : Cut
     document_now = record { node = one_row.root.node; below = without_places one_row.below }
 
     pub splits_now : Splits was.settings rules (changed rules put path document) document_now
-    splits_now = subst (λ (l : Layout). SplitsRow was.settings rules None (whole_document (changed rules put path document)) (without_places l)) one_row.is splits_row
+    splits_now = subst (λ (l : Layout). SplitsRow was.settings rules 0 None (whole_document (changed rules put path document)) (without_places l)) one_row.is splits_row
 
     proxies_one : proxies ≡ proxy_of one_row.place 1 ∷ []
     proxies_one = r.proxies_are ∙ ap (λ (l : Layout). proxies_of l) one_row.is
@@ -430,17 +433,17 @@ module _ {D : Type 0} (d : Ghosts D) (r0 r1 : Records) (x0 x1 : D) (still : IsSt
       change_refused r3 x3 store.Exists refused = absurd refused
       change_refused r3 x3 store.NotAStore refused = absurd refused
 
-      module _ (r3 : Records) (x3 : D) (proxies : List Proxy) (gone : List Far)
-          (comes : ComesTidyWhere d r2 r3 x2 x3 (λ was. MayChangeAlong was put (place_of entry.root) 0 path passed last) (ChangesKnown rules None None put (place_of entry.root) 0 path proxies gone)) where
+      module _ (r3 : Records) (x3 : D) (row : Row) (gone : List Far)
+          (comes : ComesTidyWhere d r2 r3 x2 x3 (λ was. MayChangeAlong was put (place_of entry.root) 0 path passed last) (ChangesKnown rules None 0 None put (place_of entry.root) 0 path row gone)) where
         -- what the change made of a document of the entry
         pub record IsMade (document : CutTree) (has : HasDocument d r0 x0 (place_of entry.root) document) : Type 0 where
           pub b : IsBetween document has
           pub now : Held
           pub stands : StandsFor d r3 x3 has.saved now
           pub tidy : IsTidy now
-          pub replaced : IsReplaced (b.mid.settings).k (AreSplitOf b.mid.settings rules None (changed_interval rules put 0 path (Grown (laid_near document.node) (has.laid).layout Bare))) (place_of entry.root)
+          pub replaced : IsReplaced (b.mid.settings).k (AreSplitOf b.mid.settings rules 0 None (changed_interval rules put 0 path (Grown (laid_near document.node) (has.laid).layout Bare))) (place_of entry.root)
               (Grown (laid_near document.node) (has.laid).layout Bare) (kept_around put 0 path (Grown (laid_near document.node) (has.laid).layout Bare)) (put_lists put)
-              (places_off true (0 ∷ way_of put path) (Grown (laid_near document.node) (has.laid).layout Bare)) proxies gone b.mid now
+              (places_off true (0 ∷ way_of put path) (Grown (laid_near document.node) (has.laid).layout Bare)) row.proxies gone b.mid now
 
         made_of : (document : CutTree) (has : HasDocument d r0 x0 (place_of entry.root) document) → IsTidy has.now → entry.nodes ≡ document_size document → IsMade document has
         made_of document has tidy counted =
@@ -451,21 +454,21 @@ module _ {D : Type 0} (d : Ghosts D) (r0 r1 : Records) (x0 x1 : D) (still : IsSt
               now = next.0;
               stands = next.1;
               tidy = next.2;
-              replaced = next.3 (piece_map b.mid) (Grown (laid_near document.node) (has.laid).layout Bare) (top_interval b.mid (piece_map b.mid) entry document (has.laid).layout b.laid rules put path edit b.fitting)
-                  (top_possible b.mid (piece_map b.mid) entry document (has.laid).layout b.laid rules put path edit b.fitting);
+              replaced = (((next.3).1 (piece_map b.mid) (Grown (laid_near document.node) (has.laid).layout Bare) (top_interval b.mid (piece_map b.mid) entry document (has.laid).layout b.laid rules put path edit b.fitting)
+                  (top_possible b.mid (piece_map b.mid) entry document (has.laid).layout b.laid rules put path edit b.fitting)).0).0;
             }
 
         -- no proxy comes for no document of the entry
-        pub none_came : proxies ≡ [] → HasNone d r0 x0 entry
+        pub none_came : row.proxies ≡ [] → HasNone d r0 x0 entry
         none_came none document has tidy counted own =
             let m = made_of document has tidy counted in
-            some_proxy (m.b).mid (piece_map (m.b).mid) entry document (has.laid).layout (m.b).laid rules put path edit (m.b).fitting proxies gone m.now m.replaced none
+            some_proxy (m.b).mid (piece_map (m.b).mid) entry document (has.laid).layout (m.b).laid rules put path edit (m.b).fitting row.proxies gone m.now m.replaced none
 
         -- none is dropped where all nodes are kept
         pub all_kept : ((members : Layout) → kept_around put 0 path members ≡ nodes_in members) → (document : CutTree) (has : HasDocument d r0 x0 (place_of entry.root) document) → IsTidy has.now → entry.nodes ≡ document_size document → gone ≡ []
         all_kept kept document has tidy counted =
-            let row : Layout = Grown (laid_near document.node) (has.laid).layout Bare in
-            none_more (fars_of (nodes_in row)) gone (subst (λ (ns : List LaidNode). IsPermutation (fars_of ns ++ gone) (fars_of (nodes_in row))) (kept row) ((made_of document has tidy counted).replaced).contents_went)
+            let top : Layout = Grown (laid_near document.node) (has.laid).layout Bare in
+            none_more (fars_of (nodes_in top)) gone (subst (λ (ns : List LaidNode). IsPermutation (fars_of ns ++ gone) (fars_of (nodes_in top))) (kept top) ((made_of document has tidy counted).replaced).contents_went)
 
         -- in between no record names what was dropped
         dropped : (document : CutTree) (has : HasDocument d r0 x0 (place_of entry.root) document) → (tidy : IsTidy has.now) → (counted : entry.nodes ≡ document_size document) → AreOwn has.now (document_places entry document (has.laid).layout) (contents_of (has.laid).layout)
@@ -473,10 +476,10 @@ module _ {D : Type 0} (d : Ghosts D) (r0 r1 : Records) (x0 x1 : D) (still : IsSt
         dropped document has tidy counted own =
             let m = made_of document has tidy counted in
             let b = m.b in
-            let one = one_row b.mid (piece_map b.mid) entry document (has.laid).layout b.laid rules put path edit b.fitting proxies gone m.now m.replaced in
+            let one = one_row b.mid (piece_map b.mid) entry document (has.laid).layout b.laid rules put path edit b.fitting row.proxies gone m.now m.replaced in
             gone_unnamed has.now b.mid tidy (b.written).moves (b.written).tidy has.pieces entry document (has.laid).layout (has.laid).laid own m.tidy m.replaced (kept_by_put put path (has.laid).layout)
             (top_kept b.mid (piece_map b.mid) entry document (has.laid).layout b.laid rules put path edit b.fitting) (listed_once put) (λ first among. (_, ((b.written).may first (listed_as put first among)).0)) (λ first among. ((b.written).may first (listed_as put first among)).1)
-            one.place one.root.node one.below (row_is b.mid (piece_map b.mid) entry document (has.laid).layout b.laid rules put path edit b.fitting proxies gone m.now m.replaced)
+            one.place one.root.node one.below (row_is b.mid (piece_map b.mid) entry document (has.laid).layout b.laid rules put path edit b.fitting row.proxies gone m.now m.replaced)
 
         module _ (on : RunsOn r2 r3) (then : KeepsSaved d r2 r3 x2 x3) (third : IsStill d x2 x3) (r4 : Records) (x4 : D) where
           pub run_on : RunsOn r0 r3
@@ -500,7 +503,7 @@ module _ {D : Type 0} (d : Ghosts D) (r0 r1 : Records) (x0 x1 : D) (still : IsSt
           free_refused store.NotAStore refused = absurd refused
           free_refused store.Full refused = absurd refused
 
-          pub came : ComesTidyWhere d r3 r4 x3 x4 (λ was. AreUnnamed was gone) (λ was now. MovesRecords [] [] (firsts gone) [] 0 was now) → (proxy : Proxy) (rest : List Proxy) (new : DocEntry) → proxies ≡ proxy ∷ rest → place_of new.root ≡ place_named proxy
+          pub came : ComesTidyWhere d r3 r4 x3 x4 (λ was. AreUnnamed was gone) (λ was now. MovesRecords [] [] (firsts gone) [] 0 was now) → (proxy : Proxy) (rest : List Proxy) (new : DocEntry) → row.proxies ≡ proxy ∷ rest → place_of new.root ≡ place_named proxy
               → ((document : CutTree) → HasDocument d r0 x0 (place_of entry.root) document → entry.nodes ≡ document_size document → new.nodes ≡ 1 + nodes (edit (tree_of document)).below)
               → EditsDocument d r0 r4 x0 x4 (λ settings document. Splits settings rules (changed rules put path document)) true (way_of put path) (kept_by_put put path) pages entry new
           came frees proxy rest new one place count saved was pieces document layout stands tidy laid counted own =
@@ -508,19 +511,19 @@ module _ {D : Type 0} (d : Ghosts D) (r0 r1 : Records) (x0 x1 : D) (still : IsSt
               let m = made_of document has tidy counted in
               let b = m.b in
               let now = frees saved m.now m.stands m.tidy (dropped document has tidy counted own) in
-              let row = one_row b.mid (piece_map b.mid) entry document layout b.laid rules put path edit b.fitting proxies gone m.now m.replaced in
-              let splits = splits_now b.mid (piece_map b.mid) entry document layout b.laid rules put path edit b.fitting proxies gone m.now m.replaced in
-              let size = now_size b.mid (piece_map b.mid) entry document layout b.laid rules put path edit b.fitting proxies gone m.now m.replaced in
-              let top = top_is b.mid (piece_map b.mid) entry document layout b.laid rules put path edit b.fitting proxies gone m.now m.replaced proxy rest one in (
+              let single = one_row b.mid (piece_map b.mid) entry document layout b.laid rules put path edit b.fitting row.proxies gone m.now m.replaced in
+              let splits = splits_now b.mid (piece_map b.mid) entry document layout b.laid rules put path edit b.fitting row.proxies gone m.now m.replaced in
+              let size = now_size b.mid (piece_map b.mid) entry document layout b.laid rules put path edit b.fitting row.proxies gone m.now m.replaced in
+              let top = top_is b.mid (piece_map b.mid) entry document layout b.laid rules put path edit b.fitting row.proxies gone m.now m.replaced proxy rest one in (
                 now.0,
                 now.1,
                 now.2,
                 finished was b.mid tidy (b.written).moves (b.written).tidy pieces entry document layout laid own m.tidy m.replaced (kept_by_put put path layout)
                     (top_kept b.mid (piece_map b.mid) entry document layout b.laid rules put path edit b.fitting) (listed_once put) (λ first among. (_, ((b.written).may first (listed_as put first among)).0)) (λ first among. ((b.written).may first (listed_as put first among)).1)
-                    row.place row.root.node row.below (row_is b.mid (piece_map b.mid) entry document layout b.laid rules put path edit b.fitting proxies gone m.now m.replaced) now.3
+                    single.place single.root.node single.below (row_is b.mid (piece_map b.mid) entry document layout b.laid rules put path edit b.fitting row.proxies gone m.now m.replaced) now.3
                     (λ edited. Splits was.settings rules (changed rules put path document) edited) (kept_by_put put path) refl (places_off true (way_of put path) layout) (λ other among. Contains-append_left (places_off true (way_of put path) layout) [] other among)
-                    (record { node = row.root.node; below = without_places row.below }) (subst (λ (s : Settings). Splits s rules (changed rules put path document) (record { node = row.root.node; below = without_places row.below })) ((b.written).moves).settings splits)
-                    (is_document_now b.mid (piece_map b.mid) entry document layout b.laid rules put path edit b.fitting proxies gone m.now m.replaced) refl refl new (place ∙ ap place_named top) (count document has counted ∙ sym size),
+                    (record { node = single.root.node; below = without_places single.below }) (subst (λ (s : Settings). Splits s rules (changed rules put path document) (record { node = single.root.node; below = without_places single.below })) ((b.written).moves).settings splits)
+                    (is_document_now b.mid (piece_map b.mid) entry document layout b.laid rules put path edit b.fitting row.proxies gone m.now m.replaced) refl refl new (place ∙ ap place_named top) (count document has counted ∙ sym size),
               )
 
           pub keeps_on : RunsOn r3 r4 → KeepsSaved d r3 r4 x3 x4 → RunsOn r0 r4 × KeepsSaved d r0 r4 x0 x4

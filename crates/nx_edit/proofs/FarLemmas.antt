@@ -1,19 +1,24 @@
 -- The far contents of nodes, how often they come, and the pages that long contents without a list would take.
-use Rattle.std.proofs.Common.{◌≡◌, ℕ, zero, suc, ◌+◌, ◌-◌, ◌<◌, ◌≤◌, nat_lt, if◌then◌else◌, Bool, List, [], ◌∷◌, ◌++◌, length, map, Option, None, Some, inl, inr, refl, sym, ap, ap₂, ◌∙◌, subst, arith, append_assoc}
+use Rattle.std.proofs.Common.{◌≡◌, ℕ, zero, suc, ◌+◌, ◌-◌, ◌<◌, ◌≤◌, nat_le, nat_lt, if◌then◌else◌, Bool, true, List, [], ◌∷◌, ◌++◌, length, map, Option, None, Some, inl, inr, refl, sym, ap, ap₂, ◌∙◌, subst, arith, append_assoc}
 use Rattle.std.specs.Option.{option_to_list, option_map_or}
 use Rattle.std.specs.List.{sum_by}
 use Rattle.std.proofs.lemmas.Bool.{cases_lt}
+use Rattle.std.proofs.lemmas.Bool.Decides.{nat_tests}
 use Rattle.std.proofs.lemmas.List.{map-append}
 use Rattle.std.proofs.lemmas.List.Sums.{sum_by-append, sum_by-cons}
 use Rattle.nx_tree.specs.declared.node.Node.{Node}
+use Rattle.nx_weights.specs.Weight.{longest_near}
+use Rattle.nx_holdings.specs.Holdings.{chain_count}
 use Rattle.nx_piece.specs.declared.piece.Far.{Far}
 use Rattle.nx_piece.specs.Contents.{fars_in}
 use Rattle.nx_piece.specs.Gapped.{Gapped, End, Grow, Gap}
+use Rattle.nx_piece.specs.PieceNode.{IsNearWith}
+use Rattle.nx_piece.specs.Valid.{AreNear}
 use Rattle.nx_cuts.specs.Cut.{Bare, Grown, Kept}
 use Rattle.nx_layouts.specs.Layout.{LaidNode, Layout, gap_more, in_record, shown_with, laid_weight, piece_body, proxies_of, nodes_in, lists_of}
 use Rattle.nx_layouts.specs.Replace.{joined_layout, replaced_at}
 use Rattle.nx_layouts.proofs.NodeLemmas.{lists-append}
-use Rattle.nx_hold.specs.Contents.{near_in, near_pages, content_pages}
+use Rattle.nx_hold.specs.Contents.{near_in, near_pages, bytes_pages, content_pages}
 use Rattle.nx_edit.specs.Removing.{fars_of, kept_fars}
 use Rattle.nx_edit.proofs.CutLemmas.{less_is, not_less}
 
@@ -136,3 +141,20 @@ pub near_none : (row : Layout) → laid_weight row ≡ 0 → near_in (piece_body
 near_none Bare e = refl
 near_none (Grown n b s) e = absurd (omega (arith, e))
 near_none (Kept p m s) e = near_more (piece_body s) ∙ near_none s e
+
+-- a node whose content is no longer than one that is written near has none
+short_node : (content : List ℕ) (far : Option Far) → IsNearWith content far → option_map_or (λ far. 0) far (bytes_pages content) ≡ 0
+short_node content None near =
+    let e : nat_le (length content) longest_near ≡ true = grind (arith, nat_tests, near) in
+    subst (λ (b : Bool). (if b then 0 else chain_count (length content)) ≡ 0) (sym e) refl
+short_node content (Some far) near = refl
+
+-- a piece whose nodes are such has none
+pub near_short : (f : Gapped) → AreNear f → near_in f ≡ 0
+near_short End near = refl
+near_short (Grow n b s) near =
+    let own = short_node n.node.content n.far near.0 in
+    let below = near_short b near.1 in
+    let beside = near_short s near.2 in
+    omega (arith, own, below, beside)
+near_short (Gap c s) near = near_short s near

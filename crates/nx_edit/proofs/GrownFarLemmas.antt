@@ -1,5 +1,5 @@
 -- A piece that an edit made heavier, whose long contents come into lists before it is put in the place of its record.
-use Rattle.std.proofs.Common.{◌≡◌, ℕ, ◌+◌, ◌*◌, ◌≤◌, ◌<◌, List, [], ◌∷◌, ◌++◌, Option, inl, inr, ◌⊎◌, sym, ap, ◌∙◌, subst, arith, append-nil, IsPermutation}
+use Rattle.std.proofs.Common.{◌≡◌, ℕ, ◌+◌, ◌*◌, ◌≤◌, ◌<◌, List, [], ◌∷◌, ◌++◌, length, Option, inl, inr, ◌⊎◌, sym, ap, ◌∙◌, subst, arith, append-nil, IsPermutation}
 use Rattle.std.specs.Prelude.{Contains, false}
 use Rattle.std.proofs.lemmas.List.Sums.{sum_by-append}
 use Rattle.std.proofs.lemmas.List.Sorted.{IsPermutation-refl, IsPermutation-sym, Contains-permutation, sum_by-IsPermutation}
@@ -16,7 +16,7 @@ use Rattle.nx_records.specs.Records.{has_ended, KeepsSaved}
 use Rattle.nx_records.specs.Refusals.{NotStored, RunsOn}
 use Rattle.nx_piece.specs.declared.piece.Far.{Far}
 use Rattle.nx_piece.specs.declared.piece.Piece.{Piece}
-use Rattle.nx_piece.specs.declared.piece.Proxy.{Proxy}
+use Rattle.nx_divide.specs.declared.dividing.Row.{Row}
 use Rattle.nx_matrix.specs.declared.rule.Rule.{Rule}
 use Rattle.nx_cuts.specs.Cut.{Bare, Kept, CutForest}
 use Rattle.nx_layouts.specs.Layout.{RecordPlace, Layout, AreHeld, AreLaidParts, ArePlacedOnce, contents_of, lists_of, nodes_in, piece_body, places_of, without_places}
@@ -32,7 +32,7 @@ use Rattle.nx_hold.proofs.PieceLemmas.{no_value}
 use Rattle.nx_hold.proofs.RecordsLemmas.{names_along, record_there}
 use Rattle.nx_hold.proofs.RefusalLemmas.{no_end, runs_then, ends_then, rose_later, saved_then}
 use Rattle.nx_drawn.specs.Growth.{MayBeHeavy}
-use Rattle.nx_edit.specs.Changing.{AreSplitOf}
+use Rattle.nx_edit.specs.Changing.{AreSplitOf, IsReplacedByRow}
 use Rattle.nx_edit.specs.Growing.{IsGrownMembers, PutsGrown, NotGrown, grown_needs}
 use Rattle.nx_edit.specs.Making.{IsRowMadeFar, MakesFar}
 use Rattle.nx_edit.specs.Removing.{fars_of}
@@ -97,11 +97,11 @@ module _ {was mid : Held} (pieces : PieceMap was) (piece made : Piece) (place : 
       (moves_beside (place ∷ places_of members) [] [] [] far.brought far.needs was mid (λ other among. let found = below_there other among in record_there was other found.0 found.1)
       (λ other none among. no_place other none) far.moves)
 
-  module _ {now : Held} (rules : List Rule) (above : Option Node) (proxies : List Proxy)
-      (p : (r : IsReplaced (mid.settings).k (AreSplitOf mid.settings rules above (Kept tt (without_places far.row) Bare)) place far.row (nodes_in far.row) [] (places_of far.row) proxies [] mid now)
-      × (mid.free ≤ now.free + (2 * row_nodes (without_places r.row) + near_pages (nodes_in far.row)))) where
-    abbrev r : IsReplaced (mid.settings).k (AreSplitOf mid.settings rules above (Kept tt (without_places far.row) Bare)) place far.row (nodes_in far.row) [] (places_of far.row) proxies [] mid now
-    r = p.0
+  module _ {now : Held} (rules : List Rule) (room : ℕ) (above : Option Node) (answer : Row)
+      (p : (r : IsReplacedByRow (mid.settings).k (AreSplitOf mid.settings rules room above (Kept tt (without_places far.row) Bare)) place far.row (nodes_in far.row) [] (places_of far.row) answer [] mid now)
+      × (mid.free + length answer.proxies ≤ now.free + (2 * row_nodes (without_places (r.0).row) + near_pages (nodes_in far.row)))) where
+    abbrev r : IsReplaced (mid.settings).k (AreSplitOf mid.settings rules room above (Kept tt (without_places far.row) Bare)) place far.row (nodes_in far.row) [] (places_of far.row) answer.proxies [] mid now
+    r = (p.0).0
 
     held_mid : AreHeld (held_by (piece_map mid)) far.row
     held_mid = far.held pieces (piece_map mid) g.held
@@ -129,49 +129,55 @@ module _ {was mid : Held} (pieces : PieceMap was) (piece made : Piece) (place : 
         let e = sum_by-append f far.brought r.brought in
         omega (arith, one, two, a, b, c, e))
 
-    pub grown_put : (q : IsReplaced (was.settings).k (AreSplitOf was.settings rules above (Kept tt (without_places members) Bare)) place members (nodes_in members) [] (places_of members) proxies [] was now)
-        × (was.free ≤ now.free + (2 * row_nodes (without_places q.row) + near_pages (nodes_in members)))
+    pub grown_put : (q : IsReplacedByRow (was.settings).k (AreSplitOf was.settings rules room above (Kept tt (without_places members) Bare)) place members (nodes_in members) [] (places_of members) answer [] was now)
+        × (was.free + length answer.proxies ≤ now.free + (2 * row_nodes (without_places (q.0).row) + near_pages (nodes_in members)))
     grown_put = (
-      record {
-        row = r.row;
-        becomes = subst (λ (t : Settings). AreSplitOf t rules above (Kept tt (without_places members) Bare) (without_places r.row)) (far.moves).settings
-            (subst (λ (c : CutForest). AreSplitOf mid.settings rules above (Kept tt c Bare) (without_places r.row)) far.same r.becomes);
-        proxies_are = r.proxies_are;
-        held = r.held;
-        once = r.once;
-        light = subst (λ (n : ℕ). AreLaidParts n r.row) k_same r.light;
-        brought = far.brought ++ r.brought;
-        moves =
-            let pages = far.pages in
-            let same = nodes_same in
-            moves_more (place ∷ places_of members) (places_of r.row) [] (far.brought ++ r.brought) (far.needs + (row_nodes (without_places far.row) + 2 * row_nodes (without_places r.row) + near_pages (nodes_in far.row)))
-            (row_nodes (without_places members) + 2 * row_nodes (without_places r.row) + near_pages (nodes_in members)) was now (omega (arith, pages, same))
-            (moves_add_up (place ∷ places_of members) (place ∷ places_of members) (places_of r.row) [] [] far.brought r.brought far.needs (row_nodes (without_places far.row) + 2 * row_nodes (without_places r.row) + near_pages (nodes_in far.row)) was mid now beside
-            (subst (λ (ps : List RecordPlace). MovesRecords (place ∷ ps) (places_of r.row) [] r.brought (row_nodes (without_places far.row) + 2 * row_nodes (without_places r.row) + near_pages (nodes_in far.row)) mid now) far.places r.moves));
-        contents_went = subst (λ (fs : List Far). IsPermutation fs (fars_of (nodes_in members))) (sym (append-nil (fars_of (nodes_in members)))) (IsPermutation-refl (fars_of (nodes_in members)));
-        contents_came = came;
-        brought_once = once-append far.brought r.brought far.once r.brought_once apart;
-        records_stay = λ other among.
-            let found = below_there other (Contains-append_right (place ∷ []) (places_of members) other among) in
-            r.records_stay other (subst (λ (ps : List RecordPlace). Contains ps other) (sym far.places) among) ∙ (stays other found.0 found.1).0;
-        lists_stay = λ other count chain among names.
-            let found = below_there other (Contains-append_right (place ∷ []) (places_of members) other among) in
-            let s = stays other found.0 found.1 in
-            r.lists_stay other count chain (subst (λ (ps : List RecordPlace). Contains ps other) (sym far.places) among) (names_along was mid other count chain s.0 names) ∙ s.1 count chain names;
-      },
+      (
+        record {
+          row = r.row;
+          becomes = subst (λ (t : Settings). AreSplitOf t rules room above (Kept tt (without_places members) Bare) (without_places r.row)) (far.moves).settings
+              (subst (λ (c : CutForest). AreSplitOf mid.settings rules room above (Kept tt c Bare) (without_places r.row)) far.same r.becomes);
+          proxies_are = r.proxies_are;
+          held = r.held;
+          once = r.once;
+          light = subst (λ (n : ℕ). AreLaidParts n r.row) k_same r.light;
+          brought = far.brought ++ r.brought;
+          moves =
+              let pages = far.pages in
+              let same = nodes_same in
+              moves_more (place ∷ places_of members) (places_of r.row) [] (far.brought ++ r.brought) (far.needs + (row_nodes (without_places far.row) + 2 * row_nodes (without_places r.row) + near_pages (nodes_in far.row)))
+              (row_nodes (without_places members) + 2 * row_nodes (without_places r.row) + near_pages (nodes_in members)) was now (omega (arith, pages, same))
+              (moves_add_up (place ∷ places_of members) (place ∷ places_of members) (places_of r.row) [] [] far.brought r.brought far.needs (row_nodes (without_places far.row) + 2 * row_nodes (without_places r.row) + near_pages (nodes_in far.row)) was mid now beside
+              (subst (λ (ps : List RecordPlace). MovesRecords (place ∷ ps) (places_of r.row) [] r.brought (row_nodes (without_places far.row) + 2 * row_nodes (without_places r.row) + near_pages (nodes_in far.row)) mid now) far.places r.moves));
+          contents_went = subst (λ (fs : List Far). IsPermutation fs (fars_of (nodes_in members))) (sym (append-nil (fars_of (nodes_in members)))) (IsPermutation-refl (fars_of (nodes_in members)));
+          contents_came = came;
+          brought_once = once-append far.brought r.brought far.once r.brought_once apart;
+          records_stay = λ other among.
+              let found = below_there other (Contains-append_right (place ∷ []) (places_of members) other among) in
+              r.records_stay other (subst (λ (ps : List RecordPlace). Contains ps other) (sym far.places) among) ∙ (stays other found.0 found.1).0;
+          lists_stay = λ other count chain among names.
+              let found = below_there other (Contains-append_right (place ∷ []) (places_of members) other among) in
+              let s = stays other found.0 found.1 in
+              r.lists_stay other count chain (subst (λ (ps : List RecordPlace). Contains ps other) (sym far.places) among) (names_along was mid other count chain s.0 names) ∙ s.1 count chain names;
+        },
+        (p.0).1,
+      ),
       let free = p.1 in let first = free_then in let pages = far.pages in omega (arith, free, first, pages),
     )
 
 module _ {D : Type 0} {d : Ghosts D} (piece made : Piece) (place : RecordPlace) {r0 r1 : Records} {x0 x1 : D} (makes : ComesTidyWhere d r0 r1 x0 x1 (λ was. MayName was piece.body.roots) (MakesFar piece made)) where
-  pub grown_then : {r2 : Records} {x2 : D} (rules : List Rule) (above : Option Node) (row : List Proxy) → ComesTidyWhere d r1 r2 x1 x2 (λ was. MayName was made.body.roots) (PutsGrown rules above made place row)
-      → ComesTidyWhere d r0 r2 x0 x2 (λ was. MayName was piece.body.roots) (PutsGrown rules above piece place row)
-  grown_then rules above row puts saved was stands tidy may =
+  pub grown_then : {r2 : Records} {x2 : D} (rules : List Rule) (room : ℕ) (above : Option Node) (row : Row) → ComesTidyWhere d r1 r2 x1 x2 (λ was. MayName was made.body.roots) (PutsGrown rules room above made place row)
+      → ComesTidyWhere d r0 r2 x0 x2 (λ was. MayName was piece.body.roots) (PutsGrown rules room above piece place row)
+  grown_then rules room above row puts saved was stands tidy may =
       let mid = makes saved was stands tidy may in
       let now = puts saved mid.0 mid.1 mid.2 (mid.3).may in (
         now.0,
         now.1,
         now.2,
-        λ pieces members g. grown_put pieces piece made place members tidy mid.2 g mid.3 rules above row (now.3 (piece_map mid.0) ((mid.3).rows members g.is).row (grown_far pieces piece made place members tidy mid.2 g mid.3)),
+        (
+          (now.3).0,
+          λ pieces members g. grown_put pieces piece made place members tidy mid.2 g mid.3 rules room above row ((now.3).1 (piece_map mid.0) ((mid.3).rows members g.is).row (grown_far pieces piece made place members tidy mid.2 g mid.3)),
+        ),
       )
 
   pub grown_not : (r2 : Records) (x2 : D) (runs : RunsOn r0 r1) → KeepsSaved d r0 r1 x0 x1 → IsStill d x0 x1 → (e : StoreError) → NotGrown d made place e r1 r2 x1 x2 → NotGrown d piece place e r0 r2 x0 x2

@@ -15,8 +15,8 @@ use Rattle.nx_piece.specs.declared.piece.Far.{Far}
 use Rattle.nx_piece.specs.declared.piece.Piece.{Piece}
 use Rattle.nx_piece.specs.declared.piece.Proxy.{Proxy}
 use Rattle.nx_piece.specs.Gapped as gapped
-use Rattle.nx_piece.specs.Gapped.{gapped_weight, gapped_size}
-use Rattle.nx_piece.specs.Valid.{AreFar, AreNear, IsPiece}
+use Rattle.nx_piece.specs.Gapped.{Gapped, gapped_weight, gapped_size, proxies_in}
+use Rattle.nx_piece.specs.Valid.{AreApart, AreFar, AreNear, HaveRoots, IsPiece}
 use Rattle.nx_piece.proofs.SizeLemmas.{size_is_weight}
 use Rattle.nx_matrix.specs.declared.rule.Rule.{Rule}
 use Rattle.nx_cuts.specs.Cut.{Bare, Kept, width}
@@ -35,15 +35,53 @@ use Rattle.nx_layouts.proofs.DrawnLemmas.{drawn_free, drawn_wide}
 use Rattle.nx_layouts.proofs.NodeLemmas.{lists-append}
 use Rattle.nx_layouts.proofs.SizeLemmas.{body_weight}
 use Rattle.nx_drafts.proofs.RowLemmas.{light_row_stays}
-use Rattle.nx_edit.specs.Changing.{AreSplitOf}
+use Rattle.nx_divide.specs.declared.dividing.Row.{Row}
+use Rattle.nx_divide.specs.Dividing.{IsRowWithin}
+use Rattle.nx_edit.specs.Changing.{AreSplitOf, IsReplacedByRow}
 use Rattle.nx_edit.specs.Growing.{IsGrownMembers, PutsGrown, NotGrown}
-use Rattle.nx_edit.specs.Rows.{row_nodes, IsReplaced}
+use Rattle.nx_edit.specs.RowPut.{IsOneProxy}
+use Rattle.nx_edit.specs.Rows.{row_nodes}
 use Rattle.nx_edit.specs.Removing.{fars_of}
 use Rattle.nx_edit.proofs.HeldLemmas.{held_through}
 use Rattle.nx_edit.proofs.CountLemmas.{piece_few, proxies_few}
 use Rattle.nx_edit.proofs.ThroughLemmas.{same_swapped}
 use Rattle.nx_edit.proofs.OwnLemmas.{nodes_alone, free_wide}
 use Rattle.nx_edit.proofs.OrderLemmas.{once_permuted}
+
+-- a row that has room has room where there is more
+pub row_is_more : {room more : ℕ} (row : Row) → IsRowWithin room row → room ≤ more → IsRowWithin more row
+row_is_more row r most = record {
+  some = r.some;
+  apart = r.apart;
+  counted = r.counted;
+  few = r.few;
+  ranged = r.ranged;
+  near = r.near;
+  far = r.far;
+  light = let low = r.light in omega (arith, low, most);
+}
+
+alone_counts : (row : Row) (proxy : Proxy) → IsOneProxy row proxy → length row.proxies ≡ 1
+alone_counts row proxy alone = ap (λ (ps : List Proxy). length ps) alone.1
+
+-- one proxy alone may come in the place of another, whatever room there is
+pub row_alone_is : (row : Row) (proxy : Proxy) → IsOneProxy row proxy → (1 ≤ proxy.roots) × (proxy.roots ≤ 256) → IsRowWithin 0 row
+row_alone_is row proxy alone ranged =
+    let one = alone_counts row proxy alone in
+    record {
+      some = subst (λ (g : Gapped). 1 ≤ gapped.gapped_width g) (sym alone.0) (omega arith);
+      apart = subst AreApart (sym alone.0) (omega arith, tt, tt);
+      counted = ap proxies_in alone.0 ∙ sym one;
+      few = omega (arith, one);
+      ranged = subst HaveRoots (sym alone.1) (ranged.0, ranged.1, tt);
+      near = subst AreNear (sym alone.0) tt;
+      far = subst AreFar (sym alone.0) tt;
+      light = subst (λ (g : Gapped). gapped_weight g ≤ 0) (sym alone.0) (omega arith);
+    }
+
+-- it names no far content
+pub alone_names : (now : Held) (row : Row) (proxy : Proxy) → IsOneProxy row proxy → MayName now row.items
+alone_names now row proxy alone = subst (MayName now) (sym alone.0) (λ far among. absurd (no_place far among))
 
 -- what is held has the settings that the records have
 pub settings_there : {D : Type 0} (d : Ghosts D) (records : Records) (disk : D) (saved now : Held) → StandsFor d records disk saved now → now.settings ≡ settings_of records
@@ -100,15 +138,23 @@ module _ (was : Held) (pieces : PieceMap was) (piece : Piece) (place : RecordPla
       let wide = drawn_wide members in
       omega (arith, few, many, some, wide)
 
+  -- an interval has a node
+  some_nodes : 1 ≤ row_nodes (without_places members)
+  some_nodes =
+      let many = proxies_few (was.settings).k members (g.heavy).parts (drawn_free members (g.heavy).free) in
+      let some : 1 ≤ width (without_places members) = (g.heavy).some in
+      let wide = drawn_wide members in
+      omega (arith, many, some, wide)
+
   -- nothing is dropped, and no list of a content comes
   pub kept_all : IsPermutation (fars_of (nodes_in members) ++ []) (fars_of (nodes_in members))
   kept_all = subst (λ (fs : List Far). IsPermutation fs (fars_of (nodes_in members))) (sym (append-nil (fars_of (nodes_in members)))) (IsPermutation-refl (fars_of (nodes_in members)))
 
-  pub light_put : {now : Held} (rules : List Rule) (above : Option Node) (proxy : Proxy) → IsTidy was → AreNear piece.body.roots → AreFar piece.body.roots → gapped_weight piece.body.roots ≤ (was.settings).k → proxy.roots ≡ gapped.gapped_width piece.body.roots
-      → UpdatesPiece place (place_named proxy) piece was now
-      → (r : IsReplaced (was.settings).k (AreSplitOf was.settings rules above (Kept tt (without_places members) Bare)) place members (nodes_in members) [] (places_of members) (proxy ∷ []) [] was now)
-      × (was.free ≤ now.free + (2 * row_nodes (without_places r.row) + near_pages (nodes_in members)))
-  light_put {now} rules above proxy tidy near far light roots updates =
+  pub light_put : {now : Held} (rules : List Rule) (room : ℕ) (above : Option Node) (row : Row) (proxy : Proxy) → IsOneProxy row proxy → IsTidy was → AreNear piece.body.roots → AreFar piece.body.roots → gapped_weight piece.body.roots ≤ (was.settings).k
+      → proxy.roots ≡ gapped.gapped_width piece.body.roots → UpdatesPiece place (place_named proxy) piece was now
+      → (r : IsReplacedByRow (was.settings).k (AreSplitOf was.settings rules room above (Kept tt (without_places members) Bare)) place members (nodes_in members) [] (places_of members) row [] was now)
+      × (was.free + length row.proxies ≤ now.free + (2 * row_nodes (without_places (r.0).row) + near_pages (nodes_in members)))
+  light_put {now} rules room above row proxy alone tidy near far light roots updates =
       let new : RecordPlace = place_named proxy in
       let weighs : gapped_weight (piece_of members).body.roots ≡ gapped_weight piece.body.roots = ap (λ (p : Piece). gapped_weight p.body.roots) g.is in
       let part = body_weight members in
@@ -117,34 +163,39 @@ module _ (was : Held) (pieces : PieceMap was) (piece : Piece) (place : RecordPla
       let are : IsPermutation (new ∷ (places_of members ++ [])) ((new ∷ []) ++ places_of members) =
       subst (λ (ps : List RecordPlace). IsPermutation (new ∷ ps) (new ∷ places_of members)) (sym (append-nil (places_of members))) (IsPermutation-refl (new ∷ places_of members)) in
       let needs = piece_needs_few in
+      let some = some_nodes in
       let counted : row_nodes (without_places (Kept new members Bare)) ≡ row_nodes (without_places members) = nodes_alone new members in
       let size = size_is_weight piece.body.roots near far in
       let k_same : (now.settings).k ≡ (was.settings).k = ap (λ (t : Settings). t.k) two.settings in (
-        record {
-          row = Kept new members Bare;
-          becomes = (light_row_stays was.settings rules above (Kept tt (without_places members) Bare) parts, tt);
-          proxies_are =
-              ap (λ (r : ℕ). let q : Proxy = record { page = proxy.page; slot = proxy.slot; roots = r } in q ∷ [])
-              (roots ∙ ap (λ (p : Piece). gapped.gapped_width p.body.roots) (sym g.is) ∙ free_wide members (drawn_free members (g.heavy).free));
-          held = λ after. (
-            record {
-              there = told_some now new (piece_of members) (after.piece_at new) (after.are new) (subst (λ (p : Piece). HoldsPiece now new p) (sym g.is) updates.holds);
-              fits = let own : gapped_size (piece_body members) ≡ gapped_size piece.body.roots = ap (λ (p : Piece). gapped_size p.body.roots) g.is in omega (arith, own, size, light, k_same);
-            },
-            below_held tidy two after,
-            tt,
-          );
-          once = once_beside tidy two (new ∷ (places_of members ++ [])) are (no_place new, tt);
-          light = parts;
-          brought = [];
-          moves = moved_beside tidy two (new ∷ (places_of members ++ [])) are (row_nodes (without_places members) + 2 * row_nodes (without_places (Kept new members Bare)) + near_pages (nodes_in members)) (omega (arith, needs));
-          contents_went = kept_all;
-          contents_came = subst (λ (ls : List ℕ). IsPermutation ls (contents_of members ++ [])) (sym (one_row new)) (IsPermutation-refl (contents_of members ++ []));
-          brought_once = tt;
-          records_stay = λ other among. (below_stays tidy two other among).0;
-          lists_stay = λ other count chain among. (below_stays tidy two other among).1 count chain;
-        },
-        let free = two.free in omega (arith, needs, counted, free),
+        (
+          record {
+            row = Kept new members Bare;
+            becomes = (light_row_stays was.settings rules room above (Kept tt (without_places members) Bare) parts, omega arith);
+            proxies_are =
+                alone.1
+                ∙ ap (λ (r : ℕ). let q : Proxy = record { page = proxy.page; slot = proxy.slot; roots = r } in q ∷ [])
+                (roots ∙ ap (λ (p : Piece). gapped.gapped_width p.body.roots) (sym g.is) ∙ free_wide members (drawn_free members (g.heavy).free));
+            held = λ after. (
+              record {
+                there = told_some now new (piece_of members) (after.piece_at new) (after.are new) (subst (λ (p : Piece). HoldsPiece now new p) (sym g.is) updates.holds);
+                fits = let own : gapped_size (piece_body members) ≡ gapped_size piece.body.roots = ap (λ (p : Piece). gapped_size p.body.roots) g.is in omega (arith, own, size, light, k_same);
+              },
+              below_held tidy two after,
+              tt,
+            );
+            once = once_beside tidy two (new ∷ (places_of members ++ [])) are (no_place new, tt);
+            light = parts;
+            brought = [];
+            moves = moved_beside tidy two (new ∷ (places_of members ++ [])) are (row_nodes (without_places members) + 2 * row_nodes (without_places (Kept new members Bare)) + near_pages (nodes_in members)) (omega (arith, needs));
+            contents_went = kept_all;
+            contents_came = subst (λ (ls : List ℕ). IsPermutation ls (contents_of members ++ [])) (sym (one_row new)) (IsPermutation-refl (contents_of members ++ []));
+            brought_once = tt;
+            records_stay = λ other among. (below_stays tidy two other among).0;
+            lists_stay = λ other count chain among. (below_stays tidy two other among).1 count chain;
+          },
+          alone.0,
+        ),
+        let free = two.free in let one = alone_counts row proxy alone in omega (arith, needs, some, counted, free, one),
       )
     where
       -- a row of this interval alone names what the members name
@@ -153,11 +204,11 @@ module _ (was : Held) (pieces : PieceMap was) (piece : Piece) (place : RecordPla
 
 module _ {D : Type 0} (d : Ghosts D) (piece : Piece) (place : RecordPlace) (r0 r1 : Records) (x0 x1 : D) where
   pub light_done : (proxy : Proxy) → IsPiece piece → AreNear piece.body.roots → gapped_weight piece.body.roots ≤ (settings_of r0).k → proxy.roots ≡ gapped.gapped_width piece.body.roots → ComesTidyWhere d r0 r1 x0 x1 (λ was. MayName was piece.body.roots) (λ was now. UpdatesPiece place (place_named proxy) piece was now)
-      → (rules : List Rule) (above : Option Node) → ComesTidyWhere d r0 r1 x0 x1 (λ was. MayName was piece.body.roots) (PutsGrown rules above piece place (proxy ∷ []))
-  light_done proxy is near light roots updates rules above saved was stands tidy may =
+      → (row : Row) → IsOneProxy row proxy → (rules : List Rule) (room : ℕ) (above : Option Node) → ComesTidyWhere d r0 r1 x0 x1 (λ was. MayName was piece.body.roots) (PutsGrown rules room above piece place row)
+  light_done proxy is near light roots updates row alone rules room above saved was stands tidy may =
       let now = updates saved was stands tidy may in
       let most : gapped_weight piece.body.roots ≤ (was.settings).k = subst (λ (s : Settings). gapped_weight piece.body.roots ≤ s.k) (sym (settings_there d r0 x0 saved was stands)) light in
-      (now.0, now.1, now.2, λ pieces members g. light_put was pieces piece place members g rules above proxy tidy near is.body.far most roots now.3)
+      (now.0, now.1, now.2, (alone_names now.0 row proxy alone, λ pieces members g. light_put was pieces piece place members g rules room above row proxy alone tidy near is.body.far most roots now.3))
 
   pub light_refused : (page : ℕ) (e : StoreError) → has_ended r0 ≡ false → NotStored d (λ was. piece_needs piece) (λ was. HoldsNone was place) page e r0 r1 x0 x1 → NotGrown d piece place e r0 r1 x0 x1
   light_refused page store.Disk runs refused = refused

@@ -1,5 +1,5 @@
 -- Records below an interval moved, and then its own piece, which got heavier, was put.
-use Rattle.std.proofs.Common.{◌≡◌, ℕ, ◌+◌, ◌*◌, ◌<◌, ◌≤◌, List, [], ◌∷◌, ◌++◌, Option, Some, inl, inr, sym, ap, ◌∙◌, subst, arith, append-nil, IsPermutation}
+use Rattle.std.proofs.Common.{◌≡◌, ℕ, ◌+◌, ◌*◌, ◌<◌, ◌≤◌, List, [], ◌∷◌, ◌++◌, length, Option, Some, inl, inr, sym, ap, ◌∙◌, subst, arith, append-nil, IsPermutation}
 use Rattle.std.specs.Prelude.{Contains, true}
 use Rattle.std.proofs.lemmas.List.Elements.{Contains-append_right}
 use Rattle.std.proofs.lemmas.List.Sums.{sum_by-append}
@@ -16,7 +16,7 @@ use Rattle.nx_records.specs.Records.{KeepsSaved}
 use Rattle.nx_records.specs.Refusals.{RunsOn}
 use Rattle.nx_piece.specs.declared.piece.Far.{Far}
 use Rattle.nx_piece.specs.declared.piece.Piece.{Piece}
-use Rattle.nx_piece.specs.declared.piece.Proxy.{Proxy}
+use Rattle.nx_divide.specs.declared.dividing.Row.{Row}
 use Rattle.nx_matrix.specs.declared.rule.Rule.{Rule}
 use Rattle.nx_cuts.specs.Cut.{CutForest, Bare, Kept}
 use Rattle.nx_layouts.specs.Layout.{RecordPlace, Layout, AreHeld, ArePlacedOnce, contents_of, lists_of, nodes_in, piece_body, piece_of, places_of, without_places}
@@ -33,7 +33,7 @@ use Rattle.nx_hold.proofs.TidyLemmas.{may_name_own}
 use Rattle.nx_hold.proofs.RefusalLemmas.{runs_then, saved_then, ends_then}
 use Rattle.nx_drawn.specs.Growth.{MayBeHeavy}
 use Rattle.nx_edit.specs.Rows.{row_nodes, IsHeldInterval, IsReplaced}
-use Rattle.nx_edit.specs.Changing.{Put, MayPutIn, changed_interval, kept_around, put_lists, way_of, AreSplitOf, IsPossibleIn, ChangesKnown, NotChangedKnown, change_needs}
+use Rattle.nx_edit.specs.Changing.{Put, MayPutIn, changed_interval, kept_around, put_lists, way_of, AreSplitOf, IsPossibleIn, IsReplacedByRow, ChangesKnown, NotChangedKnown, change_needs}
 use Rattle.nx_edit.specs.Editing.{places_off}
 use Rattle.nx_edit.specs.Grown.{GrowsFrom}
 use Rattle.nx_edit.specs.Growing.{IsGrownMembers, PutsGrown, NotGrown, grown_needs}
@@ -61,10 +61,10 @@ moves_within gone come brought needs most was now free m = record {
 }
 
 -- an interval of these members, split, for two pages for each node of what came, and those of its long contents
-abbrev SplitsTight : Settings → List Rule → (above : Option Node) → (place : RecordPlace) (members : Layout) (proxies : List Proxy) → Held → Held → Type 0
-SplitsTight settings rules above place members proxies was now =
-    (r : IsReplaced settings.k (AreSplitOf settings rules above (Kept tt (without_places members) Bare)) place members (nodes_in members) [] (places_of members) proxies [] was now)
-    × (was.free ≤ now.free + (2 * row_nodes (without_places r.row) + near_pages (nodes_in members)))
+abbrev SplitsTight : Settings → List Rule → (room : ℕ) (above : Option Node) → (place : RecordPlace) (members : Layout) (row : Row) → Held → Held → Type 0
+SplitsTight settings rules room above place members row was now =
+    (r : IsReplacedByRow settings.k (AreSplitOf settings rules room above (Kept tt (without_places members) Bare)) place members (nodes_in members) [] (places_of members) row [] was now)
+    × (was.free + length row.proxies ≤ now.free + (2 * row_nodes (without_places (r.0).row) + near_pages (nodes_in members)))
 
 module _ (rules : List Rule) (put : Put) {was : Held} (pieces : PieceMap was) (known : Option Piece) (place : RecordPlace) (position : ℕ) (path : List ℕ) (members : Layout) (i : IsHeldInterval was pieces known place position path most_nodes members)
     (possible : IsPossibleIn (was.settings).k rules put position path members) (piece : Piece) (dropped : List Far) (tidy : IsTidy was) {mid : Held} (mid_tidy : IsTidy mid) (g : GrowsFrom rules put position path members piece dropped was mid) where
@@ -101,9 +101,9 @@ module _ (rules : List Rule) (put : Put) {was : Held} (pieces : PieceMap was) (k
       let rest = g.rest in
       omega (arith, n, moved, less, rest, few)
 
-  module _ {now : Held} (above : Option Node) (proxies : List Proxy) (t : SplitsTight was.settings rules above place g.grown proxies mid now) where
-    abbrev r : IsReplaced k (AreSplitOf was.settings rules above (Kept tt (without_places g.grown) Bare)) place g.grown (nodes_in g.grown) [] (places_of g.grown) proxies [] mid now
-    r = t.0
+  module _ {now : Held} (room : ℕ) (above : Option Node) (answer : Row) (t : SplitsTight was.settings rules room above place g.grown answer mid now) where
+    abbrev r : IsReplaced k (AreSplitOf was.settings rules room above (Kept tt (without_places g.grown) Bare)) place g.grown (nodes_in g.grown) [] (places_of g.grown) answer.proxies [] mid now
+    r = (t.0).0
 
     stays_then : (other : RecordPlace) → Contains (g.before ++ (g.come ++ g.behind)) other → record_at mid other ≡ record_at was other → ((count chain : ℕ) → NamesList was other count chain → mid.lists chain ≡ was.lists chain)
         → (record_at now other ≡ record_at was other) × ((count chain : ℕ) → NamesList was other count chain → now.lists chain ≡ was.lists chain)
@@ -130,7 +130,7 @@ module _ (rules : List Rule) (put : Put) {was : Held} (pieces : PieceMap was) (k
         subst (λ (ps : List RecordPlace). MovesRecords (place ∷ ps) (place ∷ places_of g.grown) [] g.brought g.needs was mid) (sym g.places_were)
         (subst (λ (ps : List RecordPlace). MovesRecords (place ∷ (g.before ++ (g.gone ++ g.behind))) (place ∷ ps) [] g.brought g.needs was mid) (sym g.places_are) (moves_around around g.moves)) in
         let second : MovesRecords (place ∷ places_of g.grown) (places_of r.row) [] r.brought more mid now =
-        moves_within (place ∷ places_of g.grown) (places_of r.row) r.brought (row_nodes (without_places g.grown) + 2 * row_nodes (without_places r.row) + near_pages (nodes_in g.grown)) more mid now t.1 r.moves in
+        moves_within (place ∷ places_of g.grown) (places_of r.row) r.brought (row_nodes (without_places g.grown) + 2 * row_nodes (without_places r.row) + near_pages (nodes_in g.grown)) more mid now (let left = t.1 in omega (arith, left)) r.moves in
         let less = g.few in
         let rest = g.rest in
         moves_more (place ∷ places_of members) (places_of r.row) [] (g.brought ++ r.brought) (g.needs + more)
@@ -173,26 +173,38 @@ module _ (rules : List Rule) (put : Put) {was : Held} (pieces : PieceMap was) (k
         omega (arith, one, two, a, b, c, e, h, j))
 
     -- the interval was replaced
-    through : IsReplaced k (AreSplitOf was.settings rules above (changed_interval rules put position path members)) place members (kept_around put position path members) (put_lists put) (places_off true (position ∷ way_of put path) members) proxies dropped was now
-    through = record {
-      row = r.row;
-      becomes = subst (λ (c : CutForest). AreSplitOf was.settings rules above c (without_places r.row)) g.interval_is r.becomes;
-      proxies_are = r.proxies_are;
-      held = r.held;
-      once = r.once;
-      light = r.light;
-      brought = g.brought ++ r.brought;
-      moves = moved;
-      contents_went = g.contents_went;
-      contents_came = came;
-      brought_once = once-append g.brought r.brought g.brought_once r.brought_once apart;
-      records_stay = λ other among. (off_stays other among).0;
-      lists_stay = λ other count chain among. (off_stays other among).1 count chain;
-    }
+    through : (q : IsReplacedByRow k (AreSplitOf was.settings rules room above (changed_interval rules put position path members)) place members (kept_around put position path members) (put_lists put) (places_off true (position ∷ way_of put path) members) answer dropped was now)
+        × (was.free + length answer.proxies ≤ now.free + (row_nodes (without_places members) + 2 * row_nodes (without_places (q.0).row) + near_pages (kept_around put position path members)))
+    through = (
+      (
+        record {
+          row = r.row;
+          becomes = subst (λ (c : CutForest). AreSplitOf was.settings rules room above c (without_places r.row)) g.interval_is r.becomes;
+          proxies_are = r.proxies_are;
+          held = r.held;
+          once = r.once;
+          light = r.light;
+          brought = g.brought ++ r.brought;
+          moves = moved;
+          contents_went = g.contents_went;
+          contents_came = came;
+          brought_once = once-append g.brought r.brought g.brought_once r.brought_once apart;
+          records_stay = λ other among. (off_stays other among).0;
+          lists_stay = λ other count chain among. (off_stays other among).1 count chain;
+        },
+        (t.0).1,
+      ),
+      let left = t.1 in
+          let went : was.free ≤ mid.free + g.needs = (g.moves).free in
+          let less = g.few in
+          let rest = g.rest in
+          omega (arith, left, went, less, rest),
+    )
 
-  pub grown_replaced : {now : Held} (after : PieceMap mid) (above : Option Node) (proxies : List Proxy) → PutsGrown rules above piece place proxies mid now
-      → IsReplaced k (AreSplitOf was.settings rules above (changed_interval rules put position path members)) place members (kept_around put position path members) (put_lists put) (places_off true (position ∷ way_of put path) members) proxies dropped was now
-  grown_replaced {now} after above proxies puts = through above proxies (subst (λ (s : Settings). SplitsTight s rules above place g.grown proxies mid now) same_settings (puts after g.grown (grown_members after)))
+  grown_replaced : {now : Held} (after : PieceMap mid) (room : ℕ) (above : Option Node) (row : Row) → PutsGrown rules room above piece place row mid now
+      → (q : IsReplacedByRow k (AreSplitOf was.settings rules room above (changed_interval rules put position path members)) place members (kept_around put position path members) (put_lists put) (places_off true (position ∷ way_of put path) members) row dropped was now)
+      × (was.free + length row.proxies ≤ now.free + (row_nodes (without_places members) + 2 * row_nodes (without_places (q.0).row) + near_pages (kept_around put position path members)))
+  grown_replaced {now} after room above row puts = through room above row (subst (λ (s : Settings). SplitsTight s rules room above place g.grown row mid now) same_settings (puts.1 after g.grown (grown_members after)))
 
 -- The calls: those that move the records below went well, and then the piece was put.
 module _ {D : Type 0} (d : Ghosts D) (rules : List Rule) (put : Put) (known piece : Piece) (dropped : List Far) (place : RecordPlace) (position : ℕ) (path : List ℕ) (r0 r1 r2 : Records) (x0 x1 x2 : D) (later : d.faults x0 ≤ d.faults x1) (runs : RunsOn r0 r1) (keeps : KeepsSaved d r0 r1 x0 x1)
@@ -201,14 +213,18 @@ module _ {D : Type 0} (d : Ghosts D) (rules : List Rule) (put : Put) (known piec
   may_there was pieces members tidy i =
       subst (λ (p : Piece). MayName was p.body.roots) (sym i.is) (may_name_own was place (piece_of members) tidy (held_at was pieces place (piece_of members) ((i.held).0).there))
 
-  pub grown_changed : (above : Option Node) (proxies : List Proxy) → ComesTidyWhere d r1 r2 x1 x2 (λ was. MayName was piece.body.roots) (PutsGrown rules above piece place proxies) → ComesTidyWhere d r0 r2 x0 x2 (λ was. MayPutIn was put known) (ChangesKnown rules (Some known) above put place position path proxies dropped)
-  grown_changed above proxies puts saved was stands tidy may =
+  pub grown_changed : (room : ℕ) (above : Option Node) (row : Row) → ComesTidyWhere d r1 r2 x1 x2 (λ was. MayName was piece.body.roots) (PutsGrown rules room above piece place row)
+      → ComesTidyWhere d r0 r2 x0 x2 (λ was. MayPutIn was put known) (ChangesKnown rules (Some known) room above put place position path row dropped)
+  grown_changed room above row puts saved was stands tidy may =
       let mid = below saved was stands tidy may in
       let now = puts saved mid.0 mid.1 mid.2 (mid.3).0 in (
         now.0,
         now.1,
         now.2,
-        λ pieces members i possible. grown_replaced rules put pieces (Some known) place position path members i possible piece dropped tidy mid.2 ((mid.3).1 pieces members i possible) (piece_map mid.0) above proxies now.3,
+        (
+          (now.3).0,
+          λ pieces members i possible. grown_replaced rules put pieces (Some known) place position path members i possible piece dropped tidy mid.2 ((mid.3).1 pieces members i possible) (piece_map mid.0) room above row now.3,
+        ),
       )
 
   pub grown_refused : (e : StoreError) → NotGrown d piece place e r1 r2 x1 x2 → NotChangedKnown d rules (Some known) put place position path e r0 r2 x0 x2

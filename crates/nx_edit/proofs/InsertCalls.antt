@@ -31,6 +31,7 @@ use Rattle.nx_nav.specs.Refusals.{OfEach}
 use Rattle.nx_nav.specs.Route.{HasRoute}
 use Rattle.nx_state.specs.State.{document_size}
 use Rattle.nx_drawn.specs.Edits.{inserted}
+use Rattle.nx_divide.specs.declared.dividing.Row.{Row}
 use Rattle.nx_drawn.specs.Splits.{Splits}
 use Rattle.nx_edit.specs.declared.error.EditError.{EditError}
 use Rattle.nx_edit.specs.Removing.{AreUnnamed, HasNone, OfEntry}
@@ -81,41 +82,41 @@ module _ {D : Type 0} (d : Ghosts D) (entry : DocEntry) (node : Node) (path : Li
         change_refused d r0 r1 x0 x1 still is_of_insertion (insertion_fault node path (settings_of r0).k) (put_node node path) entry runs leaves allowed rules (put_of list) (content_pages node) (parent_path path) (fits list) r2 x2 wrote kept second writes passed last route r3 x3 e refused
 
     -- and the change was made
-    abbrev Puts : (r3 : Records) (x3 : D) (proxies : List Proxy) (gone : List Far) → Type 0
-    Puts r3 x3 proxies gone = ComesTidyWhere d r2 r3 x2 x3 (λ was. MayChangeAlong was (put_of list) (place_of entry.root) 0 (parent_path path) passed last) (ChangesKnown rules None None (put_of list) (place_of entry.root) 0 (parent_path path) proxies gone)
+    abbrev Puts : (r3 : Records) (x3 : D) (row : Row) (gone : List Far) → Type 0
+    Puts r3 x3 row gone = ComesTidyWhere d r2 r3 x2 x3 (λ was. MayChangeAlong was (put_of list) (place_of entry.root) 0 (parent_path path) passed last) (ChangesKnown rules None 0 None (put_of list) (place_of entry.root) 0 (parent_path path) row gone)
 
-    pub put_none : (r3 : Records) (x3 : D) (proxies : List Proxy) (gone : List Far) → Puts r3 x3 proxies gone → proxies ≡ [] → HasNone d r0 x0 entry
-    put_none r3 x3 proxies gone puts none =
-        none_came d r0 r1 x0 x1 still is_of_insertion (insertion_fault node path (settings_of r0).k) (put_node node path) entry runs leaves allowed rules (put_of list) (content_pages node) (parent_path path) (fits list) r2 x2 wrote kept second writes passed last route r3 x3 proxies gone puts none
+    pub put_none : (r3 : Records) (x3 : D) (row : Row) (gone : List Far) → Puts r3 x3 row gone → row.proxies ≡ [] → HasNone d r0 x0 entry
+    put_none r3 x3 row gone puts none =
+        none_came d r0 r1 x0 x1 still is_of_insertion (insertion_fault node path (settings_of r0).k) (put_node node path) entry runs leaves allowed rules (put_of list) (content_pages node) (parent_path path) (fits list) r2 x2 wrote kept second writes passed last route r3 x3 row gone puts none
 
-    module _ (r3 : Records) (x3 : D) (on : RunsOn r2 r3) (then : KeepsSaved d r2 r3 x2 x3) (third : IsStill d x2 x3) (proxies : List Proxy) (proxy : Proxy) (rest : List Proxy) (one : proxies ≡ proxy ∷ rest) (new : DocEntry) (root : place_of new.root ≡ place_named proxy)
+    module _ (r3 : Records) (x3 : D) (on : RunsOn r2 r3) (then : KeepsSaved d r2 r3 x2 x3) (third : IsStill d x2 x3) (row : Row) (proxy : Proxy) (rest : List Proxy) (one : row.proxies ≡ proxy ∷ rest) (new : DocEntry) (root : place_of new.root ≡ place_named proxy)
         (count : new.nodes ≡ entry.nodes + 1) where
       put_counts : (document : CutTree) → HasDocument d r0 x0 (place_of entry.root) document → entry.nodes ≡ document_size document → new.nodes ≡ 1 + nodes (put_node node path (tree_of document)).below
       put_counts document has counted = count ∙ insert_counts d entry node path (no_path path some) r0 r1 x0 x1 still runs leaves (last_position path) (parent_path path) refl refl placed shallow few light document has counted
 
       -- no content goes
-      none_dropped : (far : Far) → Puts r3 x3 proxies (far ∷ [])
+      none_dropped : (far : Far) → Puts r3 x3 row (far ∷ [])
           → EditsDocument d r0 r3 x0 x3 (λ settings document. Splits settings rules (inserted rules node (parent_path path ++ last_position path ∷ []) document)) true (parent_path path ++ last_position path ∷ []) nodes_in (content_pages node) entry new
       none_dropped far puts saved was pieces document layout stands tidy laid counted own =
           let none : far ∷ [] ≡ [] =
-          all_kept d r0 r1 x0 x1 still is_of_insertion (insertion_fault node path (settings_of r0).k) (put_node node path) entry runs leaves allowed rules (put_of list) (content_pages node) (parent_path path) (fits list) r2 x2 wrote kept second writes passed last route r3 x3 proxies (far ∷ []) puts
+          all_kept d r0 r1 x0 x1 still is_of_insertion (insertion_fault node path (settings_of r0).k) (put_node node path) entry runs leaves allowed rules (put_of list) (content_pages node) (parent_path path) (fits list) r2 x2 wrote kept second writes passed last route r3 x3 row (far ∷ []) puts
           (λ members. refl) document (record { saved = saved; now = was; stands = stands; pieces = pieces; laid = record { layout = layout; laid = laid } }) tidy counted in
           absurd (cc)
 
-      by_gone : (gone : Option Far) → Puts r3 x3 proxies (option_to_list gone)
+      by_gone : (gone : Option Far) → Puts r3 x3 row (option_to_list gone)
           → EditsDocument d r0 r3 x0 x3 (λ settings document. Splits settings rules (inserted rules node (parent_path path ++ last_position path ∷ []) document)) true (parent_path path ++ last_position path ∷ []) nodes_in (content_pages node) entry new
       by_gone None puts =
-          came d r0 r1 x0 x1 still is_of_insertion (insertion_fault node path (settings_of r0).k) (put_node node path) entry runs leaves allowed rules (put_of list) (content_pages node) (parent_path path) (fits list) r2 x2 wrote kept second writes passed last route r3 x3 proxies [] puts
+          came d r0 r1 x0 x1 still is_of_insertion (insertion_fault node path (settings_of r0).k) (put_node node path) entry runs leaves allowed rules (put_of list) (content_pages node) (parent_path path) (fits list) r2 x2 wrote kept second writes passed last route r3 x3 row [] puts
           on then third r3 x3 (frees_none d r3 x3) proxy rest new one root put_counts
       by_gone (Some far) puts = none_dropped far puts
 
-      pub put_came : (gone : Option Far) → Puts r3 x3 proxies (option_to_list gone) → EditsDocument d r0 r3 x0 x3 (λ settings document. Splits settings rules (inserted rules node path document)) true path nodes_in (content_pages node) entry new
+      pub put_came : (gone : Option Far) → Puts r3 x3 row (option_to_list gone) → EditsDocument d r0 r3 x0 x3 (λ settings document. Splits settings rules (inserted rules node path document)) true path nodes_in (content_pages node) entry new
       put_came gone puts =
           subst (λ (q : List ℕ). EditsDocument d r0 r3 x0 x3 (λ settings document. Splits settings rules (inserted rules node q document)) true q nodes_in (content_pages node) entry new)
           (path_is d entry node path (no_path path some) r0 r1 x0 x1 still runs leaves (last_position path) (parent_path path) refl refl placed) (by_gone gone puts)
 
-    pub put_keeps : (r3 : Records) (x3 : D) (proxies : List Proxy) (gone : List Far) → Puts r3 x3 proxies gone → RunsOn r2 r3 → KeepsSaved d r2 r3 x2 x3 → IsStill d x2 x3 → RunsOn r0 r3 × KeepsSaved d r0 r3 x0 x3
-    put_keeps r3 x3 proxies gone puts on then third = (
-      run_on d r0 r1 x0 x1 still is_of_insertion (insertion_fault node path (settings_of r0).k) (put_node node path) entry runs leaves allowed rules (put_of list) (content_pages node) (parent_path path) (fits list) r2 x2 wrote kept second writes passed last route r3 x3 proxies gone puts on then third r3 x3,
-      keep_on d r0 r1 x0 x1 still is_of_insertion (insertion_fault node path (settings_of r0).k) (put_node node path) entry runs leaves allowed rules (put_of list) (content_pages node) (parent_path path) (fits list) r2 x2 wrote kept second writes passed last route r3 x3 proxies gone puts on then third r3 x3,
+    pub put_keeps : (r3 : Records) (x3 : D) (row : Row) (gone : List Far) → Puts r3 x3 row gone → RunsOn r2 r3 → KeepsSaved d r2 r3 x2 x3 → IsStill d x2 x3 → RunsOn r0 r3 × KeepsSaved d r0 r3 x0 x3
+    put_keeps r3 x3 row gone puts on then third = (
+      run_on d r0 r1 x0 x1 still is_of_insertion (insertion_fault node path (settings_of r0).k) (put_node node path) entry runs leaves allowed rules (put_of list) (content_pages node) (parent_path path) (fits list) r2 x2 wrote kept second writes passed last route r3 x3 row gone puts on then third r3 x3,
+      keep_on d r0 r1 x0 x1 still is_of_insertion (insertion_fault node path (settings_of r0).k) (put_node node path) entry runs leaves allowed rules (put_of list) (content_pages node) (parent_path path) (fits list) r2 x2 wrote kept second writes passed last route r3 x3 row gone puts on then third r3 x3,
     )

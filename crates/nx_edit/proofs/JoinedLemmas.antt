@@ -19,6 +19,7 @@ use Rattle.nx_piece.specs.Gapped as gapped
 use Rattle.nx_piece.specs.Gapped.{GappedTree, End, Grow}
 use Rattle.nx_piece.specs.Locate.{Outside, reached_in}
 use Rattle.nx_piece.specs.PieceNode.{IsNearWith}
+use Rattle.nx_piece.specs.Valid.{AreNear}
 use Rattle.nx_piece_edits.specs.Contents.{BringsContent}
 use Rattle.nx_piece_edits.specs.Planting.{put_at, IsWithRoot}
 use Rattle.nx_piece_edits.proofs.ContentsLemmas.{edits_bring_content}
@@ -45,17 +46,19 @@ use Rattle.nx_hold.specs.Pieces.{HasContent, HoldsPiece, IsNoProxies, IsTidy, Ma
 use Rattle.nx_hold.proofs.MapLemmas.{held_at}
 use Rattle.nx_hold.proofs.TidyLemmas.{may_name_own}
 use Rattle.nx_drawn.proofs.GrowthLemmas.{nodes_light, width_light}
+use Rattle.nx_drafts.proofs.LabelLemmas.{row_splits_by_label}
+use Rattle.nx_divide.specs.declared.dividing.Row.{Row}
 use Rattle.nx_edit.specs.Changing as put
-use Rattle.nx_edit.specs.Changing.{changed_interval, AreSplitOf, IsPossibleIn, IsWrittenNode, MayPut, change_needs}
+use Rattle.nx_edit.specs.Changing.{changed_interval, AreSplitOf, IsPossibleIn, IsReplacedByRow, IsWrittenNode, MayPut, change_needs}
 use Rattle.nx_edit.specs.Editing.{places_off}
 use Rattle.nx_edit.specs.Growing.{IsGrownMembers, grown_needs}
-use Rattle.nx_edit.specs.Passing.{PutsOrStays, put_needs}
+use Rattle.nx_edit.specs.Passing.{put_needs}
 use Rattle.nx_edit.specs.Planting.{IsWithin, IsAskedThere}
 use Rattle.nx_edit.specs.Removing.{fars_of}
-use Rattle.nx_edit.specs.RowPut.{IsTreeAt, MayHaveRow, piece_with_row}
-use Rattle.nx_edit.specs.Rows.{row_nodes, IsHeldInterval, IsReplaced}
+use Rattle.nx_edit.specs.RowPut.{IsPutAlone, IsTreeAt, MayHaveRow, piece_with_row}
+use Rattle.nx_edit.specs.Rows.{row_nodes, IsHeldInterval}
 use Rattle.nx_edit.proofs.BetweenLemmas.{most_put}
-use Rattle.nx_edit.proofs.ChangeCalls.{IsAbove, node_above, same_label, splits_alike}
+use Rattle.nx_edit.proofs.ChangeCalls.{IsAbove, node_above, same_label}
 use Rattle.nx_edit.proofs.FarLemmas.{near-append}
 use Rattle.nx_edit.proofs.GrownThroughLemmas.{moves_within}
 use Rattle.nx_edit.proofs.JoinLemmas.{leads_to_child, interval_joined}
@@ -171,7 +174,7 @@ module _ (rules : List Rule) (node : LaidNode) {was : Held} (pieces : PieceMap w
   around_it : IsKeptAround was pieces (Some piece) place member way most_nodes members there_too index before [] inside into (nodes_in inside) (nodes_in members)
   around_it = all_around was pieces (Some piece) place member way most_nodes members there_too index before [] inside into
 
-  module _ (tree : GappedTree) (at : IsTreeAt piece member path tree) (asks : IsAskedThere rules piece member path node.node Free) (possible : IsPossibleIn k rules (put.Child position node) member path members) (most : k ≤ 256)
+  module _ (tree : GappedTree) (at : IsTreeAt piece member path tree) (asks : IsAskedThere rules piece member path node.node Free) (possible : IsPossibleIn k rules (put.Child position node) member path members)
       (short : option_map_or (λ first. 0) node.list (content_pages node.node) ≡ 0) (tidy : IsTidy was) (top : Option Node) where
     abbrev parent : Node
     parent = tree.node.node
@@ -193,20 +196,9 @@ module _ (rules : List Rule) (node : LaidNode) {was : Held} (pieces : PieceMap w
         ap (λ (l : Layout). Kept tt (without_places (replaced_at index (Kept place l Bare) members)) Bare) (sym goes.same)
         ∙ interval_joined node place rules up.whole free position index before inside member path members top into w.some up.above
 
-    some_below : 1 ≤ width grown
-    some_below = let wide = (goes.goes).wide in omega (arith, wide)
-
-    few_below : width grown ≤ 257
-    few_below =
-        let wide = (goes.goes).wide in
-        let light : laid_weight inside ≤ k = (interval.light).2 in
-        let few = width_light (without_places inside) (interval.light).1 in
-        let drawn = drawn_wide inside in
-        omega (arith, wide, light, few, drawn, most)
-
     grown_nodes : row_nodes (without_places grown) ≤ row_nodes wanted
     grown_nodes =
-        let few = below_few rules was pieces (Some piece) place member way members there_too index before [] inside into grown some_below few_below wanted whole_is in
+        let few = below_few rules was pieces (Some piece) place member way members there_too index before [] inside into grown wanted whole_is in
         let alone = nodes_alone place grown in
         omega (arith, few, alone)
 
@@ -260,40 +252,51 @@ module _ (rules : List Rule) (node : LaidNode) {was : Held} (pieces : PieceMap w
         let middle = near-append (nodes_in inside) around_it.behind_it in
         omega (arith, few, n, pages, all, front, middle)
 
-    -- the interval below was put
-    module _ {mid : Held} (row : List Proxy)
-        (t : (r : IsReplaced k (AreSplitOf was.settings rules (Some parent) (Kept tt (without_places grown) Bare)) (place_named proxy) grown (nodes_in grown) [] (places_of grown) row [] was mid)
-        × (was.free ≤ mid.free + (2 * row_nodes (without_places r.row) + near_pages (nodes_in grown)))) where
-      replaced : IsReplaced k (AreSplitOf was.settings rules (Some up.whole) (Kept tt (without_places grown) Bare)) (place_inside was pieces (Some piece) place member way most_nodes members there_too index before [] inside into) inside (nodes_in inside)
-          (option_to_list node.list) (places_off true (before ∷ []) inside) row [] was mid
-      replaced =
-          let r = t.0 in
+    -- the interval below was put, where so much room is in the part above
+    module _ {mid : Held} (room : ℕ) (room_is : room ≡ k - gapped.gapped_weight piece.body.roots) (row : Row) (near : AreNear row.items)
+        (t : (r : IsReplacedByRow k (AreSplitOf was.settings rules room (Some parent) (Kept tt (without_places grown) Bare)) (place_named proxy) grown (nodes_in grown) [] (places_of grown) row [] was mid)
+        × (was.free + length row.proxies ≤ mid.free + (2 * row_nodes (without_places (r.0).row) + near_pages (nodes_in grown)))) where
+      -- it is what the members leave
+      left_is : room ≡ k - gapped.gapped_weight (piece_body members)
+      left_is = room_is ∙ ap (λ (p : Piece). k - gapped.gapped_weight p.body.roots) i.is
+
+      both : (r : IsReplacedByRow k (AreSplitOf was.settings rules room (Some up.whole) (Kept tt (without_places grown) Bare)) (place_inside was pieces (Some piece) place member way most_nodes members there_too index before [] inside into) inside (nodes_in inside)
+          (option_to_list node.list) (places_off true (before ∷ []) inside) row [] was mid)
+          × (was.free + length row.proxies ≤ mid.free + (row_nodes (without_places inside) + 2 * row_nodes (without_places (r.0).row) + near_pages (nodes_in inside)))
+      both =
+          let r = (t.0).0 in
           let more : ℕ = 2 * row_nodes (without_places r.row) in
           let among : (other : RecordPlace) → Contains (places_off true (before ∷ []) inside) other → Contains (places_of grown) other =
           λ other off. subst (λ (ps : List RecordPlace). Contains ps other) (sym (goes.goes).places) (off_among true (before ∷ []) inside other off) in
+          let pages = grown_pages in
+          let free = t.1 in
           subst
-          (λ (p : RecordPlace). IsReplaced k (AreSplitOf was.settings rules (Some up.whole) (Kept tt (without_places grown) Bare)) p inside (nodes_in inside) (option_to_list node.list) (places_off true (before ∷ []) inside) row [] was mid)
-          at_inside
-          (record {
-            row = r.row;
-            becomes = (splits_alike was.settings rules parent up.whole up.alike (Kept tt (without_places grown) Bare) (without_places r.row) (r.becomes).0, (r.becomes).1);
-            proxies_are = r.proxies_are;
-            held = r.held;
-            once = r.once;
-            light = r.light;
-            brought = r.brought;
-            moves =
-                let free = t.1 in
-                let pages = grown_pages in
-                moves_within (place_named proxy ∷ places_of inside) (places_of r.row) r.brought (row_nodes (without_places grown) + more + near_pages (nodes_in grown)) (row_nodes (without_places inside) + more + near_pages (nodes_in inside)) was mid
-                (omega (arith, free, pages))
-                (subst (λ (ps : List RecordPlace). MovesRecords (place_named proxy ∷ ps) (places_of r.row) [] r.brought (row_nodes (without_places grown) + more + near_pages (nodes_in grown)) was mid) (goes.goes).places r.moves);
-            contents_went = subst (λ (fs : List Far). IsPermutation fs (fars_of (nodes_in inside))) (sym (append-nil (fars_of (nodes_in inside)))) (IsPermutation-refl (fars_of (nodes_in inside)));
-            contents_came = came r.row r.brought r.contents_came;
-            brought_once = r.brought_once;
-            records_stay = λ other off. r.records_stay other (among other off);
-            lists_stay = λ other count chain off. r.lists_stay other count chain (among other off);
-          })
+          (λ (p : RecordPlace). (s : IsReplacedByRow k (AreSplitOf was.settings rules room (Some up.whole) (Kept tt (without_places grown) Bare)) p inside (nodes_in inside) (option_to_list node.list) (places_off true (before ∷ []) inside) row [] was mid)
+          × (was.free + length row.proxies ≤ mid.free + (row_nodes (without_places inside) + 2 * row_nodes (without_places (s.0).row) + near_pages (nodes_in inside))))
+          at_inside (
+            (
+              record {
+                row = r.row;
+                becomes = (row_splits_by_label was.settings rules room parent up.whole (Kept tt (without_places grown) Bare) (without_places r.row) up.alike (r.becomes).0, (r.becomes).1);
+                proxies_are = r.proxies_are;
+                held = r.held;
+                once = r.once;
+                light = r.light;
+                brought = r.brought;
+                moves =
+                    moves_within (place_named proxy ∷ places_of inside) (places_of r.row) r.brought (row_nodes (without_places grown) + more + near_pages (nodes_in grown)) (row_nodes (without_places inside) + more + near_pages (nodes_in inside)) was mid
+                    (omega (arith, free, pages))
+                    (subst (λ (ps : List RecordPlace). MovesRecords (place_named proxy ∷ ps) (places_of r.row) [] r.brought (row_nodes (without_places grown) + more + near_pages (nodes_in grown)) was mid) (goes.goes).places r.moves);
+                contents_went = subst (λ (fs : List Far). IsPermutation fs (fars_of (nodes_in inside))) (sym (append-nil (fars_of (nodes_in inside)))) (IsPermutation-refl (fars_of (nodes_in inside)));
+                contents_came = came r.row r.brought r.contents_came;
+                brought_once = r.brought_once;
+                records_stay = λ other off. r.records_stay other (among other off);
+                lists_stay = λ other count chain off. r.lists_stay other count chain (among other off);
+              },
+              (t.0).1,
+            ),
+            omega (arith, free, pages),
+          )
         where
           came : (new : Layout) (brought : List ℕ) → IsPermutation (contents_of new) (lists_of (nodes_in grown) ++ ([] ++ brought)) → IsPermutation (contents_of new) (lists_of (nodes_in inside) ++ (option_to_list node.list ++ brought))
           came new brought comes =
@@ -307,20 +310,21 @@ module _ (rules : List Rule) (node : LaidNode) {was : Held} (pieces : PieceMap w
               let h = sum_by-append f (option_to_list node.list) brought in
               omega (arith, one, two, a, b, c, e, h))
 
-      pub joined_may_have : MayHaveRow piece row
-      joined_may_have = row_may_stand rules was pieces (Some piece) place member way members there_too index before [] inside into grown some_below few_below wanted whole_is most possible.few up.whole row replaced piece i.is
+      pub joined_may_have : MayHaveRow k piece row
+      joined_may_have = row_may_stand rules was pieces (Some piece) place member way members there_too index before [] inside into grown wanted whole_is possible.few up.whole room left_is row both.0 piece i.is
 
       pub joined_row_few : mid.free < put_needs (piece_with_row index row piece) → was.free < change_needs rules (put.Child position node) member path members
       joined_row_few few =
-          row_few rules was pieces (Some piece) place member way members there_too index before [] inside into grown some_below few_below wanted whole_is most possible.few way [] into tidy up.whole row replaced around_it piece i.is few
+          row_few rules was pieces (Some piece) place member way members there_too index before [] inside into grown wanted whole_is possible.few way [] into tidy up.whole room left_is row near both.0 both.1 around_it piece i.is few
 
       pub joined_above_there : HoldsPiece mid place (piece_of members)
-      joined_above_there = above_there was pieces (Some piece) place member way most_nodes members there_too index before [] inside into tidy replaced.moves
+      joined_above_there = above_there was pieces (Some piece) place member way most_nodes members there_too index before [] inside into tidy ((both.0).0).moves
 
-      pub joined_put : {now : Held} (tidier : IsTidy mid) (new : Proxy) → new.roots ≡ gapped.gapped_width (piece_with_row index row piece).body.roots → PutsOrStays place (place_named new) (piece_with_row index row piece) mid now
-          → IsReplaced k (AreSplitOf was.settings rules top wanted) place members (nodes_in members) (option_to_list node.list) (places_off true (member ∷ way) members) (new ∷ []) [] was now
-      joined_put tidier new roots puts =
-          row_put rules was pieces (Some piece) place member way members there_too index before [] inside into grown some_below few_below wanted whole_is most possible.few way [] into tidy up.whole row replaced around_it top up.above tidier piece i.is new roots puts
+      pub joined_put : {now : Held} (tidier : IsTidy mid) (outer : ℕ) (own : Row) → IsPutAlone place (piece_with_row index row piece) own mid now
+          → (s : IsReplacedByRow k (AreSplitOf was.settings rules outer top wanted) place members (nodes_in members) (option_to_list node.list) (places_off true (member ∷ way) members) own [] was now)
+          × (was.free + length own.proxies ≤ now.free + (row_nodes (without_places members) + 2 * row_nodes (without_places (s.0).row) + near_pages (nodes_in members)))
+      joined_put tidier outer own puts =
+          row_put rules was pieces (Some piece) place member way members there_too index before [] inside into grown wanted whole_is possible.few way [] into tidy up.whole room left_is row near both.0 both.1 around_it outer top up.above tidier piece i.is own puts
 
 -- what the piece of the interval below names with the node may be named
 pub joined_may : {was : Held} (node : LaidNode) (position before : ℕ) (below : RecordPlace) (inner planted : Piece) → IsTidy was → HoldsPiece was below inner → MayPut was (put.Child position node) → IsWithRoot inner before (in_record node) planted

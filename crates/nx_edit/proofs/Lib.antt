@@ -18,6 +18,7 @@ pub mod RefillLemmas
 pub mod UpLemmas
 pub mod RowCalls
 pub mod PassCalls
+pub mod RowPutCalls
 pub mod ChangeCalls
 pub mod OffOneLemmas
 pub mod SetLemmas

@@ -3,7 +3,8 @@ use Rattle.std.proofs.Common.{◌≡◌, ℕ, zero, suc, ◌+◌, ◌<◌, ◌�
 use Rattle.std.specs.List.{slice_get}
 use Rattle.nx_piece.specs.declared.piece.Piece.{Piece}
 use Rattle.nx_piece.specs.declared.piece.Proxy.{Proxy}
-use Rattle.nx_piece_edits.specs.Cutting.{IsWithRow, with_row}
+use Rattle.nx_piece_edits.specs.Cutting.{IsWithRow, with_items_at, with_row}
+use Rattle.nx_piece_edits.proofs.WiderLemmas.{row_is_items}
 use Rattle.nx_piece.specs.Gapped.{Gapped, GappedTree, End, Grow, Gap}
 use Rattle.nx_piece.specs.Locate.{Kept as Away, Inside, children_of, reached_in}
 use Rattle.nx_piece_edits.specs.Planting.{put_at, LeadsBetween, IsWithNode}
@@ -20,6 +21,7 @@ use Rattle.nx_layouts.proofs.PathLemmas.{StandBehind, path_stays}
 use Rattle.nx_layouts.proofs.PlantLemmas.{node_is_planted}
 use Rattle.nx_layouts.proofs.ReplaceLemmas.{replaces}
 use Rattle.nx_layouts.proofs.RunLemmas.{runs_after}
+use Rattle.nx_layouts.proofs.ValidLemmas.{body_apart}
 use Rattle.nx_hold.specs.Changes.{place_named}
 use Rattle.nx_drafts.proofs.SomeLemmas.{piece_has_members}
 use Rattle.nx_edit.specs.Planting.{IsWithin}
@@ -32,7 +34,11 @@ pub row_piece : (index : ℕ) (members new : Layout) (row : List Proxy) (changed
     → IsWithRow (piece_of members) index row changed → piece_of (replaced_at index new members) ≡ changed
 row_piece index members new row changed less is gap some w =
     piece_same (piece_of (replaced_at index new members)) changed
-    ((runs_after index members less).many new gap some ∙ ap (λ (ps : List Proxy). with_row index (length ps) (piece_body members)) is ∙ sym w.body)
+    ((runs_after index members less).many new
+    ∙ ap (λ (items : Gapped). with_items_at index items (piece_body members)) gap
+    ∙ sym (row_is_items index (length (proxies_of new)) (piece_body members) (body_apart members) some)
+    ∙ ap (λ (ps : List Proxy). with_row index (length ps) (piece_body members)) is
+    ∙ sym w.body)
     ((replaces index members new less).proxies_are ∙ ap (λ (ps : List Proxy). take index (proxies_of members) ++ ps ++ drop (index + 1) (proxies_of members)) is ∙ sym w.proxies)
 
 pub two_gap : (front back : RecordPlace) (ahead after : Layout) → piece_body (in_two front back ahead after) ≡ Gap (length (proxies_of (in_two front back ahead after))) End

@@ -115,6 +115,15 @@ module _ {D : Type 0} (d : Ghosts D) (place : RecordPlace) (passed : PassedRecor
           let next = comes saved was (later stands) tidy (λ far among. may_name_own was place piece tidy own far (keeps far among)) in
           (next.0, next.1, next.2, λ held holds at. subst (λ (p : Piece). Comes p was next.0) (reads saved was held stands holds) next.3)
 
+      -- ... where more may be named than the record names
+      pub more_passed : (More : Held → Type 0) (Comes : Piece → Held → Held → Type 0) → ((saved now : Held) → StandsFor d r0 x0 saved now → HasNamedList now place → HoldsPiece now place piece)
+          → ComesTidyWhere d r1 r2 x1 x2 (λ was. MayName was piece.body.roots × More was) (Comes piece)
+          → ComesTidyWhere d r0 r2 x0 x2 More (λ was now. (held : Piece) → HoldsPiece was place held → IsPassedAs passed held → Comes held was now)
+      more_passed More Comes holds comes saved was stands tidy more =
+          let own = holds saved was stands (tidy_named was place tidy) in
+          let next = comes saved was (later stands) tidy (may_name_own was place piece tidy own, more) in
+          (next.0, next.1, next.2, λ held holds at. subst (λ (p : Piece). Comes p was next.0) (reads saved was held stands holds) next.3)
+
       pub keeps_passed : RunsOn r1 r2 → KeepsSaved d r1 r2 x1 x2 → RunsOn r0 r2 × KeepsSaved d r0 r2 x0 x2
       keeps_passed runs keeps = (
         runs_then {r0 = r0} {r1 = r1} {r2 = r2} (leaves_runs {r0 = r0} {r1 = r1} running leaves) runs,

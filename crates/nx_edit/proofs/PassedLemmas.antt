@@ -1,5 +1,5 @@
 -- An interval that a path leads into was replaced, and then the record above it.
-use Rattle.std.proofs.Common.{◌≡◌, ℕ, zero, suc, ◌+◌, ◌-◌, ◌*◌, ◌<◌, ◌≤◌, Bool, List, [], ◌∷◌, ◌++◌, length, Option, None, Some, inl, inr, sym, ap, ap₂, ◌∙◌, subst, arith, append-nil, length-append, IsPermutation}
+use Rattle.std.proofs.Common.{◌≡◌, ℕ, zero, suc, ◌+◌, ◌-◌, ◌*◌, ◌<◌, ◌≤◌, Bool, List, [], ◌∷◌, ◌++◌, length, Option, None, Some, inl, inr, refl, sym, ap, ap₂, ◌∙◌, subst, arith, append-nil, length-append, IsPermutation}
 use Rattle.std.specs.Prelude.{IsSome, Contains}
 use Rattle.std.specs.List.{slice_get, sum_by}
 use Rattle.std.proofs.lemmas.List.Sums.{sum_by-append}
@@ -12,7 +12,7 @@ use Rattle.nx_piece.specs.declared.piece.Far.{Far}
 use Rattle.nx_piece.specs.declared.piece.Piece.{Piece}
 use Rattle.nx_piece.specs.declared.piece.Proxy.{Proxy}
 use Rattle.nx_piece.specs.Gapped as gapped
-use Rattle.nx_piece.specs.Gapped.{Gapped}
+use Rattle.nx_piece.specs.Gapped.{Gapped, End, Gap}
 use Rattle.nx_piece.proofs.LocateLemmas.{get_behind}
 use Rattle.nx_cuts.specs.Cut.{CutForest, Bare, Grown, Kept, width, AreFree, AreParts}
 use Rattle.nx_layouts.specs.Layout.{RecordPlace, LaidNode, Layout, AreHeld, ArePlacedOnce, laid_forest, laid_weight, piece_body, piece_of, places_of, proxies_of, proxy_of, nodes_in, lists_of, contents_of, without_places}
@@ -41,8 +41,9 @@ use Rattle.nx_edit.proofs.OffLemmas.{off_among, off_inside}
 use Rattle.nx_edit.proofs.ThroughLemmas.{IsAround, around_interval, above_stays, moves_through, once_there, once_through, around_stays, stays_on, apart}
 use Rattle.nx_edit.proofs.OwnLemmas.{free_wide}
 use Rattle.nx_edit.proofs.OrderLemmas.{fars_by_sums, lists_by_sums}
-use Rattle.nx_edit.proofs.FarLemmas.{sum_fars, sum_lists, near-append, near_filled, near_none, own_near}
+use Rattle.nx_edit.proofs.FarLemmas.{sum_fars, sum_lists, near-append, near_filled, own_near}
 use Rattle.nx_edit.proofs.HeldLemmas.{held_through, row_there}
+use Rattle.nx_edit.proofs.GrownThroughLemmas.{moves_within}
 use Rattle.nx_edit.proofs.PutLemmas.{IsPutAs, made_wide, put_as, stays_as}
 
 no_value : {A : Type 0} {x : A} {B : Type 0} → Some x ≡ None → B
@@ -167,20 +168,19 @@ module _ (was : Held) (pieces : PieceMap was) (known : Option Piece) (place : Re
     here_apart among = (once_there around r.moves r.once).0 (subst (λ (ps : List RecordPlace). Contains ps place) (sym places_here) among)
 
     -- the pages of what is kept suffice for what came below and for the record above
-    pub near_suffice : {kept : List LaidNode} → IsKeptAround kept_in kept → laid_weight r.row ≡ 0 → near_pages kept_in + near_in (piece_body here) ≤ near_pages kept
-    near_suffice {kept} around_it weightless =
+    pub near_suffice : {kept : List LaidNode} → IsKeptAround kept_in kept → near_in (piece_body r.row) ≡ 0 → near_pages kept_in + near_in (piece_body here) ≤ near_pages kept
+    near_suffice {kept} around_it none =
         let stay = ap (λ (ns : List LaidNode). near_pages ns) around_it.off in
         let front = near-append around_it.before_it (kept_in ++ around_it.behind_it) in
         let middle = near-append kept_in around_it.behind_it in
         let fill = near_filled index r.row members in
-        let none = near_none r.row weightless in
         let own = own_near (replaced_at index Bare members) in
         let are = ap (λ (ns : List LaidNode). near_pages ns) (around_it.are Bare) in
         let rest = near-append around_it.before_it around_it.behind_it in
         omega (arith, stay, front, middle, fill, none, own, are, rest)
 
     module _ {now : Held} (tidier : IsTidy mid) (piece : Piece) (here_is : piece ≡ piece_of here) (proxy : Proxy) (roots : proxy.roots ≡ gapped.gapped_width piece.body.roots) (puts : PutsOrStays place (place_named proxy) piece mid now)
-        (weightless : laid_weight r.row ≡ 0) where
+        (room : laid_weight r.row + laid_weight members ≤ k) where
       abbrev new : RecordPlace
       new = place_named proxy
 
@@ -189,10 +189,9 @@ module _ (was : Held) (pieces : PieceMap was) (known : Option Piece) (place : Re
 
       here_light : laid_weight here ≤ (mid.settings).k
       here_light =
-          let same = filled.heavy weightless in
-          let light : laid_weight members ≤ k = (i.light).2 in
+          let same = filled.heavy less_index in
           let settled = ap (λ (s : Settings). s.k) (r.moves).settings in
-          omega (arith, same, light, settled)
+          omega (arith, same, room, settled)
 
       -- the record above has the row then
       as_put : PutsOrStays place new piece mid now → IsPutAs place new here mid now
@@ -211,6 +210,10 @@ module _ (was : Held) (pieces : PieceMap was) (known : Option Piece) (place : Re
 
       pub top : IsPutAs place new here mid now
       top = as_put puts
+
+      -- how many pages it took
+      pub pages_above : mid.free ≤ now.free + (near_in (piece_body here) + (1 + chain_count (8 * length (proxies_of here))))
+      pages_above = let moved = (top.moves).free in let few = top.few in omega (arith, moved, few)
 
       off_stays : (other : RecordPlace) → Contains (places_off stays (position ∷ way) members) other → (record_at now other ≡ record_at was other) × ((count chain : ℕ) → NamesList was other count chain → now.lists chain ≡ was.lists chain)
       off_stays other among =
@@ -278,43 +281,42 @@ module _ (was : Held) (pieces : PieceMap was) (known : Option Piece) (place : Re
             let low_more = sum_by-append f put r.brought in
             omega (arith, whole, all, more, last, stay, front, middle, are, new_front, new_middle, here_came, here_more, low, low_all, low_more))
 
-        -- so the interval above was: it has the row in the place of the interval below
-        pub replaced_above : (Becomes : CutForest → Type 0) → Becomes (without_places (Kept new here Bare))
-            → (row_nodes (without_places inside) + 2 * row_nodes (without_places r.row)) + (1 + chain_count (8 * length (proxies_of here))) ≤ row_nodes (without_places members) + 2 * row_nodes (without_places (Kept new here Bare))
-            → IsReplaced k Becomes place members kept put (places_off stays (position ∷ way) members) (proxy ∷ []) gone_fars was now
-        replaced_above Becomes becomes most =
+        -- so the interval above was: it has the row in the place of the interval below; and so many pages were spent on that
+        pub replaced_above : (Becomes : CutForest → Type 0) → Becomes (without_places (Kept new here Bare)) → (spent : ℕ) → was.free ≤ mid.free + spent
+            → spent + (near_in (piece_body here) + (1 + chain_count (8 * length (proxies_of here)))) ≤ row_nodes (without_places members) + 2 * row_nodes (without_places (Kept new here Bare)) + near_pages kept
+            → (s : IsReplaced k Becomes place members kept put (places_off stays (position ∷ way) members) (proxy ∷ []) gone_fars was now) × (piece_body s.row ≡ Gap 1 End)
+        replaced_above Becomes becomes spent free most =
             let row : Layout = Kept new top.made Bare in
             let same : without_places row ≡ without_places (Kept new here Bare) = ap (λ (c : CutForest). Kept tt c Bare) top.same in
             let brought : List ℕ = r.brought ++ top.more in
             let needs : ℕ = row_nodes (without_places members) + 2 * row_nodes (without_places row) + near_pages kept in
-            let enough : (row_nodes (without_places inside) + 2 * row_nodes (without_places r.row) + near_pages kept_in) + top.then ≤ needs =
-            let few = top.few in
-            let near = near_suffice around_it weightless in
-            let nodes = ap (λ (c : CutForest). row_nodes c) same in
-            omega (arith, few, near, nodes, most) in
-            record {
-              row = row;
-              becomes = subst Becomes (sym same) becomes;
-              proxies_are =
-                  ap (λ (n : ℕ). let q : Proxy = record { page = proxy.page; slot = proxy.slot; roots = n } in q ∷ [])
-                  (roots ∙ ap (λ (p : Piece). gapped.gapped_width p.body.roots) here_is ∙ free_wide here (filled.free members_free) ∙ sym (made_wide top));
-              held = λ after. (top.at after, top.held after, tt);
-              once =
-                  subst (λ (ps : List RecordPlace). ArePlacedOnce (new ∷ ps)) (sym (append-nil (places_of top.made)))
-                  (subst (λ (ps : List RecordPlace). ArePlacedOnce (new ∷ ps)) (sym top.places)
-                  (subst (λ (ps : List RecordPlace). ArePlacedOnce (new ∷ ps)) places_here (once_through around r.moves top.moves (no_place new, tt) r.once)));
-              light = subst (λ (c : CutForest). AreParts k c) (sym same) (interval_is_light k index place new r.row members i.light r.light weightless);
-              brought = brought;
-              moves =
-                  subst (λ (ps : List RecordPlace). MovesRecords (place ∷ places_of members) (new ∷ ps) [] brought needs was now) (sym (append-nil (places_of top.made)))
-                  (subst (λ (ps : List RecordPlace). MovesRecords (place ∷ places_of members) (new ∷ ps) [] brought needs was now) (sym top.places)
-                  (subst (λ (ps : List RecordPlace). MovesRecords (place ∷ places_of members) (new ∷ ps) [] brought needs was now) places_here
-                  (subst (λ (ps : List RecordPlace). MovesRecords (place ∷ ps) (new ∷ (before ++ (places_of r.row ++ behind))) [] brought needs was now) (sym there.places_were)
-                  (moves_more (place ∷ (before ++ (gone ++ behind))) (new ∷ (before ++ (places_of r.row ++ behind))) [] brought
-                  ((row_nodes (without_places inside) + 2 * row_nodes (without_places r.row) + near_pages kept_in) + top.then) needs was now enough (moves_through around r.moves top.moves)))));
-              contents_went = went;
-              contents_came = came;
-              brought_once = once-append r.brought top.more r.brought_once top.once brought_apart;
-              records_stay = λ other among. (off_stays other among).0;
-              lists_stay = λ other count chain among. (off_stays other among).1 count chain;
-            }
+            let enough : spent + top.then ≤ needs = let few = top.few in let nodes = ap (λ (c : CutForest). row_nodes c) same in omega (arith, few, nodes, most) in
+            let below : MovesRecords gone (places_of r.row) [] r.brought spent was mid = moves_within gone (places_of r.row) r.brought (row_nodes (without_places inside) + 2 * row_nodes (without_places r.row) + near_pages kept_in) spent was mid free r.moves in (
+              record {
+                row = row;
+                becomes = subst Becomes (sym same) becomes;
+                proxies_are =
+                    ap (λ (n : ℕ). let q : Proxy = record { page = proxy.page; slot = proxy.slot; roots = n } in q ∷ [])
+                    (roots ∙ ap (λ (p : Piece). gapped.gapped_width p.body.roots) here_is ∙ free_wide here (filled.free members_free) ∙ sym (made_wide top));
+                held = λ after. (top.at after, top.held after, tt);
+                once =
+                    subst (λ (ps : List RecordPlace). ArePlacedOnce (new ∷ ps)) (sym (append-nil (places_of top.made)))
+                    (subst (λ (ps : List RecordPlace). ArePlacedOnce (new ∷ ps)) (sym top.places)
+                    (subst (λ (ps : List RecordPlace). ArePlacedOnce (new ∷ ps)) places_here (once_through around r.moves top.moves (no_place new, tt) r.once)));
+                light = subst (λ (c : CutForest). AreParts k c) (sym same) (interval_is_light k index place new r.row members i.light r.light room);
+                brought = brought;
+                moves =
+                    subst (λ (ps : List RecordPlace). MovesRecords (place ∷ places_of members) (new ∷ ps) [] brought needs was now) (sym (append-nil (places_of top.made)))
+                    (subst (λ (ps : List RecordPlace). MovesRecords (place ∷ places_of members) (new ∷ ps) [] brought needs was now) (sym top.places)
+                    (subst (λ (ps : List RecordPlace). MovesRecords (place ∷ places_of members) (new ∷ ps) [] brought needs was now) places_here
+                    (subst (λ (ps : List RecordPlace). MovesRecords (place ∷ ps) (new ∷ (before ++ (places_of r.row ++ behind))) [] brought needs was now) (sym there.places_were)
+                    (moves_more (place ∷ (before ++ (gone ++ behind))) (new ∷ (before ++ (places_of r.row ++ behind))) [] brought
+                    (spent + top.then) needs was now enough (moves_through around below top.moves)))));
+                contents_went = went;
+                contents_came = came;
+                brought_once = once-append r.brought top.more r.brought_once top.once brought_apart;
+                records_stay = λ other among. (off_stays other among).0;
+                lists_stay = λ other count chain among. (off_stays other among).1 count chain;
+              },
+              refl,
+            )

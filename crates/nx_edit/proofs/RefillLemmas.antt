@@ -1,5 +1,5 @@
 -- An interval below was replaced by a row: the record above has the row then, as it would have other members below, of which the row is a split.
-use Rattle.std.proofs.Common.{◌≡◌, ℕ, zero, suc, ◌+◌, ◌-◌, ◌*◌, ◌<◌, ◌≤◌, true, List, [], ◌∷◌, ◌++◌, length, take, drop, Option, Some, inl, inr, refl, sym, ap, ◌∙◌, subst, arith, length-append}
+use Rattle.std.proofs.Common.{◌≡◌, ℕ, zero, suc, ◌+◌, ◌-◌, ◌*◌, ◌<◌, ◌≤◌, true, List, [], ◌∷◌, ◌++◌, length, take, drop, Option, Some, inl, inr, refl, sym, ap, ap₂, ◌∙◌, subst, arith, length-append}
 use Rattle.std.proofs.lemmas.Bool.{cases_lt}
 use Rattle.nx_tree.specs.declared.node.Node.{Node}
 use Rattle.nx_tree.specs.Forest.{nodes}
@@ -8,72 +8,35 @@ use Rattle.nx_holdings.specs.Holdings.{Held, chain_count}
 use Rattle.nx_piece.specs.declared.piece.Far.{Far}
 use Rattle.nx_piece.specs.declared.piece.Piece.{Piece}
 use Rattle.nx_piece.specs.declared.piece.Proxy.{Proxy}
-use Rattle.nx_piece.specs.Gapped as gapped
-use Rattle.nx_piece.specs.Gapped.{Gapped, End, Gap}
-use Rattle.nx_piece.specs.Valid.{HaveRoots}
+use Rattle.nx_piece.specs.Gapped.{Gapped, End, Gap, gapped_weight}
+use Rattle.nx_piece.specs.Valid.{AreNear}
+use Rattle.nx_piece_edits.specs.Cutting.{with_items_at}
 use Rattle.nx_piece_edits.proofs.LeftLemmas.{less_is, not_less}
 use Rattle.nx_matrix.specs.declared.rule.Rule.{Rule}
-use Rattle.nx_cuts.specs.Cut.{CutForest, Bare, Grown, Kept, forest, width}
-use Rattle.nx_cuts.proofs.FeasibleLemmas.{trees, trees-forest}
-use Rattle.nx_layouts.specs.Layout.{RecordPlace, LaidNode, Layout, AreLaidParts, gap_more, laid_forest, laid_weight, piece_body, piece_of, proxies_of, proxy_of, without_places}
+use Rattle.nx_cuts.specs.Cut.{CutForest, Bare, Grown, Kept, width}
+use Rattle.nx_layouts.specs.Layout.{RecordPlace, LaidNode, Layout, AreLaidParts, laid_forest, laid_weight, piece_body, piece_of, proxies_of, proxy_of, without_places}
 use Rattle.nx_layouts.specs.Replace.{replaced_at, kept_at, above_at}
 use Rattle.nx_layouts.specs.Cutting.{LeadsInto, StandsIn}
+use Rattle.nx_layouts.proofs.BodyLemmas.{bodies_are_of_rows}
+use Rattle.nx_layouts.proofs.DrawnLemmas.{drawn_free, drawn_wide}
 use Rattle.nx_layouts.proofs.ReplaceLemmas.{replaces}
 use Rattle.nx_layouts.proofs.RunLemmas.{runs_after}
 use Rattle.nx_hold.specs.Changes.{place_named}
-use Rattle.nx_hold.specs.Contents.{near_pages}
+use Rattle.nx_hold.specs.Contents.{near_in, near_pages}
 use Rattle.nx_hold.specs.Pieces.{IsTidy, PieceMap}
 use Rattle.nx_drawn.specs.Splits.{SplitsRow}
-use Rattle.nx_layouts.proofs.DrawnLemmas.{drawn_free, drawn_wide}
-use Rattle.nx_drawn.proofs.GrowthLemmas.{width_light}
 use Rattle.nx_drawn.proofs.SplitLemmas.{same_row}
 use Rattle.nx_drafts.proofs.RowLemmas.{row_splits_above}
+use Rattle.nx_divide.specs.declared.dividing.Row.{Row}
 use Rattle.nx_edit.specs.Editing.{places_off}
 use Rattle.nx_edit.specs.Rows.{row_nodes, IsHeldInterval, IsReplaced}
-use Rattle.nx_edit.specs.Changing.{AreAllKept, AreSplitOf}
-use Rattle.nx_edit.specs.RowPut.{MayHaveRow, piece_with_row}
+use Rattle.nx_edit.specs.Changing.{AreSplitOf, IsReplacedByRow}
+use Rattle.nx_edit.specs.Passing.{put_needs}
+use Rattle.nx_edit.specs.RowPut.{IsOneProxy, IsPutAlone, MayHaveRow, piece_with_row}
 use Rattle.nx_edit.proofs.CountLemmas.{proxies_few, proxies_most}
+use Rattle.nx_edit.proofs.FarLemmas.{near_short}
 use Rattle.nx_edit.proofs.OwnLemmas.{nodes_alone}
-use Rattle.nx_edit.proofs.PassedLemmas.{IsKeptAround, piece_same, less_index, near_suffice, there, place_inside, replaced_above}
-use Rattle.nx_edit.specs.Passing.{PutsOrStays, put_needs}
-
--- Rows of intervals:
-
--- none of their nodes is in the part above
-pub weightless : (a : Layout) → AreAllKept (without_places a) → laid_weight a ≡ 0
-weightless Bare h = refl
-weightless (Grown n b s) h = absurd h
-weightless (Kept p m s) h = weightless s h
-
--- they are one gap
-pub one_gap : (a : Layout) → AreAllKept (without_places a) → 1 ≤ length (proxies_of a) → piece_body a ≡ Gap (length (proxies_of a)) End
-one_gap Bare h some = absurd (omega (arith, some))
-one_gap (Grown n b s) h some = absurd h
-one_gap (Kept p m Bare) h some = refl
-one_gap (Kept p m (Grown n b s)) h some = absurd h
-one_gap (Kept p m (Kept q t s)) h some =
-    ap gap_more (one_gap (Kept q t s) h (omega arith)) ∙ ap (λ (c : ℕ). Gap c End) (let e : length (proxies_of (Kept q t s)) + 1 ≡ length (proxies_of (Kept p m (Kept q t s))) = omega arith in e)
-
--- they are as many as their members at most, and one where there is a member
-pub few_kept : (k : ℕ) (a : Layout) → AreLaidParts k a → AreAllKept (without_places a) → length (proxies_of a) ≤ width a
-few_kept k Bare p h = omega arith
-few_kept k (Grown n b s) p h = absurd h
-few_kept k (Kept r m s) p h = let some : 1 ≤ width (without_places m) = p.0 in let wide = drawn_wide m in let few = few_kept k s p.4 h in omega (arith, some, wide, few)
-
-pub some_kept : (a : Layout) → AreAllKept (without_places a) → 1 ≤ width a → 1 ≤ length (proxies_of a)
-some_kept Bare h some = absurd (omega (arith, some))
-some_kept (Grown n b s) h some = absurd h
-some_kept (Kept p m s) h some = omega arith
-
-pub rooted_kept : (k : ℕ) (a : Layout) → k ≤ 256 → AreLaidParts k a → AreAllKept (without_places a) → HaveRoots (proxies_of a)
-rooted_kept k Bare most p h = tt
-rooted_kept k (Grown n b s) most p h = absurd h
-rooted_kept k (Kept r m s) most p h =
-    let some : 1 ≤ width (without_places m) = p.0 in
-    let light : laid_weight m ≤ k = p.2 in
-    let few = width_light (without_places m) p.1 in
-    let wide = drawn_wide m in
-    (omega (arith, some, wide), omega (arith, light, few, wide, most), rooted_kept k s most p.4 h)
+use Rattle.nx_edit.proofs.PassedLemmas.{IsKeptAround, less_index, near_suffice, pages_above, piece_same, place_inside, replaced_above, there}
 
 -- An interval that was replaced by one with a record at this place, and is replaced again: it has these members in between, and nothing else is other than before.
 pub record IsRefilled (index : ℕ) (place : RecordPlace) (members row : Layout) : Type 0 where
@@ -137,13 +100,36 @@ refilled (suc index) place members (Kept p m s) less =
       long = ap (λ (c : ℕ). suc c) r.long;
     }
 
--- a list of proxies takes no more pages than those in the record besides a row
-list_less : (n few : ℕ) → n ≤ few + 257 → chain_count (8 * n) ≤ 1 + few
-list_less n few most = omega (arith, most)
+-- what is replaced so is replaced so, where as much is said of the row
+abbrev pub replaced_as : {k : ℕ} {Becomes Other : CutForest → Type 0} {place : RecordPlace} {members : Layout} {kept : List LaidNode} {put : List ℕ} {stay : List RecordPlace} {proxies other : List Proxy} {gone : List Far} {was now : Held} → other ≡ proxies
+    → ((c : CutForest) → Becomes c → Other c) → IsReplaced k Becomes place members kept put stay proxies gone was now → IsReplaced k Other place members kept put stay other gone was now
+replaced_as same becomes r = record {
+  row = r.row;
+  becomes = becomes (without_places r.row) r.becomes;
+  proxies_are = same ∙ r.proxies_are;
+  held = r.held;
+  once = r.once;
+  light = r.light;
+  brought = r.brought;
+  moves = r.moves;
+  contents_went = r.contents_went;
+  contents_came = r.contents_came;
+  brought_once = r.brought_once;
+  records_stay = r.records_stay;
+  lists_stay = r.lists_stay;
+}
+
+-- a list of proxies takes no more pages than they are
+list_few : (n : ℕ) → chain_count (8 * n) ≤ n
+list_few n = omega arith
+
+-- where a page for each proxy of a row is left of those that may be needed, that many fewer were needed
+left_spent : (was mid proxies needs : ℕ) → was + proxies ≤ mid + needs → was ≤ mid + (needs - proxies)
+left_spent was mid proxies needs left = omega (arith, left)
 
 module _ (rules : List Rule) (was : Held) (pieces : PieceMap was) (known : Option Piece) (place : RecordPlace) (position : ℕ) (path : List ℕ) (members : Layout) (i : IsHeldInterval was pieces known place position path most_nodes members)
-    (index next : ℕ) (rest : List ℕ) (inside : Layout) (into : LeadsInto index next rest inside position path members)
-    (below : Layout) (some_below : 1 ≤ width below) (few_below : width below ≤ 257) (wanted : CutForest) (whole_is : Kept tt (without_places (replaced_at index (Kept place below Bare) members)) Bare ≡ wanted) where
+    (index next : ℕ) (rest : List ℕ) (inside : Layout) (into : LeadsInto index next rest inside position path members) (below : Layout) (wanted : CutForest)
+    (whole_is : Kept tt (without_places (replaced_at index (Kept place below Bare) members)) Bare ≡ wanted) where
   abbrev k : ℕ
   k = (was.settings).k
 
@@ -168,39 +154,37 @@ module _ (rules : List Rule) (was : Held) (pieces : PieceMap was) (known : Optio
   below_few = let w = whole_count in let c = stands.counted (Kept place below Bare) in let h = stands.counted Bare in omega (arith, w, c, h)
 
   -- the interval below was replaced
-  module _ (most : k ≤ 256) (possible : row_nodes wanted ≤ most_nodes) {mid : Held} (node : Node) {kept_in : List LaidNode} {put : List ℕ} {stay : List RecordPlace} {gone : List Far} (proxies : List Proxy)
-      (r : IsReplaced k (AreSplitOf was.settings rules (Some node) (Kept tt (without_places below) Bare)) (place_inside was pieces known place position path most_nodes members i index next rest inside into) inside kept_in put stay proxies gone was mid) where
-    abbrev row : Layout
-    row = r.row
+  module _ (possible : row_nodes wanted ≤ most_nodes) {mid : Held} (node : Node) (room : ℕ) (room_is : room ≡ k - gapped_weight (piece_body members)) {kept_in : List LaidNode} {put : List ℕ} {stay : List RecordPlace} {gone : List Far} (row : Row)
+      (r : IsReplacedByRow k (AreSplitOf was.settings rules room (Some node) (Kept tt (without_places below) Bare)) (place_inside was pieces known place position path most_nodes members i index next rest inside into) inside kept_in put stay row gone was mid) where
+    abbrev come : Layout
+    come = (r.0).row
 
     abbrev here : Layout
-    here = replaced_at index row members
+    here = replaced_at index come members
 
-    all_kept : AreAllKept (without_places row)
-    all_kept = (r.becomes).1
+    row_count : nodes (laid_forest come) ≡ nodes (laid_forest (Kept place below Bare))
+    row_count = ap nodes (same_row was.settings rules room (Some node) (Kept tt (without_places below) Bare) (without_places come) ((r.0).becomes).0)
 
-    same_trees : forest (without_places row) ≡ forest (Kept tt (without_places below) Bare)
-    same_trees = same_row was.settings rules (Some node) (Kept tt (without_places below) Bare) (without_places row) (r.becomes).0
+    -- what joins the part above has room there
+    fits : laid_weight come + laid_weight members ≤ k
+    fits =
+        let small : laid_weight come ≤ room = ((r.0).becomes).1 in
+        let is = room_is in
+        let weighs = (bodies_are_of_rows members).weighs in
+        let light : laid_weight members ≤ k = (i.light).2 in
+        omega (arith, small, is, weighs, light)
 
-    row_count : nodes (laid_forest row) ≡ nodes (laid_forest (Kept place below Bare))
-    row_count = ap nodes same_trees
+    as_many : length row.proxies ≡ length (proxies_of come)
+    as_many = ap (λ (ps : List Proxy). length ps) (r.0).proxies_are
 
-    row_wide : width row ≡ width below
-    row_wide =
-        let bare = drawn_wide below in
-        sym (drawn_wide row) ∙ sym (trees-forest (without_places row)) ∙ ap trees same_trees ∙ trees-forest (Kept tt (without_places below) Bare) ∙ (let e : width (without_places below) + 0 ≡ width below = omega (arith, bare) in e)
+    proxies_less : length row.proxies ≤ row_nodes (without_places come)
+    proxies_less = let many = as_many in let most = proxies_most k come (r.0).light in omega (arith, many, most)
 
-    some : 1 ≤ length (proxies_of row)
-    some = let wide = row_wide in let member = some_below in some_kept row all_kept (omega (arith, member, wide))
-
-    few : length (proxies_of row) ≤ 257
-    few = let wide = row_wide in let few = few_below in let f = few_kept k row r.light all_kept in omega (arith, wide, few, f)
-
-    hole_count : (length (proxies_of members) ≡ 1 + length (proxies_of (replaced_at index Bare members))) × (length (proxies_of here) ≡ length (proxies_of row) + length (proxies_of (replaced_at index Bare members)))
+    hole_count : (length (proxies_of members) ≡ 1 + length (proxies_of (replaced_at index Bare members))) × (length (proxies_of here) ≡ length (proxies_of come) + length (proxies_of (replaced_at index Bare members)))
         × (1 + length (proxies_of (replaced_at index Bare members)) ≤ nodes (laid_forest (replaced_at index Bare members)))
     hole_count =
         let hole = replaces index members Bare less in
-        let all = replaces index members row less in
+        let all = replaces index members come less in
         let one = replaces index members (Kept place below Bare) less in
         let some : 1 ≤ width (without_places members) = (i.light).0 in
         let as_wide = drawn_wide members in
@@ -210,87 +194,121 @@ module _ (rules : List Rule) (was : Held) (pieces : PieceMap was) (known : Optio
         let back : List Proxy = drop (index + 1) (proxies_of members) in
         let proxies = ap (λ (ps : List Proxy). length ps) hole.proxies_are ∙ length-append (front ++ []) back in
         let none = length-append front [] in
-        let with_more = ap (λ (ps : List Proxy). length ps) all.proxies_are ∙ length-append (front ++ proxies_of row) back in
-        let inner = length-append front (proxies_of row) in
+        let with_more = ap (λ (ps : List Proxy). length ps) all.proxies_are ∙ length-append (front ++ proxies_of come) back in
+        let inner = length-append front (proxies_of come) in
         let with_one = ap (λ (ps : List Proxy). length ps) one.proxies_are ∙ length-append (front ++ (proxy_of place (width below) ∷ [])) back in
         let single = length-append front (proxy_of place (width below) ∷ []) in
         let long = refills.long in
         (omega (arith, proxies, none, with_one, single, long), omega (arith, proxies, none, with_more, inner), omega (arith, some, as_wide, wide, many))
 
     whole_nodes : nodes (laid_forest here) ≡ row_nodes wanted
-    whole_nodes = let c = stands.counted row in let d = stands.counted (Kept place below Bare) in let r = row_count in let w = whole_count in omega (arith, c, d, r, w)
+    whole_nodes = let c = stands.counted come in let d = stands.counted (Kept place below Bare) in let r = row_count in let w = whole_count in omega (arith, c, d, r, w)
 
-    pub row_may_stand : (piece : Piece) → piece ≡ piece_of members → MayHaveRow piece proxies
-    row_may_stand piece is = subst (λ (ps : List Proxy). MayHaveRow piece ps) (sym r.proxies_are) (record {
-      some = some;
+    pub row_may_stand : (piece : Piece) → piece ≡ piece_of members → MayHaveRow k piece row
+    row_may_stand piece is = record {
       few =
           let same = ap (λ (p : Piece). length p.proxies) is in
           let h = hole_count in
           let one = h.0 in
           let hole = h.2 in
-          let c = stands.counted row in
+          let c = stands.counted come in
           let b = stands.counted Bare in
-          let most = proxies_most k row r.light in
+          let most = proxies_less in
           let w = whole_nodes in
           let all : row_nodes wanted ≤ most_nodes = possible in
           omega (arith, same, one, hole, c, b, most, w, all);
-      ranged = rooted_kept k row most r.light all_kept;
-    })
+      light =
+          let same = ap (λ (p : Piece). gapped_weight p.body.roots) is in
+          let weighs = (bodies_are_of_rows members).weighs in
+          let items = ap (λ (x : Gapped). gapped_weight x) r.1 in
+          let weigh = (bodies_are_of_rows come).weighs in
+          let all = fits in
+          omega (arith, same, weighs, items, weigh, all);
+    }
 
     -- the piece above
-    row_piece : (piece : Piece) → piece ≡ piece_of members → piece_with_row index proxies piece ≡ piece_of here
+    row_piece : (piece : Piece) → piece ≡ piece_of members → piece_with_row index row piece ≡ piece_of here
     row_piece piece is =
-        ap (λ (ps : List Proxy). piece_with_row index ps piece) r.proxies_are
-        ∙ ap (λ (p : Piece). piece_with_row index (proxies_of row) p) is
-        ∙ piece_same (piece_with_row index (proxies_of row) (piece_of members)) (piece_of here) (sym ((runs_after index members less).many row (one_gap row all_kept some) some)) (sym (replaces index members row less).proxies_are)
+        piece_same (piece_with_row index row piece) (piece_of here)
+        (ap₂ (λ (items roots : Gapped). with_items_at index items roots) r.1 (ap (λ (p : Piece). p.body.roots) is) ∙ sym ((runs_after index members less).many come))
+        (ap₂ (λ (ps qs : List Proxy). take index qs ++ ps ++ drop (index + 1) qs) (r.0).proxies_are (ap (λ (p : Piece). p.proxies) is) ∙ sym (replaces index members come less).proxies_are)
 
-    here_needs : (row_nodes (without_places inside) + 2 * row_nodes (without_places row)) + (1 + chain_count (8 * length (proxies_of here))) ≤ row_nodes (without_places members) + 2 * row_nodes wanted
+    here_needs : row_nodes (without_places inside) + 2 * row_nodes (without_places come) + (2 + chain_count (8 * length (proxies_of here))) ≤ row_nodes (without_places members) + 2 * row_nodes wanted + length row.proxies
     here_needs =
         let h = hole_count in
         let long = h.1 in
         let hole = h.2 in
-        let f = few in
-        let needs = list_less (length (proxies_of here)) (length (proxies_of (replaced_at index Bare members))) (omega (arith, long, f)) in
-        let c = stands.counted row in
+        let many = as_many in
+        let list = list_few (length (proxies_of here)) in
+        let c = stands.counted come in
         let b = stands.counted Bare in
         let w = whole_nodes in
-        omega (arith, hole, needs, c, b, w)
+        omega (arith, long, hole, many, list, c, b, w)
 
-    module _ (above : Option Node) (above_is : above_at index above members ≡ Some node) where
-      row_splits : (new : RecordPlace) → SplitsRow was.settings rules above wanted (without_places (Kept new here Bare))
+    module _ (outer : ℕ) (above : Option Node) (above_is : above_at index above members ≡ Some node) where
+      row_splits : (new : RecordPlace) → SplitsRow was.settings rules outer above wanted (without_places (Kept new here Bare))
       row_splits new =
           let hole : AreLaidParts k (replaced_at index Bare middle) = subst (AreLaidParts k) (sym (refills.again Bare)) ((replaces index members Bare less).light k (i.light).3 tt) in
-          let light : laid_weight (replaced_at index row middle) ≤ k =
-          subst (λ (a : Layout). laid_weight a ≤ k) (sym (refills.again row)) (subst (λ (w : ℕ). w ≤ k) (sym ((replaces index members row less).heavy (weightless row all_kept))) (i.light).2) in
-          let inner : SplitsRow was.settings rules (above_at index above middle) (Kept tt (without_places below) Bare) (without_places row) =
-          subst (λ (a : Option Node). SplitsRow was.settings rules a (Kept tt (without_places below) Bare) (without_places row)) (sym (refills.above above ∙ above_is)) (r.becomes).0 in
-          subst (λ (c : CutForest). SplitsRow was.settings rules above c (Kept tt (without_places here) Bare)) whole_is
-          (subst (λ (a : Layout). SplitsRow was.settings rules above (Kept tt (without_places middle) Bare) (Kept tt (without_places a) Bare)) (refills.again row)
-          (row_splits_above was.settings rules above index middle below row refills.kept hole light inner))
+          let light : laid_weight (replaced_at index come middle) ≤ k =
+          subst (λ (a : Layout). laid_weight a ≤ k) (sym (refills.again come)) (let weighs = (replaces index members come less).heavy in let all = fits in omega (arith, weighs, all)) in
+          let as_room : room ≡ k - laid_weight middle =
+          (let is = room_is in let weighs = (bodies_are_of_rows members).weighs in let none = (replaces index members (Kept place below Bare) less).heavy in omega (arith, is, weighs, none)) in
+          let inner : SplitsRow was.settings rules (k - laid_weight middle) (above_at index above middle) (Kept tt (without_places below) Bare) (without_places come) =
+          subst (λ (n : ℕ). SplitsRow was.settings rules n (above_at index above middle) (Kept tt (without_places below) Bare) (without_places come)) as_room
+          (subst (λ (a : Option Node). SplitsRow was.settings rules room a (Kept tt (without_places below) Bare) (without_places come)) (sym (refills.above above ∙ above_is)) ((r.0).becomes).0) in
+          subst (λ (c : CutForest). SplitsRow was.settings rules outer above c (Kept tt (without_places here) Bare)) whole_is
+          (subst (λ (a : Layout). SplitsRow was.settings rules outer above (Kept tt (without_places middle) Bare) (Kept tt (without_places a) Bare)) (refills.again come)
+          (row_splits_above was.settings rules outer above index middle below come refills.kept hole light inner))
 
-  module _ (most : k ≤ 256) (possible : row_nodes wanted ≤ most_nodes) (way way_below : List ℕ) (leads : LeadsInto index next way_below inside position way members) {mid : Held} (tidy : IsTidy was) (node : Node) {kept_in kept : List LaidNode} {put : List ℕ} {gone : List Far}
-      (proxies : List Proxy)
-      (r : IsReplaced k (AreSplitOf was.settings rules (Some node) (Kept tt (without_places below) Bare)) (place_inside was pieces known place position path most_nodes members i index next rest inside into) inside kept_in put (places_off true (next ∷ way_below) inside) proxies gone
-      was mid) (around_it : IsKeptAround was pieces known place position path most_nodes members i index next rest inside into kept_in kept) where
+  module _ (possible : row_nodes wanted ≤ most_nodes) (way way_below : List ℕ) (leads : LeadsInto index next way_below inside position way members) {mid : Held} (tidy : IsTidy was) (node : Node) (room : ℕ) (room_is : room ≡ k - gapped_weight (piece_body members))
+      {kept_in kept : List LaidNode} {put : List ℕ} {gone : List Far} (row : Row) (near : AreNear row.items)
+      (r : IsReplacedByRow k (AreSplitOf was.settings rules room (Some node) (Kept tt (without_places below) Bare)) (place_inside was pieces known place position path most_nodes members i index next rest inside into) inside kept_in put (places_off true (next ∷ way_below) inside) row gone
+      was mid) (left : was.free + length row.proxies ≤ mid.free + (row_nodes (without_places inside) + 2 * row_nodes (without_places (r.0).row) + near_pages kept_in))
+      (around_it : IsKeptAround was pieces known place position path most_nodes members i index next rest inside into kept_in kept) where
+    -- the pages of what is kept suffice for what came below and for the record above
+    pages_suffice : near_pages kept_in + near_in (piece_body (replaced_at index (r.0).row members)) ≤ near_pages kept
+    pages_suffice =
+        near_suffice was pieces known place position path most_nodes members i index next rest inside into way way_below leads tidy true (r.0) around_it (near_short (piece_body (r.0).row) (subst AreNear r.1 near))
+
     -- fewer pages were free at first than may be needed, where fewer are free in between than the piece above may need
-    pub row_few : (piece : Piece) → piece ≡ piece_of members → mid.free < put_needs (piece_with_row index proxies piece) → was.free < row_nodes (without_places members) + 2 * row_nodes wanted + near_pages kept
+    pub row_few : (piece : Piece) → piece ≡ piece_of members → mid.free < put_needs (piece_with_row index row piece) → was.free < row_nodes (without_places members) + 2 * row_nodes wanted + near_pages kept
     row_few piece is few =
-        let same : put_needs (piece_with_row index proxies piece) ≡ put_needs (piece_of (replaced_at index r.row members)) = ap put_needs (row_piece most possible node proxies r piece is) in
-        let all = here_needs most possible node proxies r in
-        let near =
-        near_suffice was pieces known place position path most_nodes members i index next rest inside into way way_below leads tidy true r around_it (weightless r.row (all_kept most possible node proxies r)) in
-        let moved : was.free ≤ mid.free + (row_nodes (without_places inside) + 2 * row_nodes (without_places r.row) + near_pages kept_in) = (r.moves).free in
-        omega (arith, same, all, near, moved, few)
+        let same : put_needs (piece_with_row index row piece) ≡ put_needs (piece_of (replaced_at index (r.0).row members)) = ap put_needs (row_piece possible node room room_is row r piece is) in
+        let all = here_needs possible node room room_is row r in
+        let pages = pages_suffice in
+        let moved = left in
+        omega (arith, same, all, pages, moved, few)
 
-    module _ (above : Option Node) (above_is : above_at index above members ≡ Some node) where
-      -- so the interval above was
-      pub row_put : {now : Held} (tidier : IsTidy mid) (piece : Piece) → piece ≡ piece_of members → (proxy : Proxy) → proxy.roots ≡ gapped.gapped_width (piece_with_row index proxies piece).body.roots
-          → PutsOrStays place (place_named proxy) (piece_with_row index proxies piece) mid now → IsReplaced k (AreSplitOf was.settings rules above wanted) place members kept put (places_off true (position ∷ way) members) (proxy ∷ []) gone was now
-      row_put tidier piece is proxy roots puts =
-          let new : RecordPlace = place_named proxy in
-          let row : Layout = replaced_at index r.row members in
-          let needs = here_needs most possible node proxies r in
-          let w = whole_nodes most possible node proxies r in
-          let h = nodes_alone new row in
-          replaced_above was pieces known place position path most_nodes members i index next rest inside into way way_below leads tidy true r tidier (piece_with_row index proxies piece) (row_piece most possible node proxies r piece is) proxy roots puts
-          (weightless r.row (all_kept most possible node proxies r)) around_it (AreSplitOf was.settings rules above wanted) (row_splits most possible node proxies r above above_is new, tt) (omega (arith, needs, w, h))
+    -- the piece above has one proxy of what was replaced by one interval, and a page is left of those that may be needed
+    put_alone : (outer : ℕ) (above : Option Node) {now : Held} (own : Row) (proxy : Proxy) → IsOneProxy own proxy → (s : IsReplaced k (AreSplitOf was.settings rules outer above wanted) place members kept put (places_off true (position ∷ way) members) (proxy ∷ []) gone was now)
+        → piece_body s.row ≡ Gap 1 End → was.free + 1 ≤ now.free + (row_nodes (without_places members) + 2 * row_nodes wanted + near_pages kept)
+        → (t : IsReplacedByRow k (AreSplitOf was.settings rules outer above wanted) place members kept put (places_off true (position ∷ way) members) own gone was now)
+        × (was.free + length own.proxies ≤ now.free + (row_nodes (without_places members) + 2 * row_nodes (without_places (t.0).row) + near_pages kept))
+    put_alone outer above own proxy alone s one free =
+        let single = ap (λ (ps : List Proxy). length ps) alone.1 in
+        let count : row_nodes (without_places s.row) ≡ row_nodes wanted = ap nodes (same_row was.settings rules outer above wanted (without_places s.row) (s.becomes).0) in
+        ((replaced_as alone.1 (λ c h. h) s, alone.0 ∙ sym one), omega (arith, single, count, free))
+
+    -- so the interval above was
+    pub row_put : (outer : ℕ) (above : Option Node) (above_is : above_at index above members ≡ Some node) {now : Held} (tidier : IsTidy mid) (piece : Piece) → piece ≡ piece_of members → (own : Row) → IsPutAlone place (piece_with_row index row piece) own mid now
+        → (s : IsReplacedByRow k (AreSplitOf was.settings rules outer above wanted) place members kept put (places_off true (position ∷ way) members) own gone was now)
+        × (was.free + length own.proxies ≤ now.free + (row_nodes (without_places members) + 2 * row_nodes (without_places (s.0).row) + near_pages kept))
+    row_put outer above above_is {now} tidier piece is own puts =
+        let new : RecordPlace = place_named puts.0 in
+        let above_now : Layout = replaced_at index (r.0).row members in
+        let here_is : piece_with_row index row piece ≡ piece_of above_now = row_piece possible node room room_is row r piece is in
+        let all = here_needs possible node room room_is row r in
+        let whole = whole_nodes possible node room room_is row r in
+        let alone = nodes_alone new above_now in
+        let pages = pages_suffice in
+        let room_there = fits possible node room room_is row r in
+        let less_proxies = proxies_less possible node room room_is row r in
+        let needs : ℕ = row_nodes (without_places inside) + 2 * row_nodes (without_places (r.0).row) + near_pages kept_in in
+        let spent : ℕ = needs - length row.proxies in
+        let first : was.free ≤ mid.free + spent = left_spent was.free mid.free (length row.proxies) needs left in
+        let s =
+        replaced_above was pieces known place position path most_nodes members i index next rest inside into way way_below leads tidy true (r.0) tidier (piece_with_row index row piece) here_is puts.0 puts.2 puts.3 room_there around_it
+        (AreSplitOf was.settings rules outer above wanted) (row_splits possible node room room_is row r outer above above_is new, omega arith) spent first (omega (arith, all, whole, alone, pages, less_proxies)) in
+        let then = pages_above was pieces known place position path most_nodes members i index next rest inside into way way_below leads tidy true (r.0) tidier (piece_with_row index row piece) here_is puts.0 puts.2 puts.3 room_there in
+        let moved = left in
+        put_alone outer above own puts.0 puts.1 s.0 s.1 (omega (arith, moved, all, pages, then))

@@ -33,6 +33,7 @@ use Rattle.nx_nav.specs.Refusals.{OfEach}
 use Rattle.nx_nav.specs.Route.{HasRoute}
 use Rattle.nx_state.specs.State.{document_size}
 use Rattle.nx_drawn.specs.Edits.{retexted}
+use Rattle.nx_divide.specs.declared.dividing.Row.{Row}
 use Rattle.nx_drawn.specs.Splits.{Splits}
 use Rattle.nx_edit.specs.declared.error.EditError.{EditError}
 use Rattle.nx_edit.specs.Removing.{AreUnnamed, HasNone, OfEntry, NotFreed}
@@ -86,28 +87,28 @@ module _ {D : Type 0} (d : Ghosts D) (entry : DocEntry) (content path : List ℕ
           change_refused d r0 r1 x0 x1 still is_of_content (content_fault content path (settings_of r0).k) (retext content path) entry runs leaves allowed rules (Content content list) (bytes_pages content) path (fits list) r2 x2 wrote kept second writes passed last route r3 x3 e refused
 
       -- the change was made
-      module _ (r3 : Records) (x3 : D) (proxies : List Proxy) (gone : List Far)
-          (sets : ComesTidyWhere d r2 r3 x2 x3 (λ was. MayChangeAlong was (Content content list) (place_of entry.root) 0 path passed last) (ChangesKnown rules None None (Content content list) (place_of entry.root) 0 path proxies gone)) where
-        pub set_none : proxies ≡ [] → HasNone d r0 x0 entry
+      module _ (r3 : Records) (x3 : D) (row : Row) (gone : List Far)
+          (sets : ComesTidyWhere d r2 r3 x2 x3 (λ was. MayChangeAlong was (Content content list) (place_of entry.root) 0 path passed last) (ChangesKnown rules None 0 None (Content content list) (place_of entry.root) 0 path row gone)) where
+        pub set_none : row.proxies ≡ [] → HasNone d r0 x0 entry
         set_none none =
-            none_came d r0 r1 x0 x1 still is_of_content (content_fault content path (settings_of r0).k) (retext content path) entry runs leaves allowed rules (Content content list) (bytes_pages content) path (fits list) r2 x2 wrote kept second writes passed last route r3 x3 proxies gone sets none
+            none_came d r0 r1 x0 x1 still is_of_content (content_fault content path (settings_of r0).k) (retext content path) entry runs leaves allowed rules (Content content list) (bytes_pages content) path (fits list) r2 x2 wrote kept second writes passed last route r3 x3 row gone sets none
 
         -- and then the list of the old content went
         module _ (on : RunsOn r2 r3) (then : KeepsSaved d r2 r3 x2 x3) (third : IsStill d x2 x3) (r4 : Records) (x4 : D) where
           pub set_runs : RunsOn r0 r3
           set_runs =
-              run_on d r0 r1 x0 x1 still is_of_content (content_fault content path (settings_of r0).k) (retext content path) entry runs leaves allowed rules (Content content list) (bytes_pages content) path (fits list) r2 x2 wrote kept second writes passed last route r3 x3 proxies gone sets
+              run_on d r0 r1 x0 x1 still is_of_content (content_fault content path (settings_of r0).k) (retext content path) entry runs leaves allowed rules (Content content list) (bytes_pages content) path (fits list) r2 x2 wrote kept second writes passed last route r3 x3 row gone sets
               on then third r4 x4
 
           pub unfreed : (e : StoreError) → NotFreed d gone e r3 r4 x3 x4 → IsSomeAnd (edit_error e) (λ told. NotSet told r4 x4)
           unfreed e refused =
-              free_refused d r0 r1 x0 x1 still is_of_content (content_fault content path (settings_of r0).k) (retext content path) entry runs leaves allowed rules (Content content list) (bytes_pages content) path (fits list) r2 x2 wrote kept second writes passed last route r3 x3 proxies gone sets
+              free_refused d r0 r1 x0 x1 still is_of_content (content_fault content path (settings_of r0).k) (retext content path) entry runs leaves allowed rules (Content content list) (bytes_pages content) path (fits list) r2 x2 wrote kept second writes passed last route r3 x3 row gone sets
               on then third r4 x4 e refused
 
-          pub set_came : ComesTidyWhere d r3 r4 x3 x4 (λ was. AreUnnamed was gone) (λ was now. MovesRecords [] [] (firsts gone) [] 0 was now) → (proxy : Proxy) (rest : List Proxy) (new : DocEntry) → proxies ≡ proxy ∷ rest → place_of new.root ≡ place_named proxy
+          pub set_came : ComesTidyWhere d r3 r4 x3 x4 (λ was. AreUnnamed was gone) (λ was now. MovesRecords [] [] (firsts gone) [] 0 was now) → (proxy : Proxy) (rest : List Proxy) (new : DocEntry) → row.proxies ≡ proxy ∷ rest → place_of new.root ≡ place_named proxy
               → new.nodes ≡ entry.nodes → EditsDocument d r0 r4 x0 x4 (λ settings document. Splits settings rules (retexted content path document)) true path (nodes_off true path) (bytes_pages content) entry new
           set_came frees proxy rest new one root count =
-              came d r0 r1 x0 x1 still is_of_content (content_fault content path (settings_of r0).k) (retext content path) entry runs leaves allowed rules (Content content list) (bytes_pages content) path (fits list) r2 x2 wrote kept second writes passed last route r3 x3 proxies gone sets
+              came d r0 r1 x0 x1 still is_of_content (content_fault content path (settings_of r0).k) (retext content path) entry runs leaves allowed rules (Content content list) (bytes_pages content) path (fits list) r2 x2 wrote kept second writes passed last route r3 x3 row gone sets
               on then third r4 x4 frees proxy rest new one root set_counts
             where
               set_counts : (document : CutTree) → HasDocument d r0 x0 (place_of entry.root) document → entry.nodes ≡ document_size document → new.nodes ≡ 1 + nodes (retext content path (tree_of document)).below
@@ -115,5 +116,5 @@ module _ {D : Type 0} (d : Ghosts D) (entry : DocEntry) (content path : List ℕ
 
           pub set_keeps : RunsOn r3 r4 → KeepsSaved d r3 r4 x3 x4 → RunsOn r0 r4 × KeepsSaved d r0 r4 x0 x4
           set_keeps more keeps =
-              keeps_on d r0 r1 x0 x1 still is_of_content (content_fault content path (settings_of r0).k) (retext content path) entry runs leaves allowed rules (Content content list) (bytes_pages content) path (fits list) r2 x2 wrote kept second writes passed last route r3 x3 proxies gone sets
+              keeps_on d r0 r1 x0 x1 still is_of_content (content_fault content path (settings_of r0).k) (retext content path) entry runs leaves allowed rules (Content content list) (bytes_pages content) path (fits list) r2 x2 wrote kept second writes passed last route r3 x3 row gone sets
               on then third r4 x4 more keeps

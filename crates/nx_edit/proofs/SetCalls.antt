@@ -17,7 +17,6 @@ use Rattle.nx_records.specs.Refusals.{EndNow}
 use Rattle.nx_records.proofs.LeaveLemmas.{leaves_same, leaves_runs, leaves_saved}
 use Rattle.nx_piece.specs.declared.piece.Far.{Far}
 use Rattle.nx_piece.specs.declared.piece.Piece.{Piece}
-use Rattle.nx_piece.specs.declared.piece.Proxy.{Proxy}
 use Rattle.nx_piece.specs.PieceNode.{IsNearWith, length_with}
 use Rattle.nx_piece.specs.Gapped.{GappedTree}
 use Rattle.nx_piece.specs.Locate.{Inside}
@@ -28,6 +27,7 @@ use Rattle.nx_piece_edits.proofs.ContentsLemmas.{edits_bring_content}
 use Rattle.nx_matrix.specs.declared.rule.Rule.{Rule}
 use Rattle.nx_layouts.specs.Layout.{RecordPlace, Layout}
 use Rattle.nx_layouts.specs.Setting.{near_part, far_part}
+use Rattle.nx_divide.specs.declared.dividing.Row.{Row}
 use Rattle.nx_hold.specs.Changes.{ComesTidyWhere}
 use Rattle.nx_hold.specs.Contents.{bytes_pages}
 use Rattle.nx_hold.specs.Pieces.{HasContent, IsNoProxies, MayName, PieceMap}
@@ -101,10 +101,10 @@ module _ {D : Type 0} (d : Ghosts D) (rules : List Rule) (piece changed : Piece)
       (new_may was may, λ pieces members i possible. set_grows rules piece changed place position path content list s (short_put content list near) pieces members i tidy may.1 possible),
     )
 
-    laid_changed : (above : Option Node) (row : List Proxy) → ComesTidyWhere d r0 r1 x0 x1 (λ was. MayName was changed.body.roots) (PutsGrown rules above changed place row)
-        → ComesTidyWhere d r0 r1 x0 x1 (λ was. MayPutIn was laid piece) (ChangesKnown rules (Some piece) above laid place position path row dropped)
-    laid_changed above row puts =
-        grown_changed d rules laid piece changed dropped place position path r0 r0 r1 x0 x0 x1 (omega arith) (leaves_runs runs (leaves_same {r0 = r0} {r1 = r0} refl)) (leaves_saved {d = d} (leaves_same {r0 = r0} {r1 = r0} refl) none_still) below above row puts
+    laid_changed : (room : ℕ) (above : Option Node) (row : Row) → ComesTidyWhere d r0 r1 x0 x1 (λ was. MayName was changed.body.roots) (PutsGrown rules room above changed place row)
+        → ComesTidyWhere d r0 r1 x0 x1 (λ was. MayPutIn was laid piece) (ChangesKnown rules (Some piece) room above laid place position path row dropped)
+    laid_changed room above row puts =
+        grown_changed d rules laid piece changed dropped place position path r0 r0 r1 x0 x0 x1 (omega arith) (leaves_runs runs (leaves_same {r0 = r0} {r1 = r0} refl)) (leaves_saved {d = d} (leaves_same {r0 = r0} {r1 = r0} refl) none_still) below room above row puts
 
     laid_refused : (e : StoreError) → NotGrown d changed place e r0 r1 x0 x1 → NotChangedKnown d rules (Some piece) laid place position path e r0 r1 x0 x1
     laid_refused e refused =
@@ -112,15 +112,15 @@ module _ {D : Type 0} (d : Ghosts D) (rules : List Rule) (piece changed : Piece)
 
   -- ... as the program has them
   module _ (bytes : List ℕ) (far : Option Far) (s : IsWithContent piece position path bytes far changed) (written : IsWrittenChange (change.Content bytes far)) where
-    pub set_changed : (above : Option Node) (row : List Proxy) → ComesTidyWhere d r0 r1 x0 x1 (λ was. MayName was changed.body.roots) (PutsGrown rules above changed place row)
-        → (put : Put) → IsLaidPut (change.Content bytes far) put → ComesTidyWhere d r0 r1 x0 x1 (λ was. MayPutIn was put piece) (ChangesKnown rules (Some piece) above put place position path row (option_to_list ((s.tree).node).far))
-    set_changed above row puts (shape.Content content list) is =
-        subst (λ (f : Option Far). Changes bytes f) (sym is.1) (subst (λ (b : List ℕ). Changes b (far_part content list)) (sym is.0) (λ t near. laid_changed content list t near above row puts)) s written.0
+    pub set_changed : (room : ℕ) (above : Option Node) (row : Row) → ComesTidyWhere d r0 r1 x0 x1 (λ was. MayName was changed.body.roots) (PutsGrown rules room above changed place row)
+        → (put : Put) → IsLaidPut (change.Content bytes far) put → ComesTidyWhere d r0 r1 x0 x1 (λ was. MayPutIn was put piece) (ChangesKnown rules (Some piece) room above put place position path row (option_to_list ((s.tree).node).far))
+    set_changed room above row puts (shape.Content content list) is =
+        subst (λ (f : Option Far). Changes bytes f) (sym is.1) (subst (λ (b : List ℕ). Changes b (far_part content list)) (sym is.0) (λ t near. laid_changed content list t near room above row puts)) s written.0
       where
         Changes : List ℕ → Option Far → Type 0
         Changes b f = (t : IsWithContent piece position path b f changed) → IsNearWith b f
-            → ComesTidyWhere d r0 r1 x0 x1 (λ was. MayPutIn was (shape.Content content list) piece) (ChangesKnown rules (Some piece) above (shape.Content content list) place position path row (option_to_list ((t.tree).node).far))
-    set_changed above row puts (shape.Child at node) is = absurd is
+            → ComesTidyWhere d r0 r1 x0 x1 (λ was. MayPutIn was (shape.Content content list) piece) (ChangesKnown rules (Some piece) room above (shape.Content content list) place position path row (option_to_list ((t.tree).node).far))
+    set_changed room above row puts (shape.Child at node) is = absurd is
 
     pub set_refused : (e : StoreError) → NotGrown d changed place e r0 r1 x0 x1 → (put : Put) → IsLaidPut (change.Content bytes far) put → NotChangedKnown d rules (Some piece) put place position path e r0 r1 x0 x1
     set_refused e refused (shape.Content content list) is =

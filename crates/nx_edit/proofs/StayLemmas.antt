@@ -1,40 +1,38 @@
 -- A record whose piece stays, and a piece in which the same proxy comes in the place of one.
-use Rattle.std.proofs.Common.{◌≡◌, ℕ, zero, suc, ◌+◌, ◌-◌, ◌≤◌, false, List, [], ◌∷◌, ◌++◌, length, take, drop, slice_index_or, Option, Some, inl, inr, refl, sym, ap, ◌∙◌, subst, arith}
+use Rattle.std.proofs.Common.{◌≡◌, ℕ, zero, suc, ◌+◌, ◌≤◌, false, List, [], ◌∷◌, ◌++◌, length, take, drop, slice_index_or, Option, Some, inr, refl, sym, ap, ◌∙◌, subst, arith}
 use Rattle.std.proofs.lemmas.List.{append_assoc}
 use Rattle.std.specs.List.{slice_get}
-use Rattle.std.proofs.lemmas.Bool.{cases_lt}
 use Rattle.nx_host.specs.declared.disk.Disk.{Ghosts}
 use Rattle.nx_holdings.specs.Holdings.{Held}
 use Rattle.nx_records.specs.declared.records.Records.{Records}
 use Rattle.nx_records.specs.Records.{has_ended, KeepsSaved}
 use Rattle.nx_records.specs.Refusals.{RunsOn}
+use Rattle.nx_piece.specs.declared.piece.Item.{Item}
+use Rattle.nx_piece.specs.declared.piece.Item.TheVariants.{Tree, Run}
 use Rattle.nx_piece.specs.declared.piece.Piece.{Piece}
 use Rattle.nx_piece.specs.declared.piece.Proxy.{Proxy}
-use Rattle.nx_piece.specs.Gapped.{Gapped, End, Grow, Gap, gapped_width, proxies_in}
-use Rattle.nx_piece.specs.Valid.{HaveRoots, IsValidPiece}
-use Rattle.nx_piece_edits.specs.Cutting.{with_row}
-use Rattle.nx_piece_edits.proofs.LeftLemmas.{less_is, not_less}
+use Rattle.nx_piece.specs.Gapped.{Gapped, End, Gap, gapped_width}
+use Rattle.nx_piece.specs.Items.{gapped_of}
+use Rattle.nx_piece.specs.Valid.{AreApart, HaveRoots, IsValidPiece}
+use Rattle.nx_piece_edits.specs.Cutting.{with_items_at}
+use Rattle.nx_piece_edits.proofs.WiderLemmas.{one_stays}
 use Rattle.nx_layouts.specs.Layout.{RecordPlace}
 use Rattle.nx_hold.specs.Pieces.{HoldsPiece}
 use Rattle.nx_hold.specs.Changes.{place_named}
+use Rattle.nx_divide.specs.declared.dividing.Row.{Row}
 use Rattle.nx_nav.specs.declared.routing.PassedRecord.{PassedRecord}
-use Rattle.nx_edit.specs.RowPut.{PassesRow, piece_with_row}
+use Rattle.nx_edit.specs.RowPut.{IsOneProxy, PassesRow, piece_with_row}
 use Rattle.nx_edit.specs.Rows.{PassesLeft, with_left}
 use Rattle.nx_edit.proofs.PassedLemmas.{piece_same}
+use Rattle.nx_edit.proofs.HalfLemmas.{held_valid}
 
--- one proxy in the place of one leaves trees and gaps
-row_of_one : (index : ℕ) (f : Gapped) → with_row index 1 f ≡ f
-row_of_one index End = refl
-row_of_one index (Grow n b s) =
-    elim (cases_lt index (proxies_in b)) [
-      | inl here ↦ less_is index (proxies_in b) (Grow n (with_row index 1 b) s) (Grow n b (with_row (index - proxies_in b) 1 s)) here ∙ ap (λ (f : Gapped). Grow n f s) (row_of_one index b)
-      | inr behind ↦ not_less index (proxies_in b) (Grow n (with_row index 1 b) s) (Grow n b (with_row (index - proxies_in b) 1 s)) behind ∙ ap (λ (f : Gapped). Grow n b f) (row_of_one (index - proxies_in b) s)
-    ]
-row_of_one index (Gap had s) =
-    elim (cases_lt index had) [
-      | inl here ↦ less_is index had (Gap (had - 1 + 1) s) (Gap had (with_row (index - had) 1 s)) here ∙ ap (λ (c : ℕ). Gap c s) (let e : had - 1 + 1 ≡ had = omega (arith, here) in e)
-      | inr behind ↦ not_less index had (Gap (had - 1 + 1) s) (Gap had (with_row (index - had) 1 s)) behind ∙ ap (λ (f : Gapped). Gap had f) (row_of_one (index - had) s)
-    ]
+-- items that are one run
+pub one_run : (items : List Item) → gapped_of items ≡ Gap 1 End → items ≡ Run 1 ∷ []
+one_run [] e = absurd (cc)
+one_run (Tree t ∷ items) e = absurd (cc)
+one_run (Run count ∷ []) e = cc
+one_run (Run count ∷ Tree t ∷ items) e = absurd (cc)
+one_run (Run count ∷ Run more ∷ items) e = absurd (cc)
 
 back_there : {A : Type 0} (xs : List A) (i : ℕ) (x : A) → slice_get xs i ≡ Some x → take i xs ++ (x ∷ drop (suc i) xs) ≡ xs
 back_there [] zero x e = absurd (cc)
@@ -46,25 +44,26 @@ put_back : (xs : List Proxy) (i : ℕ) (x : Proxy) → slice_get xs i ≡ Some x
 put_back xs i x e = ap (λ (n : ℕ). take i xs ++ (x ∷ drop n xs)) (let s : i + 1 ≡ suc i = omega arith in s) ∙ back_there xs i x e
 
 -- a piece is the same where a proxy comes in its own place
-pub row_stays : (piece : Piece) (index : ℕ) (row : List Proxy) (proxy : Proxy) → slice_get piece.proxies index ≡ Some proxy → row ≡ proxy ∷ [] → piece_with_row index row piece ≡ piece
-row_stays piece index row proxy there is =
-    ap (λ (ps : List Proxy). piece_with_row index ps piece) is
-    ∙ piece_same (piece_with_row index (proxy ∷ []) piece) piece (row_of_one index piece.body.roots)
-    (append_assoc (take index piece.proxies) (proxy ∷ []) (drop (index + 1) piece.proxies) ∙ put_back piece.proxies index proxy there)
+pub row_stays : (piece : Piece) (index : ℕ) (row : Row) (proxy : Proxy) → AreApart piece.body.roots → slice_get piece.proxies index ≡ Some proxy → IsOneProxy row proxy → piece_with_row index row piece ≡ piece
+row_stays piece index row proxy apart there is =
+    piece_same (piece_with_row index row piece) piece (ap (λ (items : Gapped). with_items_at index items piece.body.roots) is.0 ∙ one_stays index piece.body.roots apart)
+    (ap (λ (ps : List Proxy). take index piece.proxies ++ ps ++ drop (index + 1) piece.proxies) is.1
+    ∙ append_assoc (take index piece.proxies) (proxy ∷ []) (drop (index + 1) piece.proxies)
+    ∙ put_back piece.proxies index proxy there)
 
 pub left_stays : (piece : Piece) (index : ℕ) (proxy : Proxy) → slice_get piece.proxies index ≡ Some proxy → with_left index (Some proxy) piece ≡ piece
 left_stays piece index proxy there = piece_same (with_left index (Some proxy) piece) piece refl (put_back piece.proxies index proxy there)
 
--- a row of one proxy
-pub one_alone : (row : List Proxy) (proxy other : Proxy) → length row ≡ 1 → slice_index_or row 0 other ≡ proxy → row ≡ proxy ∷ []
-one_alone [] proxy other one same = absurd (omega (arith, one))
-one_alone (x ∷ []) proxy other one same = ap (λ (p : Proxy). p ∷ []) same
-one_alone (x ∷ y ∷ row) proxy other one same = absurd (omega (arith, one))
+-- a list of one proxy
+pub one_proxy : (row : List Proxy) (proxy other : Proxy) → length row ≡ 1 → slice_index_or row 0 other ≡ proxy → row ≡ proxy ∷ []
+one_proxy [] proxy other one same = absurd (omega (arith, one))
+one_proxy (x ∷ []) proxy other one same = ap (λ (p : Proxy). p ∷ []) same
+one_proxy (x ∷ y ∷ row) proxy other one same = absurd (omega (arith, one))
 
 -- the record of a piece that a path leaves by a proxy stays, where the row is this proxy
-pub row_kept : (was : Held) (place : RecordPlace) (passed : PassedRecord) (row put : List Proxy) (own : Proxy) → row ≡ passed.proxy ∷ [] → place_named own ≡ place → own.roots ≡ passed.roots → put ≡ own ∷ [] → PassesRow place passed row put was was
+pub row_kept : (was : Held) (place : RecordPlace) (passed : PassedRecord) (row put : Row) (own : Proxy) → IsOneProxy row passed.proxy → place_named own ≡ place → own.roots ≡ passed.roots → IsOneProxy put own → PassesRow place passed row put was was
 row_kept was place passed row put own alone named roots is piece holds at =
-    let same : piece ≡ piece_with_row passed.index row piece = sym (row_stays piece passed.index row passed.proxy at.0 alone) in
+    let same : piece ≡ piece_with_row passed.index row piece = sym (row_stays piece passed.index row passed.proxy (held_valid was place piece holds).body.apart at.0 alone) in
     (own, is, roots ∙ at.1 ∙ ap (λ (p : Piece). gapped_width p.body.roots) same, inr (refl, named, subst (λ (p : Piece). HoldsPiece was place p) same holds))
 
 -- so does the record where what is left of an interval has the proxy that it had

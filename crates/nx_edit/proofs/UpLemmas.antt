@@ -1,5 +1,5 @@
 -- A change below an interval whose record the path leads into: whatever row came in the place of the interval below, the record above has it.
-use Rattle.std.proofs.Common.{◌≡◌, ℕ, zero, suc, ◌-◌, ◌<◌, ◌≤◌, true, List, [], ◌∷◌, ◌++◌, length, Option, Some, sym, ap, ◌∙◌, subst, arith}
+use Rattle.std.proofs.Common.{◌≡◌, ℕ, zero, suc, ◌+◌, ◌-◌, ◌*◌, ◌<◌, ◌≤◌, true, List, [], ◌∷◌, ◌++◌, length, Option, Some, refl, sym, ap, ◌∙◌, subst, arith}
 use Rattle.std.specs.Prelude.{IfSome}
 use Rattle.nx_tree.specs.declared.node.Node.{Node}
 use Rattle.nx_tree.specs.Forest.{OrderedTree, nodes}
@@ -7,33 +7,29 @@ use Rattle.nx_tree.specs.Document.{most_nodes}
 use Rattle.nx_holdings.specs.Holdings.{Held}
 use Rattle.nx_piece.specs.declared.piece.Far.{Far}
 use Rattle.nx_piece.specs.declared.piece.Piece.{Piece}
-use Rattle.nx_piece.specs.declared.piece.Proxy.{Proxy}
-use Rattle.nx_piece.specs.Gapped as gapped
-use Rattle.nx_piece.specs.Gapped.{Gapped, End, Gap}
+use Rattle.nx_piece.specs.Gapped.{gapped_weight}
+use Rattle.nx_piece.specs.Valid.{AreNear}
 use Rattle.nx_matrix.specs.declared.rule.Rule.{Rule}
 use Rattle.nx_cuts.specs.Cut.{CutForest, Bare, Grown, Kept, width}
 use Rattle.nx_cuts.specs.Rows.{changed_row}
-use Rattle.nx_cuts.proofs.DeepLemmas.{width-changed}
-use Rattle.nx_layouts.specs.Layout.{RecordPlace, LaidNode, Layout, laid_forest, laid_weight, piece_of, proxies_of, without_places}
+use Rattle.nx_layouts.specs.Layout.{RecordPlace, LaidNode, Layout, laid_forest, piece_body, piece_of, proxies_of, without_places}
 use Rattle.nx_layouts.specs.Replace.{replaced_at, above_at}
 use Rattle.nx_layouts.specs.Cutting.{member_tree, LeadsInto, StandsIn}
-use Rattle.nx_hold.specs.Changes.{place_named}
 use Rattle.nx_hold.specs.Contents.{near_pages}
 use Rattle.nx_hold.specs.Pieces.{IsTidy, PieceMap}
-use Rattle.nx_layouts.proofs.DrawnLemmas.{drawn_wide}
-use Rattle.nx_drawn.proofs.GrowthLemmas.{width_light}
+use Rattle.nx_divide.specs.declared.dividing.Row.{Row}
 use Rattle.nx_edit.specs.Editing.{places_off}
-use Rattle.nx_edit.specs.Rows.{row_nodes, IsHeldInterval, IsReplaced}
+use Rattle.nx_edit.specs.Rows.{row_nodes, IsHeldInterval}
 use Rattle.nx_edit.specs.Changing as shape
-use Rattle.nx_edit.specs.Passing.{PutsOrStays, put_needs}
-use Rattle.nx_edit.specs.Changing.{Put, changed, kept_around, put_lists, way_of, MayBeMade, changed_interval, IsPossibleIn, AreSplitOf, change_needs}
-use Rattle.nx_edit.specs.RowPut.{MayHaveRow, piece_with_row}
+use Rattle.nx_edit.specs.Passing.{put_needs}
+use Rattle.nx_edit.specs.Changing.{Put, changed, kept_around, put_lists, way_of, MayBeMade, changed_interval, IsPossibleIn, AreSplitOf, IsReplacedByRow, change_needs}
+use Rattle.nx_edit.specs.RowPut.{IsPutAlone, MayHaveRow, piece_with_row}
 use Rattle.nx_edit.proofs.ChangedLemmas.{interval_changed, interval_changed_inside, changed_below}
 use Rattle.nx_edit.proofs.FarLemmas.{near-append}
 use Rattle.nx_edit.proofs.OwnLemmas.{nodes_alone}
-use Rattle.nx_edit.proofs.PassedLemmas.{IsKeptAround, all_around, off_around, into_member, less_index, there, place_inside}
+use Rattle.nx_edit.proofs.PassedLemmas.{IsKeptAround, all_around, off_around, into_member, there, place_inside}
 use Rattle.nx_edit.proofs.AwayLemmas.{marked, marked_is}
-use Rattle.nx_edit.proofs.RefillLemmas.{row_may_stand, row_few, row_put}
+use Rattle.nx_edit.proofs.RefillLemmas.{replaced_as, row_may_stand, row_few, row_put}
 
 -- a way that leads further leads into the same interval
 leads_longer : (more : List ℕ) (index member : ℕ) (rest : List ℕ) (inside : Layout) (position : ℕ) (path : List ℕ) (row : Layout) → LeadsInto index member rest inside position path row → LeadsInto index member (rest ++ more) inside position (path ++ more) row
@@ -57,9 +53,6 @@ module _ (rules : List Rule) (put : Put) (was : Held) (pieces : PieceMap was) (k
   stands : StandsIn k index inside members
   stands = there was pieces known place position path most_nodes members i index next rest inside into
 
-  less : index < length (proxies_of members)
-  less = less_index was pieces known place position path most_nodes members i index next rest inside into
-
   -- the members below with the change, and the row with them
   abbrev below : Layout
   below = marked (changed_row next (changed rules put rest) (without_places inside))
@@ -73,16 +66,6 @@ module _ (rules : List Rule) (put : Put) (was : Held) (pieces : PieceMap was) (k
   whole_is : Kept tt (without_places middle) Bare ≡ changed_interval rules put position path members
   whole_is =
       interval_changed_inside (changed rules put) (changed_below rules put) index next rest inside below place position path place members into (marked_is (changed_row next (changed rules put rest) (without_places inside)))
-
-  some_wide : 1 ≤ width inside
-  some_wide = let member = into_member index next rest inside position path members into in omega (arith, member)
-
-  wide : width below ≡ width inside
-  wide =
-      sym (drawn_wide below) ∙ ap (λ (c : CutForest). width c) (marked_is (changed_row next (changed rules put rest) (without_places inside))) ∙ width-changed next (changed rules put rest) (without_places inside) ∙ drawn_wide inside
-
-  some_below : 1 ≤ width below
-  some_below = let s = some_wide in let w = wide in omega (arith, s, w)
 
   -- how many nodes they have
   fewer_below : row_nodes (changed_interval rules put next rest inside) ≤ row_nodes (changed_interval rules put position path members)
@@ -118,34 +101,25 @@ module _ (rules : List Rule) (put : Put) (was : Held) (pieces : PieceMap was) (k
   }
 
   -- the interval below was replaced
-  module _ (most : k ≤ 256) (possible : IsPossibleIn k rules put position path members) {mid : Held} (tidy : IsTidy was) (node : Node) {gone : List Far} (proxies : List Proxy)
-      (r : IsReplaced k (AreSplitOf was.settings rules (Some node) (changed_interval rules put next rest inside)) (place_inside was pieces known place position path most_nodes members i index next rest inside into) inside (kept_around put next rest inside) (put_lists put) (places_off true (next ∷ way_of put rest) inside) proxies gone was mid) where
-    few_below : width below ≤ 257
-    few_below =
-        let parts = stands.light (i.light).3 in
-        let light : laid_weight inside ≤ k = parts.2 in
-        let few = width_light (without_places inside) parts.1 in
-        let drawn = drawn_wide inside in
-        let w = wide in
-        omega (arith, light, few, drawn, w, most)
+  module _ (possible : IsPossibleIn k rules put position path members) {mid : Held} (tidy : IsTidy was) (node : Node) (room : ℕ) (room_is : room ≡ k - gapped_weight (piece_body members)) {gone : List Far} (row : Row)
+      (r : IsReplacedByRow k (AreSplitOf was.settings rules room (Some node) (changed_interval rules put next rest inside)) (place_inside was pieces known place position path most_nodes members i index next rest inside into) inside (kept_around put next rest inside) (put_lists put) (places_off true (next ∷ way_of put rest) inside) row gone was mid) where
+    -- ... as it would have other members
+    abbrev is_split : IsReplacedByRow k (AreSplitOf was.settings rules room (Some node) (Kept tt (without_places below) Bare)) (place_inside was pieces known place position path most_nodes members i index next rest inside into) inside (kept_around put next rest inside) (put_lists put) (places_off true (next ∷ way_of put rest) inside) row gone was mid
+    is_split = (replaced_as refl (λ c h. subst (λ (old : CutForest). AreSplitOf was.settings rules room (Some node) old c) (sym below_is) h) r.0, r.1)
 
-    is_split : IsReplaced k (AreSplitOf was.settings rules (Some node) (Kept tt (without_places below) Bare)) (place_inside was pieces known place position path most_nodes members i index next rest inside into) inside (kept_around put next rest inside) (put_lists put) (places_off true (next ∷ way_of put rest) inside) proxies gone was mid
-    is_split =
-        subst (λ (c : CutForest). IsReplaced k (AreSplitOf was.settings rules (Some node) c) (place_inside was pieces known place position path most_nodes members i index next rest inside into) inside (kept_around put next rest inside) (put_lists put) (places_off true (next ∷ way_of put rest) inside) proxies gone was mid) (sym below_is) r
-
-    pub may_have : (piece : Piece) → piece ≡ piece_of members → MayHaveRow piece proxies
+    pub may_have : (piece : Piece) → piece ≡ piece_of members → MayHaveRow k piece row
     may_have piece is =
-        row_may_stand rules was pieces known place position path members i index next rest inside into below some_below few_below (changed_interval rules put position path members) whole_is most possible.few node proxies is_split piece is
+        row_may_stand rules was pieces known place position path members i index next rest inside into below (changed_interval rules put position path members) whole_is possible.few node room room_is row is_split piece is
 
-    pub change_few : (piece : Piece) → piece ≡ piece_of members → mid.free < put_needs (piece_with_row index proxies piece) → was.free < change_needs rules put position path members
-    change_few piece is few =
-        row_few rules was pieces known place position path members i index next rest inside into below some_below few_below (changed_interval rules put position path members) whole_is most possible.few (way_of put path) (way_of put rest)
-        (way_leads put index next rest inside position path members into) tidy node proxies is_split around_it piece is few
+    module _ (near : AreNear row.items) (left : was.free + length row.proxies ≤ mid.free + (row_nodes (without_places inside) + 2 * row_nodes (without_places (r.0).row) + near_pages (kept_around put next rest inside))) where
+      pub change_few : (piece : Piece) → piece ≡ piece_of members → mid.free < put_needs (piece_with_row index row piece) → was.free < change_needs rules put position path members
+      change_few piece is few =
+          row_few rules was pieces known place position path members i index next rest inside into below (changed_interval rules put position path members) whole_is possible.few (way_of put path) (way_of put rest)
+          (way_leads put index next rest inside position path members into) tidy node room room_is row near is_split left around_it piece is few
 
-    module _ (above : Option Node) (above_is : above_at index above members ≡ Some node) where
-      pub away_changed : {now : Held} (tidier : IsTidy mid) (piece : Piece) → piece ≡ piece_of members → (proxy : Proxy) → proxy.roots ≡ gapped.gapped_width (piece_with_row index proxies piece).body.roots
-          → PutsOrStays place (place_named proxy) (piece_with_row index proxies piece) mid now
-          → IsReplaced k (AreSplitOf was.settings rules above (changed_interval rules put position path members)) place members (kept_around put position path members) (put_lists put) (places_off true (position ∷ way_of put path) members) (proxy ∷ []) gone was now
-      away_changed tidier piece is proxy roots puts =
-          row_put rules was pieces known place position path members i index next rest inside into below some_below few_below (changed_interval rules put position path members) whole_is most possible.few (way_of put path) (way_of put rest)
-          (way_leads put index next rest inside position path members into) tidy node proxies is_split around_it above above_is tidier piece is proxy roots puts
+      pub away_changed : (outer : ℕ) (above : Option Node) (above_is : above_at index above members ≡ Some node) {now : Held} (tidier : IsTidy mid) (piece : Piece) → piece ≡ piece_of members → (own : Row) → IsPutAlone place (piece_with_row index row piece) own mid now
+          → (s : IsReplacedByRow k (AreSplitOf was.settings rules outer above (changed_interval rules put position path members)) place members (kept_around put position path members) (put_lists put) (places_off true (position ∷ way_of put path) members) own gone was now)
+          × (was.free + length own.proxies ≤ now.free + (row_nodes (without_places members) + 2 * row_nodes (without_places (s.0).row) + near_pages (kept_around put position path members)))
+      away_changed outer above above_is tidier piece is own puts =
+          row_put rules was pieces known place position path members i index next rest inside into below (changed_interval rules put position path members) whole_is possible.few (way_of put path) (way_of put rest)
+          (way_leads put index next rest inside position path members into) tidy node room room_is row near is_split left around_it outer above above_is tidier piece is own puts

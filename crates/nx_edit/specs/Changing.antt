@@ -15,18 +15,18 @@ use Rattle.nx_records.specs.declared.error.StoreError.{StoreError}
 use Rattle.nx_records.specs.declared.error.StoreError.TheVariants as store
 use Rattle.nx_piece.specs.declared.piece.Far.{Far}
 use Rattle.nx_piece.specs.declared.piece.Piece.{Piece}
-use Rattle.nx_piece.specs.declared.piece.Proxy.{Proxy}
 use Rattle.nx_piece.specs.PieceNode.{PieceNode, IsFarWith, IsNearWith, MayBeFar}
 use Rattle.nx_matrix.specs.declared.rule.Rule.{Rule}
-use Rattle.nx_cuts.specs.Cut.{CutForest, CutTree, Bare, Grown, Kept, forest}
+use Rattle.nx_cuts.specs.Cut.{CutForest, CutTree, Bare, Kept, forest, part_weight}
 use Rattle.nx_cuts.specs.Rows.{changed_row}
-use Rattle.nx_layouts.specs.Layout.{RecordPlace, LaidNode, Layout, in_record, nodes_in, without_places}
+use Rattle.nx_layouts.specs.Layout.{RecordPlace, LaidNode, Layout, in_record, nodes_in, piece_body, without_places}
 use Rattle.nx_layouts.specs.Cutting.{member_tree}
 use Rattle.nx_layouts.specs.Setting.{near_part, far_part}
 use Rattle.nx_hold.specs.Contents.{near_pages}
 use Rattle.nx_hold.specs.Pieces.{IsNoProxies, IsTidy, MayName, PieceMap}
 use Rattle.nx_drawn.specs.Edits.{inserted, retexted}
 use Rattle.nx_drawn.specs.Splits.{SplitsRow}
+use Rattle.nx_divide.specs.declared.dividing.Row.{Row}
 use Rattle.nx_nav.specs.declared.routing.PassedRecord.{PassedRecord}
 use Rattle.nx_nav.specs.Route.{HasRoute}
 use Rattle.nx_edit.specs.declared.changing.Change.{Change}
@@ -97,27 +97,27 @@ pub record IsPossibleIn (k : ℕ) (rules : List Rule) (put : Put) (position : �
   pub made : IfSome (member_tree (forest (without_places members)) position path) (λ there. MayBeMade k put there)
   pub few : row_nodes (changed_interval rules put position path members) ≤ most_nodes
 
--- all of these trees are members of intervals
-abbrev pub AreAllKept : CutForest → Type 0
-AreAllKept Bare = Unit {0}
-AreAllKept (Grown node below beside) = ⊥
-AreAllKept (Kept mark members beside) = AreAllKept beside
+-- These trees and intervals are a row of members in which each part that weighs more than k is split. `above` is the node above them, and what of them joins its part has so much room there.
+abbrev pub AreSplitOf : Settings → List Rule → (room : ℕ) (above : Option Node) → (old new : CutForest) → Type 0
+AreSplitOf settings rules room above old new = SplitsRow settings rules room above old new × (part_weight new ≤ room)
 
--- These intervals are a row of members in which each part that weighs more than k is split. `above` is the node above them.
-abbrev pub AreSplitOf : Settings → List Rule → (above : Option Node) → (old new : CutForest) → Type 0
-AreSplitOf settings rules above old new = SplitsRow settings rules above old new × AreAllKept new
+-- The interval became a row that is allowed, and this is what the piece above has of it: runs of proxies, and the trees that join its part.
+abbrev pub IsReplacedByRow : (k : ℕ) (Becomes : CutForest → Type 0) (place : RecordPlace) (members : Layout) (kept : List LaidNode) (put : List ℕ) (stay : List RecordPlace) (row : Row) (gone : List Far) (was now : Held) → Type 0
+IsReplacedByRow k Becomes place members kept put stay row gone was now = (r : IsReplaced k Becomes place members kept put stay row.proxies gone was now) × (row.items ≡ piece_body r.row)
 
 -- the nodes of an interval that a change keeps
 abbrev pub kept_around : Put → (position : ℕ) (path : List ℕ) (members : Layout) → List LaidNode
 kept_around (Content content list) position path members = nodes_off true (position ∷ path) members
 kept_around (Child at node) position path members = nodes_in members
 
--- Whatever members the interval has whose record stands there, and whose piece may be known: the change is made of the node at the path, which begins with the position of a member, where it may be. A part that weighs more than k then is split.
-abbrev pub ChangesKnown : List Rule → (known : Option Piece) → (above : Option Node) → Put → (place : RecordPlace) (position : ℕ) (path : List ℕ) (proxies : List Proxy) (gone : List Far) → (was now : Held) → Type 0
-ChangesKnown rules known above put place position path proxies gone was now =
-    (pieces : PieceMap was) (members : Layout) → IsHeldInterval was pieces known place position path most_nodes members → IsPossibleIn (was.settings).k rules put position path members
-    → IsReplaced (was.settings).k (AreSplitOf was.settings rules above (changed_interval rules put position path members)) place members (kept_around put position path members) (put_lists put) (places_off true (position ∷ way_of put path) members)
-    proxies gone was now
+-- Whatever members the interval has whose record stands there, and whose piece may be known: the change is made of the node at the path, which begins with the position of a member, where it may be. A part that weighs more than k then is split. What joins the part above may be named there, whatever the records hold; and of the pages that may be needed one for each proxy of the row is left.
+abbrev pub ChangesKnown : List Rule → (known : Option Piece) → (room : ℕ) (above : Option Node) → Put → (place : RecordPlace) (position : ℕ) (path : List ℕ) (row : Row) (gone : List Far) → (was now : Held) → Type 0
+ChangesKnown rules known room above put place position path row gone was now =
+    MayName now row.items
+    × ((pieces : PieceMap was) (members : Layout) → IsHeldInterval was pieces known place position path most_nodes members → IsPossibleIn (was.settings).k rules put position path members
+    → (r : IsReplacedByRow (was.settings).k (AreSplitOf was.settings rules room above (changed_interval rules put position path members)) place members (kept_around put position path members) (put_lists put)
+    (places_off true (position ∷ way_of put path) members) row gone was now)
+    × (was.free + length row.proxies ≤ now.free + (row_nodes (without_places members) + 2 * row_nodes (without_places (r.0).row) + near_pages (kept_around put position path members))))
 
 -- ... and the far contents of the piece may be named
 abbrev pub MayPutIn : Held → Put → Piece → Type 0

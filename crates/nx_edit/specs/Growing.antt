@@ -1,5 +1,5 @@
 -- A piece that an edit made heavier, in the place of its record, and what stands there where it outweighs K.
-use Rattle.std.specs.Prelude.{◌≡◌, ℕ, ◌+◌, ◌*◌, ◌<◌, ◌≤◌, false, List, [], ◌∷◌, Option}
+use Rattle.std.specs.Prelude.{◌≡◌, ℕ, ◌+◌, ◌*◌, ◌<◌, ◌≤◌, false, List, [], ◌∷◌, length, Option}
 use Rattle.nx_host.specs.Disk.{Rose}
 use Rattle.nx_host.specs.declared.disk.Disk.{Ghosts}
 use Rattle.nx_tree.specs.declared.node.Node.{Node}
@@ -11,15 +11,15 @@ use Rattle.nx_records.specs.declared.records.Records.{Records}
 use Rattle.nx_records.specs.declared.error.StoreError.{StoreError}
 use Rattle.nx_records.specs.declared.error.StoreError.TheVariants as store
 use Rattle.nx_piece.specs.declared.piece.Piece.{Piece}
-use Rattle.nx_piece.specs.declared.piece.Proxy.{Proxy}
 use Rattle.nx_matrix.specs.declared.rule.Rule.{Rule}
 use Rattle.nx_cuts.specs.Cut.{Bare, Kept}
 use Rattle.nx_layouts.specs.Layout.{RecordPlace, Layout, AreHeld, ArePlacedOnce, nodes_in, piece_body, piece_of, places_of, without_places}
 use Rattle.nx_hold.specs.Contents.{near_pages}
 use Rattle.nx_hold.specs.Pieces.{HoldsPiece, IsTidy, MayName, PieceMap, held_by}
 use Rattle.nx_drawn.specs.Growth.{MayBeHeavy}
-use Rattle.nx_edit.specs.Changing.{AreSplitOf}
-use Rattle.nx_edit.specs.Rows.{row_nodes, IsReplaced}
+use Rattle.nx_divide.specs.declared.dividing.Row.{Row}
+use Rattle.nx_edit.specs.Changing.{AreSplitOf, IsReplacedByRow}
+use Rattle.nx_edit.specs.Rows.{row_nodes}
 
 -- The piece is that of an interval with these members, which may outweigh K as far as one node more makes it, and has no more nodes than a document. The intervals below it are held in records that stand once each, and another than these is at the place, with any piece; and the lists of its far contents may be named.
 pub record IsGrownMembers (now : Held) (pieces : PieceMap now) (piece : Piece) (place : RecordPlace) (members : Layout) : Type 0 where
@@ -31,12 +31,13 @@ pub record IsGrownMembers (now : Held) (pieces : PieceMap now) (piece : Piece) (
   pub heavy : MayBeHeavy (now.settings).k ((now.settings).k + (now.settings).k) ((now.settings).k + 1) (without_places members)
   pub few : row_nodes (without_places members) ≤ most_nodes
 
--- Whatever members the piece is of: their interval stands in the place of the record, split where it outweighs K, and all records below it stay. Contents that are too long for their items come into lists. At most two pages fewer are free for each of its nodes, and those of such contents. `above` is the node above it.
-abbrev pub PutsGrown : List Rule → (above : Option Node) → Piece → RecordPlace → (proxies : List Proxy) → (was now : Held) → Type 0
-PutsGrown rules above piece place proxies was now =
-    (pieces : PieceMap was) (members : Layout) → IsGrownMembers was pieces piece place members
-    → (r : IsReplaced (was.settings).k (AreSplitOf was.settings rules above (Kept tt (without_places members) Bare)) place members (nodes_in members) [] (places_of members) proxies [] was now)
-    × (was.free ≤ now.free + (2 * row_nodes (without_places r.row) + near_pages (nodes_in members)))
+-- Whatever members the piece is of: their interval stands in the place of the record, split where it outweighs K, and all records below it stay. Contents that are too long for their items come into lists. At most two pages fewer are free for each of its nodes, and those of such contents, and of these a page for each proxy of the row is left. `above` is the node above it, whose part has so much room; what joins that part may be named there, whatever the records hold.
+abbrev pub PutsGrown : List Rule → (room : ℕ) (above : Option Node) → Piece → RecordPlace → (row : Row) → (was now : Held) → Type 0
+PutsGrown rules room above piece place row was now =
+    MayName now row.items
+    × ((pieces : PieceMap was) (members : Layout) → IsGrownMembers was pieces piece place members
+    → (r : IsReplacedByRow (was.settings).k (AreSplitOf was.settings rules room above (Kept tt (without_places members) Bare)) place members (nodes_in members) [] (places_of members) row [] was now)
+    × (was.free + length row.proxies ≤ now.free + (2 * row_nodes (without_places (r.0).row) + near_pages (nodes_in members))))
 
 -- how many pages may be needed
 abbrev pub grown_needs : (members : Layout) → ℕ

@@ -78,7 +78,7 @@ pub fn insert<D: Disk>(
         Ok(changed) => changed,
         Err(error) => return Err(edit_error(error)),
     };
-    match first_of(&changed.row) {
+    match first_of(&changed.row.proxies) {
         None => Err(no_document(records, entry.root.page)),
         Some(proxy) => Ok(entry_at(proxy, entry.nodes + 1)),
     }

@@ -9,6 +9,7 @@ ghost use Rattle.nx_records.specs.Refusals.{RunsOn};
 ghost use Rattle.nx_piece.specs.Valid.{IsValidPiece};
 ghost use Rattle.nx_hold.specs.Changes.{ComesTidyWhere, place_of};
 ghost use Rattle.nx_matrix.specs.declared.rule.Entry.TheVariants as ask;
+ghost use Rattle.nx_divide.specs.Dividing.{IsRowWithin};
 ghost use Rattle.nx_edit.specs.Changing as put;
 ghost use Rattle.nx_edit.specs.Changing.{ChangesKnown, IsWrittenNode, MayPutIn, NotChangedKnown};
 ghost use Rattle.nx_edit.specs.Planting.{IsWithin, IsAskedThere};
@@ -16,18 +17,19 @@ ghost use Rattle.nx_edit.specs.Planting.{IsWithin, IsAskedThere};
 use crate::changing::{put_row, tree_at};
 use crate::growing::put_grown;
 use crate::removing::damaged;
+use nx_divide::Row;
 use nx_hold::read_piece;
 use nx_host::Disk;
 use nx_matrix::Matrix;
-use nx_piece::{Piece, PieceTree, Proxies, Proxy};
+use nx_piece::{Piece, PieceTree, Proxy, weight};
 use nx_piece_edits::plant_root;
 use nx_records::{Records, Rid, StoreError};
 use nx_tree::Node;
 use std::alloc::Global;
 
 // Puts the node below the one that the path leads to, a node of the record's own, whose piece this is, into the interval
-// of a proxy, behind so many of its members. It answers the proxies of what comes in the place of the upper interval.
-// `above` is the node above that. The piece is read again once the record below is put.
+// of a proxy, behind so many of its members. It answers what the piece above has in the place of the upper interval.
+// `above` is the node above that, whose part has so much room. The piece is read again once the record below is put.
 pub(crate) fn join_interval<D: Disk>(
     alloc: Global,
     records: &mut Records,
@@ -35,6 +37,7 @@ pub(crate) fn join_interval<D: Disk>(
     matrix: &Matrix,
     rid: Rid,
     above: Option<&Node>,
+    room: u32,
     piece: Piece,
     member: u16,
     path: &[u32],
@@ -43,16 +46,18 @@ pub(crate) fn join_interval<D: Disk>(
     index: u32,
     before: u16,
     leaf: PieceTree,
-) -> Result<Proxies, StoreError>
+) -> Result<Row, StoreError>
     requires runs { has_ended records.old ≡ false }
     requires valid { IsValidPiece piece }
     requires within { IsWithin piece member path.now position proxy index before }
     requires light { node_weight leaf.node ≤ (settings_of records.old).k }
     requires written { IsWrittenNode leaf.node }
     requires asked { IsAskedThere matrix.now piece member path.now leaf.node.node ask.Free }
+    requires room { room ≤ 256 }
     ensures still { IsStill D.Disk disk.old disk.new }
+    ensures row { IfOk result (λ row. IsRowWithin 256 row) }
     ensures ok { IfOk result (λ row. (node : LaidNode) → leaf.node ≡ in_record node → ComesTidyWhere D.Disk records.old records.new disk.old disk.new (λ was. MayPutIn was (put.Child position node) piece)
-        (ChangesKnown matrix.now (Some piece) (option_copied above.entry) (put.Child position node) (place_of rid) member path.now row [])) }
+        (ChangesKnown matrix.now (Some piece) room (option_copied above.entry) (put.Child position node) (place_of rid) member path.now row [])) }
     ensures keeps { OnOk result (RunsOn records.old records.new × KeepsSaved D.Disk records.old records.new disk.old disk.new × HasChanges records.new) }
     ensures refused { IfErr result (λ e. (node : LaidNode) → leaf.node ≡ in_record node → NotChangedKnown D.Disk matrix.now (Some piece) (put.Child position node) (place_of rid) member path.now e records.old records.new disk.old disk.new) }
 {
@@ -68,10 +73,20 @@ pub(crate) fn join_interval<D: Disk>(
         return Err(StoreError::Memory);
     };
     let parent = &tree_at(&piece, member, path).node;
-    let row = put_grown(alloc, records, disk, matrix, below, Some(parent), inner)?;
+    let left = records.settings().k.saturating_sub(weight(&piece.body));
+    let row = put_grown(
+        alloc,
+        records,
+        disk,
+        matrix,
+        below,
+        Some(parent),
+        left,
+        inner,
+    )?;
     let upper = read_piece(alloc, records, disk, rid)?;
     if upper.proxies.len() <= index as usize {
         return Err(damaged(records, rid.page));
     }
-    put_row(alloc, records, disk, rid, upper, index, row.as_slice())
+    put_row(alloc, records, disk, rid, upper, index, row)
 }

@@ -11,6 +11,7 @@ ghost use Rattle.nx_records.specs.Refusals.{RunsOn, NotStored};
 ghost use Rattle.nx_piece.specs.Valid.{IsPiece, IsValidPiece};
 ghost use Rattle.nx_hold.specs.Changes.{ComesTidy, ComesTidyWhere, piece_needs, place_of};
 ghost use Rattle.nx_matrix.specs.declared.rule.Entry.TheVariants as ask;
+ghost use Rattle.nx_divide.specs.Dividing.{IsRowWithin};
 ghost use Rattle.nx_edit.specs.Changing as put;
 ghost use Rattle.nx_edit.specs.Changing.{ChangesKnown, IsWrittenNode, MayPutIn, NotChangedKnown};
 ghost use Rattle.nx_edit.specs.Parting.{HavePartRoots, IsRecordParted, IsNodePlaced, IsPlacedAlone, IsPlacedBetween, NotParted, alone_piece};
@@ -20,19 +21,20 @@ use crate::growing::put_grown;
 use crate::making::make_far;
 use crate::planting::piece_alone;
 use crate::removing::damaged;
+use nx_divide::Row;
 use nx_hold::{add_piece, read_piece, update_piece};
 use nx_host::Disk;
 use nx_lists::NoMemory;
 use nx_matrix::{Entry, Matrix};
-use nx_piece::{Piece, PieceTree, Proxies, Proxy};
+use nx_piece::{Piece, PieceTree, Proxy};
 use nx_piece_edits::{divide_roots, plant_node, replace_by_row};
 use nx_records::{Records, Rid, StoreError};
 use nx_tree::Node;
 use std::alloc::Global;
 
 // Puts the node below the one that the path leads to, a node of the record's own, whose piece this is, into the interval
-// of a proxy, behind so many of its members, so that it becomes two. It answers the proxies of what comes in the place of
-// the upper interval. `above` is the node above that.
+// of a proxy, behind so many of its members, so that it becomes two. It answers what the piece above has in the place of
+// the upper interval. `above` is the node above that, whose part has so much room.
 pub(crate) fn divide_interval<D: Disk>(
     alloc: Global,
     records: &mut Records,
@@ -40,6 +42,7 @@ pub(crate) fn divide_interval<D: Disk>(
     matrix: &Matrix,
     rid: Rid,
     above: Option<&Node>,
+    room: u32,
     piece: Piece,
     member: u16,
     path: &[u32],
@@ -49,7 +52,7 @@ pub(crate) fn divide_interval<D: Disk>(
     before: u16,
     entry: Entry,
     leaf: PieceTree,
-) -> Result<Proxies, StoreError>
+) -> Result<Row, StoreError>
     requires runs { has_ended records.old ≡ false }
     requires valid { IsValidPiece piece }
     requires within { IsWithin piece member path.now position proxy index before }
@@ -57,9 +60,11 @@ pub(crate) fn divide_interval<D: Disk>(
     requires written { IsWrittenNode leaf.node }
     requires asked { IsAskedThere matrix.now piece member path.now leaf.node.node entry }
     requires bound { entry ≢ ask.Free }
+    requires room { room ≤ 256 }
     ensures still { IsStill D.Disk disk.old disk.new }
+    ensures row { IfOk result (λ row. IsRowWithin 256 row) }
     ensures ok { IfOk result (λ row. (node : LaidNode) → leaf.node ≡ in_record node → ComesTidyWhere D.Disk records.old records.new disk.old disk.new (λ was. MayPutIn was (put.Child position node) piece)
-        (ChangesKnown matrix.now (Some piece) (option_copied above.entry) (put.Child position node) (place_of rid) member path.now row [])) }
+        (ChangesKnown matrix.now (Some piece) room (option_copied above.entry) (put.Child position node) (place_of rid) member path.now row [])) }
     ensures keeps { OnOk result (RunsOn records.old records.new × KeepsSaved D.Disk records.old records.new disk.old disk.new × HasChanges records.new) }
     ensures refused { IfErr result (λ e. (node : LaidNode) → leaf.node ≡ in_record node → NotChangedKnown D.Disk matrix.now (Some piece) (put.Child position node) (place_of rid) member path.now e records.old records.new disk.old disk.new) }
 {
@@ -75,7 +80,7 @@ pub(crate) fn divide_interval<D: Disk>(
         alloc, records, disk, piece, member, path, position, index, before, front, back, entry,
         leaf,
     )?;
-    put_grown(alloc, records, disk, matrix, rid, above, piece)
+    put_grown(alloc, records, disk, matrix, rid, above, room, piece)
 }
 
 // Puts the first roots of a record in its place, and those behind them into a record of their own. It speaks of a piece

@@ -79,7 +79,7 @@ pub fn retext<D: Disk>(
         Ok(changed) => changed,
         Err(error) => return Err(edit_error(error)),
     };
-    let Some(proxy) = first_of(&changed.row) else {
+    let Some(proxy) = first_of(&changed.row.proxies) else {
         return Err(no_document(records, entry.root.page));
     };
     if let Err(error) = free_one(alloc, records, disk, changed.gone) {

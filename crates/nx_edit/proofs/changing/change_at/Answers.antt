@@ -15,7 +15,7 @@ change_in-requires-clause-ends g c = subst (λ (ps : List PassedRecord). EndsIns
 pub returns-clause-ok : goal.returns-clause-ok
 returns-clause-ok g c =
     subst (λ (ps : List PassedRecord). IfOk c.change_in.result (λ (changed : Changed). (put : Put) → IsLaidPut c.args.change put → ComesTidyWhere g.D.Disk c.args.records.now c.change_in.new.records c.args.disk.now c.change_in.new.disk (λ was. MayChangeAlong was put (place_of c.args.root) 0 c.args.path.now ps c.args.route.last)
-    (ChangesKnown c.args.matrix.now None None put (place_of c.args.root) 0 c.args.path.now changed.row (option_to_list changed.gone))))
+    (ChangesKnown c.args.matrix.now None 0 None put (place_of c.args.root) 0 c.args.path.now changed.row (option_to_list changed.gone))))
     c.as_slice.ensures.value c.change_in.ensures.ok
 
 pub returns-clause-refused : goal.returns-clause-refused

@@ -21,7 +21,7 @@ plant_own-requires-clause-written g c = subst IsWrittenChange c.in-Child.is c.re
 pub returns-in-Content-clause-ok : goal.returns-in-Content-clause-ok
 returns-in-Content-clause-ok g c =
     subst (λ (what : Change). IfOk c.set_own.result (λ (changed : Changed). (put : Put) → IsLaidPut what put → ComesTidyWhere g.D.Disk c.args.records.now c.set_own.new.records c.args.disk.now c.set_own.new.disk (λ was. MayPutIn was put c.args.piece)
-    (ChangesKnown c.args.matrix.now (Some c.args.piece) (option_copied c.args.above) put (place_of c.args.rid) c.args.member c.args.path.now changed.row (option_to_list changed.gone)))) (sym c.in-Content.is) c.set_own.ensures.ok
+    (ChangesKnown c.args.matrix.now (Some c.args.piece) c.args.room (option_copied c.args.above) put (place_of c.args.rid) c.args.member c.args.path.now changed.row (option_to_list changed.gone)))) (sym c.in-Content.is) c.set_own.ensures.ok
 
 pub returns-in-Content-clause-refused : goal.returns-in-Content-clause-refused
 returns-in-Content-clause-refused g c =
@@ -40,6 +40,6 @@ returns-in_err-row-in-Child-clause-refused g c =
 pub returns-in_ok-row-in-Child-clause-ok : goal.returns-in_ok-row-in-Child-clause-ok
 returns-in_ok-row-in-Child-clause-ok g c =
     subst (λ (what : Change). (put : Put) → IsLaidPut what put → ComesTidyWhere g.D.Disk c.args.records.now c.plant_own.new.records c.args.disk.now c.plant_own.new.disk (λ was. MayPutIn was put c.args.piece)
-    (ChangesKnown c.args.matrix.now (Some c.args.piece) (option_copied c.args.above) put (place_of c.args.rid) c.args.member c.args.path.now c.in_ok-row-in-Child.row [])) (sym c.in-Child.is)
+    (ChangesKnown c.args.matrix.now (Some c.args.piece) c.args.room (option_copied c.args.above) put (place_of c.args.rid) c.args.member c.args.path.now c.in_ok-row-in-Child.row [])) (sym c.in-Child.is)
     (each_child (λ (put : Put). ComesTidyWhere g.D.Disk c.args.records.now c.plant_own.new.records c.args.disk.now c.plant_own.new.disk (λ was. MayPutIn was put c.args.piece)
-    (ChangesKnown c.args.matrix.now (Some c.args.piece) (option_copied c.args.above) put (place_of c.args.rid) c.args.member c.args.path.now c.in_ok-row-in-Child.row [])) c.in-Child.position c.in-Child.leaf c.in_ok-row-in-Child.ensures.ok)
+    (ChangesKnown c.args.matrix.now (Some c.args.piece) c.args.room (option_copied c.args.above) put (place_of c.args.rid) c.args.member c.args.path.now c.in_ok-row-in-Child.row [])) c.in-Child.position c.in-Child.leaf c.in_ok-row-in-Child.ensures.ok)

@@ -42,10 +42,10 @@ returns-clause-ok g c =
     let far = ap (λ (t : GappedTree). (t.node).far) (same_tree c.args.piece c.set_content-piece.result c.args.member c.args.path.now c.args.content c.args.far c.set_content-piece.ensures own c.tree_at-tree.ensures) ∙ sym (ap (λ (t : GappedTree). (t.node).far) c.tree.view_is) in
     subst
     (λ (f : Option Far). (put : Put) → IsLaidPut (change.Content c.args.content c.args.far) put
-    → ComesTidyWhere g.D.Disk c.args.records.now c.put_grown.new.records c.args.disk.now c.put_grown.new.disk (λ was. MayPutIn was put c.args.piece) (ChangesKnown c.args.matrix.now (Some c.args.piece) (option_copied c.args.above) put (place_of c.args.rid) c.args.member c.args.path.now c.in_ok-row.row (option_to_list f)))
+    → ComesTidyWhere g.D.Disk c.args.records.now c.put_grown.new.records c.args.disk.now c.put_grown.new.disk (λ was. MayPutIn was put c.args.piece) (ChangesKnown c.args.matrix.now (Some c.args.piece) c.args.room (option_copied c.args.above) put (place_of c.args.rid) c.args.member c.args.path.now c.in_ok-row.row (option_to_list f)))
     far
     (set_changed g.D.Disk c.args.matrix.now c.args.piece c.set_content-piece.result (place_of c.args.rid) c.args.member c.args.path.now c.args.records.now c.put_grown.new.records c.args.disk.now c.put_grown.new.disk c.requires.runs c.args.content c.args.far c.set_content-piece.ensures c.requires.written
-    (option_copied c.args.above) c.in_ok-row.row c.in_ok-row.ensures.ok)
+    c.args.room (option_copied c.args.above) c.in_ok-row.row c.in_ok-row.ensures.ok)
 
 pub returns-in_err-row-clause-refused : goal.returns-in_err-row-clause-refused
 returns-in_err-row-clause-refused g c =

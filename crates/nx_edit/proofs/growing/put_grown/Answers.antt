@@ -40,7 +40,7 @@ put_light-requires-clause-light g c = let less = c.if-weight-settings.false in l
 pub returns-then-weight-settings-clause-ok : goal.returns-then-weight-settings-clause-ok
 returns-then-weight-settings-clause-ok g c =
     ok_map c.put_heavy.result (λ row puts. grown_then {d = g.D.Disk} c.args.piece c.in_ok-piece.piece (place_of c.args.rid) {r0 = c.args.records.now} {r1 = c.make_far.new.records} {x0 = c.args.disk.now} {x1 = c.make_far.new.disk} c.in_ok-piece.ensures.ok
-    {r2 = c.put_heavy.new.records} {x2 = c.put_heavy.new.disk} c.args.matrix.now (option_copied c.args.above) row puts) c.put_heavy.ensures.ok
+    {r2 = c.put_heavy.new.records} {x2 = c.put_heavy.new.disk} c.args.matrix.now c.args.room (option_copied c.args.above) row puts) c.put_heavy.ensures.ok
 
 pub returns-then-weight-settings-clause-keeps : goal.returns-then-weight-settings-clause-keeps
 returns-then-weight-settings-clause-keeps g c =
@@ -58,7 +58,7 @@ returns-then-weight-settings-clause-refused g c =
 pub returns-else-weight-settings-clause-ok : goal.returns-else-weight-settings-clause-ok
 returns-else-weight-settings-clause-ok g c =
     ok_map c.put_light.result (λ row all. grown_then {d = g.D.Disk} c.args.piece c.in_ok-piece.piece (place_of c.args.rid) {r0 = c.args.records.now} {r1 = c.make_far.new.records} {x0 = c.args.disk.now} {x1 = c.make_far.new.disk} c.in_ok-piece.ensures.ok
-    {r2 = c.put_light.new.records} {x2 = c.put_light.new.disk} c.args.matrix.now (option_copied c.args.above) row (all c.args.matrix.now (option_copied c.args.above))) c.put_light.ensures.ok
+    {r2 = c.put_light.new.records} {x2 = c.put_light.new.disk} c.args.matrix.now c.args.room (option_copied c.args.above) row (all c.args.matrix.now c.args.room (option_copied c.args.above))) c.put_light.ensures.ok
 
 pub returns-else-weight-settings-clause-keeps : goal.returns-else-weight-settings-clause-keeps
 returns-else-weight-settings-clause-keeps g c =

@@ -93,7 +93,7 @@ returns-in-None-clause-refused g c =
           c.in_ok-route.ensures.placed c.in_ok-route.ensures.few.1 c.in_ok-route.ensures.few.2 c.in_ok-route.ensures.few.3 c.requires c.args.matrix.now
           c.in-Ok.leaf.node c.in-Ok.ensures.item.0 c.in-Ok.ensures.item.1 c.hold_node.new.records c.hold_node.new.disk c.hold_node.ensures.still c.in-Ok.ensures.keeps.0 c.in-Ok.ensures.keeps.1 c.in-Ok.ensures.ok
           c.in_ok-route.route.passed.items c.in_ok-route.route.last (c.in_ok-route.ensures.route).held
-          c.change_at.new.records c.change_at.new.disk c.in-Ok-change_at.changed.row (option_to_list c.in-Ok-change_at.changed.gone) (c.in-Ok-change_at.ensures.ok (Child (last_position c.args.path.now) (record { node = c.args.node; list = c.in-Ok.ensures.item.0 })) (refl, c.in-Ok.ensures.item.1)) (none_first c.in-Ok-change_at.changed.row (sym c.in-None.is ∙ c.first_of.ensures)),
+          c.change_at.new.records c.change_at.new.disk c.in-Ok-change_at.changed.row (option_to_list c.in-Ok-change_at.changed.gone) (c.in-Ok-change_at.ensures.ok (Child (last_position c.args.path.now) (record { node = c.args.node; list = c.in-Ok.ensures.item.0 })) (refl, c.in-Ok.ensures.item.1)) (none_first c.in-Ok-change_at.changed.row.proxies (sym c.in-None.is ∙ c.first_of.ensures)),
     )
 
 pub returns-clause-still : goal.returns-clause-still
@@ -107,7 +107,7 @@ returns-clause-allowed g c =
 
 pub returns-clause-ok : goal.returns-clause-ok
 returns-clause-ok g c =
-    let is : (rest : List Proxy) × (c.in-Ok-change_at.changed.row ≡ c.in-Some.proxy ∷ rest) = some_first c.in-Ok-change_at.changed.row c.in-Some.proxy (sym c.in-Some.is ∙ c.first_of.ensures) in
+    let is : (rest : List Proxy) × (c.in-Ok-change_at.changed.row.proxies ≡ c.in-Some.proxy ∷ rest) = some_first c.in-Ok-change_at.changed.row.proxies c.in-Some.proxy (sym c.in-Some.is ∙ c.first_of.ensures) in
     put_came g.D.Disk c.args.entry c.args.node c.args.path.now c.in_ok-route.ensures.few.0 c.args.records.now c.check_insertion.new.records c.args.disk.now c.check_insertion.new.disk c.check_insertion.ensures.still c.in_ok-route.ensures.runs.0 c.in_ok-route.ensures.runs.1
     c.in_ok-route.ensures.placed c.in_ok-route.ensures.few.1 c.in_ok-route.ensures.few.2 c.in_ok-route.ensures.few.3 c.requires c.args.matrix.now
     c.in-Ok.leaf.node c.in-Ok.ensures.item.0 c.in-Ok.ensures.item.1 c.hold_node.new.records c.hold_node.new.disk c.hold_node.ensures.still c.in-Ok.ensures.keeps.0 c.in-Ok.ensures.keeps.1 c.in-Ok.ensures.ok

@@ -1,17 +1,7 @@
-use Rattle.std.proofs.Common.{List, length, slice_index_or, ap}
-use Rattle.std.proofs.lemmas.Bool.{eqb-true}
-use Rattle.nx_piece.specs.declared.piece.Proxy.{Proxy}
-use Rattle.nx_edit.proofs.StayLemmas.{one_alone}
+use Rattle.std.proofs.Common.{sym, ◌∙◌}
+use Rattle.std.proofs.lemmas.Bool.{false≢true}
+use Rattle.nx_edit.proofs.StayLemmas.{one_run}
 use Rattle.nx_edit.proofs.keeping.is_alone.Goals as goal
 
-abbrev none : Proxy
-none = record { page = 0; slot = 0; roots = 0 }
-
-pub returns-then-row-eq1 : goal.returns-then-row-eq1
-returns-then-row-eq1 c = (
-  λ stays. one_alone c.args.row.now c.args.proxy none c.if-row-eq1.true (c.is_same.ensures.0 stays),
-  λ alone. c.is_same.ensures.1 (ap (λ (row : List Proxy). slice_index_or row 0 none) alone),
-)
-
-pub returns-else-row-eq1 : goal.returns-else-row-eq1
-returns-else-row-eq1 c = (λ stays. absurd (c.if-row-eq1.false (eqb-true (length c.args.row.now) 1 stays)), λ alone. absurd (c.if-row-eq1.false (ap (λ (row : List Proxy). length row) alone)))
+pub returns-else-is_run : goal.returns-else-is_run
+returns-else-is_run c = (λ yes. absurd (false≢true (sym c.if-is_run.false ∙ yes)), λ alone. c.is_run.ensures.1 (1, one_run c.as_slice.result.now (c.as_slice.ensures ∙ alone.0)))

@@ -41,7 +41,7 @@ returns-clause-ok g c =
     (saved_then {d = g.D.Disk} {r0 = c.args.records.now} {r1 = c.part_record.new.records} {r2 = c.place_node.new.records} {x0 = c.args.disk.now} {x1 = c.part_record.new.disk} {x2 = c.place_node.new.disk} c.in_ok-front.ensures.keeps.1 c.in_ok-piece.ensures.keeps.1)
     (placed_below g.D.Disk c.args.matrix.now c.args.piece (place_of c.args.rid) c.args.member c.args.path.now c.args.position c.args.index c.args.before c.args.proxy c.args.entry c.args.leaf.node c.args.records.now c.args.disk.now c.requires.within c.requires.light c.requires.written c.requires.asked c.requires.bound
     c.part_record.new.records c.part_record.new.disk c.in_ok-front.front c.in_ok-front.back c.in_ok-front.ensures.keeps.0 c.in_ok-front.ensures.keeps.1 (c.part_record.ensures.still).faults_later c.in_ok-front.ensures.ok
-    c.place_node.new.records c.place_node.new.disk c.in_ok-piece.piece c.in_ok-piece.ensures.ok node laid) _ row puts) c.put_grown.ensures.ok
+    c.place_node.new.records c.place_node.new.disk c.in_ok-piece.piece c.in_ok-piece.ensures.ok node laid) _ _ row puts) c.put_grown.ensures.ok
 
 pub returns-clause-keeps : goal.returns-clause-keeps
 returns-clause-keeps g c =

@@ -52,7 +52,7 @@ returns-clause-ok g c =
     (alone_grows g.D.Disk c.args.matrix.now c.args.piece (place_of c.args.rid) c.args.member c.args.path.now c.args.position node c.args.records.now c.args.disk.now (subst IsWrittenNode is c.requires.written)
     (subst (λ (x : PieceNode). node_weight x ≤ (settings_of c.args.records.now).k) is c.requires.light) c.args.index c.requires.between
     (subst (λ (x : PieceNode). IsAskedThere c.args.matrix.now c.args.piece c.args.member c.args.path.now x.node Standalone) is c.requires.asked) c.in-Ok.alone (subst (λ (x : PieceNode). c.in-Ok.alone.body.roots ≡ Grow x End End) is c.in-Ok.ensures.0) c.in-Ok.ensures.1
-    c.in-Ok-plant_proxy.piece c.in_ok-proxy.proxy c.in_ok-proxy.ensures.roots c.in-Ok-plant_proxy.ensures c.add_piece.new.records c.add_piece.new.disk c.in_ok-proxy.ensures.ok) _ row puts) c.put_grown.ensures.ok
+    c.in-Ok-plant_proxy.piece c.in_ok-proxy.proxy c.in_ok-proxy.ensures.roots c.in-Ok-plant_proxy.ensures c.add_piece.new.records c.add_piece.new.disk c.in_ok-proxy.ensures.ok) _ _ row puts) c.put_grown.ensures.ok
 
 pub returns-clause-keeps : goal.returns-clause-keeps
 returns-clause-keeps g c =

@@ -29,7 +29,7 @@ returns-clause-ok g c =
     (beside_grows g.D.Disk c.args.matrix.now c.args.piece (place_of c.args.rid) c.args.member c.args.path.now c.args.position node c.args.records.now c.args.disk.now (subst IsWrittenNode is c.requires.written)
     (subst (λ (x : PieceNode). node_weight x ≤ (settings_of c.args.records.now).k) is c.requires.light) c.in-Ok.piece c.args.entry c.requires.between
     (subst (λ (x : PieceNode). IsWithNode c.args.piece c.args.member c.args.path.now c.args.position x c.in-Ok.piece) (ap (λ (t : GappedTree). t.node) c.leaf.view_is ∙ is) c.in-Ok.ensures)
-    (subst (λ (x : PieceNode). IsAskedThere c.args.matrix.now c.args.piece c.args.member c.args.path.now x.node c.args.entry) is c.requires.asked) c.requires.beside) _ row puts) c.put_grown.ensures.ok
+    (subst (λ (x : PieceNode). IsAskedThere c.args.matrix.now c.args.piece c.args.member c.args.path.now x.node c.args.entry) is c.requires.asked) c.requires.beside) _ _ row puts) c.put_grown.ensures.ok
 
 pub returns-clause-refused : goal.returns-clause-refused
 returns-clause-refused g c =

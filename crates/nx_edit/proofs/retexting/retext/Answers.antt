@@ -112,7 +112,7 @@ returns-in_default-clause-refused g c =
                 c.in_ok-node.node c.in_ok-node.ensures.there c.in_ok-node.ensures.node.1 c.in_ok-node.ensures.node.0 c.in_ok-node.ensures.node.2 c.in_ok-node.ensures.node.3 c.args.matrix.now c.in-Ok.leaf.node c.in-Ok.ensures.item.0 c.in-Ok.ensures.item.1,
             ap (λ (t : GappedTree). t.node.far) c.leaf.view_is ∙ set_far g.D.Disk c.args.entry c.args.content c.args.path.now c.args.records.now c.check_content.new.records c.args.disk.now c.check_content.new.disk c.check_content.ensures.still c.in_ok-node.ensures.runs.0 c.in_ok-node.ensures.runs.1
                 c.in_ok-node.node c.in_ok-node.ensures.there c.in_ok-node.ensures.node.1 c.in_ok-node.ensures.node.0 c.in_ok-node.ensures.node.2 c.in_ok-node.ensures.node.3 c.args.matrix.now c.in-Ok.leaf.node c.in-Ok.ensures.item.0 c.in-Ok.ensures.item.1,
-          )) (none_first c.in-Ok-change_at.changed.row (sym c.in_default.is ∙ c.first_of.ensures)),
+          )) (none_first c.in-Ok-change_at.changed.row.proxies (sym c.in_default.is ∙ c.first_of.ensures)),
     )
 
 pub free_one-requires : goal.free_one-requires
@@ -162,7 +162,7 @@ returns-clause-allowed g c =
 
 pub returns-clause-ok : goal.returns-clause-ok
 returns-clause-ok g c =
-    let is : (rest : List Proxy) × (c.in-Ok-change_at.changed.row ≡ c.in-Some.proxy ∷ rest) = some_first c.in-Ok-change_at.changed.row c.in-Some.proxy (sym c.in-Some.is ∙ c.first_of.ensures) in
+    let is : (rest : List Proxy) × (c.in-Ok-change_at.changed.row.proxies ≡ c.in-Some.proxy ∷ rest) = some_first c.in-Ok-change_at.changed.row.proxies c.in-Some.proxy (sym c.in-Some.is ∙ c.first_of.ensures) in
     set_came g.D.Disk c.args.entry c.args.content c.args.path.now c.args.records.now c.check_content.new.records c.args.disk.now c.check_content.new.disk c.check_content.ensures.still c.in_ok-node.ensures.runs.0 c.in_ok-node.ensures.runs.1
     c.in_ok-node.node c.in_ok-node.ensures.there c.in_ok-node.ensures.node.1 c.in_ok-node.ensures.node.0 c.in_ok-node.ensures.node.2 c.in_ok-node.ensures.node.3 c.args.matrix.now
     c.in-Ok.leaf.node c.in-Ok.ensures.item.0 c.in-Ok.ensures.item.1 c.hold_node.new.records c.hold_node.new.disk c.hold_node.ensures.still c.in-Ok.ensures.keeps.0 c.in-Ok.ensures.keeps.1 c.in-Ok.ensures.ok
