@@ -1,6 +1,6 @@
 // All parts of up to four nodes, which weigh 1 or 3 slots each.
 use crate::nodes::nodes;
-use crate::plain::{are_ordered, is_same, is_split, part_weight};
+use crate::plain::{are_ordered, are_same, is_split, part_weight};
 use crate::sketches::{Item, is_splittable, sketch};
 use nx_division::split;
 use nx_lists::NoMemory;
@@ -128,19 +128,25 @@ fn try_one(
 
 // Where the interval of that root alone stands in a plan of which the others are these.
 fn place_of(plan: &[Interval], others: &[Interval], root: u32) -> Option<usize> {
-    let mut place = None;
-    let mut left = others.iter();
     for (index, interval) in plan.iter().enumerate() {
         if is_root_alone(interval, root) {
-            place = Some(index);
-        } else if !is_same(interval, left.next()?) {
-            return None;
+            let (before, behind) = (&plan[..index], &plan[index + 1..]);
+            return if are_joined(before, behind, others) {
+                Some(index)
+            } else {
+                None
+            };
         }
     }
-    if left.next().is_some() {
-        return None;
-    }
-    place
+    None
+}
+
+// The last intervals are the first ones and those behind them.
+fn are_joined(before: &[Interval], behind: &[Interval], all: &[Interval]) -> bool {
+    let Some((first, last)) = all.split_at_checked(before.len()) else {
+        return false;
+    };
+    are_same(before, first) && are_same(behind, last)
 }
 
 fn is_root_alone(interval: &Interval, root: u32) -> bool {

@@ -18,7 +18,7 @@ use nx_lists::NoMemory;
 use nx_parts::Interval;
 use std::alloc::Global;
 
-pub(crate) fn is_same(one: &Interval, other: &Interval) -> bool
+fn is_same(one: &Interval, other: &Interval) -> bool
     ensures { result ≡ same_interval one.now other.now }
 {
     match (one, other) {
@@ -43,7 +43,7 @@ pub(crate) fn is_same(one: &Interval, other: &Interval) -> bool
 }
 
 // Whether the lists are the same.
-fn are_same(one: &[Interval], other: &[Interval]) -> bool
+pub(crate) fn are_same(one: &[Interval], other: &[Interval]) -> bool
     ensures { result ≡ pointwise same_interval one.now other.now }
 {
     match (one.split_first(), other.split_first()) {
