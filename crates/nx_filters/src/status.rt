@@ -14,7 +14,8 @@ pub enum Status {
     Done,
     /// The words are no command line. The host wasn't touched.
     Usage,
-    /// The input was refused, or for `init` the disk had pages. The output is one line, which says why.
+    /// The input was refused, or for `init` the disk had pages, or for `gen` its document was there. The output is one line,
+    /// which says why.
     Refused,
     /// A call of the disk failed.
     DiskFault,

@@ -551,7 +551,7 @@ module _ {D : Type 0} (d : Ghosts D) (a b : D) where
   unopened_cause engine.Write why = absurd why
   unopened_cause engine.Ended why = absurd why
 
-  unopened_header : (was : Image) (e : EngineError) → NotOpened d e a b → IsSettled d a was → (HasHeader was → ⊥) → EndsWithoutHeader (status_of_engine e)
+  pub unopened_header : (was : Image) (e : EngineError) → NotOpened d e a b → IsSettled d a was → (HasHeader was → ⊥) → EndsWithoutHeader (status_of_engine e)
   unopened_header was engine.Disk why settled none = tt
   unopened_header was engine.Memory why settled none = tt
   unopened_header was engine.NotAStore why settled none = tt

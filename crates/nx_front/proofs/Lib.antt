@@ -5,4 +5,5 @@ pub mod ServingLaws
 pub mod UntakenLemmas
 pub mod ConversationLemmas
 pub mod InitLemmas
+pub mod GeneratingLemmas
 pub mod TopLemmas

@@ -7,7 +7,7 @@ use Rattle.nx_host.proofs.OutputLemmas.{takes_nothing}
 use Rattle.nx_filters.specs.declared.status.Status.{Status}
 use Rattle.nx_filters.specs.declared.status.Status.TheVariants.{Done, Usage, Refused, DiskFault, ReadFault, WriteFault, NoMemory, NotAStore, Damaged, TooMuch}
 use Rattle.nx_front.specs.declared.words.CommandLine.{CommandLine}
-use Rattle.nx_front.specs.declared.words.CommandLine.TheVariants.{Tidy, Run, Plan, Verify, Init}
+use Rattle.nx_front.specs.declared.words.CommandLine.TheVariants.{Tidy, Run, Plan, Verify, Init, Gen}
 use Rattle.nx_filters.specs.Outcome.{Meaning, RunsBeside, TakesFew, CountsGrow, Completes, HoldsTogether}
 use Rattle.nx_front.specs.Run.{IsCarriedOut, CompletesInput, IsCompleted, IsCoherent, AnswersAgree}
 use Rattle.nx_filters.specs.Plan.{IsLightInput, plan}
@@ -17,6 +17,7 @@ use Rattle.nx_filters.proofs.TidyLemmas.{tidy_together, tidy_once}
 use Rattle.nx_front.proofs.ServingLaws.{serving_completes, serving_together, one_script}
 use Rattle.nx_filters.proofs.PlanLemmas.{plan_together, equal_plans, light_excludes}
 use Rattle.nx_filters.proofs.VerifyLemmas.{verify_together, verify_once, excludes}
+use Rattle.nx_front.proofs.GeneratingLemmas.{generating_bounded, generating_completes, generating_counts, generating_not_usage}
 use Rattle.nx_front.proofs.InitLemmas.{init_completes, init_not_usage, init_together, holds_nothing}
 
 module _ {D : Type 0} (d : Ghosts D) (a b : D) where
@@ -31,6 +32,7 @@ module _ {D : Type 0} (d : Ghosts D) (a b : D) where
   carried_bounded (Plan k) status carried = carried.run.bounded
   carried_bounded (Verify k) status carried = carried.run.bounded
   carried_bounded (Init settings) status carried = record { taken = []; few = (let e : 0 ≤ most_input = omega arith in e); takes = carried.input_stays }
+  carried_bounded (Gen seed n) status carried = generating_bounded seed n status carried
 
   beside_counts : {m : Meaning} (status : Status) → RunsBeside d m status a b → CountsGrow (d.beside a) (d.beside b) × (d.faults a ≤ d.faults b)
   beside_counts status runs = (runs.run.counts, let same : d.faults b ≡ d.faults a = runs.disk.faults_stay in omega (arith, same))
@@ -43,6 +45,7 @@ module _ {D : Type 0} (d : Ghosts D) (a b : D) where
   carried_counts (Verify k) status carried = beside_counts status carried
   carried_counts (Init settings) status carried =
       (record { read = (let same : (d.beside b).in_faults ≡ (d.beside a).in_faults = carried.in_faults_stay in omega (arith, same)); written = carried.out_faults_later }, carried.faults_later)
+  carried_counts (Gen seed n) status carried = generating_counts seed n status carried
 
   beside_completes : {m : Meaning} (status : Status) → HoldsTogether m → RunsBeside d m status a b → CompletesInput m status (d.beside a) (d.beside b)
   beside_completes status together runs input calm = completes together runs.run.outcome status input (d.beside a) (d.beside b) runs.run.ends calm
@@ -54,6 +57,7 @@ module _ {D : Type 0} (d : Ghosts D) (a b : D) where
   carried_completes (Plan k) status carried = beside_completes status (plan_together k) carried
   carried_completes (Verify k) status carried = beside_completes status (verify_together k) carried
   carried_completes (Init settings) status carried = λ was calm. init_completes settings status was carried calm
+  carried_completes (Gen seed n) status carried = generating_completes seed n status carried
 
   -- a command line isn't answered by how it is to be written
   carried_usage : (line : CommandLine) → IsCarriedOut d line Usage a b → ⊥
@@ -62,6 +66,7 @@ module _ {D : Type 0} (d : Ghosts D) (a b : D) where
   carried_usage (Plan k) carried = carried.run.ends
   carried_usage (Verify k) carried = carried.run.ends
   carried_usage (Init settings) carried = init_not_usage settings carried
+  carried_usage (Gen seed n) carried = generating_not_usage seed n carried
 
   -- nor does it end so
   pub not_usage : (line : CommandLine) (status : Status) → IsCarriedOut d line status a b → status ≡ Usage → ⊥
@@ -114,6 +119,7 @@ together Run = serving_together
 together (Plan k) = plan_together k
 together (Verify k) = verify_together k
 together (Init settings) = init_together settings
+together (Gen seed n) = serving_together
 
 -- how the answers of each input go together
 pub agrees : (line : CommandLine) → AnswersAgree line
@@ -122,3 +128,4 @@ agrees Run = one_script
 agrees (Plan k) = equal_plans k
 agrees (Verify k) = verify_once k
 agrees (Init settings) = holds_nothing settings
+agrees (Gen seed n) = tt

@@ -1,11 +1,11 @@
 -- The command line: which words are one, and for what.
-use Rattle.std.specs.Prelude.{ℕ, ◌/◌, ◌≤◌, Bool, false, not, ◌&&◌, ◌==◌, nat_le, if◌then◌else◌, List, [], ◌∷◌, Option, None, Some, codes}
+use Rattle.std.specs.Prelude.{ℕ, ◌/◌, ◌^◌, ◌<◌, ◌≤◌, Bool, false, not, ◌&&◌, ◌==◌, nat_le, if◌then◌else◌, List, [], ◌∷◌, Option, None, Some, codes}
 use Rattle.std.specs.Str.{bytes_eq}
 use Rattle.std.specs.Option.{option_map}
 use Rattle.nx_pyx.specs.Field.{is_position, value_of}
 use Rattle.nx_records.specs.Words.{most_pages, Settings, AreSettings}
 use Rattle.nx_front.specs.declared.words.CommandLine.{CommandLine}
-use Rattle.nx_front.specs.declared.words.CommandLine.TheVariants.{Tidy, Run, Plan, Verify, Init}
+use Rattle.nx_front.specs.declared.words.CommandLine.TheVariants.{Tidy, Run, Plan, Verify, Init, Gen}
 
 -- a word that may name a store: it isn't empty, and doesn't begin with a hyphen
 abbrev pub is_store : List ℕ → Bool
@@ -23,6 +23,13 @@ is_within least most digits = is_position digits && nat_le least (value_of digit
 -- a decimal of a weight that parts may have at most
 abbrev pub is_weight_limit : List ℕ → Bool
 is_weight_limit digits = is_within 1 256 digits
+
+-- a decimal of a seed of generated commands, and one of the number of elements of their document
+abbrev pub is_seed : List ℕ → Bool
+is_seed digits = is_within 0 2147483647 digits
+
+abbrev pub is_element_count : List ℕ → Bool
+is_element_count digits = is_within 1 100000 digits
 
 -- where splits aim, in percent, how far they may miss that, in slots, and how many pages there may be
 abbrev pub is_target : List ℕ → Bool
@@ -69,6 +76,11 @@ command_of_three store command limit =
     else if is_store store && bytes_eq command (codes "verify") && is_weight_limit limit then Some (Verify (value_of limit))
     else None
 
+-- a store that is used, `gen`, a seed and a number
+abbrev pub command_of_four : List ℕ → List ℕ → List ℕ → List ℕ → Option CommandLine
+command_of_four store command seed number =
+    if is_named_store store && bytes_eq command (codes "gen") && is_seed seed && is_element_count number then Some (Gen (value_of seed) (value_of number)) else None
+
 -- a store that is used, `init`, and the settings that it is made with
 abbrev pub command_of_init : List ℕ → List (List ℕ) → Option CommandLine
 command_of_init store words = if is_named_store store then option_map Init (settings_said words) else None
@@ -77,6 +89,7 @@ command_of_init store words = if is_named_store store then option_map Init (sett
 abbrev pub command_line_of : List ℕ → List ℕ → List (List ℕ) → Option CommandLine
 command_line_of store command [] = command_of_two store command
 command_line_of store command (limit ∷ []) = command_of_three store command limit
+command_line_of store command (seed ∷ number ∷ []) = command_of_four store command seed number
 command_line_of store command _ = None
 
 abbrev pub command_line : List (List ℕ) → Option CommandLine
@@ -88,4 +101,5 @@ abbrev pub IsLimited : CommandLine → Type 0
 IsLimited (Plan k) = (1 ≤ k) × (k ≤ 256)
 IsLimited (Verify k) = (1 ≤ k) × (k ≤ 256)
 IsLimited (Init settings) = AreSettings settings
+IsLimited (Gen seed n) = (seed < 2 ^ 31) × (1 ≤ n) × (n ≤ 100000)
 IsLimited _ = Unit {0}

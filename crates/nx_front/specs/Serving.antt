@@ -10,34 +10,14 @@ use Rattle.nx_host.specs.Time.{Stood, Elapses}
 use Rattle.nx_records.specs.Records.{HasHeader, image_group_count}
 use Rattle.nx_script.specs.declared.command.Command.{Command}
 use Rattle.nx_script.specs.declared.command.Command.TheVariants.{Checkpoint}
-use Rattle.nx_script.specs.declared.reply.Reply.{Reply}
 use Rattle.nx_script.specs.Commands.{AreCommands, AreWhole}
 use Rattle.nx_script.specs.Reply.{reply_text}
 use Rattle.nx_state.specs.State.{State}
 use Rattle.nx_state.specs.Stands.{Recovers}
-use Rattle.nx_steps.specs.Step.{Step}
 use Rattle.nx_filters.specs.declared.status.Status.{Status}
 use Rattle.nx_filters.specs.declared.status.Status.TheVariants.{Done, Usage, Refused, DiskFault, ReadFault, WriteFault, NoMemory, NotAStore, Damaged, TooMuch}
 use Rattle.nx_filters.specs.Outcome.{TakesFew, CountsGrow, EndsWhole}
-
--- a command, its reply, and the state after it
-pub record Turn : Type 0 where
-  pub command : Command
-  pub reply : Reply
-  pub next : State
-
--- Each turn is a step: the first one from this state on, each other from the state after the one before it.
-abbrev pub IsRun : State → List Turn → Type 0
-IsRun state [] = Unit {0}
-IsRun state (turn ∷ turns) = Step state turn.command turn.reply turn.next × IsRun turn.next turns
-
--- the state after all turns
-abbrev pub state_after : State → List Turn → State
-state_after state [] = state
-state_after state (turn ∷ turns) = state_after turn.next turns
-
-abbrev pub commands_of : List Turn → List Command
-commands_of turns = map (λ turn. turn.command) turns
+pub use Rattle.nx_front.specs.Turns.{Turn, IsRun, state_after, commands_of}
 
 -- the texts of the replies, one after the other
 abbrev pub texts_of : List Turn → List ℕ

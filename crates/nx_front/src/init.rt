@@ -27,8 +27,8 @@ pub fn init<H: Host>(alloc: Global, host: &mut H, settings: Settings) -> Status
     }
 }
 
-// Gives a line, with which the run ends.
-fn say<H: Host>(host: &mut H, line: &[u8], whole: Status) -> Status
+// Gives a line or several, with which the run ends.
+pub fn say<H: Host>(host: &mut H, line: &[u8], whole: Status) -> Status
     requires { 1 ≤ length line.now }
     ensures says { SaysLine line.now whole result (H.beside host.old) (H.beside host.new) }
     ensures alone { GivesAlone ⟦<H as Disk>⟧ line.now host.old host.new }

@@ -156,7 +156,7 @@ fn writes(command: &Command) -> bool
 }
 
 // How a run ends that the store stops.
-fn status_of(error: EngineError) -> Status
+pub fn status_of(error: EngineError) -> Status
     ensures { result ≡ status_of_engine error }
 {
     // A store that runs is never told that it has ended, and none is made here.

@@ -8,6 +8,7 @@ ghost use Rattle.nx_filters.specs.Verify.{IsSoundInput};
 ghost use Rattle.nx_front.specs.declared.words.CommandLine.{CommandLine};
 ghost use Rattle.nx_front.specs.declared.words.CommandLine.TheVariants.{Plan, Verify};
 
+use crate::generate::generate;
 use crate::init::init;
 use crate::serve::serve;
 use crate::words::{CommandLine, command_line};
@@ -34,6 +35,12 @@ use std::alloc::Global;
 /// pages: whatever crash comes, the disk is as it was, or has the new store, and the latter once a byte of
 /// `ok` is out. Over a disk with pages it gives the line `refused exists`, and writes nothing to the disk. It
 /// takes no input.
+///
+/// `STORE gen SEED N`, where STORE isn't `_`, carries out the generated commands of a seed below 2^31 and a number from 1 to
+/// 100,000 over the store on the disk, and gives four lines: how many commands there were, how many of them were refused, and
+/// how many nodes and bytes of text the document `gen` has then. Whatever crash comes, the disk has the documents after some
+/// of the commands, and after all of them once a byte is out. Where there is a document `gen` it gives the line `refused exists`,
+/// and writes nothing to the disk. It takes no input.
 pub fn run<H: Host>(alloc: Global, words: &Words, host: &mut H) -> Status
     // For those that read an input and keep nothing there is one outcome, for `run` over a store one run. Why the run ends so, what it has taken by then, and what it has given
     // of that outcome's text, then and at every moment; what it leaves of the disk.
@@ -59,6 +66,7 @@ pub fn run<H: Host>(alloc: Global, words: &Words, host: &mut H) -> Status
         Some(CommandLine::Plan(k)) => plan(alloc, host, k),
         Some(CommandLine::Verify(k)) => verify(alloc, host, k),
         Some(CommandLine::Init(settings)) => init(alloc, host, settings),
+        Some(CommandLine::Gen(seed, n)) => generate(alloc, host, seed, n),
         None => Status::Usage,
     }
 }

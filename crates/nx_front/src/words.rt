@@ -2,7 +2,7 @@
 ghost use Rattle.std.specs.Prelude.{◌≡◌, ◌≤◌, true, false, IfOk, IfSome, MatchOption};
 ghost use Rattle.nx_pyx.specs.Field.{value_of};
 ghost use Rattle.nx_records.specs.Words.{AreSettings};
-ghost use Rattle.nx_front.specs.CommandLine.{is_store, is_named_store, is_within, is_weight_limit, usual_settings, settings_said, command_of_two, command_of_three, command_of_init, command_line_of, command_line, IsLimited};
+ghost use Rattle.nx_front.specs.CommandLine.{is_store, is_named_store, is_within, is_weight_limit, usual_settings, settings_said, command_of_two, command_of_three, command_of_four, command_of_init, command_line_of, command_line, IsLimited};
 
 use nx_lists::List;
 use nx_pyx::position;
@@ -51,6 +51,11 @@ pub type Words = List<Word>;
 // Where a split aims, in percent, where the words don't say it.
 const TARGET: u32 = 50;
 
+// The greatest seed of generated commands, and the greatest number of elements of their document.
+const GREATEST_SEED: u32 = 2_147_483_647;
+
+const MOST_ELEMENTS: u32 = 100_000;
+
 // A command line.
 #[derive(Clone, Copy)]
 pub enum CommandLine {
@@ -64,6 +69,8 @@ pub enum CommandLine {
     Verify(u32),
     // A store is made with these settings.
     Init(Settings),
+    // The commands of a seed and a number are carried out over a store.
+    Gen(u32, u32),
 }
 
 // The command line that the words are, if they are one.
@@ -155,6 +162,7 @@ fn command_of(store: &str, command: &str, words: &[Word]) -> Option<CommandLine>
     match words {
         [] => command_of_two(store, command),
         [limit] => command_of_three(store, command, limit.as_str()),
+        [seed, number] => command_of_four(store, command, seed.as_str(), number.as_str()),
         _ => None,
     }
 }
@@ -183,6 +191,20 @@ fn command_of_three(store: &str, command: &str, limit: &str) -> Option<CommandLi
         Some(CommandLine::Plan(limit))
     } else if is_store(store) && command == "verify" {
         Some(CommandLine::Verify(limit))
+    } else {
+        None
+    }
+}
+
+// The command line of four words.
+fn command_of_four(store: &str, command: &str, seed: &str, number: &str) -> Option<CommandLine>
+    ensures line { result ≡ command_of_four store.now command.now seed.now number.now }
+    ensures limit { IfSome result IsLimited }
+{
+    let seed = number_within(seed, 0, GREATEST_SEED)?;
+    let number = number_within(number, 1, MOST_ELEMENTS)?;
+    if is_named_store(store) && command == "gen" {
+        Some(CommandLine::Gen(seed, number))
     } else {
         None
     }

@@ -18,8 +18,10 @@ use nx_script::{DocLine, DocLines, Reply, ReplyError};
 use nx_tree::{Bytes, Path};
 
 impl Store {
-    // Lists the documents of the catalog.
-    pub(crate) fn names(&self) -> Result<Reply, EngineError>
+    /// The reply to `names`: the documents of the catalog. The disk isn't asked.
+    ///
+    /// Errors: `Memory`.
+    pub fn names(&self) -> Result<Reply, EngineError>
         ensures ok { IfOk result (λ reply. reply ≡ Reply.Names (map line_of (entries (self.now.catalog).documents))) }
         ensures err { IfErr result (λ e. e ≡ EngineError.Memory) }
     {

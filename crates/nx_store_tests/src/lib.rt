@@ -11,6 +11,8 @@ mod documents;
 #[cfg(test)]
 mod drawn;
 #[cfg(test)]
+mod generated;
+#[cfg(test)]
 mod init;
 #[cfg(test)]
 mod intervals;

@@ -1,5 +1,5 @@
 use Rattle.std.proofs.Common.{Some, sym, ap, ◌∙◌}
-use Rattle.nx_front.specs.declared.words.CommandLine.TheVariants.{Tidy, Run, Plan, Verify, Init}
+use Rattle.nx_front.specs.declared.words.CommandLine.TheVariants.{Tidy, Run, Plan, Verify, Init, Gen}
 use Rattle.nx_front.proofs.TopLemmas.{carried_as, carried_bounded, carried_counts, carried_completes, not_usage, usage_not, completes_light, completes_sound}
 use Rattle.nx_front.proofs.top.run.Goals as goal
 
@@ -106,4 +106,25 @@ returns-in-Some-Init g c =
           completes_light k input status (carried_completes d a b (Plan k) status (carried_as d a b (Init c.in-Some-Init.settings) (Plan k) status (sym is ∙ command) done) input calm) sure;
       certified = λ k input command calm sure.
           completes_sound k input status (carried_completes d a b (Verify k) status (carried_as d a b (Init c.in-Some-Init.settings) (Verify k) status (sym is ∙ command) done) input calm) sure;
+    }
+
+pub returns-in-Some-Gen : goal.returns-in-Some-Gen
+returns-in-Some-Gen g c =
+    let d = g.H.Disk in
+    let a = c.args.host.now in
+    let b = c.generate.new.host in
+    let status = c.generate.result in
+    let done = c.generate.ensures in
+    let is = sym c.command_line.ensures.line ∙ c.in-Some-Gen.is ∙ ap Some c.in-Some-Gen.field-0-is in
+    record {
+      carried = λ line command. carried_as d a b (Gen c.in-Some-Gen.seed c.in-Some-Gen.n) line status (sym is ∙ command) done;
+      bounded = carried_bounded d a b (Gen c.in-Some-Gen.seed c.in-Some-Gen.n) status done;
+      counts = carried_counts d a b (Gen c.in-Some-Gen.seed c.in-Some-Gen.n) status done;
+      usage = usage_not d a b (Gen c.in-Some-Gen.seed c.in-Some-Gen.n) status is done;
+      untouched = λ usage. absurd (not_usage d a b (Gen c.in-Some-Gen.seed c.in-Some-Gen.n) status done usage);
+      complete = λ line command. carried_completes d a b line status (carried_as d a b (Gen c.in-Some-Gen.seed c.in-Some-Gen.n) line status (sym is ∙ command) done);
+      planned = λ k input command calm sure.
+          completes_light k input status (carried_completes d a b (Plan k) status (carried_as d a b (Gen c.in-Some-Gen.seed c.in-Some-Gen.n) (Plan k) status (sym is ∙ command) done) input calm) sure;
+      certified = λ k input command calm sure.
+          completes_sound k input status (carried_completes d a b (Verify k) status (carried_as d a b (Gen c.in-Some-Gen.seed c.in-Some-Gen.n) (Verify k) status (sym is ∙ command) done) input calm) sure;
     }
