@@ -280,6 +280,13 @@ def record_gets():
         yield f"get d /0/{record // GROUP}/{record % GROUP}/{draw.randrange(3)}"
 
 
+def near_gets():
+    """100,000 commands `get` at places of `records` beside each other, in the order of the document."""
+    for index in range(100_000):
+        record = index // 3
+        yield f"get d /0/{record // GROUP}/{record % GROUP}/{index % 3}"
+
+
 def record_edits(words, edits, count=RECORDS):
     """So many edits at random places of `records`, these words in turn. Each record keeps its attribute and a text."""
     draw = random.Random(4)
@@ -348,3 +355,16 @@ def rows(lines):
         if code == "(":
             parents.append(number)
             counts.append(0)
+
+
+def many(count):
+    """The names of so many documents, in the order of their bytes, each with the same lines."""
+    return [(f"d{number:06}", lambda: ["(a", "-some text", "-more", ")a"]) for number in range(count)]
+
+
+def many_edits(words, edits):
+    """So many edits of the first of `many`, these words in turn, of which `insert` comes before `delete`."""
+    places = {"insert": "/0/1 -new", "delete": "/0/1", "retext": "/0/0 "}
+    for index in range(edits):
+        word = words[index % len(words)]
+        yield f"{word} d000000 {places[word]}{prose(index, index % 31) if word == 'retext' else ''}"
