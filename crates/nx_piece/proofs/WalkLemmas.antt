@@ -41,6 +41,21 @@ slots_in_most End = omega arith
 slots_in_most (Grow n b s) = omega (arith, slots_in_most b, slots_in_most s)
 slots_in_most (Gap c s) = omega (arith, slots_in_most s)
 
+mutual_slots : (f : Gapped) → AreApart f → (slots_in f ≤ 3 * gapped_size f + 1) × (BeginsNoGap f → slots_in f ≤ 3 * gapped_size f)
+mutual_slots End h = (omega arith, λ _. omega arith)
+mutual_slots (Grow n b s) h =
+    let p = mutual_slots b h.0 in let q = mutual_slots s h.1 in
+    let x : slots_in b ≤ 3 * gapped_size b + 1 = p.0 in let y : slots_in s ≤ 3 * gapped_size s + 1 = q.0 in
+    (omega arith, λ _. omega arith)
+mutual_slots (Gap c s) h =
+    let q = mutual_slots s h.2 in
+    let y : slots_in s ≤ 3 * gapped_size s = q.1 h.1 in
+    (omega arith, λ bad. absurd bad)
+
+-- nor do these take many slots
+pub slots_few : (f : Gapped) → AreApart f → slots_in f ≤ 3 * gapped_size f + 1
+slots_few f h = (mutual_slots f h).0
+
 -- each node weighs something
 pub nodes_most : (f : Gapped) → gapped_nodes f ≤ gapped_size f
 nodes_most End = omega arith
