@@ -1,5 +1,5 @@
 -- Heads, roots and proxies: how long they are, and that no two begin alike.
-use Rattle.std.proofs.Common.{◌≡◌, ℕ, ◌+◌, ◌-◌, ◌*◌, ◌<◌, ◌≤◌, Bool, true, false, ◌&&◌, List, [], ◌∷◌, ◌++◌, length, take, drop, get_or, refl, sym, ap, ◌∙◌, subst, arith, append_assoc}
+use Rattle.std.proofs.Common.{◌≡◌, ℕ, ◌+◌, ◌-◌, ◌*◌, ◌<◌, ◌≤◌, Bool, true, false, ◌&&◌, ◌||◌, List, [], ◌∷◌, ◌++◌, length, take, drop, get_or, refl, sym, ap, ◌∙◌, subst, arith, append_assoc}
 use Rattle.std.proofs.lemmas.List.{length-append, append-nil, nil_from_length}
 use Rattle.std.proofs.lemmas.Grind.{div_ceil_times}
 use Rattle.std.specs.Bool.{MatchBool}
@@ -12,11 +12,11 @@ use Rattle.nx_piece.specs.PieceNode.{PieceNode, item_content, item_slots}
 use Rattle.nx_piece.specs.Gapped.{Gapped, GappedTree, End, Grow, Gap, item_count, gapped_width, gapped_size, proxies_in, slots_in}
 use Rattle.nx_piece.specs.Encoding.{four_bytes, node_bytes, items_bytes, proxy_bytes, proxies_bytes, items_head_bytes, head_bytes, body_bytes}
 use Rattle.nx_piece.specs.Valid.{AreTrees, BeginsNoGap, HavePages, IsValidBody, IsValidInline, IsValidChained, HaveRoots, HaveNumbers, longest_inline}
-use Rattle.nx_piece.specs.Reading.{alone, HasReadItems, BeginsWithItems, BeginsNoTree, BeginsNoTrees, BeginsNoBody, BeginsNoHead, BeginsNoProxiesHead, IsReadBody, IsLeft}
+use Rattle.nx_piece.specs.Reading.{alone, HasReadItems, BeginsWithItems, BeginsNoTree, BeginsNoRun, BeginsNoItems, BeginsNoBody, BeginsNoHead, BeginsNoProxiesHead, IsReadBody, IsLeft}
 use Rattle.nx_piece.proofs.WalkLemmas.{item_count_most}
 use Rattle.nx_piece.proofs.ApartLemmas.{two_unique, four_unique, row, width_row, IsStorable, one_row, length-content}
 use Rattle.nx_piece.proofs.PageLemmas.{paged, paged_bytes, paged_valid}
-use Rattle.nx_piece.proofs.ReadLemmas.{read_more, read_none, remains, nothing_begins}
+use Rattle.nx_piece.proofs.ReadLemmas.{ItemsRead, ends_in_gap, remains, nothing_begins}
 
 node_length : (n : PieceNode) (i : ℕ) → length (node_bytes n i) ≡ 8 * item_slots n
 node_length n i =
@@ -62,13 +62,8 @@ body_unique {form} {form'} {p} {q} {c} {d} {f} {g} {x} {y} hf hg pf pg e =
       behind = r.1;
     }
 
--- the roots that a loop has read
-pub record RootsRead (bytes : List ℕ) (before : Left) (f : Gapped) (rest : List ℕ) (left : Left) (i : ℕ) : Type 0 where
-  pub read : HasReadItems bytes before f rest left
-  pub counted : gapped_width f ≡ i
-  pub trees : AreTrees f
-
-trees_row : (f : Gapped) (t : GappedTree) → AreTrees f → AreTrees (row f (alone t))
+-- trees stand behind trees
+pub trees_row : (f : Gapped) (t : GappedTree) → AreTrees f → AreTrees (row f (alone t))
 trees_row End t h = tt
 trees_row (Grow n b s) t h = trees_row s t h
 trees_row (Gap c s) t h = absurd h
@@ -83,21 +78,18 @@ trees_first End h = tt
 trees_first (Grow n b s) h = tt
 trees_first (Gap c s) h = h
 
-pub no_root_read : (bytes : List ℕ) (left : Left) → RootsRead bytes left End bytes left 0
-no_root_read bytes left = record { read = read_none bytes left; counted = refl; trees = tt }
+no_gap_next : (are_roots after_run : Bool) (f last : Gapped) → (are_roots ≡ true → AreTrees (row f last)) → (ends_in_gap f ≡ true → BeginsNoGap last) → ends_in_gap f ≡ after_run → (are_roots || after_run) ≡ true → BeginsNoGap last
+no_gap_next true after_run f last trees next run e = trees_first last (row_trees f last (trees refl))
+no_gap_next false after_run f last trees next run e = next (run ∙ e)
 
-pub root_read : {bytes rest behind : List ℕ} {before between after : Left} {f : Gapped} {t : GappedTree} {i : ℕ} → RootsRead bytes before f rest between i → HasReadItems rest between (alone t) behind after → RootsRead bytes before (row f (alone t)) behind after (i + 1)
-root_read {bytes} {rest} {behind} {before} {between} {after} {f} {t} {i} h k =
-    let w = width_row f (alone t) in let c = h.counted in
-    record { read = read_more h.read k (λ _. tt); counted = omega arith; trees = trees_row f t h.trees }
-
--- where a root doesn't begin there are no roots
-pub no_roots : {bytes rest : List ℕ} {before left : Left} {f : Gapped} {i count : ℕ} → RootsRead bytes before f rest left i → IsLeft before → i < count → BeginsNoTree rest left → BeginsNoTrees bytes before count
-no_roots {bytes} {rest} {before} {left} {f} {i} {count} h l within none g behind trees w b =
+-- where an item doesn't begin there are not so many
+pub no_items : {bytes rest : List ℕ} {before left : Left} {f : Gapped} {i count : ℕ} {after_run are_roots : Bool} → ItemsRead bytes before f rest left i after_run → IsLeft before → i < count
+    → BeginsNoTree rest left → BeginsNoRun rest left (are_roots || after_run) → BeginsNoItems bytes before count are_roots
+no_items {bytes} {rest} {before} {left} {f} {i} {count} {after_run} {are_roots} h l within none runs g behind trees w b =
     let n = h.counted in
     let r = remains h.read b l (omega arith) in
     let wide : 0 < gapped_width r.last = let x = ap gapped_width r.is ∙ width_row f r.last in omega arith in
-    nothing_begins {after_run = true} r.begins wide none (λ c y e x. absurd (cc)) (λ e. trees_first r.last (row_trees f r.last (subst AreTrees r.is trees)))
+    nothing_begins r.begins wide none runs (no_gap_next are_roots after_run f r.last (λ e. subst AreTrees r.is (trees e)) r.next h.run)
 
 -- the first proxies are read, and whether each of them has 1 to 256 roots is known
 pub record ProxiesSeen (bytes : List ℕ) (seen : List Proxy) (rest : List ℕ) (fit : Bool) : Type 0 where
@@ -226,10 +218,10 @@ begins_roots {behind} {rest} {roots} {items} {proxies} {p} {f} t valid pages =
       pages = pages;
     }
 
-pub bad_roots : {bytes behind : List ℕ} {form roots items proxies chain : ℕ} → Head bytes behind form roots items proxies chain → BeginsNoTrees behind (start proxies items) roots → BeginsNoBody bytes
+pub bad_roots : {bytes behind : List ℕ} {form roots items proxies chain : ℕ} → Head bytes behind form roots items proxies chain → BeginsNoItems behind (start proxies items) roots true → BeginsNoBody bytes
 bad_roots {bytes} {behind} {form} {roots} {items} {proxies} {chain} head bad form' f p c rest valid pages is =
     let t = head_unique head form' f p c rest valid is in
-    bad f rest valid.trees (sym t.wide) (begins_roots t valid pages)
+    bad f rest (λ _. valid.trees) (sym t.wide) (begins_roots t valid pages)
 
 -- each item takes 8 bytes at least
 items_few : (f : Gapped) → item_count f ≤ slots_in f

@@ -1,5 +1,5 @@
 -- Items pushed onto a flat list: which forest they spell.
-use Rattle.std.proofs.Common.{◌≡◌, ℕ, ◌+◌, ◌-◌, Bool, true, false, List, [], ◌∷◌, ◌++◌, length, drop, slice_set, refl, sym, ap, ◌∙◌, subst, arith, append_assoc}
+use Rattle.std.proofs.Common.{◌≡◌, ℕ, ◌+◌, ◌-◌, Bool, true, false, ◌||◌, List, [], ◌∷◌, ◌++◌, length, drop, slice_get, slice_set, Some, refl, sym, ap, ◌∙◌, subst, arith, append_assoc}
 use Rattle.std.proofs.lemmas.List.{length-append, append-nil}
 use Rattle.std.proofs.Math.Seq.{take-append_seam, drop-append_seam, set-append_seam}
 use Rattle.nx_piece.specs.PieceNode.{PieceNode}
@@ -7,13 +7,14 @@ use Rattle.nx_piece.specs.declared.viewing.NodeView.{NodeView}
 use Rattle.nx_piece.specs.declared.viewing.Flat.{Flat}
 use Rattle.nx_piece.specs.declared.viewing.Flat.TheVariants.{Tree, Run}
 use Rattle.nx_piece.specs.declared.reading.Left.{Left}
-use Rattle.nx_piece.specs.Gapped.{Gapped, GappedTree, End, Grow, Gap, item_count}
+use Rattle.nx_piece.specs.Gapped.{Gapped, GappedTree, End, Grow, Gap, item_count, gapped_width}
 use Rattle.nx_piece.specs.Flat.{seen_node, unflattened, Spells}
+use Rattle.nx_piece.specs.Valid.{AreTrees}
 use Rattle.nx_piece.specs.Reading.{alone, HasPushed, HasReadItems, HasTakenNode, IsLeft}
 use Rattle.nx_piece.proofs.ApartLemmas.{row}
 use Rattle.nx_piece.proofs.FlatLemmas.{first_tree}
-use Rattle.nx_piece.proofs.ReadLemmas.{ItemsRead, no_item_read, tree_read, run_read, whole_tree}
-use Rattle.nx_piece.proofs.BodyLemmas.{RootsRead, no_root_read, root_read}
+use Rattle.nx_piece.proofs.ReadLemmas.{ItemsRead, ends_in_gap, no_item_read, tree_read, run_read, whole_tree}
+use Rattle.nx_piece.proofs.BodyLemmas.{trees_row}
 
 -- what stands behind each other spells a row
 pub spells_row : (a b : List Flat) (f g : Gapped) → Spells a f → Spells b g → Spells (a ++ b) (row f g)
@@ -88,54 +89,57 @@ tree_pushed {old} {begun} {now} {new} {f} node place below begins h at many is =
       spells = (node, h.added, [], ap (λ (l : List Flat). Tree node (length h.added) ∷ l) (sym (append-nil h.added)), refl, h.spells, refl);
     }
 
--- what a loop has read and pushed
-pub record ItemsPushed (old new : List Flat) (bytes : List ℕ) (before : Left) (rest : List ℕ) (left : Left) (i : ℕ) (after_run : Bool) : Type 0 where
+get_at_seam : {A : Type 0} (xs : List A) (y : A) (ys : List A) → slice_get (xs ++ y ∷ ys) (length xs) ≡ Some y
+get_at_seam [] y ys = refl
+get_at_seam (x ∷ xs) y ys = get_at_seam xs y ys
+
+-- behind what was there stands the node still
+pub node_stays : (old : List Flat) {begun now : List Flat} {f : Gapped} (node : NodeView) (place : ℕ) → begun ≡ old ++ Tree node 0 ∷ [] → HasPushed begun now f → place ≡ length old → slice_get now place ≡ Some (Tree node 0)
+node_stays old node place begins h at =
+    ap (λ (l : List Flat). slice_get l place) (h.same ∙ ap (λ (l : List Flat). l ++ h.added) begins ∙ append_assoc old (Tree node 0 ∷ []) h.added)
+    ∙ ap (slice_get (old ++ Tree node 0 ∷ h.added)) at
+    ∙ get_at_seam old (Tree node 0) h.added
+
+-- what a loop has read and pushed; as roots it is trees alone
+pub record ItemsPushed (old new : List Flat) (bytes : List ℕ) (before : Left) (rest : List ℕ) (left : Left) (i : ℕ) (after_run are_roots : Bool) : Type 0 where
   pub forest : Gapped
   pub pushed : HasPushed old new forest
   pub read : ItemsRead bytes before forest rest left i after_run
+  pub trees : are_roots ≡ true → AreTrees forest
 
-pub no_item_pushed : (old : List Flat) (bytes : List ℕ) (left : Left) → ItemsPushed old old bytes left bytes left 0 false
-no_item_pushed old bytes left = record { forest = End; pushed = none_pushed old; read = no_item_read bytes left }
+pub no_item_pushed : (old : List Flat) (bytes : List ℕ) (left : Left) (are_roots : Bool) → ItemsPushed old old bytes left bytes left 0 false are_roots
+no_item_pushed old bytes left are_roots = record { forest = End; pushed = none_pushed old; read = no_item_read bytes left; trees = λ _. tt }
 
 -- a tree that is read and pushed
 abbrev pub TakesTree : (old new : List Flat) (bytes : List ℕ) (before : Left) (behind : List ℕ) (after : Left) → Type 0
 TakesTree old new bytes before behind after = (t : GappedTree) × HasPushed old new (alone t) × HasReadItems bytes before (alone t) behind after
 
-pub tree_item : {old mid new : List Flat} {bytes rest behind : List ℕ} {before between after : Left} {i : ℕ} {after_run : Bool} → ItemsPushed old mid bytes before rest between i after_run → TakesTree mid new rest between behind after
-    → ItemsPushed old new bytes before behind after (i + 1) false
-tree_item {old} {mid} {new} {bytes} {rest} {behind} {before} {between} {after} {i} {after_run} h k =
-    record { forest = row h.forest (alone k.0); pushed = more_pushed h.pushed k.1; read = tree_read h.read k.2 }
+pub tree_item : {old mid new : List Flat} {bytes rest behind : List ℕ} {before between after : Left} {i : ℕ} {after_run are_roots : Bool} → ItemsPushed old mid bytes before rest between i after_run are_roots → TakesTree mid new rest between behind after
+    → ItemsPushed old new bytes before behind after (i + 1) false are_roots
+tree_item {old} {mid} {new} {bytes} {rest} {behind} {before} {between} {after} {i} {after_run} {are_roots} h k =
+    record { forest = row h.forest (alone k.0); pushed = more_pushed h.pushed k.1; read = tree_read h.read k.2; trees = λ e. trees_row h.forest k.0 (h.trees e) }
 
-pub leaf_item : {old mid new : List Flat} {bytes rest behind : List ℕ} {before between after : Left} {i : ℕ} {after_run : Bool} (node : NodeView) → ItemsPushed old mid bytes before rest between i after_run
-    → HasReadItems rest between (Grow (seen_node node) End End) behind after → new ≡ mid ++ Tree node 0 ∷ [] → ItemsPushed old new bytes before behind after (i + 1) false
-leaf_item node h k is = tree_item h (record { node = seen_node node; below = End }, leaf_pushed node is, k)
+neither : (a b : Bool) → (a || b) ≡ false → (a ≡ false) × (b ≡ false)
+neither true b e = absurd (cc)
+neither false b e = (refl, e)
 
-pub run_item : {old mid new : List Flat} {bytes rest behind : List ℕ} {before between after : Left} {count i : ℕ} {after_run : Bool} → ItemsPushed old mid bytes before rest between i after_run
-    → (after_run ≡ false) × HasReadItems rest between (Gap count End) behind after → new ≡ mid ++ Run count ∷ [] → ItemsPushed old new bytes before behind after (i + 1) true
-run_item {old} {mid} {new} {bytes} {rest} {behind} {before} {between} {after} {count} {i} {after_run} h k is =
-    record { forest = row h.forest (Gap count End); pushed = more_pushed h.pushed (run_pushed count is); read = run_read h.read k }
+pub run_item : {old mid new : List Flat} {bytes rest behind : List ℕ} {before between after : Left} {count i : ℕ} {after_run are_roots : Bool} → ItemsPushed old mid bytes before rest between i after_run are_roots
+    → ((are_roots || after_run) ≡ false) × HasReadItems rest between (Gap count End) behind after → new ≡ mid ++ Run count ∷ [] → ItemsPushed old new bytes before behind after (i + 1) true are_roots
+run_item {old} {mid} {new} {bytes} {rest} {behind} {before} {between} {after} {count} {i} {after_run} {are_roots} h k is =
+    let none = neither are_roots after_run k.0 in
+    record { forest = row h.forest (Gap count End); pushed = more_pushed h.pushed (run_pushed count is); read = run_read h.read (none.1, k.1); trees = λ e. let f = none.0 in absurd (cc) }
 
 -- no more is left behind what is read
 pub left_few : {bytes rest : List ℕ} {before left : Left} {f : Gapped} → HasReadItems bytes before f rest left → IsLeft before → IsLeft left
 left_few h l = let a = h.room in let b = h.proxies in let r = l.room in let p = l.proxies in record { room = omega arith; proxies = omega arith }
 
 -- the head of a tree and all its items are read and pushed
-pub tree_taken : {old begun now new : List Flat} {bytes behind rest : List ℕ} {before between left : Left} {count i place below : ℕ} {after_run : Bool} (node : NodeView) → HasTakenNode bytes before (seen_node node) count behind between
-    → begun ≡ old ++ Tree node 0 ∷ [] → ItemsPushed begun now behind between rest left i after_run → i ≡ count → place ≡ length old → below ≡ between.items - left.items → new ≡ slice_set now place (Tree node below)
+pub tree_taken : {old begun now new : List Flat} {bytes behind rest : List ℕ} {before between left : Left} {count place below : ℕ} {f : Gapped} (node : NodeView) → HasTakenNode bytes before (seen_node node) count behind between
+    → begun ≡ old ++ Tree node 0 ∷ [] → HasPushed begun now f → HasReadItems behind between f rest left → gapped_width f ≡ count → place ≡ length old → below ≡ between.items - left.items → new ≡ slice_set now place (Tree node below)
     → TakesTree old new bytes before rest left
-tree_taken {old} {begun} {now} {new} {bytes} {behind} {rest} {before} {between} {left} {count} {i} {place} {below} {after_run} node head begins h all at many is =
-    let sum = h.read.read.items in
-    (record { node = seen_node node; below = h.forest }, tree_pushed node place below begins h.pushed at (let q : below ≡ item_count h.forest = omega arith in q) is, whole_tree head h.read all)
-
--- the roots that a loop has read and pushed
-pub record RootsPushed (old new : List Flat) (bytes : List ℕ) (before : Left) (rest : List ℕ) (left : Left) (i : ℕ) : Type 0 where
-  pub forest : Gapped
-  pub pushed : HasPushed old new forest
-  pub read : RootsRead bytes before forest rest left i
-
-pub no_root_pushed : (old : List Flat) (bytes : List ℕ) (left : Left) → RootsPushed old old bytes left bytes left 0
-no_root_pushed old bytes left = record { forest = End; pushed = none_pushed old; read = no_root_read bytes left }
-
-pub root_pushed : {old mid new : List Flat} {bytes rest behind : List ℕ} {before between after : Left} {i : ℕ} → RootsPushed old mid bytes before rest between i → TakesTree mid new rest between behind after → RootsPushed old new bytes before behind after (i + 1)
-root_pushed {old} {mid} {new} {bytes} {rest} {behind} {before} {between} {after} {i} h k =
-    record { forest = row h.forest (alone k.0); pushed = more_pushed h.pushed k.1; read = root_read h.read k.2 }
+tree_taken {old} {begun} {now} {new} {bytes} {behind} {rest} {before} {between} {left} {count} {place} {below} {f} node head begins pushed read wide at many is =
+    let sum = read.items in (
+      record { node = seen_node node; below = f },
+      tree_pushed node place below begins pushed at (let q : below ≡ item_count f = omega arith in q) is,
+      whole_tree {i = gapped_width f} {after_run = ends_in_gap f} head (record { read = read; counted = refl; run = refl }) wide,
+    )

@@ -5,7 +5,7 @@ use Rattle.nx_piece.specs.PieceNode.{PieceNode, item_slots, MayBeFar}
 use Rattle.nx_piece.specs.Gapped.{Gapped, GappedTree, End, Grow, Gap, item_count, gapped_width, gapped_size, proxies_in}
 use Rattle.nx_piece.specs.Encoding.{node_bytes, run_bytes, items_bytes}
 use Rattle.nx_piece.specs.Valid.{AreApart, AreFar, BeginsNoGap, HavePages}
-use Rattle.nx_piece.specs.Reading.{alone, HasReadItems, BeginsWithItems, BeginsNoTree, BeginsNoRun, HasTakenNode, IsLeft}
+use Rattle.nx_piece.specs.Reading.{alone, HasReadItems, BeginsWithItems, BeginsNoTree, BeginsNoRun, BeginsNoItems, HasTakenNode, IsLeft}
 use Rattle.nx_piece.proofs.WalkLemmas.{item_count_most, width_most}
 use Rattle.nx_piece.proofs.ApartLemmas.{row, width_row, IsStorable, node_unique, grow_bytes, goes_on}
 
@@ -225,19 +225,15 @@ whole_tree {bytes} {behind} {rest} {before} {left} {after} {node} {count} {i} {f
 pub lone_node : {bytes behind : List ℕ} {before left : Left} {node : PieceNode} {count : ℕ} → HasTakenNode bytes before node count behind left → count ≡ 0 → HasReadItems bytes before (Grow node End End) behind left
 lone_node {bytes} {behind} {before} {left} {node} {count} h none = whole_tree h (no_item_read behind left) (sym none)
 
--- where an item of a tree doesn't begin there is no tree
-pub no_tree : {bytes behind rest : List ℕ} {before left between : Left} {node : PieceNode} {count i : ℕ} {f : Gapped} {after_run : Bool} → HasTakenNode bytes before node count behind left → IsLeft before → count < 65536
-    → ItemsRead behind left f rest between i after_run → i < count → BeginsNoTree rest between → BeginsNoRun rest between after_run → BeginsNoTree bytes before
-no_tree {bytes} {behind} {rest} {before} {left} {between} {node} {count} {i} {f} {after_run} h l fits k within trees runs t last b =
+-- where the items of a tree don't begin there is no tree
+pub no_tree : {bytes behind : List ℕ} {before left : Left} {node : PieceNode} {count : ℕ} → HasTakenNode bytes before node count behind left → IsLeft before → count < 65536 → BeginsNoItems behind left count false → BeginsNoTree bytes before
+no_tree {bytes} {behind} {before} {left} {node} {count} h l fits none t last b =
     let own : item_slots t.node ≤ 256 = let r = b.room in let q = l.room in omega arith in
     let mine : item_slots node ≤ 256 = let r = h.room in let q = l.room in omega arith in
     let few : gapped_width t.below < 65536 = let r = b.room in let q = l.room in let s = item_count_most t.below b.apart.0 in let w = width_most t.below in omega arith in
     let told = node_unique mine own h.far b.far.0 h.page b.pages.0 fits few (sym h.same ∙ b.same ∙ sym (grow_bytes t.node t.below End last)) in
-    let same_count : count ≡ gapped_width t.below = told.1 in
     let same_size : item_slots node ≡ item_slots t.node = ap item_slots told.0 in
-    let w = k.counted in
-    let left_is = head_left _ _ _ _ _ _ h l in
-    let r = remains k.read
+    none t.below last (λ e. absurd (cc)) (sym told.1)
     (record {
       same = told.2;
       room = let x = b.room in let y = h.room in omega arith;
@@ -246,9 +242,7 @@ no_tree {bytes} {behind} {rest} {before} {left} {between} {node} {count} {i} {f}
       apart = b.apart.0;
       far = b.far.1;
       pages = b.pages.1;
-    }) left_is (omega arith) in
-    let wide : 0 < gapped_width r.last = let x = ap gapped_width r.is ∙ width_row f r.last in omega arith in
-    nothing_begins r.begins wide trees runs (λ e. r.next (k.run ∙ e))
+    })
 
 -- where no node begins there is no tree
 pub no_head : (bytes : List ℕ) (left : Left) → IsLeft left → ((node : PieceNode) (items : ℕ) (behind : List ℕ) → item_slots node ≤ left.room → MayBeFar node → items < 65536 → bytes ≡ node_bytes node items ++ behind → ⊥) → BeginsNoTree bytes left

@@ -1,5 +1,5 @@
 -- What is read of the items so far, and what may still come.
-use Rattle.std.specs.Prelude.{◌≡◌, ℕ, suc, ◌+◌, ◌<◌, ◌≤◌, Bool, false, List, ◌++◌, length, Option}
+use Rattle.std.specs.Prelude.{◌≡◌, ℕ, suc, ◌+◌, ◌<◌, ◌≤◌, Bool, true, false, List, ◌++◌, length, Option}
 use Rattle.nx_tree.specs.declared.node.Kind.{Kind}
 use Rattle.nx_piece.specs.declared.reading.Head.{Head}
 use Rattle.nx_piece.specs.declared.reading.Left.{Left}
@@ -50,9 +50,10 @@ BeginsNoTree bytes left = (t : GappedTree) (behind : List ℕ) → BeginsWithIte
 abbrev pub BeginsNoRun : List ℕ → Left → Bool → Type 0
 BeginsNoRun bytes left after_run = (count : ℕ) (behind : List ℕ) → after_run ≡ false → BeginsWithItems bytes left (Gap count End) behind → ⊥
 
--- the bytes don't begin with so many trees
-abbrev pub BeginsNoTrees : List ℕ → Left → ℕ → Type 0
-BeginsNoTrees bytes left count = (f : Gapped) (behind : List ℕ) → AreTrees f → gapped_width f ≡ count → BeginsWithItems bytes left f behind → ⊥
+-- the bytes don't begin with so many items beside each other, which as roots are trees alone
+abbrev pub BeginsNoItems : List ℕ → Left → ℕ → (are_roots : Bool) → Type 0
+BeginsNoItems bytes left count are_roots =
+    (f : Gapped) (behind : List ℕ) → (are_roots ≡ true → AreTrees f) → gapped_width f ≡ count → BeginsWithItems bytes left f behind → ⊥
 
 -- at most as much is left as a piece may have
 pub record IsLeft (left : Left) : Type 0 where

@@ -1,5 +1,5 @@
 // The bytes of a stored piece, read.
-ghost use Rattle.std.specs.Prelude.{◌≡◌, ℕ, false, ◌+◌, ◌*◌, ◌<◌, ◌≤◌, List, ◌∷◌, ◌++◌, length, IfOk, IfSome, MatchOption};
+ghost use Rattle.std.specs.Prelude.{◌≡◌, ℕ, true, false, ◌+◌, ◌*◌, ◌<◌, ◌≤◌, List, [], ◌∷◌, ◌++◌, length, slice_get, slice_set, Some, IfOk, MatchOption};
 ghost use Rattle.std.proofs.Math.ListN.{replicate};
 ghost use Rattle.std.specs.Bool.{MatchBool};
 ghost use Rattle.std.specs.Vec.{vec_len, vec_capacity};
@@ -10,9 +10,11 @@ ghost use Rattle.nx_piece.specs.Gapped.{Gapped, GappedTree, End, Grow, Gap, gapp
 ghost use Rattle.nx_piece.specs.declared.piece.Proxy.{Proxy};
 ghost use Rattle.nx_piece.specs.Valid.{AreTrees, HaveRoots, HaveNumbers};
 ghost use Rattle.nx_piece.specs.Decoded.{IsDecoded};
+ghost use Rattle.nx_piece.specs.declared.viewing.NodeView.{NodeView};
+ghost use Rattle.nx_piece.specs.declared.viewing.Flat.TheVariants.{Tree};
 ghost use Rattle.nx_piece.specs.Flat.{seen_node};
 ghost use Rattle.nx_piece.specs.Viewing.{viewed};
-ghost use Rattle.nx_piece.specs.Reading.{alone, HasReadItems, HasPushed, AreNoProxies, BeginsNoTree, BeginsNoRun, BeginsNoTrees, BeginsNoBody, BeginsNoNode, BeginsNoNodeHead, BeginsNoContent, AreNoContent, IsContent, BeginsNoRunItem, BeginsNoHead, BeginsNoItemsHead, BeginsNoProxiesHead, IsHeadRead, IsReadBody, HasTakenNode, IsLeft};
+ghost use Rattle.nx_piece.specs.Reading.{alone, HasReadItems, HasPushed, AreNoProxies, BeginsNoTree, BeginsNoRun, BeginsNoItems, BeginsNoBody, BeginsNoNode, BeginsNoNodeHead, BeginsNoContent, AreNoContent, IsContent, BeginsNoRunItem, BeginsNoHead, BeginsNoItemsHead, BeginsNoProxiesHead, IsHeadRead, IsReadBody, HasTakenNode, IsLeft};
 
 use crate::viewing::Flat;
 use crate::{BodyView, Far, NodeView, PieceView, Proxies, Proxy, StoredView};
@@ -118,7 +120,7 @@ fn read_body<'a>(
         items: head.items,
     };
     let mut flat = Vec::with_capacity(alloc, room)?;
-    let Some((rest, left)) = read_roots(&mut flat, behind, roots, before) else {
+    let Some((rest, left)) = read_items(&mut flat, behind, roots, before, true) else {
         return Ok(None);
     };
     if left.proxies != 0 {
@@ -132,55 +134,30 @@ fn read_body<'a>(
     Ok(Some((head, body, rest, length)))
 }
 
-// Adds so many trees to the flat list; what stands behind them.
-fn read_roots<'a>(
+// Adds so many items that stand beside each other, to any depth, to the flat list; what stands behind them. As roots they
+// are trees alone.
+#[cycle(items)]
+fn read_items<'a>(
     flat: &mut Vec<Flat<'a>>,
     bytes: &'a [u8],
     count: u16,
     left: Left,
+    are_roots: bool,
 ) -> Option<(&'a [u8], Left)>
     requires few { IsLeft left }
     requires room { vec_len flat.old + left.items ≤ vec_capacity flat.old }
-    ensures { MatchOption result (BeginsNoTrees bytes.now left count) (λ found. (f : Gapped) × HasPushed flat.old.items flat.new.items f × HasReadItems bytes.now left f found.0.now found.1 × AreTrees f × (gapped_width f ≡ count)) }
+    ensures items { MatchOption result (BeginsNoItems bytes.now left count are_roots) (λ found. (f : Gapped) × HasPushed flat.old.items flat.new.items f × HasReadItems bytes.now left f found.0.now found.1 × (are_roots ≡ true → AreTrees f) × (gapped_width f ≡ count)) }
+    ensures capacity { vec_capacity flat.new ≡ vec_capacity flat.old }
 {
     let mut rest = bytes;
     let mut left = left;
-    for _ in 0..count {
-        let Some((behind, after)) = read_tree(flat, rest, left) else {
-            return None;
-        };
-        rest = behind;
-        left = after;
-    }
-    Some((rest, left))
-}
-
-// Adds a tree, to any depth, to the flat list; what stands behind it.
-fn read_tree<'a>(flat: &mut Vec<Flat<'a>>, bytes: &'a [u8], left: Left) -> Option<(&'a [u8], Left)>
-    requires few { IsLeft left }
-    requires room { vec_len flat.old + left.items ≤ vec_capacity flat.old }
-    ensures tree { MatchOption result (BeginsNoTree bytes.now left) (λ found. (t : GappedTree) × HasPushed flat.old.items flat.new.items (alone t) × HasReadItems bytes.now left (alone t) found.0.now found.1) }
-    ensures capacity { vec_capacity flat.new ≡ vec_capacity flat.old }
-{
-    let Some((node, count, behind, between)) = take_node(bytes, left) else {
-        return None;
-    };
-    let place = flat.len();
-    flat.push_reserved(Flat::Tree { node, below: 0 });
-    let mut rest = behind;
-    let mut left = between;
     let mut after_run = false;
     for _ in 0..count {
-        if let Some((run, behind, after)) = take_run(rest, left, after_run) {
+        if let Some((run, behind, after)) = take_run(rest, left, are_roots || after_run) {
             flat.push_reserved(Flat::Run { count: run });
             rest = behind;
             left = after;
             after_run = true;
-        } else if let Some((node, behind, after)) = take_leaf(rest, left) {
-            flat.push_reserved(Flat::Tree { node, below: 0 });
-            rest = behind;
-            left = after;
-            after_run = false;
         } else {
             let Some((behind, after)) = read_tree(flat, rest, left) else {
                 return None;
@@ -190,43 +167,66 @@ fn read_tree<'a>(flat: &mut Vec<Flat<'a>>, bytes: &'a [u8], left: Left) -> Optio
             after_run = false;
         }
     }
-    let below = between.items - left.items;
-    flat[place] = Flat::Tree { node, below };
     Some((rest, left))
 }
 
-// The head of a tree that may come here, with its number of child items, and what stands behind it.
-fn take_node(bytes: &[u8], left: Left) -> Option<(NodeView<'_>, u16, &[u8], Left)>
-    requires { IsLeft left }
-    ensures { MatchOption result (BeginsNoTree bytes.now left) (λ found. HasTakenNode bytes.now left (seen_node found.0) found.1 found.2.now found.3 × (found.1 < 65536)) }
+// Adds a tree, to any depth, to the flat list; what stands behind it.
+#[cycle(items)]
+fn read_tree<'a>(flat: &mut Vec<Flat<'a>>, bytes: &'a [u8], left: Left) -> Option<(&'a [u8], Left)>
+    requires few { IsLeft left }
+    requires room { vec_len flat.old + left.items ≤ vec_capacity flat.old }
+    ensures tree { MatchOption result (BeginsNoTree bytes.now left) (λ found. (t : GappedTree) × HasPushed flat.old.items flat.new.items (alone t) × HasReadItems bytes.now left (alone t) found.0.now found.1) }
+    ensures capacity { vec_capacity flat.new ≡ vec_capacity flat.old }
+{
+    let place = flat.len();
+    let Some((count, behind, between)) = push_tree_head(flat, bytes, left) else {
+        return None;
+    };
+    if count == 0 {
+        return Some((behind, between));
+    }
+    let Some((rest, after)) = read_items(flat, behind, count, between, false) else {
+        return None;
+    };
+    set_below(flat, place, between.items - after.items);
+    Some((rest, after))
+}
+
+// Adds the head of a tree that may come here to the flat list; its number of child items, and what stands behind it.
+fn push_tree_head<'a>(
+    flat: &mut Vec<Flat<'a>>,
+    bytes: &'a [u8],
+    left: Left,
+) -> Option<(u16, &'a [u8], Left)>
+    requires few { IsLeft left }
+    requires room { vec_len flat.old + left.items ≤ vec_capacity flat.old }
+    ensures node { MatchOption result (BeginsNoTree bytes.now left) (λ found. (node : NodeView) × (flat.new.items ≡ flat.old.items ++ Tree node 0 ∷ []) × HasTakenNode bytes.now left (seen_node node) found.0 found.1.now found.2 × (found.0 < 65536)) }
+    ensures capacity { vec_capacity flat.new ≡ vec_capacity flat.old }
 {
     if left.items == 0 {
         return None;
     }
-    let Some((node, count, behind)) = read_node(bytes, left.room) else {
+    let Some((node, count, behind, slots)) = read_node(bytes, left.room) else {
         return None;
     };
     let left = Left {
-        room: left.room - node.size(),
+        room: left.room - slots,
         proxies: left.proxies,
         items: left.items - 1,
     };
-    Some((node, count, behind, left))
+    flat.push_reserved(Flat::Tree { node, below: 0 });
+    Some((count, behind, left))
 }
 
-// A tree of one node that may come here, and what stands behind it.
-fn take_leaf(bytes: &[u8], left: Left) -> Option<(NodeView<'_>, &[u8], Left)>
-    requires { IsLeft left }
-    ensures { IfSome result (λ found. HasReadItems bytes.now left (Grow (seen_node found.0) End End) found.1.now found.2) }
+// Notes how many items stand below the node at this place of the flat list.
+fn set_below(flat: &mut Vec<Flat<'_>>, place: usize, below: u32)
+    requires { place < vec_len flat.old }
+    ensures below { (node : NodeView) → slice_get flat.old.items place ≡ Some (Tree node 0) → flat.new.items ≡ slice_set flat.old.items place (Tree node below) }
+    ensures capacity { vec_capacity flat.new ≡ vec_capacity flat.old }
 {
-    let [_, _, _, _, _, _, 0, 0, ..] = bytes else {
-        return None;
-    };
-    let (node, count, behind, left) = take_node(bytes, left)?;
-    if count != 0 {
-        return None;
+    if let Flat::Tree { node, .. } = flat[place] {
+        flat[place] = Flat::Tree { node, below };
     }
-    Some((node, behind, left))
 }
 
 // What the rest of a piece may have: slots of nodes, proxies and items.
@@ -256,16 +256,16 @@ fn take_run(bytes: &[u8], left: Left, after_run: bool) -> Option<(u32, &[u8], Le
     Some((count, behind, left))
 }
 
-// A node with its number of child items, and what stands behind it.
-fn read_node(bytes: &[u8], room: u32) -> Option<(NodeView<'_>, u16, &[u8])>
+// A node with its number of child items, what stands behind it, and how many slots its item takes.
+fn read_node(bytes: &[u8], room: u32) -> Option<(NodeView<'_>, u16, &[u8], u32)>
     requires { room ≤ 256 }
-    ensures { MatchOption result (BeginsNoNode bytes.now room) (λ found. (bytes.now ≡ node_bytes (seen_node found.0) found.1 ++ found.2.now) × (item_slots (seen_node found.0) ≤ room) × MayBeFar (seen_node found.0) × HasFarPage found.0.far × (found.1 < 65536)) }
+    ensures { MatchOption result (BeginsNoNode bytes.now room) (λ found. (bytes.now ≡ node_bytes (seen_node found.0) found.1 ++ found.2.now) × (found.3 ≡ item_slots (seen_node found.0)) × (item_slots (seen_node found.0) ≤ room) × MayBeFar (seen_node found.0) × HasFarPage found.0.far × (found.1 < 65536)) }
 {
     let Some((kind, far, name, content, items, behind)) = read_node_head(bytes) else {
         return None;
     };
-    let slots = (usize::from(name) + usize::from(content)).div_ceil(8);
-    if slots as u32 >= room {
+    let slots = 1 + (usize::from(name) + usize::from(content)).div_ceil(8) as u32;
+    if slots > room {
         return None;
     }
     let Some((name, content, rest)) = read_content(behind, name, content) else {
@@ -274,7 +274,7 @@ fn read_node(bytes: &[u8], room: u32) -> Option<(NodeView<'_>, u16, &[u8])>
     let Some(node) = node_with(kind, far, name, content) else {
         return None;
     };
-    Some((node, items, rest))
+    Some((node, items, rest, slots))
 }
 
 // The node with these bytes in its content's place: a far one says there where the content stands.

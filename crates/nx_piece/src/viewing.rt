@@ -1,7 +1,7 @@
 // The nodes of a record as they lie in its bytes, as one flat list.
 ghost use Rattle.std.specs.Prelude.{◌≡◌, ◌≤◌, IfOk, MatchOption};
 ghost use Rattle.std.specs.Prelude.{None};
-ghost use Rattle.nx_piece.specs.PieceNode.{near, content_length, item_slots, node_weight, IsShortNode};
+ghost use Rattle.nx_piece.specs.PieceNode.{near, content_length, node_weight, IsShortNode};
 ghost use Rattle.nx_piece.specs.Gapped.{End, gapped_width, gapped_nodes, gapped_size, gapped_weight, proxies_in};
 ghost use Rattle.nx_piece.specs.Valid.{AreFar};
 ghost use Rattle.nx_piece.specs.Flat.{seen_node, unflattened};
@@ -62,18 +62,6 @@ impl NodeView<'_> {
         ensures { result ≡ node_weight (seen_node self.entry) }
     {
         weight_of(self.name.len() as u32, self.content_len())
-    }
-
-    // How many slots the node's item takes.
-    pub(crate) fn size(self) -> u32
-        requires { item_slots (seen_node self) ≤ 256 }
-        ensures { result ≡ item_slots (seen_node self.entry) }
-    {
-        let content = match self.far {
-            None => self.content.len(),
-            Some(_) => 8,
-        };
-        1 + (self.name.len() + content).div_ceil(8) as u32
     }
 }
 
