@@ -2,11 +2,11 @@
 ghost use Rattle.std.specs.Prelude.{◌≡◌, IfOk};
 ghost use Rattle.nx_piece.specs.Valid.{AreTrees};
 ghost use Rattle.nx_piece.specs.Decoded.{IsDecoded};
-ghost use Rattle.nx_piece.specs.Viewing.{seen_tree};
+ghost use Rattle.nx_piece.specs.Viewing.{seen_items, seen_tree};
 
 use crate::{
-    Body, BodyView, Item, ItemView, Items, Piece, PieceTree, PieceTrees, PieceView, Stored,
-    StoredView, TreeView, view,
+    Body, BodyView, Item, ItemView, Items, ItemsView, Piece, PieceTree, PieceTrees, PieceView,
+    Stored, StoredView, TreeView, view,
 };
 use nx_tree::NoMemory;
 use std::alloc::Global;
@@ -63,23 +63,39 @@ fn copy_body(alloc: Global, body: &BodyView<'_>) -> Result<Body, NoMemory>
     })
 }
 
-// A copy of a tree, to any depth.
+// A copy of a tree.
 fn copy_tree(alloc: Global, tree: TreeView<'_>) -> Result<PieceTree, NoMemory>
     ensures { IfOk result (λ copy. copy ≡ seen_tree tree.entry) }
 {
     let node = tree.node.copy(alloc)?;
-    let mut children = Vec::with_capacity(alloc, tree.children.len())?;
-    let mut rest = tree.children;
-    while let Some((item, behind)) = rest.split_first() {
-        match item {
-            ItemView::Tree(child) => children.push_reserved(Item::Tree(copy_tree(alloc, child)?)),
-            ItemView::Run { count } => children.push_reserved(Item::Run { count }),
-        }
-        rest = behind;
-    }
+    let children = copy_items(alloc, tree.children)?;
     Ok(PieceTree {
         node,
         far: tree.node.far,
-        children: Items::from_vec(children),
+        children,
     })
+}
+
+// A copy of items, to any depth.
+fn copy_items(alloc: Global, items: ItemsView<'_>) -> Result<Items, NoMemory>
+    ensures { IfOk result (λ copy. copy ≡ seen_items items.entry) }
+{
+    let mut copies = Vec::with_capacity(alloc, items.len())?;
+    let mut rest = items;
+    while let Some((item, behind)) = rest.split_first() {
+        match item {
+            ItemView::Tree(tree) => {
+                let node = tree.node.copy(alloc)?;
+                let children = copy_items(alloc, tree.children)?;
+                copies.push_reserved(Item::Tree(PieceTree {
+                    node,
+                    far: tree.node.far,
+                    children,
+                }));
+            }
+            ItemView::Run { count } => copies.push_reserved(Item::Run { count }),
+        }
+        rest = behind;
+    }
+    Ok(Items::from_vec(copies))
 }
