@@ -1,5 +1,5 @@
 -- A conversation over a store: commands that came, turns that are had of them, and how it ends.
-use Rattle.std.proofs.Common.{◌≡◌, inl, inr, ℕ, ◌≤◌, true, List, [], ◌∷◌, ◌++◌, length, Option, None, Some, IfSome, IsSome, Ok, Err, refl, sym, ap, ◌∙◌, subst, arith, append_assoc, append-nil}
+use Rattle.std.proofs.Common.{◌≡◌, inl, inr, ℕ, ◌+◌, ◌≤◌, true, List, [], ◌∷◌, ◌++◌, length, Option, None, Some, IfSome, IsSome, Ok, Err, refl, sym, ap, ◌∙◌, subst, arith, append_assoc, append-nil}
 use Rattle.std.proofs.lemmas.Bool.{false≢true}
 use Rattle.nx_host.specs.declared.disk.Disk.{Ghosts}
 use Rattle.nx_host.specs.Disk.{Image, Beside, Keeps, Rose}
@@ -8,8 +8,11 @@ use Rattle.nx_host.specs.Input.{most_input}
 use Rattle.nx_host.specs.Time.{Stood, Elapses, none_elapsed, elapsed_then, elapsed_weaker}
 use Rattle.nx_host.specs.Phase.{LeavesAreas, TakesAlone, GivesAlone}
 use Rattle.nx_host.specs.Still.{IsStill, IsSettled}
-use Rattle.nx_host.proofs.DiskLemmas.{keeps_self}
+use Rattle.nx_host.proofs.DiskLemmas.{keeps_self, settled_still}
 use Rattle.nx_host.proofs.OutputLemmas.{appends_then, takes_nothing}
+use Rattle.nx_holdings.specs.Holdings.{HoldsBy}
+use Rattle.nx_holdings.proofs.OneLemmas.{hold_one}
+use Rattle.nx_records.specs.Words.{replay, Held, Holds}
 use Rattle.nx_records.specs.Records.{HasHeader}
 use Rattle.nx_script.specs.declared.command.Command.{Command}
 use Rattle.nx_script.specs.declared.command.Command.TheVariants.{Checkpoint}
@@ -26,19 +29,25 @@ use Rattle.nx_store.specs.declared.store.Store.{Store}
 use Rattle.nx_store.specs.declared.error.EngineError.{EngineError}
 use Rattle.nx_store.specs.declared.error.EngineError.TheVariants as engine
 use Rattle.nx_store.specs.Store.{IsAt, TakesNone, NotOpened}
-use Rattle.nx_store.proofs.AtLemmas.{at_image}
+use Rattle.nx_store.specs.Staying.{HoldsOn}
+use Rattle.nx_store.specs.Reads.{opening_reads, ReadsOpening, is_lookup, ReadsFor, ReadsWithin}
+use Rattle.nx_store.proofs.AtLemmas.{at_image, at_beside}
+use Rattle.nx_store.proofs.FoundLemmas.{same_some}
+use Rattle.nx_store.proofs.StayingLemmas.{held_on}
 use Rattle.nx_filters.specs.declared.status.Status.{Status}
 use Rattle.nx_filters.specs.declared.status.Status.TheVariants.{Done, Usage, Refused, DiskFault, ReadFault, WriteFault, NoMemory, NotAStore, Damaged, TooMuch}
 use Rattle.nx_filters.specs.declared.give.GiveError.{GiveError}
 use Rattle.nx_filters.specs.TakeError.{status_of_script, status_of_give_error}
 use Rattle.nx_filters.specs.Outcome.{TakesFew, CountsGrow, EndsWhole, Given}
-use Rattle.nx_front.specs.Serving.{Turn, AreFirst, state_after, commands_of, texts_of, ShowsMoment, ShowsBetween, LeavesMoments, EndsBetween, AreOfTaken, EndsServing, EndsWithCheckpoint, HasEmptyLog, LeavesAll, ServesFrom, IsCaused, EndsWithoutHeader, Serves}
-use Rattle.nx_front.specs.Conversation.{ShowsReached, HasRun, IsLater, IsConversing, AnswersNext, BeginsNext, StopsShort, IsUnanswered, IsEnded, Converses, status_of_engine}
+use Rattle.nx_front.specs.Serving.{Turn, AreFirst, state_after, commands_of, texts_of, ShowsMoment, ShowsBetween, LeavesMoments, EndsBetween, AreOfTaken, EndsServing, EndsWithCheckpoint, HasEmptyLog, LeavesAll, ReadsLookups, ServesFrom, IsCaused, EndsWithoutHeader, Serves}
+use Rattle.nx_front.specs.Lookups.{AreLookups, ReadForAll}
+use Rattle.nx_front.specs.Conversation.{ShowsReached, HasRun, HasLookedUp, IsLater, IsConversing, AnswersNext, BeginsNext, StopsShort, IsUnanswered, IsEnded, Converses, status_of_engine}
 use Rattle.nx_filters.proofs.OutcomeLemmas.{rose_since, told_at_first, kept_appends, keeps_of}
 use Rattle.nx_front.proofs.ClockLemmas.{HasClock, at_end}
 use Rattle.nx_front.proofs.MomentLemmas.{every_moment, every_between, reached_none, commands_more}
 use Rattle.nx_front.proofs.ServeLemmas.{served_none, served_filled, given_block, run_block, between_served, between_block, all_given, stops_giving, block_stopped}
 use Rattle.nx_front.proofs.UntakenLemmas.{of_taken, first_of_taken, none_of_taken, none_came, not_none, none_left, left_then, left_still, left_taken, left_given}
+use Rattle.nx_front.proofs.LookupLemmas.{lookups_but_last, read_more}
 use Rattle.nx_front.proofs.ServingLaws.{serving_together}
 
 -- What was taken:
@@ -189,6 +198,68 @@ module _ {D : Type 0} {d : Ghosts D} where
     faults_later = let same : d.faults b ≡ d.faults a = leaves.faults_stay in omega arith;
   }
 
+  -- Lookups that came:
+
+  -- before the first
+  looked_none : {a : D} {store : Store} {state : State} (at : IsAt d store a state) → HasLookedUp d at.held state [] store a a
+  looked_none at = record { at = at; same = refl; pages = 0; are = refl; few = omega arith }
+
+  -- what one more reads
+  read_by_more : {held : Held} {state : State} {commands : List Command} {store : Store} {first now next : D} (command : Command) → HasLookedUp d held state commands store first now →
+      ReadsWithin d command store now next → (pages : ℕ) × ReadForAll held state (commands ++ command ∷ []) pages × (d.reads next ≤ d.reads first + pages)
+  read_by_more {held = held} {state = state} {commands = commands} {first = first} {now = now} command looked reads =
+      let (own, few, of_it) = reads state looked.at in
+      let before : d.reads now ≤ d.reads first + looked.pages = looked.few in (
+        looked.pages + own,
+        read_more held state commands command looked.pages own looked.are (subst (λ (h : Held). ReadsFor h state command own) looked.same of_it),
+        omega (arith, before, few),
+      )
+
+  -- one more is answered
+  looked_more : {held : Held} {state : State} {commands : List Command} {store store' : Store} {first now next : D} (command : Command) → HasLookedUp d held state commands store first now →
+      HoldsOn d store store' now next → ReadsWithin d command store now next → IsSome (d.contents next) → HasLookedUp d held state (commands ++ command ∷ []) store' first next
+  looked_more {state = state} {store = store} {store' = store'} {now = now} {next = next} command looked holds reads told =
+      let (pages, are, few) = read_by_more command looked reads in
+      record { at = held_on d store store' now next holds state looked.at told; same = looked.same; pages = pages; are = are; few = few }
+
+  -- while the disk is left
+  looked_beside : {held : Held} {state : State} {commands : List Command} {store : Store} {first now next : D} {P : Option (List ℕ) → Type 0} → LeavesAreas d now next P → IsSome (d.contents next) →
+      HasLookedUp d held state commands store first now → HasLookedUp d held state commands store first next
+  looked_beside {first = first} {now = now} {next = next} leaves told looked = record {
+    at = at_beside leaves told looked.at;
+    same = looked.same;
+    pages = looked.pages;
+    are = looked.are;
+    few = let same : d.reads next ≡ d.reads now = leaves.reads_stay in let before : d.reads now ≤ d.reads first + looked.pages = looked.few in omega (arith, same, before);
+  }
+
+  read_of : {held : Held} {state : State} {commands : List Command} {store : Store} {first now : D} → HasLookedUp d held state commands store first now →
+      (pages : ℕ) × ReadForAll held state commands pages × (d.reads now ≤ d.reads first + pages)
+  read_of looked = (looked.pages, looked.are, looked.few)
+
+  -- what those of a script read
+  read_given : {held : Held} {state : State} {script : Script} {taken : List ℕ} {commands : List Command} {first now : D} → HasGivenIn script taken commands (d.beside first).input (d.beside now).input →
+      (AreLookups commands → (pages : ℕ) × ReadForAll held state commands pages × (d.reads now ≤ d.reads first + pages)) → ReadsLookups d 0 held state first now
+  read_given {script = script} {taken = taken} {commands = commands} {first = first} {now = now} given read = record {
+    taken = taken;
+    takes = given.takes;
+    commands = commands;
+    first = first_given script taken commands (d.beside first).input (d.beside now).input given;
+    whole = of_taken script taken commands (d.beside first).input (d.beside now).input given;
+    few = λ all. let (pages, are, few) = read all in (pages, are, omega (arith, few));
+  }
+
+  -- nothing was taken
+  read_nothing : {held : Held} {state : State} {a b : D} (pages : ℕ) → Keeps (d.beside a).input (d.beside b).input → d.reads b ≤ d.reads a + pages → ReadsLookups d pages held state a b
+  read_nothing {a = a} {b = b} pages kept few = record {
+    taken = [];
+    takes = takes_after [] (d.beside a).input (d.beside b).input (d.beside b).input kept (takes_nothing (d.beside b).input);
+    commands = [];
+    first = first_none (d.beside b).input;
+    whole = none_of_taken (d.beside a).input (d.beside b).input;
+    few = λ all. (0, refl, omega (arith, few));
+  }
+
   -- Commands that came, and their turns:
 
   -- before the first
@@ -200,6 +271,7 @@ module _ {D : Type 0} {d : Ghosts D} where
     served = λ state at told. ([], refl, served_none at none);
     emptied = λ state at told ends. absurd (no_last ends.0 Checkpoint ends.1);
     unbegun = λ is. (none, none_left);
+    looked = λ all state at told. looked_none at;
   }
 
   -- the commands of a script with one more
@@ -211,8 +283,9 @@ module _ {D : Type 0} {d : Ghosts D} where
   -- one command more is answered
   pub conversing_more : {begun : Store} {taken : List ℕ} {commands : List Command} {old new : Script} {store store' : Store} {block block' : List ℕ} {first now next : D} (command : Command) →
       new.ended ≡ old.ended → IsConversing d begun taken commands old store block first now → HasGiven new taken (commands ++ command ∷ []) → TakesNone d now next →
-      AnswersNext d command store store' block block' now next → IsConversing d begun taken (commands ++ command ∷ []) new store' block' first next
-  conversing_more {commands = commands} {first = first} {next = next} command same talk given takes answers = record {
+      AnswersNext d command store store' block block' now next → (is_lookup command ≡ true → HoldsOn d store store' now next) → (is_lookup command ≡ true → ReadsWithin d command store now next) →
+      IsConversing d begun taken (commands ++ command ∷ []) new store' block' first next
+  conversing_more {commands = commands} {first = first} {next = next} command same talk given takes answers holds reads = record {
     given = with_command command next same talk given takes;
     goes = goes_then talk.goes (takes_goes takes);
     served = λ state at told.
@@ -227,6 +300,9 @@ module _ {D : Type 0} {d : Ghosts D} where
         let (turn, is, more, log) = answers first state turns served told in
         log (last_one ends.0 commands Checkpoint command ends.1);
     unbegun = λ is. absurd (not_none commands command is);
+    looked = λ all state at told.
+        let (some, one) = lookups_but_last commands command all in
+        looked_more command (talk.looked some state at (takes.told told)) (holds one) (reads one) told;
   }
 
   -- the same commands, in other words
@@ -238,7 +314,7 @@ module _ {D : Type 0} {d : Ghosts D} where
   -- the script looked for one more, and there was none
   pub conversing_drained : {begun : Store} {taken : List ℕ} {commands : List Command} {old new : Script} {store : Store} {block : List ℕ} {first now : D} → new.ended ≡ old.ended →
       IsConversing d begun taken commands old store block first now → HasGiven new taken commands → IsConversing d begun taken commands new store block first now
-  conversing_drained same talk given = record { given = in_input same talk.given given; goes = talk.goes; served = talk.served; emptied = talk.emptied; unbegun = talk.unbegun }
+  conversing_drained same talk given = record { given = in_input same talk.given given; goes = talk.goes; served = talk.served; emptied = talk.emptied; unbegun = talk.unbegun; looked = talk.looked }
 
   -- the block is given
   pub conversing_given : {begun : Store} {taken : List ℕ} {commands : List Command} {script : Script} {store : Store} {block left : List ℕ} {first now next : D} →
@@ -252,6 +328,7 @@ module _ {D : Type 0} {d : Ghosts D} where
         (turns, are, given_block served none gave alone told);
     emptied = λ state at told ends i left. talk.emptied state at ((leaves_goes alone.areas).told told) ends i ((alone.areas.images_stay i).0 left);
     unbegun = λ is. let (empty, stays) = talk.unbegun is in (none, left_then stays (left_given (Ok tt) empty gave alone));
+    looked = λ all state at told. looked_beside alone.areas told (talk.looked all state at ((leaves_goes alone.areas).told told));
   }
 
   -- more input was asked for
@@ -266,6 +343,7 @@ module _ {D : Type 0} {d : Ghosts D} where
         (turns, are, served_filled served takes told);
     emptied = λ state at told ends i left. talk.emptied state at ((leaves_goes takes.areas).told told) ends i ((takes.areas.images_stay i).0 left);
     unbegun = λ is. let (empty, stays) = talk.unbegun is in (empty, left_then stays (left_taken takes));
+    looked = λ all state at told. looked_beside takes.areas told (talk.looked all state at ((leaves_goes takes.areas).told told));
   }
 
   -- How it ends:
@@ -321,8 +399,8 @@ module _ {D : Type 0} {d : Ghosts D} where
   -- a command isn't answered
   pub converses_stopped : {begun : Store} {taken : List ℕ} {commands : List Command} {old new : Script} {store : Store} {block : List ℕ} {first now next : D} (command : Command) (status : Status) →
       HasClock d → new.ended ≡ old.ended → IsConversing d begun taken commands old store block first now → HasGiven new taken (commands ++ command ∷ []) → TakesNone d now next →
-      BeginsNext d command status store block now next → IsUnanswered d status now next → Converses d begun status first next
-  converses_stopped {commands = commands} {first = first} {next = next} command status clock same talk given takes begins stopped =
+      BeginsNext d command status store block now next → IsUnanswered d status now next → (is_lookup command ≡ true → ReadsWithin d command store now next) → Converses d begun status first next
+  converses_stopped {commands = commands} {first = first} {next = next} command status clock same talk given takes begins stopped reads =
       let came = with_command command next same talk given takes in
       record {
         from = λ state at told.
@@ -334,6 +412,9 @@ module _ {D : Type 0} {d : Ghosts D} where
         bounded = few came;
         goes = goes_then talk.goes (takes_goes takes);
         untaken = λ none. absurd (not_none commands command (none_came came none));
+        reads = λ state at told. read_given came (λ all.
+            let (some, one) = lookups_but_last commands command all in
+            read_by_more command (talk.looked some state at (takes.told told)) (reads one));
       }
 
   -- the block isn't given
@@ -354,6 +435,7 @@ module _ {D : Type 0} {d : Ghosts D} where
         bounded = few came;
         goes = goes_then talk.goes (leaves_goes alone.areas);
         untaken = λ none. let (empty, stays) = talk.unbegun (none_came came none) in left_then stays (left_given (Err stop) empty gave alone);
+        reads = λ state at told. read_given came (λ all. read_of (looked_beside alone.areas told (talk.looked all state at ((leaves_goes alone.areas).told told))));
       }
 
   -- memory runs out
@@ -367,6 +449,7 @@ module _ {D : Type 0} {d : Ghosts D} where
     bounded = few talk.given;
     goes = talk.goes;
     untaken = λ none. (talk.unbegun (none_came talk.given none)).1;
+    reads = λ state at told. read_given talk.given (λ all. read_of (talk.looked all state at told));
   }
 
   -- all commands are answered
@@ -386,6 +469,7 @@ module _ {D : Type 0} {d : Ghosts D} where
         bounded = few talk.given;
         goes = talk.goes;
         untaken = λ none. (talk.unbegun (none_came talk.given none)).1;
+        reads = λ state at told. read_given talk.given (λ all. read_of (talk.looked all state at told));
       }
 
   -- the input gave no more
@@ -402,6 +486,7 @@ module _ {D : Type 0} {d : Ghosts D} where
     bounded = few given;
     goes = talk.goes;
     untaken = λ nothing. (talk.unbegun (none_came talk.given nothing)).1;
+    reads = λ state at told. read_given given (λ all. read_of (talk.looked all state at told));
   }
   converses_unfilled scripts.TooMuch clock talk none earlier rose (more, given, long, stops) = record {
     from = λ state at told.
@@ -412,6 +497,7 @@ module _ {D : Type 0} {d : Ghosts D} where
     bounded = few given;
     goes = talk.goes;
     untaken = λ nothing. (talk.unbegun (none_came talk.given nothing)).1;
+    reads = λ state at told. read_given given (λ all. read_of (talk.looked all state at told));
   }
   converses_unfilled scripts.Memory clock talk none earlier rose stops = converses_starved clock talk
 
@@ -444,6 +530,7 @@ module _ {D : Type 0} {d : Ghosts D} where
     bounded = few_nothing (d.beside a).input (d.beside a).input (keeps_self (d.beside a).input);
     goes = none_goes;
     untaken = λ none. none_left;
+    reads = λ state at told. read_nothing 0 (keeps_self (d.beside a).input) (omega arith);
   }
 
   -- A run over the store that was opened:
@@ -510,9 +597,29 @@ module _ {D : Type 0} {d : Ghosts D} where
   opened_cause Usage still opens talk cause = absurd cause
   opened_cause Refused still opens talk cause = absurd cause
 
+  -- what the store holds is what the pages of the image hold
+  opened_held : {b : D} {begun : Store} {state : State} {was : Image} {held : Held} (at : IsAt d begun b state) → IsSettled d b was → Holds (replay was) held → at.held ≡ held
+  opened_held {begun = begun} {was = was} {held = held} at settled holds =
+      let keeps = (at.stands).keeps in
+      let same : keeps.image ≡ was = same_some (sym ((keeps.step).settled).here ∙ settled.here) in
+      hold_one (replay was) at.held held ((begun.records).saved, subst (λ (i : Image). HoldsBy (replay i) (begun.records).saved at.held) same keeps.holds) holds
+
+  -- the pages of opening, and behind them those of the commands
+  opened_reads : {a b c : D} {held held' : Held} {state : State} (pages : ℕ) → IsStill d a b → held' ≡ held → d.reads b ≤ d.reads a + pages → ReadsLookups d 0 held' state b c → ReadsLookups d pages held state a c
+  opened_reads {a = a} {b = b} {c = c} {state = state} pages still same first from = record {
+    taken = from.taken;
+    takes = takes_after from.taken (d.beside a).input (d.beside b).input (d.beside c).input still.beside_stays.input from.takes;
+    commands = from.commands;
+    first = from.first;
+    whole = of_taken_after from.commands (d.beside c).input still.beside_stays.input from.whole;
+    few = λ all.
+        let (own, are, few) = from.few all in
+        (own, subst (λ (h : Held). ReadForAll h state from.commands own) same are, omega (arith, first, few));
+  }
+
   pub serves_opened : {a b c : D} {begun : Store} (status : Status) → IsStill d a b → ((was : Image) (state : State) → IsSettled d a was → Recovers was (Some state) → IsAt d begun b state) →
-      ((was : Image) → IsSettled d a was → HasHeader was) → Converses d begun status b c → Serves d status a c
-  serves_opened {a = a} {b = b} {c = c} status still opens marked talk =
+      ((was : Image) → IsSettled d a was → HasHeader was) → ((was : Image) → IsSettled d a was → ReadsOpening was (d.reads a) (d.reads b)) → Converses d begun status b c → Serves d status a c
+  serves_opened {a = a} {b = b} {c = c} status still opens marked opening talk =
       let goes = goes_then (still_goes still) talk.goes in
       record {
         from = λ was state settled told recovers. opened_from status still settled recovers (talk.from state (opens was state settled recovers) told);
@@ -528,6 +635,10 @@ module _ {D : Type 0} {d : Ghosts D} where
         untaken = λ none.
             left_then (left_still still)
             (talk.untaken (nothing_after talk.bounded.taken (d.beside a).input (d.beside b).input (d.beside c).input still.beside_stays.input talk.bounded.takes none));
+        reads = λ was held state settled told holds is.
+            let at = opens was state settled (held, holds, is) in
+            opened_reads (opening_reads was held.catalog) still (opened_held at (settled_still still settled) holds) ((opening was settled).sound held holds) (talk.reads state at told);
+        unopened_reads = λ was settled none. absurd (none (marked was settled));
       }
 
 module _ {D : Type 0} (d : Ghosts D) (a b : D) where
@@ -560,8 +671,8 @@ module _ {D : Type 0} (d : Ghosts D) (a b : D) where
   unopened_header was engine.Write why settled none = absurd why
   unopened_header was engine.Ended why settled none = absurd why
 
-  pub serves_unopened : (e : EngineError) → HasClock d → IsStill d a b → NotOpened d e a b → Serves d (status_of_engine e) a b
-  serves_unopened e clock still why = record {
+  pub serves_unopened : (e : EngineError) → HasClock d → IsStill d a b → NotOpened d e a b → ((was : Image) → IsSettled d a was → ReadsOpening was (d.reads a) (d.reads b)) → Serves d (status_of_engine e) a b
+  serves_unopened e clock still why opening = record {
     from = λ was state settled told recovers.
         serves_nothing (status_of_engine e) clock (λ i left. subst (λ (j : Image). Recovers j (Some state)) (sym (settled.only i left)) recovers)
         (record {
@@ -575,4 +686,6 @@ module _ {D : Type 0} (d : Ghosts D) (a b : D) where
     counts = counts_still still;
     faults_later = still.faults_later;
     untaken = λ none. left_still still;
+    reads = λ was held state settled told holds is. read_nothing (opening_reads was held.catalog) still.beside_stays.input ((opening was settled).sound held holds);
+    unopened_reads = λ was settled none. (opening was settled).no_header none;
   }

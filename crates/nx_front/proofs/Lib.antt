@@ -3,6 +3,7 @@ pub mod MomentLemmas
 pub mod ServeLemmas
 pub mod ServingLaws
 pub mod UntakenLemmas
+pub mod LookupLemmas
 pub mod ConversationLemmas
 pub mod InitLemmas
 pub mod GeneratingLemmas

@@ -1,11 +1,12 @@
 -- A conversation over a store: what was answered so far, and what stood meanwhile.
-use Rattle.std.specs.Prelude.{◌≡◌, ◌⊎◌, ◌<◌, ◌≤◌, ℕ, List, [], ◌∷◌, ◌++◌, length, take, Option, IsSome, Result, Ok, Err}
+use Rattle.std.specs.Prelude.{◌≡◌, ◌⊎◌, ◌+◌, ◌<◌, ◌≤◌, ℕ, List, [], ◌∷◌, ◌++◌, length, take, Option, IsSome, Result, Ok, Err}
 use Rattle.std.specs.Bool.{MatchBool}
 use Rattle.nx_host.specs.declared.disk.Disk.{Ghosts}
 use Rattle.nx_host.specs.Disk.{Image, Rose}
 use Rattle.nx_host.specs.Host.{Takes, Appends}
 use Rattle.nx_host.specs.Input.{most_input}
 use Rattle.nx_host.specs.Time.{Stood, Elapses}
+use Rattle.nx_records.specs.Words.{Held}
 use Rattle.nx_script.specs.declared.command.Command.{Command}
 use Rattle.nx_script.specs.declared.command.Command.TheVariants.{Checkpoint}
 use Rattle.nx_script.specs.declared.script.Script.{Script}
@@ -20,7 +21,8 @@ use Rattle.nx_store.specs.Store.{IsAt, IsOf}
 use Rattle.nx_filters.specs.declared.status.Status.{Status}
 use Rattle.nx_filters.specs.declared.status.Status.TheVariants.{Done, Usage, Refused, DiskFault, ReadFault, WriteFault, NoMemory, NotAStore, Damaged, TooMuch}
 use Rattle.nx_filters.specs.Outcome.{TakesFew, CountsGrow, EndsWhole}
-use Rattle.nx_front.specs.Serving.{Turn, IsRun, state_after, commands_of, texts_of, ShowsBetween, LeavesMoments, EndsBetween, EndsWithCheckpoint, HasEmptyLog, LeavesAll, TakesNoByte, ServesFrom}
+use Rattle.nx_front.specs.Lookups.{AreLookups, ReadForAll}
+use Rattle.nx_front.specs.Serving.{Turn, IsRun, state_after, commands_of, texts_of, ShowsBetween, LeavesMoments, EndsBetween, EndsWithCheckpoint, HasEmptyLog, LeavesAll, TakesNoByte, ReadsLookups, ServesFrom}
 
 -- A moment of a run, turn by turn. Nothing of the first reply is out, and the image is of the state before it; or a part of it is, and the image is of the state
 -- after it; or it is out whole, and the moment is one of the turns behind.
@@ -64,6 +66,14 @@ pub record IsLater {D : Type 0} (d : Ghosts D) (old new : D) : Type 0 where
   pub counts : CountsGrow (d.beside old) (d.beside new)
   pub faults_later : d.faults old ≤ d.faults new
 
+-- Lookups were answered by a store at the state. It is at it still, holds what it held, and no more pages were read than they read.
+pub record HasLookedUp {D : Type 0} (d : Ghosts D) (held : Held) (state : State) (commands : List Command) (store : Store) (first now : D) : Type 0 where
+  pub at : IsAt d store now state
+  pub same : at.held ≡ held
+  pub pages : ℕ
+  pub are : ReadForAll held state commands pages
+  pub few : d.reads now ≤ d.reads first + pages
+
 -- The script gave these commands of the bytes that were taken, and from each state that the store was at each of them was answered. Before the first of them the
 -- disk was left.
 pub record IsConversing {D : Type 0} (d : Ghosts D) (begun : Store) (taken : List ℕ) (commands : List Command) (script : Script) (store : Store) (block : List ℕ) (first now : D) : Type 0 where
@@ -72,6 +82,7 @@ pub record IsConversing {D : Type 0} (d : Ghosts D) (begun : Store) (taken : Lis
   pub served : (state : State) → IsAt d begun first state → IsSome (d.contents now) → (turns : List Turn) × (commands_of turns ≡ commands) × HasServed d state turns store block first now
   pub emptied : (state : State) → IsAt d begun first state → IsSome (d.contents now) → EndsWithCheckpoint commands → HasEmptyLog d now
   pub unbegun : commands ≡ [] → (block ≡ []) × LeavesAll d first now
+  pub looked : AreLookups commands → (state : State) (at : IsAt d begun first state) → IsSome (d.contents now) → HasLookedUp d at.held state commands store first now
 
 -- the status of a conversation that ended so
 abbrev pub conversation_status : Result (Unit {0}) Status → Status
@@ -144,6 +155,7 @@ pub record Converses {D : Type 0} (d : Ghosts D) (begun : Store) (status : Statu
   pub bounded : TakesFew (d.beside first).input (d.beside now).input
   pub goes : IsLater d first now
   pub untaken : TakesNoByte (d.beside first) (d.beside now) → LeavesAll d first now
+  pub reads : (state : State) (at : IsAt d begun first state) → IsSome (d.contents now) → ReadsLookups d 0 at.held state first now
 
 -- commands more of a script are answered
 abbrev pub AnswersMore : {D : Type 0} → Ghosts D → Script → Script → Store → Store → List ℕ → List ℕ → D → D → Type 0

@@ -1,5 +1,5 @@
 -- A run of a script over a store: its commands are answered one after the other, from the state that the disk holds on.
-use Rattle.std.specs.Prelude.{◌≡◌, ◌⊎◌, ◌↔◌, ℕ, ◌+◌, ◌<◌, ◌≤◌, List, [], ◌∷◌, ◌++◌, length, take, map, Option, Some, IfSome, IsSome}
+use Rattle.std.specs.Prelude.{◌≡◌, ◌⊎◌, ◌↔◌, ℕ, ◌+◌, ◌<◌, ◌≤◌, List, [], ◌∷◌, ◌++◌, length, take, Option, Some, IfSome, IsSome}
 use Rattle.std.specs.List.{flat_map}
 use Rattle.nx_host.specs.declared.disk.Disk.{Ghosts}
 use Rattle.nx_host.specs.Disk.{Image, Beside, Keeps, Rose}
@@ -7,16 +7,19 @@ use Rattle.nx_host.specs.Host.{Takes, Appends}
 use Rattle.nx_host.specs.Input.{most_input}
 use Rattle.nx_host.specs.Still.{IsSettled, IsStill}
 use Rattle.nx_host.specs.Time.{Stood, Elapses}
+use Rattle.nx_records.specs.Words.{replay, Held, Holds}
 use Rattle.nx_records.specs.Records.{HasHeader, image_group_count}
 use Rattle.nx_script.specs.declared.command.Command.{Command}
 use Rattle.nx_script.specs.declared.command.Command.TheVariants.{Checkpoint}
 use Rattle.nx_script.specs.Commands.{AreCommands, AreWhole}
 use Rattle.nx_script.specs.Reply.{reply_text}
 use Rattle.nx_state.specs.State.{State}
-use Rattle.nx_state.specs.Stands.{Recovers}
+use Rattle.nx_state.specs.Stands.{Recovers, HoldsState}
+use Rattle.nx_store.specs.Reads.{opening_reads}
 use Rattle.nx_filters.specs.declared.status.Status.{Status}
 use Rattle.nx_filters.specs.declared.status.Status.TheVariants.{Done, Usage, Refused, DiskFault, ReadFault, WriteFault, NoMemory, NotAStore, Damaged, TooMuch}
 use Rattle.nx_filters.specs.Outcome.{TakesFew, CountsGrow, EndsWhole}
+use Rattle.nx_front.specs.Lookups.{AreLookups, ReadForAll}
 pub use Rattle.nx_front.specs.Turns.{Turn, IsRun, state_after, commands_of}
 
 -- the texts of the replies, one after the other
@@ -144,13 +147,26 @@ pub record LeavesAll {D : Type 0} (d : Ghosts D) (old new : D) : Type 0 where
 abbrev pub TakesNoByte : Beside → Beside → Type 0
 TakesNoByte old new = IsSome new.input × (new.input ≡ old.input)
 
+-- These are the first commands of the bytes that were taken. Where they are lookups, no more pages were read than at first, and than each of them reads of what is held, which is this
+-- state.
+pub record ReadsLookups {D : Type 0} (d : Ghosts D) (at_first : ℕ) (held : Held) (state : State) (old new : D) : Type 0 where
+  pub taken : List ℕ
+  pub takes : Takes taken (d.beside old).input (d.beside new).input
+  pub commands : List Command
+  pub first : AreFirst taken commands (d.beside new).input
+  pub whole : AreOfTaken taken commands (d.beside old).input (d.beside new).input
+  pub few : AreLookups commands → (pages : ℕ) × ReadForAll held state commands pages × (d.reads new ≤ d.reads old + (at_first + pages))
+
 -- How a script is carried out over a store: from each state that the disk may hold, while its bytes are told; and why it ends so in any case. Whatever the disk
--- holds, it is left as it was where no byte of the input was taken, so also where the store couldn't be opened.
+-- holds, it is left as it was where no byte of the input was taken, so also where the store couldn't be opened. The pages that are read are those of opening and of lookups that came.
 pub record Serves {D : Type 0} (d : Ghosts D) (status : Status) (old new : D) : Type 0 where
   pub from : (was : Image) (state : State) → IsSettled d old was → IsSome (d.contents new) → Recovers was (Some state) → ServesFrom d state status old new
   pub cause : IsCaused d status old new
   pub no_header : (was : Image) → IsSettled d old was → (HasHeader was → ⊥) → EndsWithoutHeader status × IsStill d old new
   pub untaken : TakesNoByte (d.beside old) (d.beside new) → LeavesAll d old new
+  pub reads : (was : Image) (held : Held) (state : State) → IsSettled d old was → IsSome (d.contents new) → Holds (replay was) held → HoldsState held state
+      → ReadsLookups d (opening_reads was held.catalog) held state old new
+  pub unopened_reads : (was : Image) → IsSettled d old was → (HasHeader was → ⊥) → d.reads new ≤ d.reads old + opening_reads was []
   pub bounded : TakesFew (d.beside old).input (d.beside new).input
   pub counts : CountsGrow (d.beside old) (d.beside new)
   pub faults_later : d.faults old ≤ d.faults new

@@ -1,10 +1,12 @@
 // A run of a script over a store.
-ghost use Rattle.std.specs.Prelude.{◌≡◌, ℕ, List, false, OnOk, IfErr};
+ghost use Rattle.std.specs.Prelude.{◌≡◌, ℕ, List, true, false, OnOk, IfErr};
 ghost use Rattle.nx_script.specs.declared.command.Command.{Command};
 ghost use Rattle.nx_script.specs.Commands.{CanCome};
 ghost use Rattle.nx_script.specs.Script.{HasGiven, IsDrained};
 ghost use Rattle.nx_steps.specs.Step.{may_change};
 ghost use Rattle.nx_store.specs.Store.{TakesNone};
+ghost use Rattle.nx_store.specs.Staying.{HoldsOn};
+ghost use Rattle.nx_store.specs.Reads.{is_lookup, ReadsWithin};
 ghost use Rattle.nx_front.specs.Serving.{Serves};
 ghost use Rattle.nx_front.specs.Conversation.{AnswersNext, BeginsNext, IsUnanswered, AnswersAll, EndsConversing, Converses, conversation_status, status_of_engine};
 
@@ -87,6 +89,8 @@ fn answer<H: Host>(
     ensures err { IfErr result (λ status. BeginsNext ⟦<H as Disk>⟧ command status store.old block.old host.old host.new) }
     ensures cause { IfErr result (λ status. IsUnanswered ⟦<H as Disk>⟧ status host.old host.new) }
     ensures beside { TakesNone ⟦<H as Disk>⟧ host.old host.new }
+    ensures holds { is_lookup command ≡ true → OnOk result (HoldsOn ⟦<H as Disk>⟧ store.old store.new host.old host.new) }
+    ensures reads { is_lookup command ≡ true → ReadsWithin ⟦<H as Disk>⟧ command store.old host.old host.new }
 {
     if writes(&command) {
         return answer_alone(host, store, block, command);
@@ -127,6 +131,8 @@ fn answer_behind<H: Host>(
     ensures err { IfErr result (λ status. BeginsNext ⟦<H as Disk>⟧ command status store.old block.old host.old host.new) }
     ensures cause { IfErr result (λ status. IsUnanswered ⟦<H as Disk>⟧ status host.old host.new) }
     ensures beside { TakesNone ⟦<H as Disk>⟧ host.old host.new }
+    ensures holds { is_lookup command ≡ true → OnOk result (HoldsOn ⟦<H as Disk>⟧ store.old store.new host.old host.new) }
+    ensures reads { is_lookup command ≡ true → ReadsWithin ⟦<H as Disk>⟧ command store.old host.old host.new }
 {
     match command {
         Command::Export { name } => {
@@ -147,7 +153,8 @@ fn answer_behind<H: Host>(
 
 // Whether the command may write to the disk: it may change what is stored, or moves the log's pages.
 fn writes(command: &Command) -> bool
-    ensures { result ≡ false → may_change command.now ≡ false }
+    ensures none { result ≡ false → may_change command.now ≡ false }
+    ensures some { result ≡ true → is_lookup command.now ≡ false }
 {
     match command {
         Command::Checkpoint => true,

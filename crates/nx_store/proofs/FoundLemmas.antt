@@ -95,26 +95,31 @@ module _ {D : Type 0} {d : Ghosts D} where
       map_none (λ (s : StoredDocument). s.entry) (found name stored) (sym (get_found (store.catalog).documents (λ (s : StoredDocument). s.entry) name stored (at_entries at)) ∙ none) in
       get_found state.documents (λ (s : StoredDocument). s.document) name stored (at.state_is).documents ∙ ap (option_map (λ (s : StoredDocument). s.document)) lacks
 
-  -- the catalog has the name, and so has a document
-  pub at_found : {store : Store} {x : D} {state : State} (name : List ℕ) (entry : DocEntry) → IsAt d store x state → get (store.catalog).documents name ≡ Some entry → IsFound d store x state name entry
-  at_found {store = store} {x = x} {state = state} name entry at is =
+  -- the catalog has the name, and so has a document that is stored
+  pub at_stored : {store : Store} {x : D} {state : State} (name : List ℕ) (entry : DocEntry) (at : IsAt d store x state) → get (store.catalog).documents name ≡ Some entry
+      → (s : StoredDocument) × (s.entry ≡ entry) × IsStoredIn (held_by ((at.state_is).holds).pieces) s × (get state.documents name ≡ Some s.document)
+  at_stored {store = store} {state = state} name entry at is =
       let stored = (at.state_is).stored in
       let holds = (at.state_is).holds in
       let there = map_some (λ (s : StoredDocument). s.entry) (found name stored) entry
-      (sym (get_found (store.catalog).documents (λ (s : StoredDocument). s.entry) name stored (at_entries at)) ∙ is) in
-      let one : IsStoredIn (held_by holds.pieces) there.0 =
-      found_has (IsStoredIn (held_by holds.pieces)) name stored (recursion_from_All _ stored holds.each) there.0 there.1 in
+      (sym (get_found (store.catalog).documents (λ (s : StoredDocument). s.entry) name stored (at_entries at)) ∙ is) in (
+        there.0,
+        there.2,
+        found_has (IsStoredIn (held_by holds.pieces)) name stored (recursion_from_All _ stored holds.each) there.0 there.1,
+        get_found state.documents (λ (s : StoredDocument). s.document) name stored (at.state_is).documents ∙ ap (option_map (λ (s : StoredDocument). s.document)) there.1,
+      )
+
+  -- ... which the records hold
+  pub at_found : {store : Store} {x : D} {state : State} (name : List ℕ) (entry : DocEntry) → IsAt d store x state → get (store.catalog).documents name ≡ Some entry → IsFound d store x state name entry
+  at_found {store = store} {x = x} {state = state} name entry at is =
+      let (s, same, one, there) = at_stored name entry at is in
+      let holds = (at.state_is).holds in
       record {
-        document = (there.0).document;
-        there = get_found state.documents (λ (s : StoredDocument). s.document) name stored (at.state_is).documents ∙ ap (option_map (λ (s : StoredDocument). s.document)) there.1;
-        has = subst (λ (e : DocEntry). HasDocument d store.records x (place_of e.root) (there.0).document) there.2 (record {
-          saved = at.held;
-          now = at.held;
-          stands = at.stands;
-          pieces = holds.pieces;
-          laid = record { layout = (there.0).layout; laid = one.laid };
-        });
-        counted = ap (λ (e : DocEntry). e.nodes) (sym there.2) ∙ one.counted;
+        document = s.document;
+        there = there;
+        has = subst (λ (e : DocEntry). HasDocument d store.records x (place_of e.root) s.document) same
+            (record { saved = at.held; now = at.held; stands = at.stands; pieces = holds.pieces; laid = record { layout = s.layout; laid = one.laid } });
+        counted = ap (λ (e : DocEntry). e.nodes) (sym same) ∙ one.counted;
       }
 
   -- the lines of the catalog are those of the documents

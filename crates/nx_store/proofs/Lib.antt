@@ -4,6 +4,7 @@ pub mod StepsLemmas
 pub mod RuleLemmas
 pub mod AtLemmas
 pub mod StayingLemmas
+pub mod ReadLemmas
 pub mod ShowLemmas
 pub mod FoundLemmas
 pub mod RefusalLemmas

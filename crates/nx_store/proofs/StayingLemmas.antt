@@ -135,7 +135,7 @@ module _ {D : Type 0} (d : Ghosts D) where
   told_at s x state at = subst (λ (o : Option Image). IsSome o) (sym ((((at.stands).keeps).step).settled).here) refl
 
   -- a store that stands for what it held is at its state
-  abbrev held_on : (s0 s1 : Store) (x0 x1 : D) → HoldsOn d s0 s1 x0 x1 → (state : State) (at : IsAt d s0 x0 state) → IsSome (d.contents x1) → IsAt d s1 x1 state
+  abbrev pub held_on : (s0 s1 : Store) (x0 x1 : D) → HoldsOn d s0 s1 x0 x1 → (state : State) (at : IsAt d s0 x0 state) → IsSome (d.contents x1) → IsAt d s1 x1 state
   held_on s0 s1 x0 x1 holds state at told = record {
     held = at.held;
     stands = (holds state at told).0;

@@ -1,5 +1,6 @@
 pub mod Told
 pub mod Store
+pub mod Reads
 pub mod Staying
 pub mod Loading
 pub mod Changing

@@ -8,6 +8,7 @@ ghost use Rattle.nx_script.specs.declared.command.Command.TheVariants as command
 ghost use Rattle.nx_store.specs.Told.{line_of};
 ghost use Rattle.nx_state.specs.State.{State};
 ghost use Rattle.nx_steps.specs.Step.{Step};
+ghost use Rattle.nx_store.specs.Reads.{ReadsWithin};
 ghost use Rattle.nx_store.specs.Staying.{LeavesOthers, HoldsOn};
 ghost use Rattle.nx_store.specs.Store.{is_ended, LeavesStore, EndsNow, GoesOn, IsAt, IsOf, IsApplied, NotApplied};
 
@@ -69,7 +70,7 @@ impl Store {
         }
     }
 
-    // Gives the node at a path of a document.
+    // Gives the node at a path of a document. It reads what `get` of `nx_nav` reads, and nothing where there is no such document.
     pub(crate) fn get<D: Disk>(
         &mut self,
         disk: &mut D,
@@ -80,6 +81,7 @@ impl Store {
         ensures same { is_ended self.new ≡ false → LeavesStore self.old self.new }
         ensures ok { IfOk result (λ reply. GoesOn self.old self.new × ((state : State) → IsAt D.Disk self.old disk.old state → Step state (command.Get name.now path.now) reply state)) }
         ensures refused { IfErr result (λ e. NotApplied D.Disk e self.old self.new disk.old disk.new) }
+        ensures reads { ReadsWithin D.Disk (command.Get name.now path.now) self.old disk.old disk.new }
     {
         if self.is_ended() {
             return Err(EngineError::Ended);
@@ -140,6 +142,7 @@ impl Store {
         ensures refused { IfErr result (λ e. NotApplied D.Disk e self.old self.new disk.old disk.new) }
         ensures areas { WritesAlone D.Disk disk.old disk.new (λ _. Unit {0}) }
         ensures leaves { LeavesOthers D.Disk command.Checkpoint self.old self.new disk.old disk.new }
+        ensures holds { OnOk result (HoldsOn D.Disk self.old self.new disk.old disk.new) }
     {
         if self.is_ended() {
             return Err(EngineError::Ended);

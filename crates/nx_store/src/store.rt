@@ -33,7 +33,8 @@ pub struct Store {
 impl Store {
     ghost use Rattle.nx_host.specs.declared.disk.Disk.{Ghosts};
     ghost use Rattle.nx_script.specs.declared.reply.Reply.{Reply};
-    ghost use Rattle.nx_store.specs.Staying.{LeavesOthers};
+    ghost use Rattle.nx_store.specs.Reads.{ReadsOpening, needs_no_page, ReadsWithin};
+    ghost use Rattle.nx_store.specs.Staying.{LeavesOthers, HoldsOn};
     ghost use Rattle.nx_store.specs.Loading.{reply_of, HasReplyText, IsAppliedWithText};
     ghost use Rattle.nx_store.specs.Store.{is_ended, IsAt, IsApplied, IsAnswered, IsExported, GoesOn, TakesNone, NotApplied, NotAnswered, NotMade, NotOpened};
 
@@ -65,7 +66,9 @@ impl Store {
         })
     }
 
-    /// The store of a disk. Nothing is written.
+    /// The store of a disk. Nothing is written. It reads the log by its heads and page numbers, page 0 and the chain pages
+    /// of the catalog, and no page of a document: where the pages are sound, or there is no store, at most three times for each
+    /// 8,196 bytes that the log's area has, and as often for a rest, twice for page 0, and once for each chain page.
     ///
     /// Errors: `NotAStore` exactly where page 0 is missing or doesn't begin with the eight bytes
     /// `NATIXST1`; `Damaged`, only where the disk stands for no state; `Disk`, only where `faults` rose;
@@ -75,6 +78,7 @@ impl Store {
         ensures ok { IfOk result (λ store. (was : Image) (state : State) → IsSettled D.Disk disk.old was → Recovers was (Some state) → IsAt D.Disk store disk.new state) }
         ensures fresh { IfOk result (λ store. is_ended store ≡ false) }
         ensures marked { OnOk result ((was : Image) → IsSettled D.Disk disk.old was → HasHeader was) }
+        ensures reads { (was : Image) → IsSettled D.Disk disk.old was → ReadsOpening was (D.reads disk.old) (D.reads disk.new) }
         ensures refused { IfErr result (λ e. NotOpened D.Disk e disk.old disk.new) }
     {
         let mut records = match Records::open(alloc, disk) {
@@ -107,7 +111,10 @@ impl Store {
     ///
     /// An edit leaves each record of its document that holds neither a node on the way along the path nor one of a
     /// tree that it deletes, and all records of the other documents, each with its place, bytes and list. A `drop`
-    /// leaves all records of the others, and each other command all that were there.
+    /// leaves all records of the others, and each other command all that were there. One that changes nothing leaves all that is held.
+    ///
+    /// From a state that the store is at, a `get` reads, however it ends, no pages but those that `get` of `nx_nav` may read from
+    /// the root of its document on, and none where there is no such document. `names`, `rules` and a line that is no command read none.
     ///
     /// The command is one that a script can give.
     ///
@@ -121,6 +128,9 @@ impl Store {
         ensures refused { IfErr result (λ e. NotApplied D.Disk e self.old self.new disk.old disk.new) }
         ensures areas { WritesAlone D.Disk disk.old disk.new (λ _. Unit {0}) }
         ensures leaves { LeavesOthers D.Disk command self.old self.new disk.old disk.new }
+        ensures holds { may_change command ≡ false → OnOk result (HoldsOn D.Disk self.old self.new disk.old disk.new) }
+        ensures reads { ReadsWithin D.Disk command self.old disk.old disk.new }
+        ensures unread { needs_no_page command ≡ true → D.reads disk.new ≡ D.reads disk.old }
     {
         if self.is_ended() {
             return Err(EngineError::Ended);
@@ -177,6 +187,9 @@ impl Store {
         ensures refused { IfErr result (λ e. NotApplied D.Disk e self.old self.new disk.old disk.new) }
         ensures areas { WritesAlone D.Disk disk.old disk.new (λ _. Unit {0}) }
         ensures leaves { LeavesOthers D.Disk command self.old self.new disk.old disk.new }
+        ensures holds { OnOk result (HoldsOn D.Disk self.old self.new disk.old disk.new) }
+        ensures reads { ReadsWithin D.Disk command self.old disk.old disk.new }
+        ensures unread { needs_no_page command ≡ true → D.reads disk.new ≡ D.reads disk.old }
     {
         match command {
             Command::Names => self.names(),
@@ -209,6 +222,9 @@ impl Store {
         ensures refused { IfErr result (λ e. NotAnswered ⟦<H as Disk>⟧ e self.old self.new host.old host.new) }
         ensures beside { TakesNone ⟦<H as Disk>⟧ host.old host.new }
         ensures leaves { LeavesOthers ⟦<H as Disk>⟧ command self.old self.new host.old host.new }
+        ensures holds { may_change command ≡ false → OnOk result (HoldsOn ⟦<H as Disk>⟧ self.old self.new host.old host.new) }
+        ensures reads { ReadsWithin ⟦<H as Disk>⟧ command self.old host.old host.new }
+        ensures unread { needs_no_page command ≡ true → H.reads host.new ≡ H.reads host.old }
     {
         let text = self.text_for(host, command)?;
         let Ok(()) = host.emit(text.as_slice()) else {
@@ -264,6 +280,9 @@ impl Store {
         ensures refused { IfErr result (λ e. NotApplied D.Disk e self.old self.new disk.old disk.new) }
         ensures areas { WritesAlone D.Disk disk.old disk.new (λ _. Unit {0}) }
         ensures leaves { LeavesOthers D.Disk command self.old self.new disk.old disk.new }
+        ensures holds { may_change command ≡ false → OnOk result (HoldsOn D.Disk self.old self.new disk.old disk.new) }
+        ensures reads { ReadsWithin D.Disk command self.old disk.old disk.new }
+        ensures unread { needs_no_page command ≡ true → D.reads disk.new ≡ D.reads disk.old }
     {
         if self.is_ended() {
             return Err(EngineError::Ended);
@@ -284,6 +303,9 @@ impl Store {
         ensures refused { IfErr result (λ e. NotApplied D.Disk e self.old self.new disk.old disk.new) }
         ensures areas { WritesAlone D.Disk disk.old disk.new (λ _. Unit {0}) }
         ensures leaves { LeavesOthers D.Disk command self.old self.new disk.old disk.new }
+        ensures holds { OnOk result (HoldsOn D.Disk self.old self.new disk.old disk.new) }
+        ensures reads { ReadsWithin D.Disk command self.old disk.old disk.new }
+        ensures unread { needs_no_page command ≡ true → D.reads disk.new ≡ D.reads disk.old }
     {
         let reply = self.look(disk, command)?;
         let text = write_reply(self.alloc, &reply)?;

@@ -23,6 +23,8 @@ mod memory_session;
 #[cfg(test)]
 mod old;
 #[cfg(test)]
+mod reads;
+#[cfg(test)]
 mod rows;
 #[cfg(test)]
 mod runs;

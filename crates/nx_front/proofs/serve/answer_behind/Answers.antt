@@ -21,6 +21,8 @@ returns-in-Err-apply g c =
       err = rw c.status_of-in-Err-apply.ensures (quiet_begins c.apply.new.self c.args.command e (clock g) c.requires.leaves c.in-Err-apply.ensures.applies);
       cause = rw c.status_of-in-Err-apply.ensures (stopped_applying g.H.Disk c.args.host.now c.apply.new.disk c.args.store.now c.apply.new.self e c.in-Err-apply.ensures.refused);
       beside = written_takes c.apply.ensures.areas;
+      holds = λ one. tt;
+      reads = λ one. c.apply.ensures.reads;
     }
 
 pub returns-in_err-push_reply-in_default : goal.returns-in_err-push_reply-in_default
@@ -31,6 +33,8 @@ returns-in_err-push_reply-in_default g c =
       err = rw (p.1, p.2) (quiet_pushless c.args.command c.in-Ok.reply (clock g) c.requires.leaves c.in-Ok.ensures.applies);
       cause = rw (p.1, p.2) tt;
       beside = written_takes c.apply.ensures.areas;
+      holds = λ one. rw p.1 tt;
+      reads = λ one. c.apply.ensures.reads;
     }
 
 pub returns-in_ok-push_reply-in_default : goal.returns-in_ok-push_reply-in_default
@@ -40,4 +44,6 @@ returns-in_ok-push_reply-in_default g c =
       err = tt;
       cause = tt;
       beside = written_takes c.apply.ensures.areas;
+      holds = λ one. c.in-Ok.ensures.holds c.requires.leaves;
+      reads = λ one. c.apply.ensures.reads;
     }

@@ -44,7 +44,7 @@ returns-in_err-answer-clause-err g c =
     (λ first begun taken commands talk.
     let (more, did) = c.loop-command.invariant.answered first begun taken commands talk in
     let given = next_given c.loop-command.script c.ready.new.self c.in_ok-command.field-0 c.in-Some.command c.in-Some.is c.in_ok-command.ensures.given taken (commands ++ more) did.given.given in
-    converses_stopped c.in-Some.command c.in_err-answer.field-0.0 (clock g) c.ready.ensures.ended did given c.answer.ensures.beside c.in_err-answer.ensures.err c.in_err-answer.ensures.cause)
+    converses_stopped c.in-Some.command c.in_err-answer.field-0.0 (clock g) c.ready.ensures.ended did given c.answer.ensures.beside c.in_err-answer.ensures.err c.in_err-answer.ensures.cause c.answer.ensures.reads)
 
 pub loop-command-preserved-in-Continue-branch-4 : goal.loop-command-preserved-in-Continue-branch-4
 loop-command-preserved-in-Continue-branch-4 g c =
@@ -52,7 +52,7 @@ loop-command-preserved-in-Continue-branch-4 g c =
       answered = λ first begun taken commands talk.
           let (more, did) = c.loop-command.invariant.answered first begun taken commands talk in
           let given = next_given c.loop-command.script c.ready.new.self c.in_ok-command.field-0 c.in-Some.command c.in-Some.is c.in_ok-command.ensures.given taken (commands ++ more) did.given.given in
-          let after = conversing_more c.in-Some.command c.ready.ensures.ended did given c.answer.ensures.beside c.in_ok-answer.ensures.ok in (
+          let after = conversing_more c.in-Some.command c.ready.ensures.ended did given c.answer.ensures.beside c.in_ok-answer.ensures.ok c.in_ok-answer.ensures.holds c.answer.ensures.reads in (
             more ++ c.in-Some.command ∷ [],
             conversing_as (commands ++ (more ++ c.in-Some.command ∷ [])) (append_assoc commands more (c.in-Some.command ∷ []))
                 (conversing_given after c.in_ok-give_block.ensures.empty c.in_ok-give_block.ensures.given c.give_block.ensures.alone),
@@ -74,7 +74,7 @@ returns-in_err-give_block-clause-err g c =
     (λ first begun taken commands talk.
     let (more, did) = c.loop-command.invariant.answered first begun taken commands talk in
     let given = next_given c.loop-command.script c.ready.new.self c.in_ok-command.field-0 c.in-Some.command c.in-Some.is c.in_ok-command.ensures.given taken (commands ++ more) did.given.given in
-    let after = conversing_more c.in-Some.command c.ready.ensures.ended did given c.answer.ensures.beside c.in_ok-answer.ensures.ok in
+    let after = conversing_more c.in-Some.command c.ready.ensures.ended did given c.answer.ensures.beside c.in_ok-answer.ensures.ok c.in_ok-answer.ensures.holds c.answer.ensures.reads in
     converses_blocked c.in_err-give_block.field-0.0 (clock g) after c.in_err-give_block.ensures.given c.give_block.ensures.alone)
 
 pub loop-command-preserved : goal.loop-command-preserved
@@ -85,7 +85,7 @@ loop-command-preserved g c =
           let given = next_given c.loop-command.script c.ready.new.self c.in_ok-command.field-0 c.in-Some.command c.in-Some.is c.in_ok-command.ensures.given taken (commands ++ more) did.given.given in (
             more ++ c.in-Some.command ∷ [],
             conversing_as (commands ++ (more ++ c.in-Some.command ∷ [])) (append_assoc commands more (c.in-Some.command ∷ []))
-                (conversing_more c.in-Some.command c.ready.ensures.ended did given c.answer.ensures.beside c.in_ok-answer.ensures.ok),
+                (conversing_more c.in-Some.command c.ready.ensures.ended did given c.answer.ensures.beside c.in_ok-answer.ensures.ok c.in_ok-answer.ensures.holds c.answer.ensures.reads),
           );
       given =
           let (taken, commands, given) = c.loop-command.invariant.given in (

@@ -32,3 +32,7 @@ returns-in_default-clause-leaves g c = ended_leaves g.D.Disk Checkpoint c.args.s
 
 pub returns-clause-leaves : goal.returns-clause-leaves
 returns-clause-leaves g c = held_leaves g.D.Disk Checkpoint c.args.self.now c.empty_log.new.self c.args.disk.now c.empty_log.new.disk (λ runs. c.in-Ok.ensures.holds)
+
+pub returns-clause-holds : goal.returns-clause-holds
+returns-clause-holds g c =
+    c.in-Ok.ensures.holds

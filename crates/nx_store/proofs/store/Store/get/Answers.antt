@@ -20,6 +20,7 @@ use Rattle.nx_store.specs.declared.error.EngineError.{EngineError}
 use Rattle.nx_store.proofs.CaseLemmas.{get_case}
 use Rattle.nx_store.proofs.RefusalLemmas.{look_refused, look_same, is_nowhere}
 use Rattle.nx_store.proofs.LookLemmas.{absent_answer, found_answer, lacks_nowhere, shown_answer, nowhere_answer}
+use Rattle.nx_store.proofs.ReadLemmas.{absent_reads, found_reads}
 use Rattle.nx_store.proofs.store.Store.get.Goals as goal
 
 -- what is answered of a document
@@ -83,3 +84,22 @@ returns-else-is_no_node-clause-same g c runs = record {
       (HoldsNoDocument g.D.Disk c.args.self.now.records c.args.disk.now (place_of c.in-Some.entry.root)) c.args.self.now.records c.get.new.records c.args.disk.now c.get.new.disk c.in-Err.error c.in-Err.ensures.refused runs;
   catalog = refl;
 }
+
+pub returns-in_default-clause-reads : goal.returns-in_default-clause-reads
+returns-in_default-clause-reads g c =
+    absent_reads g.D.Disk c.args.name.now c.args.path.now c.args.self.now c.args.disk.now (ap (get (c.args.self.now.catalog).documents) (sym c.as_slice.ensures) ∙ sym c.in_default.ensures)
+
+pub returns-in-Ok-clause-reads : goal.returns-in-Ok-clause-reads
+returns-in-Ok-clause-reads g c =
+    found_reads g.D.Disk c.args.name.now c.args.path.now c.as_slice-2.result.now c.in-Some.entry c.args.self.now c.args.disk.now c.get.new.disk
+    (ap (get (c.args.self.now.catalog).documents) (sym c.as_slice.ensures) ∙ sym c.in-Some.ensures) c.as_slice-2.ensures c.get.ensures.reads
+
+pub returns-then-is_no_node-clause-reads : goal.returns-then-is_no_node-clause-reads
+returns-then-is_no_node-clause-reads g c =
+    found_reads g.D.Disk c.args.name.now c.args.path.now c.as_slice-2.result.now c.in-Some.entry c.args.self.now c.args.disk.now c.get.new.disk
+    (ap (get (c.args.self.now.catalog).documents) (sym c.as_slice.ensures) ∙ sym c.in-Some.ensures) c.as_slice-2.ensures c.get.ensures.reads
+
+pub returns-else-is_no_node-clause-reads : goal.returns-else-is_no_node-clause-reads
+returns-else-is_no_node-clause-reads g c =
+    found_reads g.D.Disk c.args.name.now c.args.path.now c.as_slice-2.result.now c.in-Some.entry c.args.self.now c.args.disk.now c.get.new.disk
+    (ap (get (c.args.self.now.catalog).documents) (sym c.as_slice.ensures) ∙ sym c.in-Some.ensures) c.as_slice-2.ensures c.get.ensures.reads

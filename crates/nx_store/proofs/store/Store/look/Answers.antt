@@ -1,4 +1,4 @@
-use Rattle.std.proofs.Common.{refl, sym, subst}
+use Rattle.std.proofs.Common.{refl, sym, subst, ap, ◌∙◌}
 use Rattle.std.specs.Prelude.{Ok}
 use Rattle.nx_host.proofs.DiskLemmas.{none_still}
 use Rattle.nx_records.proofs.StandLemmas.{if_ok_then, if_err_then}
@@ -13,6 +13,9 @@ use Rattle.nx_store.proofs.LookLemmas.{names_answer, rules_answer}
 use Rattle.nx_store.proofs.AtLemmas.{leaves_self}
 use Rattle.nx_store.proofs.ShowLemmas.{still_areas, looked_applied}
 use Rattle.nx_store.proofs.StayingLemmas.{unasked_leaves, looked_leaves}
+use Rattle.std.proofs.lemmas.Bool.{false≢true}
+use Rattle.nx_store.specs.Reads.{is_lookup, needs_no_page, ReadsWithin}
+use Rattle.nx_store.proofs.ReadLemmas.{on_ok, other_reads, unread_reads, looked_holds, unasked_holds}
 use Rattle.nx_store.proofs.store.Store.look.Goals as goal
 
 pub returns-in-Names-clause-applies : goal.returns-in-Names-clause-applies
@@ -102,3 +105,75 @@ returns-in-Layout-clause-leaves g c = looked_leaves g.D.Disk c.args.command c.ar
 
 pub returns-in-Checkpoint-clause-leaves : goal.returns-in-Checkpoint-clause-leaves
 returns-in-Checkpoint-clause-leaves g c = subst (λ (k : Command). LeavesOthers g.D.Disk k c.args.self.now c.checkpoint.new.self c.args.disk.now c.checkpoint.new.disk) (sym c.in-Checkpoint.is) c.checkpoint.ensures.leaves
+
+pub returns-in-Names-clause-reads : goal.returns-in-Names-clause-reads
+returns-in-Names-clause-reads g c =
+    unread_reads g.D.Disk c.args.command c.args.self.now c.args.disk.now c.args.disk.now (ap needs_no_page c.in-Names.is) refl
+
+pub returns-in-Rules-clause-reads : goal.returns-in-Rules-clause-reads
+returns-in-Rules-clause-reads g c =
+    unread_reads g.D.Disk c.args.command c.args.self.now c.args.disk.now c.args.disk.now (ap needs_no_page c.in-Rules.is) refl
+
+pub returns-in-Bad-clause-reads : goal.returns-in-Bad-clause-reads
+returns-in-Bad-clause-reads g c =
+    unread_reads g.D.Disk c.args.command c.args.self.now c.args.disk.now c.args.disk.now (ap needs_no_page c.in-Bad.is) refl
+
+pub returns-in-Export-clause-reads : goal.returns-in-Export-clause-reads
+returns-in-Export-clause-reads g c =
+    other_reads g.D.Disk c.args.command c.args.self.now c.args.disk.now c.export.new.disk (ap is_lookup c.in-Export.is)
+
+pub returns-in-Layout-clause-reads : goal.returns-in-Layout-clause-reads
+returns-in-Layout-clause-reads g c =
+    other_reads g.D.Disk c.args.command c.args.self.now c.args.disk.now c.layout.new.disk (ap is_lookup c.in-Layout.is)
+
+pub returns-in-Checkpoint-clause-reads : goal.returns-in-Checkpoint-clause-reads
+returns-in-Checkpoint-clause-reads g c =
+    other_reads g.D.Disk c.args.command c.args.self.now c.args.disk.now c.checkpoint.new.disk (ap is_lookup c.in-Checkpoint.is)
+
+pub returns-in-Get-clause-reads : goal.returns-in-Get-clause-reads
+returns-in-Get-clause-reads g c =
+    subst (λ (k : Command). ReadsWithin g.D.Disk k c.args.self.now c.args.disk.now c.get.new.disk) (sym c.in-Get.is) c.get.ensures.reads
+
+pub returns-in-Export-clause-unread : goal.returns-in-Export-clause-unread
+returns-in-Export-clause-unread g c none =
+    absurd (false≢true (sym (ap needs_no_page c.in-Export.is) ∙ none))
+
+pub returns-in-Get-clause-unread : goal.returns-in-Get-clause-unread
+returns-in-Get-clause-unread g c none =
+    absurd (false≢true (sym (ap needs_no_page c.in-Get.is) ∙ none))
+
+pub returns-in-Layout-clause-unread : goal.returns-in-Layout-clause-unread
+returns-in-Layout-clause-unread g c none =
+    absurd (false≢true (sym (ap needs_no_page c.in-Layout.is) ∙ none))
+
+pub returns-in-Checkpoint-clause-unread : goal.returns-in-Checkpoint-clause-unread
+returns-in-Checkpoint-clause-unread g c none =
+    absurd (false≢true (sym (ap needs_no_page c.in-Checkpoint.is) ∙ none))
+
+pub returns-in-Names-clause-holds : goal.returns-in-Names-clause-holds
+returns-in-Names-clause-holds g c =
+    on_ok c.names.result (unasked_holds g.D.Disk c.args.self.now c.args.disk.now)
+
+pub returns-in-Rules-clause-holds : goal.returns-in-Rules-clause-holds
+returns-in-Rules-clause-holds g c =
+    on_ok c.rules.result (unasked_holds g.D.Disk c.args.self.now c.args.disk.now)
+
+pub returns-in-Bad-clause-holds : goal.returns-in-Bad-clause-holds
+returns-in-Bad-clause-holds g c =
+    unasked_holds g.D.Disk c.args.self.now c.args.disk.now
+
+pub returns-in-Export-clause-holds : goal.returns-in-Export-clause-holds
+returns-in-Export-clause-holds g c =
+    if_ok_then c.export.result c.export.ensures.ok (λ reply ok. looked_holds g.D.Disk c.args.self.now c.export.new.self c.args.disk.now c.export.new.disk (c.export.ensures.same (ok.0).1) c.export.ensures.still)
+
+pub returns-in-Get-clause-holds : goal.returns-in-Get-clause-holds
+returns-in-Get-clause-holds g c =
+    if_ok_then c.get.result c.get.ensures.ok (λ reply ok. looked_holds g.D.Disk c.args.self.now c.get.new.self c.args.disk.now c.get.new.disk (c.get.ensures.same (ok.0).1) c.get.ensures.still)
+
+pub returns-in-Layout-clause-holds : goal.returns-in-Layout-clause-holds
+returns-in-Layout-clause-holds g c =
+    if_ok_then c.layout.result c.layout.ensures.ok (λ reply ok. looked_holds g.D.Disk c.args.self.now c.layout.new.self c.args.disk.now c.layout.new.disk (c.layout.ensures.same (ok.0).1) c.layout.ensures.still)
+
+pub returns-in-Checkpoint-clause-holds : goal.returns-in-Checkpoint-clause-holds
+returns-in-Checkpoint-clause-holds g c =
+    c.checkpoint.ensures.holds

@@ -6,6 +6,7 @@ use Rattle.nx_store.specs.Store.{NotOpened}
 use Rattle.nx_store.specs.declared.error.EngineError.{EngineError}
 use Rattle.nx_records.proofs.LeaveLemmas.{leaves_stand}
 use Rattle.nx_store.proofs.RefusalLemmas.{open_refused, catalog_refused}
+use Rattle.nx_store.proofs.ReadLemmas.{unopened_reads, catalog_reads}
 use Rattle.nx_store.proofs.store.Store.open.Goals as goal
 
 pub returns-in-Err-clause-refused : goal.returns-in-Err-clause-refused
@@ -30,3 +31,17 @@ returns-clause-ok g c was state settled recovers =
       state_is = recovers.2;
       catalog = c.in-Ok-load_catalog.ensures.ok.2 held held stands;
     }
+
+pub returns-in-Err-clause-reads : goal.returns-in-Err-clause-reads
+returns-in-Err-clause-reads g c was settled =
+    unopened_reads g.D.Disk c.args.disk.now c.open.new.disk was c.open.ensures.reads settled
+
+pub returns-in-Err-load_catalog-clause-reads : goal.returns-in-Err-load_catalog-clause-reads
+returns-in-Err-load_catalog-clause-reads g c was settled =
+    catalog_reads g.D.Disk c.in-Ok.records c.args.disk.now c.open.new.disk c.load_catalog.new.disk was c.open.ensures.reads settled (λ held. c.in-Ok.ensures.ok was held settled)
+    (c.in-Ok.ensures.step was settled).1 c.load_catalog.ensures.reads
+
+pub returns-clause-reads : goal.returns-clause-reads
+returns-clause-reads g c was settled =
+    catalog_reads g.D.Disk c.in-Ok.records c.args.disk.now c.open.new.disk c.load_catalog.new.disk was c.open.ensures.reads settled (λ held. c.in-Ok.ensures.ok was held settled)
+    (c.in-Ok.ensures.step was settled).1 c.load_catalog.ensures.reads
