@@ -1,15 +1,13 @@
 """Sessions of `natix STORE run` that go on where one was killed, and what a crash of the machine leaves of them: for
 tools/test-store."""
 
-import importlib.machinery
-import importlib.util
 import os
 import shutil
 from collections import Counter
 
 import crashes
 import sessions
-from sessions import READER, Document, Wrong, ask, load, look, replies_of, script
+from sessions import Document, Wrong, ask, load, look, replies_of, script
 
 # Of how many images the program itself is asked for one.
 SOME = 400
@@ -17,18 +15,11 @@ INIT = ask(b"init")
 UNSOUND = "pages that stand for no state"
 
 
-def reader():
-    loader = importlib.machinery.SourceFileLoader("read_store", READER)
-    module = importlib.util.module_from_spec(importlib.util.spec_from_loader("read_store", loader))
-    loader.exec_module(module)
-    return module
-
-
 class Reader:
     """What images stand for, by tools/read-store."""
 
     def __init__(self):
-        self.module, self.known = reader(), {}
+        self.module, self.known = sessions.READ_STORE, {}
 
     def state(self, image):
         """The documents with their intervals by their names; None where there is no store."""

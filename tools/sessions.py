@@ -1,8 +1,13 @@
 """Sessions of `natix STORE run`, drawn documents, and what a store has to hold by the replies: for tools/test-store."""
 
+import contextlib
+import importlib.machinery
+import importlib.util
+import io
 import os
 import re
 import subprocess
+import threading
 
 import driven
 
@@ -63,7 +68,7 @@ def drawn_instruction(draw, k):
 
 def drawn_size(draw):
     """How many nodes a document has: mostly few, and at most 2,000."""
-    return max(2, round(draw.choice((20, 20, 20, 200, 200, 2000)) ** draw.random()))
+    return max(2, round(draw.choice((20, 20, 20, 20, 60, 60, 200, 200, 2000)) ** draw.random()))
 
 
 def drawn_document(draw, nodes, k):
@@ -244,7 +249,7 @@ def replies_of(commands, output):
             if stop < 0:
                 return found, output[at:]
             line, end = output[end:stop], stop + 1
-            has_more = words.split()[0] in (b"names", b"export", b"layout") and (lines or not line.startswith(b"error "))
+            has_more = words.split()[0] in (b"names", b"rules", b"export", b"layout") and (lines or not line.startswith(b"error "))
             if has_more and line == b".":
                 break
             lines.append(line)
@@ -259,6 +264,21 @@ def start(store, *words, **how):
     """Starts a command, `run` where none is said, whose input and output are pipes."""
     how = {"stdin": subprocess.PIPE, "stdout": subprocess.PIPE, "stderr": subprocess.PIPE} | how
     return subprocess.Popen([NATIX, store, *(words or ("run",))], bufsize=0, **how)
+
+
+def feed(child, content):
+    """Writes to a process that may be killed meanwhile."""
+
+    def write():
+        try:
+            child.stdin.write(content)
+            child.stdin.close()
+        except OSError:
+            pass
+
+    thread = threading.Thread(target=write)
+    thread.start()
+    return thread
 
 
 def run(store, commands, **how):
@@ -291,18 +311,31 @@ class Found:
         return {name: (document.nodes, document.lines, document.layout) for name, document in self.documents.items()}
 
 
+def reader():
+    """tools/read-store as a module."""
+    loader = importlib.machinery.SourceFileLoader("read_store", READER)
+    module = importlib.util.module_from_spec(importlib.util.spec_from_loader("read_store", loader))
+    loader.exec_module(module)
+    return module
+
+
+READ_STORE = reader()
+
+
 def read_documents(store):
-    """What tools/read-store says."""
-    done = subprocess.run([READER, "--documents", store], stdout=subprocess.PIPE, stderr=subprocess.PIPE, timeout=PATIENCE)
-    said = done.stderr.decode("utf-8", "replace")
-    if done.returncode not in (0, 1, 3) or (done.returncode == 1 and not said.startswith("unsound: ")):
-        raise Wrong(f"tools/read-store ended with {done.returncode}: {said}")
-    lines, documents = iter(done.stdout.split(b"\n")[:-1]), {}
+    """What tools/read-store says. It is called here, since most of the time of a process of its own is its start."""
+    output, said = io.TextIOWrapper(io.BytesIO()), io.StringIO()
+    with contextlib.redirect_stdout(output), contextlib.redirect_stderr(said):
+        status = READ_STORE.main(["--documents", store])
+    said = said.getvalue()
+    if status not in (0, 1, 3) or (status == 1 and not said.startswith("unsound: ")):
+        raise Wrong(f"tools/read-store ended with {status}: {said}")
+    lines, documents = iter(output.buffer.getvalue().split(b"\n")[:-1]), {}
     for line in lines:
         _, name, nodes = line.split()
         documents[name] = Document(list(iter(lines.__next__, b".")), int(nodes))
         documents[name].layout = list(iter(lines.__next__, b"."))
-    return Found(done.returncode, documents, said.splitlines())
+    return Found(status, documents, said.splitlines())
 
 
 def questions(names):

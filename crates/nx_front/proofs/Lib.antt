@@ -1,3 +1,4 @@
+pub mod CommandLineLemmas
 pub mod ClockLemmas
 pub mod MomentLemmas
 pub mod ServeLemmas
@@ -8,3 +9,4 @@ pub mod ConversationLemmas
 pub mod InitLemmas
 pub mod GeneratingLemmas
 pub mod TopLemmas
+pub mod SessionLemmas

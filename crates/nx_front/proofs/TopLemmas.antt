@@ -3,7 +3,10 @@ use Rattle.std.proofs.Common.{◌≡◌, ◌↔◌, ◌⊎◌, inl, inr, ℕ, �
 use Rattle.nx_host.specs.declared.disk.Disk.{Ghosts}
 use Rattle.nx_host.specs.Disk.{Beside}
 use Rattle.nx_host.specs.Input.{most_input}
-use Rattle.nx_host.proofs.OutputLemmas.{takes_nothing}
+use Rattle.nx_host.specs.Time.{none_elapsed}
+use Rattle.nx_host.proofs.DiskLemmas.{keeps_self, none_still}
+use Rattle.nx_host.proofs.OutputLemmas.{keeps_prefix, takes_nothing}
+use Rattle.nx_store.specs.declared.error.EngineError.TheVariants as engine
 use Rattle.nx_filters.specs.declared.status.Status.{Status}
 use Rattle.nx_filters.specs.declared.status.Status.TheVariants.{Done, Usage, Refused, DiskFault, ReadFault, WriteFault, NoMemory, NotAStore, Damaged, TooMuch}
 use Rattle.nx_front.specs.declared.words.CommandLine.{CommandLine}
@@ -12,13 +15,47 @@ use Rattle.nx_filters.specs.Outcome.{Meaning, RunsBeside, TakesFew, CountsGrow, 
 use Rattle.nx_front.specs.Run.{IsCarriedOut, CompletesInput, IsCompleted, IsCoherent, AnswersAgree}
 use Rattle.nx_filters.specs.Plan.{IsLightInput, plan}
 use Rattle.nx_filters.specs.Verify.{IsSoundInput, verify}
-use Rattle.nx_filters.proofs.OutcomeLemmas.{completes}
+use Rattle.nx_filters.proofs.OutcomeLemmas.{completes, told_nothing}
 use Rattle.nx_filters.proofs.TidyLemmas.{tidy_together, tidy_once}
+use Rattle.nx_front.proofs.ClockLemmas.{HasClock}
+use Rattle.nx_front.proofs.ConversationLemmas.{serves_unopened}
 use Rattle.nx_front.proofs.ServingLaws.{serving_completes, serving_together, one_script}
 use Rattle.nx_filters.proofs.PlanLemmas.{plan_together, equal_plans, light_excludes}
 use Rattle.nx_filters.proofs.VerifyLemmas.{verify_together, verify_once, excludes}
-use Rattle.nx_front.proofs.GeneratingLemmas.{generating_bounded, generating_completes, generating_counts, generating_not_usage}
-use Rattle.nx_front.proofs.InitLemmas.{init_completes, init_not_usage, init_together, holds_nothing}
+use Rattle.nx_front.proofs.GeneratingLemmas.{generates_unopened, generating_bounded, generating_completes, generating_counts, generating_not_usage}
+use Rattle.nx_front.proofs.InitLemmas.{finds_no_memory, init_completes, init_not_usage, init_together, holds_nothing}
+
+-- Nothing is done:
+
+pub takes_none : (now : Option (List ℕ)) → TakesFew now now
+takes_none now = record { taken = []; few = (let e : 0 ≤ most_input = omega arith in e); takes = takes_nothing now }
+
+pub counts_same : (beside : Beside) → CountsGrow beside beside
+counts_same beside = record { read = omega arith; written = omega arith }
+
+module _ {D : Type 0} (d : Ghosts D) (a : D) where
+  beside_starved : {m : Meaning} → RunsBeside d m NoMemory a a
+  beside_starved {m = m} = record {
+    run = record {
+      outcome = None;
+      told = told_nothing m (d.beside a).input (d.beside a).input;
+      ends = tt;
+      prefix = keeps_prefix [] (d.beside a).output (d.beside a).output (keeps_self (d.beside a).output);
+      time = none_elapsed;
+      bounded = takes_none (d.beside a).input;
+      counts = counts_same (d.beside a);
+    };
+    disk = record { contents_stay = keeps_self (d.contents a); images_stay = λ i. (λ left. left, λ left. left); faults_stay = refl; reads_stay = refl };
+  }
+
+  -- memory ran out before anything was done
+  pub starved : (line : CommandLine) → HasClock d → IsCarriedOut d line NoMemory a a
+  starved Tidy clock = beside_starved
+  starved Run clock = serves_unopened d a a engine.Memory clock none_still tt (λ was settled. record { sound = λ held holds. omega arith; no_header = λ none. omega arith })
+  starved (Plan k) clock = beside_starved
+  starved (Verify k) clock = beside_starved
+  starved (Init settings) clock = finds_no_memory settings none_still
+  starved (Gen seed n) clock = generates_unopened seed n engine.Memory clock none_still tt
 
 module _ {D : Type 0} (d : Ghosts D) (a b : D) where
   -- the same command line
@@ -103,14 +140,6 @@ completes_sound k input WriteFault complete sure = absurd complete
 completes_sound k input NotAStore complete sure = absurd complete
 completes_sound k input (Damaged page) complete sure = absurd complete
 completes_sound k input TooMuch complete sure = absurd complete
-
--- Nothing is done:
-
-pub takes_none : (now : Option (List ℕ)) → TakesFew now now
-takes_none now = record { taken = []; few = (let e : 0 ≤ most_input = omega arith in e); takes = takes_nothing now }
-
-pub counts_same : (beside : Beside) → CountsGrow beside beside
-counts_same beside = record { read = omega arith; written = omega arith }
 
 -- what is said of each input, and of the disk, holds together
 pub together : (line : CommandLine) → IsCoherent line

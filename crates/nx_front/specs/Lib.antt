@@ -7,3 +7,4 @@ pub mod Init
 pub mod Run
 pub mod Generating
 pub mod Carrying
+pub mod Sessions

@@ -1,6 +1,10 @@
-//! What holds of the command lines themselves, apart from the code that carries them out.
+//! What holds of the command lines themselves, apart from the code that carries them out, and of sessions one after
+//! the other.
 ghost use Rattle.nx_front.specs.Run.{IsCoherent, AnswersAgree};
+ghost use Rattle.nx_front.specs.Sessions.{SessionsLead};
 ghost use Rattle.nx_front.specs.declared.words.CommandLine.{CommandLine};
+
+use nx_host::{Disk, Host};
 
 /// What is said of the input of a command line holds together: a refusal that bytes show is one of
 /// the whole input, whatever comes behind them, and an input has answers or one refusal. Its answers
@@ -11,4 +15,12 @@ ghost use Rattle.nx_front.specs.declared.words.CommandLine.{CommandLine};
 pub fn outcomes()
     ensures together { (line : CommandLine) → IsCoherent line }
     ensures answers { (line : CommandLine) → AnswersAgree line }
+{}
+
+/// Over any list of sessions, each opened on an image that a stop of the one before it at any moment, or its end, may
+/// have left, the last image holds what the first one held after some first commands of each session, one session after
+/// the other: of each `run` all those whose replies were out whole, and at most one more. So no session loses what an
+/// earlier one acknowledged, however each of them was stopped.
+pub fn sessions<H: Host>()
+    ensures { SessionsLead ⟦<H as Disk>⟧ }
 {}

@@ -9,5 +9,5 @@ mod top;
 mod words;
 
 pub use nx_filters::Status;
+pub use nx_words::{Word, Words};
 pub use top::run;
-pub use words::{Word, Words};

@@ -1,6 +1,6 @@
 // The top call.
 ghost use Rattle.std.specs.Prelude.{◌≡◌, ◌≤◌, ◌⊎◌, ◌↔◌, ℕ, List, None, Some};
-ghost use Rattle.nx_front.specs.CommandLine.{command_line};
+ghost use Rattle.nx_front.specs.CommandLine.{command_line, IsLimited};
 ghost use Rattle.nx_filters.specs.Outcome.{TakesFew, CountsGrow, IsUndisturbed};
 ghost use Rattle.nx_front.specs.Run.{IsCarriedOut, IsCompleted};
 ghost use Rattle.nx_filters.specs.Plan.{IsLightInput};
@@ -15,6 +15,7 @@ use crate::words::{CommandLine, command_line};
 use crate::{Status, Words};
 use nx_filters::{plan, tidy, verify};
 use nx_host::{Disk, Host};
+use nx_lists::NoMemory;
 use std::alloc::Global;
 
 /// Carries out the command line of these words, which are those after the program's own name, over
@@ -60,13 +61,24 @@ pub fn run<H: Host>(alloc: Global, words: &Words, host: &mut H) -> Status
     ensures certified { (k : ℕ) (input : List ℕ) → command_line words.now ≡ Some (Verify k) → IsUndisturbed input (H.beside host.old) (H.beside host.new) →
         IsSoundInput k input → (result ≡ Status.Done) ⊎ (result ≡ Status.NoMemory) }
 {
-    match command_line(words) {
-        Some(CommandLine::Tidy) => tidy(alloc, host),
-        Some(CommandLine::Run) => serve(alloc, host),
-        Some(CommandLine::Plan(k)) => plan(alloc, host, k),
-        Some(CommandLine::Verify(k)) => verify(alloc, host, k),
-        Some(CommandLine::Init(settings)) => init(alloc, host, settings),
-        Some(CommandLine::Gen(seed, n)) => generate(alloc, host, seed, n),
-        None => Status::Usage,
+    match command_line(alloc, words) {
+        Ok(Some(line)) => carry_out(alloc, line, host),
+        Ok(None) => Status::Usage,
+        Err(NoMemory) => Status::NoMemory,
+    }
+}
+
+// Carries out a command line.
+fn carry_out<H: Host>(alloc: Global, line: CommandLine, host: &mut H) -> Status
+    requires { IsLimited line }
+    ensures { IsCarriedOut ⟦<H as Disk>⟧ line result host.old host.new }
+{
+    match line {
+        CommandLine::Tidy => tidy(alloc, host),
+        CommandLine::Run => serve(alloc, host),
+        CommandLine::Plan(k) => plan(alloc, host, k),
+        CommandLine::Verify(k) => verify(alloc, host, k),
+        CommandLine::Init(settings) => init(alloc, host, settings),
+        CommandLine::Gen(seed, n) => generate(alloc, host, seed, n),
     }
 }

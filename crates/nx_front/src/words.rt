@@ -1,52 +1,15 @@
 // The words of a command line.
-ghost use Rattle.std.specs.Prelude.{◌≡◌, ◌≤◌, true, false, IfOk, IfSome, MatchOption};
+ghost use Rattle.std.specs.Prelude.{◌≡◌, ◌≤◌, ◌∷◌, true, false, map, is_some, IfOk, IfErr, IfSome, IsSome, MatchOption};
 ghost use Rattle.nx_pyx.specs.Field.{value_of};
 ghost use Rattle.nx_records.specs.Words.{AreSettings};
 ghost use Rattle.nx_front.specs.CommandLine.{is_store, is_named_store, is_within, is_weight_limit, usual_settings, settings_said, command_of_two, command_of_three, command_of_four, command_of_init, command_line_of, command_line, IsLimited};
 
-use nx_lists::List;
+use nx_lists::NoMemory;
 use nx_pyx::position;
 use nx_records::{MOST_PAGES, Settings};
-use nx_tree::NoMemory;
+use nx_words::{Word, Words, operands_of};
 use std::alloc::Global;
-use std::marker::Model;
-
-/// One word of a command line. Contracts see its bytes.
-#[derive(Drop)]
-pub struct Word {
-    text: String,
-}
-
-impl Model for Word {
-    ghost use Rattle.std.specs.Prelude.{List, ℕ, string_bytes};
-
-    ghost Value = { List ℕ };
-
-    ghost view = { λ a. string_bytes a.text };
-}
-
-impl Word {
-    /// A copy of the text.
-    ///
-    /// Errors: `NoMemory`.
-    pub fn new(alloc: Global, text: &str) -> Result<Word, NoMemory>
-        ensures { IfOk result (λ word. word ≡ text.now) }
-    {
-        Ok(Word {
-            text: String::from_str(alloc, text)?,
-        })
-    }
-
-    /// The word as text.
-    pub fn as_str(&self) -> &str
-        ensures { result.now ≡ self.now }
-    {
-        self.text.as_str()
-    }
-}
-
-/// A list of words.
-pub type Words = List<Word>;
+use std::convert::AsStr;
 
 // Where a split aims, in percent, where the words don't say it.
 const TARGET: u32 = 50;
@@ -74,25 +37,52 @@ pub enum CommandLine {
 }
 
 // The command line that the words are, if they are one.
-pub fn command_line(words: &Words) -> Option<CommandLine>
-    ensures line { result ≡ command_line words.now }
+//
+// Errors: `NoMemory`, and only where they are one, so that misuse is told whatever memory there is.
+pub fn command_line(alloc: Global, words: &Words) -> Result<Option<CommandLine>, NoMemory>
+    ensures line { IfOk result (λ line. line ≡ command_line words.now) }
+    ensures limit { IfOk result (λ line. IfSome line IsLimited) }
+    ensures memory { IfErr result (λ _. IsSome (command_line words.now)) }
+{
+    match operands_of(alloc, words) {
+        Ok(Some(operands)) => Ok(command_by(
+            operands.store,
+            operands.command,
+            operands.arguments.as_slice(),
+        )),
+        Ok(None) => Ok(None),
+        Err(NoMemory) if is_command_line(words.as_slice()) => Err(NoMemory),
+        Err(NoMemory) => Ok(None),
+    }
+}
+
+// Whether the words are a command line.
+fn is_command_line(words: &[Word]) -> bool
+    ensures { result ≡ is_some (command_line words.now) }
+{
+    match words {
+        [store, command, arguments @ ..] => {
+            command_by(store.as_str(), command.as_str(), arguments).is_some()
+        }
+        _ => false,
+    }
+}
+
+// The command line of a store, a command and its arguments.
+fn command_by<S: AsStr>(store: &str, command: &str, arguments: &[S]) -> Option<CommandLine>
+    ensures line { result ≡ command_line (store.now ∷ command.now ∷ map S.text arguments.now) }
     ensures limit { IfSome result IsLimited }
 {
-    match words.as_slice() {
-        [store, command, words @ ..] => {
-            if command.as_str() == "init" {
-                command_of_init(store.as_str(), words)
-            } else {
-                command_of(store.as_str(), command.as_str(), words)
-            }
-        }
-        _ => None,
+    if command == "init" {
+        command_of_init(store, arguments)
+    } else {
+        command_of(store, command, arguments)
     }
 }
 
 // The command line of a store, `init` and these words.
-fn command_of_init(store: &str, words: &[Word]) -> Option<CommandLine>
-    ensures line { result ≡ command_of_init store.now words.now }
+fn command_of_init<S: AsStr>(store: &str, words: &[S]) -> Option<CommandLine>
+    ensures line { result ≡ command_of_init store.now (map S.text words.now) }
     ensures limit { IfSome result IsLimited }
 {
     if !is_named_store(store) {
@@ -103,8 +93,8 @@ fn command_of_init(store: &str, words: &[Word]) -> Option<CommandLine>
 }
 
 // The settings that the words say. Each but the first may be left out with those behind it.
-fn settings_of(words: &[Word]) -> Option<Settings>
-    ensures said { result ≡ settings_said words.now }
+fn settings_of<S: AsStr>(words: &[S]) -> Option<Settings>
+    ensures said { result ≡ settings_said (map S.text words.now) }
     ensures limit { IfSome result AreSettings }
 {
     match words {
@@ -155,8 +145,8 @@ fn usual_settings(limit: &str) -> Option<Settings>
 }
 
 // The command line of a store, a command that isn't `init`, and these words.
-fn command_of(store: &str, command: &str, words: &[Word]) -> Option<CommandLine>
-    ensures line { result ≡ command_line_of store.now command.now words.now }
+fn command_of<S: AsStr>(store: &str, command: &str, words: &[S]) -> Option<CommandLine>
+    ensures line { result ≡ command_line_of store.now command.now (map S.text words.now) }
     ensures limit { IfSome result IsLimited }
 {
     match words {

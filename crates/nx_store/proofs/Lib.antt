@@ -24,3 +24,4 @@ pub mod StepLemmas
 pub mod LogLemmas
 pub mod AppliedLemmas
 pub mod TextLemmas
+pub mod EndedLemmas

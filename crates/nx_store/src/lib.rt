@@ -9,6 +9,7 @@ mod changing;
 mod editing;
 mod edits;
 mod error;
+pub mod laws;
 mod loading;
 mod store;
 

@@ -1,0 +1,101 @@
+-- Sessions over a disk, one after the other. Each may be stopped at any moment, and the next one is opened on an image that it left.
+use Rattle.std.specs.Prelude.{◌≡◌, ◌⊎◌, ◌+◌, ◌≤◌, ℕ, List, [], ◌∷◌, ◌++◌, length, Option, None, Some, IfSome, IsSome, MatchOption}
+use Rattle.nx_host.specs.declared.disk.Disk.{Ghosts}
+use Rattle.nx_host.specs.Disk.{Image, Keeps}
+use Rattle.nx_host.specs.Host.{Appends}
+use Rattle.nx_host.specs.Still.{IsSettled}
+use Rattle.nx_host.specs.Time.{Stood}
+use Rattle.nx_records.specs.Words.{Settings}
+use Rattle.nx_script.specs.declared.command.Command.{Command}
+use Rattle.nx_script.specs.Commands.{AreCommands}
+use Rattle.nx_gen.specs.Commands.{commands}
+use Rattle.nx_state.specs.State.{State, new_state}
+use Rattle.nx_state.specs.Stands.{Recovers}
+use Rattle.nx_filters.specs.declared.status.Status.{Status}
+use Rattle.nx_front.specs.declared.words.CommandLine.{CommandLine}
+use Rattle.nx_front.specs.declared.words.CommandLine.TheVariants.{Run, Init, Gen}
+use Rattle.nx_front.specs.Turns.{Turn, IsRun, state_after, commands_of}
+use Rattle.nx_front.specs.Serving.{AreWholeReplies}
+use Rattle.nx_front.specs.Generating.{generated}
+use Rattle.nx_front.specs.Run.{IsCarriedOut}
+
+-- A session: a command line that was carried out over a disk which had this image, and nothing unsynced, and told its bytes to the end. What stood at a moment of it, the
+-- end too: the output so far, and an image that a stop then leaves.
+pub record Session {D : Type 0} (d : Ghosts D) : Type 0 where
+  pub line : CommandLine
+  pub status : Status
+  pub before : D
+  pub after : D
+  pub carried : IsCarriedOut d line status before after
+  pub opened : Image
+  pub settled : IsSettled d before opened
+  pub told : IsSome (d.contents after)
+  pub stop : Stood
+  pub stood : d.stood_since after (d.moment before) stop
+
+-- Each session was opened on the image that the one before left, the first one on this image.
+abbrev pub AreSuccessive : {D : Type 0} {d : Ghosts D} → Image → List (Session d) → Type 0
+AreSuccessive image [] = Unit {0}
+AreSuccessive image (session ∷ sessions) = (session.opened ≡ image) × AreSuccessive (session.stop).image sessions
+
+-- the image that the last one left
+abbrev pub last_image : {D : Type 0} {d : Ghosts D} → Image → List (Session d) → Image
+last_image image [] = image
+last_image image (session ∷ sessions) = last_image (session.stop).image sessions
+
+-- These commands begin the input, where it is told to the end.
+abbrev pub BeginInput : List Command → Option (List ℕ) → Option (List ℕ) → Type 0
+BeginInput commands before after = IfSome after (λ _. IfSome before (λ input. (rest : List Command) × AreCommands input (commands ++ rest)))
+
+-- A `run` did the first turns of one run over its input: all whose replies are whole in what is out, and at most one more.
+pub record HasAnswered {D : Type 0} {d : Ghosts D} (session : Session d) (state : State) (next : Option State) : Type 0 where
+  pub done : List Turn
+  pub rest : List Turn
+  pub run : IsRun state (done ++ rest)
+  pub first : BeginInput (commands_of (done ++ rest)) (d.beside session.before).input (d.beside session.after).input
+  pub out : List ℕ
+  pub gave : Appends out (d.beside session.before).output (session.stop).output
+  pub count : ℕ
+  pub acknowledged : AreWholeReplies (done ++ rest) out count
+  pub all_acknowledged : count ≤ length done
+  pub one_more : length done ≤ count + 1
+  pub leads : next ≡ Some (state_after state done)
+
+-- A `gen` did the first of these commands, and all of them where anything is out.
+pub record HasGenerated {D : Type 0} {d : Ghosts D} (all : List Command) (session : Session d) (state : State) (next : Option State) : Type 0 where
+  pub done : List Turn
+  pub rest : List Command
+  pub run : IsRun state done
+  pub first : commands_of done ++ rest ≡ all
+  pub all_once_out : Keeps (d.beside session.before).output (session.stop).output ⊎ (rest ≡ [])
+  pub leads : next ≡ Some (state_after state done)
+
+-- An `init` made the new store, or there is none still, and nothing is out.
+abbrev pub HasMade : {D : Type 0} {d : Ghosts D} → Settings → Session d → Option State → Type 0
+HasMade {d = d} settings session next = (next ≡ Some (new_state settings)) ⊎ ((next ≡ None) × Keeps (d.beside session.before).output (session.stop).output)
+
+-- what a session of this command line led to over a store in this state: where it didn't change it, the same
+abbrev pub LeadsFrom : {D : Type 0} {d : Ghosts D} → CommandLine → Session d → State → Option State → Type 0
+LeadsFrom Run session state next = HasAnswered session state next
+LeadsFrom (Gen seed n) session state next = MatchOption (generated state) (HasGenerated (commands seed n) session state next) (λ document. next ≡ Some state)
+LeadsFrom _ session state next = next ≡ Some state
+
+-- ... and over a disk without pages
+abbrev pub LeadsFromNone : {D : Type 0} {d : Ghosts D} → CommandLine → Session d → Option State → Type 0
+LeadsFromNone (Init settings) session next = HasMade settings session next
+LeadsFromNone _ session next = next ≡ None
+
+-- From what the disk held the session led to what its image holds.
+abbrev pub Leads : {D : Type 0} {d : Ghosts D} → Session d → Option State → Option State → Type 0
+Leads session held next = MatchOption held (LeadsFromNone session.line session next) (λ state. LeadsFrom session.line session state next)
+
+-- ... each session in order
+abbrev pub LeadInOrder : {D : Type 0} {d : Ghosts D} → List (Session d) → Option State → Option State → Type 0
+LeadInOrder [] held last = last ≡ held
+LeadInOrder (session ∷ sessions) held last = (next : Option State) × Leads session held next × LeadInOrder sessions next last
+
+-- Over any sessions in order, the last image holds what the first one held after some commands of each session, one session after the other, all that it had
+-- acknowledged among them.
+abbrev pub SessionsLead : {D : Type 0} → Ghosts D → Type 0
+SessionsLead d = (image : Image) (held : Option State) (sessions : List (Session d)) → AreSuccessive image sessions → Recovers image held →
+    (last : Option State) × LeadInOrder sessions held last × Recovers (last_image image sessions) last
