@@ -57,9 +57,11 @@ pub fn bound_of(alloc: Global, tree: &Tree, k: u32, children: &Bounds) -> Result
     Ok(as_bound(node))
 }
 
-// Adds the minima of the tree's nodes to the list. Those of its root are known after the others and
-// stand before them.
-fn bound_tree(
+/// Adds the minima of the tree's nodes to the list. The tree is a document or one in it, no node of it weighs more
+/// than `k`, and `k` is from 1 to 256. What was allocated for one tree serves the next.
+///
+/// Errors: `NoMemory`.
+pub fn bound_tree(
     tree: &Tree,
     k: u32,
     scratch: &mut Scratch,

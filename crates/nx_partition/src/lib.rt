@@ -10,6 +10,7 @@ mod error;
 mod planning;
 mod scratch;
 
-pub use bounding::{bound_of, bounds};
+pub use bounding::{bound_of, bound_tree, bounds};
 pub use error::PlanError;
-pub use planning::{partition, plan, plan_from};
+pub use planning::{partition, parts_from, plan, plan_from};
+pub use scratch::Scratch;

@@ -79,8 +79,15 @@ pub fn plan_from(alloc: Global, tree: &Tree, k: u32, minima: Bounds) -> Result<P
     })
 }
 
-// The intervals where the minima are known.
-fn parts_from(alloc: Global, tree: &Tree, k: u32, minima: &Bounds) -> Result<Partitioning, NoMemory>
+/// The intervals alone where the minima of all nodes are known, so that no node weighs more than `k`.
+///
+/// Errors: `NoMemory`.
+pub fn parts_from(
+    alloc: Global,
+    tree: &Tree,
+    k: u32,
+    minima: &Bounds,
+) -> Result<Partitioning, NoMemory>
     requires document { IsDocument tree.now }
     requires some { 1 ≤ k }
     requires bound { k ≤ 256 }
