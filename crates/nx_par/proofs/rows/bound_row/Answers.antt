@@ -1,0 +1,19 @@
+use Rattle.std.proofs.Common.{List, subst}
+use Rattle.std.proofs.lemmas.List.{drop_all}
+use Rattle.nx_tree.specs.Forest.{OrderedTree, forest_of}
+use Rattle.nx_tree.proofs.TestLemmas.{next_left}
+use Rattle.nx_partition.proofs.GrowLemmas.{IsGrown, grown_more}
+use Rattle.nx_par.proofs.AddLemmas.{grown_to_all}
+use Rattle.nx_par.proofs.rows.bound_row.Goals as goal
+
+pub loop-place-preserved : goal.loop-place-preserved
+loop-place-preserved g c =
+    let next = next_left _ _ _ c.loop-place-test.true c.index-trees-place.is in
+    grown_more c.index-trees-place.result
+    (subst (λ (ts : List OrderedTree). IsGrown c.args.k (forest_of c.args.trees.now) (forest_of ts) c.args.list.items c.loop-place.list.items) next c.loop-place.invariant)
+    c.in_ok-added.ensures
+
+pub returns : goal.returns
+returns g c =
+    grown_to_all c.args.k c.args.trees.now c.args.list.items c.loop-place.list.items
+    (subst (λ (ts : List OrderedTree). IsGrown c.args.k (forest_of c.args.trees.now) (forest_of ts) c.args.list.items c.loop-place.list.items) (drop_all _ _ c.loop-place-test.false) c.loop-place.invariant)

@@ -1,0 +1,189 @@
+// Rows of trees, each bounded by a thread of its own.
+ghost use Rattle.std.specs.Prelude.{◌≡◌, ◌<◌, ◌≤◌, [], length, IfOk, IfSome};
+ghost use Rattle.std.specs.Thread.{IsSync};
+ghost use Rattle.nx_tree.specs.Forest.{nodes};
+ghost use Rattle.nx_weights.specs.Weight.{IsAtMost, IsWithinLimits};
+ghost use Rattle.nx_partition.specs.Bounding.{Extends};
+ghost use Rattle.nx_par.specs.Adding.{CanBound, CanBoundRow, ExtendsByAll, AreTwoToBound};
+
+use crate::Gate;
+use crate::cut::{FEW, Share, TwoRows, number_at, rows_of, two_rows};
+use crate::many::bound_many;
+use crate::settle::{UNKNOWN, settle};
+use nx_lists::NoMemory;
+use nx_partition::{Scratch, bound_tree};
+use nx_parts::Bound;
+use nx_tree::{Tree, count};
+use std::alloc::Global;
+use std::thread::{Threads, join};
+
+/// The children of a node that has so many are shared out by `rayon`.
+pub const MANY: usize = 2048;
+
+/// The list with the minima of a tree's nodes behind what it has. The share is that of the children of the tree's root,
+/// which have numbers where the gate is told of them.
+#[cycle(halves)]
+pub fn bound_one<R: Threads + Sync, G: Gate>(
+    rt: &R,
+    alloc: Global,
+    tree: &Tree,
+    share: Share,
+    k: u32,
+    gate: &G,
+    list: Vec<Bound>,
+) -> Result<Vec<Bound>, NoMemory>
+    requires some { 1 ≤ k }
+    requires bound { k ≤ 256 }
+    requires workers { 1 ≤ share.workers }
+    requires counted { share.nodes ≡ nodes tree.now.below }
+    requires numbers { IfSome share.first (λ number. number ≡ 0) }
+    requires limits { IsWithinLimits tree.now }
+    requires light { IsAtMost k tree.now }
+    ensures { IfOk result (λ new. Extends k tree.now list.items new.items) }
+{
+    let mut list = list;
+    let place = list.len();
+    list.push(UNKNOWN)?;
+    let mut list = bound_rows(rt, alloc, tree.children.as_slice(), share, k, gate, list)?;
+    settle(alloc, tree, k, place, &mut list)?;
+    Ok(list)
+}
+
+/// The share of the children of a tree's root for so many workers, with these numbers.
+pub fn share_below(tree: &Tree, first: Option<u32>, workers: u32) -> Share
+    requires { IsWithinLimits tree.now }
+    ensures counted { result.nodes ≡ nodes tree.now.below }
+    ensures first { result.first ≡ first }
+    ensures workers { result.workers ≡ workers }
+{
+    Share {
+        nodes: count(tree) as usize - 1,
+        first,
+        workers,
+    }
+}
+
+/// The list with the minima of the nodes of all trees behind what it has, tree after tree. The trees are cut into
+/// rows with about as many nodes as workers to bound them, down to rows of one worker each. The gate is told of
+/// each tree by its number, where they have numbers.
+#[cycle(halves)]
+pub fn bound_rows<R: Threads + Sync, G: Gate>(
+    rt: &R,
+    alloc: Global,
+    trees: &[Tree],
+    share: Share,
+    k: u32,
+    gate: &G,
+    list: Vec<Bound>,
+) -> Result<Vec<Bound>, NoMemory>
+    requires { CanBound k share trees.now }
+    ensures { IfOk result (λ new. ExtendsByAll k trees.now list.items new.items) }
+{
+    if share.workers == 1 || trees.is_empty() || share.first.is_none() && share.nodes < FEW {
+        return bound_row(alloc, trees, share.first, k, gate, list);
+    }
+    if trees.len() == 1 {
+        let below = share_below(&trees[0], None, share.workers);
+        begin(gate, share.first);
+        let added = bound_one(rt, alloc, &trees[0], below, k, gate, list);
+        end(gate, share.first);
+        return added;
+    }
+    if trees.len() >= MANY {
+        if let Some(rows) = rows_of(alloc, trees, share)? {
+            return bound_many(rt, alloc, trees, rows.as_slice(), k, list);
+        }
+    }
+    let two = two_rows(trees, share);
+    if two.at_once {
+        bound_at_once(rt, alloc, trees, two, k, gate, list)
+    } else {
+        bound_in_turn(rt, alloc, trees, two, k, gate, list)
+    }
+}
+
+// The same for trees that are cut into two rows: a thread bounds the first one while this one bounds the second.
+#[cycle(halves)]
+fn bound_at_once<R: Threads + Sync, G: Gate>(
+    rt: &R,
+    alloc: Global,
+    trees: &[Tree],
+    two: TwoRows,
+    k: u32,
+    gate: &G,
+    list: Vec<Bound>,
+) -> Result<Vec<Bound>, NoMemory>
+    requires { AreTwoToBound k trees.now two }
+    ensures { IfOk result (λ new. ExtendsByAll k trees.now list.items new.items) }
+{
+    let (front, back) = trees.split_at(two.at);
+    let left = move || -> Result<Vec<Bound>, NoMemory>
+        requires { IsSync R.row × IsSync G.row × CanBound k two.front front.now }
+        ensures { IfOk result (λ new. ExtendsByAll k front.entry.now list.items new.items) }
+    { bound_rows(rt, alloc, front, two.front, k, gate, list) };
+    let right = move || -> Result<Vec<Bound>, NoMemory>
+        requires { IsSync R.row × IsSync G.row × CanBound k two.back back.now }
+        ensures { IfOk result (λ new. ExtendsByAll k back.entry.now [] new.items) }
+    { bound_rows(rt, alloc, back, two.back, k, gate, Vec::new(alloc)) };
+    let (low, high) = join(rt, left, right);
+    let mut list = low?;
+    list.extend_from_slice(high?.as_slice())?;
+    Ok(list)
+}
+
+// The same where one row has too few nodes for a thread of its own.
+#[cycle(halves)]
+fn bound_in_turn<R: Threads + Sync, G: Gate>(
+    rt: &R,
+    alloc: Global,
+    trees: &[Tree],
+    two: TwoRows,
+    k: u32,
+    gate: &G,
+    list: Vec<Bound>,
+) -> Result<Vec<Bound>, NoMemory>
+    requires { AreTwoToBound k trees.now two }
+    ensures { IfOk result (λ new. ExtendsByAll k trees.now list.items new.items) }
+{
+    let (front, back) = trees.split_at(two.at);
+    let list = bound_rows(rt, alloc, front, two.front, k, gate, list)?;
+    bound_rows(rt, alloc, back, two.back, k, gate, list)
+}
+
+/// The list with the minima of the nodes of all trees behind what it has, found by one worker.
+pub fn bound_row<G: Gate>(
+    alloc: Global,
+    trees: &[Tree],
+    first: Option<u32>,
+    k: u32,
+    gate: &G,
+    list: Vec<Bound>,
+) -> Result<Vec<Bound>, NoMemory>
+    requires { CanBoundRow k first trees.now }
+    ensures { IfOk result (λ new. ExtendsByAll k trees.now list.items new.items) }
+{
+    let mut list = list;
+    let mut scratch = Scratch::new(alloc);
+    for (place, tree) in trees.iter().enumerate() {
+        let part = number_at(first, place);
+        begin(gate, part);
+        let added = bound_tree(tree, k, &mut scratch, &mut list);
+        end(gate, part);
+        added?;
+    }
+    Ok(list)
+}
+
+// Tells the gate that the work at a tree begins, if the tree has a number.
+fn begin<G: Gate>(gate: &G, part: Option<u32>) {
+    if let Some(part) = part {
+        gate.before(part);
+    }
+}
+
+// Tells the gate that the work at a tree has ended, if the tree has a number.
+fn end<G: Gate>(gate: &G, part: Option<u32>) {
+    if let Some(part) = part {
+        gate.after(part);
+    }
+}

@@ -1,0 +1,88 @@
+// The minima of one tree, its subtrees bounded beside each other.
+ghost use Rattle.std.specs.Prelude.{◌≡◌, ◌≤◌, IfOk, IfSome};
+ghost use Rattle.nx_weights.specs.Weight.{IsAtMost, IsWithinLimits};
+ghost use Rattle.nx_parts.specs.Minima.{AreMinima};
+ghost use Rattle.nx_partition.specs.Bounding.{Extends};
+
+use crate::Gate;
+use crate::rows::{MANY, bound_one, share_below};
+use crate::settle::{UNKNOWN, settle};
+use nx_lists::NoMemory;
+use nx_parts::{Bound, Bounds};
+use nx_tree::{Kind, Tree, count};
+use std::alloc::Global;
+use std::thread::Threads;
+
+/// The minima of the subtrees of all nodes, in document order, found by threads beside each other: the
+/// same for every number of workers. The tree is a document or one in it, no node weighs more than `k`,
+/// `k` is from 1 to 256, and there is at least one worker.
+///
+/// The children of a node are cut into rows with about as many nodes each as there are workers, and each row is
+/// bounded by a thread. Where a row has one tree and several workers, its children are cut in turn.
+/// Rows with few nodes get no thread of their own.
+///
+/// Where the root element of a document has 2 to 2,047 children, the gate is told of each of them, by its position.
+///
+/// Errors: `NoMemory`.
+pub fn bounds_wide<R: Threads + Sync, G: Gate>(
+    rt: &R,
+    alloc: Global,
+    tree: &Tree,
+    k: u32,
+    workers: u32,
+    gate: &G,
+) -> Result<Bounds, NoMemory>
+    requires some { 1 ≤ k }
+    requires bound { k ≤ 256 }
+    requires workers { 1 ≤ workers }
+    requires limits { IsWithinLimits tree.now }
+    requires light { IsAtMost k tree.now }
+    ensures { IfOk result (λ bounds. AreMinima k tree.now bounds) }
+{
+    let list = Vec::with_capacity(alloc, count(tree) as usize)?;
+    let list = if matches!(tree.node.kind, Kind::Doc) {
+        bound_document(rt, alloc, tree, k, workers, gate, list)?
+    } else {
+        let share = share_below(tree, None, workers);
+        bound_one(rt, alloc, tree, share, k, gate, list)?
+    };
+    Ok(Bounds::from_vec(list))
+}
+
+// The list with the minima of the nodes of a document behind what it has.
+fn bound_document<R: Threads + Sync, G: Gate>(
+    rt: &R,
+    alloc: Global,
+    tree: &Tree,
+    k: u32,
+    workers: u32,
+    gate: &G,
+    list: Vec<Bound>,
+) -> Result<Vec<Bound>, NoMemory>
+    requires some { 1 ≤ k }
+    requires bound { k ≤ 256 }
+    requires workers { 1 ≤ workers }
+    requires limits { IsWithinLimits tree.now }
+    requires light { IsAtMost k tree.now }
+    ensures { IfOk result (λ new. Extends k tree.now list.items new.items) }
+{
+    let mut list = list;
+    let place = list.len();
+    list.push(UNKNOWN)?;
+    for child in tree.children.as_slice() {
+        let share = share_below(child, told(child), workers);
+        list = bound_one(rt, alloc, child, share, k, gate, list)?;
+    }
+    settle(alloc, tree, k, place, &mut list)?;
+    Ok(list)
+}
+
+// From which number on the gate is told of the tree's children, if it is.
+fn told(tree: &Tree) -> Option<u32>
+    ensures { IfSome result (λ number. number ≡ 0) }
+{
+    match tree.children.len() {
+        2..MANY => Some(0),
+        _ => None,
+    }
+}

@@ -1,0 +1,18 @@
+//! Tests of bounds that are found by several threads, over public calls. It has nothing but tests, so that all of
+//! it is proved once.
+#![tactic(auto)]
+
+#[cfg(test)]
+mod agreeing;
+#[cfg(test)]
+mod bounding;
+#[cfg(test)]
+mod meeting;
+#[cfg(test)]
+mod random;
+#[cfg(test)]
+mod rows;
+#[cfg(test)]
+mod shapes;
+#[cfg(test)]
+mod telling;
