@@ -25,7 +25,8 @@ fn holds(tree: &Tree, label: &[u8]) -> bool {
     if is_labelled(&tree.node, label) {
         return true;
     }
-    for child in tree.children.as_slice() {
+    let items = tree.children.as_slice();
+    for child in items {
         if holds(child, label) {
             return true;
         }
@@ -33,11 +34,13 @@ fn holds(tree: &Tree, label: &[u8]) -> bool {
     false
 }
 
-fn show(finder: &mut Finder<'_>, trees: &[Tree], label: &[u8]) -> Result<(), NoMemory> {
-    for tree in trees {
-        if holds(tree, label) {
-            finder.open(tree.node.kind, tree.node.name.as_slice())?;
-            show(finder, tree.children.as_slice(), label)?;
+// Shows the finder what stands below a node.
+fn show(finder: &mut Finder<'_>, tree: &Tree, label: &[u8]) -> Result<(), NoMemory> {
+    let items = tree.children.as_slice();
+    for child in items {
+        if holds(child, label) {
+            finder.open(child.node.kind, child.node.name.as_slice())?;
+            show(finder, child, label)?;
             finder.close()?;
         } else {
             finder.skip(1)?;
@@ -57,11 +60,7 @@ fn found(alloc: Global, document: &[u8], text: &[u8]) -> Result<Bytes, Fail> {
     let tree = read(alloc, document)?;
     let steps = steps(alloc, text)?;
     let mut finder = Finder::new(alloc, &steps);
-    show(
-        &mut finder,
-        tree.children.as_slice(),
-        last_label(steps.as_slice()),
-    )?;
+    show(&mut finder, &tree, last_label(steps.as_slice()))?;
     Ok(lines(alloc, &finder.into_found())?)
 }
 
