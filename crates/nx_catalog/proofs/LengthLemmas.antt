@@ -31,7 +31,7 @@ catalog_length contents = ap (λ (b : List ℕ). length b) (spelled contents) �
 
 -- ---- by names and labels
 
-document_length : (d : Document) → length (document_bytes d) ≡ 12 + length d.0
+pub document_length : (d : Document) → length (document_bytes d) ≡ 12 + length d.0
 document_length d = grind (arith, length-append)
 
 rule_length : (r : Rule) → length (rule_bytes r) ≡ 5 + (length r.parent + length r.child)
@@ -69,7 +69,7 @@ same_length one other names pairs =
 
 -- ---- at most so many
 
-documents_most : (documents : List Document) → AllByRecursion CanBeKept documents → length (flat_map document_bytes documents) ≤ 267 * length documents
+pub documents_most : (documents : List Document) → AllByRecursion CanBeKept documents → length (flat_map document_bytes documents) ≤ 267 * length documents
 documents_most [] kept = omega arith
 documents_most (d ∷ documents) kept =
     let one = document_length d in

@@ -10,3 +10,4 @@ pub mod DocumentLemmas
 pub mod RuleLemmas
 pub mod CatalogLemmas
 pub mod SavingLemmas
+pub mod PlaceLemmas

@@ -53,7 +53,7 @@ module _ {X : Type 0} where
   entries-map_in m o = entries-from_sorted name_order _ (in_order m.entries o)
 
   -- what a change at one name leaves at each name
-  updates : (name : List ℕ) (m n : BTreeMap (Vec ℕ) X) (w : Option X) → UpdatesBy vector_order (λ k. name_order name k.items) m n w →
+  pub updates : (name : List ℕ) (m n : BTreeMap (Vec ℕ) X) (w : Option X) → UpdatesBy vector_order (λ k. name_order name k.items) m n w →
       (q : List ℕ) → value_of q n ≡ cond (eq_by_cmp name_order q name) w (value_of q m)
   unfolding KeepsOthers
   updates name m n w h q = ⊎_elim

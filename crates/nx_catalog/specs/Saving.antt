@@ -1,7 +1,8 @@
 -- What a saved change makes of the rules, and why none was made.
-use Rattle.std.specs.Prelude.{List}
+use Rattle.std.specs.Prelude.{◌≡◌, List}
 use Rattle.nx_host.specs.declared.disk.Disk.{Ghosts}
-use Rattle.nx_records.specs.Changes.{catalog_needs}
+use Rattle.nx_records.specs.Words.{Held}
+use Rattle.nx_records.specs.Changes.{SetsCatalog, catalog_needs}
 use Rattle.nx_records.specs.Records.{KeepsSaved}
 use Rattle.nx_records.specs.Refusals.{NotChanged, IsFull, RunsOn}
 use Rattle.nx_records.specs.declared.records.Records.{Records}
@@ -12,6 +13,11 @@ use Rattle.nx_matrix.specs.Rules.{AreRules, SetsEntry, IsRuleRefused}
 use Rattle.nx_catalog.specs.Catalog.{Contents, catalog_bytes}
 use Rattle.nx_catalog.specs.declared.saving.RuleError.{RuleError}
 use Rattle.nx_catalog.specs.declared.saving.RuleError.TheVariants.{TooManyRules, Store}
+
+-- The catalog alone was replaced; where it was that of the old contents, by that of the new ones.
+pub record SavesEntry (old new : Contents) (was now : Held) : Type 0 where
+  pub sets : SetsCatalog now.catalog.bytes was now
+  pub saves : was.catalog.bytes ≡ catalog_bytes old → now.catalog.bytes ≡ catalog_bytes new
 
 -- These are rules of a matrix, which say of the rule's pair of labels what it says, and of each other pair what the old ones say.
 pub record MakesRule (old : List Rule) (rule : Rule) (new : List Rule) : Type 0 where

@@ -19,13 +19,16 @@ pub struct Catalog {
     pub(crate) alloc: Global,
     pub(crate) documents: BTreeMap<Vec<u8>, DocEntry>,
     pub(crate) matrix: Matrix,
+    // Where the entries of documents stand in the catalog's bytes, by their names; none where it isn't known.
+    pub(crate) places: BTreeMap<Vec<u8>, u64>,
 }
 
 impl Model for Catalog {
     ghost use Rattle.nx_catalog.specs.Catalog.{Contents};
     ghost use Rattle.nx_catalog.specs.Codes.{contents_code};
     ghost use Rattle.nx_catalog.specs.NameMap.{map_in};
-    ghost use Rattle.nx_catalog.specs.Inside.{AreDocumentEntries};
+    ghost use Rattle.nx_catalog.specs.Inside.{AreDocumentEntries, ArePlaces};
+    ghost use Rattle.nx_script.specs.Field.{by_bytes};
 
     ghost Value = { Contents };
 
@@ -33,7 +36,7 @@ impl Model for Catalog {
 
     ghost view = { λ a. record { documents = map_in a.documents; rules = a.matrix } };
 
-    ghost invariant = { λ a. AreDocumentEntries a.documents };
+    ghost invariant = { λ a. AreDocumentEntries a.documents × ArePlaces (by_bytes a.documents.entries) a.matrix a.places };
 }
 
 /// A document's name, and where it stands.
@@ -54,6 +57,7 @@ impl Catalog {
             alloc,
             documents: BTreeMap::new(alloc),
             matrix: Matrix::new(alloc),
+            places: BTreeMap::new(alloc),
         }
     }
 
@@ -105,6 +109,7 @@ impl Catalog {
         ensures err { OnErr result (self.new ≡ self.old) }
     {
         numbers_fit(entry.root.page, entry.root.slot, entry.nodes);
+        self.places = BTreeMap::new(self.alloc);
         let key = Vec::from_slice(self.alloc, name)?;
         self.documents.insert(key, entry)?;
         Ok(())
@@ -115,6 +120,7 @@ impl Catalog {
         ensures documents { self.new.documents ≡ remove self.old.documents name.now }
         ensures rules { self.new.rules ≡ self.old.rules }
     {
+        self.places = BTreeMap::new(self.alloc);
         let _ = self.documents.remove(name);
     }
 
@@ -130,6 +136,7 @@ impl Catalog {
         ensures* lends { sem 𝓛 (LendsRules self.entry result) }
         ensures rules { result.now ≡ self.old.rules }
     {
+        self.places = BTreeMap::new(self.alloc);
         &mut self.matrix
     }
 }

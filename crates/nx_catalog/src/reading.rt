@@ -38,6 +38,7 @@ pub fn catalog_of(alloc: Global, bytes: &[u8]) -> Result<Option<Catalog>, NoMemo
         alloc,
         documents,
         matrix,
+        places: BTreeMap::new(alloc),
     }))
 }
 

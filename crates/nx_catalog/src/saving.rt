@@ -1,20 +1,22 @@
 // Changes of a catalog that are saved, or not made.
-ghost use Rattle.std.specs.Prelude.{◌≡◌, ◌⊎◌, ◌<◌, true, false, length, All, IsTrue, Some, Option, IfOk, IfErr, OnOk, OnErr};
+ghost use Rattle.std.specs.Prelude.{◌≡◌, ◌⊎◌, ◌<◌, true, false, length, All, IsTrue, Some, Option, IfOk, IfErr, IfSome, OnOk, OnErr};
 ghost use Rattle.std.specs.FinMap.{entries, get, insert, remove, contains_key};
 ghost use Rattle.nx_host.specs.Still.{IsStill};
 ghost use Rattle.nx_records.specs.Records.{KeepsSaved, ComesTo, HasChanges, has_ended};
 ghost use Rattle.nx_records.specs.Changes.{SetsCatalog, catalog_needs};
 ghost use Rattle.nx_records.specs.Refusals.{NotChanged, NotStored, RunsOn, EndNow};
-ghost use Rattle.nx_script.specs.Field.{is_document_name};
+ghost use Rattle.nx_script.specs.Field.{is_document_name, by_bytes};
 ghost use Rattle.nx_script.specs.Rule.{HasLabels};
 ghost use Rattle.nx_hold.specs.declared.entry.DocEntry.{DocEntry};
 ghost use Rattle.nx_catalog.specs.NameMap.{map_in};
-ghost use Rattle.nx_catalog.specs.Inside.{AreDocumentEntries};
+ghost use Rattle.nx_catalog.specs.Inside.{AreDocumentEntries, names_of, IsPlaceOf, HavePlaces};
 ghost use Rattle.nx_catalog.specs.Catalog.{Entries, IsCatalog, catalog_bytes};
-ghost use Rattle.nx_catalog.specs.Saving.{MakesRule, NotRuled};
+ghost use Rattle.nx_catalog.specs.Saving.{SavesEntry, MakesRule, NotRuled};
+ghost use Rattle.nx_matrix.specs.Rules.{AreRules};
 
 use crate::Catalog;
 use crate::catalog::numbers_fit;
+use crate::writing::entry_bytes;
 use nx_hold::DocEntry;
 use nx_host::Disk;
 use nx_lists::NoMemory;
@@ -35,7 +37,11 @@ pub enum RuleError {
 
 impl Catalog {
     /// Puts a document under a name, or another entry under a name that is there, and makes this the catalog of
-    /// the records. A document may have the name, and the name is there or fewer than 4,294,967,295 documents are.
+    /// the records, whose catalog is what this one is before. A document may have the name, and the name is there
+    /// or fewer than 4,294,967,295 documents are. Where the name is there, the ten bytes of its entry alone are put
+    /// in the place of the old ones; they are found without a walk over the documents, but the first time and
+    /// behind another call that changes the catalog. What is said of the catalog that comes holds where that of
+    /// the records was this one before; else its bytes alone are changed, and nothing beside it.
     ///
     /// Errors: those of `save` at the new catalog. The catalog is as it was then.
     pub fn save_entry<D: Disk>(
@@ -50,7 +56,7 @@ impl Catalog {
         ensures still { IsStill D.Disk disk.old disk.new }
         ensures documents { OnOk result (self.new.documents ≡ insert self.old.documents name.now entry) }
         ensures rules { self.new.rules ≡ self.old.rules }
-        ensures ok { OnOk result (ComesTo D.Disk records.old records.new disk.old disk.new (λ was now. SetsCatalog (catalog_bytes self.new) was now)) }
+        ensures ok { OnOk result (ComesTo D.Disk records.old records.new disk.old disk.new (λ was now. SavesEntry self.old self.new was now)) }
         ensures keeps { OnOk result (RunsOn records.old records.new × KeepsSaved D.Disk records.old records.new disk.old disk.new × HasChanges records.new) }
         ensures form { OnOk result (All HasLabels self.old.rules → IsCatalog (catalog_bytes self.new) self.new) }
         ensures err { OnErr result (self.new ≡ self.old) }
@@ -59,6 +65,67 @@ impl Catalog {
         if records.is_ended() {
             return Err(StoreError::Ended);
         }
+        let Ok(place) = self.place_of(name) else {
+            return Err(StoreError::Memory);
+        };
+        match place {
+            Some(at) => self.save_at(records, disk, name, entry, at),
+            None => self.save_set(records, disk, name, entry),
+        }
+    }
+
+    // Puts another entry under a name whose entry stands there, and in its place in the catalog of the records.
+    fn save_at<D: Disk>(
+        &mut self,
+        records: &mut Records,
+        disk: &mut D,
+        name: &[u8],
+        entry: DocEntry,
+        at: u64,
+    ) -> Result<(), StoreError>
+        requires runs { has_ended records.old ≡ false }
+        requires named { IsTrue (is_document_name name.now) }
+        requires place { IsPlaceOf (entries self.old.documents) name.now at × AreRules self.old.rules }
+        ensures still { IsStill D.Disk disk.old disk.new }
+        ensures documents { OnOk result (self.new.documents ≡ insert self.old.documents name.now entry) }
+        ensures rules { self.new.rules ≡ self.old.rules }
+        ensures ok { OnOk result (ComesTo D.Disk records.old records.new disk.old disk.new (λ was now. SavesEntry self.old self.new was now)) }
+        ensures keeps { OnOk result (RunsOn records.old records.new × KeepsSaved D.Disk records.old records.new disk.old disk.new × HasChanges records.new) }
+        ensures form { OnOk result (All HasLabels self.old.rules → IsCatalog (catalog_bytes self.new) self.new) }
+        ensures err { OnErr result (self.new ≡ self.old) }
+        ensures refused { IfErr result (λ e. NotStored D.Disk (λ was. catalog_needs (catalog_bytes (record { documents = insert self.old.documents name.now entry; rules = self.old.rules })) was) (λ was. ⊥) 0 e records.old records.new disk.old disk.new) }
+    {
+        if records.catalog_length().saturating_sub(at) < 10 {
+            return self.save_set(records, disk, name, entry);
+        }
+        let Ok(bytes) = entry_bytes(self.alloc, entry) else {
+            return Err(StoreError::Memory);
+        };
+        records.change_catalog(self.alloc, disk, at, bytes.as_slice())?;
+        put_at(&mut self.documents, name, entry);
+        Ok(())
+    }
+
+    // Puts a document under a name, or another entry, and saves the whole catalog.
+    fn save_set<D: Disk>(
+        &mut self,
+        records: &mut Records,
+        disk: &mut D,
+        name: &[u8],
+        entry: DocEntry,
+    ) -> Result<(), StoreError>
+        requires runs { has_ended records.old ≡ false }
+        requires named { IsTrue (is_document_name name.now) }
+        requires room { (contains_key self.old.documents name.now ≡ true) ⊎ (length (entries self.old.documents) < 4294967295) }
+        ensures still { IsStill D.Disk disk.old disk.new }
+        ensures documents { OnOk result (self.new.documents ≡ insert self.old.documents name.now entry) }
+        ensures rules { self.new.rules ≡ self.old.rules }
+        ensures ok { OnOk result (ComesTo D.Disk records.old records.new disk.old disk.new (λ was now. SavesEntry self.old self.new was now)) }
+        ensures keeps { OnOk result (RunsOn records.old records.new × KeepsSaved D.Disk records.old records.new disk.old disk.new × HasChanges records.new) }
+        ensures form { OnOk result (All HasLabels self.old.rules → IsCatalog (catalog_bytes self.new) self.new) }
+        ensures err { OnErr result (self.new ≡ self.old) }
+        ensures refused { IfErr result (λ e. NotStored D.Disk (λ was. catalog_needs (catalog_bytes (record { documents = insert self.old.documents name.now entry; rules = self.old.rules })) was) (λ was. ⊥) 0 e records.old records.new disk.old disk.new) }
+    {
         let before = self.find(name);
         let Ok(()) = self.set(name, entry) else {
             return Err(StoreError::Memory);
@@ -72,12 +139,38 @@ impl Catalog {
         }
     }
 
+    // Where the entry of that name stands in the catalog's bytes, where there is one. Where no place is known,
+    // all are found.
+    fn place_of(&mut self, name: &[u8]) -> Result<Option<u64>, NoMemory>
+        ensures stays { self.new ≡ self.old }
+        ensures place { IfOk result (λ found. IfSome found (λ at. IsPlaceOf (entries self.old.documents) name.now at × AreRules self.old.rules)) }
+    {
+        self.find_places()?;
+        Ok(self.places.get(name).copied())
+    }
+
+    // Finds where all entries stand in the catalog's bytes, where no place is known.
+    fn find_places(&mut self) -> Result<(), NoMemory>
+        ensures { self.new ≡ self.old }
+    {
+        if !self.places.is_empty() {
+            return Ok(());
+        }
+        // A catalog is known of rules that were told.
+        let Ok(_) = self.matrix.rules() else {
+            return Err(NoMemory);
+        };
+        self.places = places_of(self.alloc, &self.documents)?;
+        Ok(())
+    }
+
     // Gives a name back what stood under it before another entry was put there. It takes no memory.
     fn put_back(&mut self, name: &[u8], before: Option<DocEntry>)
         requires { contains_key self.old.documents name.now ≡ true }
         ensures documents { (documents : Entries) (entry : DocEntry) → self.old.documents ≡ insert documents name.now entry → before ≡ get documents name.now → self.new.documents ≡ documents }
         ensures rules { self.new.rules ≡ self.old.rules }
     {
+        self.places = BTreeMap::new(self.alloc);
         match before {
             Some(entry) => put_at(&mut self.documents, name, entry),
             None => self.remove(name),
@@ -132,6 +225,7 @@ impl Catalog {
         ensures err { OnErr result (self.new ≡ self.old) }
         ensures refused { IfErr result (λ e. NotStored D.Disk (λ was. catalog_needs (catalog_bytes (record { documents = map_in documents; rules = self.old.rules })) was) (λ was. ⊥) 0 e records.old records.new disk.old disk.new) }
     {
+        self.places = BTreeMap::new(self.alloc);
         let before = mem::replace(&mut self.documents, documents);
         match self.save(records, disk) {
             Ok(()) => Ok(()),
@@ -196,6 +290,7 @@ impl Catalog {
         ensures err { OnErr result (self.new ≡ self.old) }
         ensures refused { IfErr result (λ e. NotStored D.Disk (λ was. catalog_needs (catalog_bytes (record { documents = self.old.documents; rules = rules })) was) (λ was. ⊥) 0 e records.old records.new disk.old disk.new) }
     {
+        self.places = BTreeMap::new(self.alloc);
         let before = mem::replace(&mut self.matrix, rules);
         match self.save(records, disk) {
             Ok(()) => Ok(()),
@@ -212,11 +307,32 @@ fn put_at(documents: &mut BTreeMap<Vec<u8>, DocEntry>, name: &[u8], entry: DocEn
     requires { AreDocumentEntries documents.old }
     ensures are { AreDocumentEntries documents.new }
     ensures put { contains_key (map_in documents.old) name.now ≡ true → map_in documents.new ≡ insert (map_in documents.old) name.now entry }
+    ensures names { names_of (by_bytes documents.new.entries) ≡ names_of (by_bytes documents.old.entries) }
 {
     numbers_fit(entry.root.page, entry.root.slot, entry.nodes);
     if let Some(there) = documents.get_mut(name) {
         *there = entry;
     }
+}
+
+// Where each document's entry stands in the bytes of a catalog.
+fn places_of(
+    alloc: Global,
+    documents: &BTreeMap<Vec<u8>, DocEntry>,
+) -> Result<BTreeMap<Vec<u8>, u64>, NoMemory>
+    requires { AreDocumentEntries documents.now }
+    ensures { IfOk result (λ places. HavePlaces (by_bytes documents.now.entries) places) }
+{
+    let mut places = BTreeMap::new(alloc);
+    let mut end = 4;
+    for (name, _) in documents {
+        let bytes = name.as_slice();
+        let at = end + 2 + bytes.len() as u64;
+        let key = Vec::from_slice(alloc, bytes)?;
+        places.insert(key, at)?;
+        end = at + 10;
+    }
+    Ok(places)
 }
 
 // The documents but that of the name.

@@ -25,8 +25,8 @@ pub fn load_catalog<D: Disk>(
     ensures still { IsStill D.Disk disk.old disk.new }
     ensures reads { D.reads disk.new ≤ D.reads disk.old + chain_count (catalog_length_of records.old) }
     ensures ok { IfOk result (λ catalog. (has_ended records.old ≡ false) × LeavesRecords records.old records.new
-        × ((saved now : Held) → StandsFor D.Disk records.old disk.old saved now → IsCatalog now.catalog catalog)) }
-    ensures refused { IfErr result (λ e. NotRead D.Disk (λ now. (contents : Contents) → IsCatalog now.catalog contents → ⊥) 0 e records.old records.new disk.old disk.new) }
+        × ((saved now : Held) → StandsFor D.Disk records.old disk.old saved now → IsCatalog now.catalog.bytes catalog)) }
+    ensures refused { IfErr result (λ e. NotRead D.Disk (λ now. (contents : Contents) → IsCatalog now.catalog.bytes contents → ⊥) 0 e records.old records.new disk.old disk.new) }
 {
     let bytes = records.read_catalog(alloc, disk)?;
     let Ok(read) = catalog_of(alloc, bytes.as_slice()) else {

@@ -4,7 +4,7 @@ ghost use Rattle.nx_matrix.specs.Rules.{AreRules, longest_label};
 ghost use Rattle.nx_script.specs.Rule.{HasLabels};
 ghost use Rattle.nx_script.specs.Field.{by_bytes};
 ghost use Rattle.nx_catalog.specs.Inside.{AreDocumentEntries};
-ghost use Rattle.nx_catalog.specs.Catalog.{IsCatalog, catalog_bytes, with_length, entry_byte, document_bytes, rule_bytes};
+ghost use Rattle.nx_catalog.specs.Catalog.{IsCatalog, catalog_bytes, with_length, place_bytes, entry_byte, document_bytes, rule_bytes};
 ghost use Rattle.nx_piece.specs.Encoding.{four_bytes, two_bytes};
 
 use crate::Catalog;
@@ -12,6 +12,7 @@ use nx_hold::DocEntry;
 use nx_lists::NoMemory;
 use nx_matrix::{Entry, MatrixError, Rule};
 use nx_tree::Bytes;
+use std::alloc::Global;
 use std::collections::BTreeMap;
 
 impl Catalog {
@@ -60,6 +61,21 @@ fn push_document(name: &[u8], entry: DocEntry, out: &mut Bytes) -> Result<(), No
     ensures { OnOk result (out.new ≡ out.old ++ document_bytes (name.now, entry)) }
 {
     push_counted(name, out)?;
+    push_place(entry, out)
+}
+
+// The bytes of an entry.
+pub(crate) fn entry_bytes(alloc: Global, entry: DocEntry) -> Result<Bytes, NoMemory>
+    ensures { IfOk result (λ bytes. bytes ≡ place_bytes entry) }
+{
+    let mut out = Bytes::new(alloc);
+    push_place(entry, &mut out)?;
+    Ok(out)
+}
+
+fn push_place(entry: DocEntry, out: &mut Bytes) -> Result<(), NoMemory>
+    ensures { OnOk result (out.new ≡ out.old ++ place_bytes entry) }
+{
     push_four(entry.root.page, out)?;
     push_two(entry.root.slot, out)?;
     push_four(entry.nodes, out)

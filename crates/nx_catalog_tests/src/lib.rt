@@ -4,6 +4,8 @@
 #[cfg(test)]
 mod bytes;
 #[cfg(test)]
+mod changed;
+#[cfg(test)]
 mod made;
 #[cfg(test)]
 mod saved;

@@ -1,9 +1,11 @@
 // Records with a catalog, over a host in memory. Its methods promise nothing, since a test that knows much
 // is proved slowly.
 use nx_catalog::{Catalog, load_catalog};
+use nx_hold::DocEntry;
 use nx_lists::List;
 use nx_memory::{Image, MemoryHost};
 use nx_records::{Records, Settings, StoreError};
+use nx_script::is_document_name;
 use std::alloc::Global;
 use std::process::Abort;
 use std::test::Fail;
@@ -68,6 +70,21 @@ impl Store {
 
     pub fn save(&mut self, catalog: &Catalog) -> Result<(), StoreError> {
         catalog.save(&mut self.records, &mut self.host)
+    }
+
+    /// Puts an entry under a name in a catalog, and in that of the records. Answers how many reads were made.
+    pub fn enter(
+        &mut self,
+        rt: &impl Abort,
+        catalog: &mut Catalog,
+        name: &[u8],
+        entry: DocEntry,
+    ) -> Result<u64, StoreError> {
+        assert!(rt; is_document_name(name));
+        assert!(rt; catalog.len() < 1_000);
+        let before = self.host.counts().reads;
+        catalog.save_entry(&mut self.records, &mut self.host, name, entry)?;
+        Ok(self.host.counts().reads.saturating_sub(before))
     }
 
     /// Saves the catalog and commits.

@@ -102,6 +102,22 @@ below_root [] tree x is there leaf none =
     false≢true (sym leaf ∙ ap (λ (t : OrderedTree). has_children t.node.kind) (sym same) ∙ root)
 below_root (p ∷ path) tree x is there leaf none = absurd (cc)
 
+-- tests of lengths and weights
+long_so : (n : ℕ) → nat_le n longest_node ≡ false → nat_lt longest_node n ≡ true
+long_so n is = grind (arith, nat_tests, is)
+
+short_so : (n : ℕ) → nat_le n longest_node ≡ true → nat_lt longest_node n ≡ false
+short_so n is = grind (arith, nat_tests, is)
+
+few_so : (n : ℕ) → nat_le n longest_node ≡ true → n ≤ longest_node
+few_so n is = grind (arith, nat_tests, is)
+
+heavy_so : (k n : ℕ) → k < n → nat_lt k n ≡ true
+heavy_so k n more = grind (arith, nat_tests, more)
+
+light_so : (k n : ℕ) → n ≤ k → nat_lt k n ≡ false
+light_so k n fits = grind (arith, nat_tests, fits)
+
 -- the call, behind the look at the document
 module _ {D : Type 0} (d : Ghosts D) (entry : DocEntry) (content path : List ℕ) (r0 r1 : Records) (x0 x1 : D) (still : IsStill d x0 x1) (runs : has_ended r0 ≡ false) (leaves : LeavesRecords r0 r1)
     (node : Node) (node_there : OfEach d r0 x0 (place_of entry.root) (λ document. (x : OrderedTree) × (at (tree_of document) path ≡ Some x) × (node ≡ other_content content x))) where
@@ -118,18 +134,16 @@ module _ {D : Type 0} (d : Ghosts D) (entry : DocEntry) (content path : List ℕ
     λ document has tidy counted.
         let there = node_there document has in
         let is : nat_le (length (there.0).node.name + length content) longest_node ≡ false = ap (λ (n : Node). nat_le (length n.name + length n.content) longest_node) (sym there.2) ∙ long in
-        let more : longest_node < length (there.0).node.name + length content = grind (arith, nat_tests, is) in
-        fault_long content path (settings_of r0).k (tree_of document) there.0 there.1 (grind (arith, nat_tests, more)),
+        fault_long content path (settings_of r0).k (tree_of document) there.0 there.1 (long_so (length (there.0).node.name + length content) is),
   )
 
   module _ (short : nat_le (length node.name + length node.content) longest_node ≡ true) where
     few_there : (x : OrderedTree) → node ≡ other_content content x → length x.node.name + length content ≤ longest_node
     few_there x same =
-        let is : nat_le (length x.node.name + length content) longest_node ≡ true = ap (λ (n : Node). nat_le (length n.name + length n.content) longest_node) (sym same) ∙ short in
-        grind (arith, nat_tests, is)
+        few_so (length x.node.name + length content) (ap (λ (n : Node). nat_le (length n.name + length n.content) longest_node) (sym same) ∙ short)
 
     short_there : (x : OrderedTree) → node ≡ other_content content x → nat_lt longest_node (length x.node.name + length content) ≡ false
-    short_there x same = let few : length x.node.name + length content ≤ longest_node = few_there x same in grind (arith, nat_tests, few)
+    short_there x same = short_so (length x.node.name + length content) (ap (λ (n : Node). nat_le (length n.name + length n.content) longest_node) (sym same) ∙ short)
 
     pub parent_refused : has_children node.kind ≡ true → NotRetexted error.NoContent r1 x1
     parent_refused is = (
@@ -155,12 +169,12 @@ module _ {D : Type 0} (d : Ghosts D) (entry : DocEntry) (content path : List ℕ
         left_here,
         λ document has tidy counted.
             fault_is document has
-            ∙ heavy_is (settings_of r0).k node (let less : (settings_of r0).k < weight node = omega (arith, weighs, same, more) in grind (arith, nat_tests, less)) ∙ ap (λ (w : ℕ). Some (error.TooHeavy w)) (sym weighs),
+            ∙ heavy_is (settings_of r0).k node (heavy_so (settings_of r0).k (weight node) (omega (arith, weighs, same, more))) ∙ ap (λ (w : ℕ). Some (error.TooHeavy w)) (sym weighs),
       )
 
       module _ (light : weight node ≤ (settings_of r0).k) where
         pub retext_allowed : OfEntry d r0 x0 entry (λ now document layout. content_fault content path (settings_of r0).k (tree_of document) ≡ None)
-        retext_allowed document has tidy counted = fault_is document has ∙ light_is (settings_of r0).k node (grind (arith, nat_tests, light))
+        retext_allowed document has tidy counted = fault_is document has ∙ light_is (settings_of r0).k node (light_so (settings_of r0).k (weight node) light)
 
         pub retext_fits : (rules : List Rule) (list : Option ℕ) → OfEntry d r0 x0 entry (λ now document layout. IsFitting (now.settings).k rules (Content content list) path (retext content path) document)
         retext_fits rules list document has tidy counted =

@@ -637,7 +637,7 @@ module _ {D : Type 0} {d : Ghosts D} where
             (talk.untaken (nothing_after talk.bounded.taken (d.beside a).input (d.beside b).input (d.beside c).input still.beside_stays.input talk.bounded.takes none));
         reads = λ was held state settled told holds is.
             let at = opens was state settled (held, holds, is) in
-            opened_reads (opening_reads was held.catalog) still (opened_held at (settled_still still settled) holds) ((opening was settled).sound held holds) (talk.reads state at told);
+            opened_reads (opening_reads was held.catalog.bytes) still (opened_held at (settled_still still settled) holds) ((opening was settled).sound held holds) (talk.reads state at told);
         unopened_reads = λ was settled none. absurd (none (marked was settled));
       }
 
@@ -686,6 +686,6 @@ module _ {D : Type 0} (d : Ghosts D) (a b : D) where
     counts = counts_still still;
     faults_later = still.faults_later;
     untaken = λ none. left_still still;
-    reads = λ was held state settled told holds is. read_nothing (opening_reads was held.catalog) still.beside_stays.input ((opening was settled).sound held holds);
+    reads = λ was held state settled told holds is. read_nothing (opening_reads was held.catalog.bytes) still.beside_stays.input ((opening was settled).sound held holds);
     unopened_reads = λ was settled none. (opening was settled).no_header none;
   }

@@ -165,7 +165,7 @@ pub record Serves {D : Type 0} (d : Ghosts D) (status : Status) (old new : D) : 
   pub no_header : (was : Image) → IsSettled d old was → (HasHeader was → ⊥) → EndsWithoutHeader status × IsStill d old new
   pub untaken : TakesNoByte (d.beside old) (d.beside new) → LeavesAll d old new
   pub reads : (was : Image) (held : Held) (state : State) → IsSettled d old was → IsSome (d.contents new) → Holds (replay was) held → HoldsState held state
-      → ReadsLookups d (opening_reads was held.catalog) held state old new
+      → ReadsLookups d (opening_reads was held.catalog.bytes) held state old new
   pub unopened_reads : (was : Image) → IsSettled d old was → (HasHeader was → ⊥) → d.reads new ≤ d.reads old + opening_reads was []
   pub bounded : TakesFew (d.beside old).input (d.beside new).input
   pub counts : CountsGrow (d.beside old) (d.beside new)

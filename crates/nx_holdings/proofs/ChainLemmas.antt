@@ -6,7 +6,7 @@ use Rattle.nx_numbers.specs.Numbers.{number_at}
 use Rattle.nx_replay.specs.Log.{Pages}
 use Rattle.nx_chain.specs.Chain.{chain_bytes, IsChainPage}
 use Rattle.nx_chain.proofs.Chain.{says_length, says_next, says_content}
-use Rattle.nx_holdings.specs.Holdings.{times, free_bytes, IsFreeList, Link, IsLink, next_of, AreLinked, Chain, links_of, content_of, pages_of_links, pages_of_chains, list_at}
+use Rattle.nx_holdings.specs.Holdings.{times, free_bytes, IsFreeList, Link, IsLink, next_of, AreLinked, Chain, links_of, content_of, pages_of_links, pages_of_chains, list_at, pages_at}
 use Rattle.nx_holdings.proofs.FreeLemmas.{free_one}
 use Rattle.nx_holdings.proofs.TimesLemmas.{times-append, first_or}
 use Rattle.nx_holdings.proofs.SharedLemmas.{some_or}
@@ -122,6 +122,21 @@ one_chain pages (l ∷ ls) (m ∷ ms) one other all all_too first =
     let b : Names pages l.page (next_of ms) m.content = rw first (names_next pages m ms other.0 rest_too) in
     joined l.content m.content (content_of ls) (content_of ms) (one_content a b) (one_chain pages ls ms one.2 other.2 rest rest_too (one_next a b))
 
+-- ... and stand on the same pages
+pub one_chain_of_pages : (pages : Pages) (ls ms : List Link) → AreLinked pages ls → AreLinked pages ms → AreNumbers (pages_of_links ls) → AreNumbers (pages_of_links ms) → next_of ls ≡ next_of ms
+    → pages_of_links ls ≡ pages_of_links ms
+one_chain_of_pages pages [] [] one other all all_too first = refl
+one_chain_of_pages pages [] (m ∷ ms) one other all all_too first = let some = first_some m ms all_too in absurd (omega arith)
+one_chain_of_pages pages (l ∷ ls) [] one other all all_too first = let some = first_some l ls all in absurd (omega arith)
+one_chain_of_pages pages (l ∷ ls) (m ∷ ms) one other all all_too first =
+    let rest = later_numbers l.page (pages_of_links ls) all in
+    let rest_too = later_numbers m.page (pages_of_links ms) all_too in
+    let a = names_next pages l ls one.0 rest in
+    let b : Names pages l.page (next_of ms) m.content = rw first (names_next pages m ms other.0 rest_too) in
+    let others : pages_of_links ls ≡ pages_of_links ms = one_chain_of_pages pages ls ms one.2 other.2 rest rest_too (one_next a b) in
+    let here : l.page ≡ m.page = first in
+    cc
+
 -- which pages are first
 
 abbrev pub firsts_of : List Chain → List ℕ
@@ -210,6 +225,9 @@ pub record Begins (pages : Pages) (page : ℕ) (bytes : List ℕ) : Type 0 where
 pub one_begins : {pages : Pages} {page : ℕ} {x y : List ℕ} → Begins pages page x → Begins pages page y → x ≡ y
 one_begins {pages} a b = a.bytes_are ∙ one_chain pages a.links b.links a.linked b.linked a.numbers b.numbers (a.first ∙ sym b.first) ∙ sym b.bytes_are
 
+pub one_begins_on : {pages : Pages} {page : ℕ} {x y : List ℕ} (a : Begins pages page x) (b : Begins pages page y) → pages_of_links a.links ≡ pages_of_links b.links
+one_begins_on {pages} a b = one_chain_of_pages pages a.links b.links a.linked b.linked a.numbers b.numbers (a.first ∙ sym b.first)
+
 -- what begins at a page of a chain is no longer than the chain
 begins_at : (pages : Pages) (ls : List Link) (p : ℕ) → AreLinked pages ls → AreNumbers (pages_of_links ls) → 1 ≤ times p (pages_of_links ls)
     → (bytes : List ℕ) × Begins pages p bytes × (length bytes ≤ length (content_of ls))
@@ -246,27 +264,33 @@ links_once pages (l ∷ ls) are all p =
 pub list_later : (c : Chain) (cs : List Chain) (p : ℕ) → (p == (c.first).page) ≡ false → list_at (c ∷ cs) p ≡ list_at cs p
 list_later c cs p is = rw is refl
 
+pub pages_later : (c : Chain) (cs : List Chain) (p : ℕ) → (p == (c.first).page) ≡ false → pages_at (c ∷ cs) p ≡ pages_at cs p
+pages_later c cs p is = rw is refl
+
 pub list_of_first : (pages : Pages) (cs : List Chain) (p : ℕ) → AreChains pages cs → AreNumbers (pages_of_chains cs) → 1 ≤ times p (firsts_of cs)
-    → (bytes : List ℕ) × (list_at cs p ≡ Some bytes) × Begins pages p bytes
+    → (bytes : List ℕ) × (list_at cs p ≡ Some bytes) × ((begins : Begins pages p bytes) × (pages_at cs p ≡ pages_of_links begins.links))
 list_of_first pages [] p are all among = absurd (omega (arith, among))
 list_of_first pages (c ∷ cs) p are all among =
     let links = pages_of_links (links_of c) in
     let later = right_numbers links (pages_of_chains cs) all in
-    elim (p == (c.first).page) as (λ b. (p == (c.first).page) ≡ b → (bytes : List ℕ) × (list_at (c ∷ cs) p ≡ Some bytes) × Begins pages p bytes) [
+    elim (p == (c.first).page) as (λ b. (p == (c.first).page) ≡ b → (bytes : List ℕ) × (list_at (c ∷ cs) p ≡ Some bytes) × ((begins : Begins pages p bytes) × (pages_at (c ∷ cs) p ≡ pages_of_links begins.links))) [
       | true ↦ λ is. (
         content_of (links_of c),
         rw is refl,
-        record {
-          links = links_of c;
-          first = sym (eqb-true p (c.first).page is);
-          linked = are.0;
-          numbers = left_numbers links (pages_of_chains cs) all;
-          bytes_are = refl;
-        },
+        (
+          record {
+            links = links_of c;
+            first = sym (eqb-true p (c.first).page is);
+            linked = are.0;
+            numbers = left_numbers links (pages_of_chains cs) all;
+            bytes_are = refl;
+          },
+          rw is refl,
+        ),
       )
       | false ↦ λ is.
           let others = list_of_first pages cs p are.1 later (let there : 1 ≤ 0 + times p (firsts_of cs) = rw is at among in omega (arith, there)) in
-          (others.0, list_later c cs p is ∙ others.1, others.2)
+          (others.0, list_later c cs p is ∙ others.1, (others.2.0, pages_later c cs p is ∙ others.2.1))
     ] refl
 
 pub no_list : (cs : List Chain) (p : ℕ) → times p (firsts_of cs) ≡ 0 → list_at cs p ≡ None
@@ -275,4 +299,12 @@ no_list (c ∷ cs) p none =
     elim (p == (c.first).page) as (λ b. (p == (c.first).page) ≡ b → list_at (c ∷ cs) p ≡ None) [
       | true ↦ λ is. absurd (let some = among_here p (c.first).page (firsts_of cs) (eqb-true p (c.first).page is) in omega (arith, some, none))
       | false ↦ λ is. list_later c cs p is ∙ no_list cs p (let there : 0 + times p (firsts_of cs) ≡ 0 = rw is at none in omega (arith, there))
+    ] refl
+
+pub no_pages : (cs : List Chain) (p : ℕ) → times p (firsts_of cs) ≡ 0 → pages_at cs p ≡ []
+no_pages [] p none = refl
+no_pages (c ∷ cs) p none =
+    elim (p == (c.first).page) as (λ b. (p == (c.first).page) ≡ b → pages_at (c ∷ cs) p ≡ []) [
+      | true ↦ λ is. absurd (let some = among_here p (c.first).page (firsts_of cs) (eqb-true p (c.first).page is) in omega (arith, some, none))
+      | false ↦ λ is. pages_later c cs p is ∙ no_pages cs p (let there : 0 + times p (firsts_of cs) ≡ 0 = rw is at none in omega (arith, there))
     ] refl

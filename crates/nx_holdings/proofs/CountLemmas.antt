@@ -222,7 +222,7 @@ module _ {pages : Pages} {head : Header} {held : Held} (by : HoldsBy pages head 
 
   catalog_first : 1 ≤ times head.catalog (firsts_of (by.behind.shares).chains)
   catalog_first = elim (some_or (times head.catalog (firsts_of (by.behind.shares).chains))) [
-    | inr none ↦ let no = no_list (by.behind.shares).chains head.catalog none in let some = by.behind.catalog in absurd (let clash : ◌≡◌ {A = Option (List ℕ)} None (Some held.catalog) = sym no ∙ some in cc)
+    | inr none ↦ let no = no_list (by.behind.shares).chains head.catalog none in let some = by.behind.catalog in absurd (let clash : ◌≡◌ {A = Option (List ℕ)} None (Some held.catalog.bytes) = sym no ∙ some in cc)
     | inl some ↦ some
   ]
 
@@ -252,7 +252,7 @@ module _ {pages : Pages} {head : Header} {held : Held} (by : HoldsBy pages head 
   ]
 
   chains_within : (firsts : List ℕ) → ((first : ℕ) → IsSome (held.lists first) → IsAmong first firsts)
-      → length (pages_of_chains (by.behind.shares).chains) ≤ pages_of_lists held.lists firsts + chain_count (length held.catalog)
+      → length (pages_of_chains (by.behind.shares).chains) ≤ pages_of_lists held.lists firsts + chain_count (length held.catalog.bytes)
   chains_within firsts lists =
       let cs = (by.behind.shares).chains in
       let few = chains_few pages cs by.behind.shared.chains chained_once in
@@ -265,7 +265,7 @@ module _ {pages : Pages} {head : Header} {held : Held} (by : HoldsBy pages head 
 -- Of sound pages at least so many are free.
 pub have_free : (pages : Pages) (held : Held) (places : List (ℕ × ℕ)) (firsts : List ℕ) → Holds pages held
     → ((page slot : ℕ) → IsSome (held.records page slot) → IsAmong (page, slot) places) → ((first : ℕ) → IsSome (held.lists first) → IsAmong first firsts)
-    → held.settings.limit ≤ held.free + (1 + length places + pages_of_lists held.lists firsts + chain_count (length held.catalog))
+    → held.settings.limit ≤ held.free + (1 + length places + pages_of_lists held.lists firsts + chain_count (length held.catalog.bytes))
 have_free pages held places firsts holds records lists =
     let by = holds.1 in
     let few = pages_few by places records in

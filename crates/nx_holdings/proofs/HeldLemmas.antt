@@ -128,6 +128,7 @@ holds_all {pages = pages} {h = h} {held = held} range holds = record {
     ];
     lists = holds.lists;
     catalog = holds.catalog;
+    catalog_pages = holds.catalog_pages;
     catalog_length = holds.catalog_length;
     free = holds.free;
   };
@@ -143,6 +144,7 @@ holds_numbered {h = h} format number holds = record {
   records = holds.records;
   lists = holds.lists;
   catalog = holds.catalog;
+  catalog_pages = holds.catalog_pages;
   catalog_length = holds.catalog_length;
   free = holds.free;
 }
@@ -158,6 +160,7 @@ holds_room {h = h} page bytes holds low there slotted = record {
   records = holds.records;
   lists = holds.lists;
   catalog = holds.catalog;
+  catalog_pages = holds.catalog_pages;
   catalog_length = holds.catalog_length;
   free = holds.free;
 }
@@ -183,6 +186,7 @@ module _ {pages : Pages} {h : Header} {held : Held} (page : ℕ) (old bytes : Li
     records = are;
     lists = holds.lists;
     catalog = holds.catalog;
+    catalog_pages = holds.catalog_pages;
     catalog_length = holds.catalog_length;
     free = holds.free;
   }
@@ -211,6 +215,7 @@ module _ {pages : Pages} {h : Header} {held : Held} (page : ℕ) (old : List ℕ
         records = are;
         lists = holds.lists;
         catalog = holds.catalog;
+        catalog_pages = holds.catalog_pages;
         catalog_length = holds.catalog_length;
         free = let e = holds.free in omega (arith, e);
       }
@@ -275,6 +280,7 @@ module _ {pages : Pages} {h : Header} {held : Held} (page : ℕ) (bytes : List �
           records = are;
           lists = holds.lists;
           catalog = holds.catalog;
+          catalog_pages = holds.catalog_pages;
           catalog_length = holds.catalog_length;
           free = omega (arith, e, count);
         },
@@ -296,6 +302,7 @@ module _ {pages : Pages} {h : Header} {held : Held} (page : ℕ) (bytes : List �
           records = are;
           lists = holds.lists;
           catalog = holds.catalog;
+          catalog_pages = holds.catalog_pages;
           catalog_length = holds.catalog_length;
           free = omega (arith, e, low);
         },

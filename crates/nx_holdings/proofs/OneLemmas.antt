@@ -6,12 +6,12 @@ use Rattle.nx_replay.specs.Log.{Pages}
 use Rattle.nx_chain.specs.Chain.{chain_bytes}
 use Rattle.nx_holdings.specs.declared.header.Header.{Header}
 use Rattle.nx_holdings.specs.Header.{header_bytes, IsHeader, IsInRange}
-use Rattle.nx_holdings.specs.Holdings.{times, named, free_bytes, list_at, pages_of_chains, Held, HoldsBy, Holds}
+use Rattle.nx_holdings.specs.Holdings.{times, named, free_bytes, list_at, pages_at, pages_of_links, pages_of_chains, Held, HoldsBy, Holds}
 use Rattle.nx_holdings.proofs.HeaderLemmas.{says_settings, says_fields}
 use Rattle.nx_holdings.proofs.TimesLemmas.{chain_there, free_there}
 use Rattle.nx_holdings.proofs.SharedLemmas.{some_or, named_parts}
 use Rattle.nx_holdings.proofs.DenseLemmas.{among_here, use_of, Use, header, free, chained, unused, there_below}
-use Rattle.nx_holdings.proofs.ChainLemmas.{IsNumber, AreNumbers, Names, same_bytes, firsts_of, firsts_and_rests, first_or_named, named_is_rest, list_of_first, no_list, one_begins, one_free}
+use Rattle.nx_holdings.proofs.ChainLemmas.{IsNumber, AreNumbers, Names, same_bytes, firsts_of, firsts_and_rests, first_or_named, named_is_rest, list_of_first, no_list, no_pages, one_begins, one_begins_on, one_free}
 
 -- a header is one, by its bytes
 
@@ -127,7 +127,19 @@ module _ {pages : Pages} {head : Header} {one other : Held} (a : HoldsBy pages h
     | inl first ↦
         let x = list_of_first pages (a.behind.shares).chains p a.behind.shared.chains (chain_numbers a) first in
         let y = list_of_first pages (b.behind.shares).chains p b.behind.shared.chains (chain_numbers b) (first_stays a b p first) in
-        x.1 ∙ ap (λ (bytes : List ℕ). Some bytes) (one_begins x.2 y.2) ∙ sym y.1
+        x.1 ∙ ap (λ (bytes : List ℕ). Some bytes) (one_begins x.2.0 y.2.0) ∙ sym y.1
+  ]
+
+  one_pages : (p : ℕ) → pages_at (a.behind.shares).chains p ≡ pages_at (b.behind.shares).chains p
+  one_pages p = elim (some_or (times p (firsts_of (a.behind.shares).chains))) [
+    | inr none ↦ no_pages (a.behind.shares).chains p none ∙ sym (no_pages (b.behind.shares).chains p (elim (some_or (times p (firsts_of (b.behind.shares).chains))) [
+      | inr none_too ↦ none_too
+      | inl first ↦ absurd (let back = first_stays b a p first in omega (arith, none, back))
+    ]))
+    | inl first ↦
+        let x = list_of_first pages (a.behind.shares).chains p a.behind.shared.chains (chain_numbers a) first in
+        let y = list_of_first pages (b.behind.shares).chains p b.behind.shared.chains (chain_numbers b) (first_stays a b p first) in
+        x.2.1 ∙ one_begins_on x.2.0 y.2.0 ∙ sym y.2.1
   ]
 
   one_length_of_free : length (a.behind.shares).free ≡ length (b.behind.shares).free
@@ -141,10 +153,11 @@ module _ {pages : Pages} {head : Header} {one other : Held} (a : HoldsBy pages h
       let records : (page slot : ℕ) → one.records page slot ≡ other.records page slot = λ page slot. a.behind.records page slot ∙ sym (b.behind.records page slot) in
       let lists : (page : ℕ) → one.lists page ≡ other.lists page =
       λ page. a.behind.lists page ∙ ap (λ (list : Option (List ℕ)). if page == head.catalog then None else list) (one_list page) ∙ sym (b.behind.lists page) in
-      let catalog : one.catalog ≡ other.catalog =
-      same_bytes one.catalog other.catalog (list_at (a.behind.shares).chains head.catalog) a.behind.catalog (one_list head.catalog ∙ b.behind.catalog) in
+      let bytes : one.catalog.bytes ≡ other.catalog.bytes =
+      same_bytes one.catalog.bytes other.catalog.bytes (list_at (a.behind.shares).chains head.catalog) a.behind.catalog (one_list head.catalog ∙ b.behind.catalog) in
+      let on : one.catalog.pages ≡ other.catalog.pages = sym a.behind.catalog_pages ∙ one_pages head.catalog ∙ b.behind.catalog_pages in
       let free : one.free ≡ other.free = a.behind.free ∙ ap (λ (n : ℕ). n + (head.settings.limit - head.pages)) one_length_of_free ∙ sym b.behind.free in
-      λ i. record { settings = settings i; records = λ page slot. records page slot i; lists = λ page. lists page i; catalog = catalog i; free = free i }
+      λ i. record { settings = settings i; records = λ page slot. records page slot i; lists = λ page. lists page i; catalog = record { bytes = bytes i; pages = on i }; free = free i }
 
 -- Pages hold one thing at most.
 pub hold_one : (pages : Pages) (one other : Held) → Holds pages one → Holds pages other → one ≡ other

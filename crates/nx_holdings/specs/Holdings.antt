@@ -75,6 +75,16 @@ abbrev pub list_at : List Chain → ℕ → Option (List ℕ)
 list_at [] page = None
 list_at (c ∷ cs) page = if page == (c.first).page then Some (content_of (links_of c)) else list_at cs page
 
+-- the pages of the chain that begins at a page, in their order
+abbrev pub pages_at : List Chain → ℕ → List ℕ
+pages_at [] page = []
+pages_at (c ∷ cs) page = if page == (c.first).page then pages_of_links (links_of c) else pages_at cs page
+
+-- a byte list, and the pages on which it stands, in their order
+pub record OnPages : Type 0 where
+  pub bytes : List ℕ
+  pub pages : List ℕ
+
 -- what a slot of a page holds
 abbrev pub record_in : Option (List ℕ) → ℕ → Option (List ℕ)
 record_in None slot = None
@@ -114,7 +124,7 @@ pub record Held : Type 0 where
   pub records : ℕ → ℕ → Option (List ℕ)
   -- the byte list at a first page, the catalog's aside
   pub lists : ℕ → Option (List ℕ)
-  pub catalog : List ℕ
+  pub catalog : OnPages
   -- how many pages are free
   pub free : ℕ
 
@@ -126,8 +136,9 @@ pub record HoldsBehind (pages : Pages) (head : Header) (held : Held) : Type 0 wh
   pub settings : held.settings ≡ head.settings
   pub records : (page slot : ℕ) → held.records page slot ≡ record_in (pages page) slot
   pub lists : (page : ℕ) → held.lists page ≡ (if page == head.catalog then None else list_at shares.chains page)
-  pub catalog : list_at shares.chains head.catalog ≡ Some held.catalog
-  pub catalog_length : length held.catalog ≡ head.catalog_length
+  pub catalog : list_at shares.chains head.catalog ≡ Some held.catalog.bytes
+  pub catalog_pages : pages_at shares.chains head.catalog ≡ held.catalog.pages
+  pub catalog_length : length held.catalog.bytes ≡ head.catalog_length
   pub free : held.free ≡ length shares.free + (head.settings.limit - head.pages)
 
 -- The pages are sound, with this header, and hold this.

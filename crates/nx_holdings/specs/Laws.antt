@@ -27,7 +27,7 @@ pages_of_lists lists (first ∷ firsts) = pages_of_list (lists first) + pages_of
 abbrev pub HaveFree : Type 0
 HaveFree = (pages : Pages) (held : Held) (places : List (ℕ × ℕ)) (firsts : List ℕ) → Holds pages held
     → ((page slot : ℕ) → IsSome (held.records page slot) → IsAmong (page, slot) places) → ((first : ℕ) → IsSome (held.lists first) → IsAmong first firsts)
-    → held.settings.limit ≤ held.free + (1 + length places + pages_of_lists held.lists firsts + chain_count (length held.catalog))
+    → held.settings.limit ≤ held.free + (1 + length places + pages_of_lists held.lists firsts + chain_count (length held.catalog.bytes))
 
 -- No page below one that is there is missing.
 abbrev pub AreDense : Type 0

@@ -9,7 +9,7 @@ use Rattle.nx_holdings.proofs.TimesLemmas.{times_one, times-cons, times-append, 
 use Rattle.nx_holdings.proofs.SharedLemmas.{equal_or, named_parts, write_aside, named_else, grow, free_loose, take_first}
 use Rattle.nx_holdings.proofs.HeldLemmas.{free_kind, chain_kind, other_record}
 use Rattle.nx_holdings.proofs.DenseLemmas.{among_here, AreChains}
-use Rattle.nx_holdings.proofs.ChainLemmas.{firsts_and_rests, no_list}
+use Rattle.nx_holdings.proofs.ChainLemmas.{firsts_and_rests, no_list, no_pages}
 use Rattle.nx_links.specs.Lists.{IsListFrom}
 use Rattle.nx_links.specs.Beside.{chains_with, HeldBeside, HoldsBeside}
 
@@ -95,6 +95,10 @@ module _ {pages : Pages} {h : Header} {links : List Link} {held : HeldBeside} (h
   unlisted p among =
       holds.lists p ∙ no_list holds.others p (let e = parts p in let once = (holds.shared).once p in let both = firsts_and_rests p holds.others in omega (arith, e, once, both, among))
 
+  pub unplaced : (p : ℕ) → 1 ≤ times p (pages_of_links links) → held.places p ≡ []
+  unplaced p among =
+      holds.places p ∙ no_pages holds.others p (let e = parts p in let once = (holds.shared).once p in let both = firsts_and_rests p holds.others in omega (arith, e, once, both, among))
+
   -- the room page is none of its pages
   pub room_apart : {page : ℕ} → next_of links ≡ page → page ≢ 0 → h.room ≡ page → ⊥
   room_apart {page = page} same some room =
@@ -151,6 +155,7 @@ module _ {pages : Pages} {h : Header} {links : List Link} {held : HeldBeside} (h
       | inr apart ↦ holds.records p slot ∙ ap (λ (o : Option (List ℕ)). record_in o slot) (sym (with_page-other pages page bytes p apart))
     ];
     lists = holds.lists;
+    places = holds.places;
     count = loosed.count;
   }
     where
@@ -226,6 +231,7 @@ give_first {pages = pages} {h = h} {held = held} l ls holds = record {
       | inr apart ↦ holds.records p slot ∙ ap (λ (o : Option (List ℕ)). record_in o slot) (sym (with_page-other pages l.page bytes p apart))
     ];
     lists = holds.lists;
+    places = holds.places;
     count = let e = holds.count in omega (arith, e);
   };
 }
@@ -333,6 +339,7 @@ set_link {pages = pages} {h = h} {held = held} done l rest content holds some fe
     | inr apart ↦ holds.records p slot ∙ ap (λ (o : Option (List ℕ)). record_in o slot) (sym (with_page-other pages l.page bytes p apart))
   ];
   lists = holds.lists;
+  places = holds.places;
   count = holds.count;
 }
   where

@@ -5,13 +5,13 @@ use Rattle.std.proofs.lemmas.Bool.{cases_Bool, eqb-true, eq-eqb}
 use Rattle.nx_replay.specs.Log.{Pages}
 use Rattle.nx_holdings.specs.declared.header.Header.{Header}
 use Rattle.nx_holdings.specs.declared.header.Settings.{Settings}
-use Rattle.nx_holdings.specs.Holdings.{times, Link, Chain, links_of, next_of, content_of, pages_of_links, pages_of_chains, list_at, IsFreeList, Held, HoldsBehind}
+use Rattle.nx_holdings.specs.Holdings.{times, Link, Chain, links_of, next_of, content_of, pages_of_links, pages_of_chains, list_at, pages_at, IsFreeList, Held, HoldsBehind}
 use Rattle.nx_holdings.proofs.TimesLemmas.{times-append, other_page}
 use Rattle.nx_holdings.proofs.SharedLemmas.{equal_or, named_parts, named_else}
 use Rattle.nx_holdings.proofs.DenseLemmas.{among_here, AreChains}
-use Rattle.nx_holdings.proofs.ChainLemmas.{list_later}
+use Rattle.nx_holdings.proofs.ChainLemmas.{list_later, pages_later}
 use Rattle.nx_links.specs.Beside.{chains_with, HeldBeside, HoldsBeside, KeepsCatalog}
-use Rattle.nx_links.proofs.BesideLemmas.{with_times, unlisted}
+use Rattle.nx_links.proofs.BesideLemmas.{with_times, unlisted, unplaced}
 
 none_some : {x : List ℕ} → ◌≡◌ {A = Option (List ℕ)} None (Some x) → ⊥
 none_some same = cc
@@ -29,6 +29,8 @@ pub record IsApart (pages : Pages) (cs : List Chain) (first : ℕ) (bytes : List
   pub chains : AreChains pages (chains_with (link ∷ rest) others)
   pub same : (p : ℕ) → times p (pages_of_chains (chains_with (link ∷ rest) others)) ≡ times p (pages_of_chains cs)
   pub lists : (p : ℕ) → (p ≡ first → ⊥) → list_at others p ≡ list_at cs p
+  pub places : (p : ℕ) → (p ≡ first → ⊥) → pages_at others p ≡ pages_at cs p
+  pub on : pages_of_links (link ∷ rest) ≡ pages_at cs first
 
 pub set_apart : (pages : Pages) (cs : List Chain) (first : ℕ) (bytes : List ℕ) → AreChains pages cs → list_at cs first ≡ Some bytes → IsApart pages cs first bytes
 set_apart pages [] first bytes are there = absurd (none_some there)
@@ -44,6 +46,8 @@ set_apart pages (c ∷ cs) first bytes are there = elim (cases_Bool (first == (c
         chains = are;
         same = λ p. refl;
         lists = λ p apart. sym (list_later c cs p (other_page p (c.first).page (λ same. apart (same ∙ sym here))));
+        places = λ p apart. sym (pages_later c cs p (other_page p (c.first).page (λ same. apart (same ∙ sym here))));
+        on = sym (ap (λ (b : Bool). if b then pages_of_links (links_of c) else pages_at cs first) holds);
       }
   | inr fails ↦
       let one = set_apart pages cs first bytes are.1 (sym (list_later c cs first fails) ∙ there) in
@@ -58,6 +62,8 @@ set_apart pages (c ∷ cs) first bytes are there = elim (cases_Bool (first == (c
             shift (times p (pages_of_links (links_of c))) (times p (pages_of_links (one.link ∷ one.rest))) (times p (pages_of_chains one.others)) (with_times p (one.link ∷ one.rest) (c ∷ one.others)) (times-append p (pages_of_links (links_of c)) (pages_of_chains one.others))
             (with_times p (one.link ∷ one.rest) one.others) (one.same p) (times-append p (pages_of_links (links_of c)) (pages_of_chains cs));
         lists = λ p apart. ap (λ (o : Option (List ℕ)). if p == (c.first).page then Some (content_of (links_of c)) else o) (one.lists p apart);
+        places = λ p apart. ap (λ (ps : List ℕ). if p == (c.first).page then pages_of_links (links_of c) else ps) (one.places p apart);
+        on = one.on ∙ sym (pages_later c cs first fails);
       }
 ]
   where
@@ -65,10 +71,11 @@ set_apart pages (c ∷ cs) first bytes are there = elim (cases_Bool (first == (c
     shift n l o one two three four five = omega arith
 
 -- The list at a first page stands aside as a chain.
-pub record IsEntered (pages : Pages) (h : Header) (first : ℕ) (bytes : List ℕ) (beside : HeldBeside) : Type 0 where
+pub record IsEntered (pages : Pages) (h : Header) (first : ℕ) (bytes places : List ℕ) (beside : HeldBeside) : Type 0 where
   pub links : List Link
   pub here : next_of links ≡ first
   pub are : content_of links ≡ bytes
+  pub on : pages_of_links links ≡ places
   pub holds : HoldsBeside pages h links beside
 
 module _ {pages : Pages} {h : Header} {held : Held} (holds : HoldsBehind pages h held) where
@@ -79,8 +86,15 @@ module _ {pages : Pages} {h : Header} {held : Held} (holds : HoldsBehind pages h
   abbrev pub all_but : ℕ → ℕ → Option (List ℕ)
   all_but first p = if p == first then None else list_at (holds.shares).chains p
 
+  -- the pages of all lists, and of the others
+  abbrev pub all_places : ℕ → List ℕ
+  all_places p = pages_at (holds.shares).chains p
+
+  abbrev pub places_but : ℕ → ℕ → List ℕ
+  places_but first p = if p == first then [] else pages_at (holds.shares).chains p
+
   -- no chain stands aside
-  pub enter_none : HoldsBeside pages h [] (record { records = held.records; lists = all_lists; free = held.free })
+  pub enter_none : HoldsBeside pages h [] (record { records = held.records; lists = all_lists; places = all_places; free = held.free })
   enter_none = record {
     free = (holds.shares).free;
     others = (holds.shares).chains;
@@ -88,14 +102,16 @@ module _ {pages : Pages} {h : Header} {held : Held} (holds : HoldsBehind pages h
     shared = holds.shared;
     records = holds.records;
     lists = λ p. refl;
+    places = λ p. refl;
     count = holds.free;
   }
 
-  pub enter : (first : ℕ) (bytes : List ℕ) → all_lists first ≡ Some bytes → IsEntered pages h first bytes (record { records = held.records; lists = all_but first; free = held.free })
+  pub enter : (first : ℕ) (bytes : List ℕ) → all_lists first ≡ Some bytes → IsEntered pages h first bytes (all_places first) (record { records = held.records; lists = all_but first; places = places_but first; free = held.free })
   enter first bytes there = record {
     links = one.link ∷ one.rest;
     here = one.here;
     are = one.are;
+    on = one.on;
     holds = record {
       free = (holds.shares).free;
       others = one.others;
@@ -108,6 +124,12 @@ module _ {pages : Pages} {h : Header} {held : Held} (holds : HoldsBehind pages h
             ∙ sym (sym (beside.lists p) ∙ unlisted beside p (among_here p (one.link).page (pages_of_links one.rest) (same ∙ sym one.here)))
         | inr apart ↦ ap (λ (b : Bool). if b then None else list_at (holds.shares).chains p) (other_page p first apart) ∙ sym (one.lists p apart)
       ];
+      places = λ p. elim (equal_or p first) [
+        | inl same ↦
+            ap (λ (b : Bool). if b then [] else pages_at (holds.shares).chains p) (eq-eqb p first same)
+            ∙ sym (sym (beside.places p) ∙ unplaced beside p (among_here p (one.link).page (pages_of_links one.rest) (same ∙ sym one.here)))
+        | inr apart ↦ ap (λ (b : Bool). if b then [] else pages_at (holds.shares).chains p) (other_page p first apart) ∙ sym (one.places p apart)
+      ];
       count = holds.free;
     };
   }
@@ -119,7 +141,7 @@ module _ {pages : Pages} {h : Header} {held : Held} (holds : HoldsBehind pages h
       shift z f e same other = omega arith
 
       -- with the lists of the others, whatever they are
-      beside : HoldsBeside pages h (one.link ∷ one.rest) (record { records = held.records; lists = λ p. list_at one.others p; free = held.free })
+      beside : HoldsBeside pages h (one.link ∷ one.rest) (record { records = held.records; lists = λ p. list_at one.others p; places = λ p. pages_at one.others p; free = held.free })
       beside = record {
         free = (holds.shares).free;
         others = one.others;
@@ -128,6 +150,7 @@ module _ {pages : Pages} {h : Header} {held : Held} (holds : HoldsBehind pages h
             (λ p. shift (times p (0 ∷ [])) (times p (holds.shares).free) (named_parts p (record { free = (holds.shares).free; chains = chains_with (one.link ∷ one.rest) one.others }) []) (one.same p) (named_parts p holds.shares []));
         records = holds.records;
         lists = λ p. refl;
+        places = λ p. refl;
         count = holds.free;
       }
 
@@ -142,14 +165,16 @@ beside_header {pages = pages} {h = h} {links = links} h1 same_pages same_room sa
       (subst (λ (f : ℕ). IsFreeList pages f holds.free) (sym same_free) (holds.shared).free) (holds.shared).chains (λ p. refl);
   records = holds.records;
   lists = holds.lists;
+  places = holds.places;
   count = let e = holds.count in let limit = ap (λ (s : Settings). s.limit) same_settings in omega (arith, e, limit, same_pages);
 }
 
 -- Beside the chain and with it the pages hold this.
 join : {pages : Pages} {h : Header} {links : List Link} {beside : HeldBeside} (holds : HoldsBeside pages h links beside) (held : Held) → held.settings ≡ h.settings → held.records ≡ beside.records
     → held.free ≡ beside.free → ((p : ℕ) → held.lists p ≡ (if p == h.catalog then None else list_at (chains_with links holds.others) p))
-    → list_at (chains_with links holds.others) h.catalog ≡ Some held.catalog → length held.catalog ≡ h.catalog_length → HoldsBehind pages h held
-join {pages = pages} {h = h} {links = links} {beside = beside} holds held settings records free lists catalog catalog_length = record {
+    → list_at (chains_with links holds.others) h.catalog ≡ Some held.catalog.bytes → pages_at (chains_with links holds.others) h.catalog ≡ held.catalog.pages → length held.catalog.bytes ≡ h.catalog_length
+    → HoldsBehind pages h held
+join {pages = pages} {h = h} {links = links} {beside = beside} holds held settings records free lists catalog catalog_pages catalog_length = record {
   shares = record { free = holds.free; chains = chains_with links holds.others };
   header = holds.header;
   shared = holds.shared;
@@ -157,6 +182,7 @@ join {pages = pages} {h = h} {links = links} {beside = beside} holds held settin
   records = λ page slot. ap (λ (r : ℕ → ℕ → Option (List ℕ)). r page slot) records ∙ holds.records page slot;
   lists = lists;
   catalog = catalog;
+  catalog_pages = catalog_pages;
   catalog_length = catalog_length;
   free = free ∙ holds.count;
 }
@@ -173,6 +199,16 @@ module _ {pages : Pages} {h : Header} {links : List Link} {beside : HeldBeside} 
           ∙ ap (λ (o : Option (List ℕ)). if p == l.page then Some (content_of (l ∷ ls)) else o) (sym (holds.lists p))
           ∙ sym (ap (λ (r : List Link). if p == next_of r then Some (content_of r) else beside.lists p) are)
 
+  places_with_first : (p : ℕ) → pages_at (chains_with links holds.others) p ≡ (if p == next_of links then pages_of_links links else beside.places p)
+  places_with_first p = go links refl
+    where
+      go : (ls : List Link) → links ≡ ls → pages_at (chains_with links holds.others) p ≡ (if p == next_of links then pages_of_links links else beside.places p)
+      go [] are = absurd (let none = ap (λ (r : List Link). length (content_of r)) are in omega (arith, some, none))
+      go (l ∷ ls) are =
+          ap (λ (r : List Link). pages_at (chains_with r holds.others) p) are
+          ∙ ap (λ (ps : List ℕ). if p == l.page then pages_of_links (l ∷ ls) else ps) (sym (holds.places p))
+          ∙ sym (ap (λ (r : List Link). if p == next_of r then pages_of_links r else beside.places p) are)
+
   pub first_unlisted : beside.lists (next_of links) ≡ None
   first_unlisted = unlisted holds (next_of links) (go links refl)
     where
@@ -185,7 +221,7 @@ module _ {pages : Pages} {h : Header} {links : List Link} {beside : HeldBeside} 
 
 module _ {pages0 pages1 : Pages} {h0 h1 : Header} {held : Held} (holds : HoldsBehind pages0 h0 held) where
   -- the list that stood aside has gone
-  pub freed_holds : (first free : ℕ) → first ≢ h0.catalog → HoldsBeside pages1 h1 [] (record { records = held.records; lists = all_but holds first; free = free }) → KeepsCatalog h0 h1
+  pub freed_holds : (first free : ℕ) → first ≢ h0.catalog → HoldsBeside pages1 h1 [] (record { records = held.records; lists = all_but holds first; places = places_but holds first; free = free }) → KeepsCatalog h0 h1
       → HoldsBehind pages1 h1 (record held { lists = λ p. if p == first then None else held.lists p; free = free })
   freed_holds first free other beside keeps =
       join beside (record held { lists = λ p. if p == first then None else held.lists p; free = free }) (holds.settings ∙ sym keeps.settings) refl refl
@@ -196,6 +232,8 @@ module _ {pages0 pages1 : Pages} {h0 h1 : Header} {held : Held} (holds : HoldsBe
       ∙ ap (λ (c : ℕ). if p == c then None else list_at beside.others p) (sym keeps.catalog))
       (ap (λ (c : ℕ). list_at beside.others c) keeps.catalog ∙ sym (beside.lists h0.catalog)
       ∙ ap (λ (b : Bool). if b then None else list_at (holds.shares).chains h0.catalog) (other_page h0.catalog first (λ same. other (sym same))) ∙ holds.catalog)
+      (ap (λ (c : ℕ). pages_at beside.others c) keeps.catalog ∙ sym (beside.places h0.catalog)
+      ∙ ap (λ (b : Bool). if b then [] else pages_at (holds.shares).chains h0.catalog) (other_page h0.catalog first (λ same. other (sym same))) ∙ holds.catalog_pages)
       (holds.catalog_length ∙ sym keeps.catalog_length)
     where
       both : (a b : Bool) (o : Option (List ℕ)) → (if a then None else (if b then None else o)) ≡ (if b then None else (if a then None else o))
@@ -204,7 +242,7 @@ module _ {pages0 pages1 : Pages} {h0 h1 : Header} {held : Held} (holds : HoldsBe
       both false b o = refl
 
   -- the chain that came to stand aside is a list
-  pub written_holds : {links : List Link} (free : ℕ) (bytes : List ℕ) → content_of links ≡ bytes → 1 ≤ length bytes → HoldsBeside pages1 h1 links (record { records = held.records; lists = all_lists holds; free = free })
+  pub written_holds : {links : List Link} (free : ℕ) (bytes : List ℕ) → content_of links ≡ bytes → 1 ≤ length bytes → HoldsBeside pages1 h1 links (record { records = held.records; lists = all_lists holds; places = all_places holds; free = free })
       → KeepsCatalog h0 h1
       → HoldsBehind pages1 h1 (record held { lists = λ p. if p == next_of links then Some bytes else held.lists p; free = free }) × (held.lists (next_of links) ≡ None)
   written_holds {links = links} free bytes content some beside keeps = (
@@ -217,6 +255,8 @@ module _ {pages0 pages1 : Pages} {h0 h1 : Header} {held : Held} (holds : HoldsBe
         ∙ ap (λ (c : ℕ). if p == c then None else list_at (chains_with links beside.others) p) (sym keeps.catalog))
         (ap (λ (c : ℕ). list_at (chains_with links beside.others) c) keeps.catalog ∙ lists_with_first beside there h0.catalog
         ∙ ap (λ (b : Bool). if b then Some (content_of links) else list_at (holds.shares).chains h0.catalog) (other_page h0.catalog (next_of links) (λ same. other (sym same))) ∙ holds.catalog)
+        (ap (λ (c : ℕ). pages_at (chains_with links beside.others) c) keeps.catalog ∙ places_with_first beside there h0.catalog
+        ∙ ap (λ (b : Bool). if b then pages_of_links links else pages_at (holds.shares).chains h0.catalog) (other_page h0.catalog (next_of links) (λ same. other (sym same))) ∙ holds.catalog_pages)
         (holds.catalog_length ∙ sym keeps.catalog_length),
     holds.lists (next_of links) ∙ ap (λ (b : Bool). if b then None else list_at (holds.shares).chains (next_of links)) (other_page (next_of links) h0.catalog other) ∙ first_unlisted beside there,
   )
@@ -234,7 +274,7 @@ module _ {pages0 pages1 : Pages} {h0 h1 : Header} {held : Held} (holds : HoldsBe
 
   -- the chain that stands aside is a list again, with other bytes
   pub changed_holds : {links : List Link} (first free : ℕ) (bytes : List ℕ) → next_of links ≡ first → content_of links ≡ bytes → 1 ≤ length bytes → first ≢ h0.catalog
-      → HoldsBeside pages1 h1 links (record { records = held.records; lists = all_but holds first; free = free }) → KeepsCatalog h0 h1
+      → HoldsBeside pages1 h1 links (record { records = held.records; lists = all_but holds first; places = places_but holds first; free = free }) → KeepsCatalog h0 h1
       → HoldsBehind pages1 h1 (record held { lists = λ p. if p == first then Some bytes else held.lists p; free = free })
   changed_holds {links = links} first free bytes here content some other beside keeps =
       join beside (record held { lists = λ p. if p == first then Some bytes else held.lists p; free = free }) (holds.settings ∙ sym keeps.settings) refl refl
@@ -245,6 +285,9 @@ module _ {pages0 pages1 : Pages} {h0 h1 : Header} {held : Held} (holds : HoldsBe
       ∙ ap (λ (c : ℕ). if p == c then None else list_at (chains_with links beside.others) p) (sym keeps.catalog))
       (ap (λ (c : ℕ). list_at (chains_with links beside.others) c) keeps.catalog ∙ chains_are h0.catalog
       ∙ ap (λ (b : Bool). if b then Some bytes else (if b then None else list_at (holds.shares).chains h0.catalog)) (other_page h0.catalog first (λ same. other (sym same))) ∙ holds.catalog)
+      (ap (λ (c : ℕ). pages_at (chains_with links beside.others) c) keeps.catalog ∙ places_with_first beside there h0.catalog
+      ∙ ap (λ (b : Bool). if b then pages_of_links links else places_but holds first h0.catalog) (other_page h0.catalog (next_of links) (λ same. other (sym (same ∙ here))))
+      ∙ ap (λ (b : Bool). if b then [] else pages_at (holds.shares).chains h0.catalog) (other_page h0.catalog first (λ same. other (sym same))) ∙ holds.catalog_pages)
       (holds.catalog_length ∙ sym keeps.catalog_length)
     where
       there : 1 ≤ length (content_of links)
@@ -264,10 +307,10 @@ module _ {pages0 pages1 : Pages} {h0 h1 : Header} {held : Held} (holds : HoldsBe
 
   -- the chain that came to stand aside is the catalog, in place of the old one, which stood aside before
   pub catalog_holds : {links : List Link} (free : ℕ) (bytes : List ℕ) → content_of links ≡ bytes → 1 ≤ length bytes
-      → HoldsBeside pages1 h1 links (record { records = held.records; lists = all_but holds h0.catalog; free = free }) → KeepsCatalog h0 h1
-      → HoldsBehind pages1 (record h1 { catalog = next_of links; catalog_length = length bytes }) (record held { catalog = bytes; free = free })
+      → HoldsBeside pages1 h1 links (record { records = held.records; lists = all_but holds h0.catalog; places = places_but holds h0.catalog; free = free }) → KeepsCatalog h0 h1
+      → HoldsBehind pages1 (record h1 { catalog = next_of links; catalog_length = length bytes }) (record held { catalog = record { bytes = bytes; pages = pages_of_links links }; free = free })
   catalog_holds {links = links} free bytes content some beside keeps =
-      join named (record held { catalog = bytes; free = free }) (holds.settings ∙ sym keeps.settings) refl refl
+      join named (record held { catalog = record { bytes = bytes; pages = pages_of_links links }; free = free }) (holds.settings ∙ sym keeps.settings) refl refl
       (λ p.
       both (p == next_of links) (Some (content_of links)) (held.lists p)
       (λ is. holds.lists p ∙ ap (λ (q : ℕ). if q == h0.catalog then None else list_at (holds.shares).chains q) (eqb-true p (next_of links) is) ∙ first_unlisted beside there)
@@ -275,12 +318,13 @@ module _ {pages0 pages1 : Pages} {h0 h1 : Header} {held : Held} (holds : HoldsBe
       ∙ ap (λ (o : Option (List ℕ)). if p == next_of links then None else o) (sym (lists_with_first named there p)))
       (lists_with_first named there (next_of links) ∙ ap (λ (b : Bool). if b then Some (content_of links) else all_but holds h0.catalog (next_of links)) (eq-eqb (next_of links) (next_of links) refl)
       ∙ ap (λ (b : List ℕ). Some b) content)
+      (places_with_first named there (next_of links) ∙ ap (λ (b : Bool). if b then pages_of_links links else places_but holds h0.catalog (next_of links)) (eq-eqb (next_of links) (next_of links) refl))
       refl
     where
       there : 1 ≤ length (content_of links)
       there = let same = ap length content in omega (arith, same, some)
 
-      named : HoldsBeside pages1 (record h1 { catalog = next_of links; catalog_length = length bytes }) links (record { records = held.records; lists = all_but holds h0.catalog; free = free })
+      named : HoldsBeside pages1 (record h1 { catalog = next_of links; catalog_length = length bytes }) links (record { records = held.records; lists = all_but holds h0.catalog; places = places_but holds h0.catalog; free = free })
       named = beside_header (record h1 { catalog = next_of links; catalog_length = length bytes }) refl refl refl refl beside
 
       both : (a : Bool) (x o : Option (List ℕ)) → (a ≡ true → o ≡ None) → o ≡ (if a then None else (if a then x else o))

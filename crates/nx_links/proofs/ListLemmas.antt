@@ -243,8 +243,8 @@ module _ {pages : Pages} {head : Header} {held : Held} (by : HoldsBy pages head 
   pub one_list_from : {page : ℕ} {one other : List ℕ} → IsListFrom head.pages pages page one → IsListFrom head.pages pages page other → one ≡ other
   one_list_from a b = one_begins (begins a) (begins b)
 
-  pub catalog_from : IsListFrom head.pages pages head.catalog held.catalog
-  catalog_from = held_from head.catalog held.catalog by.behind.catalog
+  pub catalog_from : IsListFrom head.pages pages head.catalog held.catalog.bytes
+  catalog_from = held_from head.catalog held.catalog.bytes by.behind.catalog
 
   pub lists_from : (page : ℕ) (bytes : List ℕ) → held.lists page ≡ Some bytes → IsListFrom head.pages pages page bytes × (page ≡ head.catalog → ⊥)
   lists_from page bytes there = elim (cases_Bool (page == head.catalog)) [
@@ -267,7 +267,7 @@ module _ {pages : Pages} {head : Header} {held : Held} (by : HoldsBy pages head 
         | inl begin ↦
             let list = list_of_first pages cs page by.behind.shared.chains (chain_numbers by) begin in
             let fails : (page == head.catalog) ≡ false = elim (cases_Bool (page == head.catalog)) [ inl holds ↦ absurd (other (eqb-true page head.catalog holds)) | inr no_one ↦ no_one ] in
-            inl (by.behind.lists page ∙ ap (λ (b : Bool). if b then None else list_at cs page) fails ∙ list.1 ∙ ap (λ (b : List ℕ). Some b) (one_begins list.2 (begins from)))
+            inl (by.behind.lists page ∙ ap (λ (b : Bool). if b then None else list_at cs page) fails ∙ list.1 ∙ ap (λ (b : List ℕ). Some b) (one_begins list.2.0 (begins from)))
         | inr named_one ↦ inr (some, (named_one.0, (named_one.1, (named_one.2).there)))
       ]
 

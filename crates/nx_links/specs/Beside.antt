@@ -3,17 +3,18 @@ use Rattle.std.specs.Prelude.{◌≡◌, ℕ, ◌+◌, ◌-◌, List, [], ◌∷
 use Rattle.nx_replay.specs.Log.{Pages}
 use Rattle.nx_holdings.specs.declared.header.Header.{Header}
 use Rattle.nx_holdings.specs.Header.{header_bytes}
-use Rattle.nx_holdings.specs.Holdings.{Link, Chain, IsShared, list_at, record_in}
+use Rattle.nx_holdings.specs.Holdings.{Link, Chain, IsShared, list_at, pages_at, record_in}
 
 -- a chain of these links in front of others, and the others alone where there is no link
 abbrev pub chains_with : List Link → List Chain → List Chain
 chains_with [] others = others
 chains_with (l ∷ ls) others = record { first = l; rest = ls } ∷ others
 
--- The records, the byte lists of the other chains by their first pages, the catalog's among them, and how many pages are free.
+-- The records, the byte lists of the other chains by their first pages, the catalog's among them, the pages on which these stand, and how many pages are free.
 pub record HeldBeside : Type 0 where
   pub records : ℕ → ℕ → Option (List ℕ)
   pub lists : ℕ → Option (List ℕ)
+  pub places : ℕ → List ℕ
   pub free : ℕ
 
 -- Page 0 is a header, and behind it the pages are shared out by this header: beside a chain of these links they hold this.
@@ -24,6 +25,7 @@ pub record HoldsBeside (pages : Pages) (head : Header) (links : List Link) (held
   pub shared : IsShared pages head (record { free = free; chains = chains_with links others }) []
   pub records : (page slot : ℕ) → held.records page slot ≡ record_in (pages page) slot
   pub lists : (page : ℕ) → held.lists page ≡ list_at others page
+  pub places : (page : ℕ) → held.places page ≡ pages_at others page
   pub count : held.free ≡ length free + (head.settings.limit - head.pages)
 
 -- The header names the same catalog, under the same settings.
@@ -36,4 +38,5 @@ pub record KeepsCatalog (was now : Header) : Type 0 where
 pub record KeepsBeside (links : List Link) (was : HeldBeside) (more : List Link) (now : HeldBeside) : Type 0 where
   pub records : now.records ≡ was.records
   pub lists : now.lists ≡ was.lists
+  pub places : now.places ≡ was.places
   pub free : now.free + length more ≡ was.free + length links

@@ -142,6 +142,7 @@ stands_kept kept told fewer stands =
     record {
       keeps = record { runs = keeps.runs; image = keeps.image; step = record { settled = settled_kept kept told fewer (keeps.step).settled; follows = (keeps.step).follows }; holds = keeps.holds };
       holds = stands.holds;
+      known = stands.known;
     }
 
 -- ... and so does what is held

@@ -28,13 +28,13 @@ use Rattle.nx_records.specs.Records.{has_ended, StandsFor}
 use Rattle.nx_records.specs.Changes.{nothing_held}
 use Rattle.nx_records.specs.First.{first_head, first_pages}
 use Rattle.nx_records.specs.Refusals.{IsNewStore}
-use Rattle.nx_records.proofs.StandLemmas.{current_none}
+use Rattle.nx_records.proofs.StandLemmas.{current_none, none_known}
 
 some_is : {x y : List ℕ} → ◌≡◌ {A = Option (List ℕ)} (Some x) (Some y) → x ≡ y
 some_is same = cc
 
 -- What is opened stands for what its pages hold.
-pub opened_stands : {D : Type 0} {d : Ghosts D} {x : D} {was : Image} {held : Held} (r : Records) → (has_ended r ≡ false) × (pending r.wal ≡ []) × (r.saved ≡ r.head) → IsInStep d r.wal x was
+pub opened_stands : {D : Type 0} {d : Ghosts D} {x : D} {was : Image} {held : Held} (r : Records) → (has_ended r ≡ false) × (pending r.wal ≡ []) × (r.saved ≡ r.head) × (r.catalog_pages ≡ []) → IsInStep d r.wal x was
     → replay was 0 ≡ Some (header_bytes r.head) → IsInRange r.head → Holds (replay was) held → StandsFor d r x held held
 opened_stands {d = d} {x = x} {was = was} {held = held} r is step here range holds =
     let same : holds.0 ≡ r.head = one_header holds.0 r.head (holds.1).range range (some_is (sym (holds.1).here ∙ here)) in
@@ -42,6 +42,7 @@ opened_stands {d = d} {x = x} {was = was} {held = held} r is step here range hol
     record {
       keeps = record { runs = is.0; image = was; step = step; holds = subst (λ (h : Header). HoldsBy (replay was) h held) (sym is.2) under };
       holds = subst (λ (p : Pages). HoldsBy p r.head held) (sym (current_none r.wal was is.1)) under;
+      known = none_known is.3;
     }
 
 -- The pages of a new store are sound, and hold nothing.
@@ -113,6 +114,7 @@ module _ (settings : Settings) (range : IsInRange (first_head settings)) where
       records = λ page slot. sym (none_there page slot);
       lists = λ page. only_catalog page;
       catalog = refl;
+      catalog_pages = refl;
       catalog_length = refl;
       free = omega arith;
     };

@@ -1,5 +1,5 @@
 -- What a call leaves that only reads.
-use Rattle.std.proofs.Common.{◌≡◌, List, refl, sym, ap, subst, ◌∙◌, true, false}
+use Rattle.std.proofs.Common.{◌≡◌, ℕ, List, refl, sym, ap, subst, ◌∙◌, true, false}
 use Rattle.nx_host.specs.Disk.{Image}
 use Rattle.nx_host.specs.declared.disk.Disk.{Ghosts}
 use Rattle.nx_host.specs.Still.{IsStill}
@@ -9,13 +9,13 @@ use Rattle.nx_wal.specs.Wal.{current}
 use Rattle.nx_holdings.specs.declared.header.Header.{Header}
 use Rattle.nx_holdings.specs.Holdings.{Held, HoldsBy}
 use Rattle.nx_records.specs.declared.records.Records.{Records}
-use Rattle.nx_records.specs.Records.{has_ended, LeavesRecords, IsInStepWith, StandsFor, KeepsSaved}
+use Rattle.nx_records.specs.Records.{has_ended, AreKnown, LeavesRecords, IsInStepWith, StandsFor, KeepsSaved}
 use Rattle.nx_records.specs.Refusals.{RunsOn, EndNow, HadEnded}
 
 pub leaves_same : {r0 r1 : Records} → r1 ≡ r0 → LeavesRecords r0 r1
 leaves_same {r0 = r0} same =
     subst (λ (r : Records). LeavesRecords r0 r) (sym same)
-    (record { follows = λ log follows. follows; changes_stay = refl; saved_stays = refl; head_stays = refl; ended_stays = refl; length_stays = refl })
+    (record { follows = λ log follows. follows; changes_stay = refl; saved_stays = refl; head_stays = refl; known_stay = refl; ended_stays = refl; length_stays = refl })
 
 -- one call after the other
 pub leaves_add_up : {r0 r1 r2 : Records} → LeavesRecords r0 r1 → LeavesRecords r1 r2 → LeavesRecords r0 r2
@@ -24,6 +24,7 @@ leaves_add_up one two = record {
   changes_stay = two.changes_stay ∙ one.changes_stay;
   saved_stays = two.saved_stays ∙ one.saved_stays;
   head_stays = two.head_stays ∙ one.head_stays;
+  known_stay = two.known_stay ∙ one.known_stay;
   ended_stays = two.ended_stays ∙ one.ended_stays;
   length_stays = two.length_stays ∙ one.length_stays;
 }
@@ -72,4 +73,5 @@ module _ {D : Type 0} {d : Ghosts D} {r0 r1 : Records} {x0 x1 : D} where
         keeps = leaves_saved leaves still saved stands.keeps;
         holds = subst (λ (es : List Entry). HoldsBy (over (entry_pages es) (replay image)) r1.head now) (sym leaves.changes_stay)
             (subst (λ (h : Header). HoldsBy (current r0.wal image) h now) (sym leaves.head_stays) stands.holds);
+        known = subst (λ (ps : List ℕ). AreKnown ps now.catalog.pages) (sym leaves.known_stay) stands.known;
       }

@@ -10,5 +10,8 @@ pub mod WritingLemmas
 pub mod RewritingLemmas
 pub mod FreedLemmas
 pub mod InPlaceLemmas
+pub mod PatchedLemmas
+pub mod PatchingLemmas
+pub mod KnownLemmas
 pub mod RoomLemmas
 pub mod SeenLemmas

@@ -1,5 +1,5 @@
 -- How refusals are handed on.
-use Rattle.std.proofs.Common.{◌≡◌, ℕ, ◌+◌, ◌-◌, ◌<◌, ◌≤◌, List, refl, sym, ap, subst, ◌∙◌, arith, true, false}
+use Rattle.std.proofs.Common.{◌≡◌, ℕ, ◌+◌, ◌-◌, ◌<◌, ◌≤◌, List, refl, sym, ap, subst, ◌∙◌, arith, true, false, inl}
 use Rattle.std.specs.Prelude.{◌≢◌, ◌^◌, min, slice_index_or, Option, None, Some, Result, Err, IfErr}
 use Rattle.nx_host.specs.declared.disk.Disk.{Ghosts}
 use Rattle.nx_host.specs.Still.{IsStill}
@@ -30,7 +30,7 @@ abbrev pub NoSlots : ℕ → Records → Pages → Type 0
 NoSlots page r pages = page < r.head.pages → (slots : List (Option (List ℕ))) → HasSlots pages page slots → ⊥
 
 pub keeps_self : (r0 r1 : Records) → has_ended r0 ≡ false → r1 ≡ r0 → KeepsLog r0 r1
-keeps_self r0 r1 runs same = subst (λ (r : Records). KeepsLog r0 r) (sym same) (record { runs = runs; follows = λ log follows. follows; saved = refl; length_stays = refl; settings_stay = refl })
+keeps_self r0 r1 runs same = subst (λ (r : Records). KeepsLog r0 r) (sym same) (record { runs = runs; follows = λ log follows. follows; saved = refl; length_stays = refl; settings_stay = refl; known = inl refl })
 
 pub runs_on : {r0 r1 : Records} → has_ended r0 ≡ false → KeepsLog r0 r1 → RunsOn r0 r1
 runs_on runs keeps = record { before = runs; after = keeps.runs; length_stays = keeps.length_stays; settings_stay = keeps.settings_stay }

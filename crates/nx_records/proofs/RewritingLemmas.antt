@@ -21,7 +21,7 @@ use Rattle.nx_holdings.proofs.ChainLemmas.{Names, one_next, one_content}
 use Rattle.nx_links.specs.Beside.{HeldBeside, HoldsBeside, KeepsCatalog}
 use Rattle.nx_links.specs.Lists.{IsListFrom}
 use Rattle.nx_links.proofs.BesideLemmas.{chain_linked, chain_count_of, chain_low, chain_once, join_times, pages_join, linked_behind, set_link, no_rest}
-use Rattle.nx_links.proofs.JoinLemmas.{beside_header, all_but, enter, changed_holds, catalog_holds}
+use Rattle.nx_links.proofs.JoinLemmas.{beside_header, all_but, places_but, enter, changed_holds, catalog_holds}
 use Rattle.nx_records.specs.declared.records.Records.{Records}
 use Rattle.nx_records.specs.declared.error.StoreError.{StoreError}
 use Rattle.nx_records.specs.declared.error.StoreError.TheVariants as error
@@ -35,7 +35,7 @@ use Rattle.nx_records.proofs.ChainLemmas.{names_of, few_pages, no_list_from}
 use Rattle.nx_records.proofs.WritingLemmas.{catalog_then, catalog_numbered, all_there, beside_is, no_full, memory_full, disk_full}
 
 -- pages that wait as before are seen as before
-seen_same : (old new : Records) (was : Image) (p : ℕ) → waiting new p ≡ waiting old p → current_pages new was p ≡ current_pages old was p
+pub seen_same : (old new : Records) (was : Image) (p : ℕ) → waiting new p ≡ waiting old p → current_pages new was p ≡ current_pages old was p
 seen_same old new was p same = ap (λ (o : Option (List ℕ)). option_or o (replay was p)) same
 
 pub put_seen : {page : ℕ} {bytes : List ℕ} {old new : Records} → PutsPage page bytes old new → (was : Image) → current new.wal was ≡ with_page (current old.wal was) page bytes
@@ -57,15 +57,15 @@ pub differ : (one other : List ℕ) → pointwise nat_eq one other ≡ false →
 differ one other fails same = false≢true (sym fails ∙ ap (λ (b : List ℕ). pointwise nat_eq one b) (sym same) ∙ all_same one)
 
 -- the links that a chain has
-pages_length : (ls : List Link) → length (pages_of_links ls) ≡ length ls
+pub pages_length : (ls : List Link) → length (pages_of_links ls) ≡ length ls
 pages_length [] = refl
 pages_length (l ∷ ls) = let rest = pages_length ls in omega (arith, rest)
 
-content_join : (one other : List Link) → content_of (one ++ other) ≡ content_of one ++ content_of other
+pub content_join : (one other : List Link) → content_of (one ++ other) ≡ content_of one ++ content_of other
 content_join [] other = refl
 content_join (l ∷ ls) other = ap (λ (b : List ℕ). l.content ++ b) (content_join ls other) ∙ sym (append_assoc l.content (content_of ls) (content_of other))
 
-first_same : (one other : List Link) → pages_of_links one ≡ pages_of_links other → next_of one ≡ next_of other
+pub first_same : (one other : List Link) → pages_of_links one ≡ pages_of_links other → next_of one ≡ next_of other
 first_same [] [] same = refl
 first_same [] (m ∷ ms) same = let long = ap length same in absurd (omega (arith, long))
 first_same (l ∷ ls) [] same = let long = ap length same in absurd (omega (arith, long))
@@ -89,7 +89,7 @@ links_none r Starts Comes comes was links held step holds starts = record {
   next = held;
   holds = holds;
   catalog = record { settings = refl; catalog = refl; catalog_length = refl };
-  keeps = record { records = refl; lists = refl; free = refl };
+  keeps = record { records = refl; lists = refl; places = refl; free = refl };
   comes = comes was links starts;
 }
 
@@ -244,7 +244,7 @@ waits_more {r0} {r1} {r2} {was} {bytes = bytes} {had = had} {content = content} 
     ]
 
 -- what is left of a chain is a list
-rest_from : {pages : Pages} {h : Header} {held : HeldBeside} (done rest : List Link) → HoldsBeside pages h (done ++ rest) held → IsListFrom h.pages pages (next_of rest) (content_of rest)
+pub rest_from : {pages : Pages} {h : Header} {held : HeldBeside} (done rest : List Link) → HoldsBeside pages h (done ++ rest) held → IsListFrom h.pages pages (next_of rest) (content_of rest)
 rest_from {pages = pages} done rest holds = record {
   links = rest;
   linked = linked_behind pages done rest (chain_linked holds);
@@ -318,7 +318,7 @@ module _ {D : Type 0} (d : Ghosts D) (r0 r1 r2 : Records) (x0 x1 : D) where
             next = one.next;
             holds = set.0;
             catalog = catalog_then one.catalog set.1;
-            keeps = record { records = (one.keeps).records; lists = (one.keeps).lists; free = omega (arith, longer, before, rest, whole, free) };
+            keeps = record { records = (one.keeps).records; lists = (one.keeps).lists; places = (one.keeps).places; free = omega (arith, longer, before, rest, whole, free) };
             comes = record {
               passed = passed_more passed l ls are said_is.0 said_is.1 low content_is;
               waits = waits_more one.comes l ls are mid has sets content_is.some content_is.few;
@@ -414,8 +414,8 @@ module _ {D : Type 0} (d : Ghosts D) (r0 r1 : Records) (before : D) where
       → (length list ≡ len) × (chain_count len ≡ chain_count (length bytes) → PutsChangedAlone r0 r1 was) × ((next : Held) × HoldsBehind (current r1.wal was) r1.head next × ChangesList first bytes held next)
   changed_steps first len bytes some other steps was held list step holds there =
       let entered = enter holds first list (all_there holds first list other there) in
-      let led = steps was entered.links (record { records = held.records; lists = all_but holds first; free = held.free }) step entered.holds entered.here in
-      let beside = subst (λ (b : HeldBeside). HoldsBeside (current r1.wal was) r1.head led.more b) (beside_is led.next (led.keeps).records (led.keeps).lists) led.holds in
+      let led = steps was entered.links (record { records = held.records; lists = all_but holds first; places = places_but holds first; free = held.free }) step entered.holds entered.here in
+      let beside = subst (λ (b : HeldBeside). HoldsBeside (current r1.wal was) r1.head led.more b) (beside_is led.next (led.keeps).records (led.keeps).lists (led.keeps).places) led.holds in
       let old = chain_count_of entered.holds in
       let old_long : chain_count (length (content_of entered.links)) ≡ pages_of_list (held.lists first) =
       ap (λ (b : List ℕ). chain_count (length b)) entered.are ∙ ap (λ (o : Option (List ℕ)). pages_of_list o) (sym there) in
@@ -436,9 +436,9 @@ pub alone_then : (r0 r1 r2 : Records) (was : Image) → PutsChangedAlone r0 r1 w
 alone_then r0 r1 r2 was alone beside p other seen = beside p other ∙ alone p other (sym (seen_same r1 r2 was p (beside p other)) ∙ seen)
 
 -- the records follow the log that they followed as the header names another catalog
-pub named_keeps : {r0 r1 : Records} (r2 : Records) (first len : ℕ) → KeepsLog r0 r1 → r2.head ≡ with_catalog first len r1.head → (r2.wal ≡ r1.wal) × (r2.saved ≡ r1.saved) × (has_ended r2 ≡ has_ended r1) → KeepsLog r0 r2
-named_keeps {r0} {r1} r2 first len keeps head stays =
-    keeps_under {r0 = r0} {r1 = r1} {q0 = r0} {q1 = r2} keeps refl refl stays.0 stays.1 stays.2 (ap (λ (h : Header). h.settings) head ∙ keeps.settings_stay)
+pub named_keeps : {r0 r1 : Records} (r2 : Records) (first len : ℕ) → KeepsLog r0 r1 → r2.head ≡ with_catalog first len r1.head → (r2.wal ≡ r1.wal) × (r2.saved ≡ r1.saved) × (has_ended r2 ≡ has_ended r1) → r2.catalog_pages ≡ [] → KeepsLog r0 r2
+named_keeps {r0} {r1} r2 first len keeps head stays forgets =
+    keeps_under {r0 = r0} {r1 = r1} {q0 = r0} {q1 = r2} keeps refl refl stays.0 stays.1 stays.2 (ap (λ (h : Header). h.settings) head ∙ keeps.settings_stay) (inr forgets)
 
 -- the catalog's chain has other bytes
 module _ {D : Type 0} (d : Ghosts D) (r0 r1 r2 : Records) (before : D) where
@@ -446,9 +446,9 @@ module _ {D : Type 0} (d : Ghosts D) (r0 r1 r2 : Records) (before : D) where
       → LinksStepTo d r0 r1 before (λ links. next_of links ≡ r0.head.catalog) (λ was links more. IsRewritten r0 r1 was first r0.head.catalog_length bytes links more)
       → (r2.wal ≡ r1.wal) × (r2.head ≡ with_catalog first (length bytes) r1.head) → StepsTo d r0 r2 before (λ was now. SetsCatalog bytes was now)
   catalog_steps first bytes some steps is was held step holds =
-      let entered = enter holds r0.head.catalog held.catalog holds.catalog in
-      let led = steps was entered.links (record { records = held.records; lists = all_but holds r0.head.catalog; free = held.free }) step entered.holds entered.here in
-      let beside = subst (λ (b : HeldBeside). HoldsBeside (current r1.wal was) r1.head led.more b) (beside_is led.next (led.keeps).records (led.keeps).lists) led.holds in
+      let entered = enter holds r0.head.catalog held.catalog.bytes holds.catalog in
+      let led = steps was entered.links (record { records = held.records; lists = all_but holds r0.head.catalog; places = places_but holds r0.head.catalog; free = held.free }) step entered.holds entered.here in
+      let beside = subst (λ (b : HeldBeside). HoldsBeside (current r1.wal was) r1.head led.more b) (beside_is led.next (led.keeps).records (led.keeps).lists (led.keeps).places) led.holds in
       let holds1 = catalog_holds holds (led.next).free bytes (led.comes).are some beside led.catalog in
       let head : r2.head ≡ with_catalog (next_of led.more) (length bytes) r1.head = is.1 ∙ ap (λ (f : ℕ). with_catalog f (length bytes) r1.head) (sym (led.comes).begins) in
       let old = chain_count_of entered.holds in
@@ -456,18 +456,18 @@ module _ {D : Type 0} (d : Ghosts D) (r0 r1 r2 : Records) (before : D) where
       let new = chain_count_of led.holds in
       let new_long = ap (λ (b : List ℕ). chain_count (length b)) (led.comes).are in
       let free = (led.keeps).free in (
-        record held { catalog = bytes; free = (led.next).free },
-        subst (λ (w : Wal). HoldsBehind (current w was) r2.head (record held { catalog = bytes; free = (led.next).free })) (sym is.0)
-            (subst (λ (x : Header). HoldsBehind (current r1.wal was) x (record held { catalog = bytes; free = (led.next).free })) (sym head) holds1),
+        record held { catalog = record { bytes = bytes; pages = pages_of_links led.more }; free = (led.next).free },
+        subst (λ (w : Wal). HoldsBehind (current w was) r2.head (record held { catalog = record { bytes = bytes; pages = pages_of_links led.more }; free = (led.next).free })) (sym is.0)
+            (subst (λ (x : Header). HoldsBehind (current r1.wal was) x (record held { catalog = record { bytes = bytes; pages = pages_of_links led.more }; free = (led.next).free })) (sym head) holds1),
         record { catalog = refl; records = refl; lists = refl; settings = refl; free = omega (arith, old, old_long, new, new_long, free) },
       )
 
   -- ... and of pages that stay none waits
   pub catalog_alone : (first : ℕ) (bytes : List ℕ) → LinksStepTo d r0 r1 before (λ links. next_of links ≡ r0.head.catalog) (λ was links more. IsRewritten r0 r1 was first r0.head.catalog_length bytes links more)
-      → (was : Image) (held : Held) → IsInStep d r0.wal before was → HoldsBehind (current r0.wal was) r0.head held → chain_count (length held.catalog) ≡ chain_count (length bytes) → PutsChangedAlone r0 r1 was
+      → (was : Image) (held : Held) → IsInStep d r0.wal before was → HoldsBehind (current r0.wal was) r0.head held → chain_count (length held.catalog.bytes) ≡ chain_count (length bytes) → PutsChangedAlone r0 r1 was
   catalog_alone first bytes steps was held step holds same =
-      let entered = enter holds r0.head.catalog held.catalog holds.catalog in
-      let led = steps was entered.links (record { records = held.records; lists = all_but holds r0.head.catalog; free = held.free }) step entered.holds entered.here in
+      let entered = enter holds r0.head.catalog held.catalog.bytes holds.catalog in
+      let led = steps was entered.links (record { records = held.records; lists = all_but holds r0.head.catalog; places = places_but holds r0.head.catalog; free = held.free }) step entered.holds entered.here in
       (led.comes).alone (ap chain_count (sym holds.catalog_length) ∙ same)
 
 -- a chain that isn't given back isn't led to another, and one that was given back and written is another

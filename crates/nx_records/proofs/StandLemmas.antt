@@ -14,11 +14,11 @@ use Rattle.nx_wal.specs.declared.wal.Wal.{Wal}
 use Rattle.nx_wal.specs.Wal.{IsInStep, Follows, PutsRecord, ClearsRecord, current, pending, next_group, length_of, wal_ended}
 use Rattle.nx_holdings.specs.declared.header.Header.{Header}
 use Rattle.nx_holdings.specs.Header.{header_bytes, newest_format, IsInRange}
-use Rattle.nx_holdings.specs.Holdings.{with_page, Held, HoldsBehind, HoldsBy, Holds}
+use Rattle.nx_holdings.specs.Holdings.{with_page, Held, OnPages, HoldsBehind, HoldsBy, Holds}
 use Rattle.nx_holdings.proofs.TimesLemmas.{with_page-other}
 use Rattle.nx_holdings.proofs.HeldLemmas.{holds_all, holds_numbered, holds_dense}
 use Rattle.nx_records.specs.declared.records.Records.{Records}
-use Rattle.nx_records.specs.Records.{has_ended, next_number, HasSaved, StandsFor, KeepsSaved, KeepsLog, ComesTo}
+use Rattle.nx_records.specs.Records.{has_ended, next_number, AreKnown, KeepsKnown, HasSaved, StandsFor, KeepsSaved, KeepsLog, ComesTo}
 use Rattle.nx_records.specs.Numbering.{number_behind, IsNextHeader}
 use Rattle.nx_records.specs.Pages.{numbered, released, SeesSo, StepsTo}
 
@@ -47,6 +47,27 @@ module _ {D : Type 0} {d : Ghosts D} where
     holds = subst (λ (h : Header). HoldsBy (replay has.image) h saved) (sym keeps.saved) has.holds;
   }
 
+pub known_then : {a b c : List ℕ} → KeepsKnown a b → KeepsKnown b c → KeepsKnown a c
+known_then one (inr none) = inr none
+known_then (inl same) (inl same_too) = inl (same_too ∙ same)
+known_then (inr none) (inl same) = inr (same ∙ none)
+
+pub forgotten : {a b : List ℕ} → KeepsKnown a b → a ≡ [] → b ≡ []
+forgotten (inl same) none = same ∙ none
+forgotten (inr none) before = none
+
+pub none_known : {known pages : List ℕ} → known ≡ [] → AreKnown known pages
+none_known none some = absurd (some none)
+
+-- what is known of the catalog's pages stays true where they stay
+pub known_stays : {a b : List ℕ} (was now : Held) → KeepsKnown a b → now.catalog ≡ was.catalog → AreKnown a was.catalog.pages → AreKnown b now.catalog.pages
+known_stays was now (inl same) stays known some = same ∙ known (λ none. some (same ∙ none)) ∙ sym (ap (λ (c : OnPages). c.pages) stays)
+known_stays was now (inr none) stays known some = absurd (some none)
+
+pub known_after : {a b : List ℕ} (was now : Held) → KeepsKnown a b → (now.catalog ≡ was.catalog) ⊎ (b ≡ []) → AreKnown a was.catalog.pages → AreKnown b now.catalog.pages
+known_after was now keeps (inl stays) known some = known_stays was now keeps stays known some
+known_after was now keeps (inr none) known some = absurd (some none)
+
 pub keeps_then : {r0 r1 r2 : Records} → KeepsLog r0 r1 → KeepsLog r1 r2 → KeepsLog r0 r2
 keeps_then one two = record {
   runs = two.runs;
@@ -54,14 +75,16 @@ keeps_then one two = record {
   saved = two.saved ∙ one.saved;
   length_stays = two.length_stays ∙ one.length_stays;
   settings_stay = two.settings_stay ∙ one.settings_stay;
+  known = known_then one.known two.known;
 }
 
 -- With the header put, what the steps came to is what the records stand for.
 module _ {D : Type 0} (d : Ghosts D) (r0 r1 r2 : Records) (x0 x2 : D) (Comes : Held → Held → Type 0) where
   pub steps_lead : KeepsLog r0 r1 → KeepsLog r1 r2 → IsStill d x0 x2 → IsInRange r2.head → r2.head ≡ numbered (next_number r1) r1.head
-      → ((was : Image) → current r2.wal was ≡ with_page (current r1.wal was) 0 (header_bytes r2.head)) → StepsTo d r0 r1 x0 Comes → ComesTo d r0 r2 x0 x2 Comes
+      → ((was : Image) → current r2.wal was ≡ with_page (current r1.wal was) 0 (header_bytes r2.head)) → StepsTo d r0 r1 x0 Comes
+      → ((was now : Held) → Comes was now → now.catalog ≡ was.catalog) ⊎ (r2.catalog_pages ≡ []) → ComesTo d r0 r2 x0 x2 Comes
   unfolding saved_kept
-  steps_lead one two still range head pages steps saved now stands =
+  steps_lead one two still range head pages steps known saved now stands =
       let image = (stands.keeps).image in
       let step = (stands.keeps).step in
       let next = steps image now step (stands.holds).behind in
@@ -70,14 +93,16 @@ module _ {D : Type 0} (d : Ghosts D) (r0 r1 r2 : Records) (x0 x2 : D) (Comes : H
         record {
           keeps = saved_kept {r0 = r0} {r1 = r2} (keeps_then {r0 = r0} {r1 = r1} {r2 = r2} one two) still saved stands.keeps;
           holds = subst (λ (p : Pages). HoldsBy p r2.head next.0) (sym (pages image)) (holds_all range numbered_next);
+          known = known_after now next.0 (keeps_then {r0 = r0} {r1 = r1} {r2 = r2} one two).known (elim known [ inl stays ↦ inl (stays now next.0 next.2) | inr none ↦ inr none ]) stands.known;
         },
         next.2,
       )
 
 -- the same log, under another header in memory
-pub keeps_under : {r0 r1 q0 q1 : Records} → KeepsLog r0 r1 → q0.wal ≡ r0.wal → q0.saved ≡ r0.saved → q1.wal ≡ r1.wal → q1.saved ≡ r1.saved → q1.ended ≡ r1.ended → q1.head.settings ≡ q0.head.settings → KeepsLog q0 q1
-keeps_under {r0 = r0} {r1 = r1} {q0 = q0} {q1 = q1} keeps wal0 saved0 wal1 saved1 ended settings = record {
+pub keeps_under : {r0 r1 q0 q1 : Records} → KeepsLog r0 r1 → q0.wal ≡ r0.wal → q0.saved ≡ r0.saved → q1.wal ≡ r1.wal → q1.saved ≡ r1.saved → q1.ended ≡ r1.ended → q1.head.settings ≡ q0.head.settings → KeepsKnown q0.catalog_pages q1.catalog_pages → KeepsLog q0 q1
+keeps_under {r0 = r0} {r1 = r1} {q0 = q0} {q1 = q1} keeps wal0 saved0 wal1 saved1 ended settings known = record {
   settings_stay = settings;
+  known = known;
   runs = ended ∙ keeps.runs;
   follows = λ log follows. subst (λ (w : Wal). Follows w log) (sym wal1) (keeps.follows log (subst (λ (w : Wal). Follows w log) wal0 follows));
   saved = saved1 ∙ keeps.saved ∙ sym saved0;
@@ -125,7 +150,7 @@ commit_holds d r0 x0 x1 number goes = written_alone_weaker goes (λ told i outco
 -- After a commit what is held now is saved.
 pub commit_stands : {D : Type 0} (d : Ghosts D) (r0 r1 : Records) (x0 x1 : D) (number : ℕ)
     → ((was now : Image) → IsInStep d r0.wal x0 was → d.contents x1 ≡ Some now → IsInStep d r1.wal x1 now × HasGroup (next_group number r0.wal) was now)
-    → (pending r1.wal ≡ []) × (has_ended r1 ≡ false) × (r1.saved ≡ r0.head) × (r1.head ≡ r0.head)
+    → (pending r1.wal ≡ []) × (has_ended r1 ≡ false) × (r1.saved ≡ r0.head) × (r1.head ≡ r0.head) × (r1.catalog_pages ≡ r0.catalog_pages)
     → (saved now : Held) (image : Image) → StandsFor d r0 x0 saved now → d.contents x1 ≡ Some image → StandsFor d r1 x1 now now
 commit_stands d r0 r1 x0 x1 number done is saved now image stands told =
     let was = (stands.keeps).image in
@@ -135,6 +160,7 @@ commit_stands d r0 r1 x0 x1 number done is saved now image stands told =
     record {
       keeps = record { runs = is.1; image = image; step = o.0; holds = subst (λ (h : Header). HoldsBy (replay image) h now) (sym is.2) held };
       holds = subst (λ (p : Pages). HoldsBy p r1.head now) (sym (current_none r1.wal image is.0)) (subst (λ (h : Header). HoldsBy (replay image) h now) (sym is.3) held);
+      known = subst (λ (ps : List ℕ). AreKnown ps now.catalog.pages) (sym is.4) stands.known;
     }
 
 -- At every moment of a checkpoint the disk holds what was saved.
@@ -146,7 +172,7 @@ checkpoint_holds d r0 x0 x1 goes = written_alone_weaker goes (λ told i outcome 
 
 pub checkpoint_stands : {D : Type 0} (d : Ghosts D) (r0 r1 : Records) (x0 x1 : D)
     → ((was now : Image) → IsInStep d r0.wal x0 was → d.contents x1 ≡ Some now → IsInStep d r1.wal x1 now × Stays (replay was) (replay now) × (groups now.log ≡ []))
-    → (pending r0.wal ≡ []) × (pending r1.wal ≡ []) × (has_ended r1 ≡ false) × (r1.saved ≡ r0.saved) × (r1.head ≡ r0.head)
+    → (pending r0.wal ≡ []) × (pending r1.wal ≡ []) × (has_ended r1 ≡ false) × (r1.saved ≡ r0.saved) × (r1.head ≡ r0.head) × (r1.catalog_pages ≡ r0.catalog_pages)
     → (saved now : Held) (image : Image) → StandsFor d r0 x0 saved now → d.contents x1 ≡ Some image → StandsFor d r1 x1 saved now
 checkpoint_stands d r0 r1 x0 x1 done is saved now image stands told =
     let was = (stands.keeps).image in
@@ -161,12 +187,13 @@ checkpoint_stands d r0 r1 x0 x1 done is saved now image stands told =
         holds = subst (λ (h : Header). HoldsBy (replay image) h saved) (sym is.3) (subst (λ (p : Pages). HoldsBy p r0.saved saved) (sym same) (stands.keeps).holds);
       };
       holds = subst (λ (h : Header). HoldsBy (current r1.wal image) h now) (sym is.4) (subst (λ (p : Pages). HoldsBy p r0.head now) (sym here) stands.holds);
+      known = subst (λ (ps : List ℕ). AreKnown ps now.catalog.pages) (sym is.5) stands.known;
     }
 
 -- dropped changes leave what was saved
 pub abandon_stands : {D : Type 0} {d : Ghosts D} {r0 r1 : Records} {x : D} {saved : Held} → ((log : List ℕ) → Follows r0.wal log → Follows r1.wal log) → pending r1.wal ≡ []
-    → (r1.saved ≡ r0.saved) × (r1.head ≡ r0.saved) → has_ended r1 ≡ has_ended r0 → HasSaved d r0 x saved → StandsFor d r1 x saved saved
-abandon_stands {r0 = r0} {r1 = r1} {saved = saved} follows none heads ended has = record {
+    → (r1.saved ≡ r0.saved) × (r1.head ≡ r0.saved) → r1.catalog_pages ≡ [] → has_ended r1 ≡ has_ended r0 → HasSaved d r0 x saved → StandsFor d r1 x saved saved
+abandon_stands {r0 = r0} {r1 = r1} {saved = saved} follows none heads forgets ended has = record {
   keeps = record {
     runs = ended ∙ has.runs;
     image = has.image;
@@ -174,6 +201,7 @@ abandon_stands {r0 = r0} {r1 = r1} {saved = saved} follows none heads ended has 
     holds = subst (λ (h : Header). HoldsBy (replay has.image) h saved) (sym heads.0) has.holds;
   };
   holds = subst (λ (p : Pages). HoldsBy p r1.head saved) (sym (current_none r1.wal has.image none)) (subst (λ (h : Header). HoldsBy (replay has.image) h saved) (sym heads.1) has.holds);
+  known = none_known forgets;
 }
 
 pub if_ok_then : {T E : Type 0} {P Q : T → Type 0} (r : Result T E) → IfOk r P → ((x : T) → P x → Q x) → IfOk r Q
@@ -296,6 +324,7 @@ pub same_wal : (r : Records) (wal : Wal) → wal ≡ r.wal → (saved_range : Is
       saved = r.saved;
       head = r.head;
       waiting_head = r.waiting_head;
+      catalog_pages = r.catalog_pages;
       ended = r.ended;
       spare = r.spare;
       alloc = r.alloc;
@@ -313,6 +342,7 @@ same_wal r wal same saved_range head_range numbered header_waits runs =
       saved = r.saved;
       head = r.head;
       waiting_head = r.waiting_head;
+      catalog_pages = r.catalog_pages;
       ended = r.ended;
       spare = r.spare;
       alloc = r.alloc;
@@ -333,6 +363,7 @@ same_wal r wal same saved_range head_range numbered header_waits runs =
       saved = r.saved;
       head = r.head;
       waiting_head = r.waiting_head;
+      catalog_pages = r.catalog_pages;
       ended = r.ended;
       spare = r.spare;
       alloc = r.alloc;

@@ -18,11 +18,11 @@ use Rattle.nx_holdings.proofs.ChainLemmas.{Names, one_next, one_content}
 use Rattle.nx_links.specs.Beside.{HeldBeside, HoldsBeside, KeepsCatalog, KeepsBeside}
 use Rattle.nx_links.proofs.ListLemmas.{has_first}
 use Rattle.nx_links.proofs.BesideLemmas.{IsLoosed, loose_first, loose_unused, put_link, give_link, room_apart, chain_from, chain_count_of, first_low}
-use Rattle.nx_links.proofs.JoinLemmas.{beside_header, all_lists, all_but, enter_none, enter, freed_holds, written_holds}
+use Rattle.nx_links.proofs.JoinLemmas.{beside_header, all_lists, all_places, all_but, places_but, enter_none, enter, freed_holds, written_holds}
 use Rattle.nx_records.specs.declared.records.Records.{Records}
 use Rattle.nx_records.specs.declared.error.StoreError.{StoreError}
 use Rattle.nx_records.specs.declared.error.StoreError.TheVariants as error
-use Rattle.nx_records.specs.Records.{has_ended, has_free, next_number, KeepsLog, StandsFor}
+use Rattle.nx_records.specs.Records.{has_ended, AreKnown, has_free, next_number, KeepsLog, StandsFor}
 use Rattle.nx_records.specs.Changes.{WritesList}
 use Rattle.nx_records.specs.Refusals.{EndNow, NotChanged, NotStored}
 use Rattle.nx_records.specs.Pages.{SeesSo, StepsTo, IsPageTaken, NotTaken, numbered, released}
@@ -78,7 +78,7 @@ module _ {D : Type 0} (d : Ghosts D) (r0 r1 r2 : Records) (before : D) where
             (subst (λ (x : Header). HoldsBeside (with_page (current r0.wal was) page (chain_bytes (next_of links) content)) x (link_before page content links) (record held { free = loosed.0 })) (sym stored.0)
             (beside_header (numbered (next_number r1) r1.head) refl refl refl refl made));
         catalog = catalog_then (taken_keeps takes) (catalog_numbered (next_number r1) stored.0);
-        keeps = record { records = refl; lists = refl; free = let fewer = loosed.1 in omega (arith, fewer) };
+        keeps = record { records = refl; lists = refl; places = refl; free = let fewer = loosed.1 in omega (arith, fewer) };
         comes = refl;
       }
 
@@ -110,7 +110,7 @@ module _ {D : Type 0} (d : Ghosts D) (r0 r1 r2 : Records) (before : D) where
             (subst (λ (x : Header). HoldsBeside (with_page (current r0.wal was) page (free_bytes r0.head.free)) x given.rest (record held { free = held.free + 1 })) (sym header)
             (beside_header (numbered (next_number r1) (record r0.head { free = page })) refl refl refl refl given.holds));
         catalog = catalog_then {b = record r0.head { free = page }} (record { settings = refl; catalog = refl; catalog_length = refl }) (catalog_numbered (next_number r1) header);
-        keeps = record { records = refl; lists = refl; free = let longer = ap (λ (ls : List Link). length ls) given.are in omega (arith, longer) };
+        keeps = record { records = refl; lists = refl; places = refl; free = let longer = ap (λ (ls : List Link). length ls) given.are in omega (arith, longer) };
         comes = (
           given.are ∙ ap (λ (p : ℕ). link_before p given.link.content given.rest) given.here ∙ ap (λ (c : List ℕ). link_before page c given.rest) content_is,
           one_next first (names_of has.link),
@@ -125,7 +125,7 @@ steps_none r Starts Comes comes was links held step holds starts = record {
   next = held;
   holds = holds;
   catalog = record { settings = refl; catalog = refl; catalog_length = refl };
-  keeps = record { records = refl; lists = refl; free = refl };
+  keeps = record { records = refl; lists = refl; places = refl; free = refl };
   comes = comes links starts;
 }
 
@@ -151,6 +151,7 @@ module _ {D : Type 0} (d : Ghosts D) (r0 r1 r2 : Records) (x0 x1 : D) (Starts : 
         keeps = record {
           records = (two.keeps).records ∙ (one.keeps).records;
           lists = (two.keeps).lists ∙ (one.keeps).lists;
+          places = (two.keeps).places ∙ (one.keeps).places;
           free = (two.keeps).free ∙ (one.keeps).free;
         };
         comes = ends links one.more two.more one.comes two.comes;
@@ -293,19 +294,20 @@ all_there {h = h} holds first list other there =
     sym (ap (λ (b : Bool). if b then None else all_lists holds first) (other_page first h.catalog other)) ∙ sym (holds.lists first) ∙ there
 
 -- what is held beside a chain, by what it was
-pub beside_is : (next : HeldBeside) {records : ℕ → ℕ → Option (List ℕ)} {lists : ℕ → Option (List ℕ)} → next.records ≡ records → next.lists ≡ lists
-    → next ≡ record { records = records; lists = lists; free = next.free }
-beside_is next {records = records} same_records same_lists =
-    ap (λ (r : ℕ → ℕ → Option (List ℕ)). record { records = r; lists = next.lists; free = next.free }) same_records
-    ∙ ap (λ (l : ℕ → Option (List ℕ)). record { records = records; lists = l; free = next.free }) same_lists
+pub beside_is : (next : HeldBeside) {records : ℕ → ℕ → Option (List ℕ)} {lists : ℕ → Option (List ℕ)} {places : ℕ → List ℕ} → next.records ≡ records → next.lists ≡ lists → next.places ≡ places
+    → next ≡ record { records = records; lists = lists; places = places; free = next.free }
+beside_is next {records = records} {lists = lists} same_records same_lists same_places =
+    ap (λ (r : ℕ → ℕ → Option (List ℕ)). record { records = r; lists = next.lists; places = next.places; free = next.free }) same_records
+    ∙ ap (λ (l : ℕ → Option (List ℕ)). record { records = records; lists = l; places = next.places; free = next.free }) same_lists
+    ∙ ap (λ (p : ℕ → List ℕ). record { records = records; lists = lists; places = p; free = next.free }) same_places
 
 module _ {D : Type 0} (d : Ghosts D) (r0 r1 : Records) (before : D) where
   -- a chain that was written is a list
   pub written_steps : (first : ℕ) (bytes : List ℕ) → 1 ≤ length bytes → ChainStepsTo d r0 r1 before (λ links. links ≡ []) (λ links more. (next_of more ≡ first) × (content_of more ≡ bytes))
       → StepsTo d r0 r1 before (λ was now. WritesList first bytes was now)
   written_steps first bytes some steps was held step holds =
-      let led = steps was [] (record { records = held.records; lists = all_lists holds; free = held.free }) step (enter_none holds) refl in
-      let beside = subst (λ (b : HeldBeside). HoldsBeside (current r1.wal was) r1.head led.more b) (beside_is led.next (led.keeps).records (led.keeps).lists) led.holds in
+      let led = steps was [] (record { records = held.records; lists = all_lists holds; places = all_places holds; free = held.free }) step (enter_none holds) refl in
+      let beside = subst (λ (b : HeldBeside). HoldsBeside (current r1.wal was) r1.head led.more b) (beside_is led.next (led.keeps).records (led.keeps).lists (led.keeps).places) led.holds in
       let written = written_holds holds (led.next).free bytes (led.comes).1 some beside led.catalog in
       let lists : ℕ → Option (List ℕ) = λ p. if p == first then Some bytes else held.lists p in
       let count = chain_count_of led.holds in
@@ -325,9 +327,9 @@ module _ {D : Type 0} (d : Ghosts D) (r0 r1 : Records) (before : D) where
       → ChainStepsTo d r0 r1 before (λ links. next_of links ≡ first) (λ links more. (more ≡ []) × (length (content_of links) ≡ len)) → FreesTo d r0 r1 before first len
   freed_steps first len other steps was held list step holds there =
       let entered = enter holds first list (all_there holds first list other there) in
-      let led = steps was entered.links (record { records = held.records; lists = all_but holds first; free = held.free }) step entered.holds entered.here in
-      let beside = subst (λ (b : HeldBeside). HoldsBeside (current r1.wal was) r1.head led.more b) (beside_is led.next (led.keeps).records (led.keeps).lists) led.holds in
-      let alone = subst (λ (ls : List Link). HoldsBeside (current r1.wal was) r1.head ls (record { records = held.records; lists = all_but holds first; free = (led.next).free })) (led.comes).0 beside in
+      let led = steps was entered.links (record { records = held.records; lists = all_but holds first; places = places_but holds first; free = held.free }) step entered.holds entered.here in
+      let beside = subst (λ (b : HeldBeside). HoldsBeside (current r1.wal was) r1.head led.more b) (beside_is led.next (led.keeps).records (led.keeps).lists (led.keeps).places) led.holds in
+      let alone = subst (λ (ls : List Link). HoldsBeside (current r1.wal was) r1.head ls (record { records = held.records; lists = all_but holds first; places = places_but holds first; free = (led.next).free })) (led.comes).0 beside in
       let count = chain_count_of entered.holds in
       let none = ap (λ (ls : List Link). length ls) (led.comes).0 in
       let more = (led.keeps).free in
@@ -344,8 +346,9 @@ module _ {D : Type 0} (d : Ghosts D) (r0 r1 : Records) (before : D) where
 -- With the header put, what is held behind it is what the records stand for.
 pub header_stands : {D : Type 0} {d : Ghosts D} {r0 r2 : Records} {x0 x2 : D} {saved now next : Held} (r1 : Records) → KeepsLog r0 r2 → IsStill d x0 x2 → IsInRange r2.head → r2.head ≡ numbered (next_number r1) r1.head
     → ((was : Image) → current r2.wal was ≡ with_page (current r1.wal was) 0 (header_bytes r2.head)) → (stands : StandsFor d r0 x0 saved now) → HoldsBehind (current r1.wal (stands.keeps).image) r1.head next
-    → StandsFor d r2 x2 saved next
-header_stands {r0 = r0} {r2 = r2} {saved = saved} {next = next} r1 keeps still range head pages stands behind = record {
+    → AreKnown r2.catalog_pages next.catalog.pages → StandsFor d r2 x2 saved next
+header_stands {r0 = r0} {r2 = r2} {saved = saved} {next = next} r1 keeps still range head pages stands behind known = record {
+  known = known;
   keeps = record {
     runs = keeps.runs;
     image = (stands.keeps).image;

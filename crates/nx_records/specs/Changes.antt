@@ -1,5 +1,5 @@
 -- What a call makes of what records hold.
-use Rattle.std.specs.Prelude.{◌≡◌, ◌==◌, ◌&&◌, if◌then◌else◌, nat_lt, ℕ, ◌+◌, ◌-◌, ◌≤◌, List, length, Option, Some, None, IsSome, MatchOption}
+use Rattle.std.specs.Prelude.{◌≡◌, ◌==◌, ◌&&◌, if◌then◌else◌, nat_lt, ℕ, ◌+◌, ◌-◌, ◌≤◌, List, [], ◌∷◌, ◌++◌, length, take, drop, Option, Some, None, IsSome, MatchOption}
 use Rattle.std.proofs.Math.ListN.{replicate}
 use Rattle.nx_holdings.specs.declared.header.Settings.{Settings}
 use Rattle.nx_holdings.specs.Holdings.{Held, chain_count}
@@ -17,7 +17,7 @@ lists_with lists first list_there p = if p == first then list_there else lists p
 
 -- what a new store holds
 abbrev pub nothing_held : Settings → Held
-nothing_held settings = record { settings = settings; records = λ p s. None; lists = λ p. None; catalog = replicate 8 0; free = settings.limit - 2 }
+nothing_held settings = record { settings = settings; records = λ p s. None; lists = λ p. None; catalog = record { bytes = replicate 8 0; pages = 1 ∷ [] }; free = settings.limit - 2 }
 
 -- the records alone are changed
 pub record ChangesRecords (was now : Held) (changed : ℕ → ℕ → Option (List ℕ)) : Type 0 where
@@ -92,12 +92,21 @@ pub record ChangesList (first : ℕ) (bytes : List ℕ) (was now : Held) : Type 
 
 -- The catalog was replaced. Its old chain pages are free, and at most so many fewer as the new ones are.
 pub record SetsCatalog (bytes : List ℕ) (was now : Held) : Type 0 where
-  pub catalog : now.catalog ≡ bytes
+  pub catalog : now.catalog.bytes ≡ bytes
   pub records : now.records ≡ was.records
   pub lists : now.lists ≡ was.lists
   pub settings : now.settings ≡ was.settings
-  pub free : was.free + chain_count (length was.catalog) ≤ now.free + chain_count (length bytes)
+  pub free : was.free + chain_count (length was.catalog.bytes) ≤ now.free + chain_count (length bytes)
 
 -- how many chain pages a new catalog may need beyond those of the old one
 abbrev pub catalog_needs : List ℕ → Held → ℕ
-catalog_needs bytes was = chain_count (length bytes) - chain_count (length was.catalog)
+catalog_needs bytes was = chain_count (length bytes) - chain_count (length was.catalog.bytes)
+
+-- the bytes, with others in the place of as many of them from an offset on
+abbrev pub patched : (at : ℕ) → (others bytes : List ℕ) → List ℕ
+patched at others bytes = take at bytes ++ (others ++ drop (at + length others) bytes)
+
+-- Bytes were put in the place of as many of the catalog's, from an offset on. It stands on the pages on which it stood.
+pub record PatchesCatalog (at : ℕ) (bytes : List ℕ) (was now : Held) : Type 0 where
+  pub sets : SetsCatalog (patched at bytes was.catalog.bytes) was now
+  pub pages : now.catalog.pages ≡ was.catalog.pages

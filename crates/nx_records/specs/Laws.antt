@@ -1,5 +1,5 @@
 -- The laws of records.
-use Rattle.std.specs.Prelude.{◌≡◌, ℕ, List, length, nat_lt}
+use Rattle.std.specs.Prelude.{◌≡◌, ℕ, List, [], length, nat_lt}
 use Rattle.nx_host.specs.declared.disk.Disk.{Ghosts}
 use Rattle.nx_host.specs.Still.{IsStill}
 use Rattle.nx_replay.specs.Log.{Pages}
@@ -21,6 +21,7 @@ pub record IsAbandoned (old new : Records) : Type 0 where
   pub follows : FollowsOn old new
   pub none_left : HasNoChanges new
   pub saved : (new.saved ≡ old.saved) × (new.head ≡ old.saved)
+  pub forgets : new.catalog_pages ≡ []
   pub stays : has_ended new ≡ has_ended old
 
 -- Then what the last commit holds is what the records stand for.

@@ -7,5 +7,7 @@ pub mod Refusals
 pub mod Reading
 pub mod Pages
 pub mod Chains
+pub mod Within
+pub mod Patching
 pub mod First
 pub mod Laws

@@ -77,6 +77,7 @@ numbered number h = record h { format = newest_format; number = number }
 pub record PutsPage (page : ℕ) (bytes : List ℕ) (old new : Records) : Type 0 where
   pub head : new.head ≡ numbered (next_number old) old.head
   pub waits : (p : ℕ) → waiting new p ≡ with_page (waiting old) page bytes p
+  pub known : new.catalog_pages ≡ old.catalog_pages
 
 -- The page was taken from the free list, or was the first that was never used.
 pub record IsFirstFree (pages : Pages) (page : ℕ) (was now : Header) : Type 0 where

@@ -1,5 +1,5 @@
 -- What records and their disk stand for.
-use Rattle.std.specs.Prelude.{◌≡◌, ◌≢◌, ◌==◌, if◌then◌else◌, nat_lt, ℕ, Bool, true, false, List, [], length}
+use Rattle.std.specs.Prelude.{◌≡◌, ◌≢◌, ◌⊎◌, ◌==◌, if◌then◌else◌, nat_lt, ℕ, Bool, true, false, List, [], length}
 use Rattle.nx_host.specs.Disk.{Image}
 use Rattle.nx_host.specs.declared.disk.Disk.{Ghosts}
 use Rattle.nx_replay.specs.Log.{Pages, groups, end_of, entry_pages, replay, HasMark}
@@ -87,14 +87,27 @@ HasHeader image = HasMark (replay image)
 abbrev pub FollowsOn : Records → Records → Type 0
 FollowsOn old new = (log : List ℕ) → Follows old.wal log → Follows new.wal log
 
--- What a call that only reads leaves of records: the log that they follow, the changes that wait for a commit, the headers, and whether they have ended.
+-- What a call that only reads leaves of records: the log that they follow, the changes that wait for a commit, the headers, the pages of the catalog that are known, and whether they have ended.
 pub record LeavesRecords (old new : Records) : Type 0 where
   pub follows : FollowsOn old new
   pub changes_stay : pending new.wal ≡ pending old.wal
   pub saved_stays : new.saved ≡ old.saved
   pub head_stays : new.head ≡ old.head
+  pub known_stay : new.catalog_pages ≡ old.catalog_pages
   pub ended_stays : has_ended new ≡ has_ended old
   pub length_stays : log_length_of new ≡ log_length_of old
+
+-- pages that are known, if any are, are these
+abbrev pub AreKnown : (known pages : List ℕ) → Type 0
+AreKnown known pages = known ≢ [] → known ≡ pages
+
+-- on which pages the catalog stands is known
+abbrev pub KnowsCatalog : Records → Type 0
+KnowsCatalog records = records.catalog_pages ≢ []
+
+-- The pages of the catalog that were known still are, or none are.
+abbrev pub KeepsKnown : (old new : List ℕ) → Type 0
+KeepsKnown old new = (new ≡ old) ⊎ (new ≡ [])
 
 -- The records run, the disk stands as the last call left it, and the last commit holds this.
 pub record HasSaved {D : Type 0} (d : Ghosts D) (records : Records) (disk : D) (saved : Held) : Type 0 where
@@ -107,6 +120,7 @@ pub record HasSaved {D : Type 0} (d : Ghosts D) (records : Records) (disk : D) (
 pub record StandsFor {D : Type 0} (d : Ghosts D) (records : Records) (disk : D) (saved now : Held) : Type 0 where
   pub keeps : HasSaved d records disk saved
   pub holds : HoldsBy (current_pages records keeps.image) records.head now
+  pub known : AreKnown records.catalog_pages now.catalog.pages
 
 -- What the last commit holds is left.
 abbrev pub KeepsSaved : {D : Type 0} → Ghosts D → Records → Records → D → D → Type 0
@@ -119,6 +133,7 @@ pub record KeepsLog (old new : Records) : Type 0 where
   pub saved : new.saved ≡ old.saved
   pub length_stays : log_length_of new ≡ log_length_of old
   pub settings_stay : settings_of new ≡ settings_of old
+  pub known : KeepsKnown old.catalog_pages new.catalog_pages
 
 -- Of what they stood for, the records now stand for something that came of it so.
 abbrev pub ComesTo : {D : Type 0} → Ghosts D → Records → Records → D → D → (Held → Held → Type 0) → Type 0

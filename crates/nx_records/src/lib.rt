@@ -10,6 +10,7 @@ mod first;
 pub mod laws;
 mod lists;
 mod pages;
+mod patching;
 mod reading;
 mod records;
 mod rewriting;

@@ -60,7 +60,7 @@ impl Records {
         ensures reads { D.reads disk.new ≤ D.reads disk.old + chain_count (catalog_length_of self.old) }
         ensures reads_pages { D.reads disk.new ≤ D.reads disk.old + page_count_of self.old }
         ensures ok { IfOk result (λ bytes. (has_ended self.old ≡ false) × LeavesRecords self.old self.new × (length bytes ≡ catalog_length_of self.old)
-            × ((saved now : Held) → StandsFor D.Disk self.old disk.old saved now → now.catalog ≡ bytes)) }
+            × ((saved now : Held) → StandsFor D.Disk self.old disk.old saved now → now.catalog.bytes ≡ bytes)) }
         ensures refused { IfErr result (λ e. NotRead D.Disk (λ now. ⊥) 0 e self.old self.new disk.old disk.new) }
     {
         if self.ended {
@@ -191,7 +191,7 @@ impl Records {
         ensures reads_pages { D.reads disk.new ≤ D.reads disk.old + (page_count_of self.old + chain_count (length bytes.now)) }
         ensures ok { OnOk result (ComesTo D.Disk self.old self.new disk.old disk.new (λ was now. SetsCatalog bytes.now was now)) }
         ensures in_place { OnOk result (chain_count (catalog_length_of self.old) ≡ chain_count (length bytes.now) → TakesNoPage self.old self.new × ((self.new.head).catalog ≡ (self.old.head).catalog)) }
-        ensures alone { OnOk result ((saved now : Held) (stands : StandsFor D.Disk self.old disk.old saved now) → chain_count (length now.catalog) ≡ chain_count (length bytes.now) → PutsChangedAlone self.old self.new (stands.keeps).image) }
+        ensures alone { OnOk result ((saved now : Held) (stands : StandsFor D.Disk self.old disk.old saved now) → chain_count (length now.catalog.bytes) ≡ chain_count (length bytes.now) → PutsChangedAlone self.old self.new (stands.keeps).image) }
         ensures keeps { OnOk result (RunsOn self.old self.new × KeepsSaved D.Disk self.old self.new disk.old disk.new × HasChanges self.new) }
         ensures refused { IfErr result (λ e. NotStored D.Disk (λ was. catalog_needs bytes.now was) (λ was. ⊥) 0 e self.old self.new disk.old disk.new) }
     {

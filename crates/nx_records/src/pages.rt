@@ -208,6 +208,7 @@ impl Records {
             × ((was : Image) → current self.new.wal was ≡ with_page (current self.old.wal was) page bytes.now.bytes)) }
         ensures waits { OnOk result (entry_pages (pending self.new.wal) page ≡ Some bytes.now.bytes) }
         ensures puts { OnOk result (PutsPage page bytes.now.bytes self.old self.new) }
+        ensures known { self.new.catalog_pages ≡ self.old.catalog_pages }
         ensures refused { IfErr result (λ e. e ≡ StoreError.Memory) }
     {
         let Ok(_) = self.wal.put(page, bytes) else {
@@ -225,6 +226,7 @@ impl Records {
         ensures ok { OnOk result ((self.new.head ≡ numbered (next_number self.old) self.old.head) × (pending self.new.wal ≢ [])
             × ((was : Image) → current self.new.wal was ≡ with_page (current self.old.wal was) 0 (header_bytes self.new.head))) }
         ensures beside { OnOk result ((p : ℕ) → p ≢ 0 → waiting self.new p ≡ waiting self.old p) }
+        ensures known { self.new.catalog_pages ≡ self.old.catalog_pages }
         ensures refused { IfErr result (λ e. e ≡ StoreError.Memory) }
     {
         begin(&mut self.head, self.saved.number);
@@ -242,6 +244,7 @@ impl Records {
         ensures ok { OnOk result ((self.new.head ≡ self.old.head) × (pending self.new.wal ≢ [])
             × ((was : Image) → current self.new.wal was ≡ with_page (current self.old.wal was) 0 (header_bytes self.new.head))) }
         ensures beside { OnOk result ((p : ℕ) → p ≢ 0 → waiting self.new p ≡ waiting self.old p) }
+        ensures known { self.new.catalog_pages ≡ self.old.catalog_pages }
         ensures refused { IfErr result (λ e. e ≡ StoreError.Memory) }
     {
         let page = header_page(&self.head);

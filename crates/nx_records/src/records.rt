@@ -42,6 +42,8 @@ pub struct Records {
     pub(crate) head: Header,
     // The header whose page waits for a commit, where it is known.
     pub(crate) waiting_head: Option<Header>,
+    // The pages on which the catalog stands, in their order; none where they aren't known.
+    pub(crate) catalog_pages: List<u32>,
     pub(crate) ended: bool,
     // Room for a page that is read, whatever stands there.
     pub(crate) spare: Cell<Option<Box<PageBytes>>>,
@@ -95,6 +97,7 @@ impl Records {
             saved: header,
             head: header,
             waiting_head: None,
+            catalog_pages: List::new(alloc),
             ended: false,
             spare: Cell::new(None),
             alloc,
@@ -139,6 +142,7 @@ impl Records {
             saved: header,
             head: header,
             waiting_head: None,
+            catalog_pages: List::new(alloc),
             ended: false,
             spare: Cell::new(None),
             alloc,
@@ -341,11 +345,13 @@ impl Records {
         ensures follows { FollowsOn self.old self.new }
         ensures none_left { HasNoChanges self.new }
         ensures saved { (self.new.saved ≡ self.old.saved) × (self.new.head ≡ self.old.saved) }
+        ensures forgets { self.new.catalog_pages ≡ [] }
         ensures stays { (has_ended self.new ≡ has_ended self.old) × (log_length_of self.new ≡ log_length_of self.old) }
     {
         self.waiting_head = None;
         self.wal.abandon();
         self.head = self.saved;
+        self.catalog_pages.clear();
     }
 
     /// Moves the pages of the log to the pages area, and empties the log. Nothing was changed since the

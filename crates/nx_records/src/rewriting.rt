@@ -30,7 +30,7 @@ impl Records {
     ghost use Rattle.nx_records.specs.Chains.{HasLink, LinksStepTo, NotLed, NotGivenBack, SetsLink, MayChange, IsChainOf, IsRewritten};
 
     // Puts a chain page with this next page and this content, where it has another content.
-    fn put_over(
+    pub(crate) fn put_over(
         &mut self,
         page: u32,
         next: u32,
@@ -43,6 +43,7 @@ impl Records {
         requires few { length content.now ≤ page_room }
         ensures keeps { KeepsLog self.old self.new }
         ensures ok { OnOk result (SetsLink page next had.now content.now self.old self.new) }
+        ensures known { self.new.catalog_pages ≡ self.old.catalog_pages }
         ensures refused { IfErr result (λ e. e ≡ StoreError.Memory) }
     {
         if had == content {

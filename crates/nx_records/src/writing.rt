@@ -161,9 +161,11 @@ impl Records {
     pub(crate) fn name_catalog(&mut self, first: u32, len: u64)
         requires { 8 ≤ len }
         ensures head { self.new.head ≡ with_catalog first len self.old.head }
+        ensures forgets { self.new.catalog_pages ≡ [] }
         ensures stays { (self.new.wal ≡ self.old.wal) × (self.new.saved ≡ self.old.saved) × (has_ended self.new ≡ has_ended self.old) }
     {
         self.head.catalog = first;
         self.head.catalog_length = len;
+        self.catalog_pages.clear();
     }
 }

@@ -215,9 +215,9 @@ module _ {pages : Pages} {head : Header} {held : Held} (by : HoldsBy pages head 
     once = λ p. (let all = parts p in omega (arith, all));
   }
 
-  at_catalog : IsListOf pages [] head.catalog head.catalog_length (links_at (cs by) head.catalog) × (content_of (links_at (cs by) head.catalog) ≡ held.catalog)
+  at_catalog : IsListOf pages [] head.catalog head.catalog_length (links_at (cs by) head.catalog) × (content_of (links_at (cs by) head.catalog) ≡ held.catalog.bytes)
   at_catalog =
-      let at = at_list by head.catalog held.catalog by.behind.catalog in
+      let at = at_list by head.catalog held.catalog.bytes by.behind.catalog in
       (subst (λ (n : ℕ). IsListOf pages [] head.catalog n (links_at (cs by) head.catalog)) by.behind.catalog_length at.0, at.1)
 
   -- no list of a record uses a page of the catalog

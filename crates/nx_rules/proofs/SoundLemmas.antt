@@ -7,7 +7,7 @@ use Rattle.nx_chain.specs.Chain.{chain_bytes}
 use Rattle.nx_replay.specs.Log.{Pages}
 use Rattle.nx_holdings.specs.declared.header.Header.{Header}
 use Rattle.nx_holdings.specs.Header.{header_bytes}
-use Rattle.nx_holdings.specs.Holdings.{times, free_bytes, record_in, IsFreeList, Link, IsLink, next_of, AreLinked, Chain, links_of, content_of, pages_of_links, pages_of_chains, list_at, IsUsed, Shares, IsShared, Held, HoldsBy}
+use Rattle.nx_holdings.specs.Holdings.{times, free_bytes, record_in, IsFreeList, Link, IsLink, next_of, AreLinked, Chain, links_of, content_of, pages_of_links, pages_of_chains, list_at, pages_at, IsUsed, Shares, IsShared, Held, HoldsBy}
 use Rattle.nx_holdings.proofs.DenseLemmas.{AreChains}
 use Rattle.nx_holdings.proofs.ChainLemmas.{same_bytes}
 use Rattle.nx_holdings.proofs.HeldLemmas.{header_kind, free_kind, chain_kind}
@@ -297,7 +297,7 @@ module _ {pages : Pages} {tour : Tour} (whole : IsWholeTour pages tour) where
     settings = tour.head.settings;
     records = λ page slot. record_in (pages page) slot;
     lists = λ page. if page == tour.head.catalog then None else list_at (tour_chains tour) page;
-    catalog = content_of tour.catalog;
+    catalog = record { bytes = content_of tour.catalog; pages = pages_of_links tour.catalog };
     free = length tour.free + (tour.head.settings.limit - tour.head.pages);
   }
 
@@ -308,6 +308,14 @@ module _ {pages : Pages} {tour : Tour} (whole : IsWholeTour pages tour) where
       let first : c.head.page ≡ tour.head.catalog = sym (ap next_of c.are) ∙ c.first_is in
       subst (λ l. list_at (chains_with l (visit_chains tour.visits)) tour.head.catalog ≡ Some (content_of l)) (sym c.are)
       (ap (λ b. if b then Some (content_of (c.head ∷ c.tail)) else list_at (visit_chains tour.visits) tour.head.catalog) (eq-eqb tour.head.catalog c.head.page (sym first)))
+
+  pub catalog_places : pages_at (tour_chains tour) tour.head.catalog ≡ pages_of_links tour.catalog
+  unfolding tour_chains
+  catalog_places =
+      let c = is_chain pages [] tour.head.catalog tour.head.catalog_length tour.catalog whole.kept.list in
+      let first : c.head.page ≡ tour.head.catalog = sym (ap next_of c.are) ∙ c.first_is in
+      subst (λ l. pages_at (chains_with l (visit_chains tour.visits)) tour.head.catalog ≡ pages_of_links l) (sym c.are)
+      (ap (λ b. if b then pages_of_links (c.head ∷ c.tail) else pages_at (visit_chains tour.visits) tour.head.catalog) (eq-eqb tour.head.catalog c.head.page (sym first)))
 
   -- Pages that keep all rules are sound.
   pub sound_pages : HoldsBy pages tour.head held_of
@@ -323,6 +331,7 @@ module _ {pages : Pages} {tour : Tour} (whole : IsWholeTour pages tour) where
       records = λ page slot. refl;
       lists = λ page. refl;
       catalog = catalog_chain;
+      catalog_pages = catalog_places;
       catalog_length = (is_chain pages [] tour.head.catalog tour.head.catalog_length tour.catalog whole.kept.list).sized;
       free = refl;
     };

@@ -60,7 +60,7 @@ all_shown stock (s ∷ one) (t ∷ other) h g e =
 
 module _ {held : Held} {state other : State} (h : HoldsState held state) (g : HoldsState held other) where
   contents_same : h.contents ≡ g.contents
-  contents_same = one_contents held.catalog h.contents g.contents h.catalog g.catalog
+  contents_same = one_contents held.catalog.bytes h.contents g.contents h.catalog g.catalog
 
   entered_same : map entered h.stored ≡ map entered g.stored
   entered_same = sym h.names ∙ ap (λ (c : Contents). entries c.documents) contents_same ∙ g.names

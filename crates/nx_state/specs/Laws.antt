@@ -63,7 +63,7 @@ pub record LeavesFree (held : Held) (stored : List StoredDocument) : Type 0 wher
   pub few_chains : 254 * chains ≤ records
   pub few_contents : contents ≤ sum (map (λ s. tree_pages (tree_of s.document)) stored)
   pub few_documents : 2 * length stored ≤ sum (map (λ s. document_size s.document) stored)
-  pub free : (held.settings).limit ≤ held.free + (1 + records + chains + contents + chain_count (length held.catalog))
+  pub free : (held.settings).limit ≤ held.free + (1 + records + chains + contents + chain_count (length held.catalog.bytes))
 
 abbrev pub DocumentsLeaveFree : Type 0
 DocumentsLeaveFree = (pages : Pages) (held : Held) (stored : List StoredDocument) → Holds pages held → HoldsDocuments held stored → LeavesFree held stored

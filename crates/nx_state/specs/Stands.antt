@@ -54,7 +54,7 @@ pub record HoldsState (held : Held) (state : State) : Type 0 where
   pub stored : List StoredDocument
   pub holds : HoldsDocuments held stored
   pub contents : Contents
-  pub catalog : IsCatalog held.catalog contents
+  pub catalog : IsCatalog held.catalog.bytes contents
   pub names : entries contents.documents ≡ map (λ s. (s.name, s.entry)) stored
   pub documents : entries state.documents ≡ map (λ s. (s.name, s.document)) stored
   pub rules : contents.rules ≡ state.rules

@@ -214,13 +214,13 @@ fn cases(rt: &impl Abort, alloc: Global, story: Story, how: How) -> Result<u32, 
 // A store is made and used by two sessions.
 #[test]
 fn each_call_fails_once(rt: HostRuntime) -> Result<(), Fail> {
-    assert_eq!(rt; cases(&rt, rt.alloc(), SHORT, How::Once)?, 116);
+    assert_eq!(rt; cases(&rt, rt.alloc(), SHORT, How::Once)?, 118);
     Ok(())
 }
 
 #[test]
 fn the_host_stops_at_each_call(rt: HostRuntime) -> Result<(), Fail> {
-    assert_eq!(rt; cases(&rt, rt.alloc(), SHORT, How::Stop)?, 116);
+    assert_eq!(rt; cases(&rt, rt.alloc(), SHORT, How::Stop)?, 118);
     Ok(())
 }
 
@@ -233,13 +233,13 @@ fn each_emit_fails(rt: HostRuntime) -> Result<(), Fail> {
 // With a split, contents in lists, rules and drops.
 #[test]
 fn each_call_of_much_fails_once(rt: HostRuntime) -> Result<(), Fail> {
-    assert_eq!(rt; cases(&rt, rt.alloc(), LONG, How::Once)?, 159);
+    assert_eq!(rt; cases(&rt, rt.alloc(), LONG, How::Once)?, 164);
     Ok(())
 }
 
 #[test]
 fn the_host_stops_at_each_call_of_much(rt: HostRuntime) -> Result<(), Fail> {
-    assert_eq!(rt; cases(&rt, rt.alloc(), LONG, How::Stop)?, 159);
+    assert_eq!(rt; cases(&rt, rt.alloc(), LONG, How::Stop)?, 164);
     Ok(())
 }
 

@@ -1,5 +1,5 @@
 -- What a load is answered, and why it is not applied.
-use Rattle.std.proofs.Common.{◌≡◌, ℕ, List, false, refl, sym, ◌∙◌, subst, inl}
+use Rattle.std.proofs.Common.{◌≡◌, ℕ, List, [], false, refl, sym, ◌∙◌, subst, inl}
 use Rattle.std.specs.Prelude.{IsSome, Result, Ok, Err, IfOk, IfErr}
 use Rattle.std.proofs.lemmas.Bool.{false≢true}
 use Rattle.nx_host.specs.declared.disk.Disk.{Ghosts}
@@ -30,7 +30,7 @@ use Rattle.nx_store.proofs.StepLemmas.{full_answers}
 module _ {D : Type 0} (d : Ghosts D) where
   -- what was brought was dropped, so the store is where it was
   module _ (s0 s1 s2 : Store) (x0 x1 : D) (left : IsStoreLeft d s0 s1 x0 x1) (follows : FollowsOn s1.records s2.records) (none : HasNoChanges s2.records)
-      (heads : ((s2.records).saved ≡ (s1.records).saved) × ((s2.records).head ≡ (s1.records).saved)) (ended : has_ended s2.records ≡ has_ended s1.records) (catalog : s2.catalog ≡ s1.catalog) where
+      (heads : ((s2.records).saved ≡ (s1.records).saved) × ((s2.records).head ≡ (s1.records).saved) × ((s2.records).catalog_pages ≡ [])) (ended : has_ended s2.records ≡ has_ended s1.records) (catalog : s2.catalog ≡ s1.catalog) where
     pub left_at : (state : State) → IsAt d s0 x0 state → IsAt d s2 x1 state
     left_at state at = abandoned_at d s0 s1 s2 x0 x1 state follows none heads ended left.saved (catalog ∙ left.catalog) at
 
@@ -50,7 +50,7 @@ module _ {D : Type 0} (d : Ghosts D) where
 
   -- what the load is answered then
   module _ (s0 s1 s2 : Store) (x0 x1 : D) (follows : FollowsOn s1.records s2.records) (none : HasNoChanges s2.records)
-      (heads : ((s2.records).saved ≡ (s1.records).saved) × ((s2.records).head ≡ (s1.records).saved)) (ended : has_ended s2.records ≡ has_ended s1.records) (catalog : s2.catalog ≡ s1.catalog)
+      (heads : ((s2.records).saved ≡ (s1.records).saved) × ((s2.records).head ≡ (s1.records).saved) × ((s2.records).catalog_pages ≡ [])) (ended : has_ended s2.records ≡ has_ended s1.records) (catalog : s2.catalog ≡ s1.catalog)
       (name : List ℕ) (tree : OrderedTree) (parts : List Interval) (new : IsNew s0 name) (chosen : IsChosen s0 tree parts) (still : IsStill d x0 x1) where
     -- the store runs on
     stays_on : IsStoreLeft d s0 s1 x0 x1 → GoesOn s0 s2

@@ -32,6 +32,7 @@ module _ {D : Type 0} {d : Ghosts D} where
       holds = (stands.keeps).holds;
     };
     holds = stands.holds;
+    known = stands.known;
   }
 
   -- a store that was looked at is at the same state
@@ -41,7 +42,7 @@ module _ {D : Type 0} {d : Ghosts D} where
     stands = leaves_stand {r0 = s0.records} {r1 = s1.records} leaves.records still at.stands;
     none_waits = (leaves.records).changes_stay ∙ at.none_waits;
     state_is = at.state_is;
-    catalog = subst (λ (c : Contents). IsCatalog (at.held).catalog c) (sym leaves.catalog) at.catalog;
+    catalog = subst (λ (c : Contents). IsCatalog (at.held).catalog.bytes c) (sym leaves.catalog) at.catalog;
   }
 
   -- a store at a state runs
@@ -69,6 +70,7 @@ module _ {D : Type 0} {d : Ghosts D} where
         holds = ((at.stands).keeps).holds;
       };
       holds = (at.stands).holds;
+      known = (at.stands).known;
     };
     none_waits = at.none_waits;
     state_is = at.state_is;

@@ -1,5 +1,5 @@
 -- A command that came to its commit, or was refused before it.
-use Rattle.std.proofs.Common.{◌≡◌, ℕ, List, refl, sym, ◌∙◌, subst, inl, inr}
+use Rattle.std.proofs.Common.{◌≡◌, ℕ, List, [], refl, sym, ◌∙◌, subst, inl, inr}
 use Rattle.std.specs.Prelude.{◌⊎◌, ◌≢◌, ◌≤◌, Some, IsSome, Result, Ok, Err, IfOk, IfErr}
 use Rattle.nx_host.specs.Disk.{Image}
 use Rattle.nx_host.specs.declared.disk.Disk.{Ghosts}
@@ -60,7 +60,7 @@ module _ {D : Type 0} (d : Ghosts D) (command : Command) (other : command ≢ Ch
             stands = stands p.saved p.now image.0 p.stands image.1;
             none_waits = none;
             state_is = p.will;
-            catalog = subst (λ (c : Contents). IsCatalog (p.now).catalog c) (sym catalog) p.catalog;
+            catalog = subst (λ (c : Contents). IsCatalog (p.now).catalog.bytes c) (sym catalog) p.catalog;
           },
           commit_shows,
           log_grows d command state k.next s0 s1.records s2.records x0 x1 x2 g other short at still ((p.stands).keeps).image ((p.stands).keeps).step more step told,
@@ -68,7 +68,7 @@ module _ {D : Type 0} (d : Ghosts D) (command : Command) (other : command ≢ Ch
 
   -- what the command is answered that wasn't prepared
   module _ (s0 s1 s2 : Store) (x0 x1 : D) (follows : FollowsOn s1.records s2.records) (none : HasNoChanges s2.records)
-      (heads : ((s2.records).saved ≡ (s1.records).saved) × ((s2.records).head ≡ (s1.records).saved)) (ended : has_ended s2.records ≡ has_ended s1.records) (catalog : s2.catalog ≡ s1.catalog) (still : IsStill d x0 x1) where
+      (heads : ((s2.records).saved ≡ (s1.records).saved) × ((s2.records).head ≡ (s1.records).saved) × ((s2.records).catalog_pages ≡ [])) (ended : has_ended s2.records ≡ has_ended s1.records) (catalog : s2.catalog ≡ s1.catalog) (still : IsStill d x0 x1) where
     stays_on : IsStoreLeft d s0 s1 x0 x1 → GoesOn s0 s2
     stays_on left = ((left.runs).before, left_runs d s0 s1 s2 x0 x1 left follows none heads ended catalog)
 

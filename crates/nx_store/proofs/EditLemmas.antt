@@ -23,7 +23,7 @@ use Rattle.nx_weights.specs.Weight.{weight}
 use Rattle.nx_matrix.specs.declared.rule.Rule.{Rule}
 use Rattle.nx_wal.specs.Wal.{current}
 use Rattle.nx_holdings.specs.declared.header.Settings.{Settings}
-use Rattle.nx_holdings.specs.Holdings.{Held, chain_count}
+use Rattle.nx_holdings.specs.Holdings.{Held, OnPages, chain_count}
 use Rattle.nx_records.specs.declared.records.Records.{Records}
 use Rattle.nx_records.specs.declared.error.StoreError.{StoreError}
 use Rattle.nx_records.specs.declared.error.StoreError.TheVariants as below
@@ -52,6 +52,7 @@ use Rattle.nx_hold.specs.Pieces.{IsTidy, PieceMap, held_by}
 use Rattle.nx_hold.proofs.MapLemmas.{piece_map}
 use Rattle.nx_hold.proofs.RefusalLemmas.{runs_then, saved_then}
 use Rattle.nx_catalog.specs.Catalog.{Contents, Document, Entries, CanBeKept, IsCatalog, catalog_bytes}
+use Rattle.nx_catalog.specs.Saving.{SavesEntry}
 use Rattle.nx_catalog.proofs.LengthLemmas.{most_bytes, length_there}
 use Rattle.nx_state.specs.State.{State, document_size, all_nodes, all_pages}
 use Rattle.nx_state.specs.Stands.{StoredDocument, IsStoredIn, HoldsDocuments, record_places, all_places}
@@ -432,12 +433,15 @@ module _ {D : Type 0} (d : Ghosts D) (s0 : Store) (x0 : D) (state : State) (at :
       → OfEntry d s0.records x0 entry (λ now document layout. edit_fault e path (settings_of s0.records).k (tree_of document) ≡ None)
       → (r1 : Records) (s2 : Store) (x1 x2 : D) (new : DocEntry) → MakesEdit d s0.records r1 x0 x1 (s0.catalog).rules e path entry new
       → (s2.catalog).documents ≡ insert (s0.catalog).documents name new → (s2.catalog).rules ≡ (s0.catalog).rules
-      → (All HasLabels (s0.catalog).rules → IsCatalog (catalog_bytes s2.catalog) s2.catalog) → ComesTo d r1 s2.records x1 x2 (λ was now. SetsCatalog (catalog_bytes s2.catalog) was now)
+      → (All HasLabels (s0.catalog).rules → IsCatalog (catalog_bytes s2.catalog) s2.catalog) → ComesTo d r1 s2.records x1 x2 (λ was now. SavesEntry s0.catalog s2.catalog was now)
       → (made : Prepares d state (edit_command name path e) reply.Done s2 x2) × RecordsStay (IsLeftBy (edit_command name path e)) (at.state_is).stored at.held (made.prepared).now
   edit_prepared path e can free r1 s2 x1 x2 new comes documents rules form saves =
       let mid = rewritten (s0.catalog).rules e path r1 x1 new comes in
       let m = mid.4 in
-      let now = saves at.held mid.0 mid.1 in
+      let came = saves at.held mid.0 mid.1 in
+      let was : (mid.0).catalog.bytes ≡ catalog_bytes s0.catalog = ap (λ (c : OnPages). c.bytes) m.catalog ∙ (at.catalog).spelled in
+      let now : (next : Held) × StandsFor d s2.records x2 at.held next × SetsCatalog (catalog_bytes s2.catalog) mid.0 next =
+      (came.0, came.1, subst (λ (b : List ℕ). SetsCatalog b mid.0 came.0) ((came.2).saves was) (came.2).sets) in
       let formed = form (at.catalog).labels in
       let becomes : EditBecomes state.settings state.rules e path old.document mid.2 =
       subst (λ (s : Settings). EditBecomes s state.rules e path old.document mid.2) (at.state_is).settings (subst (λ (rs : List Rule). EditBecomes (at.held).settings rs e path old.document mid.2) rules_at mid.3) in (
@@ -472,7 +476,7 @@ module _ {D : Type 0} (d : Ghosts D) (s0 : Store) (x0 : D) (state : State) (at :
   entry_fits r1 x1 new rules e path comes lacks =
       let mid = rewritten rules e path r1 x1 new comes in
       let same = length_there (s0.catalog).documents (s0.catalog).rules name new (ap is_some there) in
-      let was : length (mid.0).catalog ≡ length (catalog_bytes s0.catalog) = ap (λ (b : List ℕ). length b) ((mid.4).catalog ∙ (at.catalog).spelled) in
+      let was : length (mid.0).catalog.bytes ≡ length (catalog_bytes s0.catalog) = ap (λ (c : OnPages). length c.bytes) (mid.4).catalog ∙ ap (λ (b : List ℕ). length b) (at.catalog).spelled in
       none_needed mid.0 (catalog_bytes (record { documents = insert (s0.catalog).documents name new; rules = (s0.catalog).rules })) (omega (arith, same, was)) (lacks at.held mid.0 mid.1)
 
   -- what is counted of it is among what is counted of all
@@ -493,16 +497,16 @@ module _ {D : Type 0} (d : Ghosts D) (s0 : Store) (x0 : D) (state : State) (at :
       let all = free.few_records in
       let chains = free.few_chains in
       let listed = free.few_contents in
-      let whole : ((at.held).settings).limit ≤ (at.held).free + (1 + free.records + free.chains + free.contents + chain_count (length (at.held).catalog)) = free.free in
+      let whole : ((at.held).settings).limit ≤ (at.held).free + (1 + free.records + free.chains + free.contents + chain_count (length (at.held).catalog.bytes)) = free.free in
       let two = free.few_documents in
       let total = nodes_stored state state_is.stored state_is.documents in
       let long = pages_stored state state_is.stored state_is.documents in
       let limit : ((at.held).settings).limit ≡ (state.settings).limit = ap (λ (t : Settings). t.limit) state_is.settings in
-      let short = most_bytes (at.held).catalog state_is.contents state_is.catalog in
+      let short = most_bytes (at.held).catalog.bytes state_is.contents state_is.catalog in
       let number : length (entries (state_is.contents).documents) ≡ length state_is.stored = ap length state_is.names ∙ length-map state_is.stored (λ (s : StoredDocument). (s.name, s.entry)) in
       let rules : length (state_is.contents).rules ≡ length state.rules = ap length state_is.rules in
       edit_room (all_nodes state) behind (document_size old.document) new (all_pages state) pages_behind (tree_pages (tree_of old.document)) has put free.records free.chains free.contents (length state_is.stored)
-      (length (at.held).catalog) (length state.rules) (at.held).free (state.settings).limit (omega (arith, whole, limit)) (omega (arith, all, total)) chains (omega (arith, listed, long)) (omega (arith, two, total))
+      (length (at.held).catalog.bytes) (length state.rules) (at.held).free (state.settings).limit (omega (arith, whole, limit)) (omega (arith, all, total)) chains (omega (arith, listed, long)) (omega (arith, two, total))
       (omega (arith, short, number, rules)) (among_all document_size) counted (among_all (λ (document : CutTree). tree_pages (tree_of document))) told within few
 
 -- ---- why an edit wasn't prepared

@@ -50,7 +50,7 @@ module _ {D : Type 0} (d : Ghosts D) where
     stands = leaves_stand {r0 = s0.records} {r1 = s1.records} records none_still (stands_kept gives.contents_stay told (λ i. (gives.images_stay i).0) at.stands);
     none_waits = records.changes_stay ∙ at.none_waits;
     state_is = at.state_is;
-    catalog = subst (λ (c : Contents). IsCatalog (at.held).catalog c) (sym catalog) at.catalog;
+    catalog = subst (λ (c : Contents). IsCatalog (at.held).catalog.bytes c) (sym catalog) at.catalog;
   }
 
   pub gives_within : (s : Store) (x0 x1 : D) (state : State) (bytes : List ℕ) → IsAt d s x0 state → GivesWithin d bytes x0 x1 → ShowsGiven d bytes state x0 x1

@@ -85,7 +85,7 @@ module _ {D : Type 0} {d : Ghosts D} where
   -- the catalog in memory has an entry for each document
   pub at_entries : {store : Store} {x : D} {state : State} (at : IsAt d store x state) → entries (store.catalog).documents ≡ map (λ (s : StoredDocument). (s.name, s.entry)) (at.state_is).stored
   at_entries {store = store} at =
-      ap (λ (c : Contents). entries c.documents) (sym (one_contents (at.held).catalog (at.state_is).contents store.catalog (at.state_is).catalog at.catalog)) ∙ (at.state_is).names
+      ap (λ (c : Contents). entries c.documents) (sym (one_contents (at.held).catalog.bytes (at.state_is).contents store.catalog (at.state_is).catalog at.catalog)) ∙ (at.state_is).names
 
   -- the catalog has no such name, and no document has it
   pub at_none : {store : Store} {x : D} {state : State} (name : List ℕ) → IsAt d store x state → get (store.catalog).documents name ≡ None → get state.documents name ≡ None

@@ -10,7 +10,7 @@ use Rattle.std.proofs.lemmas.List.Sorted.{Contains-permutation, IsPermutation-sy
 use Rattle.nx_host.specs.declared.disk.Disk.{Ghosts}
 use Rattle.nx_host.specs.Still.{IsStill}
 use Rattle.nx_host.proofs.DiskLemmas.{untold}
-use Rattle.nx_holdings.specs.Holdings.{Held, chain_count}
+use Rattle.nx_holdings.specs.Holdings.{Held, OnPages, chain_count}
 use Rattle.nx_records.specs.declared.records.Records.{Records}
 use Rattle.nx_records.specs.declared.error.StoreError.{StoreError}
 use Rattle.nx_records.specs.declared.error.StoreError.TheVariants as below
@@ -74,8 +74,8 @@ one_of P [] s after h = All-head P s after h
 one_of P (t ∷ before) s after h = one_of P before s after (All-tail P t (before ++ s ∷ after) h)
 
 -- a catalog that is no longer needs no page
-pub none_needed : (mid : Held) (bytes : List ℕ) → length bytes ≤ length mid.catalog → mid.free < catalog_needs bytes mid → ⊥
-none_needed mid bytes short few = let less = fewer (length bytes) (length mid.catalog) short in omega (arith, few, less)
+pub none_needed : (mid : Held) (bytes : List ℕ) → length bytes ≤ length mid.catalog.bytes → mid.free < catalog_needs bytes mid → ⊥
+none_needed mid bytes short few = let less = fewer (length bytes) (length mid.catalog.bytes) short in omega (arith, few, less)
   where
     fewer : (m n : ℕ) → m ≤ n → chain_count m ≤ chain_count n
     fewer m n le = let f = mul-div-le (m + 8183) 8184 in le-div (chain_count m) (n + 8183) 8184 (omega arith) (omega (arith, f, le))
@@ -103,7 +103,7 @@ record IsGone (saved mid : Held) (state : State) (contents : Contents) (name : L
 
 module _ {D : Type 0} (d : Ghosts D) (s0 : Store) (x0 : D) (state : State) (at : IsAt d s0 x0 state) (name : List ℕ) (entry : DocEntry) (there : get (s0.catalog).documents name ≡ Some entry) where
   pub contents_at : (at.state_is).contents ≡ s0.catalog
-  contents_at = one_contents (at.held).catalog (at.state_is).contents s0.catalog (at.state_is).catalog at.catalog
+  contents_at = one_contents (at.held).catalog.bytes (at.state_is).contents s0.catalog (at.state_is).catalog at.catalog
 
   pub entries_at : entries (s0.catalog).documents ≡ map (λ (s : StoredDocument). (s.name, s.entry)) (at.state_is).stored
   entries_at = ap (λ (c : Contents). entries c.documents) (sym contents_at) ∙ (at.state_is).names
@@ -212,7 +212,7 @@ module _ {D : Type 0} (d : Ghosts D) (s0 : Store) (x0 : D) (state : State) (at :
   room_behind r1 x1 comes lacks =
       let mid = gone r1 x1 comes in
       let less = length_less (s0.catalog).documents (s0.catalog).rules name (ap is_some there) in
-      let was : length (mid.0).catalog ≡ length (catalog_bytes s0.catalog) = ap (λ (b : List ℕ). length b) ((mid.2).catalog ∙ (at.catalog).spelled) in
+      let was : length (mid.0).catalog.bytes ≡ length (catalog_bytes s0.catalog) = ap (λ (c : OnPages). length c.bytes) (mid.2).catalog ∙ ap (λ (b : List ℕ). length b) (at.catalog).spelled in
       none_needed mid.0 (catalog_bytes (record { documents = remove (s0.catalog).documents name; rules = (s0.catalog).rules })) (omega (arith, less, was)) (lacks at.held mid.0 mid.1)
 
 -- Why a document wasn't taken away.

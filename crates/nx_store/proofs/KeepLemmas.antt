@@ -1,5 +1,5 @@
 -- What the steps of a load leave of a store, and what they are refused for.
-use Rattle.std.proofs.Common.{◌≡◌, ◌⊎◌, ℕ, ◌+◌, ◌-◌, ◌^◌, ◌≤◌, min, List, length, None, inl, inr, true, false, sym, ap, ap₂, ◌∙◌, subst, arith}
+use Rattle.std.proofs.Common.{◌≡◌, ◌⊎◌, ℕ, ◌+◌, ◌-◌, ◌^◌, ◌≤◌, min, List, [], length, None, inl, inr, true, false, sym, ap, ap₂, ◌∙◌, subst, arith}
 use Rattle.std.specs.Prelude.{All, Result, Ok, Err, IfErr}
 use Rattle.std.specs.FinMap.{entries, get, insert, remove}
 use Rattle.std.proofs.lemmas.Bool.{false≢true}
@@ -58,14 +58,14 @@ later_rose n m k later rose = let rose : min (m + 1) (2 ^ 64 - 1) ≤ k = rose i
 module _ {D : Type 0} (d : Ghosts D) where
   -- what was changed was dropped
   pub abandoned_at : (s0 s1 s2 : Store) (x0 x1 : D) (state : State) → FollowsOn s1.records s2.records → HasNoChanges s2.records
-      → ((s2.records).saved ≡ (s1.records).saved) × ((s2.records).head ≡ (s1.records).saved) → has_ended s2.records ≡ has_ended s1.records
+      → ((s2.records).saved ≡ (s1.records).saved) × ((s2.records).head ≡ (s1.records).saved) × ((s2.records).catalog_pages ≡ []) → has_ended s2.records ≡ has_ended s1.records
       → KeepsSaved d s0.records s1.records x0 x1 → s2.catalog ≡ s0.catalog → IsAt d s0 x0 state → IsAt d s2 x1 state
   abandoned_at s0 s1 s2 x0 x1 state follows none heads ended keeps catalog at = record {
     held = at.held;
-    stands = abandon_stands {r0 = s1.records} {r1 = s2.records} follows none heads ended (keeps at.held (at.stands).keeps);
+    stands = abandon_stands {r0 = s1.records} {r1 = s2.records} follows none (heads.0, heads.1) heads.2 ended (keeps at.held (at.stands).keeps);
     none_waits = none;
     state_is = at.state_is;
-    catalog = subst (λ (c : Contents). IsCatalog (at.held).catalog c) (sym catalog) at.catalog;
+    catalog = subst (λ (c : Contents). IsCatalog (at.held).catalog.bytes c) (sym catalog) at.catalog;
   }
 
   module _ (s0 : Store) (x0 : D) (state : State) (at : IsAt d s0 x0 state) where
@@ -105,7 +105,7 @@ module _ {D : Type 0} (d : Ghosts D) where
             stands = now.1;
             was = at.state_is;
             will = set_state at.held mid now.0 state s0.catalog c1 at.state_is name tree parts entry at.catalog b documents rules formed now.2;
-            catalog = subst (λ (c : Contents). IsCatalog (now.0).catalog c) (sym same) (subst (λ (bytes : List ℕ). IsCatalog bytes c1) (sym (now.2).catalog) formed);
+            catalog = subst (λ (c : Contents). IsCatalog (now.0).catalog.bytes c) (sym same) (subst (λ (bytes : List ℕ). IsCatalog bytes c1) (sym (now.2).catalog) formed);
           },
           catalog_leaves (IsLeftBy (Load name (Read tree))) (catalog_bytes c1) at.held mid now.0 (at.state_is).stored now.2 b.stay,
         )

@@ -45,10 +45,10 @@ document_in s = s.document
 abbrev name_in : StoredDocument → List ℕ
 name_in s = s.name
 
-module _ (saved : Held) (state : State) (contents : Contents) (at : HoldsState saved state) (catalog : IsCatalog saved.catalog contents) (name : List ℕ) (none : get contents.documents name ≡ None) where
+module _ (saved : Held) (state : State) (contents : Contents) (at : HoldsState saved state) (catalog : IsCatalog saved.catalog.bytes contents) (name : List ℕ) (none : get contents.documents name ≡ None) where
   -- the catalog is that of the documents
   contents_are : at.contents ≡ contents
-  contents_are = one_contents saved.catalog at.contents contents at.catalog catalog
+  contents_are = one_contents saved.catalog.bytes at.contents contents at.catalog catalog
 
   entries_are : entries contents.documents ≡ map (λ (s : StoredDocument). (s.name, s.entry)) at.stored
   entries_are = ap (λ (c : Contents). entries c.documents) (sym contents_are) ∙ at.names
@@ -83,9 +83,9 @@ module _ (saved : Held) (state : State) (contents : Contents) (at : HoldsState s
   rules_are = ap (λ (c : Contents). length c.rules) (sym contents_are) ∙ ap length at.rules
 
   -- the bytes of the catalog are few
-  catalog_short : length saved.catalog ≤ 8 + 267 * length at.stored + 2053 * length state.rules
+  catalog_short : length saved.catalog.bytes ≤ 8 + 267 * length at.stored + 2053 * length state.rules
   catalog_short =
-      let short = most_bytes saved.catalog at.contents at.catalog in
+      let short = most_bytes saved.catalog.bytes at.contents at.catalog in
       let number : length (entries (at.contents).documents) ≡ length at.stored = ap length at.names ∙ length-map at.stored (λ (s : StoredDocument). (s.name, s.entry)) in
       let rules : length (at.contents).rules ≡ length state.rules = ap length at.rules in
       omega (arith, short, number, rules)
@@ -106,7 +106,7 @@ pub record IsBrought (saved now : Held) (state : State) (contents : Contents) (a
   pub pages : sum (map (λ (s : StoredDocument). tree_pages (tree_of s.document)) stored) ≡ all_pages state + tree_pages tree
   pub stay : (s : StoredDocument) (place : RecordPlace) → Contains at.stored s → Contains (record_places s) place → RecordStays saved now place
 
-module _ (saved now : Held) (state : State) (contents : Contents) (at : HoldsState saved state) (catalog : IsCatalog saved.catalog contents) (name : List ℕ) (none : get contents.documents name ≡ None) (tree : OrderedTree) (parts : List Interval)
+module _ (saved now : Held) (state : State) (contents : Contents) (at : HoldsState saved state) (catalog : IsCatalog saved.catalog.bytes contents) (name : List ℕ) (none : get contents.documents name ≡ None) (tree : OrderedTree) (parts : List Interval)
     (page slot count : ℕ) (stores : StoresDocument tree parts (record { page = page; slot = slot }) saved now) where
   abbrev new_document : StoredDocument
   new_document = record { name = name; entry = record { root = record { page = page; slot = slot }; nodes = count }; document = stores.document; layout = stores.layout }
@@ -148,7 +148,7 @@ module _ (saved now : Held) (state : State) (contents : Contents) (at : HoldsSta
 
 -- With the catalog set, they hold the state with the document.
 module _ (saved mid now : Held) (state : State) (contents changed : Contents) (at : HoldsState saved state) (name : List ℕ) (tree : OrderedTree) (parts : List Interval) (entry : DocEntry)
-    (catalog : IsCatalog saved.catalog contents) (b : IsBrought saved mid state contents at name tree parts entry) (documents : changed.documents ≡ insert contents.documents name entry) (rules : changed.rules ≡ contents.rules)
+    (catalog : IsCatalog saved.catalog.bytes contents) (b : IsBrought saved mid state contents at name tree parts entry) (documents : changed.documents ≡ insert contents.documents name entry) (rules : changed.rules ≡ contents.rules)
     (form : IsCatalog (catalog_bytes changed) changed) where
   pub set_state : SetsCatalog (catalog_bytes changed) mid now → HoldsState now (with_document state name b.document)
   set_state sets = record {
@@ -159,7 +159,7 @@ module _ (saved mid now : Held) (state : State) (contents changed : Contents) (a
     catalog = subst (λ (bytes : List ℕ). IsCatalog bytes changed) (sym sets.catalog) form;
     names = ap (λ (m : FinMap name_order DocEntry). entries m) documents ∙ b.names;
     documents = b.documents;
-    rules = rules ∙ ap (λ (c : Contents). c.rules) (sym (one_contents saved.catalog at.contents contents at.catalog catalog)) ∙ at.rules;
+    rules = rules ∙ ap (λ (c : Contents). c.rules) (sym (one_contents saved.catalog.bytes at.contents contents at.catalog catalog)) ∙ at.rules;
   }
 
   -- there were too few pages for the catalog
@@ -171,19 +171,19 @@ module _ (saved mid now : Held) (state : State) (contents changed : Contents) (a
       let chains = free.few_chains in
       let listed = free.few_contents in
       let long = b.pages in
-      let whole : (mid.settings).limit ≤ mid.free + (1 + free.records + free.chains + free.contents + chain_count (length mid.catalog)) = free.free in
+      let whole : (mid.settings).limit ≤ mid.free + (1 + free.records + free.chains + free.contents + chain_count (length mid.catalog.bytes)) = free.free in
       let two = all_two (held_by (at.holds).pieces) at.stored (at.holds).each in
       let total = nodes_stored state at.stored at.documents in
       let short = most_bytes (catalog_bytes changed) changed form in
       let number : length (entries changed.documents) ≡ length at.stored + 1 =
       ap (λ (m : FinMap name_order DocEntry). length (entries m)) documents ∙ ap length b.names ∙ length-map b.stored (λ (s : StoredDocument). (s.name, s.entry)) ∙ b.number in
       let ruled : length changed.rules ≡ length state.rules =
-      ap length rules ∙ ap (λ (c : Contents). length c.rules) (sym (one_contents saved.catalog at.contents contents at.catalog catalog)) ∙ ap length at.rules in
+      ap length rules ∙ ap (λ (c : Contents). length c.rules) (sym (one_contents saved.catalog.bytes at.contents contents at.catalog catalog)) ∙ ap length at.rules in
       let limit : (mid.settings).limit ≡ (state.settings).limit = ap (λ (t : Settings). t.limit) (b.settings ∙ at.settings) in
-      save_room (all_nodes state) (1 + nodes tree.below) (all_pages state) (tree_pages tree) free.records free.chains free.contents (length at.stored) (length (catalog_bytes changed)) (length mid.catalog) (length state.rules) mid.free
+      save_room (all_nodes state) (1 + nodes tree.below) (all_pages state) (tree_pages tree) free.records free.chains free.contents (length at.stored) (length (catalog_bytes changed)) (length mid.catalog.bytes) (length state.rules) mid.free
       (state.settings).limit (omega (arith, whole, limit)) (omega (arith, all, sizes)) chains (omega (arith, listed, long)) (omega (arith, two, total)) (omega (arith, short, number, ruled)) few
 
-module _ (saved : Held) (state : State) (contents : Contents) (at : HoldsState saved state) (catalog : IsCatalog saved.catalog contents) (name : List ℕ) (none : get contents.documents name ≡ None) (tree : OrderedTree) where
+module _ (saved : Held) (state : State) (contents : Contents) (at : HoldsState saved state) (catalog : IsCatalog saved.catalog.bytes contents) (name : List ℕ) (none : get contents.documents name ≡ None) (tree : OrderedTree) where
   -- there were too few pages for the records and the contents
   pub store_full : (pages : Pages) → Holds pages saved → saved.free < store_needs tree → MayNotFit state tree
   store_full pages holds few =
@@ -191,11 +191,11 @@ module _ (saved : Held) (state : State) (contents : Contents) (at : HoldsState s
       let all = free.few_records in
       let chains = free.few_chains in
       let listed = free.few_contents in
-      let whole : (saved.settings).limit ≤ saved.free + (1 + free.records + free.chains + free.contents + chain_count (length saved.catalog)) = free.free in
+      let whole : (saved.settings).limit ≤ saved.free + (1 + free.records + free.chains + free.contents + chain_count (length saved.catalog.bytes)) = free.free in
       let total = nodes_stored state at.stored at.documents in
       let long = pages_stored state at.stored at.documents in
       let limit : (saved.settings).limit ≡ (state.settings).limit = ap (λ (t : Settings). t.limit) at.settings in
-      store_room (all_nodes state) (1 + nodes tree.below) (all_pages state) (tree_pages tree) free.records free.chains free.contents (length at.stored) (length saved.catalog) (length state.rules) saved.free (state.settings).limit
+      store_room (all_nodes state) (1 + nodes tree.below) (all_pages state) (tree_pages tree) free.records free.chains free.contents (length at.stored) (length saved.catalog.bytes) (length state.rules) saved.free (state.settings).limit
       (omega (arith, whole, limit)) (omega (arith, all, total)) chains (omega (arith, listed, long)) (two_each saved state contents at catalog name none) (catalog_short saved state contents at catalog name none) few
 
   -- there were as many documents as a catalog has

@@ -29,9 +29,9 @@ some_value None told = absurd (false≢true told)
 some_value (Some x) told = (x, refl)
 
 module _ {D : Type 0} {d : Ghosts D} (s0 : Store) (r1 : Records) (x0 : D) (follows : FollowsOn s0.records r1) (none : HasNoChanges r1)
-    (heads : (r1.saved ≡ (s0.records).saved) × (r1.head ≡ (s0.records).saved)) (ended : has_ended r1 ≡ has_ended s0.records) where
+    (heads : (r1.saved ≡ (s0.records).saved) × (r1.head ≡ (s0.records).saved) × (r1.catalog_pages ≡ [])) (ended : has_ended r1 ≡ has_ended s0.records) where
   dropped : (state : State) (at : IsAt d s0 x0 state) → StandsFor d r1 x0 at.held at.held
-  dropped state at = abandon_stands {r0 = s0.records} {r1 = r1} follows none heads ended (at.stands).keeps
+  dropped state at = abandon_stands {r0 = s0.records} {r1 = r1} follows none (heads.0, heads.1) heads.2 ended (at.stands).keeps
 
   -- at each moment each image is that of the state
   pub emptied_goes : (x1 : D) → WritesAlone d x0 x1 (λ i. (saved : Held) → HasSaved d r1 x0 saved → Holds (replay i) saved) → WritesAlone d x0 x1 (λ i. (state : State) → IsAt d s0 x0 state → IsOf state i)
@@ -47,7 +47,7 @@ module _ {D : Type 0} {d : Ghosts D} (s0 : Store) (r1 : Records) (x0 : D) (follo
         stands = stands at.held at.held image.0 (dropped state at) image.1;
         none_waits = none_left;
         state_is = at.state_is;
-        catalog = subst (λ (c : Contents). IsCatalog (at.held).catalog c) (sym catalog) at.catalog;
+        catalog = subst (λ (c : Contents). IsCatalog (at.held).catalog.bytes c) (sym catalog) at.catalog;
       }
 
   -- ... with all that it held

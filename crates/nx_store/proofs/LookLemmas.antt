@@ -67,7 +67,7 @@ module _ {D : Type 0} {d : Ghosts D} where
   -- the rules of the catalog are the answer to `rules`
   pub rules_answer : {store : Store} {x : D} {state : State} (r : Reply) → r ≡ reply.Rules (store.catalog).rules → IsAt d store x state → Step state Rules r state
   rules_answer {store} r is at =
-      let same = one_contents (at.held).catalog (at.state_is).contents store.catalog (at.state_is).catalog at.catalog in
+      let same = one_contents (at.held).catalog.bytes (at.state_is).contents store.catalog (at.state_is).catalog at.catalog in
       inl (is ∙ ap (λ (c : Contents). reply.Rules c.rules) (sym same) ∙ ap reply.Rules (at.state_is).rules, refl)
 
 -- the node that is shown is the answer to `get`

@@ -177,7 +177,7 @@ module _ {D : Type 0} (d : Ghosts D) where
   pub unopened_reads : (x0 x1 : D) (was : Image) → IfSome (d.contents x0) (λ w. d.reads x1 ≤ d.reads x0 + (3 * (length w.log / entry_size + 1) + 2)) → IsSettled d x0 was
       → ReadsOpening was (d.reads x0) (d.reads x1)
   unopened_reads x0 x1 was opened settled = record {
-    sound = λ held holds. opened_more x0 x1 x1 was (chain_count (length held.catalog)) opened settled.here (none_more (d.reads x1) (chain_count (length held.catalog)));
+    sound = λ held holds. opened_more x0 x1 x1 was (chain_count (length held.catalog.bytes)) opened settled.here (none_more (d.reads x1) (chain_count (length held.catalog.bytes)));
     no_header = λ none. opened_more x0 x1 x1 was (chain_count 0) opened settled.here (none_more (d.reads x1) (chain_count 0));
   }
 
@@ -185,7 +185,7 @@ module _ {D : Type 0} (d : Ghosts D) where
   pub catalog_reads : (r : Records) (x0 x1 x2 : D) (was : Image) → IfSome (d.contents x0) (λ w. d.reads x1 ≤ d.reads x0 + (3 * (length w.log / entry_size + 1) + 2)) → IsSettled d x0 was
       → ((held : Held) → Holds (replay was) held → StandsFor d r x1 held held) → HasHeader was → d.reads x2 ≤ d.reads x1 + chain_count (catalog_length_of r) → ReadsOpening was (d.reads x0) (d.reads x2)
   catalog_reads r x0 x1 x2 was opened settled stands has more = record {
-    sound = λ held holds. opened_more x0 x1 x2 was (chain_count (length held.catalog)) opened settled.here
+    sound = λ held holds. opened_more x0 x1 x2 was (chain_count (length held.catalog.bytes)) opened settled.here
         (subst (λ (n : ℕ). d.reads x2 ≤ d.reads x1 + chain_count n) (sym (((stands held holds).holds).behind).catalog_length) more);
     no_header = λ none. absurd (none has);
   }

@@ -38,7 +38,7 @@ module _ {D : Type 0} (d : Ghosts D) where
   pub catalog_refused : (r1 r2 : Records) (x0 x1 x2 : D) (e : StoreError) → IsStill d x0 x1 → has_ended r1 ≡ false
       → ((was : Image) (held : Held) → IsSettled d x0 was → Holds (replay was) held → StandsFor d r1 x1 held held)
       → ((was : Image) → IsSettled d x0 was → IsInStepWith d r1 x1 was × HasHeader was)
-      → NotRead d (λ now. (contents : Contents) → IsCatalog now.catalog contents → ⊥) 0 e r1 r2 x1 x2 → IsSomeAnd (told_error e) (λ told. NotOpened d told x0 x2)
+      → NotRead d (λ now. (contents : Contents) → IsCatalog now.catalog.bytes contents → ⊥) 0 e r1 r2 x1 x2 → IsSomeAnd (told_error e) (λ told. NotOpened d told x0 x2)
   catalog_refused r1 r2 x0 x1 x2 below.Disk still runs stands step h = rose_later (d.faults x0) (d.faults x1) (d.faults x2) still.faults_later h.0
   catalog_refused r1 r2 x0 x1 x2 (below.Damaged page) still runs stands step h =
       λ was settled. ((step was settled).1, λ state recovers. h.lacks recovers.0 recovers.0 (stands was recovers.0 settled recovers.1) (recovers.2).contents (recovers.2).catalog)

@@ -93,7 +93,7 @@ rule_fits old new rule are makes =
 
 module _ {D : Type 0} (d : Ghosts D) (s0 : Store) (x0 : D) (state : State) (at : IsAt d s0 x0 state) where
   contents_at : (at.state_is).contents ≡ s0.catalog
-  contents_at = one_contents (at.held).catalog (at.state_is).contents s0.catalog (at.state_is).catalog at.catalog
+  contents_at = one_contents (at.held).catalog.bytes (at.state_is).contents s0.catalog (at.state_is).catalog at.catalog
 
   -- the rules of the catalog are those of the state
   pub rules_at : (s0.catalog).rules ≡ state.rules
@@ -159,14 +159,14 @@ module _ {D : Type 0} (d : Ghosts D) (s0 : Store) (x0 : D) (state : State) (at :
       })
     where
       room : (behind pages_behind : ℕ) → behind ≡ all_nodes state → pages_behind ≡ all_pages state → (new : List Rule) → HasLabels rule → MakesRule (s0.catalog).rules rule new
-          → (at.held).free < chain_count (length (catalog_bytes (record { documents = (s0.catalog).documents; rules = new }))) - chain_count (length (at.held).catalog) → MayBeFull state behind pages_behind
+          → (at.held).free < chain_count (length (catalog_bytes (record { documents = (s0.catalog).documents; rules = new }))) - chain_count (length (at.held).catalog.bytes) → MayBeFull state behind pages_behind
       room behind pages_behind same alike new labels makes few =
           let state_is = at.state_is in
           let free = documents_leave_free (current (s0.records).wal ((at.stands).keeps).image) at.held state_is.stored ((s0.records).head, (at.stands).holds) state_is.holds in
           let all = free.few_records in
           let chains = free.few_chains in
           let listed = free.few_contents in
-          let whole : ((at.held).settings).limit ≤ (at.held).free + (1 + free.records + free.chains + free.contents + chain_count (length (at.held).catalog)) = free.free in
+          let whole : ((at.held).settings).limit ≤ (at.held).free + (1 + free.records + free.chains + free.contents + chain_count (length (at.held).catalog.bytes)) = free.free in
           let two = free.few_documents in
           let total = nodes_stored state state_is.stored state_is.documents in
           let long = pages_stored state state_is.stored state_is.documents in
@@ -177,7 +177,7 @@ module _ {D : Type 0} (d : Ghosts D) (s0 : Store) (x0 : D) (state : State) (at :
           ap (λ (c : Contents). length (entries c.documents)) (sym contents_at) ∙ ap length state_is.names ∙ length-map state_is.stored (λ (s : StoredDocument). (s.name, s.entry)) in
           let more = one_rule_more (s0.catalog).rules new rule.parent rule.child rule.entry (at.catalog).rules makes.are makes.sets in
           let ruled : length (s0.catalog).rules ≡ length state.rules = ap length rules_at in
-          rule_room (all_nodes state) behind (all_pages state) pages_behind free.records free.chains free.contents (length state_is.stored) (length bytes) (length (at.held).catalog) (length state.rules) (length new) (at.held).free
+          rule_room (all_nodes state) behind (all_pages state) pages_behind free.records free.chains free.contents (length state_is.stored) (length bytes) (length (at.held).catalog.bytes) (length state.rules) (length new) (at.held).free
           (state.settings).limit (omega (arith, whole, limit)) (omega (arith, all, total)) chains (omega (arith, listed, long)) (omega (arith, two, total)) (omega (arith, short, number)) (omega (arith, more, ruled)) same alike few
 
 -- why a rule wasn't made

@@ -141,7 +141,7 @@ module _ {D : Type 0} (d : Ghosts D) where
     stands = (holds state at told).0;
     none_waits = (holds state at told).1;
     state_is = at.state_is;
-    catalog = subst (λ (c : Contents). IsCatalog (at.held).catalog c) (sym (holds state at told).2) at.catalog;
+    catalog = subst (λ (c : Contents). IsCatalog (at.held).catalog.bytes c) (sym (holds state at told).2) at.catalog;
   }
 
   -- a store was at a state before something was given where it is at it then
@@ -164,6 +164,7 @@ module _ {D : Type 0} (d : Ghosts D) where
             holds = ((then.stands).keeps).holds;
           };
           holds = (then.stands).holds;
+          known = (then.stands).known;
         };
         none_waits = then.none_waits;
         state_is = then.state_is;
@@ -214,7 +215,7 @@ module _ {D : Type 0} (d : Ghosts D) where
             stands = stands p.saved p.now image.0 p.stands image.1;
             none_waits = none;
             state_is = p.will;
-            catalog = subst (λ (c : Contents). IsCatalog (p.now).catalog c) (sym catalog) p.catalog;
+            catalog = subst (λ (c : Contents). IsCatalog (p.now).catalog.bytes c) (sym catalog) p.catalog;
           },
           made.2,
         ))
@@ -226,9 +227,9 @@ module _ {D : Type 0} (d : Ghosts D) where
   -- ---- where it wasn't prepared, and was dropped
 
   module _ (s0 s1 s2 : Store) (x0 x1 : D) (follows : FollowsOn s1.records s2.records) (none : HasNoChanges s2.records)
-      (heads : ((s2.records).saved ≡ (s1.records).saved) × ((s2.records).head ≡ (s1.records).saved)) (ended : has_ended s2.records ≡ has_ended s1.records) (catalog : s2.catalog ≡ s1.catalog) where
+      (heads : ((s2.records).saved ≡ (s1.records).saved) × ((s2.records).head ≡ (s1.records).saved) × ((s2.records).catalog_pages ≡ [])) (ended : has_ended s2.records ≡ has_ended s1.records) (catalog : s2.catalog ≡ s1.catalog) where
     left_holds : IsStoreLeft d s0 s1 x0 x1 → HoldsOn d s0 s2 x0 x1
-    left_holds left state at told = (abandon_stands {r0 = s1.records} {r1 = s2.records} follows none heads ended (left.saved at.held (at.stands).keeps), none, catalog ∙ left.catalog)
+    left_holds left state at told = (abandon_stands {r0 = s1.records} {r1 = s2.records} follows none (heads.0, heads.1) heads.2 ended (left.saved at.held (at.stands).keeps), none, catalog ∙ left.catalog)
 
     ends_here : is_ended s1 ≡ true → is_ended s2 ≡ false → ⊥
     ends_here was runs = false≢true (sym runs ∙ ended ∙ was)

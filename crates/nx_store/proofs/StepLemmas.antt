@@ -166,7 +166,7 @@ module _ {D : Type 0} {d : Ghosts D} where
               stands = stands k.saved k.now image.0 k.stands image.1;
               none_waits = none;
               state_is = k.will;
-              catalog = subst (λ (c : Contents). IsCatalog (k.now).catalog c) (sym catalog) k.catalog;
+              catalog = subst (λ (c : Contents). IsCatalog (k.now).catalog.bytes c) (sym catalog) k.catalog;
             },
             commit_shows,
             log_grows d (Load name (Read tree)) state (with_document state name k.document) s0 s1.records s2.records x0 x1 x2 g (λ is. cc) short at still ((k.stands).keeps).image ((k.stands).keeps).step more step told,

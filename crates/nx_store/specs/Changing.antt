@@ -31,7 +31,7 @@ pub record IsPrepared {D : Type 0} (d : Ghosts D) (store : Store) (disk : D) (st
   pub stands : StandsFor d store.records disk saved now
   pub was : HoldsState saved state
   pub will : HoldsState now next
-  pub catalog : IsCatalog now.catalog store.catalog
+  pub catalog : IsCatalog now.catalog.bytes store.catalog
 
 -- The step of a command of which only the commit is left.
 pub record Prepares {D : Type 0} (d : Ghosts D) (state : State) (command : Command) (reply : Reply) (store : Store) (disk : D) : Type 0 where

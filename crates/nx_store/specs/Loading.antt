@@ -45,7 +45,7 @@ pub record IsKept {D : Type 0} (d : Ghosts D) (store : Store) (disk : D) (state 
   pub stands : StandsFor d store.records disk saved now
   pub was : HoldsState saved state
   pub will : HoldsState now (with_document state name document)
-  pub catalog : IsCatalog now.catalog store.catalog
+  pub catalog : IsCatalog now.catalog.bytes store.catalog
 
 -- there may not be room for one document more with so many nodes, and with contents as long as its
 abbrev pub MayNotFit : State → OrderedTree → Type 0

@@ -25,7 +25,7 @@ opening_reads image catalog = 3 * (length image.log / entry_size + 1) + 2 + chai
 
 -- From a count of reads to another no more was read than that, where the pages of this image are sound, and where it has no header, and so no catalog.
 pub record ReadsOpening (image : Image) (old new : ℕ) : Type 0 where
-  pub sound : (held : Held) → Holds (replay image) held → new ≤ old + opening_reads image held.catalog
+  pub sound : (held : Held) → Holds (replay image) held → new ≤ old + opening_reads image held.catalog.bytes
   pub no_header : (HasHeader image → ⊥) → new ≤ old + opening_reads image []
 
 -- a command that asks for one node, or for what the catalog says, or for nothing
@@ -45,7 +45,7 @@ needs_no_page _ = false
 
 -- the catalog of what is held has this entry under the name
 abbrev pub IsEntryOf : Held → List ℕ → DocEntry → Type 0
-IsEntryOf held name entry = (contents : Contents) × IsCatalog held.catalog contents × (get contents.documents name ≡ Some entry)
+IsEntryOf held name entry = (contents : Contents) × IsCatalog held.catalog.bytes contents × (get contents.documents name ≡ Some entry)
 
 -- So many pages at most are read for the node at a path, where this document has the name, or none has it: those of the records that the path leads through from the root's on and of the
 -- node's content, or none.

@@ -30,7 +30,7 @@ pub record IsAt {D : Type 0} (d : Ghosts D) (store : Store) (disk : D) (state : 
   pub stands : StandsFor d store.records disk held held
   pub none_waits : HasNoChanges store.records
   pub state_is : HoldsState held state
-  pub catalog : IsCatalog held.catalog store.catalog
+  pub catalog : IsCatalog held.catalog.bytes store.catalog
 
 -- What a command is answered that comes in a state, and the state that it leaves.
 pub record StoreTurn (state : State) (command : Command) : Type 0 where

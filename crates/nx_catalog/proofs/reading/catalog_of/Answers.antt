@@ -2,6 +2,7 @@ use Rattle.std.proofs.Common.{sym, ◌∙◌, arith}
 use Rattle.std.proofs.lemmas.Bool.{eqb-true, eqb-false}
 use Rattle.nx_script.specs.Field.{by_bytes}
 use Rattle.nx_catalog.proofs.CatalogLemmas.{none_of_documents, none_of_rules, more_behind, read_documents_are, read_catalog_is}
+use Rattle.nx_catalog.proofs.PlaceLemmas.{no_places}
 use Rattle.nx_catalog.proofs.reading.catalog_of.Goals as goal
 
 pub returns-in_default : goal.returns-in_default
@@ -17,8 +18,10 @@ returns-then-not-is_empty c = λ contents is.
     (eqb-false _ _ (sym c.is_empty.ensures ∙ c.if-not-is_empty.true)) is
 
 pub invariant_of-result : goal.invariant_of-result
-invariant_of-result c =
-    read_documents_are c.args.bytes.now c.in-Some.documents (λ i. omega (arith, c.type_inv.bytes i)) (rw c.in-Some.is at c.in_ok-documents.ensures.ordered) (rw c.in-Some.is at c.in_ok-documents.ensures.read)
+invariant_of-result c = (
+  read_documents_are c.args.bytes.now c.in-Some.documents (λ i. omega (arith, c.type_inv.bytes i)) (rw c.in-Some.is at c.in_ok-documents.ensures.ordered) (rw c.in-Some.is at c.in_ok-documents.ensures.read),
+  λ name at there. absurd (no_places c.new.result c.new.ensures.empty name at there),
+)
 
 pub returns : goal.returns
 returns c =

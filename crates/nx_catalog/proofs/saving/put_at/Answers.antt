@@ -1,4 +1,4 @@
-use Rattle.std.proofs.Common.{ℕ, Option, None, sym, ap, ◌∙◌, subst, arith, ◌≡◌}
+use Rattle.std.proofs.Common.{ℕ, List, Option, None, sym, ap, ◌∙◌, subst, arith, ◌≡◌}
 use Rattle.std.specs.Prelude.{All, is_some}
 use Rattle.std.specs.Option.{option_copied_mut}
 use Rattle.std.proofs.lemmas.Bool.{false≢true}
@@ -6,7 +6,9 @@ use Rattle.std.proofs.lemmas.List.Elements.{recursion_from_All, All-from_recursi
 use Rattle.nx_script.specs.Field.{by_bytes}
 use Rattle.nx_catalog.specs.Catalog.{CanBeKept}
 use Rattle.nx_catalog.proofs.NameMap.{map_in-insert, get-map_in}
-use Rattle.nx_catalog.proofs.InsideLemmas.{set_documents}
+use Rattle.nx_catalog.specs.Inside.{names_of}
+use Rattle.nx_catalog.proofs.InsideLemmas.{Kept, set_documents}
+use Rattle.nx_catalog.proofs.PlaceLemmas.{names_set}
 use Rattle.nx_catalog.proofs.saving.put_at.Goals as goal
 
 pub returns-in-Some-clause-are : goal.returns-in-Some-clause-are
@@ -22,3 +24,8 @@ returns-in-Some-clause-put c there =
 pub returns-in_default-clause-put : goal.returns-in_default-clause-put
 returns-in_default-clause-put c there =
     absurd (false≢true (sym (ap is_some (sym c.get_mut.ensures.value ∙ ap option_copied_mut c.in_default.is)) ∙ sym (ap is_some (get-map_in c.args.documents.now c.args.name.now c.requires.ordered)) ∙ there))
+
+pub returns-in-Some-clause-names : goal.returns-in-Some-clause-names
+returns-in-Some-clause-names c =
+    let h = c.get_mut.follows.holds c.args.entry in
+    ap (λ (es : List Kept). names_of (by_bytes es)) h.0 ∙ names_set _ c.args.entry c.args.documents.now.entries

@@ -8,10 +8,10 @@ use Rattle.nx_catalog.proofs.catalog.Catalog.at.Goals as goal
 pub returns-in-Some : goal.returns-in-Some
 returns-in-Some c =
     let found = nth_from_yields_List c.nth.result c.nth.new.self c.args.index c.nth.ensures.ran (YieldsList-from_rest c.self.inside.documents.entries c.iter.ensures.rest) in
-    shown_at (record { view = c.self.view_is; are = c.self.invariant }) c.args.index c.in-Some.name.now c.in-Some.entry.now (sym found ∙ ap (option_map deref_pair) c.in-Some.is)
+    shown_at (record { view = c.self.view_is; are = c.self.invariant.0 }) c.args.index c.in-Some.name.now c.in-Some.entry.now (sym found ∙ ap (option_map deref_pair) c.in-Some.is)
     ∙ ap (λ (name : List ℕ). Some (name, c.in-Some.entry.now)) (sym c.as_slice.ensures.value)
 
 pub returns-in-None : goal.returns-in-None
 returns-in-None c =
     let found = nth_from_yields_List c.nth.result c.nth.new.self c.args.index c.nth.ensures.ran (YieldsList-from_rest c.self.inside.documents.entries c.iter.ensures.rest) in
-    shown_none (record { view = c.self.view_is; are = c.self.invariant }) c.args.index (sym found ∙ ap (option_map deref_pair) c.in-None.is)
+    shown_none (record { view = c.self.view_is; are = c.self.invariant.0 }) c.args.index (sym found ∙ ap (option_map deref_pair) c.in-None.is)

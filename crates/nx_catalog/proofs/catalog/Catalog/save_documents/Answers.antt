@@ -13,11 +13,11 @@ use Rattle.nx_catalog.proofs.InsideLemmas.{shown_map, shown_rules}
 use Rattle.nx_catalog.proofs.catalog.Catalog.save_documents.Goals as goal
 
 pub returns-in-Ok-clause-form : goal.returns-in-Ok-clause-form
-returns-in-Ok-clause-form g c runs labels = c.save.ensures.form runs (subst (λ (rs : List Rule). All HasLabels rs) (sym (shown_rules (record { view = c.self.view_is; are = c.self.invariant }))) labels)
+returns-in-Ok-clause-form g c runs labels = c.save.ensures.form runs (subst (λ (rs : List Rule). All HasLabels rs) (sym (shown_rules (record { view = c.self.view_is; are = c.self.invariant.0 }))) labels)
 
 pub returns-in-Err-clause-refused : goal.returns-in-Err-clause-refused
 returns-in-Err-clause-refused g c =
     let ruled = subst (λ (rs : List Rule). NotStored g.D.Disk (λ was. catalog_needs (catalog_bytes (record { documents = map_in c.replace-before.new.dest; rules = rs })) was) (λ was. ⊥) 0 c.in-Err.error c.args.records.now c.save.new.records c.args.disk.now c.save.new.disk)
-    (shown_rules (record { view = c.self.view_is; are = c.self.invariant })) c.in-Err.ensures.refused in
+    (shown_rules (record { view = c.self.view_is; are = c.self.invariant.0 })) c.in-Err.ensures.refused in
     subst (λ (m : BTreeMap (Vec ℕ) DocEntry). NotStored g.D.Disk (λ was. catalog_needs (catalog_bytes (record { documents = map_in m; rules = c.args.self.now.rules })) was) (λ was. ⊥) 0 c.in-Err.error c.args.records.now c.save.new.records c.args.disk.now c.save.new.disk)
     c.replace-before.ensures.after ruled

@@ -1,4 +1,4 @@
-use Rattle.std.proofs.Common.{◌≡◌, arith}
+use Rattle.std.proofs.Common.{◌≡◌, arith, inl}
 use Rattle.std.proofs.lemmas.Result.{err_from_is_err_and}
 use Rattle.nx_records.specs.declared.error.StoreError.{StoreError}
 use Rattle.nx_records.specs.Changes.{AddsRecord}
@@ -31,6 +31,7 @@ pub returns-clause-ok : goal.returns-clause-ok
 returns-clause-ok g c =
     steps_lead g.D.Disk c.args.self.now c.place.new.self c.store_header.new.self c.args.disk.now c.place.new.disk (λ was now. AddsRecord c.in_ok-rid.rid.page c.in_ok-rid.rid.slot c.args.bytes.now was now)
     c.in_ok-rid.ensures.ok.0 c.store_header.ensures.keeps c.place.ensures.still c.store_header.new.self.head_range c.in_ok-store_header.ensures.ok.0 c.in_ok-store_header.ensures.ok.2 c.in_ok-rid.ensures.ok.1
+    (inl (λ was now adds. (adds.changes).catalog))
 
 pub returns-clause-keeps : goal.returns-clause-keeps
 returns-clause-keeps g c =

@@ -2,11 +2,11 @@ use Rattle.std.proofs.Common.{◌∙◌, length, ap, refl, sym}
 use Rattle.std.proofs.lemmas.Result.{err_from_is_err_and}
 use Rattle.nx_holdings.specs.Holdings.{chain_count}
 use Rattle.nx_links.proofs.BesideLemmas.{chain_count_of}
-use Rattle.nx_links.proofs.JoinLemmas.{all_but, enter}
+use Rattle.nx_links.proofs.JoinLemmas.{all_but, places_but, enter}
 use Rattle.nx_records.specs.declared.error.StoreError.{StoreError}
 use Rattle.nx_records.specs.Changes.{LacksList}
 use Rattle.nx_records.specs.Refusals.{NotChanged}
-use Rattle.nx_records.proofs.StandLemmas.{keeps_then, saved_kept, on_ok_then, if_err_then}
+use Rattle.nx_records.proofs.StandLemmas.{known_stays, keeps_then, saved_kept, on_ok_then, if_err_then}
 use Rattle.nx_records.proofs.RefusalLemmas.{err_passed, ended_now, memory_changed, runs_on}
 use Rattle.nx_records.proofs.ChainLemmas.{lacks_list, change_damaged}
 use Rattle.nx_records.proofs.WritingLemmas.{all_there, given_changed, header_stands}
@@ -35,7 +35,7 @@ returns-in_err-rewrite_chain-clause-refused g c =
     let behind = (stands.holds).behind in
     let entered = enter behind c.args.first list (all_there behind c.args.first list may.1 there) in
     let length_is = ap length entered.are ∙ long in
-    none (stands.keeps).image entered.links (record { records = now.records; lists = all_but behind c.args.first; free = now.free }) (stands.keeps).step entered.holds
+    none (stands.keeps).image entered.links (record { records = now.records; lists = all_but behind c.args.first; places = places_but behind c.args.first; free = now.free }) (stands.keeps).step entered.holds
     (record { begins = entered.here; long = length_is; count = chain_count_of entered.holds ∙ ap chain_count length_is }))
     c.in_err-rewrite_chain.ensures.refused)
 
@@ -46,7 +46,7 @@ returns-clause-ok g c =
     on_ok_then c.store_header.result c.store_header.ensures.ok (λ ok saved now list stands there.
     let changed = changed_steps g.D.Disk c.args.self.now c.rewrite_chain.new.self c.args.disk.now c.args.first c.args.len c.args.bytes.now c.requires.some may.1 c.in_ok-rewrite_chain.ensures.ok (stands.keeps).image now list
     (stands.keeps).step (stands.holds).behind there in
-    (changed.0, (changed.2.0, header_stands c.rewrite_chain.new.self keeps c.rewrite_chain.ensures.still c.store_header.new.self.head_range ok.0 ok.2 stands changed.2.1, changed.2.2)))
+    (changed.0, (changed.2.0, header_stands c.rewrite_chain.new.self keeps c.rewrite_chain.ensures.still c.store_header.new.self.head_range ok.0 ok.2 stands changed.2.1 (known_stays now changed.2.0 keeps.known (changed.2.2.changes).catalog stands.known), changed.2.2)))
 
 pub returns-clause-alone : goal.returns-clause-alone
 returns-clause-alone g c =

@@ -11,7 +11,7 @@ returns-clause-goes g c = checkpoint_holds g.D.Disk c.args.self.now c.args.disk.
 
 pub returns-clause-ok : goal.returns-clause-ok
 returns-clause-ok g c saved now image stands told =
-    checkpoint_stands g.D.Disk c.args.self.now _ c.args.disk.now c.checkpoint.new.disk c.in-Ok.ensures.ok (c.requires.none, c.in-Ok.ensures.empty.1, c.if-self.false, refl, refl)
+    checkpoint_stands g.D.Disk c.args.self.now _ c.args.disk.now c.checkpoint.new.disk c.in-Ok.ensures.ok (c.requires.none, c.in-Ok.ensures.empty.1, c.if-self.false, refl, refl, refl)
     saved now image stands told
 
 pub returns-clause-step : goal.returns-clause-step

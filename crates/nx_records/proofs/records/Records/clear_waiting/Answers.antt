@@ -1,4 +1,4 @@
-use Rattle.std.proofs.Common.{refl, arith}
+use Rattle.std.proofs.Common.{refl, arith, inl}
 use Rattle.nx_records.proofs.StandLemmas.{header_apart, same_wal}
 use Rattle.nx_records.proofs.StepLemmas.{waiting_clear}
 use Rattle.nx_records.proofs.records.Records.clear_waiting.Goals as goal
@@ -16,6 +16,7 @@ returns-clause-cleared g c done = (
     saved = refl;
     length_stays = c.clear_record.ensures.stays.0;
     settings_stay = refl;
+    known = inl refl;
   },
   waiting_clear g.D.Disk c.args.self.now.head c.args.self.now.wal c.clear_record.new.self c.args.disk.now c.args.rid.page c.args.rid.slot
       (let low = c.if-rid-self.false in omega arith) (c.clear_record.ensures.cleared done),

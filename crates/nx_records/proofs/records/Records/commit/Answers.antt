@@ -25,7 +25,7 @@ returns-clause-groups_go g c =
 
 pub returns-clause-ok : goal.returns-clause-ok
 returns-clause-ok g c saved now image stands told =
-    commit_stands g.D.Disk c.args.self.now _ c.args.disk.now c.commit.new.disk c.args.self.now.head.number c.in-Ok.ensures.ok (c.in-Ok.ensures.none_left.0, c.if-self.false, refl, refl)
+    commit_stands g.D.Disk c.args.self.now _ c.args.disk.now c.commit.new.disk c.args.self.now.head.number c.in-Ok.ensures.ok (c.in-Ok.ensures.none_left.0, c.if-self.false, refl, refl, refl)
     saved now image stands told
 
 pub returns-clause-group : goal.returns-clause-group

@@ -80,7 +80,7 @@ returns-clause-ok g c was now settled told =
     let put : entry_pages (pending c.put_first.new.wal) ≡ first_pages (first_head c.args.settings) = c.in_ok-put_first.ensures.ok ∙ ap first_pages first in
     let done = c.in-Ok-commit.ensures.ok was now (record { settled = (made.0).settled; follows = c.put_first.ensures.follows was.log (made.0).follows }) told in
     let pages = first_replay c.put_first.new.wal (first_head c.args.settings) 0 made.1 put done.1 in (
-      opened_stands _ (refl, c.in-Ok-commit.ensures.none_left.0, refl) done.0 (ap (λ (p : Pages). p 0) pages ∙ ap (λ (h : Header). Some (header_bytes h)) (sym first)) c.first_header-header.ensures.range
+      opened_stands _ (refl, c.in-Ok-commit.ensures.none_left.0, refl, c.new.ensures) done.0 (ap (λ (p : Pages). p 0) pages ∙ ap (λ (h : Header). Some (header_bytes h)) (sym first)) c.first_header-header.ensures.range
           (first_head c.args.settings, subst (λ (p : Pages). HoldsBy p (first_head c.args.settings) (nothing_held c.args.settings)) (sym pages) (first_holds c.args.settings range)),
       done.0,
       first_created c.args.settings c.put_first.new.wal range made.1 put done.1,

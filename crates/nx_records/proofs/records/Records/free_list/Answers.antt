@@ -1,11 +1,11 @@
 use Rattle.std.proofs.Common.{◌≡◌, ◌∙◌, List, length, ap, refl}
 use Rattle.std.proofs.lemmas.Result.{err_from_is_err_and}
 use Rattle.nx_holdings.specs.Holdings.{Link, next_of, content_of}
-use Rattle.nx_links.proofs.JoinLemmas.{all_but, enter}
+use Rattle.nx_links.proofs.JoinLemmas.{all_but, places_but, enter}
 use Rattle.nx_records.specs.declared.error.StoreError.{StoreError}
 use Rattle.nx_records.specs.Changes.{LacksList}
 use Rattle.nx_records.specs.Refusals.{NotChanged}
-use Rattle.nx_records.proofs.StandLemmas.{keeps_then, saved_kept, on_ok_then, if_err_then}
+use Rattle.nx_records.proofs.StandLemmas.{known_stays, keeps_then, saved_kept, on_ok_then, if_err_then}
 use Rattle.nx_records.proofs.RefusalLemmas.{err_passed, ended_now, memory_changed, runs_on}
 use Rattle.nx_records.proofs.ChainLemmas.{lacks_list, change_damaged}
 use Rattle.nx_records.proofs.WritingLemmas.{all_there, freed_steps, given_changed, header_stands}
@@ -29,7 +29,7 @@ returns-in_err-give_chain-clause-refused g c =
     (λ saved now stands none list there long.
     let behind = (stands.holds).behind in
     let entered = enter behind c.args.first list (all_there behind c.args.first list may.1 there) in
-    none (stands.keeps).image entered.links (record { records = now.records; lists = all_but behind c.args.first; free = now.free }) (stands.keeps).step entered.holds (entered.here, ap length entered.are ∙ long))
+    none (stands.keeps).image entered.links (record { records = now.records; lists = all_but behind c.args.first; places = places_but behind c.args.first; free = now.free }) (stands.keeps).step entered.holds (entered.here, ap length entered.are ∙ long))
     c.in_err-give_chain.ensures.refused)
 
 pub returns-clause-ok : goal.returns-clause-ok
@@ -39,7 +39,7 @@ returns-clause-ok g c =
     on_ok_then c.store_header.result c.store_header.ensures.ok (λ ok saved now list stands there.
     let freed = freed_steps g.D.Disk c.args.self.now c.give_chain.new.self c.args.disk.now c.args.first c.args.len may.1 c.in_ok-give_chain.ensures.ok (stands.keeps).image now list (stands.keeps).step
     (stands.holds).behind there in
-    (freed.0, (freed.1.0, header_stands c.give_chain.new.self keeps c.give_chain.ensures.still c.store_header.new.self.head_range ok.0 ok.2 stands freed.1.1, freed.1.2)))
+    (freed.0, (freed.1.0, header_stands c.give_chain.new.self keeps c.give_chain.ensures.still c.store_header.new.self.head_range ok.0 ok.2 stands freed.1.1 (known_stays now freed.1.0 keeps.known (freed.1.2.changes).catalog stands.known), freed.1.2)))
 
 pub returns-clause-keeps : goal.returns-clause-keeps
 returns-clause-keeps g c =

@@ -15,7 +15,7 @@ returns-clause-ok g c was held settled holds =
     let step = opened.0 in
     let same = c.in-Ok-page.ensures.ok.0 in
     let none = c.in-Ok.ensures.fresh.1 in
-    opened_stands _ (refl, ap pending same ∙ none, refl)
+    opened_stands _ (refl, ap pending same ∙ none, refl, c.new.ensures)
     (record { settled = settled_still c.page.ensures.still step.settled; follows = subst (λ (w : Wal). Follows w was.log) (sym same) step.follows })
     (ap (λ (p : Pages). p 0) (sym (current_none c.in-Ok.wal was none)) ∙ c.in-Ok-page.ensures.ok.2 was step ∙ ap (λ (b : Bool). page_found b c.page.new.into.bytes) c.if-not-found.false
     ∙ ap (λ (x : List ℕ). Some x) c.in-Some.ensures.are)

@@ -7,7 +7,7 @@ use Rattle.nx_wal.specs.Wal.{IsInStep, current}
 use Rattle.nx_holdings.specs.Holdings.{HoldsBehind}
 use Rattle.nx_records.specs.declared.records.Records.{Records}
 use Rattle.nx_records.specs.declared.error.StoreError.{StoreError}
-use Rattle.nx_records.specs.Records.{has_ended, has_free, KeepsLog}
+use Rattle.nx_records.specs.Records.{has_ended, has_free, KeepsKnown, KeepsLog}
 use Rattle.nx_records.specs.Pages.{SeesSo, NotPut}
 use Rattle.nx_records.proofs.StandLemmas.{keeps_then, keeps_under, range_moved}
 use Rattle.nx_records.proofs.StepLemmas.{new_steps, fresh_room}
@@ -69,7 +69,7 @@ returns-clause-ok g c =
     let keeps = keeps_then {r0 = c.put_in_room.new.self} {r1 = c.take.new.self} {r2 = c.store.new.self} c.in_ok-page.ensures.keeps.0 c.store.ensures.keeps in
     let limit = c.put_in_room.new.self.head_range.settings.limit.1 in
     let pages = c.put_in_room.new.self.head_range.pages.1 in (
-      keeps_under {q0 = c.args.self.now} keeps (ap (λ (r : Records). r.wal) (sym same)) (ap (λ (r : Records). r.saved) (sym same)) refl refl refl (keeps.settings_stay ∙ ap (λ (r : Records). r.head.settings) same),
+      keeps_under {q0 = c.args.self.now} keeps (ap (λ (r : Records). r.wal) (sym same)) (ap (λ (r : Records). r.saved) (sym same)) refl refl refl (keeps.settings_stay ∙ ap (λ (r : Records). r.head.settings) same) (subst (λ (r : Records). KeepsKnown r.catalog_pages c.store.new.self.catalog_pages) same keeps.known),
       λ was held step holds.
           new_steps g.D.Disk c.put_in_room.new.self c.take.new.self c.store.new.self c.put_in_room.new.disk c.bytes.result.now.bytes c.args.bytes.now (omega (arith, limit, pages))
           (c.in_ok-page.ensures.ok, c.in_ok-page.ensures.keeps.1) c.in_ok-store.ensures.ok c.new-slots.ensures c.bytes.ensures.slotted

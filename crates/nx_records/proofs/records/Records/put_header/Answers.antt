@@ -18,7 +18,7 @@ invariant_of-self-clause-header_waits c =
     c.in_ok-store.ensures.waits ∙ ap (λ (b : List ℕ). Some b) c.header_page-page.ensures ∙ ap (λ (h : Header). Some (header_bytes h)) (sym (head_stays c))
 
 pub returns-clause-keeps : goal.returns-clause-keeps
-returns-clause-keeps c = keeps_under c.store.ensures.keeps refl refl refl refl refl c.store.ensures.keeps.settings_stay
+returns-clause-keeps c = keeps_under c.store.ensures.keeps refl refl refl refl refl c.store.ensures.keeps.settings_stay c.store.ensures.keeps.known
 
 pub returns-clause-ok : goal.returns-clause-ok
 returns-clause-ok c =

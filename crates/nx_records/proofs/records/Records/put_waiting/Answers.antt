@@ -1,4 +1,4 @@
-use Rattle.std.proofs.Common.{refl}
+use Rattle.std.proofs.Common.{refl, inl}
 use Rattle.nx_records.proofs.StandLemmas.{header_beside, same_wal}
 use Rattle.nx_records.proofs.StepLemmas.{room_put}
 use Rattle.nx_records.proofs.RoomLemmas.{waited_fits}
@@ -12,6 +12,7 @@ returns-in-Some-clause-put g c = (
     saved = refl;
     length_stays = c.put_record.ensures.stays.0;
     settings_stay = refl;
+    known = inl refl;
   },
   room_put g.D.Disk c.args.self.now.head c.args.self.now.wal c.put_record.new.self c.args.disk.now c.in-Some.slot c.args.bytes.now c.requires.there c.in-Some.ensures.put,
 )

@@ -18,7 +18,7 @@ pub returns-clause-refused : goal.returns-clause-refused
 returns-clause-refused g c =
     if_err_then c.read_chain.result c.read_chain.ensures.refused (λ e refused.
     listed_read g.D.Disk c.args.self.now c.read_chain.new.self c.args.disk.now c.read_chain.new.disk 0 (λ now. ⊥) (NoListFrom c.args.self.now.head.pages c.args.self.now.head.catalog c.args.self.now.head.catalog_length) e
-    (λ saved now stands none. none now.catalog (catalog_from stands.holds) (stands.holds).behind.catalog_length) refused)
+    (λ saved now stands none. none now.catalog.bytes (catalog_from stands.holds) (stands.holds).behind.catalog_length) refused)
 
 pub returns-then-self-clause-refused : goal.returns-then-self-clause-refused
 returns-then-self-clause-refused g c = had_ended c.if-self.true

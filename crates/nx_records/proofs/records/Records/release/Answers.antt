@@ -26,10 +26,10 @@ invariant_of-self-else-self-page c =
     }
 
 pub returns-then-self-page-clause-keeps : goal.returns-then-self-page-clause-keeps
-returns-then-self-page-clause-keeps c = keeps_under c.store.ensures.keeps refl refl refl refl refl c.store.ensures.keeps.settings_stay
+returns-then-self-page-clause-keeps c = keeps_under c.store.ensures.keeps refl refl refl refl refl c.store.ensures.keeps.settings_stay c.store.ensures.keeps.known
 
 pub returns-else-self-page-clause-keeps : goal.returns-else-self-page-clause-keeps
-returns-else-self-page-clause-keeps c = keeps_under c.store.ensures.keeps refl refl refl refl refl c.store.ensures.keeps.settings_stay
+returns-else-self-page-clause-keeps c = keeps_under c.store.ensures.keeps refl refl refl refl refl c.store.ensures.keeps.settings_stay c.store.ensures.keeps.known
 
 pub returns-then-self-page-clause-ok : goal.returns-then-self-page-clause-ok
 returns-then-self-page-clause-ok c =

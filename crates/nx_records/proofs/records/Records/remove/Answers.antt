@@ -1,4 +1,4 @@
-use Rattle.std.proofs.Common.{◌≡◌, refl, subst}
+use Rattle.std.proofs.Common.{◌≡◌, refl, subst, inl}
 use Rattle.std.specs.Prelude.{None, IfErr, OnOk}
 use Rattle.nx_host.proofs.DiskLemmas.{none_still}
 use Rattle.nx_records.specs.declared.records.Records.{Records}
@@ -18,7 +18,8 @@ returns-then-clear_waiting-clause-ok g c =
     let cleared = c.if-clear_waiting.ensures.cleared refl in
     on_ok_then c.store_header.result c.store_header.ensures.ok (λ ok.
     steps_lead g.D.Disk c.args.self.now c.clear_waiting.new.self c.store_header.new.self c.args.disk.now c.args.disk.now (λ was now. RemovesRecord c.args.rid.page c.args.rid.slot was now)
-    cleared.0 c.store_header.ensures.keeps none_still c.store_header.new.self.head_range ok.0 ok.2 cleared.1)
+    cleared.0 c.store_header.ensures.keeps none_still c.store_header.new.self.head_range ok.0 ok.2 cleared.1
+    (inl (λ was now removes. (removes.changes).catalog)))
 
 pub returns-then-clear_waiting-clause-keeps : goal.returns-then-clear_waiting-clause-keeps
 returns-then-clear_waiting-clause-keeps g c =

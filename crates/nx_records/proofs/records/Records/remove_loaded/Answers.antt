@@ -1,4 +1,4 @@
-use Rattle.std.proofs.Common.{◌≡◌, refl, sym, subst}
+use Rattle.std.proofs.Common.{◌≡◌, refl, sym, subst, inl}
 use Rattle.std.proofs.lemmas.Result.{err_from_is_err_and}
 use Rattle.std.specs.Prelude.{None, IsSome}
 use Rattle.nx_records.specs.declared.records.Records.{Records}
@@ -43,7 +43,8 @@ returns-clause-ok g c =
     on_ok_then c.store_header.result c.store_header.ensures.ok (λ ok.
     steps_lead g.D.Disk c.args.self.now c.drop_record.new.self c.store_header.new.self c.args.disk.now c.load_slotted.new.disk (λ was now. RemovesRecord c.args.rid.page c.args.rid.slot was now)
     (subst (λ (r : Records). KeepsLog r c.drop_record.new.self) same c.drop_record.ensures.keeps) c.store_header.ensures.keeps still c.store_header.new.self.head_range ok.0 ok.2
-    (later_steps c.drop_record.new.self same still (c.in_ok-drop_record.ensures.ok (sees_later (λ pages. HasSlots pages c.args.rid.page (slots_of c.load_slotted.new.into.bytes)) same still c.in_ok-load_slotted.ensures.slots))))
+    (later_steps c.drop_record.new.self same still (c.in_ok-drop_record.ensures.ok (sees_later (λ pages. HasSlots pages c.args.rid.page (slots_of c.load_slotted.new.into.bytes)) same still c.in_ok-load_slotted.ensures.slots)))
+    (inl (λ was now removes. (removes.changes).catalog)))
 
 pub returns-clause-keeps : goal.returns-clause-keeps
 returns-clause-keeps g c =

@@ -1,3 +1,4 @@
+use Rattle.std.proofs.Common.{refl}
 use Rattle.nx_records.proofs.StandLemmas.{header_known, all_wait, page_waits, put_current}
 use Rattle.nx_records.proofs.records.Records.store.Goals as goal
 
@@ -20,4 +21,5 @@ pub returns-clause-puts : goal.returns-clause-puts
 returns-clause-puts c = record {
   head = c.begin.ensures;
   waits = all_wait c.args.self.now.waiting_head c.args.self.now.wal c.put.new.self c.args.page c.args.bytes.now.bytes c.in-Ok.ensures.pending;
+  known = refl;
 }

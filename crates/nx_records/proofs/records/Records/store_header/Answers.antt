@@ -19,7 +19,7 @@ returns-then-is_header-clause-ok c =
 
 pub returns-clause-keeps : goal.returns-clause-keeps
 returns-clause-keeps c = keeps_under {q0 = c.args.self.now} c.put_header.ensures.keeps refl refl refl refl refl
-    (c.put_header.ensures.keeps.settings_stay ∙ ap (λ (h : Header). h.settings) c.begin.ensures)
+    (c.put_header.ensures.keeps.settings_stay ∙ ap (λ (h : Header). h.settings) c.begin.ensures) c.put_header.ensures.keeps.known
 
 pub returns-clause-ok : goal.returns-clause-ok
 returns-clause-ok c = on_ok_then c.put_header.result c.put_header.ensures.ok (λ ok.

@@ -1,4 +1,4 @@
-use Rattle.std.proofs.Common.{◌≡◌, ◌<◌, ◌∙◌, refl, sym, ap, subst}
+use Rattle.std.proofs.Common.{◌≡◌, ◌<◌, ◌∙◌, refl, sym, ap, subst, inl}
 use Rattle.std.proofs.lemmas.Result.{err_from_is_err_and}
 use Rattle.std.specs.Prelude.{None, IsSome}
 use Rattle.nx_host.proofs.DiskLemmas.{none_still, still_then}
@@ -66,6 +66,7 @@ returns-clause-ok g c =
     (subst (λ (r : Records). KeepsLog r c.replace.new.self) same c.in_ok-place.ensures.keeps) c.store_header.ensures.keeps (still_then still c.replace.ensures.still) c.store_header.new.self.head_range
     c.in_ok-store_header.ensures.ok.0 c.in_ok-store_header.ensures.ok.2
     (later_steps c.replace.new.self same still (c.in_ok-place.ensures.ok (sees_later (λ pages. HasSlots pages c.args.rid.page (slots_of c.load_slotted.new.into.bytes)) same still c.in_ok-load_slotted.ensures.slots)))
+    (inl (λ was now updates. (updates.changes).catalog))
 
 pub returns-clause-keeps : goal.returns-clause-keeps
 returns-clause-keeps g c =

@@ -1,8 +1,8 @@
-use Rattle.std.proofs.Common.{◌≡◌, ◌<◌, List, [], length, refl, true}
+use Rattle.std.proofs.Common.{◌≡◌, ◌<◌, List, [], length, refl, true, inl}
 use Rattle.std.proofs.lemmas.Result.{err_from_is_err_and}
 use Rattle.nx_holdings.specs.Holdings.{Link, chain_count}
 use Rattle.nx_links.specs.Beside.{HeldBeside}
-use Rattle.nx_links.proofs.JoinLemmas.{all_lists, enter_none}
+use Rattle.nx_links.proofs.JoinLemmas.{all_lists, all_places, enter_none}
 use Rattle.nx_records.specs.declared.error.StoreError.{StoreError}
 use Rattle.nx_records.specs.Changes.{WritesList}
 use Rattle.nx_records.specs.Refusals.{NotStored}
@@ -20,7 +20,7 @@ returns-in_err-first-clause-refused g c =
     c.in_err-first.field-0.0 (err_from_is_err_and c.from_residual.result c.from_residual.ensures.1)
     (led_stored g.D.Disk c.args.self.now c.write_chain.new.self c.args.disk.now c.write_chain.new.disk 0 (λ (links : List Link). links ≡ []) (λ was. chain_count (length c.args.bytes.now))
     (λ (links : List Link) (held : HeldBeside). held.free < chain_count (length c.args.bytes.now)) (λ was. ⊥) c.in_err-first.field-0.0 c.if-self.false c.write_chain.ensures.still
-    (λ was held holds. ([], record { records = held.records; lists = all_lists holds; free = held.free }, enter_none holds, refl, λ few. few)) c.in_err-first.ensures.refused)
+    (λ was held holds. ([], record { records = held.records; lists = all_lists holds; places = all_places holds; free = held.free }, enter_none holds, refl, λ few. few)) c.in_err-first.ensures.refused)
 
 pub returns-in_err-store_header-clause-refused : goal.returns-in_err-store_header-clause-refused
 returns-in_err-store_header-clause-refused g c =
@@ -35,6 +35,7 @@ returns-clause-ok g c =
     steps_lead g.D.Disk c.args.self.now c.write_chain.new.self c.store_header.new.self c.args.disk.now c.write_chain.new.disk (λ was now. WritesList c.in_ok-first.first c.args.bytes.now was now)
     c.in_ok-first.ensures.keeps c.store_header.ensures.keeps c.write_chain.ensures.still c.store_header.new.self.head_range c.in_ok-store_header.ensures.ok.0 c.in_ok-store_header.ensures.ok.2
     (written_steps g.D.Disk c.args.self.now c.write_chain.new.self c.args.disk.now c.in_ok-first.first c.args.bytes.now c.requires c.in_ok-first.ensures.ok)
+    (inl (λ was now writes. (writes.changes).catalog))
 
 pub returns-clause-keeps : goal.returns-clause-keeps
 returns-clause-keeps g c =

@@ -15,13 +15,13 @@ use Rattle.nx_store.proofs.store.Store.discard_shortly.Goals as goal
 pub returns-in-Err-clause-applies : goal.returns-in-Err-clause-applies
 returns-in-Err-clause-applies g c state at told =
     let now : Store = record { alloc = c.prepare_discard.new.self.alloc; records = c.abandon.new.self; catalog = c.prepare_discard.new.self.catalog } in
-    refusal_applied g.D.Disk (Discard c.args.name.now) (λ is. cc) c.args.self.now c.prepare_discard.new.self now c.args.disk.now c.prepare_discard.new.disk c.abandon.ensures.follows c.abandon.ensures.none_left c.abandon.ensures.saved c.abandon.ensures.stays.0 refl
+    refusal_applied g.D.Disk (Discard c.args.name.now) (λ is. cc) c.args.self.now c.prepare_discard.new.self now c.args.disk.now c.prepare_discard.new.disk c.abandon.ensures.follows c.abandon.ensures.none_left (c.abandon.ensures.saved.0, c.abandon.ensures.saved.1, c.abandon.ensures.forgets) c.abandon.ensures.stays.0 refl
     c.in-Err.ensures.still c.in-Err.error (Err c.in-Err.error) refl c.in-Err.ensures.refused state at
 
 pub returns-in-Err-clause-refused : goal.returns-in-Err-clause-refused
 returns-in-Err-clause-refused g c =
     let now : Store = record { alloc = c.prepare_discard.new.self.alloc; records = c.abandon.new.self; catalog = c.prepare_discard.new.self.catalog } in
-    refusal_refused g.D.Disk (Discard c.args.name.now) (λ is. cc) c.args.self.now c.prepare_discard.new.self now c.args.disk.now c.prepare_discard.new.disk c.abandon.ensures.follows c.abandon.ensures.none_left c.abandon.ensures.saved c.abandon.ensures.stays.0 refl
+    refusal_refused g.D.Disk (Discard c.args.name.now) (λ is. cc) c.args.self.now c.prepare_discard.new.self now c.args.disk.now c.prepare_discard.new.disk c.abandon.ensures.follows c.abandon.ensures.none_left (c.abandon.ensures.saved.0, c.abandon.ensures.saved.1, c.abandon.ensures.forgets) c.abandon.ensures.stays.0 refl
     c.in-Err.ensures.still c.in-Err.error (Err c.in-Err.error) refl c.in-Err.ensures.refused
 
 pub returns-in-Err-clause-areas : goal.returns-in-Err-clause-areas
@@ -47,7 +47,7 @@ pub returns-in-Err-clause-leaves : goal.returns-in-Err-clause-leaves
 returns-in-Err-clause-leaves g c =
     let now : Store = record { alloc = c.prepare_discard.new.self.alloc; records = c.abandon.new.self; catalog = c.prepare_discard.new.self.catalog } in
     held_leaves g.D.Disk (Discard c.args.name.now) c.args.self.now now c.args.disk.now c.prepare_discard.new.disk
-    (drop_holds g.D.Disk c.args.self.now c.prepare_discard.new.self now c.args.disk.now c.prepare_discard.new.disk c.abandon.ensures.follows c.abandon.ensures.none_left c.abandon.ensures.saved c.abandon.ensures.stays.0 refl
+    (drop_holds g.D.Disk c.args.self.now c.prepare_discard.new.self now c.args.disk.now c.prepare_discard.new.disk c.abandon.ensures.follows c.abandon.ensures.none_left (c.abandon.ensures.saved.0, c.abandon.ensures.saved.1, c.abandon.ensures.forgets) c.abandon.ensures.stays.0 refl
     c.in-Err.error c.in-Err.ensures.refused)
 
 pub returns-clause-leaves : goal.returns-clause-leaves

@@ -15,19 +15,19 @@ use Rattle.nx_store.proofs.store.Store.edit_shortly.Goals as goal
 pub returns-in-Err-clause-applies : goal.returns-in-Err-clause-applies
 returns-in-Err-clause-applies g c state at told =
     let now : Store = record { alloc = c.prepare_edit.new.self.alloc; records = c.abandon.new.self; catalog = c.prepare_edit.new.self.catalog } in
-    edit_applied g.D.Disk (edit_command c.args.name.now c.args.path c.args.edit) (no_checkpoint c.args.name.now c.args.path c.args.edit) c.args.self.now c.prepare_edit.new.self now c.args.disk.now c.prepare_edit.new.disk c.abandon.ensures.follows c.abandon.ensures.none_left c.abandon.ensures.saved c.abandon.ensures.stays.0 refl
+    edit_applied g.D.Disk (edit_command c.args.name.now c.args.path c.args.edit) (no_checkpoint c.args.name.now c.args.path c.args.edit) c.args.self.now c.prepare_edit.new.self now c.args.disk.now c.prepare_edit.new.disk c.abandon.ensures.follows c.abandon.ensures.none_left (c.abandon.ensures.saved.0, c.abandon.ensures.saved.1, c.abandon.ensures.forgets) c.abandon.ensures.stays.0 refl
     c.in-Err.ensures.still c.args.path c.in-Err.error c.edit_refused.result c.edit_refused.ensures c.in-Err.ensures.refused state at
 
 pub returns-in-Err-clause-ok : goal.returns-in-Err-clause-ok
 returns-in-Err-clause-ok g c =
     let now : Store = record { alloc = c.prepare_edit.new.self.alloc; records = c.abandon.new.self; catalog = c.prepare_edit.new.self.catalog } in
-    edit_ok g.D.Disk (edit_command c.args.name.now c.args.path c.args.edit) (no_checkpoint c.args.name.now c.args.path c.args.edit) c.args.self.now c.prepare_edit.new.self now c.args.disk.now c.prepare_edit.new.disk c.abandon.ensures.follows c.abandon.ensures.none_left c.abandon.ensures.saved c.abandon.ensures.stays.0 refl
+    edit_ok g.D.Disk (edit_command c.args.name.now c.args.path c.args.edit) (no_checkpoint c.args.name.now c.args.path c.args.edit) c.args.self.now c.prepare_edit.new.self now c.args.disk.now c.prepare_edit.new.disk c.abandon.ensures.follows c.abandon.ensures.none_left (c.abandon.ensures.saved.0, c.abandon.ensures.saved.1, c.abandon.ensures.forgets) c.abandon.ensures.stays.0 refl
     c.in-Err.ensures.still c.args.path c.in-Err.error c.edit_refused.result c.edit_refused.ensures c.in-Err.ensures.refused
 
 pub returns-in-Err-clause-refused : goal.returns-in-Err-clause-refused
 returns-in-Err-clause-refused g c =
     let now : Store = record { alloc = c.prepare_edit.new.self.alloc; records = c.abandon.new.self; catalog = c.prepare_edit.new.self.catalog } in
-    edit_refused g.D.Disk (edit_command c.args.name.now c.args.path c.args.edit) (no_checkpoint c.args.name.now c.args.path c.args.edit) c.args.self.now c.prepare_edit.new.self now c.args.disk.now c.prepare_edit.new.disk c.abandon.ensures.follows c.abandon.ensures.none_left c.abandon.ensures.saved c.abandon.ensures.stays.0 refl
+    edit_refused g.D.Disk (edit_command c.args.name.now c.args.path c.args.edit) (no_checkpoint c.args.name.now c.args.path c.args.edit) c.args.self.now c.prepare_edit.new.self now c.args.disk.now c.prepare_edit.new.disk c.abandon.ensures.follows c.abandon.ensures.none_left (c.abandon.ensures.saved.0, c.abandon.ensures.saved.1, c.abandon.ensures.forgets) c.abandon.ensures.stays.0 refl
     c.in-Err.ensures.still c.args.path c.in-Err.error c.edit_refused.result c.edit_refused.ensures c.in-Err.ensures.refused
 
 pub returns-in-Err-clause-areas : goal.returns-in-Err-clause-areas
@@ -53,7 +53,7 @@ pub returns-in-Err-clause-leaves : goal.returns-in-Err-clause-leaves
 returns-in-Err-clause-leaves g c =
     let now : Store = record { alloc = c.prepare_edit.new.self.alloc; records = c.abandon.new.self; catalog = c.prepare_edit.new.self.catalog } in
     held_leaves g.D.Disk (edit_command c.args.name.now c.args.path c.args.edit) c.args.self.now now c.args.disk.now c.prepare_edit.new.disk
-    (edit_holds g.D.Disk c.args.self.now c.prepare_edit.new.self now c.args.disk.now c.prepare_edit.new.disk c.abandon.ensures.follows c.abandon.ensures.none_left c.abandon.ensures.saved c.abandon.ensures.stays.0 refl
+    (edit_holds g.D.Disk c.args.self.now c.prepare_edit.new.self now c.args.disk.now c.prepare_edit.new.disk c.abandon.ensures.follows c.abandon.ensures.none_left (c.abandon.ensures.saved.0, c.abandon.ensures.saved.1, c.abandon.ensures.forgets) c.abandon.ensures.stays.0 refl
     (edit_command c.args.name.now c.args.path c.args.edit) c.args.path c.in-Err.error c.in-Err.ensures.refused)
 
 pub returns-clause-leaves : goal.returns-clause-leaves

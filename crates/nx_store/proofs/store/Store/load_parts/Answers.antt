@@ -23,19 +23,19 @@ overflow_cast-len g c =
 pub returns-in-Err-clause-loads : goal.returns-in-Err-clause-loads
 returns-in-Err-clause-loads g c state at told =
     let now : Store = record { alloc = c.keep.new.self.alloc; records = c.abandon.new.self; catalog = c.keep.new.self.catalog } in
-    refusal_applied g.D.Disk c.args.self.now c.keep.new.self now c.args.disk.now c.keep.new.disk c.abandon.ensures.follows c.abandon.ensures.none_left c.abandon.ensures.saved c.abandon.ensures.stays.0 refl
+    refusal_applied g.D.Disk c.args.self.now c.keep.new.self now c.args.disk.now c.keep.new.disk c.abandon.ensures.follows c.abandon.ensures.none_left (c.abandon.ensures.saved.0, c.abandon.ensures.saved.1, c.abandon.ensures.forgets) c.abandon.ensures.stays.0 refl
     c.args.name.now c.args.tree c.args.parts.now c.requires.new c.requires.chosen c.in-Err.ensures.still c.in-Err.error c.refused.result c.refused.ensures c.in-Err.ensures.refused state at
 
 pub returns-in-Err-clause-ok : goal.returns-in-Err-clause-ok
 returns-in-Err-clause-ok g c =
     let now : Store = record { alloc = c.keep.new.self.alloc; records = c.abandon.new.self; catalog = c.keep.new.self.catalog } in
-    refusal_ok g.D.Disk c.args.self.now c.keep.new.self now c.args.disk.now c.keep.new.disk c.abandon.ensures.follows c.abandon.ensures.none_left c.abandon.ensures.saved c.abandon.ensures.stays.0 refl
+    refusal_ok g.D.Disk c.args.self.now c.keep.new.self now c.args.disk.now c.keep.new.disk c.abandon.ensures.follows c.abandon.ensures.none_left (c.abandon.ensures.saved.0, c.abandon.ensures.saved.1, c.abandon.ensures.forgets) c.abandon.ensures.stays.0 refl
     c.args.name.now c.args.tree c.args.parts.now c.requires.new c.requires.chosen c.in-Err.ensures.still c.in-Err.error c.refused.result c.refused.ensures c.in-Err.ensures.refused
 
 pub returns-in-Err-clause-refused : goal.returns-in-Err-clause-refused
 returns-in-Err-clause-refused g c =
     let now : Store = record { alloc = c.keep.new.self.alloc; records = c.abandon.new.self; catalog = c.keep.new.self.catalog } in
-    refusal_refused g.D.Disk c.args.self.now c.keep.new.self now c.args.disk.now c.keep.new.disk c.abandon.ensures.follows c.abandon.ensures.none_left c.abandon.ensures.saved c.abandon.ensures.stays.0 refl
+    refusal_refused g.D.Disk c.args.self.now c.keep.new.self now c.args.disk.now c.keep.new.disk c.abandon.ensures.follows c.abandon.ensures.none_left (c.abandon.ensures.saved.0, c.abandon.ensures.saved.1, c.abandon.ensures.forgets) c.abandon.ensures.stays.0 refl
     c.args.name.now c.args.tree c.args.parts.now c.requires.new c.requires.chosen c.in-Err.ensures.still c.in-Err.error c.refused.result c.refused.ensures c.in-Err.ensures.refused
 
 pub returns-in-Err-clause-areas : goal.returns-in-Err-clause-areas
@@ -60,7 +60,7 @@ pub returns-in-Err-clause-leaves : goal.returns-in-Err-clause-leaves
 returns-in-Err-clause-leaves g c =
     let now : Store = record { alloc = c.keep.new.self.alloc; records = c.abandon.new.self; catalog = c.keep.new.self.catalog } in
     held_leaves g.D.Disk (Load c.args.name.now (Read c.args.tree)) c.args.self.now now c.args.disk.now c.keep.new.disk
-    (kept_holds g.D.Disk c.args.self.now c.keep.new.self now c.args.disk.now c.keep.new.disk c.abandon.ensures.follows c.abandon.ensures.none_left c.abandon.ensures.saved c.abandon.ensures.stays.0 refl
+    (kept_holds g.D.Disk c.args.self.now c.keep.new.self now c.args.disk.now c.keep.new.disk c.abandon.ensures.follows c.abandon.ensures.none_left (c.abandon.ensures.saved.0, c.abandon.ensures.saved.1, c.abandon.ensures.forgets) c.abandon.ensures.stays.0 refl
     c.args.tree c.in-Err.error c.in-Err.ensures.refused)
 
 pub returns-clause-leaves : goal.returns-clause-leaves

@@ -14,19 +14,19 @@ use Rattle.nx_store.proofs.store.Store.set_rule_shortly.Goals as goal
 pub returns-in-Err-clause-applies : goal.returns-in-Err-clause-applies
 returns-in-Err-clause-applies g c state at told =
     let now : Store = record { alloc = c.prepare_rule.new.self.alloc; records = c.abandon.new.self; catalog = c.prepare_rule.new.self.catalog } in
-    rule_applied g.D.Disk (SetRule c.args.rule.now) (λ is. cc) c.args.self.now c.prepare_rule.new.self now c.args.disk.now c.prepare_rule.new.disk c.abandon.ensures.follows c.abandon.ensures.none_left c.abandon.ensures.saved c.abandon.ensures.stays.0 refl
+    rule_applied g.D.Disk (SetRule c.args.rule.now) (λ is. cc) c.args.self.now c.prepare_rule.new.self now c.args.disk.now c.prepare_rule.new.disk c.abandon.ensures.follows c.abandon.ensures.none_left (c.abandon.ensures.saved.0, c.abandon.ensures.saved.1, c.abandon.ensures.forgets) c.abandon.ensures.stays.0 refl
     c.in-Err.ensures.still c.in-Err.error c.rule_refused.result c.rule_refused.ensures c.in-Err.ensures.refused state at
 
 pub returns-in-Err-clause-ok : goal.returns-in-Err-clause-ok
 returns-in-Err-clause-ok g c =
     let now : Store = record { alloc = c.prepare_rule.new.self.alloc; records = c.abandon.new.self; catalog = c.prepare_rule.new.self.catalog } in
-    rule_ok g.D.Disk (SetRule c.args.rule.now) (λ is. cc) c.args.self.now c.prepare_rule.new.self now c.args.disk.now c.prepare_rule.new.disk c.abandon.ensures.follows c.abandon.ensures.none_left c.abandon.ensures.saved c.abandon.ensures.stays.0 refl
+    rule_ok g.D.Disk (SetRule c.args.rule.now) (λ is. cc) c.args.self.now c.prepare_rule.new.self now c.args.disk.now c.prepare_rule.new.disk c.abandon.ensures.follows c.abandon.ensures.none_left (c.abandon.ensures.saved.0, c.abandon.ensures.saved.1, c.abandon.ensures.forgets) c.abandon.ensures.stays.0 refl
     c.in-Err.ensures.still c.in-Err.error c.rule_refused.result c.rule_refused.ensures c.in-Err.ensures.refused
 
 pub returns-in-Err-clause-refused : goal.returns-in-Err-clause-refused
 returns-in-Err-clause-refused g c =
     let now : Store = record { alloc = c.prepare_rule.new.self.alloc; records = c.abandon.new.self; catalog = c.prepare_rule.new.self.catalog } in
-    rule_refused g.D.Disk (SetRule c.args.rule.now) (λ is. cc) c.args.self.now c.prepare_rule.new.self now c.args.disk.now c.prepare_rule.new.disk c.abandon.ensures.follows c.abandon.ensures.none_left c.abandon.ensures.saved c.abandon.ensures.stays.0 refl
+    rule_refused g.D.Disk (SetRule c.args.rule.now) (λ is. cc) c.args.self.now c.prepare_rule.new.self now c.args.disk.now c.prepare_rule.new.disk c.abandon.ensures.follows c.abandon.ensures.none_left (c.abandon.ensures.saved.0, c.abandon.ensures.saved.1, c.abandon.ensures.forgets) c.abandon.ensures.stays.0 refl
     c.in-Err.ensures.still c.in-Err.error c.rule_refused.result c.rule_refused.ensures c.in-Err.ensures.refused
 
 pub returns-in-Err-clause-areas : goal.returns-in-Err-clause-areas
@@ -52,7 +52,7 @@ pub returns-in-Err-clause-leaves : goal.returns-in-Err-clause-leaves
 returns-in-Err-clause-leaves g c =
     let now : Store = record { alloc = c.prepare_rule.new.self.alloc; records = c.abandon.new.self; catalog = c.prepare_rule.new.self.catalog } in
     held_leaves g.D.Disk (SetRule c.args.rule.now) c.args.self.now now c.args.disk.now c.prepare_rule.new.disk
-    (rule_holds g.D.Disk c.args.self.now c.prepare_rule.new.self now c.args.disk.now c.prepare_rule.new.disk c.abandon.ensures.follows c.abandon.ensures.none_left c.abandon.ensures.saved c.abandon.ensures.stays.0 refl
+    (rule_holds g.D.Disk c.args.self.now c.prepare_rule.new.self now c.args.disk.now c.prepare_rule.new.disk c.abandon.ensures.follows c.abandon.ensures.none_left (c.abandon.ensures.saved.0, c.abandon.ensures.saved.1, c.abandon.ensures.forgets) c.abandon.ensures.stays.0 refl
     (SetRule c.args.rule.now) c.in-Err.error c.in-Err.ensures.refused)
 
 pub returns-clause-leaves : goal.returns-clause-leaves

@@ -9,6 +9,11 @@ use Rattle.nx_store.proofs.CaseLemmas.{quiet_leaves}
 use Rattle.nx_store.proofs.TextLemmas.{untold_applied}
 use Rattle.nx_store.proofs.store.Store.text_behind.Goals as goal
 
+pub returns-in_err-reply-clause-writes : goal.returns-in_err-reply-clause-writes
+returns-in_err-reply-clause-writes g c state at told =
+    handed c.from_residual.result (λ (r : Result (List ℕ) EngineError). IsAppliedWithText g.D.Disk r state c.args.command c.look.new.self c.args.disk.now c.look.new.disk)
+    c.in_err-reply.field-0.0 (err_from_is_err_and c.from_residual.result c.from_residual.ensures.1) (c.in_err-reply.ensures.applies state at told)
+
 pub returns-in_err-text-clause-writes : goal.returns-in_err-text-clause-writes
 returns-in_err-text-clause-writes g c state at told =
     handed c.from_residual-in_err-text.result (λ (r : Result (List ℕ) EngineError). IsAppliedWithText g.D.Disk r state c.args.command c.look.new.self c.args.disk.now c.look.new.disk) Memory
