@@ -18,5 +18,7 @@ mod streams;
 mod trees;
 #[cfg(test)]
 mod weights;
+#[cfg(test)]
+mod whole_lines;
 
 pub use fixtures::{node, read};

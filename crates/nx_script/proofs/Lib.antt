@@ -5,6 +5,8 @@ pub mod BeforeDot
 pub mod DocumentLines
 pub mod ParserLemmas
 pub mod ScriptLemmas
+pub mod WholeLemmas
+pub mod CutLemmas
 pub mod CanComeLemmas
 pub mod BodyLemmas
 pub mod OneList

@@ -8,3 +8,4 @@ pub mod Parser
 pub mod Script
 pub mod Reply
 pub mod Law
+pub mod Whole

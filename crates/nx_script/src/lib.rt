@@ -16,6 +16,7 @@ mod parser;
 mod reply;
 mod rule;
 mod script;
+mod whole;
 mod write;
 
 pub use body::Body;
@@ -26,4 +27,5 @@ pub use parser::Parser;
 pub use reply::{DocLine, DocLines, Reply, ReplyError};
 pub use rule::{is_child_label, is_parent_label};
 pub use script::Script;
+pub use whole::Line;
 pub use write::{push_reply, write_reply};

@@ -6,10 +6,13 @@ ghost use Rattle.nx_script.specs.Commands.{loaded_name, IsLoadCommand, AreComman
 ghost use Rattle.nx_script.specs.Body.{HasReadLines};
 ghost use Rattle.nx_script.specs.declared.parser.Parser.{Parser};
 ghost use Rattle.nx_script.specs.Parser.{HasParsed, AddsLine, with_command, most_held};
+ghost use Rattle.nx_script.specs.declared.whole.Line.{Line};
+ghost use Rattle.nx_script.specs.Whole.{HasHeld, AreLines, with_line};
 
 use crate::Command;
 use crate::body::Body;
 use crate::line::{begins_load, loaded_name, parse};
+use crate::whole::{Line, whole_line};
 use nx_pyx::{line_end, without_cr};
 use nx_tree::{Bytes, NoMemory};
 use std::alloc::Global;
@@ -39,7 +42,8 @@ pub struct Parser {
 impl Parser {
     /// A parser to which no byte has come.
     pub fn new(alloc: Global) -> Parser
-        ensures { HasParsed result [] [] }
+        ensures commands { HasParsed result [] [] }
+        ensures lines { HasHeld result [] [] }
     {
         Parser {
             alloc,
@@ -76,6 +80,49 @@ impl Parser {
             Some(load) => last_load(load),
             None => self.last_line(),
         }
+    }
+
+    /// Takes a prefix of the bytes that come, and gives how many they were, at least one, and the
+    /// line that they end, whatever it says, if they end one.
+    ///
+    /// Errors: `NoMemory`.
+    pub fn take_whole(&mut self, bytes: &[u8]) -> Result<(usize, Option<Line>), NoMemory>
+        requires { 0 < length bytes.now }
+        ensures some { IfOk result (λ r. 0 < r.0) }
+        ensures within { IfOk result (λ r. r.0 ≤ length bytes.now) }
+        ensures given { IfOk result (λ r. (seen : List ℕ) (lines : List Line) → HasHeld self.old seen lines →
+            HasHeld self.new (seen ++ take r.0 bytes.now) (with_line lines r.1)) }
+    {
+        match line_end(bytes) {
+            Some(end) => Ok((end + 1, Some(self.end_whole(&bytes[..end])?))),
+            None => {
+                self.hold(bytes)?;
+                Ok((bytes.len(), None))
+            }
+        }
+    }
+
+    /// The last line, which no LF has ended, if there is one, once all bytes have come.
+    ///
+    /// Errors: `NoMemory`.
+    pub fn last_whole(&self) -> Result<Option<Line>, NoMemory>
+        ensures { IfOk result (λ last. (seen : List ℕ) (lines : List Line) → HasHeld self.now seen lines → AreLines seen (with_line lines last)) }
+    {
+        if self.held.is_empty() {
+            return Ok(None);
+        }
+        Ok(Some(whole_line(self.alloc, self.held.as_slice())?))
+    }
+
+    // Takes the rest of a line, which an LF ends then.
+    fn end_whole(&mut self, rest: &[u8]) -> Result<Line, NoMemory>
+        requires { has_lf rest.now ≡ false }
+        ensures { IfOk result (λ line. (seen : List ℕ) (lines : List Line) → HasHeld self.old seen lines →
+            HasHeld self.new (seen ++ (rest.now ++ 10 ∷ [])) (lines ++ line ∷ [])) }
+    {
+        self.hold(rest)?;
+        let held = mem::replace(&mut self.held, Bytes::new(self.alloc));
+        whole_line(self.alloc, held.as_slice())
     }
 
     // The command of the last line, which no LF has ended, if there is one.

@@ -2,7 +2,7 @@
 ghost use Rattle.std.specs.Prelude.{◌≡◌, ◌<◌, ◌≤◌};
 
 use crate::parser::Parser;
-use crate::{Command, ScriptError};
+use crate::{Command, Line, ScriptError};
 use nx_host::{Disk, Host, Input};
 use std::alloc::Global;
 
@@ -30,12 +30,15 @@ impl Script {
     ghost use Rattle.nx_script.specs.declared.error.ScriptError.TheVariants.{Read, TooMuch, Memory};
     ghost use Rattle.nx_script.specs.Commands.{AreWhole, AreCommands};
     ghost use Rattle.nx_script.specs.Script.{HasGiven, HasGivenIn, IsDrained, GivesNext, Stops, work_left};
+    ghost use Rattle.nx_script.specs.declared.whole.Line.{Line};
+    ghost use Rattle.nx_script.specs.Whole.{AreLines, AreEnded, HasCut, HasCutIn, CutsNext, StopsCutting};
 
     /// A script that is about to come.
     ///
     /// Errors: `Memory`.
     pub fn new(alloc: Global) -> Result<Script, ScriptError>
         ensures ok { IfOk result (λ script. (input : Option (List ℕ)) → HasGivenIn script [] [] input input) }
+        ensures lines { IfOk result (λ script. (input : Option (List ℕ)) → HasCutIn script [] [] input input) }
         ensures err { IfErr result (λ error. error ≡ Memory) }
     {
         Ok(Script {
@@ -109,10 +112,14 @@ impl Script {
         requires unended { self.old.ended ≡ false }
         ensures ok { OnOk result ((first : Option (List ℕ)) (taken : List ℕ) (commands : List Command) → HasGivenIn self.old taken commands first (H.beside host.old).input →
             (more : List ℕ) × HasGivenIn self.new (taken ++ more) commands first (H.beside host.new).input) }
+        ensures lines { OnOk result ((first : Option (List ℕ)) (taken : List ℕ) (lines : List Line) → HasCutIn self.old taken lines first (H.beside host.old).input →
+            (more : List ℕ) × HasCutIn self.new (taken ++ more) lines first (H.beside host.new).input) }
         ensures more { OnOk result ((self.old.input.taken < self.new.input.taken) ⊎ (self.new.ended ≡ true)) }
         ensures taken { self.old.input.taken ≤ self.new.input.taken }
         ensures err { OnErr result ((first : Option (List ℕ)) (taken : List ℕ) (commands : List Command) → HasGivenIn self.old taken commands first (H.beside host.old).input →
             HasGivenIn self.new taken commands first (H.beside host.new).input) }
+        ensures lines_err { OnErr result ((first : Option (List ℕ)) (taken : List ℕ) (lines : List Line) → HasCutIn self.old taken lines first (H.beside host.old).input →
+            HasCutIn self.new taken lines first (H.beside host.new).input) }
         ensures too_much { (result ≡ Err TooMuch) ↔ (self.old.input.taken ≡ most_input) }
         ensures errors { IfErr result (λ error. (error ≡ Read) ⊎ (error ≡ TooMuch)) }
         ensures cause { result ≡ Err Read → Rose (H.beside host.old).in_faults (H.beside host.new).in_faults }
@@ -122,6 +129,52 @@ impl Script {
         let count = self.input.fill(host)?;
         self.ended = count == 0;
         Ok(())
+    }
+
+    /// The next line, whatever it says. `None` says that the input has ended and no line is left. A script
+    /// gives commands or lines, and not both.
+    ///
+    /// Errors: as those of `next`. With `Read` and `TooMuch` all lines were given whose LF was taken.
+    pub fn next_line<H: Host>(&mut self, host: &mut H) -> Result<Option<Line>, ScriptError>
+        ensures given { IfOk result (λ next. (first : Option (List ℕ)) (taken : List ℕ) (lines : List Line) →
+            HasCutIn self.old taken lines first (H.beside host.old).input → CutsNext next self.new taken lines first (H.beside host.new).input) }
+        ensures err { IfErr result (λ error. (first : Option (List ℕ)) (taken : List ℕ) (lines : List Line) →
+            HasCutIn self.old taken lines first (H.beside host.old).input → StopsCutting error self.new taken lines first (H.beside host.new).input) }
+        ensures cause { result ≡ Err Read → Rose (H.beside host.old).in_faults (H.beside host.new).in_faults }
+        ensures alone { TakesAlone ⟦<H as Disk>⟧ host.old host.new }
+    {
+        loop {
+            let line = self.ready_line()?;
+            if line.is_some() || self.ended {
+                return Ok(line);
+            }
+            self.fill(host)?;
+        }
+    }
+
+    // The next line, if the bytes that were taken so far hold it whole, or the input has ended.
+    fn ready_line(&mut self) -> Result<Option<Line>, ScriptError>
+        ensures given { IfOk result (λ next. IfSome next (λ line. (taken : List ℕ) (lines : List Line) →
+            HasCut self.old taken lines → HasCut self.new taken (lines ++ line ∷ []))) }
+        ensures none { result ≡ Ok None → (taken : List ℕ) (lines : List Line) → HasCut self.old taken lines →
+            HasCut self.new taken lines × MatchBool self.new.ended (AreLines taken lines) (AreEnded taken lines) }
+        ensures drained { result ≡ Ok None → IsDrained self.new }
+        ensures err { IfErr result (λ error. error ≡ Memory) }
+        ensures taken { self.new.input.taken ≡ self.old.input.taken }
+        ensures ended { self.new.ended ≡ self.old.ended }
+    {
+        while self.start < self.input.block().len() {
+            let (len, line) = self.parser.take_whole(&self.input.block()[self.start..])?;
+            self.start += len;
+            if line.is_some() {
+                return Ok(line);
+            }
+        }
+        if self.ended && !self.finished {
+            self.finished = true;
+            return Ok(self.parser.last_whole()?);
+        }
+        Ok(None)
     }
 
     /// Whether the input has ended.
