@@ -8,10 +8,12 @@ mod all;
 mod cut;
 mod gate;
 mod many;
+mod planning;
 mod rows;
 mod settle;
 mod wide;
 
 pub use all::{BoundsList, bounds_of_all};
 pub use gate::{Gate, NoGate};
+pub use planning::partition_wide;
 pub use wide::bounds_wide;
