@@ -1,6 +1,7 @@
 pub mod PieceLemmas
 pub mod MapLemmas
 pub mod TidyLemmas
+pub mod WrittenLemmas
 pub mod PutLemmas
 pub mod RefusalLemmas
 pub mod CallLemmas

@@ -13,5 +13,7 @@ mod updating;
 
 pub use contents::{content, far_content, free_content, free_far, hold_node};
 pub use entry::DocEntry;
-pub use pieces::{add_piece, read_piece, remove_piece, update_piece, view_piece};
+pub use pieces::{
+    WrittenPiece, add_piece, read_piece, read_written, remove_piece, update_piece, view_piece,
+};
 pub use taking::{TakenPiece, take_piece};

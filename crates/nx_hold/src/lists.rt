@@ -1,5 +1,9 @@
 // The records of pieces, and the lists that hold their proxies.
-ghost use Rattle.std.specs.Prelude.{◌≡◌, ◌+◌, ◌*◌, ◌≤◌, true, false, length, Some, List as Items, ℕ, IfOk, IfErr, OnOk};
+ghost use Rattle.std.specs.Prelude.{◌≡◌, ◌+◌, ◌*◌, ◌≤◌, true, false, length, Some, List as Items, ℕ, IfOk, IfErr, OnOk, MatchOption};
+ghost use Rattle.nx_piece.specs.declared.piece.Body.{Body};
+ghost use Rattle.nx_piece.specs.declared.piece.Stored.{Stored};
+ghost use Rattle.nx_piece.specs.declared.piece.Stored.TheVariants.{Chained};
+ghost use Rattle.nx_seek.specs.Written.{IsRecord, IsInline};
 ghost use Rattle.nx_host.specs.Still.{IsStill};
 ghost use Rattle.nx_records.specs.Words.{Held, chain_count};
 ghost use Rattle.nx_records.specs.Records.{StandsFor, KeepsSaved, ComesTo, LeavesRecords, HasChanges, has_ended};
@@ -14,7 +18,7 @@ ghost use Rattle.nx_hold.specs.Putting.{told_at, LacksProxies, HasList, FreesCha
 use nx_host::Disk;
 use nx_piece::{
     Piece, Proxies, Stored, StoredView, decode, decode_proxies, encode_chained, encode_inline,
-    encode_proxies, fits_inline, view,
+    encode_proxies, fits_inline, read_head, view,
 };
 use nx_records::{Records, Rid, StoreError};
 use nx_tree::Bytes;
@@ -94,6 +98,41 @@ pub(crate) fn proxies_at<D: Disk>(
         return Err(damaged(records, named));
     };
     Ok(proxies)
+}
+
+// How many proxies the list has that a record of these bytes names, and its first page.
+pub(crate) fn list_named(bytes: &[u8]) -> Option<(u32, u32)>
+    ensures { (stored : Stored) → IsRecord bytes.now stored → MatchOption result (IsInline stored) (λ list. (body : Body) × (stored ≡ Chained body list.0 list.1)) }
+{
+    let Some((head, _)) = read_head(bytes) else {
+        return None;
+    };
+    if head.form != 2 {
+        return None;
+    }
+    Some((head.proxies, head.chain))
+}
+
+// The bytes of a list that a record names.
+pub(crate) fn list_at<D: Disk>(
+    alloc: Global,
+    records: &mut Records,
+    disk: &mut D,
+    count: u32,
+    chain: u32,
+    named: u32,
+) -> Result<Bytes, StoreError>
+    requires { has_ended records.old ≡ false }
+    ensures still { IsStill D.Disk disk.old disk.new }
+    ensures reads { D.reads disk.new ≤ D.reads disk.old + chain_count (8 * count) }
+    ensures ok { IfOk result (λ bytes. LeavesRecords records.old records.new
+        × ((saved now : Held) (all : Items ℕ) → StandsFor D.Disk records.old disk.old saved now → now.lists chain ≡ Some all → bytes ≡ all)) }
+    ensures refused { IfErr result (λ e. NotRead D.Disk (λ now. LacksProxies now count chain) named e records.old records.new disk.old disk.new) }
+{
+    match records.read_list(alloc, disk, chain, 8 * u64::from(count)) {
+        Ok(bytes) => Ok(bytes),
+        Err(error) => Err(at_page(error, named)),
+    }
 }
 
 // The bytes of the record of a piece. Proxies that don't stand there are put into a list.

@@ -7,10 +7,13 @@ ghost use Rattle.nx_records.specs.Refusals.{NotRead, NotChanged, NotStored, Runs
 ghost use Rattle.nx_piece.specs.declared.piece.Piece.{Piece};
 ghost use Rattle.nx_piece.specs.Gapped.{gapped_width};
 ghost use Rattle.nx_piece.specs.Valid.{AreNear, IsValidPiece, HaveNumbers};
+ghost use Rattle.nx_seek.specs.Written.{IsWrittenAs};
 ghost use Rattle.nx_hold.specs.Pieces.{HoldsPiece, HoldsNone, HasNamedList, MayName};
 ghost use Rattle.nx_hold.specs.Changes.{place_of, place_named, chain_pages, piece_needs, TakesPages, AddsPiece, UpdatesPiece, RemovesPiece, ComesOwn, ComesTidy, ComesTidyWhere};
 
-use crate::lists::{free_proxies, proxies_at, record_bytes, stored_at, viewed_at};
+use crate::lists::{
+    free_proxies, list_at, list_named, proxies_at, record_bytes, stored_at, viewed_at,
+};
 use crate::taking::take_piece;
 use crate::updating::{list_kept, update_on_list};
 use nx_host::Disk;
@@ -78,6 +81,43 @@ pub fn view_piece<'a, D: Disk>(
         StoredView::Chained { body, count, chain } => {
             let proxies = proxies_at(alloc, records, disk, count, chain, rid.page)?;
             Ok(PieceView { body, proxies })
+        }
+    }
+}
+
+/// The bytes of the record of a piece, and those of the list that the record names for its proxies: none where it names no list.
+#[derive(Drop)]
+pub struct WrittenPiece {
+    pub record: Bytes,
+    pub list: Bytes,
+}
+
+/// The bytes of the piece of the record at a place. They are given as they are, also where they are those of no piece. It reads the
+/// record's page, and the chain pages of the list, also where it gives up.
+///
+/// Errors: those of `read_piece`, but that it isn't looked whether the bytes are those of a piece.
+pub fn read_written<D: Disk>(
+    alloc: Global,
+    records: &mut Records,
+    disk: &mut D,
+    rid: Rid,
+) -> Result<WrittenPiece, StoreError>
+    ensures still { IsStill D.Disk disk.old disk.new }
+    ensures reads { (pages : ℕ) × (D.reads disk.new ≤ D.reads disk.old + pages)
+        × ((saved now : Held) (held : Piece) → StandsFor D.Disk records.old disk.old saved now → HoldsPiece now (place_of rid) held → TakesPages now (place_of rid) pages) }
+    ensures ok { IfOk result (λ written. (has_ended records.old ≡ false) × LeavesRecords records.old records.new
+        × ((saved now : Held) (held : Piece) → StandsFor D.Disk records.old disk.old saved now → HoldsPiece now (place_of rid) held → IsWrittenAs held written.record written.list)) }
+    ensures refused { IfErr result (λ e. NotRead D.Disk (λ now. HoldsNone now (place_of rid)) rid.page e records.old records.new disk.old disk.new) }
+{
+    let record = records.read(alloc, disk, rid)?;
+    match list_named(record.as_slice()) {
+        None => Ok(WrittenPiece {
+            record,
+            list: Bytes::new(alloc),
+        }),
+        Some((count, chain)) => {
+            let list = list_at(alloc, records, disk, count, chain, rid.page)?;
+            Ok(WrittenPiece { record, list })
         }
     }
 }

@@ -2,6 +2,7 @@ pub mod PartLemmas
 pub mod RefusalLemmas
 pub mod ChildLemmas
 pub mod SeekLemmas
+pub mod WrittenLemmas
 pub mod ShowLemmas
 pub mod BesideLemmas
 pub mod RouteLemmas

@@ -125,3 +125,9 @@ none_found (Some x) never = absurd (never x refl)
 pub too_deep : (path : List ℕ) (tree : OrderedTree) → IsDocument tree → deepest < length path → at tree path ≡ None
 too_deep path tree h deep =
     none_found (at tree path) (λ found there. let within = path_within path tree found there in let shallow : depth tree.below ≤ deepest = h.shallow in omega arith)
+
+-- nor has any content that a document may have too many bytes for a number
+pub content_fits : (depth : ℕ) (kind : Kind) (name : List ℕ) (long : ℕ) → CanBeWith depth kind name long → long ≤ 4294967295
+content_fits zero kind name long can = let none : long ≡ 0 = (can.root refl).2 in omega arith
+content_fits (suc depth) kind name long can =
+    let most : length name + long ≤ 1048576 = (can.below (let some : 1 ≤ suc depth = omega arith in some)).1 in omega arith

@@ -172,75 +172,83 @@ module _ {D : Type 0} {d : Ghosts D} {r0 : Records} {x0 : D} {root : RecordPlace
     pub finds_none : reached_in piece member rest ≡ Missing → OfEach d r0 x0 root (λ document. at (tree_of document) path ≡ None)
     finds_none e document h = leads document h Missing e
 
-    -- or it leads on into another record
-    pub seek_goes_on : {r2 : Records} {x2 : D} → has_ended r1 ≡ false → LeavesRecords r1 r2 → IsStill d x1 x2 → (own : ReadsPiece d r1 x1 x2 place) → IsValidPiece piece → (proxy : Proxy) (index next used : ℕ) → reached_in piece member rest ≡ Outside index next used → slice_get piece.proxies index ≡ Some proxy
-        → IsSeeking d r0 r2 x0 x2 root path (place_named proxy) proxy.roots next (drop used rest)
-    seek_goes_on {r2} {x2} runs stays still own valid proxy index next used e there = record {
-      stays = leaves_add_up seeking.stays stays;
-      still = still_then seeking.still still;
-      alone = still_runs r0 (sym (seeking.stays).ended_stays ∙ runs);
-      on = λ document h.
-          let on = seeking.on document h in
-          let same : piece.proxies ≡ proxies_of on.members = ap (λ (p : Piece). p.proxies) (is on.members on.there on.as_many) in
-          let away = leads document h (Outside index next used) e in
-          let inner = away.2 in
-          let named : proxy ≡ proxy_of inner.place (width inner.members) = some_same (sym there ∙ ap (λ (ps : List Proxy). slice_get ps index) same ∙ inner.proxy) in
-          let at_place : inner.place ≡ place_named proxy = ap (λ (p : Proxy). place_named p) (sym named) in
-          let end : used ≡ 0 + away.0 = away.1 in
-          let steps : away.0 ≡ used = omega arith in
-          let part = layout_of on.there (Kept inner.place inner.members Bare) inner.held inner.light in
-          let moved = subst (λ p. (there : HasInterval d r2 x2 p inner.members) × (there.now ≡ h.now)) at_place
-          (layout_later {r0 = r1} {r1 = r2} stays still part, later_same stays still part ∙ part_same on.there (Kept inner.place inner.members Bare) inner.held inner.light ∙ on.of) in
-          record {
-            members = inner.members;
-            there = moved.0;
-            of = moved.1;
-            as_many = ap (λ (p : Proxy). p.roots) (sym named);
-            within = inner.within;
-            same = inner.is ∙ ap (λ (n : ℕ). at_member (laid_forest inner.members) next (drop n rest)) steps;
-          };
-      pages = seeking.pages + own.0;
-      few = let was : d.reads x1 ≤ d.reads x0 + seeking.pages = seeking.few in let now : d.reads x2 ≤ d.reads x1 + own.0 = own.1 in omega (arith, was, now);
-      levels = seeking.levels + 1;
-      fewer =
-          let falls = path_falls piece member rest index next used valid e in
-          let was = seeking.fewer in
-          let left = length-drop used rest in
-          let some = falls.0 in
-          let most = falls.1 in
-          omega (arith, was, left, some, most);
-      through = λ document h more n lead take.
-          let held : HoldsPiece h.now place piece = piece_held document h in
-          let takes : TakesPages h.now place own.0 = own_pages seeking document h own in
-          let all = seeking.through document h (place_named proxy ∷ more) (own.0 + n) (refl, (piece, index, next, used, proxy, held, e, there, lead)) (own.0, n, takes, take, refl) in (
-            all.0,
-            all.1,
-            subst (λ (m : ℕ). TakePages h.now (root ∷ all.0) m) (let sum : seeking.pages + (own.0 + n) ≡ seeking.pages + own.0 + n = omega arith in sum) all.2,
-            let long = all.3 in omega (arith, long),
-            λ other among. all.4 other (Contains-append_right (place ∷ []) (place_named proxy ∷ more) other among),
-          );
-    }
-
     -- the path is shorter there
     pub seek_falls : (index next used : ℕ) → IsValidPiece piece → reached_in piece member rest ≡ Outside index next used → (1 ≤ used) × (used ≤ length rest)
     seek_falls index next used valid e = path_falls piece member rest index next used valid e
 
+  -- Or it leads on into another record, in each document:
+  pub seek_leads_on : {r1 r2 : Records} {x1 x2 : D} {place : RecordPlace} {roots member : ℕ} {rest : List ℕ} (seeking : IsSeeking d r0 r1 x0 x1 root path place roots member rest) → has_ended r1 ≡ false → LeavesRecords r1 r2 → IsStill d x1 x2
+      → (pages : ℕ) → d.reads x2 ≤ d.reads x1 + pages → ((document : CutTree) (h : HasDocument d r0 x0 root document) → TakesPages h.now place pages) → (proxy : Proxy) (index next used : ℕ) → 1 ≤ used → used ≤ length rest
+      → ((document : CutTree) (h : HasDocument d r0 x0 root document) → (piece : Piece) × IsPieceAt d r1 x1 place roots piece × (reached_in piece member rest ≡ Outside index next used) × (slice_get piece.proxies index ≡ Some proxy))
+      → IsSeeking d r0 r2 x0 x2 root path (place_named proxy) proxy.roots next (drop used rest)
+  seek_leads_on {r1} {r2} {x1} {x2} {place} {roots} {member} {rest} seeking runs stays still pages few takes proxy index next used some most there = record {
+    stays = leaves_add_up seeking.stays stays;
+    still = still_then seeking.still still;
+    alone = still_runs r0 (sym (seeking.stays).ended_stays ∙ runs);
+    on = λ document h.
+        let on = seeking.on document h in
+        let own = there document h in
+        let same : own.0.proxies ≡ proxies_of on.members = ap (λ (p : Piece). p.proxies) (own.1 on.members on.there on.as_many) in
+        let away = leads seeking own.0 own.1 document h (Outside index next used) own.2 in
+        let inner = away.2 in
+        let named : proxy ≡ proxy_of inner.place (width inner.members) = some_same (sym own.3 ∙ ap (λ (ps : List Proxy). slice_get ps index) same ∙ inner.proxy) in
+        let at_place : inner.place ≡ place_named proxy = ap (λ (p : Proxy). place_named p) (sym named) in
+        let end : used ≡ 0 + away.0 = away.1 in
+        let steps : away.0 ≡ used = omega arith in
+        let part = layout_of on.there (Kept inner.place inner.members Bare) inner.held inner.light in
+        let moved = subst (λ p. (there : HasInterval d r2 x2 p inner.members) × (there.now ≡ h.now)) at_place
+        (layout_later {r0 = r1} {r1 = r2} stays still part, later_same stays still part ∙ part_same on.there (Kept inner.place inner.members Bare) inner.held inner.light ∙ on.of) in
+        record {
+          members = inner.members;
+          there = moved.0;
+          of = moved.1;
+          as_many = ap (λ (p : Proxy). p.roots) (sym named);
+          within = inner.within;
+          same = inner.is ∙ ap (λ (n : ℕ). at_member (laid_forest inner.members) next (drop n rest)) steps;
+        };
+    pages = seeking.pages + pages;
+    few = let was : d.reads x1 ≤ d.reads x0 + seeking.pages = seeking.few in omega (arith, was, few);
+    levels = seeking.levels + 1;
+    fewer = let was = seeking.fewer in let left = length-drop used rest in omega (arith, was, left, some, most);
+    through = λ document h more n lead take.
+        let own = there document h in
+        let held : HoldsPiece h.now place own.0 = piece_held seeking own.0 own.1 document h in
+        let all = seeking.through document h (place_named proxy ∷ more) (pages + n) (refl, (own.0, index, next, used, proxy, held, own.2, own.3, lead)) (pages, n, takes document h, take, refl) in (
+          all.0,
+          all.1,
+          subst (λ (m : ℕ). TakePages h.now (root ∷ all.0) m) (let sum : seeking.pages + (pages + n) ≡ seeking.pages + pages + n = omega arith in sum) all.2,
+          let long = all.3 in omega (arith, long),
+          λ other among. all.4 other (Contains-append_right (place ∷ []) (place_named proxy ∷ more) other among),
+        );
+  }
+
+  -- ... where a piece that was read says so
+  pub seek_goes_on : {r1 : Records} {x1 : D} {place : RecordPlace} {roots member : ℕ} {rest : List ℕ} (seeking : IsSeeking d r0 r1 x0 x1 root path place roots member rest) (piece : Piece) → IsPieceAt d r1 x1 place roots piece
+      → {r2 : Records} {x2 : D} → has_ended r1 ≡ false → LeavesRecords r1 r2 → IsStill d x1 x2 → (own : ReadsPiece d r1 x1 x2 place) → IsValidPiece piece → (proxy : Proxy) (index next used : ℕ) → reached_in piece member rest ≡ Outside index next used → slice_get piece.proxies index ≡ Some proxy
+      → IsSeeking d r0 r2 x0 x2 root path (place_named proxy) proxy.roots next (drop used rest)
+  seek_goes_on {member = member} {rest = rest} seeking piece is {r2} {x2} runs stays still own valid proxy index next used e there =
+      let falls = path_falls piece member rest index next used valid e in
+      seek_leads_on seeking runs stays still own.0 own.1 (λ document h. own_pages seeking document h own) proxy index next used falls.0 falls.1 (λ document h. (piece, is, e, there))
+
   -- no page was read but those on the path, with those of the next piece, which is one of them
-  pub seek_reads_there : {r1 : Records} {x1 : D} (x2 : D) {place : RecordPlace} {roots member : ℕ} {rest : List ℕ} (seeking : IsSeeking d r0 r1 x0 x1 root path place roots member rest) → seeking.levels ≤ deepest → ReadsPiece d r1 x1 x2 place
-      → (document : CutTree) (h : HasDocument d r0 x0 root document) → (along : ReadsAlong h.now root path (d.reads x0) (d.reads x2)) × Contains along.places place
-  seek_reads_there {x1 = x1} x2 {place = place} {rest = rest} seeking short own document h =
-      let takes : TakesPages h.now place own.0 = own_pages seeking document h own in
-      let all = seeking.through document h [] own.0 refl (own.0, 0, takes, refl, let none : own.0 ≡ own.0 + 0 = omega arith in none) in (
+  pub seek_reads_at : {r1 : Records} {x1 : D} (x2 : D) {place : RecordPlace} {roots member : ℕ} {rest : List ℕ} (seeking : IsSeeking d r0 r1 x0 x1 root path place roots member rest) → seeking.levels ≤ deepest → (pages : ℕ) → d.reads x2 ≤ d.reads x1 + pages
+      → (document : CutTree) (h : HasDocument d r0 x0 root document) → TakesPages h.now place pages → (along : ReadsAlong h.now root path (d.reads x0) (d.reads x2)) × Contains along.places place
+  seek_reads_at {x1 = x1} x2 {place = place} {rest = rest} seeking short pages now document h takes =
+      let all = seeking.through document h [] pages refl (pages, 0, takes, refl, let none : pages ≡ pages + 0 = omega arith in none) in (
         record {
           places = root ∷ all.0;
           lead = all.1;
           levels = let long : length all.0 ≡ seeking.levels + 0 = all.3 in omega (arith, long, short);
-          pages = seeking.pages + own.0;
+          pages = seeking.pages + pages;
           are = all.2;
-          few = let was : d.reads x1 ≤ d.reads x0 + seeking.pages = seeking.few in let now : d.reads x2 ≤ d.reads x1 + own.0 = own.1 in omega (arith, was, now);
+          few = let was : d.reads x1 ≤ d.reads x0 + seeking.pages = seeking.few in omega (arith, was, now);
         },
         all.4 place (0, omega arith, refl),
       )
+
+  pub seek_reads_there : {r1 : Records} {x1 : D} (x2 : D) {place : RecordPlace} {roots member : ℕ} {rest : List ℕ} (seeking : IsSeeking d r0 r1 x0 x1 root path place roots member rest) → seeking.levels ≤ deepest → ReadsPiece d r1 x1 x2 place
+      → (document : CutTree) (h : HasDocument d r0 x0 root document) → (along : ReadsAlong h.now root path (d.reads x0) (d.reads x2)) × Contains along.places place
+  seek_reads_there x2 seeking short own document h = seek_reads_at x2 seeking short own.0 own.1 document h (own_pages seeking document h own)
 
   pub seek_reads_within : {r1 : Records} {x1 : D} (x2 : D) {place : RecordPlace} {roots member : ℕ} {rest : List ℕ} (seeking : IsSeeking d r0 r1 x0 x1 root path place roots member rest) → seeking.levels ≤ deepest → ReadsPiece d r1 x1 x2 place
       → (document : CutTree) (h : HasDocument d r0 x0 root document) → ReadsAlong h.now root path (d.reads x0) (d.reads x2)

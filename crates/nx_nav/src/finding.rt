@@ -21,15 +21,17 @@ ghost use Rattle.nx_nav.specs.Shows.{ShowsNode, CanBeShown, OutlinesNode, CanBeO
 
 use crate::NavError;
 use crate::judging::{may_be, may_have_children};
-use crate::reading::{damaged, passed_on, piece_at};
+use crate::reading::{damaged, passed_on, piece_at, written_at};
 use crate::routing::{Route, copy_node, end_route, pass_record};
 use nx_hold::far_content;
 use nx_host::Disk;
 use nx_lists::DEEPEST;
 use nx_piece::{
-    Far, FoundView, LocatedView, PieceView, Proxy, TreeView, count_children, find, find_child,
+    Far, FoundView, LocatedView, NodeView, PieceView, Proxy, TreeView, count_children, find,
+    find_child,
 };
 use nx_records::{Records, Rid};
+use nx_seek::{Sought, seek};
 use nx_tree::{Bytes, Kind, NoMemory, Node};
 use std::alloc::Global;
 
@@ -82,7 +84,7 @@ pub fn get<D: Disk>(
     ensures refused { IfErr result (λ e. IsRefused D.Disk (OfEach D.Disk records.old disk.old (place_of root) (λ document. at (tree_of document) path.now ≡ None)) ⊥
         (HoldsNoDocument D.Disk records.old disk.old (place_of root)) e records.old records.new disk.old disk.new) }
 {
-    let ((found, _), _) = find_at(alloc, records, disk, root, path, None, false)?;
+    let found = seek_at(alloc, records, disk, root, path)?;
     let Found {
         node,
         far,
@@ -122,7 +124,7 @@ pub fn outline<D: Disk>(
     ensures refused { IfErr result (λ e. IsRefused D.Disk (OfEach D.Disk records.old disk.old (place_of root) (λ document. at (tree_of document) path.now ≡ None)) ⊥
         (HoldsNoDocument D.Disk records.old disk.old (place_of root)) e records.old records.new disk.old disk.new) }
 {
-    let ((found, _), _) = find_at(alloc, records, disk, root, path, None, false)?;
+    let found = seek_at(alloc, records, disk, root, path)?;
     Ok(outline_of(found))
 }
 
@@ -184,6 +186,64 @@ fn outline_of(found: Found) -> Outlined
         name: node.name,
         content,
         children,
+    }
+}
+
+// The node at the path as its record has it, where the records on the way are read along the path alone.
+fn seek_at<D: Disk>(
+    alloc: Global,
+    records: &mut Records,
+    disk: &mut D,
+    root: Rid,
+    path: &[u32],
+) -> Result<Found, NavError>
+    ensures still { IsStill D.Disk disk.old disk.new }
+    ensures stays { IfOk result (λ found. (has_ended records.old ≡ false) × LeavesRecords records.old records.new) }
+    ensures finds { IfOk result (λ found. (document : CutTree) (held : HasDocument D.Disk records.old disk.old (place_of root) document) → FindsNode held.now (tree_of document) path.now found) }
+    ensures named { IfOk result (λ found. (document : CutTree) (held : HasDocument D.Disk records.old disk.old (place_of root) document)
+        → (along : ReadsAlong held.now (place_of root) path.now (D.reads disk.old) (D.reads disk.new)) × IsNamedAlong held.now along.places found.far) }
+    ensures reads { (document : CutTree) (held : HasDocument D.Disk records.old disk.old (place_of root) document) → ReadsAlong held.now (place_of root) path.now (D.reads disk.old) (D.reads disk.new) }
+    ensures possible { IfOk result (λ found. CanBeFound (length path.now) found) }
+    ensures refused { IfErr result (λ e. IsRefused D.Disk (OfEach D.Disk records.old disk.old (place_of root) (λ document. at (tree_of document) path.now ≡ None)) ⊥
+        (HoldsNoDocument D.Disk records.old disk.old (place_of root)) e records.old records.new disk.old disk.new) }
+{
+    if records.is_ended() {
+        return Err(NavError::Ended);
+    }
+    if path.len() > DEEPEST {
+        return Err(NavError::NoNode);
+    }
+    let (mut rid, mut member, mut rest) = (root, 0, path);
+    loop {
+        let written = written_at(alloc, records, disk, rid)?;
+        match seek(
+            written.record.as_slice(),
+            written.list.as_slice(),
+            member,
+            rest,
+        ) {
+            None => return Err(damaged(records, rid.page)),
+            Some(Sought::Here { node, children }) => {
+                let found = found_with(alloc, node, children)?;
+                if !is_shown(&found, path.len()) {
+                    return Err(damaged(records, rid.page));
+                }
+                return Ok(found);
+            }
+            Some(
+                Sought::Away {
+                    proxy,
+                    member: next,
+                    used,
+                    ..
+                },
+            ) => {
+                rid = rid_of(proxy);
+                member = next;
+                rest = &rest[used as usize..];
+            }
+            Some(Sought::Nowhere) => return Err(NavError::NoNode),
+        }
     }
 }
 
@@ -330,10 +390,17 @@ fn find_in(
     ensures { IfOk result (λ found. (found_node found ≡ seen_node tree.entry.node) × (found.children ≡ length (children_of piece.now.proxies first (seen_items tree.entry.children)))) }
 {
     let children = count_children(piece, tree, first);
-    let node = copy_node(alloc, tree.node)?;
+    found_with(alloc, tree.node, children)
+}
+
+// A node as its record has it, and how many children it has.
+fn found_with(alloc: Global, node: NodeView<'_>, children: u32) -> Result<Found, NoMemory>
+    ensures { IfOk result (λ found. (found_node found ≡ seen_node node.entry) × (found.children ≡ children)) }
+{
+    let copy = copy_node(alloc, node)?;
     Ok(Found {
-        node,
-        far: tree.node.far,
+        node: copy,
+        far: node.far,
         children,
     })
 }

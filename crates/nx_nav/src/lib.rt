@@ -22,5 +22,6 @@ pub use error::NavError;
 pub use exporting::export;
 pub use finding::{Outlined, Routed, Shown, get, get_route, outline};
 pub use laid::{Laid, layout};
+pub use reading::{damaged, piece_at};
 pub use routing::{PassedRecord, Route};
 pub use telling::text_of;

@@ -19,7 +19,7 @@ use Rattle.nx_piece.proofs.SizeLemmas.{weight_within}
 use Rattle.nx_piece.proofs.ApartLemmas.{two_unique, four_unique}
 use Rattle.nx_piece.proofs.BodyLemmas.{body_unique, items_length, proxies_length}
 
-proxy_unique : (p q : Proxy) (x y : List ℕ) → (p.page < 4294967296) × (p.slot < 65536) × (p.roots ≤ 256) → (q.page < 4294967296) × (q.slot < 65536) × (q.roots ≤ 256) → proxy_bytes p ++ x ≡ proxy_bytes q ++ y → p ≡ q
+pub proxy_unique : (p q : Proxy) (x y : List ℕ) → (p.page < 4294967296) × (p.slot < 65536) × (p.roots ≤ 256) → (q.page < 4294967296) × (q.slot < 65536) × (q.roots ≤ 256) → proxy_bytes p ++ x ≡ proxy_bytes q ++ y → p ≡ q
 proxy_unique p q x y hp hq e =
     let a : p.page ≡ q.page = four_unique p.page q.page hp.0 hq.0 (ap (λ (l : List ℕ). take 4 l) e) in
     let b : p.slot ≡ q.slot = two_unique p.slot q.slot hp.1 hq.1 (ap (λ (l : List ℕ). take 2 (drop 4 l)) e) in

@@ -19,19 +19,19 @@ ends_in_gap (Gap d End) = true
 ends_in_gap (Gap d (Grow m c s)) = ends_in_gap (Grow m c s)
 ends_in_gap (Gap d (Gap c s)) = ends_in_gap (Gap c s)
 
-row_bytes : (f g : Gapped) → items_bytes (row f g) ≡ items_bytes f ++ items_bytes g
+pub row_bytes : (f g : Gapped) → items_bytes (row f g) ≡ items_bytes f ++ items_bytes g
 row_bytes End g = refl
 row_bytes (Grow n b s) g =
     ap (λ (r : List ℕ). (node_bytes n (gapped_width b) ++ items_bytes b) ++ r) (row_bytes s g)
     ∙ sym (append_assoc (node_bytes n (gapped_width b) ++ items_bytes b) (items_bytes s) (items_bytes g))
 row_bytes (Gap c s) g = ap (λ (r : List ℕ). run_bytes c ++ r) (row_bytes s g)
 
-row_size : (f g : Gapped) → gapped_size (row f g) ≡ gapped_size f + gapped_size g
+pub row_size : (f g : Gapped) → gapped_size (row f g) ≡ gapped_size f + gapped_size g
 row_size End g = omega arith
 row_size (Grow n b s) g = let h = row_size s g in omega (arith, h)
 row_size (Gap c s) g = row_size s g
 
-row_proxies : (f g : Gapped) → proxies_in (row f g) ≡ proxies_in f + proxies_in g
+pub row_proxies : (f g : Gapped) → proxies_in (row f g) ≡ proxies_in f + proxies_in g
 row_proxies End g = omega arith
 row_proxies (Grow n b s) g = let h = row_proxies s g in omega (arith, h)
 row_proxies (Gap c s) g = let h = row_proxies s g in omega (arith, h)

@@ -20,7 +20,7 @@ pub use copying::decode;
 pub use finding::{FoundView, LocatedView, count_children, find, find_child, member_at};
 pub use locating::{FoundChild, Located, child_at, children, locate, proxies_below, root_at};
 pub use piece::{Body, Far, Item, Items, Piece, PieceTree, PieceTrees, Proxies, Proxy, Stored};
-pub use reading::{decode_proxies, view};
+pub use reading::{Head, decode_proxies, read_head, read_node, read_proxy, read_run, view};
 pub use viewing::{BodyView, ItemView, ItemsView, NodeView, PieceView, StoredView, TreeView};
 pub use weighing::{count_nodes, size, weight};
 pub use writing::{encode, encode_chained, encode_inline, encode_proxies, fits_inline};

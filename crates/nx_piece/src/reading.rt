@@ -256,8 +256,10 @@ fn take_run(bytes: &[u8], left: Left, after_run: bool) -> Option<(u32, &[u8], Le
     Some((count, behind, left))
 }
 
-// A node with its number of child items, what stands behind it, and how many slots its item takes.
-fn read_node(bytes: &[u8], room: u32) -> Option<(NodeView<'_>, u16, &[u8], u32)>
+/// A node with its number of child items, what stands behind its own item, and how many slots that takes; exactly where the bytes
+/// begin with a node whose item takes at most so many. It takes no memory.
+#[inline(always)]
+pub fn read_node(bytes: &[u8], room: u32) -> Option<(NodeView<'_>, u16, &[u8], u32)>
     requires { room ≤ 256 }
     ensures { MatchOption result (BeginsNoNode bytes.now room) (λ found. (bytes.now ≡ node_bytes (seen_node found.0) found.1 ++ found.2.now) × (found.3 ≡ item_slots (seen_node found.0)) × (item_slots (seen_node found.0) ≤ room) × MayBeFar (seen_node found.0) × HasFarPage found.0.far × (found.1 < 65536)) }
 {
@@ -361,8 +363,8 @@ fn is_zero(bytes: &[u8]) -> bool
     true
 }
 
-// A run of proxies, and what stands behind it.
-fn read_run(bytes: &[u8]) -> Option<(u32, &[u8])>
+/// How many proxies a run stands for, and what stands behind it, exactly where the bytes begin with a run. It takes no memory.
+pub fn read_run(bytes: &[u8]) -> Option<(u32, &[u8])>
     ensures { MatchOption result (BeginsNoRunItem bytes.now) (λ read. bytes.now ≡ run_bytes read.0 ++ read.1.now) }
 {
     match bytes {
@@ -374,18 +376,24 @@ fn read_run(bytes: &[u8]) -> Option<(u32, &[u8])>
     }
 }
 
-// The numbers that a record begins with.
+/// The numbers that a record begins with.
 #[derive(Clone, Copy)]
-struct Head {
-    form: u8,
-    roots: u16,
-    items: u32,
-    proxies: u32,
-    chain: u32,
+pub struct Head {
+    /// 1 where the proxies stand in the record, 2 where they stand in a chain.
+    pub form: u8,
+    /// How many roots there are.
+    pub roots: u16,
+    /// How many nodes and runs.
+    pub items: u32,
+    /// How many proxies.
+    pub proxies: u32,
+    /// The first page of the chain, and 0 without one.
+    pub chain: u32,
 }
 
-// The numbers of a head, and what stands behind it.
-fn read_head(bytes: &[u8]) -> Option<(Head, &[u8])>
+/// The numbers of a head, whatever they are, and what stands behind it; `None` only where the bytes begin with no head. It takes no
+/// memory.
+pub fn read_head(bytes: &[u8]) -> Option<(Head, &[u8])>
     ensures { MatchOption result (BeginsNoHead bytes.now) (λ read. IsHeadRead bytes.now read.0 read.1.now) }
 {
     let Some((form, roots, items, behind)) = read_counts(bytes) else {
@@ -429,8 +437,8 @@ fn read_chain(bytes: &[u8]) -> Option<(u32, u32, &[u8])>
     Some((proxies, chain, rest))
 }
 
-// A proxy with any number of roots, and what stands behind it.
-fn read_proxy(bytes: &[u8]) -> Option<(Proxy, &[u8])>
+/// A proxy with any number of roots, and what stands behind it, exactly where there are 8 bytes. It takes no memory.
+pub fn read_proxy(bytes: &[u8]) -> Option<(Proxy, &[u8])>
     ensures { MatchOption result (length bytes.now < 8) (λ read. (bytes.now ≡ proxy_bytes read.0 ++ read.1.now) × (read.0.page < 4294967296) × (read.0.slot < 65536) × (read.0.roots < 65536)) }
 {
     let [p3, p2, p1, p0, s1, s0, r1, r0, rest @ ..] = bytes else {

@@ -1,0 +1,4 @@
+pub mod ItemLemmas
+pub mod ChildLemmas
+pub mod WayLemmas
+pub mod WrittenLemmas

@@ -1,0 +1,4 @@
+pub mod Items
+pub mod Children
+pub mod Written
+pub mod Sought
