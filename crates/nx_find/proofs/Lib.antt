@@ -1,1 +1,3 @@
-pub mod ShownLemmas
+pub mod WalkLemmas
+pub mod LookingLemmas
+pub mod OverLemmas

@@ -1,2 +1,4 @@
-pub mod Shown
-pub mod Labels
+pub mod Wanted
+pub mod Over
+pub mod Walked
+pub mod Looking

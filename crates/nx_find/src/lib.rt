@@ -1,7 +1,20 @@
-//! Nodes of stored documents by name: what a walk over a document's records shows that passes over some
-//! of them, and which it may pass over.
+//! Nodes of stored documents by name: which labels stand at or below each record, and the paths that steps
+//! reach, with the records passed over that don't hold the last step's label.
 //!
-//! Nothing here runs: there are definitions (`specs/`) and laws.
+//! Contracts see of `Names` what they hold (`holds_of`), and the paths that are found by `Found` of `nx_reach`.
 #![tactic(auto)]
 
-pub mod laws;
+mod error;
+mod finding;
+mod gathering;
+mod handing;
+mod holding;
+mod names;
+mod walking;
+mod wanted;
+
+pub use error::FindError;
+pub use finding::find;
+pub use gathering::names_of;
+pub use names::Names;
+pub use nx_reach::{Paths, Step, Steps, read_steps};

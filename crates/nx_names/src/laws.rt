@@ -6,8 +6,8 @@ ghost use Rattle.nx_reach.specs.declared.step.Step.{Step};
 ghost use Rattle.nx_reach.specs.declared.finder.Finder.{Finder};
 ghost use Rattle.nx_reach.specs.Reach.{Found, label_of};
 ghost use Rattle.nx_reach.specs.Seen.{Goes, HasComeTo};
-ghost use Rattle.nx_find.specs.Shown.{shown_wanted, SkipsOnly};
-ghost use Rattle.nx_find.specs.Labels.{HoldsLabels, entered_places};
+ghost use Rattle.nx_names.specs.Shown.{shown_wanted, SkipsOnly};
+ghost use Rattle.nx_names.specs.Labels.{HoldsLabels, entered_places};
 
 /// A finder at a document's root, to which all below the root was shown, but for intervals without a
 /// node of the last step's label at or below their members, has found what the steps match.

@@ -1,5 +1,5 @@
-use Rattle.nx_find.proofs.ShownLemmas.{holds_skips, enters_few}
-use Rattle.nx_find.proofs.laws.holds_skips.Goals as goal
+use Rattle.nx_names.proofs.ShownLemmas.{holds_skips, enters_few}
+use Rattle.nx_names.proofs.laws.holds_skips.Goals as goal
 
 pub returns-clause-skips : goal.returns-clause-skips
 returns-clause-skips c = λ holds layout. holds_skips holds layout

@@ -17,8 +17,8 @@ use Rattle.nx_reach.specs.Fit.{fits, turned, found_in}
 use Rattle.nx_reach.specs.Seen.{Opened, Closed, Skipped, Progress, progress_after, progress_after_all, HasComeTo, Goes}
 use Rattle.nx_reach.proofs.FoundLemmas.{nothing_there, walk_finds}
 use Rattle.nx_reach.proofs.SeenLemmas.{moved_append}
-use Rattle.nx_find.specs.Shown.{shown_wanted, SkipsOnly}
-use Rattle.nx_find.specs.Labels.{HoldsLabels, entered_places}
+use Rattle.nx_names.specs.Shown.{shown_wanted, SkipsOnly}
+use Rattle.nx_names.specs.Labels.{HoldsLabels, entered_places}
 
 trees-width : (cut : Layout) → trees (laid_forest cut) ≡ width cut
 trees-width Bare = refl

@@ -1,0 +1,7 @@
+pub mod ShownLemmas
+pub mod LookLemmas
+pub mod NotedLemmas
+pub mod SerialLemmas
+pub mod GatherLemmas
+pub mod HeardLemmas
+pub mod SortLemmas

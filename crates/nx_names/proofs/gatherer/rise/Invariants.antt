@@ -1,0 +1,7 @@
+use Rattle.std.proofs.Common.{ℕ, ◌+◌, ◌<◌}
+use Rattle.std.specs.List.{AllAdjacentBelow}
+use Rattle.nx_names.specs.Serials.{noted_key}
+use Rattle.nx_names.proofs.gatherer.rise.Given as goal
+
+abbrev pub invariant-loop-index : goal.invariant-loop-index
+invariant-loop-index l = AllAdjacentBelow (λ a b. noted_key a < noted_key b) l.noted l.index

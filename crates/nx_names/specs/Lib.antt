@@ -1,0 +1,6 @@
+pub mod Shown
+pub mod Labels
+pub mod Look
+pub mod Serials
+pub mod Gathered
+pub mod Holders
