@@ -27,13 +27,13 @@ neither : (a b : Bool) → (a || b) ≡ false → (a ≡ false) × (b ≡ false)
 neither true b e = absurd (cc)
 neither false b e = (refl, e)
 
-waits_joined : (a b : Walked) → waits (joined_row a b) ≡ (waits a || waits b)
+pub waits_joined : (a b : Walked) → waits (joined_row a b) ≡ (waits a || waits b)
 waits_joined Bare b = refl
 waits_joined (Grown n d s) b = ap (λ w. waits d || w) (waits_joined s b) ∙ or_assoc (waits d) (waits s) (waits b)
 waits_joined (Kept (Reached p cs) m s) b = ap (λ w. waits m || w) (waits_joined s b) ∙ or_assoc (waits m) (waits s) (waits b)
 waits_joined (Kept (Waits x) m s) b = refl
 
-none_waiting : (by : Namer) (a : Walked) → waits a ≡ false → waiting_in by a ≡ []
+pub none_waiting : (by : Namer) (a : Walked) → waits a ≡ false → waiting_in by a ≡ []
 none_waiting by Bare e = refl
 none_waiting by (Grown n b s) e =
     let both = neither (waits b) (waits s) e in ap (λ l. l ++ waiting_in by s) (none_waiting by b both.0) ∙ none_waiting by s both.1
@@ -41,7 +41,7 @@ none_waiting by (Kept (Reached p cs) m s) e =
     let both = neither (waits m) (waits s) e in ap (λ l. l ++ waiting_in by s) (none_waiting (ByRecord p.page) m both.0) ∙ none_waiting by s both.1
 none_waiting by (Kept (Waits x) m s) e = absurd (cc)
 
-waiting_joined : (by : Namer) (a b : Walked) → waiting_in by (joined_row a b) ≡ waiting_in by a ++ waiting_in by b
+pub waiting_joined : (by : Namer) (a b : Walked) → waiting_in by (joined_row a b) ≡ waiting_in by a ++ waiting_in by b
 waiting_joined by Bare b = refl
 waiting_joined by (Grown n d s) b = ap (λ l. waiting_in by d ++ l) (waiting_joined by s b) ∙ sym (append_assoc (waiting_in by d) (waiting_in by s) (waiting_in by b))
 waiting_joined by (Kept (Reached p cs) m s) b =
@@ -96,11 +96,11 @@ module _ (place : RecordPlace) (chains : List (List Link)) (new : Walked) where
 
 -- What may stand there:
 
-forest_parts : (f g : Forest) → IsForest (joined f g) → IsForest f × IsForest g
+pub forest_parts : (f g : Forest) → IsForest (joined f g) → IsForest f × IsForest g
 forest_parts Empty g h = (tt, h)
 forest_parts (Plant n b s) g h = let r = forest_parts s g h.3 in ((h.0, h.1, h.2, r.0), r.1)
 
-forest_join : (f g : Forest) → IsForest f → IsForest g → IsForest (joined f g)
+pub forest_join : (f g : Forest) → IsForest f → IsForest g → IsForest (joined f g)
 forest_join Empty g h k = k
 forest_join (Plant n b s) g h k = (h.0, h.1, h.2, forest_join s g h.3 k)
 
@@ -117,7 +117,7 @@ depth_most m Empty g h k = k
 depth_most m (Plant n b s) g h k = let r = depth_most m s g (omega (arith, h)) k in omega (arith, h, r)
 
 -- the same row of nodes, whatever is below them
-abbrev SameRow : Forest → Forest → Type 0
+abbrev pub SameRow : Forest → Forest → Type 0
 SameRow Empty Empty = Unit {0}
 SameRow (Plant n b s) (Plant m d t) = (n ≡ m) × SameRow s t
 SameRow _ _ = ⊥
@@ -126,7 +126,7 @@ same_self : (f : Forest) → SameRow f f
 same_self Empty = tt
 same_self (Plant n b s) = (refl, same_self s)
 
-same_below : (b : Forest) (n : Node) (x y s : Forest) → SameRow (joined b (Plant n x s)) (joined b (Plant n y s))
+pub same_below : (b : Forest) (n : Node) (x y s : Forest) → SameRow (joined b (Plant n x s)) (joined b (Plant n y s))
 same_below Empty n x y s = (refl, same_self s)
 same_below (Plant m d t) n x y s = (refl, same_below t n x y s)
 
@@ -136,7 +136,7 @@ same_top Empty (Plant m d t) e h = absurd e
 same_top (Plant n b s) Empty e h = absurd e
 same_top (Plant n b s) (Plant m d t) e h = (subst (λ (x : Node). (is_element x.kind || is_instruction x.kind) ≡ true) e.0 h.0, same_top s t e.1 h.1)
 
-same_elements : (f g : Forest) → SameRow f g → element_count f ≡ element_count g
+pub same_elements : (f g : Forest) → SameRow f g → element_count f ≡ element_count g
 same_elements Empty Empty e = refl
 same_elements Empty (Plant m d t) e = absurd e
 same_elements (Plant n b s) Empty e = absurd e
@@ -182,7 +182,7 @@ same_may Text f g e h = same_empty f g e h
 same_may Instruction f g e h = same_empty f g e h
 
 -- what each kind of node asks
-below_forest : (kind : Kind) (level : ℕ) (f : Forest) → MayBeBelow kind level f → IsForest f × (level + depth f ≤ 1 + deepest)
+pub below_forest : (kind : Kind) (level : ℕ) (f : Forest) → MayBeBelow kind level f → IsForest f × (level + depth f ≤ 1 + deepest)
 below_forest Doc level f h = (h.2, h.3)
 below_forest Element level f h = (h.1, h.2)
 below_forest Attribute level f h = (h.1, h.2)
@@ -203,7 +203,7 @@ below_may Attribute name content level f parts h = h.0
 below_may Text name content level f parts h = h.0
 below_may Instruction name content level f parts h = h.0
 
-joined_some : (f : Forest) (n : Node) (x s : Forest) → joined f (Plant n x s) ≡ Empty → ⊥
+pub joined_some : (f : Forest) (n : Node) (x s : Forest) → joined f (Plant n x s) ≡ Empty → ⊥
 joined_some Empty n x s e = cc
 joined_some (Plant m d t) n x s e = cc
 
@@ -268,22 +268,22 @@ top_level (Below n s outer) e = absurd (cc)
 top_level (Behind done outer) e = top_level outer e
 top_level (Inside p cs s outer) e = top_level outer e
 
-forest_row : (a b : Walked) → walked_forest (joined_row a b) ≡ joined (walked_forest a) (walked_forest b)
+pub forest_row : (a b : Walked) → walked_forest (joined_row a b) ≡ joined (walked_forest a) (walked_forest b)
 forest_row Bare b = refl
 forest_row (Grown n d s) b = ap (λ (f : Forest). Plant n.node (walked_forest d) f) (forest_row s b)
 forest_row (Kept mark m s) b = ap (λ (f : Forest). joined (walked_forest m) f) (forest_row s b) ∙ sym (joined_assoc (walked_forest m) (walked_forest s) (walked_forest b))
 
-behind_same : (done : Walked) (outer : Around) (row : Walked) → siblings_with outer (walked_forest (joined_row done row)) ≡ siblings_with (Behind done outer) (walked_forest row)
+pub behind_same : (done : Walked) (outer : Around) (row : Walked) → siblings_with outer (walked_forest (joined_row done row)) ≡ siblings_with (Behind done outer) (walked_forest row)
 behind_same done outer row =
     let a = before_there outer in
     let c = behind_there outer in
     ap (λ (f : Forest). joined a (joined f c)) (forest_row done row) ∙ ap (joined a) (joined_assoc (walked_forest done) (walked_forest row) c)
     ∙ sym (joined_assoc a (walked_forest done) (joined (walked_forest row) c))
 
-inside_same : (p : RecordPlace) (cs : List (List Link)) (s : Walked) (outer : Around) (row : Walked) → siblings_with outer (walked_forest (Kept (Reached p cs) row s)) ≡ siblings_with (Inside p cs s outer) (walked_forest row)
+pub inside_same : (p : RecordPlace) (cs : List (List Link)) (s : Walked) (outer : Around) (row : Walked) → siblings_with outer (walked_forest (Kept (Reached p cs) row s)) ≡ siblings_with (Inside p cs s outer) (walked_forest row)
 inside_same p cs s outer row = ap (joined (before_there outer)) (joined_assoc (walked_forest row) (walked_forest s) (behind_there outer))
 
-may_be_there : (around : Around) (row : Walked) → IsSoFar (walked_forest (filled_around around row)) → MayBeThere (kind_above around) (level_of around) (siblings_with around (walked_forest row))
+pub may_be_there : (around : Around) (row : Walked) → IsSoFar (walked_forest (filled_around around row)) → MayBeThere (kind_above around) (level_of around) (siblings_with around (walked_forest row))
 may_be_there Top row h = subst (λ (f : Forest). IsSoFar f) (sym (joined_nothing (walked_forest row))) h
 may_be_there (Below n s outer) row h =
     let there = may_be_there outer (Grown n row s) h in

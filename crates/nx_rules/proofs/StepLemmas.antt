@@ -13,8 +13,8 @@ use Rattle.nx_hold.specs.declared.entry.DocEntry.{DocEntry}
 use Rattle.nx_hold.specs.Changes.{place_of}
 use Rattle.nx_rules.specs.Listed.{AreUsedOnce}
 use Rattle.nx_rules.specs.Walked.{Mark, Reached, Waits, Walked, marks_of, records_reached, links_behind, links_in, Namer, ByCatalog, ByRecord, Named, named_place, waiting_in, WaitAll, AreWalkedInOrder, walked_body, walked_proxies, content_in, contents_apart, SaysPiece, HoldsRecord, AreRead, AreAllLight}
-use Rattle.nx_rules.specs.Tour.{Visit, IsFromRoot, IsVisit, IsDone, all_marks, all_reached, all_links, used_in}
-use Rattle.nx_rules.specs.Broken.{waits, reached_first, HasRoots}
+use Rattle.nx_rules.specs.Tour.{Visit, IsFromRoot, IsVisit, IsDone, all_marks, all_reached, all_links, Tour, used_in, IsTour}
+use Rattle.nx_rules.specs.Broken.{waits, reached_first, ComesNext, IsReadFirst, HasRoots}
 use Rattle.nx_rules.specs.Laws.{RecordComes}
 use Rattle.nx_rules.proofs.FirstLemmas.{pages_append}
 use Rattle.nx_rules.proofs.MeetLemmas.{NoneWait, wait_left, wait_right, order_left, order_right, order_split}
@@ -228,10 +228,10 @@ by_record p (Kept (Waits x) m s) named others e is =
     cc
 
 -- The documents with that of the record gone on.
-record StepOn (named : Named) (chains : List (List Link)) (vs us : List Visit) : Type 0 where
-  order : AreWalkedInOrder (all_marks us)
-  reached : all_reached us ≡ all_reached vs ++ named_place named ∷ []
-  links : all_links us ≡ all_links vs ++ links_behind chains
+pub record StepOn (named : Named) (chains : List (List Link)) (vs us : List Visit) : Type 0 where
+  pub order : AreWalkedInOrder (all_marks us)
+  pub reached : all_reached us ≡ all_reached vs ++ named_place named ∷ []
+  pub links : all_links us ≡ all_links vs ++ links_behind chains
 
 none_visited : (vs : List Visit) → WaitAll (all_marks vs) → (all_reached vs ≡ []) × (all_links vs ≡ [])
 none_visited [] w = (refl, refl)
@@ -269,7 +269,7 @@ all_with : (P : Visit → Type 0) (before : List Visit) (v u : Visit) (after : L
 all_with P [] v u after all is = All-cons P u after is (All-tail P v after all)
 all_with P (b ∷ before) v u after all is = All-cons P b (before ++ u ∷ after) (All-head P b (before ++ v ∷ after) all) (all_with P before v u after (All-tail P b (before ++ v ∷ after) all) is)
 
-one_of : (P : Visit → Type 0) (before : List Visit) (v : Visit) (after : List Visit) → All P (before ++ v ∷ after) → P v
+pub one_of : (P : Visit → Type 0) (before : List Visit) (v : Visit) (after : List Visit) → All P (before ++ v ∷ after) → P v
 one_of P [] v after all = All-head P v after all
 one_of P (b ∷ before) v after all = one_of P before v after (All-tail P b (before ++ v ∷ after) all)
 
@@ -320,6 +320,20 @@ visit_reaches pages k named chains new visit others holds read wait light is roo
 once_more : (xs : List RecordPlace) (x : RecordPlace) → ArePlacedOnce xs → (Contains xs x → ⊥) → ArePlacedOnce (xs ++ x ∷ [])
 once_more xs x once fresh = once-append xs (x ∷ []) once ((λ h. no_place x h), tt) (λ y among one. fresh (subst (λ (z : RecordPlace). Contains xs z) (one_place x y one) among))
 
+-- What was reached is this record more, and its lists are used.
+pub step_on : (pages : Pages) (tour : Tour) (visit : Visit) (named : Named) (chains : List (List Link)) (new : Walked) → IsTour pages tour → (comes : ComesNext tour visit named) → IsReadFirst pages tour named chains new → HasRoots named new
+    → gapped_size (walked_body new) ≤ tour.head.settings.k → StepOn named chains (comes.before ++ visit ∷ comes.after) (comes.before ++ record visit { walked = reached_first (named_place named) chains new visit.walked } ∷ comes.after)
+step_on pages tour visit named chains new kept comes read roots light =
+    let k = tour.head.settings.k in
+    let u : Visit = record visit { walked = reached_first (named_place named) chains new visit.walked } in
+    let before = comes.before in
+    let after = comes.after in
+    let is = one_of (IsVisit pages k) before visit after (subst (λ (l : List Visit). All (IsVisit pages k) l) comes.are kept.each) in
+    let v = visit_reaches pages k named chains new visit comes.others read.holds read.read read.wait light is roots comes.next in
+    let order : AreWalkedInOrder (all_marks (before ++ visit ∷ after)) = subst (λ (l : List Visit). AreWalkedInOrder (all_marks l)) comes.are kept.order in
+    let some : NoneWait (marks_of visit.walked) → ⊥ = λ none. (let x = sym (waits_none ByCatalog visit.walked none) ∙ comes.next in cc x) in
+    steps_on pages k named chains new before visit u after comes.done order v.goes some
+
 pub record_comes : RecordComes
 record_comes pages tour visit named chains new kept comes read roots stands light =
     let k = tour.head.settings.k in
@@ -331,8 +345,7 @@ record_comes pages tour visit named chains new kept comes read roots stands ligh
     let is = one_of (IsVisit pages k) before visit after all in
     let v = visit_reaches pages k named chains new visit comes.others read.holds read.read read.wait light is roots comes.next in
     let order : AreWalkedInOrder (all_marks (before ++ visit ∷ after)) = subst (λ (l : List Visit). AreWalkedInOrder (all_marks l)) comes.are kept.order in
-    let some : NoneWait (marks_of visit.walked) → ⊥ = λ none. (let x = sym (waits_none ByCatalog visit.walked none) ∙ comes.next in cc x) in
-    let step = steps_on pages k named chains new before visit u after comes.done order v.goes some in
+    let step = step_on pages tour visit named chains new kept comes read roots light in
     let reached : all_reached (before ++ u ∷ after) ≡ all_reached tour.visits ++ place ∷ [] = step.reached ∙ ap (λ (l : List Visit). all_reached l ++ place ∷ []) (sym comes.are) in
     let links : all_links (before ++ u ∷ after) ≡ all_links tour.visits ++ links_behind chains = step.links ∙ ap (λ (l : List Visit). all_links l ++ links_behind chains) (sym comes.are) in
     let used : pages_of_links (tour.catalog ++ all_links (before ++ u ∷ after)) ≡ used_in tour ++ pages_of_links (links_behind chains) =

@@ -1,0 +1,11 @@
+use Rattle.std.proofs.Common.{◌≡◌}
+use Rattle.nx_piece.specs.Gapped.{item_count}
+use Rattle.nx_piece.specs.Viewing.{seen_items}
+use Rattle.nx_check.specs.Heads.{item_heads}
+use Rattle.nx_check.proofs.judging.has_no_tree.Given as goal
+
+abbrev pub invariant-loop-item : goal.invariant-loop-item
+invariant-loop-item l = item_heads (seen_items l.left) ≡ item_heads (seen_items l.items)
+
+abbrev pub decreases-loop-item : goal.decreases-loop-item
+decreases-loop-item l = item_count (seen_items l.left)

@@ -1,0 +1,13 @@
+pub mod Uses
+pub mod On
+pub mod Words
+pub mod Marks
+pub mod Come
+pub mod Lists
+pub mod AtRecord
+pub mod Between
+pub mod Refusals
+pub mod Heads
+pub mod Shown
+pub mod Siblings
+pub mod Standing
