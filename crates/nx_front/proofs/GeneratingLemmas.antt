@@ -50,6 +50,7 @@ use Rattle.nx_front.specs.Conversation.{IsUnanswered, status_of_engine}
 use Rattle.nx_front.specs.Init.{exists_line, SaysLine, IsUntroubled}
 use Rattle.nx_front.specs.Generating.{generated, is_refused, text_size, summary_text, summary_of, ShowsGenerating, EndsGenerating, GeneratesFrom, EndsFinding, FindsGenerated, GeneratesIn, IsGenerationCaused, Generates, EndsRefusing, CompletesGenerating}
 use Rattle.nx_front.specs.Carrying.{listed_nodes, exported_size, HasTurned, IsCarrying, HasCarried, CarriesOut, CutsShort, CarriesSome, StopsCarrying}
+use Rattle.nx_front.proofs.InitLemmas.{line_told}
 use Rattle.nx_front.proofs.ServingLaws.{serving_together}
 use Rattle.nx_front.proofs.ConversationLemmas.{unopened_header}
 use Rattle.nx_front.proofs.ClockLemmas.{HasClock, at_end}
@@ -390,7 +391,7 @@ cut_ends all state turns engine.Ended a b short = absurd short
 
 module _ {D : Type 0} {d : Ghosts D} where
   -- no input is taken, and no count falls
-  takes_then : {a b c : D} → TakesNone d a b → TakesNone d b c → TakesNone d a c
+  pub takes_then : {a b c : D} → TakesNone d a b → TakesNone d b c → TakesNone d a c
   takes_then {a = a} {b = b} {c = c} one other = record {
     told = λ told. one.told (other.told told);
     input_stays = keeps_then (d.beside a).input (d.beside b).input (d.beside c).input one.input_stays other.input_stays;
@@ -409,7 +410,7 @@ module _ {D : Type 0} {d : Ghosts D} where
     faults_later = writes.faults_later;
   }
 
-  still_takes : {a b : D} → IsStill d a b → TakesNone d a b
+  pub still_takes : {a b : D} → IsStill d a b → TakesNone d a b
   still_takes {a = a} {b = b} still = record {
     told = subst (λ (o : Option Image). IsSome o → IsSome (d.contents a)) (sym still.contents_stay) (λ told. told);
     input_stays = still.beside_stays.input;
@@ -418,7 +419,7 @@ module _ {D : Type 0} {d : Ghosts D} where
     faults_later = still.faults_later;
   }
 
-  gives_takes : {a b : D} {line : List ℕ} → GivesAlone d line a b → TakesNone d a b
+  pub gives_takes : {a b : D} {line : List ℕ} → GivesAlone d line a b → TakesNone d a b
   gives_takes {a = a} {b = b} gives = record {
     told = told_at_first (d.contents a) (d.contents b) gives.areas.contents_stay;
     input_stays = keeps_of (d.beside a).input (d.beside b).input gives.input_stays;
@@ -487,16 +488,10 @@ module _ {D : Type 0} {d : Ghosts D} where
     unopened_in engine.Ended why = absurd why
 
   finds_said : {a b c : D} (status : Status) → IsStill d a b → SaysLine exists_line Refused status (d.beside b) (d.beside c) → GivesAlone d exists_line b c → FindsGenerated d status a c
-  finds_said {a = a} {b = b} {c = c} status still says gives = record {
-    contents_stay = subst (λ (o : Option Image). Keeps o (d.contents c)) still.contents_stay gives.areas.contents_stay;
-    images_stay = λ i. (λ left. (still.images_stay i).0 ((gives.areas.images_stay i).0 left), λ left. (gives.areas.images_stay i).1 ((still.images_stay i).1 left));
-    time = elapsed_then {P = λ s. AppendsPrefix exists_line (d.beside a).output s.output × d.may_leave a s.image}
-        (elapsed_weaker still.time (λ s h. (keeps_prefix exists_line (d.beside a).output s.output h.0, h.1)))
-        gives.areas.time
-        (λ s h. (
-          prefix_then [] exists_line (d.beside a).output (d.beside b).output s.output (kept_appends (d.beside a).output (d.beside b).output still.beside_stays.output) h.0,
-          (still.images_stay s.image).0 h.1,
-        ));
+  finds_said {a = a} {b = b} {c = c} status still says gives = let told = line_told exists_line still gives in record {
+    contents_stay = told.contents_stay;
+    images_stay = told.images_stay;
+    time = told.time;
     ends = found_ends status (d.beside a) (d.beside b) (d.beside c) still.beside_stays.output says;
   }
 

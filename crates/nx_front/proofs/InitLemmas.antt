@@ -20,22 +20,23 @@ use Rattle.nx_state.proofs.FirstLemmas.{new_is_held}
 use Rattle.nx_filters.specs.declared.status.Status.{Status}
 use Rattle.nx_filters.specs.declared.status.Status.TheVariants.{Done, Usage, Refused, DiskFault, ReadFault, WriteFault, NoMemory, NotAStore, Damaged, TooMuch}
 use Rattle.nx_filters.specs.Outcome.{FailsGiving}
-use Rattle.nx_front.specs.Init.{made_line, exists_line, HasNoPage, HasPage, IsOldOrNew, SaysLine, IsMaking, IsStoreMade, MakesStore, FindsPages, GivesUp, Initializes, IsUntroubled, CompletesInit, InitHoldsTogether, HoldsNothing}
+use Rattle.nx_front.specs.Init.{made_line, exists_line, HasNoPage, HasPage, IsOldOrNew, SaysLine, IsMaking, IsStoreMade, MakesStore, TellsLine, FindsPages, GivesUp, Initializes, IsUntroubled, CompletesInit, InitHoldsTogether, HoldsNothing}
 use Rattle.nx_filters.proofs.OutcomeLemmas.{told_at_first, kept_appends, fails_then}
 
 -- a line behind an output that stayed
-says_after : (line : List ℕ) (whole status : Status) (old middle new : Beside) → LeavesBeside old middle → SaysLine line whole status middle new → SaysLine line whole status old new
+pub says_after : (line : List ℕ) (whole status : Status) (old middle new : Beside) → LeavesBeside old middle → SaysLine line whole status middle new → SaysLine line whole status old new
 says_after line whole status old middle new stays (inl (is, appends)) =
     inl (is, appends_then [] line old.output middle.output new.output (kept_appends old.output middle.output stays.output) appends)
 says_after line whole status old middle new stays (inr (is, fails)) =
     inr (is, fails_then [] line old middle new (let same : middle.out_faults ≡ old.out_faults = stays.out_faults in omega (arith, same)) (kept_appends old.output middle.output stays.output) fails)
 
 -- where writing didn't fail, the line was given
-said : (line : List ℕ) (whole status : Status) (old new : Beside) → ¬ Rose old.out_faults new.out_faults → SaysLine line whole status old new → status ≡ whole
+pub said : (line : List ℕ) (whole status : Status) (old new : Beside) → ¬ Rose old.out_faults new.out_faults → SaysLine line whole status old new → status ≡ whole
 said line whole status old new calm (inl (is, gave)) = is
 said line whole status old new calm (inr (is, fails)) = absurd (calm fails.rose)
 
-no_usage : (line : List ℕ) (whole : Status) (old new : Beside) → (Usage ≡ whole → ⊥) → SaysLine line whole Usage old new → ⊥
+-- what tells a line isn't answered so
+pub no_usage : (line : List ℕ) (whole : Status) (old new : Beside) → (Usage ≡ whole → ⊥) → SaysLine line whole Usage old new → ⊥
 no_usage line whole old new other (inl (is, gave)) = other is
 no_usage line whole old new other (inr (is, fails)) = cc is
 
@@ -93,6 +94,20 @@ module _ {D : Type 0} {d : Ghosts D} {a b c : D} where
             (settled_kept gives.areas.contents_stay told (λ i left. (gives.areas.images_stay i).0 left) alone, created);
       }))
 
+  -- a line is given behind what only looked at the disk
+  pub line_told : (line : List ℕ) → IsStill d a b → GivesAlone d line b c → TellsLine d line a c
+  line_told line still gives = record {
+    time = elapsed_then {P = λ s. AppendsPrefix line (d.beside a).output s.output × d.may_leave a s.image}
+        (elapsed_weaker still.time (λ s h. (keeps_prefix line (d.beside a).output s.output h.0, h.1)))
+        gives.areas.time
+        (λ s h. (
+          prefix_then [] line (d.beside a).output (d.beside b).output s.output (kept_appends (d.beside a).output (d.beside b).output still.beside_stays.output) h.0,
+          (still.images_stay s.image).0 h.1,
+        ));
+    contents_stay = subst (λ (o : Option Image). Keeps o (d.contents c)) still.contents_stay gives.areas.contents_stay;
+    images_stay = λ i. (λ left. (still.images_stay i).0 ((gives.areas.images_stay i).0 left), λ left. (gives.areas.images_stay i).1 ((still.images_stay i).1 left));
+  }
+
   -- there were pages, and that is given
   pub finds_pages : (settings : Settings) (status : Status) → IsStill d a b → ((was : Image) → IsSettled d a was → HasPage was) →
       SaysLine exists_line Refused status (d.beside b) (d.beside c) → GivesAlone d exists_line b c → Initializes d settings status a c
@@ -100,16 +115,8 @@ module _ {D : Type 0} {d : Ghosts D} {a b c : D} where
       initializes settings status exists_line still.beside_stays still.faults_later gives
       (inr (inl (record {
         says = says_after exists_line Refused status (d.beside a) (d.beside b) (d.beside c) still.beside_stays says;
-        time = elapsed_then {P = λ s. AppendsPrefix exists_line (d.beside a).output s.output × d.may_leave a s.image}
-            (elapsed_weaker still.time (λ s h. (keeps_prefix exists_line (d.beside a).output s.output h.0, h.1)))
-            gives.areas.time
-            (λ s h. (
-              prefix_then [] exists_line (d.beside a).output (d.beside b).output s.output (kept_appends (d.beside a).output (d.beside b).output still.beside_stays.output) h.0,
-              (still.images_stay s.image).0 h.1,
-            ));
+        tells = line_told exists_line still gives;
         pages = pages;
-        contents_stay = subst (λ (o : Option Image). Keeps o (d.contents c)) still.contents_stay gives.areas.contents_stay;
-        images_stay = λ i. (λ left. (still.images_stay i).0 ((gives.areas.images_stay i).0 left), λ left. (gives.areas.images_stay i).1 ((still.images_stay i).1 left));
       })))
 
 module _ {D : Type 0} {d : Ghosts D} {a b : D} where

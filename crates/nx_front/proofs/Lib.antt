@@ -8,5 +8,6 @@ pub mod LookupLemmas
 pub mod ConversationLemmas
 pub mod InitLemmas
 pub mod GeneratingLemmas
+pub mod CheckingLemmas
 pub mod TopLemmas
 pub mod SessionLemmas

@@ -25,10 +25,11 @@ use Rattle.nx_filters.specs.declared.status.Status.{Status}
 use Rattle.nx_filters.specs.declared.status.Status.TheVariants.{Done, Usage, Refused, DiskFault, ReadFault, WriteFault, NoMemory, NotAStore, Damaged, TooMuch}
 use Rattle.nx_filters.specs.Outcome.{Meaning, RunsBeside}
 use Rattle.nx_front.specs.declared.words.CommandLine.{CommandLine}
-use Rattle.nx_front.specs.declared.words.CommandLine.TheVariants.{Tidy, Run, Plan, Verify, Init, Gen}
+use Rattle.nx_front.specs.declared.words.CommandLine.TheVariants.{Tidy, Run, Plan, Verify, Init, Gen, Check}
 use Rattle.nx_front.specs.Turns.{Turn, IsRun, state_after, commands_of}
 use Rattle.nx_front.specs.Serving.{ServesFrom, AreFirst, AreWholeReplies, IsMoment}
 use Rattle.nx_front.specs.Generating.{generated, GeneratesFrom, FindsGenerated}
+use Rattle.nx_front.specs.Checking.{Checks}
 use Rattle.nx_front.specs.Init.{HasPage, IsOldOrNew, Initializes, MakesStore, GivesUp}
 use Rattle.nx_front.specs.Run.{IsCarriedOut}
 use Rattle.nx_front.specs.Sessions.{Session, BeginInput, HasAnswered, HasGenerated, HasMade, LeadsFrom, LeadsFromNone, Leads, SessionsLead}
@@ -235,7 +236,7 @@ module _ {D : Type 0} {d : Ghosts D} where
       AtMaking settings session ⊎ FoundPages session
   initializing clock settings session status carried = elim carried.ends [
     | inl makes ↦ inl (making clock settings session status makes)
-    | inr (inl finds) ↦ inr (finds.pages session.opened session.settled, stays clock session finds.time)
+    | inr (inl finds) ↦ inr (finds.pages session.opened session.settled, stays clock session (finds.tells).time)
     | inr (inr ends) ↦ inl (giving_up clock settings session status ends)
   ]
 
@@ -261,6 +262,13 @@ module _ {D : Type 0} {d : Ghosts D} where
       Went session (λ next. next ≡ held)
   beside_stays clock session held recovers runs = same_held session held recovers (stays clock session (runs.run).time)
 
+  check_stays : HasClock d → (session : Session d) (held : Option State) → Recovers session.opened held → Checks d session.status session.before session.after →
+      Went session (λ next. next ≡ held)
+  check_stays clock session held recovers checks = elim checks.ends [
+    | inl told ↦ same_held session held recovers (stays clock session (told.tells).time)
+    | inr (why, still) ↦ same_held session held recovers (stays clock session still.time)
+  ]
+
   from_state : HasClock d → (line : CommandLine) (session : Session d) (state : State) → Recovers session.opened (Some state) →
       IsCarriedOut d line session.status session.before session.after → Went session (LeadsFrom line session state)
   from_state clock Tidy session state recovers carried = beside_stays clock session (Some state) recovers carried
@@ -270,6 +278,7 @@ module _ {D : Type 0} {d : Ghosts D} where
   from_state clock (Init settings) session state recovers carried = init_some clock settings session state recovers carried
   from_state clock (Gen seed n) session state recovers carried =
       generated_from clock (commands seed n) session state recovers (generated state) (carried.from session.opened state session.settled session.told recovers)
+  from_state clock Check session state recovers carried = check_stays clock session (Some state) recovers carried
 
   from_none : HasClock d → (line : CommandLine) (session : Session d) → Recovers session.opened None →
       IsCarriedOut d line session.status session.before session.after → Went session (LeadsFromNone line session)
@@ -281,6 +290,7 @@ module _ {D : Type 0} {d : Ghosts D} where
   from_none clock (Init settings) session none carried = init_none clock settings session none carried
   from_none clock (Gen seed n) session none carried =
       same_held session None none (stays clock session ((carried.no_header session.opened session.settled (no_header session.opened none)).1).time)
+  from_none clock Check session none carried = check_stays clock session None none carried
 
   one_leads : HasClock d → (session : Session d) (held : Option State) → Recovers session.opened held → Went session (Leads session held)
   one_leads clock session None none = from_none clock session.line session none session.carried

@@ -10,7 +10,7 @@ use Rattle.nx_store.specs.declared.error.EngineError.TheVariants as engine
 use Rattle.nx_filters.specs.declared.status.Status.{Status}
 use Rattle.nx_filters.specs.declared.status.Status.TheVariants.{Done, Usage, Refused, DiskFault, ReadFault, WriteFault, NoMemory, NotAStore, Damaged, TooMuch}
 use Rattle.nx_front.specs.declared.words.CommandLine.{CommandLine}
-use Rattle.nx_front.specs.declared.words.CommandLine.TheVariants.{Tidy, Run, Plan, Verify, Init, Gen}
+use Rattle.nx_front.specs.declared.words.CommandLine.TheVariants.{Tidy, Run, Plan, Verify, Init, Gen, Check}
 use Rattle.nx_filters.specs.Outcome.{Meaning, RunsBeside, TakesFew, CountsGrow, Completes, HoldsTogether}
 use Rattle.nx_front.specs.Run.{IsCarriedOut, CompletesInput, IsCompleted, IsCoherent, AnswersAgree}
 use Rattle.nx_filters.specs.Plan.{IsLightInput, plan}
@@ -23,6 +23,7 @@ use Rattle.nx_front.proofs.ServingLaws.{serving_completes, serving_together, one
 use Rattle.nx_filters.proofs.PlanLemmas.{plan_together, equal_plans, light_excludes}
 use Rattle.nx_filters.proofs.VerifyLemmas.{verify_together, verify_once, excludes}
 use Rattle.nx_front.proofs.GeneratingLemmas.{generates_unopened, generating_bounded, generating_completes, generating_counts, generating_not_usage}
+use Rattle.nx_front.proofs.CheckingLemmas.{checks_nothing, check_completes, check_not_usage, check_together, verdicts_agree}
 use Rattle.nx_front.proofs.InitLemmas.{finds_no_memory, init_completes, init_not_usage, init_together, holds_nothing}
 
 -- Nothing is done:
@@ -56,6 +57,7 @@ module _ {D : Type 0} (d : Ghosts D) (a : D) where
   starved (Verify k) clock = beside_starved
   starved (Init settings) clock = finds_no_memory settings none_still
   starved (Gen seed n) clock = generates_unopened seed n engine.Memory clock none_still tt
+  starved Check clock = checks_nothing NoMemory none_still tt
 
 module _ {D : Type 0} (d : Ghosts D) (a b : D) where
   -- the same command line
@@ -70,6 +72,7 @@ module _ {D : Type 0} (d : Ghosts D) (a b : D) where
   carried_bounded (Verify k) status carried = carried.run.bounded
   carried_bounded (Init settings) status carried = record { taken = []; few = (let e : 0 ≤ most_input = omega arith in e); takes = carried.input_stays }
   carried_bounded (Gen seed n) status carried = generating_bounded seed n status carried
+  carried_bounded Check status carried = record { taken = []; few = (let e : 0 ≤ most_input = omega arith in e); takes = (carried.takes).input_stays }
 
   beside_counts : {m : Meaning} (status : Status) → RunsBeside d m status a b → CountsGrow (d.beside a) (d.beside b) × (d.faults a ≤ d.faults b)
   beside_counts status runs = (runs.run.counts, let same : d.faults b ≡ d.faults a = runs.disk.faults_stay in omega (arith, same))
@@ -83,6 +86,10 @@ module _ {D : Type 0} (d : Ghosts D) (a b : D) where
   carried_counts (Init settings) status carried =
       (record { read = (let same : (d.beside b).in_faults ≡ (d.beside a).in_faults = carried.in_faults_stay in omega (arith, same)); written = carried.out_faults_later }, carried.faults_later)
   carried_counts (Gen seed n) status carried = generating_counts seed n status carried
+  carried_counts Check status carried = (
+    record { read = (let same : (d.beside b).in_faults ≡ (d.beside a).in_faults = (carried.takes).in_faults_stay in omega (arith, same)); written = (carried.takes).out_faults_later },
+    (carried.takes).faults_later,
+  )
 
   beside_completes : {m : Meaning} (status : Status) → HoldsTogether m → RunsBeside d m status a b → CompletesInput m status (d.beside a) (d.beside b)
   beside_completes status together runs input calm = completes together runs.run.outcome status input (d.beside a) (d.beside b) runs.run.ends calm
@@ -95,6 +102,7 @@ module _ {D : Type 0} (d : Ghosts D) (a b : D) where
   carried_completes (Verify k) status carried = beside_completes status (verify_together k) carried
   carried_completes (Init settings) status carried = λ was calm. init_completes settings status was carried calm
   carried_completes (Gen seed n) status carried = generating_completes seed n status carried
+  carried_completes Check status carried = check_completes status carried
 
   -- a command line isn't answered by how it is to be written
   carried_usage : (line : CommandLine) → IsCarriedOut d line Usage a b → ⊥
@@ -104,6 +112,7 @@ module _ {D : Type 0} (d : Ghosts D) (a b : D) where
   carried_usage (Verify k) carried = carried.run.ends
   carried_usage (Init settings) carried = init_not_usage settings carried
   carried_usage (Gen seed n) carried = generating_not_usage seed n carried
+  carried_usage Check carried = check_not_usage carried
 
   -- nor does it end so
   pub not_usage : (line : CommandLine) (status : Status) → IsCarriedOut d line status a b → status ≡ Usage → ⊥
@@ -149,6 +158,7 @@ together (Plan k) = plan_together k
 together (Verify k) = verify_together k
 together (Init settings) = init_together settings
 together (Gen seed n) = serving_together
+together Check = check_together
 
 -- how the answers of each input go together
 pub agrees : (line : CommandLine) → AnswersAgree line
@@ -158,3 +168,4 @@ agrees (Plan k) = equal_plans k
 agrees (Verify k) = verify_once k
 agrees (Init settings) = holds_nothing settings
 agrees (Gen seed n) = tt
+agrees Check = verdicts_agree

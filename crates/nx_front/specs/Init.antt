@@ -56,13 +56,17 @@ pub record MakesStore {D : Type 0} (d : Ghosts D) (settings : Settings) (status 
   pub time : Elapses d.moment d.stood_since old new (λ s. IsMaking d settings old new s ⊎ IsStoreMade d settings old new s)
   pub made : (was now : Image) → IsSettled d old was → d.contents new ≡ Some now → IsSettled d new now × IsNewStore settings was now
 
--- The disk had pages. Both areas were left as they were, and the line was given that says so.
-pub record FindsPages {D : Type 0} (d : Ghosts D) (status : Status) (old new : D) : Type 0 where
-  pub says : SaysLine exists_line Refused status (d.beside old) (d.beside new)
-  pub time : Elapses d.moment d.stood_since old new (λ s. AppendsPrefix exists_line (d.beside old).output s.output × d.may_leave old s.image)
-  pub pages : (was : Image) → IsSettled d old was → HasPage was
+-- A line was given, or a first part of it. Both areas are left as they were, and were so at every moment, beside a first part of the line.
+pub record TellsLine {D : Type 0} (d : Ghosts D) (line : List ℕ) (old new : D) : Type 0 where
+  pub time : Elapses d.moment d.stood_since old new (λ s. AppendsPrefix line (d.beside old).output s.output × d.may_leave old s.image)
   pub contents_stay : Keeps (d.contents old) (d.contents new)
   pub images_stay : (i : Image) → d.may_leave new i ↔ d.may_leave old i
+
+-- The disk had pages, and the line was given that says so.
+pub record FindsPages {D : Type 0} (d : Ghosts D) (status : Status) (old new : D) : Type 0 where
+  pub says : SaysLine exists_line Refused status (d.beside old) (d.beside new)
+  pub tells : TellsLine d exists_line old new
+  pub pages : (was : Image) → IsSettled d old was → HasPage was
 
 -- Nothing was given: a call of the disk failed, and each image is as the disk was, or the new store; or there was no memory, and both areas were left as they were.
 abbrev pub GivesUp : {D : Type 0} → Ghosts D → Settings → Status → D → D → Type 0

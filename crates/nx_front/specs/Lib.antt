@@ -4,6 +4,7 @@ pub mod Lookups
 pub mod Serving
 pub mod Conversation
 pub mod Init
+pub mod Checking
 pub mod Run
 pub mod Generating
 pub mod Carrying

@@ -4,13 +4,14 @@ use Rattle.nx_host.specs.declared.disk.Disk.{Ghosts}
 use Rattle.nx_host.specs.Disk.{Image, Beside}
 use Rattle.nx_filters.specs.declared.status.Status.{Status}
 use Rattle.nx_front.specs.declared.words.CommandLine.{CommandLine}
-use Rattle.nx_front.specs.declared.words.CommandLine.TheVariants.{Tidy, Run, Plan, Verify, Init, Gen}
+use Rattle.nx_front.specs.declared.words.CommandLine.TheVariants.{Tidy, Run, Plan, Verify, Init, Gen, Check}
 use Rattle.nx_filters.specs.Outcome.{Meaning, HasOneText, RunsBeside, HoldsTogether, IsUndisturbed, Completes}
 use Rattle.nx_filters.specs.Tidy.{tidy}
 use Rattle.nx_front.specs.Serving.{Serves, CompletesServing, ServingHoldsTogether, HasOneScript}
 use Rattle.nx_filters.specs.Plan.{plan, HasEqualPlans}
 use Rattle.nx_filters.specs.Verify.{verify}
 use Rattle.nx_front.specs.Generating.{Generates, CompletesGenerating}
+use Rattle.nx_front.specs.Checking.{Checks, CompletesChecking, CheckHoldsTogether, VerdictsAgree}
 use Rattle.nx_front.specs.Init.{Initializes, IsUntroubled, CompletesInit, InitHoldsTogether, HoldsNothing}
 
 -- how a command line is carried out
@@ -21,6 +22,7 @@ IsCarriedOut d (Plan k) status old new = RunsBeside d (plan k) status old new
 IsCarriedOut d (Verify k) status old new = RunsBeside d (verify k) status old new
 IsCarriedOut d (Init settings) status old new = Initializes d settings status old new
 IsCarriedOut d (Gen seed n) status old new = Generates d seed n status old new
+IsCarriedOut d Check status old new = Checks d status old new
 
 -- a run over an input that nothing disturbs ends with what that has
 abbrev pub CompletesInput : Meaning → Status → Beside → Beside → Type 0
@@ -34,6 +36,7 @@ IsCompleted d (Plan k) status old new = CompletesInput (plan k) status (d.beside
 IsCompleted d (Verify k) status old new = CompletesInput (verify k) status (d.beside old) (d.beside new)
 IsCompleted d (Init settings) status old new = (was : Image) → IsUntroubled d was old new → CompletesInit was status
 IsCompleted d (Gen seed n) status old new = CompletesGenerating d status old new
+IsCompleted d Check status old new = CompletesChecking d status old new
 
 -- what is said of an input, or of a disk, holds together
 abbrev pub IsCoherent : CommandLine → Type 0
@@ -43,9 +46,10 @@ IsCoherent (Plan k) = HoldsTogether (plan k)
 IsCoherent (Verify k) = HoldsTogether (verify k)
 IsCoherent (Init settings) = InitHoldsTogether settings
 IsCoherent (Gen seed n) = ServingHoldsTogether
+IsCoherent Check = CheckHoldsTogether
 
 -- how the answers of an input go together: they have one text, but those of `plan` are only as good as each other; those of `run` are of one list of commands; a new store holds one thing;
--- and of `gen` nothing is said, which takes no input
+-- pages have one verdict; and of `gen` nothing is said, which takes no input
 abbrev pub AnswersAgree : CommandLine → Type 0
 AnswersAgree Tidy = HasOneText tidy
 AnswersAgree Run = HasOneScript
@@ -53,3 +57,4 @@ AnswersAgree (Plan k) = HasEqualPlans k
 AnswersAgree (Verify k) = HasOneText (verify k)
 AnswersAgree (Init settings) = HoldsNothing settings
 AnswersAgree (Gen seed n) = Unit {0}
+AnswersAgree Check = VerdictsAgree

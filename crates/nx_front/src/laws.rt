@@ -11,7 +11,8 @@ use nx_host::{Disk, Host};
 /// have one text, but for `plan`: the plans of a document have the same bounds, equally many
 /// intervals and root's parts of one weight. For `init`, a disk has pages or none, an image is as the disk
 /// was or the new store, and that holds its settings and nothing else: it is that of the new state. For `run` over a
-/// store, a disk holds one state at most, and none without a header, and an input has one list of commands.
+/// store, a disk holds one state at most, and none without a header, and an input has one list of commands. For `check`, pages
+/// have one verdict at most, and are sound exactly where they stand for a state.
 pub fn outcomes()
     ensures together { (line : CommandLine) → IsCoherent line }
     ensures answers { (line : CommandLine) → AnswersAgree line }

@@ -1,6 +1,7 @@
 //! The top call: from the words of a command line, the input and a disk to the output and a status.
 #![tactic(auto)]
 
+mod check;
 mod generate;
 mod init;
 pub mod laws;

@@ -8,6 +8,7 @@ ghost use Rattle.nx_filters.specs.Verify.{IsSoundInput};
 ghost use Rattle.nx_front.specs.declared.words.CommandLine.{CommandLine};
 ghost use Rattle.nx_front.specs.declared.words.CommandLine.TheVariants.{Plan, Verify};
 
+use crate::check::check;
 use crate::generate::generate;
 use crate::init::init;
 use crate::serve::serve;
@@ -42,6 +43,9 @@ use std::alloc::Global;
 /// how many nodes and bytes of text the document `gen` has then. Whatever crash comes, the disk has the documents after some
 /// of the commands, and after all of them once a byte is out. Where there is a document `gen` it gives the line `refused exists`,
 /// and writes nothing to the disk. It takes no input.
+///
+/// `STORE check`, where STORE isn't `_`, gives the line `sound` where the pages of the disk stand for a state, and else `wrong PAGE RULE`, the first
+/// rule that they break and the page to blame. It takes no input, and writes nothing to the disk.
 pub fn run<H: Host>(alloc: Global, words: &Words, host: &mut H) -> Status
     // For those that read an input and keep nothing there is one outcome, for `run` over a store one run. Why the run ends so, what it has taken by then, and what it has given
     // of that outcome's text, then and at every moment; what it leaves of the disk.
@@ -80,5 +84,6 @@ fn carry_out<H: Host>(alloc: Global, line: CommandLine, host: &mut H) -> Status
         CommandLine::Verify(k) => verify(alloc, host, k),
         CommandLine::Init(settings) => init(alloc, host, settings),
         CommandLine::Gen(seed, n) => generate(alloc, host, seed, n),
+        CommandLine::Check => check(alloc, host),
     }
 }

@@ -34,6 +34,8 @@ pub enum CommandLine {
     Init(Settings),
     // The commands of a seed and a number are carried out over a store.
     Gen(u32, u32),
+    // A store's pages are checked.
+    Check,
 }
 
 // The command line that the words are, if they are one.
@@ -166,6 +168,8 @@ fn command_of_two(store: &str, command: &str) -> Option<CommandLine>
         Some(CommandLine::Tidy)
     } else if is_named_store(store) && command == "run" {
         Some(CommandLine::Run)
+    } else if is_named_store(store) && command == "check" {
+        Some(CommandLine::Check)
     } else {
         None
     }
