@@ -4,6 +4,7 @@ import filecmp
 import os
 import shutil
 import subprocess
+from pathlib import Path
 
 from measuring import fail, run
 
@@ -25,16 +26,21 @@ class Program:
     def words(self, store=None):
         return [self.command, str(store or self.store), "run"]
 
+    def check(self, store=None):
+        """The plain program has a second one for this beside it."""
+        command = Path(self.command).with_name("store_check") if self.name == "peer" else self.command
+        return [str(command), str(store or self.store), "check"]
+
     def begin(self, k):
         """Makes a new store."""
         for file in (self.store, self.log):
             file.unlink(missing_ok=True)
         run([self.command, str(self.store), "init", str(k)], os.devnull)
 
-    def answer(self, script, store=None):
-        """The file with the replies to a script."""
+    def answer(self, script, store=None, words=words):
+        """The file with the replies to a script, or with what another command says, which reads none."""
         output = self.folder / f"{self.name}.replies"
-        run(self.words(store), script, output)
+        run(words(self, store), script or os.devnull, output)
         return output
 
     def ask(self, *commands):

@@ -122,6 +122,15 @@ impl Log {
         Ok(!self.places.is_empty() || self.pages.metadata()?.len() >= PAGE as u64)
     }
 
+    /// The number behind the greatest page. Only `store_check` asks for it.
+    #[allow(dead_code)]
+    pub fn page_count(&self) -> io::Result<u32> {
+        let whole = self.pages.metadata()?.len() / PAGE as u64;
+        let whole = whole.min(MOST_PAGES.into()) as u32;
+        let logged = self.places.last_key_value().map_or(0, |(&page, _)| page + 1);
+        Ok(whole.max(logged))
+    }
+
     /// A page, where one is there.
     pub fn read(&mut self, page: u32) -> io::Result<Option<&Page>> {
         let (file, at, place) = match self.places.get(&page) {

@@ -8,6 +8,7 @@ mod catalog;
 mod dividing;
 mod draft;
 mod editing;
+mod failure;
 mod header;
 mod log;
 mod page;
@@ -43,35 +44,13 @@ mod shape;
 #[path = "../../peer/src/tree.rs"]
 mod tree;
 
+pub use failure::Failure;
 use header::Header;
 use page::MOST_PAGES;
 use std::env;
 use std::io;
 use std::process::ExitCode;
 use store::Store;
-
-/// Why a run, or a call of the store, gives up.
-pub enum Failure {
-    Usage,
-    /// There is a page already.
-    Exists,
-    Disk,
-    Read,
-    Write,
-    NotAStore,
-    /// With the page that shows it.
-    Damaged(u32),
-    TooMuch,
-    /// No page is free.
-    Full,
-}
-
-/// A failed call of a file of the store. Those of input and output are told apart where they are made.
-impl From<io::Error> for Failure {
-    fn from(_: io::Error) -> Failure {
-        Failure::Disk
-    }
-}
 
 /// K, and where more is said the split target, the split tolerance and the limit of pages.
 fn init(name: &str, settings: &[&str]) -> Result<(), Failure> {

@@ -251,7 +251,7 @@ pub struct Piece<'a> {
     pub roots: u16,
     /// What its nodes weigh, and how many slots of 8 bytes their items take.
     pub weight: u32,
-    size: u32,
+    pub size: u32,
     pub proxies: &'a [u8],
     proxy_count: u32,
 }

@@ -4,7 +4,7 @@ use crate::page::{PAGE, Page, is_zero, set, u16_at};
 
 const MOST_SLOTS: usize = 2_046;
 
-fn count(page: &Page) -> usize {
+pub fn count(page: &Page) -> usize {
     usize::from(u16_at(page, 2))
 }
 
