@@ -1,6 +1,7 @@
 pub mod PieceLemmas
 pub mod MapLemmas
 pub mod TidyLemmas
+pub mod NamedLemmas
 pub mod WrittenLemmas
 pub mod PutLemmas
 pub mod RefusalLemmas

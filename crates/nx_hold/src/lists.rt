@@ -13,12 +13,14 @@ ghost use Rattle.nx_piece.specs.Viewing.{seen_stored};
 ghost use Rattle.nx_piece.specs.Valid.{longest_inline, IsValid, IsValidPiece, HaveRoots, HaveNumbers, HasNumbers};
 ghost use Rattle.nx_hold.specs.Pieces.{IsStored, HoldsNone};
 ghost use Rattle.nx_hold.specs.Changes.{place_of, chain_pages};
+ghost use Rattle.nx_piece.specs.Checked.{IsChecked};
+ghost use Rattle.nx_hold.specs.Named.{NamesSo};
 ghost use Rattle.nx_hold.specs.Putting.{told_at, LacksProxies, HasList, FreesChain, PutsProxies};
 
 use nx_host::Disk;
 use nx_piece::{
-    Piece, Proxies, Stored, StoredView, decode, decode_proxies, encode_chained, encode_inline,
-    encode_proxies, fits_inline, read_head, view,
+    Checked, Piece, Proxies, Stored, StoredView, check, decode, decode_proxies, encode_chained,
+    encode_inline, encode_proxies, fits_inline, read_head, view,
 };
 use nx_records::{Records, Rid, StoreError};
 use nx_tree::Bytes;
@@ -69,6 +71,39 @@ pub(crate) fn viewed_at<'a, D: Disk>(
         return Err(damaged(records, rid.page));
     };
     Ok(stored)
+}
+
+// The list that the record of a piece at a place names.
+pub(crate) fn named_at<D: Disk>(
+    alloc: Global,
+    records: &mut Records,
+    disk: &mut D,
+    rid: Rid,
+) -> Result<Option<NamedList>, StoreError>
+    ensures still { IsStill D.Disk disk.old disk.new }
+    ensures reads { D.reads disk.new ≤ D.reads disk.old + 1 }
+    ensures ok { IfOk result (λ list. (stored : Stored) × (has_ended records.old ≡ false) × LeavesRecords records.old records.new × NamesSo stored list
+        × ((saved now : Held) → StandsFor D.Disk records.old disk.old saved now → IsStored now (place_of rid) stored)) }
+    ensures refused { IfErr result (λ e. NotRead D.Disk (λ now. HoldsNone now (place_of rid)) rid.page e records.old records.new disk.old disk.new) }
+{
+    let bytes = records.read(alloc, disk, rid)?;
+    let Some(checked) = check(bytes.as_slice()) else {
+        return Err(damaged(records, rid.page));
+    };
+    Ok(list_of(checked))
+}
+
+// The list that a record names of which this is told.
+fn list_of(checked: Checked) -> Option<NamedList>
+    ensures { (stored : Stored) → IsChecked stored checked → NamesSo stored result }
+{
+    match checked.chain {
+        None => None,
+        Some(chain) => Some(NamedList {
+            count: checked.proxies,
+            chain,
+        }),
+    }
 }
 
 // The proxies of a list that a record names.
@@ -176,25 +211,43 @@ pub(crate) fn free_proxies<D: Disk>(
     alloc: Global,
     records: &mut Records,
     disk: &mut D,
-    stored: &StoredView,
+    list: Option<NamedList>,
     named: u32,
 ) -> Result<(), StoreError>
     requires { has_ended records.old ≡ false }
     ensures still { IsStill D.Disk disk.old disk.new }
-    ensures ok { OnOk result ((saved now : Held) → StandsFor D.Disk records.old disk.old saved now → HasList now (seen_stored stored.now)
-        → (next : Held) × StandsFor D.Disk records.new disk.new saved next × FreesChain (seen_stored stored.now) now next) }
+    ensures ok { OnOk result ((stored : Stored) → NamesSo stored list → (saved now : Held) → StandsFor D.Disk records.old disk.old saved now → HasList now stored
+        → (next : Held) × StandsFor D.Disk records.new disk.new saved next × FreesChain stored now next) }
     ensures keeps { OnOk result (RunsOn records.old records.new × KeepsSaved D.Disk records.old records.new disk.old disk.new × (HasChanges records.old → HasChanges records.new)) }
-    ensures refused { IfErr result (λ e. NotChanged D.Disk (λ was. HasList was (seen_stored stored.now) → ⊥) named e records.old records.new disk.old disk.new) }
+    ensures refused { IfErr result (λ e. (stored : Stored) → NamesSo stored list → NotChanged D.Disk (λ was. HasList was stored → ⊥) named e records.old records.new disk.old disk.new) }
+{
+    let Some(list) = list else {
+        return Ok(());
+    };
+    match records.free_list(alloc, disk, list.chain, 8 * u64::from(list.count)) {
+        Ok(()) => Ok(()),
+        Err(error) => Err(at_page(error, named)),
+    }
+}
+
+// The list that the record names which holds this.
+pub(crate) fn named_in(stored: &StoredView) -> Option<NamedList>
+    ensures { NamesSo (seen_stored stored.now) result }
 {
     match stored {
-        StoredView::Inline(_) => Ok(()),
-        StoredView::Chained { count, chain, .. } => {
-            match records.free_list(alloc, disk, *chain, 8 * u64::from(*count)) {
-                Ok(()) => Ok(()),
-                Err(error) => Err(at_page(error, named)),
-            }
-        }
+        StoredView::Inline(_) => None,
+        StoredView::Chained { count, chain, .. } => Some(NamedList {
+            count: *count,
+            chain: *chain,
+        }),
     }
+}
+
+// The list that a record names: how many proxies it has, and its first page.
+#[derive(Clone, Copy)]
+pub(crate) struct NamedList {
+    pub(crate) count: u32,
+    pub(crate) chain: u32,
 }
 
 // A refusal, told of this page where it is told of one.

@@ -12,7 +12,7 @@ ghost use Rattle.nx_hold.specs.Pieces.{HoldsPiece, HoldsNone, HasNamedList, MayN
 ghost use Rattle.nx_hold.specs.Changes.{place_of, place_named, chain_pages, piece_needs, TakesPages, AddsPiece, UpdatesPiece, RemovesPiece, ComesOwn, ComesTidy, ComesTidyWhere};
 
 use crate::lists::{
-    free_proxies, list_at, list_named, proxies_at, record_bytes, stored_at, viewed_at,
+    free_proxies, list_at, list_named, named_at, proxies_at, record_bytes, stored_at, viewed_at,
 };
 use crate::taking::take_piece;
 use crate::updating::{list_kept, update_on_list};
@@ -184,15 +184,14 @@ pub fn update_piece<D: Disk>(
     ensures keeps { IfOk result (λ proxy. RunsOn records.old records.new × KeepsSaved D.Disk records.old records.new disk.old disk.new × HasChanges records.new) }
     ensures refused { IfErr result (λ e. NotStored D.Disk (λ was. piece_needs piece.now) (λ was. HoldsNone was (place_of rid)) rid.page e records.old records.new disk.old disk.new) }
 {
-    let mut had = Bytes::new(alloc);
-    let old = viewed_at(alloc, records, disk, rid, &mut had)?;
-    if let Some(list) = list_kept(&old, piece) {
+    let old = named_at(alloc, records, disk, rid)?;
+    if let Some(list) = list_kept(old, piece) {
         let kept = update_on_list(alloc, records, disk, rid, piece, list)?;
         return Ok(proxy_of(kept, piece));
     }
     let bytes = record_bytes(alloc, records, disk, piece, rid.page)?;
     let place = records.update(disk, rid, bytes.as_slice())?;
-    free_proxies(alloc, records, disk, &old, rid.page)?;
+    free_proxies(alloc, records, disk, old, rid.page)?;
     Ok(proxy_of(place, piece))
 }
 

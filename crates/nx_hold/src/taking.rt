@@ -13,7 +13,7 @@ ghost use Rattle.nx_hold.specs.Pieces.{IsStored, HoldsPiece, HoldsNone, roots_st
 ghost use Rattle.nx_hold.specs.Changes.{place_of, IsTakenOf, RemovesPiece, ComesOwn, ComesTidy};
 ghost use Rattle.nx_hold.specs.Putting.{piece_with};
 
-use crate::lists::{free_proxies, proxies_at, viewed_at};
+use crate::lists::{free_proxies, named_in, proxies_at, viewed_at};
 use nx_host::Disk;
 use nx_piece::{Far, ItemView, ItemsView, PieceView, Proxies, StoredView};
 use nx_records::{Records, Rid, StoreError};
@@ -59,7 +59,7 @@ pub fn take_piece<D: Disk>(
         return Err(StoreError::Memory);
     };
     records.remove(disk, rid)?;
-    free_proxies(alloc, records, disk, &stored, rid.page)?;
+    free_proxies(alloc, records, disk, named_in(&stored), rid.page)?;
     Ok(taken_of(stored, listed, fars))
 }
 

@@ -6,44 +6,33 @@ ghost use Rattle.nx_records.specs.Records.{StandsFor, KeepsSaved, HasChanges, ha
 ghost use Rattle.nx_records.specs.Refusals.{NotStored, RunsOn};
 ghost use Rattle.nx_piece.specs.declared.piece.Body.{Body};
 ghost use Rattle.nx_piece.specs.declared.piece.Stored.TheVariants.{Chained};
-ghost use Rattle.nx_piece.specs.Viewing.{seen_stored};
+ghost use Rattle.nx_piece.specs.declared.piece.Stored.{Stored};
 ghost use Rattle.nx_piece.specs.Valid.{is_inline, IsValidPiece};
+ghost use Rattle.nx_hold.specs.Named.{NamesSo};
 ghost use Rattle.nx_hold.specs.Pieces.{HoldsNone, NamesList, HasItsList};
 ghost use Rattle.nx_hold.specs.Changes.{place_of, piece_needs, UpdatesPiece};
 
-use crate::lists::at_page;
+use crate::lists::{NamedList, at_page};
 use nx_host::Disk;
-use nx_piece::{Piece, StoredView, encode_chained, encode_proxies, fits_inline};
+use nx_piece::{Piece, encode_chained, encode_proxies, fits_inline};
 use nx_records::{Records, Rid, StoreError, take_same_pages};
 use std::alloc::Global;
 
-// The list that a record names: how many proxies it has, and its first page.
-#[derive(Clone, Copy)]
-pub(crate) struct NamedList {
-    pub(crate) count: u32,
-    pub(crate) chain: u32,
-}
-
 // The list that the record of a piece names, where another piece's proxies stand in a list too, on as many pages.
-pub(crate) fn list_kept(old: &StoredView, piece: &Piece) -> Option<NamedList>
+pub(crate) fn list_kept(old: Option<NamedList>, piece: &Piece) -> Option<NamedList>
     requires { IsValidPiece piece.now }
-    ensures names { IfSome result (λ list. (body : Body) × (seen_stored old.now ≡ Chained body list.count list.chain)) }
+    ensures names { IfSome result (λ list. (stored : Stored) → NamesSo stored old → (body : Body) × (stored ≡ Chained body list.count list.chain)) }
     ensures long { IfSome result (λ list. is_inline piece.now ≡ false) }
     ensures pages { IfSome result (λ list. chain_count (8 * length piece.now.proxies) ≡ chain_count (8 * list.count)) }
 {
-    match old {
-        StoredView::Inline(_) => None,
-        StoredView::Chained { count, chain, .. } => {
-            let proxies = piece.proxies.len() as u64;
-            if fits_inline(piece) || !take_same_pages(8 * proxies, 8 * u64::from(*count)) {
-                return None;
-            }
-            Some(NamedList {
-                count: *count,
-                chain: *chain,
-            })
-        }
+    let Some(list) = old else {
+        return None;
+    };
+    let proxies = piece.proxies.len() as u64;
+    if fits_inline(piece) || !take_same_pages(8 * proxies, 8 * u64::from(list.count)) {
+        return None;
     }
+    Some(list)
 }
 
 // Puts a piece in the place of one whose record names this list, whose pages then have the new piece's proxies.

@@ -7,6 +7,7 @@ pub mod PageLemmas
 pub mod ContentLemmas
 pub mod ReadLemmas
 pub mod BodyLemmas
+pub mod CheckLemmas
 pub mod PushLemmas
 pub mod CopyLemmas
 pub mod Laws

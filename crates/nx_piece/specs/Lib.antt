@@ -10,6 +10,7 @@ pub mod Encoding
 pub mod Valid
 pub mod Reading
 pub mod Decoded
+pub mod Checked
 pub mod Locate
 pub mod Find
 pub mod Found

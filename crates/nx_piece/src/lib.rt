@@ -7,6 +7,7 @@
 //! pieces may be stored in `specs/Valid.antt`, and where a path leads in `specs/Locate.antt`.
 #![tactic(auto)]
 
+mod checking;
 mod copying;
 mod finding;
 mod locating;
@@ -16,6 +17,7 @@ mod viewing;
 mod weighing;
 mod writing;
 
+pub use checking::{Checked, check, check_proxies};
 pub use copying::decode;
 pub use finding::{FoundView, LocatedView, count_children, find, find_child, member_at};
 pub use locating::{FoundChild, Located, child_at, children, locate, proxies_below, root_at};

@@ -231,14 +231,14 @@ fn set_below(flat: &mut Vec<Flat<'_>>, place: usize, below: u32)
 
 // What the rest of a piece may have: slots of nodes, proxies and items.
 #[derive(Clone, Copy)]
-struct Left {
-    room: u32,
-    proxies: u32,
-    items: u32,
+pub(crate) struct Left {
+    pub(crate) room: u32,
+    pub(crate) proxies: u32,
+    pub(crate) items: u32,
 }
 
 // A run that may come here, and what stands behind it.
-fn take_run(bytes: &[u8], left: Left, after_run: bool) -> Option<(u32, &[u8], Left)>
+pub(crate) fn take_run(bytes: &[u8], left: Left, after_run: bool) -> Option<(u32, &[u8], Left)>
     ensures { MatchOption result (BeginsNoRun bytes.now left after_run) (λ read. (after_run ≡ false) × HasReadItems bytes.now left (Gap read.0 End) read.1.now read.2) }
 {
     if after_run || left.items == 0 {
@@ -453,7 +453,7 @@ pub fn read_proxy(bytes: &[u8]) -> Option<(Proxy, &[u8])>
 }
 
 // Whether the proxy has 1 to 256 roots.
-fn has_roots(proxy: Proxy) -> bool
+pub(crate) fn has_roots(proxy: Proxy) -> bool
     ensures { MatchBool result ((1 ≤ proxy.roots) × (proxy.roots ≤ 256)) ((1 ≤ proxy.roots) × (proxy.roots ≤ 256) → ⊥) }
 {
     proxy.roots != 0 && proxy.roots <= 256

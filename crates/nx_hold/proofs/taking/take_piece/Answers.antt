@@ -56,7 +56,7 @@ returns-in_err-free_proxies-clause-refused g c =
     err_passed c.from_residual-in_err-free_proxies.result (λ (e : StoreError). NotChanged g.D.Disk (λ was. HoldsNone was (place_of c.args.rid)) c.args.rid.page e c.args.records.now c.free_proxies.new.records c.args.disk.now c.free_proxies.new.disk) c.in_err-free_proxies.field-0.0
     (err_from_is_err_and c.from_residual-in_err-free_proxies.result c.from_residual-in_err-free_proxies.ensures.1)
     (list_refused {d = g.D.Disk} {r0 = c.args.records.now} {r1 = c.remove.new.self} {x0 = c.args.disk.now} {x1 = c.remove.new.disk} c.free_proxies.new.records c.free_proxies.new.disk (place_of c.args.rid) (seen_stored c.in_ok-stored.stored)
-    removes c.in_err-free_proxies.field-0.0 c.in_err-free_proxies.ensures.refused)
+    removes c.in_err-free_proxies.field-0.0 (c.in_err-free_proxies.ensures.refused (seen_stored c.in_ok-stored.stored) c.named_in.ensures))
 
 pub returns-clause-own : goal.returns-clause-own
 returns-clause-own g c =
@@ -66,7 +66,7 @@ returns-clause-own g c =
     let removes : GoesOn g.D.Disk c.args.records.now c.remove.new.self c.args.disk.now c.remove.new.disk (IsRemoving (place_of c.args.rid) (seen_stored c.in_ok-stored.stored)) =
     removing {r0 = c.args.records.now} {r1 = c.listed_proxies.new.records} {r2 = c.remove.new.self} (place_of c.args.rid) (seen_stored c.in_ok-stored.stored) reads
     (record { runs = c.in_ok-remove.ensures.keeps.0; keeps = c.in_ok-remove.ensures.keeps.1; still = c.remove.ensures.still; comes = c.in_ok-remove.ensures.ok }) in
-    removed {d = g.D.Disk} {r0 = c.args.records.now} {r1 = c.remove.new.self} {r2 = c.free_proxies.new.records} {x0 = c.args.disk.now} {x1 = c.remove.new.disk} {x2 = c.free_proxies.new.disk} (place_of c.args.rid) (seen_stored c.in_ok-stored.stored) removes.comes c.in_ok-free_proxies.ensures.ok
+    removed {d = g.D.Disk} {r0 = c.args.records.now} {r1 = c.remove.new.self} {r2 = c.free_proxies.new.records} {x0 = c.args.disk.now} {x1 = c.remove.new.disk} {x2 = c.free_proxies.new.disk} (place_of c.args.rid) (seen_stored c.in_ok-stored.stored) removes.comes (c.in_ok-free_proxies.ensures.ok (seen_stored c.in_ok-stored.stored) c.named_in.ensures)
 
 pub returns-clause-ok : goal.returns-clause-ok
 returns-clause-ok g c =
@@ -77,7 +77,7 @@ returns-clause-ok g c =
     removing {r0 = c.args.records.now} {r1 = c.listed_proxies.new.records} {r2 = c.remove.new.self} (place_of c.args.rid) (seen_stored c.in_ok-stored.stored) reads
     (record { runs = c.in_ok-remove.ensures.keeps.0; keeps = c.in_ok-remove.ensures.keeps.1; still = c.remove.ensures.still; comes = c.in_ok-remove.ensures.ok }) in
     removed_tidy {d = g.D.Disk} {r0 = c.args.records.now} {r2 = c.free_proxies.new.records} {x0 = c.args.disk.now} {x2 = c.free_proxies.new.disk} (place_of c.args.rid)
-    (removed {d = g.D.Disk} {r0 = c.args.records.now} {r1 = c.remove.new.self} {r2 = c.free_proxies.new.records} {x0 = c.args.disk.now} {x1 = c.remove.new.disk} {x2 = c.free_proxies.new.disk} (place_of c.args.rid) (seen_stored c.in_ok-stored.stored) removes.comes c.in_ok-free_proxies.ensures.ok)
+    (removed {d = g.D.Disk} {r0 = c.args.records.now} {r1 = c.remove.new.self} {r2 = c.free_proxies.new.records} {x0 = c.args.disk.now} {x1 = c.remove.new.disk} {x2 = c.free_proxies.new.disk} (place_of c.args.rid) (seen_stored c.in_ok-stored.stored) removes.comes (c.in_ok-free_proxies.ensures.ok (seen_stored c.in_ok-stored.stored) c.named_in.ensures))
 
 pub returns-clause-keeps : goal.returns-clause-keeps
 returns-clause-keeps g c =
