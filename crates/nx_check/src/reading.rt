@@ -5,6 +5,7 @@ ghost use Rattle.nx_host.specs.Still.{IsStill};
 ghost use Rattle.nx_replay.specs.Log.{replay};
 ghost use Rattle.nx_wal.specs.Wal.{wal_ended, pending, IsInStep};
 ghost use Rattle.nx_wal.specs.Reading.{page_found};
+ghost use Rattle.nx_slots.specs.Slots.{IsSlotted};
 ghost use Rattle.nx_check.specs.Uses.{use_of};
 ghost use Rattle.nx_check.specs.On.{IsOn};
 
@@ -13,9 +14,10 @@ use crate::left::Left;
 use crate::uses::{PageUse, Uses};
 use nx_host::{Area, Disk};
 use nx_numbers::{MOST_PAGES, PAGE_SIZE};
-use nx_slots::PageBytes;
+use nx_slots::{KnownSlots, PageBytes, is_page};
 use nx_wal::Wal;
 use std::alloc::Global;
+use std::cell::Cell;
 
 // A walk over the pages: what it has come to, and the page that it read last.
 #[derive(Drop)]
@@ -27,6 +29,8 @@ pub struct Walk {
     pub page: PageBytes,
     // Which page that is.
     pub at: Option<u32>,
+    // The slots of a page that was found to be slotted, where there was memory for them.
+    known: Cell<Option<Box<KnownSlots>>>,
 }
 
 // A walk that has come nowhere.
@@ -51,7 +55,23 @@ pub fn begin_walk<D: Disk>(alloc: Global, wal: Wal, disk: &mut D) -> Result<Walk
             bytes: [0; PAGE_SIZE],
         },
         at: None,
+        known: Cell::new(Box::new(alloc, KnownSlots::new()).ok()),
     })
+}
+
+// Whether the page that was read last is slotted.
+pub fn is_slotted(walk: &Walk) -> bool
+    ensures yes { result ≡ true → IsSlotted walk.now.page.bytes }
+    ensures no { result ≡ false → IsSlotted walk.now.page.bytes → ⊥ }
+{
+    match walk.known.take() {
+        Some(mut known) => {
+            let is = known.is_page(&walk.page);
+            walk.known.set(Some(known));
+            is
+        }
+        None => is_page(&walk.page),
+    }
 }
 
 // Reads a page, and says whether it is there.

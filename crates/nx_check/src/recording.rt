@@ -19,11 +19,11 @@ ghost use Rattle.nx_check.specs.AtRecord.{BreaksAt};
 use crate::chains::{proxies_of, walk_contents, walk_list};
 use crate::error::{Stop, broken};
 use crate::marks::reach;
-use crate::reading::{Walk, load};
+use crate::reading::{Walk, is_slotted, load};
 use nx_host::Disk;
 use nx_piece::{PieceView, Proxies, StoredView, view};
 use nx_rules::PageRule;
-use nx_slots::{is_page, read_in};
+use nx_slots::read_in;
 use nx_tree::Bytes;
 
 // The bytes of the record that a proxy names, which stands in a record of the page `by`, or in the catalog where that is 0.
@@ -48,7 +48,7 @@ pub fn read_record<D: Disk>(
     if !load(walk, disk, page)? {
         return Err(broken(by, PageRule::Missing));
     }
-    if !is_page(&walk.page) {
+    if !is_slotted(walk) {
         return Err(broken(page, PageRule::Slotted));
     }
     let found = match read_in(&walk.page, slot) {

@@ -194,7 +194,7 @@ impl Records {
             return Err(StoreError::Memory);
         };
         while reader.left > 0 {
-            self.append_on(disk, &mut reader, &mut bytes, named, &mut room)?;
+            self.append_on(disk, &mut reader, &mut bytes, named, &mut room.page)?;
         }
         self.give_spare(room);
         Ok(bytes)

@@ -17,7 +17,7 @@ use nx_holdings::{Header, NEWEST_FORMAT, free_page, header_page, read_free_page}
 use nx_host::Disk;
 use nx_lists::List;
 use nx_numbers::PAGE_SIZE;
-use nx_slots::{PageBytes, is_page, record_in};
+use nx_slots::{KnownSlots, PageBytes, is_page};
 use std::alloc::Global;
 
 // The number of the group behind one with this number.
@@ -55,11 +55,16 @@ fn known_beside(page: u32, known: Option<Header>) -> Option<Header>
 }
 
 // A copy of the record of a slot of a page, where the page is slotted and the slot has one.
-fn copy_record(alloc: Global, page: &PageBytes, slot: u16) -> Result<Option<List<u8>>, StoreError>
+fn copy_record(
+    alloc: Global,
+    page: &PageBytes,
+    slot: u16,
+    known: &mut KnownSlots,
+) -> Result<Option<List<u8>>, StoreError>
     ensures ok { IfOk result (λ found. SlotGives page.now.bytes slot found) }
     ensures refused { IfErr result (λ e. e ≡ StoreError.Memory) }
 {
-    let Some(bytes) = record_in(page, slot) else {
+    let Some(bytes) = known.record(page, slot) else {
         return Ok(None);
     };
     match List::from_slice(alloc, bytes) {
@@ -68,12 +73,23 @@ fn copy_record(alloc: Global, page: &PageBytes, slot: u16) -> Result<Option<List
     }
 }
 
+// Room for a page that is read, whatever stands there, and the slots of the page of which a record was read last: the next
+// record is most often one of the same page.
+#[derive(Drop)]
+pub(crate) struct Spare {
+    pub(crate) page: PageBytes,
+    known: KnownSlots,
+}
+
 // New room for a page, where there is memory.
-fn new_page(alloc: Global) -> Option<Box<PageBytes>> {
-    let page = PageBytes {
-        bytes: [0; PAGE_SIZE],
+fn new_spare(alloc: Global) -> Option<Box<Spare>> {
+    let spare = Spare {
+        page: PageBytes {
+            bytes: [0; PAGE_SIZE],
+        },
+        known: KnownSlots::new(),
     };
-    Box::new(alloc, page).ok()
+    Box::new(alloc, spare).ok()
 }
 
 impl Records {
@@ -90,16 +106,16 @@ impl Records {
     }
 
     // Room for a page, whatever stands there: what was given back last, else new room. There is none for want of memory.
-    pub(crate) fn take_spare(&self, alloc: Global) -> Option<Box<PageBytes>> {
+    pub(crate) fn take_spare(&self, alloc: Global) -> Option<Box<Spare>> {
         match self.spare.take() {
-            Some(page) => Some(page),
-            None => new_page(alloc),
+            Some(spare) => Some(spare),
+            None => new_spare(alloc),
         }
     }
 
     // Gives room for a page back.
-    pub(crate) fn give_spare(&self, page: Box<PageBytes>) {
-        self.spare.set(Some(page));
+    pub(crate) fn give_spare(&self, spare: Box<Spare>) {
+        self.spare.set(Some(spare));
     }
 
     // Reads a page, where one is there.
@@ -137,19 +153,36 @@ impl Records {
         ensures ok { IfOk result (λ found. (self.new ≡ self.old) × SeesSo D.Disk self.old disk.old (λ pages. PlaceGives pages rid.page rid.slot found)) }
         ensures refused { IfErr result (λ e. NotSeen D.Disk e self.old self.new disk.old disk.new) }
     {
-        if let Some(page) = self.wal.waiting(rid.page) {
-            return copy_record(alloc, page, rid.slot);
-        }
-        let Some(mut page) = self.take_spare(alloc) else {
+        let Some(mut spare) = self.take_spare(alloc) else {
             return Err(StoreError::Memory);
         };
-        let room = page.as_mut();
-        if !self.load(disk, rid.page, room)? {
+        let found = self.copy_by(alloc, disk, rid, spare.as_mut())?;
+        self.give_spare(spare);
+        Ok(found)
+    }
+
+    // As `record_at`, by way of this room.
+    fn copy_by<D: Disk>(
+        &mut self,
+        alloc: Global,
+        disk: &mut D,
+        rid: Rid,
+        spare: &mut Spare,
+    ) -> Result<Option<List<u8>>, StoreError>
+        requires { has_ended self.old ≡ false }
+        ensures still { IsStill D.Disk disk.old disk.new }
+        ensures reads { D.reads disk.new ≤ D.reads disk.old + 1 }
+        ensures waits { IsSome (entry_pages (pending self.old.wal) rid.page) → disk.new ≡ disk.old }
+        ensures ok { IfOk result (λ found. (self.new ≡ self.old) × SeesSo D.Disk self.old disk.old (λ pages. PlaceGives pages rid.page rid.slot found)) }
+        ensures refused { IfErr result (λ e. NotSeen D.Disk e self.old self.new disk.old disk.new) }
+    {
+        if let Some(page) = self.wal.waiting(rid.page) {
+            return copy_record(alloc, page, rid.slot, &mut spare.known);
+        }
+        if !self.load(disk, rid.page, &mut spare.page)? {
             return Ok(None);
         }
-        let found = copy_record(alloc, room, rid.slot);
-        self.give_spare(page);
-        found
+        copy_record(alloc, &spare.page, rid.slot, &mut spare.known)
     }
 
     // Reads the page with this number, which is there and which the header counts.

@@ -184,7 +184,7 @@ impl Records {
         let Some(mut room) = self.take_spare(alloc) else {
             return Err(StoreError::Memory);
         };
-        let (next, had) = self.see_link(disk, page, 0, &mut room)?;
+        let (next, had) = self.see_link(disk, page, 0, &mut room.page)?;
         if had.len() < from + bytes.len() {
             return Err(self.damaged(0));
         }

@@ -12,6 +12,7 @@ ghost use Rattle.nx_records.specs.Numbering.{IsNextHeader};
 
 use crate::StoreError;
 use crate::first::{first_header, put_first};
+use crate::pages::Spare;
 use nx_holdings::{Header, Settings, read_header};
 use nx_host::Disk;
 use nx_lists::List;
@@ -45,8 +46,8 @@ pub struct Records {
     // The pages on which the catalog stands, in their order; none where they aren't known.
     pub(crate) catalog_pages: List<u32>,
     pub(crate) ended: bool,
-    // Room for a page that is read, whatever stands there.
-    pub(crate) spare: Cell<Option<Box<PageBytes>>>,
+    // Room for a page that is read, whatever stands there, and the slots of one that was.
+    pub(crate) spare: Cell<Option<Box<Spare>>>,
     pub(crate) alloc: Global,
     ghost saved_range: { IsInRange saved } by { Prim.hlevel props },
     ghost head_range: { IsInRange head } by { Prim.hlevel props },
@@ -273,16 +274,16 @@ impl Records {
         if self.ended {
             return Err(StoreError::Ended);
         }
-        let Some(mut page) = self.take_spare(self.alloc) else {
+        let Some(mut spare) = self.take_spare(self.alloc) else {
             return Err(StoreError::Memory);
         };
-        let room = page.as_mut();
+        let room = &mut spare.page;
         self.load_slotted(disk, rid.page, rid.page, room)?;
         let Some(_) = read_in(room, rid.slot) else {
             return Err(self.damaged(rid.page));
         };
         let place = self.replace(disk, room, rid, bytes)?;
-        self.give_spare(page);
+        self.give_spare(spare);
         self.store_header()?;
         Ok(place)
     }

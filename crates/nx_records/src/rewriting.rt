@@ -118,7 +118,7 @@ impl Records {
                 return Err(self.damaged(named));
             }
             let content = content_at(bytes, index);
-            let (next, had) = self.set_link(disk, page, content, named, &mut room)?;
+            let (next, had) = self.set_link(disk, page, content, named, &mut room.page)?;
             let taken = had.len() as u64;
             if taken > left {
                 return Err(self.damaged(named));

@@ -9,11 +9,13 @@ mod appending;
 mod changes;
 mod emptying;
 mod form;
+mod known;
 mod packing;
 mod page;
 mod reads;
 mod room;
 
+pub use known::KnownSlots;
 pub use page::{
     Page, PageBytes, SlotsError, clear_in, free_bytes_in, has_beside, is_page, put_at, put_in,
     read_in, record_in, room_in, set_in,

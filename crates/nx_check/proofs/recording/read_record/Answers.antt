@@ -18,13 +18,13 @@ returns-then-not-branch-clause-refused g c =
     (λ was base free used tour visit named come named_by here.
     at_missing (replay was) tour visit named c.args.by c.args.page c.args.slot named_by here ((c.in_ok-load.ensures.ok was come.on).1 ∙ ap (λ (b : Bool). page_found b c.load.new.walk.page.bytes) c.if-not-branch.true))
 
-pub returns-then-not-is_page-clause-refused : goal.returns-then-not-is_page-clause-refused
-returns-then-not-is_page-clause-refused g c =
-    subst (λ (e : Stop). StopsSo g.D.Disk c.args.disk.now c.load.new.disk (SaysAt g.D.Disk c.args.walk.now c.args.disk.now c.args.by c.args.page c.args.slot) e) (sym c.broken-then-not-is_page.ensures)
+pub returns-then-not-is_slotted-clause-refused : goal.returns-then-not-is_slotted-clause-refused
+returns-then-not-is_slotted-clause-refused g c =
+    subst (λ (e : Stop). StopsSo g.D.Disk c.args.disk.now c.load.new.disk (SaysAt g.D.Disk c.args.walk.now c.args.disk.now c.args.by c.args.page c.args.slot) e) (sym c.broken-then-not-is_slotted.ensures)
     (λ was base free used tour visit named come named_by here.
     let bytes : List ℕ = c.load.new.walk.page.bytes in
     let there = (c.in_ok-load.ensures.ok was come.on).1 ∙ ap (λ (b : Bool). page_found b bytes) c.if-not-branch.false in
-    at_unslotted (replay was) tour visit named c.args.by c.args.page c.args.slot bytes here there (c.is_page.ensures.no c.if-not-is_page.true))
+    at_unslotted (replay was) tour visit named c.args.by c.args.page c.args.slot bytes here there (c.is_slotted.ensures.no c.if-not-is_slotted.true))
 
 pub returns-in-None-clause-refused : goal.returns-in-None-clause-refused
 returns-in-None-clause-refused g c =
@@ -32,7 +32,7 @@ returns-in-None-clause-refused g c =
     (λ was base free used tour visit named come named_by here.
     let bytes : List ℕ = c.load.new.walk.page.bytes in
     let there = (c.in_ok-load.ensures.ok was come.on).1 ∙ ap (λ (b : Bool). page_found b bytes) c.if-not-branch.false in
-    let slotted = c.is_page.ensures.yes c.if-not-is_page.false in
+    let slotted = c.is_slotted.ensures.yes c.if-not-is_slotted.false in
     at_no_record (replay was) tour visit named c.args.by c.args.page c.args.slot bytes named_by here (record { there = there; slotted = slotted }) (slotted_record_in bytes c.args.slot slotted ∙ c.in-None.ensures))
 
 pub returns-then-not-branch-2-clause-refused : goal.returns-then-not-branch-2-clause-refused
@@ -41,7 +41,7 @@ returns-then-not-branch-2-clause-refused g c =
     (λ was base free used tour visit named come named_by here.
     let bytes : List ℕ = c.load.new.walk.page.bytes in
     let there = (c.in_ok-load.ensures.ok was come.on).1 ∙ ap (λ (b : Bool). page_found b bytes) c.if-not-branch.false in
-    let slotted = c.is_page.ensures.yes c.if-not-is_page.false in
+    let slotted = c.is_slotted.ensures.yes c.if-not-is_slotted.false in
     let own : List ℕ = c.in-Some.found.now in
     let found : IsRecordAt (replay was) (record { page = c.args.page; slot = c.args.slot }) own = record { page = bytes; slotted = record { there = there; slotted = slotted }; there = slotted_record_in bytes c.args.slot slotted ∙ c.in-Some.ensures } in
     let marked : AreMarked c.load.new.walk.uses c.load.new.walk.left (replay was) free used (all_reached tour.visits) = subst (λ (w : Walk). AreMarked w.uses w.left (replay was) free used (all_reached tour.visits)) (sym c.in_ok-load.ensures.same) come.marked in
@@ -52,7 +52,7 @@ returns-clause-ok g c = λ was base free used reached come.
     let bytes : List ℕ = c.load.new.walk.page.bytes in
     let read = c.in_ok-load.ensures.ok was come.on in
     let there = read.1 ∙ ap (λ (b : Bool). page_found b bytes) c.if-not-branch.false in
-    let slotted = c.is_page.ensures.yes c.if-not-is_page.false in
+    let slotted = c.is_slotted.ensures.yes c.if-not-is_slotted.false in
     let place : RecordPlace = record { page = c.args.page; slot = c.args.slot } in
     let own : List ℕ = c.in-Some.found.now in
     let found : IsRecordAt (replay was) place own = record { page = bytes; slotted = record { there = there; slotted = slotted }; there = slotted_record_in bytes c.args.slot slotted ∙ c.in-Some.ensures } in

@@ -3,7 +3,7 @@ use Rattle.nx_wal.specs.Reading.{page_found}
 use Rattle.std.specs.Option.{option_map}
 use Rattle.nx_slots.specs.declared.page.PageBytes.{PageBytes}
 use Rattle.nx_records.proofs.SeenLemmas.{seen_page, waits_there}
-use Rattle.nx_records.proofs.records.Records.record_at.Goals as goal
+use Rattle.nx_records.proofs.records.Records.copy_by.Goals as goal
 
 pub returns-in-Some-clause-ok : goal.returns-in-Some-clause-ok
 returns-in-Some-clause-ok g c =
@@ -15,5 +15,5 @@ returns-in-Some-clause-ok g c =
 
 pub returns-clause-ok : goal.returns-clause-ok
 returns-clause-ok g c =
-    seen_page g.D.Disk c.args.self.now c.load.new.self c.args.disk.now c.load.new.disk c.args.rid.page c.args.rid.slot c.copy_record-found.result c.load.new.into.bytes c.in_ok-load.ensures.ok.0
-    (λ was step. c.in_ok-load.ensures.ok.1 was step ∙ ap (λ (found : Bool). page_found found c.load.new.into.bytes) c.if-not-branch.false) c.copy_record-found.ensures.ok
+    seen_page g.D.Disk c.args.self.now c.load.new.self c.args.disk.now c.load.new.disk c.args.rid.page c.args.rid.slot c.copy_record-2.result c.load.new.into.bytes c.in_ok-load.ensures.ok.0
+    (λ was step. c.in_ok-load.ensures.ok.1 was step ∙ ap (λ (found : Bool). page_found found c.load.new.into.bytes) c.if-not-branch.false) c.copy_record-2.ensures.ok
