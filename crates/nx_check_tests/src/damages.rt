@@ -28,15 +28,20 @@ use PageRule::{
 // A damage, in words, and what is found then.
 type Damage = (&'static str, &'static [Patch], Found);
 
-const HEADERS: [Damage; 23] = [
+const HEADERS: [Damage; 28] = [
     ("format 9", &[(0, 8, b"\0\x09")], Wrong(0, Header)),
     ("format 0", &[(0, 8, b"\0\0")], Wrong(0, Header)),
     ("format 1", &[(0, 8, b"\0\x01")], Sound),
     ("K 0", &[(0, 10, b"\0\0")], Wrong(0, Header)),
+    ("K 256", &[(0, 10, b"\x01\0")], Sound),
     ("K 257", &[(0, 10, b"\x01\x01")], Wrong(0, Header)),
+    ("target 100", &[(0, 12, b"\0d")], Sound),
     ("target 101", &[(0, 12, b"\0e")], Wrong(0, Header)),
+    ("tolerance 256", &[(0, 14, b"\x01\0")], Sound),
     ("tolerance 257", &[(0, 14, b"\x01\x01")], Wrong(0, Header)),
     ("limit 63", &[(0, 16, b"\0\0\0?")], Wrong(0, Header)),
+    ("limit 64", &[(0, 16, b"\0\0\0@")], Sound),
+    ("limit 16,777,216", &[(0, 16, b"\x01\0\0\0")], Sound),
     (
         "limit 16,777,217",
         &[(0, 16, b"\x01\0\0\x01")],
@@ -98,7 +103,16 @@ const HEADERS: [Damage; 23] = [
     ("no mark", &[(0, 0, b"X")], NotAStore),
 ];
 
-const FREE_LISTS: [Damage; 15] = [
+const FREE_LISTS: [Damage; 16] = [
+    (
+        "the free pages in the other order",
+        &[
+            (0, 24, b"\0\0\0\x06"),
+            (6, 4, b"\0\0\0\x05"),
+            (5, 4, b"\0\0\0\0"),
+        ],
+        Sound,
+    ),
     (
         "the first free page is missing",
         &[(0, 24, b"\0\0\0c")],
