@@ -1,8 +1,12 @@
 // Trees and proxies taken out of all small pieces, as they are taken out of a row of marks: brackets around what is
 // below a node, and for a run how many proxies it has.
+ghost use Rattle.std.specs.Prelude.{◌<◌, length, IfOk, IfSome};
+ghost use Rattle.nx_piece.specs.Valid.{IsPiece};
+
+use crate::reads::{check_bytes, check_count, check_is, check_len, inline};
 use nx_lists::NoMemory;
-use nx_piece::{Item, Piece, PieceTree, Stored, decode};
-use nx_piece_edits::{remove_proxy, remove_tree, replace_proxy};
+use nx_piece::{Item, Piece, PieceTree, Proxy};
+use nx_piece_edits::{Removed, remove_proxy, remove_tree, replace_proxy};
 use std::alloc::Global;
 use std::process::Abort;
 use std::test::Fail;
@@ -13,18 +17,27 @@ const CLOSE: u8 = b')';
 
 // A row of so many marks, by its number.
 fn row(alloc: Global, number: u32, count: u32) -> Result<Vec<u8>, NoMemory> {
-    let mut left = number;
     let mut marks = Vec::new(alloc);
+    push_row(&mut marks, number, count)?;
+    Ok(marks)
+}
+
+fn push_row(marks: &mut Vec<u8>, number: u32, count: u32) -> Result<(), NoMemory> {
+    let mut left = number;
     for _ in 0..count {
-        marks.push(match left % 4 {
-            0 => OPEN,
-            1 => CLOSE,
-            2 => b'1',
-            _ => b'2',
-        })?;
+        marks.push(mark_of(left))?;
         left /= 4;
     }
-    Ok(marks)
+    Ok(())
+}
+
+fn mark_of(number: u32) -> u8 {
+    match number % 4 {
+        0 => OPEN,
+        1 => CLOSE,
+        2 => b'1',
+        _ => b'2',
+    }
 }
 
 // How many proxies a mark stands for.
@@ -77,30 +90,60 @@ fn is_whole(marks: &[u8]) -> bool {
 // The bytes of the record. Its proxies stand on the pages from 1 on.
 fn record(alloc: Global, marks: &[u8]) -> Result<Vec<u8>, NoMemory> {
     let mut items = Vec::new(alloc);
+    let (count, proxies) = push_items(&mut items, marks)?;
+    let (roots, _) = items_from(marks);
+    let mut bytes = Vec::new(alloc);
+    push_head(&mut bytes, roots, count, proxies)?;
+    push_rest(&mut bytes, items.as_slice(), proxies)?;
+    Ok(bytes)
+}
+
+fn push_rest(bytes: &mut Vec<u8>, items: &[u8], proxies: u8) -> Result<(), NoMemory> {
+    bytes.extend_from_slice(items)?;
+    push_proxies(bytes, proxies)
+}
+
+// The items of the marks; how many they are, and how many proxies they have.
+fn push_items(items: &mut Vec<u8>, marks: &[u8]) -> Result<(u8, u8), NoMemory> {
     let mut count: u8 = 0;
     let mut proxies: u8 = 0;
     for (place, mark) in marks.iter().enumerate() {
-        if *mark == OPEN {
-            let (below, _) = items_from(marks.get(place.saturating_add(1)..).unwrap_or(&[]));
-            items.extend_from_slice(&[4, 0, 0, 0, 0, 0, 0, (below % 256) as u8])?;
+        if *mark != CLOSE {
+            push_item(
+                items,
+                *mark,
+                marks.get(place.saturating_add(1)..).unwrap_or(&[]),
+            )?;
             count = count.saturating_add(1);
-        } else if *mark != CLOSE {
-            let own = (proxies_of(*mark) % 256) as u8;
-            items.extend_from_slice(&[6, 0, 0, 0, 0, 0, 0, own])?;
-            count = count.saturating_add(1);
-            proxies = proxies.saturating_add(own);
+            proxies = proxies.saturating_add((proxies_of(*mark) % 256) as u8);
         }
     }
-    let (roots, _) = items_from(marks);
-    let mut bytes = Vec::new(alloc);
+    Ok((count, proxies))
+}
+
+// The item of a mark before these, which is no bracket that closes.
+fn push_item(items: &mut Vec<u8>, mark: u8, behind: &[u8]) -> Result<(), NoMemory> {
+    let (kind, own) = if mark == OPEN {
+        (4, items_from(behind).0)
+    } else {
+        (6, proxies_of(mark))
+    };
+    items.extend_from_slice(&[kind, 0, 0, 0, 0, 0, 0, (own % 256) as u8])?;
+    Ok(())
+}
+
+fn push_head(bytes: &mut Vec<u8>, roots: u32, count: u8, proxies: u8) -> Result<(), NoMemory> {
     bytes.extend_from_slice(&[1, 0, 0, (roots % 256) as u8, 0, 0, 0, count])?;
     bytes.extend_from_slice(&[0, 0, 0, proxies, 0, 0, 0, 0])?;
-    bytes.extend_from_slice(items.as_slice())?;
+    Ok(())
+}
+
+fn push_proxies(bytes: &mut Vec<u8>, proxies: u8) -> Result<(), NoMemory> {
     for index in 0..proxies {
         let roots = (roots_of(u32::from(index)) % 256) as u8;
         bytes.extend_from_slice(&[0, 0, 0, index.saturating_add(1), 0, 0, 0, roots])?;
     }
-    Ok(bytes)
+    Ok(())
 }
 
 // Where the tree at a position begins among the items from a mark on, and how many proxies stand before it.
@@ -163,14 +206,24 @@ fn push_mark(marks: &mut Vec<u8>, mark: u8) -> Result<(), NoMemory> {
     Ok(())
 }
 
-// The marks without those from one place up to another.
-fn without(alloc: Global, marks: &[u8], start: usize, end: usize) -> Result<Vec<u8>, NoMemory> {
-    let mut left = Vec::new(alloc);
+// Adds the marks without those from one place up to another.
+fn push_without(
+    left: &mut Vec<u8>,
+    marks: &[u8],
+    start: usize,
+    end: usize,
+) -> Result<(), NoMemory> {
     for (place, mark) in marks.iter().enumerate() {
         if place < start || place >= end {
-            push_mark(&mut left, *mark)?;
+            push_mark(left, *mark)?;
         }
     }
+    Ok(())
+}
+
+fn without(alloc: Global, marks: &[u8], start: usize, end: usize) -> Result<Vec<u8>, NoMemory> {
+    let mut left = Vec::new(alloc);
+    push_without(&mut left, marks, start, end)?;
     Ok(left)
 }
 
@@ -193,14 +246,32 @@ fn push_tree(tree: &PieceTree, depth: u32, marks: &mut Vec<u8>) -> Result<(), No
 // The marks of a piece.
 fn marks_of(alloc: Global, piece: &Piece) -> Result<Vec<u8>, NoMemory> {
     let mut marks = Vec::new(alloc);
-    for root in piece.body.roots.as_slice() {
-        push_tree(root, 20, &mut marks)?;
-    }
+    push_roots(piece, &mut marks)?;
     Ok(marks)
 }
 
+fn push_roots(piece: &Piece, marks: &mut Vec<u8>) -> Result<(), NoMemory> {
+    for root in piece.body.roots.as_slice() {
+        push_tree(root, 20, marks)?;
+    }
+    Ok(())
+}
+
+fn marks_of_tree(alloc: Global, tree: &PieceTree) -> Result<Vec<u8>, NoMemory> {
+    let mut marks = Vec::new(alloc);
+    push_tree(tree, 20, &mut marks)?;
+    Ok(marks)
+}
+
+// The piece of the marks, if there is one.
+fn piece_of(alloc: Global, marks: &[u8]) -> Result<Option<Piece>, NoMemory>
+    ensures { IfOk result (λ found. IfSome found (λ piece. IsPiece piece)) }
+{
+    let bytes = record(alloc, marks)?;
+    inline(alloc, bytes.as_slice())
+}
+
 // Takes out the tree that the path leads to, if one is there.
-#[tactic(auto, using(nx_piece::proofs::Laws::inline_is_piece))]
 fn check_path(
     rt: &impl Abort,
     alloc: Global,
@@ -208,70 +279,154 @@ fn check_path(
     member: u16,
     path: &[u32],
 ) -> Result<(), NoMemory> {
-    let bytes = record(alloc, marks)?;
-    let Some(Stored::Inline(piece)) = decode(alloc, bytes.as_slice())? else {
+    let Some(piece) = piece_of(alloc, marks)? else {
         return Ok(());
     };
     let count = piece.proxies.len();
-    let Some(removed) = remove_tree(alloc, piece, member, path)? else {
-        assert!(rt; span(marks, u32::from(member), path).is_none());
+    let span = span(marks, u32::from(member), path);
+    let removed = removed(alloc, piece, member, path)?;
+    check_removed(rt, alloc, marks, span, &removed, count)
+}
+
+fn removed(
+    alloc: Global,
+    piece: Piece,
+    member: u16,
+    path: &[u32],
+) -> Result<Option<Removed>, NoMemory>
+    requires { IsPiece piece }
+{
+    remove_tree(alloc, piece, member, path)
+}
+
+// The tree of these marks was taken out of the others, with its proxies, or none was.
+fn check_removed(
+    rt: &impl Abort,
+    alloc: Global,
+    marks: &[u8],
+    span: Option<(usize, usize, u32)>,
+    removed: &Option<Removed>,
+    count: usize,
+) -> Result<(), NoMemory> {
+    let Some(removed) = removed else {
+        check_is(rt, span.is_none(), true);
         return Ok(());
     };
-    let Some((start, end, before)) = span(marks, u32::from(member), path) else {
+    let Some((start, end, before)) = span else {
         panic!(rt; "a tree was taken out where there is none");
     };
-    let left = marks_of(alloc, &removed.rest)?;
-    assert_eq!(rt;
-        left.as_slice(),
-        without(alloc, marks, start, end)?.as_slice()
-    );
-    let mut tree = Vec::new(alloc);
-    push_tree(&removed.tree, 20, &mut tree)?;
-    assert_eq!(rt; tree.as_slice(), marks.get(start..end).unwrap_or(&[]));
-    let mut page = before;
-    for proxy in removed.proxies.as_slice() {
-        page = page.saturating_add(1);
-        assert_eq!(rt; proxy.page, page);
-    }
-    let all = removed
-        .rest
-        .proxies
-        .len()
-        .saturating_add(removed.proxies.len());
-    assert_eq!(rt; all, count);
+    check_rest(rt, alloc, &removed.rest, marks, start, end)?;
+    check_tree(
+        rt,
+        alloc,
+        &removed.tree,
+        marks.get(start..end).unwrap_or(&[]),
+    )?;
+    check_pages(rt, removed.proxies.as_slice(), before);
+    check_together(rt, removed, count);
     Ok(())
 }
 
-// Takes each proxy out, or replaces it.
-#[tactic(auto, using(nx_piece::proofs::Laws::inline_is_piece))]
+fn check_rest(
+    rt: &impl Abort,
+    alloc: Global,
+    rest: &Piece,
+    marks: &[u8],
+    start: usize,
+    end: usize,
+) -> Result<(), NoMemory> {
+    let left = marks_of(alloc, rest)?;
+    let others = without(alloc, marks, start, end)?;
+    check_bytes(rt, left.as_slice(), others.as_slice());
+    Ok(())
+}
+
+fn check_tree(
+    rt: &impl Abort,
+    alloc: Global,
+    tree: &PieceTree,
+    marks: &[u8],
+) -> Result<(), NoMemory> {
+    let found = marks_of_tree(alloc, tree)?;
+    check_bytes(rt, found.as_slice(), marks);
+    Ok(())
+}
+
+// The proxies stand on the pages behind that one, in order.
+fn check_pages(rt: &impl Abort, proxies: &[Proxy], before: u32) {
+    let mut page = before;
+    for proxy in proxies {
+        page = page.saturating_add(1);
+        check_count(rt, proxy.page, page);
+    }
+}
+
+fn check_together(rt: &impl Abort, removed: &Removed, count: usize) {
+    let left = removed.rest.proxies.len();
+    check_len(rt, left.saturating_add(removed.proxies.len()), count);
+}
+
+// The marks where the proxy with this index is gone.
+fn push_others(expected: &mut Vec<u8>, marks: &[u8], index: u32) -> Result<(), NoMemory> {
+    let mut before: u32 = 0;
+    for mark in marks {
+        let own = proxies_of(*mark);
+        let behind = before.saturating_add(own);
+        if index < before || behind <= index {
+            expected.push(*mark)?;
+        } else if own > 1 {
+            expected.push(b'1')?;
+        }
+        before = behind;
+    }
+    Ok(())
+}
+
+fn others(alloc: Global, marks: &[u8], index: u32) -> Result<Vec<u8>, NoMemory> {
+    let mut expected = Vec::new(alloc);
+    push_others(&mut expected, marks, index)?;
+    Ok(expected)
+}
+
+fn without_proxy(alloc: Global, piece: Piece, index: u32) -> Piece
+    requires piece { IsPiece piece }
+    requires within { index < length piece.proxies }
+{
+    remove_proxy(alloc, piece, index)
+}
+
+// Takes the proxy with this index out, if there is one.
 fn check_proxy(rt: &impl Abort, alloc: Global, marks: &[u8], index: u32) -> Result<bool, NoMemory> {
-    let bytes = record(alloc, marks)?;
-    let Some(Stored::Inline(piece)) = decode(alloc, bytes.as_slice())? else {
+    let Some(piece) = piece_of(alloc, marks)? else {
         return Ok(false);
     };
     if index as usize >= piece.proxies.len() {
         return Ok(false);
     }
-    let mut expected = Vec::new(alloc);
-    let mut before: u32 = 0;
-    for mark in marks {
-        let own = proxies_of(*mark);
-        let behind = before.saturating_add(own);
-        if before <= index && index < behind {
-            if own > 1 {
-                expected.push(b'1')?;
-            }
-        } else {
-            expected.push(*mark)?;
-        }
-        before = behind;
-    }
-    let rest = remove_proxy(alloc, piece, index);
-    assert_eq!(rt; marks_of(alloc, &rest)?.as_slice(), expected.as_slice());
-    for proxy in rest.proxies.as_slice() {
-        assert!(rt; proxy.page != index.saturating_add(1));
-    }
+    let rest = without_proxy(alloc, piece, index);
+    check_others(rt, alloc, &rest, marks, index)?;
     Ok(true)
+}
+
+// What is left has the other marks and proxies.
+fn check_others(
+    rt: &impl Abort,
+    alloc: Global,
+    rest: &Piece,
+    marks: &[u8],
+    index: u32,
+) -> Result<(), NoMemory> {
+    let left = marks_of(alloc, rest)?;
+    let others = others(alloc, marks, index)?;
+    check_bytes(rt, left.as_slice(), others.as_slice());
+    check_no_page(rt, rest.proxies.as_slice(), index.saturating_add(1));
+    Ok(())
+}
+
+fn check_no_page(rt: &impl Abort, proxies: &[Proxy], page: u32) {
+    for proxy in proxies {
+        check_is(rt, proxy.page == page, false);
+    }
 }
 
 // All paths of up to two positions from each root.
@@ -279,12 +434,29 @@ fn check_row(rt: &impl Abort, alloc: Global, marks: &[u8]) -> Result<(), NoMemor
     for member in 0..2 {
         check_path(rt, alloc, marks, member, &[])?;
         for first in 0..4 {
-            check_path(rt, alloc, marks, member, &[first])?;
-            for second in 0..4 {
-                check_path(rt, alloc, marks, member, &[first, second])?;
-            }
+            check_below(rt, alloc, marks, member, first)?;
         }
     }
+    check_proxies(rt, alloc, marks)
+}
+
+// The path of that position, and all of one more.
+fn check_below(
+    rt: &impl Abort,
+    alloc: Global,
+    marks: &[u8],
+    member: u16,
+    first: u32,
+) -> Result<(), NoMemory> {
+    check_path(rt, alloc, marks, member, &[first])?;
+    for second in 0..4 {
+        check_path(rt, alloc, marks, member, &[first, second])?;
+    }
+    Ok(())
+}
+
+// Takes each proxy out.
+fn check_proxies(rt: &impl Abort, alloc: Global, marks: &[u8]) -> Result<(), NoMemory> {
     for index in 0..8 {
         if !check_proxy(rt, alloc, marks, index)? {
             return Ok(());
@@ -293,40 +465,62 @@ fn check_row(rt: &impl Abort, alloc: Global, marks: &[u8]) -> Result<(), NoMemor
     Ok(())
 }
 
+// Tries the row of that number, if it is a piece's.
+fn is_tried(rt: &impl Abort, alloc: Global, number: u32, count: u32) -> Result<bool, NoMemory> {
+    let marks = row(alloc, number, count)?;
+    if number % 4 != 0 || !is_whole(marks.as_slice()) {
+        return Ok(false);
+    }
+    check_row(rt, alloc, marks.as_slice())?;
+    Ok(true)
+}
+
+// How many of the first rows of so many marks are pieces'.
+fn count_tried(rt: &impl Abort, alloc: Global, rows: u32, count: u32) -> Result<u32, NoMemory> {
+    let mut pieces: u32 = 0;
+    for number in 0..rows {
+        if is_tried(rt, alloc, number, count)? {
+            pieces = pieces.saturating_add(1);
+        }
+    }
+    Ok(pieces)
+}
+
 #[test]
 fn small_pieces(rt: HostRuntime) -> Result<(), Fail> {
-    let alloc = rt.alloc();
     let mut pieces: u32 = 0;
     let mut rows: u32 = 1;
     for count in 1..7 {
         rows = rows.saturating_mul(4);
-        for number in 0..rows {
-            let marks = row(alloc, number, count)?;
-            if number % 4 == 0 && is_whole(marks.as_slice()) {
-                pieces = pieces.saturating_add(1);
-                check_row(&rt, alloc, marks.as_slice())?;
-            }
-        }
+        let more = count_tried(&rt, rt.alloc(), rows, count)?;
+        pieces = pieces.saturating_add(more);
     }
     assert!(rt; pieces > 100);
     Ok(())
 }
 
-#[test]
-#[tactic(auto, using(nx_piece::proofs::Laws::inline_is_piece))]
-fn another_proxy(rt: HostRuntime) -> Result<(), Fail> {
-    let alloc = rt.alloc();
-    let bytes = record(alloc, b"(2)")?;
-    let Some(Stored::Inline(piece)) = decode(alloc, bytes.as_slice())? else {
-        panic!(rt; "no piece was read");
-    };
+// The piece where the second of its two proxies stands on page 9, and these two then.
+fn changed(rt: &impl Abort, piece: Piece) -> (Piece, [Proxy; 2]) {
     let [first, second] = piece.proxies.as_slice() else {
         panic!(rt; "there are not two proxies");
     };
     let (first, mut second) = (*first, *second);
     second.page = 9;
-    let changed = replace_proxy(piece, 1, second);
-    assert_eq!(rt; changed.proxies.as_slice(), [first, second].as_slice());
-    assert_eq!(rt; marks_of(alloc, &changed)?.as_slice(), b"(2)".as_slice());
+    (replace_proxy(piece, 1, second), [first, second])
+}
+
+fn check_proxies_of(rt: &impl Abort, piece: &Piece, expected: &[Proxy]) {
+    assert_eq!(rt; piece.proxies.as_slice(), expected);
+}
+
+#[test]
+fn another_proxy(rt: HostRuntime) -> Result<(), Fail> {
+    let Some(piece) = piece_of(rt.alloc(), b"(2)")? else {
+        panic!(rt; "no piece was read");
+    };
+    let (changed, proxies) = changed(&rt, piece);
+    check_proxies_of(&rt, &changed, &proxies);
+    let marks = marks_of(rt.alloc(), &changed)?;
+    check_bytes(&rt, marks.as_slice(), b"(2)");
     Ok(())
 }

@@ -12,4 +12,6 @@ mod made;
 #[cfg(test)]
 mod random;
 #[cfg(test)]
+mod reads;
+#[cfg(test)]
 mod trial;
