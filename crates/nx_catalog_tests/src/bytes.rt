@@ -1,41 +1,78 @@
 // Bytes that are a catalog's, and such that aren't.
+use crate::checks::{check_count, check_is};
 use crate::made::{BYTES, check};
-use nx_catalog::catalog_of;
+use nx_catalog::{Catalog, catalog_of};
 use nx_lists::NoMemory;
 use std::alloc::Global;
 use std::process::Abort;
 use std::test::Fail;
 
-#[test]
-fn known_bytes(rt: HostRuntime) -> Result<(), Fail> {
-    let alloc = rt.alloc();
-    let Some(catalog) = catalog_of(alloc, &BYTES)? else {
+// What is read from the bytes.
+fn found(alloc: Global, bytes: &[u8]) -> Result<Option<Catalog>, NoMemory> {
+    catalog_of(alloc, bytes)
+}
+
+fn check_known(rt: &impl Abort, alloc: Global) -> Result<(), Fail> {
+    let found = found(alloc, &BYTES)?;
+    let Some(catalog) = &found else {
         panic!(rt; "no catalog was read");
     };
-    check(&rt, &catalog)?;
-    let Some(first) = catalog_of(alloc, &[0; 8])? else {
+    check(rt, catalog)
+}
+
+fn check_first(rt: &impl Abort, alloc: Global) -> Result<(), Fail> {
+    let found = found(alloc, &[0; 8])?;
+    let Some(first) = &found else {
         panic!(rt; "no first catalog was read");
     };
-    assert_eq!(rt; first.len(), 0);
-    assert_eq!(rt; first.matrix().len(), 0);
+    check_count(rt, first.len(), 0);
+    check_count(rt, first.matrix().len(), 0);
     Ok(())
+}
+
+#[test]
+fn known_bytes(rt: HostRuntime) -> Result<(), Fail> {
+    check_known(&rt, rt.alloc())?;
+    check_first(&rt, rt.alloc())
 }
 
 // Whether a catalog is read from the bytes.
 fn is_read(alloc: Global, bytes: &[u8]) -> Result<bool, NoMemory> {
-    Ok(catalog_of(alloc, bytes)?.is_some())
+    let found = found(alloc, bytes)?;
+    Ok(found.is_some())
+}
+
+fn check_cut(rt: &impl Abort, alloc: Global, length: usize) -> Result<(), Fail> {
+    let (bytes, _) = BYTES.split_at(length.min(BYTES.len()));
+    let read = is_read(alloc, bytes)?;
+    check_unread(rt, read, length);
+    Ok(())
+}
+
+fn check_unread(rt: &impl Abort, read: bool, length: usize) {
+    assert_eq!(rt; read, false, "{length} bytes");
+}
+
+// The known bytes with one behind them.
+fn longer(alloc: Global) -> Result<Vec<u8>, NoMemory> {
+    let mut longer = Vec::from_slice(alloc, &BYTES)?;
+    longer.push(0)?;
+    Ok(longer)
+}
+
+fn check_longer(rt: &impl Abort, alloc: Global) -> Result<(), Fail> {
+    let longer = longer(alloc)?;
+    let read = is_read(alloc, longer.as_slice())?;
+    check_is(rt, read, false);
+    Ok(())
 }
 
 #[test]
 fn cut_and_continued(rt: HostRuntime) -> Result<(), Fail> {
-    let alloc = rt.alloc();
     for length in 0..BYTES.len() {
-        assert!(rt; !is_read(alloc, &BYTES[..length])?, "{length} bytes");
+        check_cut(&rt, rt.alloc(), length)?;
     }
-    let mut longer = Vec::from_slice(alloc, &BYTES)?;
-    longer.push(0)?;
-    assert!(rt; !is_read(alloc, longer.as_slice())?);
-    Ok(())
+    check_longer(&rt, rt.alloc())
 }
 
 // The bytes that may be turned so: those of places and numbers of nodes, and those of labels that are
@@ -51,13 +88,35 @@ const TURNED_BY_1: [usize; 42] = [
     35, 36, 37, 38, 39, 40, 41, 42, 43, 44, 45, 46, 53, 59, 63, 66, 67,
 ];
 
+// Whether a catalog is read where that byte is turned.
+fn is_read_turned(alloc: Global, place: usize, by: u8) -> Result<bool, NoMemory> {
+    let mut bytes = BYTES;
+    if place < bytes.len() {
+        bytes[place] ^= by;
+    }
+    is_read(alloc, &bytes)
+}
+
+fn turn(
+    rt: &impl Abort,
+    alloc: Global,
+    place: usize,
+    by: u8,
+    places: &[usize],
+) -> Result<(), Fail> {
+    let read = is_read_turned(alloc, place, by)?;
+    check_turned(rt, read, places.contains(&place), place, by);
+    Ok(())
+}
+
+fn check_turned(rt: &impl Abort, read: bool, want: bool, place: usize, by: u8) {
+    assert_eq!(rt; read, want, "byte {place} by {by}");
+}
+
 // Turns each byte, and reads what then stands there.
 fn turn_each(rt: &impl Abort, alloc: Global, by: u8, places: &[usize]) -> Result<(), Fail> {
     for place in 0..BYTES.len() {
-        let mut bytes = BYTES;
-        bytes[place] ^= by;
-        let read = is_read(alloc, &bytes)?;
-        assert!(rt; read == places.contains(&place), "byte {place} by {by}");
+        turn(rt, alloc, place, by, places)?;
     }
     Ok(())
 }
@@ -81,7 +140,12 @@ const OUT_OF_ORDER: [&[u8]; 5] = [
 #[test]
 fn out_of_order(rt: HostRuntime) -> Result<(), Fail> {
     for bytes in OUT_OF_ORDER {
-        assert!(rt; !is_read(rt.alloc(), bytes)?, "{bytes:?}");
+        let read = is_read(rt.alloc(), bytes)?;
+        check_row(&rt, read, bytes);
     }
     Ok(())
+}
+
+fn check_row(rt: &impl Abort, read: bool, bytes: &[u8]) {
+    assert_eq!(rt; read, false, "{bytes:?}");
 }

@@ -1,21 +1,28 @@
 // Entries that are changed in the catalog of a store.
+use crate::checks::{check_bytes, check_is};
 use crate::made::put;
 use crate::stores::Store;
 use nx_catalog::Catalog;
 use nx_hold::DocEntry;
+use nx_lists::NoMemory;
 use nx_records::Rid;
 use std::alloc::Global;
 use std::process::Abort;
 use std::test::Fail;
 
-// Puts a document with this number under its name, which is twelve bytes long.
+// The name of a document, which is twelve bytes long up to number 999.
+fn name_of(alloc: Global, number: u32) -> Result<String, NoMemory> {
+    Ok(format!(in alloc; "document-{number}")?)
+}
+
+// Puts a document with this number under its name.
 fn put_numbered(
     rt: &impl Abort,
     alloc: Global,
     catalog: &mut Catalog,
     number: u32,
 ) -> Result<(), Fail> {
-    let name = format!(in alloc; "document-{number}")?;
+    let name = name_of(alloc, number)?;
     let root = Rid {
         page: number,
         slot: 1,
@@ -53,8 +60,9 @@ fn change(
     catalog: &mut Catalog,
     number: u32,
 ) -> Result<u64, Fail> {
-    let name = format!(in alloc; "document-{number}")?;
-    Ok(store.enter(rt, catalog, name.as_bytes(), changed_entry(number))?)
+    let name = name_of(alloc, number)?;
+    let reads = store.enter(rt, catalog, name.as_bytes(), changed_entry(number))?;
+    Ok(reads)
 }
 
 // Changes all entries. The first change reads the chain of three pages too.
@@ -64,13 +72,29 @@ fn change_all(
     store: &mut Store,
     catalog: &mut Catalog,
 ) -> Result<(), Fail> {
-    let first = change(rt, alloc, store, catalog, 100)?;
-    assert!(rt; first <= 5, "{first} reads");
+    check_change(rt, alloc, store, catalog, 100, 5)?;
     for number in 101..1_000 {
-        let reads = change(rt, alloc, store, catalog, number)?;
-        assert!(rt; reads <= 2, "document-{number}: {reads} reads");
+        check_change(rt, alloc, store, catalog, number, 2)?;
     }
     Ok(())
+}
+
+// Changes an entry with no more reads than that.
+fn check_change(
+    rt: &impl Abort,
+    alloc: Global,
+    store: &mut Store,
+    catalog: &mut Catalog,
+    number: u32,
+    most: u64,
+) -> Result<(), Fail> {
+    let reads = change(rt, alloc, store, catalog, number)?;
+    check_reads(rt, reads <= most, number, reads);
+    Ok(())
+}
+
+fn check_reads(rt: &impl Abort, are_few: bool, number: u32, reads: u64) {
+    assert_eq!(rt; are_few, true, "document-{number}: {reads} reads");
 }
 
 // What was changed is what the whole catalog is, saved anew.
@@ -81,44 +105,93 @@ fn check_saved(
     catalog: &Catalog,
 ) -> Result<(), Fail> {
     let changed = store.bytes(alloc)?;
+    check_saved_so(rt, alloc, store, catalog, changed.as_slice())
+}
+
+fn check_saved_so(
+    rt: &impl Abort,
+    alloc: Global,
+    store: &mut Store,
+    catalog: &Catalog,
+    changed: &[u8],
+) -> Result<(), Fail> {
     store.save(catalog)?;
-    assert!(rt; store.bytes(alloc)?.as_slice() == changed.as_slice());
+    let saved = store.bytes(alloc)?;
+    check_bytes(rt, saved.as_slice(), changed);
     Ok(())
 }
 
 // The entries that stand across a page's end are those that were put there.
 fn check_across(rt: &impl Abort, alloc: Global, store: &mut Store) -> Result<(), Fail> {
     let loaded = store.load(alloc)?;
-    assert!(rt; loaded.find(b"document-440") == Some(changed_entry(440)));
-    assert!(rt; loaded.find(b"document-781") == Some(changed_entry(781)));
+    check_found(rt, &loaded);
     Ok(())
+}
+
+fn check_found(rt: &impl Abort, loaded: &Catalog) {
+    check_is(rt, is_changed(loaded, b"document-440", 440), true);
+    check_is(rt, is_changed(loaded, b"document-781", 781), true);
+}
+
+fn is_changed(loaded: &Catalog, name: &[u8], number: u32) -> bool {
+    loaded.find(name) == Some(changed_entry(number))
+}
+
+fn check_in_place(rt: &impl Abort, alloc: Global, store: &mut Store) -> Result<(), Fail> {
+    let mut catalog = numbered(rt, alloc)?;
+    change_in_place(rt, alloc, store, &mut catalog)
+}
+
+fn change_in_place(
+    rt: &impl Abort,
+    alloc: Global,
+    store: &mut Store,
+    catalog: &mut Catalog,
+) -> Result<(), Fail> {
+    store.keep(rt, catalog)?;
+    change_all(rt, alloc, store, catalog)?;
+    check_across(rt, alloc, store)?;
+    check_saved(rt, alloc, store, catalog)
 }
 
 #[test]
 fn changed_in_place(rt: HostRuntime) -> Result<(), Fail> {
-    let alloc = rt.alloc();
-    let mut store = Store::create(alloc)?;
-    let mut catalog = numbered(&rt, alloc)?;
-    store.keep(&rt, &catalog)?;
-    change_all(&rt, alloc, &mut store, &mut catalog)?;
-    check_across(&rt, alloc, &mut store)?;
-    check_saved(&rt, alloc, &mut store, &catalog)
+    let mut store = Store::create(rt.alloc())?;
+    check_in_place(&rt, rt.alloc(), &mut store)
+}
+
+// A document more, and two fewer.
+fn move_others(rt: &impl Abort, alloc: Global, catalog: &mut Catalog) -> Result<(), Fail> {
+    put_numbered(rt, alloc, catalog, 1_000)?;
+    catalog.remove(b"document-101");
+    catalog.remove(b"document-102");
+    Ok(())
+}
+
+fn check_behind_others(rt: &impl Abort, alloc: Global, store: &mut Store) -> Result<(), Fail> {
+    let mut catalog = numbered(rt, alloc)?;
+    change_behind_others(rt, alloc, store, &mut catalog)
+}
+
+fn change_behind_others(
+    rt: &impl Abort,
+    alloc: Global,
+    store: &mut Store,
+    catalog: &mut Catalog,
+) -> Result<(), Fail> {
+    store.keep(rt, catalog)?;
+    let _ = change(rt, alloc, store, catalog, 440)?;
+    move_others(rt, alloc, catalog)?;
+    store.keep(rt, catalog)?;
+    let _ = change(rt, alloc, store, catalog, 781)?;
+    let _ = change(rt, alloc, store, catalog, 442)?;
+    check_across(rt, alloc, store)?;
+    check_saved(rt, alloc, store, catalog)
 }
 
 // A document that comes moves the others, and one that goes too.
 #[test]
 fn changed_behind_others(rt: HostRuntime) -> Result<(), Fail> {
-    let alloc = rt.alloc();
-    let mut store = Store::create(alloc)?;
-    let mut catalog = numbered(&rt, alloc)?;
-    store.keep(&rt, &catalog)?;
-    let _ = change(&rt, alloc, &mut store, &mut catalog, 440)?;
-    put_numbered(&rt, alloc, &mut catalog, 1_000)?;
-    catalog.remove(b"document-101");
-    catalog.remove(b"document-102");
-    store.keep(&rt, &catalog)?;
-    let _ = change(&rt, alloc, &mut store, &mut catalog, 781)?;
-    let _ = change(&rt, alloc, &mut store, &mut catalog, 442)?;
-    check_across(&rt, alloc, &mut store)?;
-    check_saved(&rt, alloc, &mut store, &catalog)
+    let mut store = Store::create(rt.alloc())?;
+    check_behind_others(&rt, rt.alloc(), &mut store)
 }

@@ -6,6 +6,8 @@ mod bytes;
 #[cfg(test)]
 mod changed;
 #[cfg(test)]
+mod checks;
+#[cfg(test)]
 mod made;
 #[cfg(test)]
 mod saved;

@@ -2,10 +2,11 @@
 ghost use Rattle.std.specs.Prelude.{◌≡◌, OnOk};
 ghost use Rattle.nx_matrix.specs.Rules.{IsLabel, SetsEntry};
 
+use crate::checks::{check_count, check_is};
 use nx_catalog::Catalog;
 use nx_hold::DocEntry;
 use nx_lists::NoMemory;
-use nx_matrix::{Entry, MatrixError, Rule};
+use nx_matrix::{Entry, MatrixError, Rule, Rules};
 use nx_records::Rid;
 use nx_script::is_document_name;
 use std::alloc::Global;
@@ -78,12 +79,21 @@ pub fn put(
 /// The catalog, made by calls, the last first.
 pub fn made(rt: &impl Abort, alloc: Global) -> Result<Catalog, Fail> {
     let mut catalog = Catalog::new(alloc);
-    set_rule(&mut catalog, b"r", b"@x", Entry::Cluster)?;
-    set_rule(&mut catalog, b"#doc", b"r", Entry::Standalone)?;
-    for (name, entry) in NAMES.iter().zip(ENTRIES.iter()).rev() {
-        put(rt, &mut catalog, name, *entry)?;
-    }
+    set_rules(&mut catalog)?;
+    put_all(rt, &mut catalog)?;
     Ok(catalog)
+}
+
+fn set_rules(catalog: &mut Catalog) -> Result<(), MatrixError> {
+    set_rule(catalog, b"r", b"@x", Entry::Cluster)?;
+    set_rule(catalog, b"#doc", b"r", Entry::Standalone)
+}
+
+fn put_all(rt: &impl Abort, catalog: &mut Catalog) -> Result<(), NoMemory> {
+    for (name, entry) in NAMES.iter().zip(ENTRIES.iter()).rev() {
+        put(rt, catalog, name, *entry)?;
+    }
+    Ok(())
 }
 
 /// Looks at all that the catalog says.
@@ -100,45 +110,60 @@ fn is_known(number: usize, name: &[u8], entry: DocEntry) -> bool {
 
 // The documents by their numbers and names.
 fn check_found(rt: &impl Abort, catalog: &Catalog) {
-    assert_eq!(rt; catalog.len(), 3);
+    check_count(rt, catalog.len(), 3);
     for index in 0..3 {
-        let Some(named) = catalog.at(index) else {
-            panic!(rt; "document {index} is missing");
-        };
-        assert!(rt;
-            is_known(index as usize, named.name, named.entry),
-            "document {index}"
-        );
-        assert!(rt;
-            catalog.find(named.name) == Some(named.entry),
-            "document {index}"
-        );
+        check_at(rt, catalog, index);
     }
-    assert!(rt; catalog.at(3).is_none());
-    assert!(rt; catalog.find(b"b").is_none());
+    check_is(rt, catalog.at(3).is_none(), true);
+    check_is(rt, catalog.find(b"b").is_none(), true);
+}
+
+fn check_at(rt: &impl Abort, catalog: &Catalog, index: u32) {
+    match catalog.at(index) {
+        Some(named) => check_named(rt, catalog, index, named.name, named.entry),
+        None => panic!(rt; "document {index} is missing"),
+    }
+}
+
+fn check_named(rt: &impl Abort, catalog: &Catalog, index: u32, name: &[u8], entry: DocEntry) {
+    check_document(rt, is_known(index as usize, name, entry), index as usize);
+    check_document(rt, is_found(catalog, name, entry), index as usize);
+}
+
+fn is_found(catalog: &Catalog, name: &[u8], entry: DocEntry) -> bool {
+    catalog.find(name) == Some(entry)
+}
+
+fn check_document(rt: &impl Abort, is_right: bool, index: usize) {
+    assert_eq!(rt; is_right, true, "document {index}");
 }
 
 // The documents in their order.
 fn check_listed(rt: &impl Abort, catalog: &Catalog) {
     let mut count: usize = 0;
     for (name, entry) in catalog.iter() {
-        assert!(rt;
-            is_known(count, name.as_slice(), *entry),
-            "document {count}"
-        );
+        check_document(rt, is_known(count, name.as_slice(), *entry), count);
         count = count.saturating_add(1);
     }
-    assert_eq!(rt; count, 3);
+    check_is(rt, count == 3, true);
 }
 
 fn check_rules(rt: &impl Abort, catalog: &Catalog) -> Result<(), Fail> {
-    let rules = catalog.matrix().rules()?;
-    let [first, second] = rules.as_slice() else {
+    let rules = rules_of(catalog)?;
+    check_two(rt, rules.as_slice());
+    Ok(())
+}
+
+fn rules_of(catalog: &Catalog) -> Result<Rules, MatrixError> {
+    catalog.matrix().rules()
+}
+
+fn check_two(rt: &impl Abort, rules: &[Rule]) {
+    let [first, second] = rules else {
         panic!(rt; "there are not two rules");
     };
-    assert!(rt; is_rule(first, b"#doc", b"r", Entry::Standalone));
-    assert!(rt; is_rule(second, b"r", b"@x", Entry::Cluster));
-    Ok(())
+    check_is(rt, is_rule(first, b"#doc", b"r", Entry::Standalone), true);
+    check_is(rt, is_rule(second, b"r", b"@x", Entry::Cluster), true);
 }
 
 fn is_rule(rule: &Rule, parent: &[u8], child: &[u8], entry: Entry) -> bool {

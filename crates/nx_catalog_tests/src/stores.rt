@@ -2,7 +2,7 @@
 // is proved slowly.
 use nx_catalog::{Catalog, load_catalog};
 use nx_hold::DocEntry;
-use nx_lists::List;
+use nx_lists::{List, NoMemory};
 use nx_memory::{Image, MemoryHost};
 use nx_records::{Records, Settings, StoreError};
 use nx_script::is_document_name;
@@ -14,6 +14,26 @@ fn open(alloc: Global, host: &mut MemoryHost) -> Result<Records, StoreError> {
     Records::open(alloc, host)
 }
 
+// A host without pages.
+fn new_host(alloc: Global) -> Result<MemoryHost, NoMemory> {
+    let image = Image {
+        pages: List::new(alloc),
+        log: List::new(alloc),
+    };
+    MemoryHost::new(alloc, image, List::new(alloc), 1, 67_108_864)
+}
+
+// New records of at most 64 pages.
+fn new_records(alloc: Global, host: &mut MemoryHost) -> Result<Records, StoreError> {
+    let settings = Settings {
+        k: 16,
+        target: 50,
+        tolerance: 4,
+        limit: 64,
+    };
+    Records::create(alloc, host, settings)
+}
+
 #[derive(Drop)]
 pub struct Store {
     records: Records,
@@ -23,24 +43,15 @@ pub struct Store {
 impl Store {
     /// A new store of at most 64 pages.
     pub fn create(alloc: Global) -> Result<Store, Fail> {
-        let image = Image {
-            pages: List::new(alloc),
-            log: List::new(alloc),
-        };
-        let mut host = MemoryHost::new(alloc, image, List::new(alloc), 1, 67_108_864)?;
-        let settings = Settings {
-            k: 16,
-            target: 50,
-            tolerance: 4,
-            limit: 64,
-        };
-        let records = Records::create(alloc, &mut host, settings)?;
+        let mut host = new_host(alloc)?;
+        let records = new_records(alloc, &mut host)?;
         Ok(Store { records, host })
     }
 
     /// Opens the records anew.
     pub fn reopen(&mut self, alloc: Global) -> Result<(), StoreError> {
-        self.records = open(alloc, &mut self.host)?;
+        let records = open(alloc, &mut self.host)?;
+        self.records = records;
         Ok(())
     }
 
