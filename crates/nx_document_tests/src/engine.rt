@@ -2,6 +2,7 @@
 ghost use Rattle.std.specs.Prelude.{[], IfOk};
 ghost use Rattle.nx_script.specs.Commands.{CanCome, CanLoad};
 
+use crate::checks::{check_bytes, check_count};
 use crate::fixtures::{node, read};
 use nx_engine::Plain;
 use nx_matrix::{Entry, Rule};
@@ -226,7 +227,15 @@ fn bare(word: &str) -> Command
 
 // The text of the reply to this command.
 fn replied(alloc: Global, plain: &mut Plain, step: Step) -> Result<Bytes, ReadError> {
-    reply_text(alloc, &plain.apply(command(alloc, step)?)?)
+    let command = command(alloc, step)?;
+    applied(alloc, plain, command)
+}
+
+fn applied(alloc: Global, plain: &mut Plain, command: Command) -> Result<Bytes, ReadError>
+    requires { CanCome command }
+{
+    let reply = plain.apply(command)?;
+    reply_text(alloc, &reply)
 }
 
 fn reply_text(alloc: Global, reply: &Reply) -> Result<Bytes, ReadError> {
@@ -252,7 +261,7 @@ fn check_step(
     step: Step,
 ) -> Result<(), ReadError> {
     let text = replied(alloc, plain, step)?;
-    assert_eq!(rt; text.as_slice(), step.4);
+    check_bytes(rt, text.as_slice(), step.4);
     Ok(())
 }
 
@@ -267,9 +276,14 @@ fn count_in(plain: &Plain, name: &[u8]) -> u32 {
 #[test]
 fn refused(rt: HostRuntime) -> Result<(), Fail> {
     let mut plain = Plain::new(rt.alloc());
-    check(&rt, rt.alloc(), &mut plain, &REFUSED)?;
-    assert_eq!(rt; count_in(&plain, b"d"), 2);
-    assert_eq!(rt; count_in(&plain, b"e"), 0);
+    check_refused(&rt, rt.alloc(), &mut plain)?;
+    Ok(())
+}
+
+fn check_refused(rt: &impl Abort, alloc: Global, plain: &mut Plain) -> Result<(), ReadError> {
+    check(rt, alloc, plain, &REFUSED)?;
+    check_count(rt, count_in(plain, b"d"), 2);
+    check_count(rt, count_in(plain, b"e"), 0);
     Ok(())
 }
 
@@ -277,13 +291,15 @@ fn refused(rt: HostRuntime) -> Result<(), Fail> {
 fn retexted(alloc: Global, plain: &mut Plain, position: u32) -> Result<Bytes, ReadError> {
     let name = Bytes::from_slice(alloc, b"d")?;
     let path = Path::from_slice(alloc, &[position])?;
-    reply_text(alloc, &plain.apply(long_retext(alloc, name, path)?)?)
+    let command = long_retext(alloc, name, path)?;
+    applied(alloc, plain, command)
 }
 
 fn long_retext(alloc: Global, name: Bytes, path: Path) -> Result<Command, NoMemory>
     ensures { IfOk result (λ command. CanCome command) }
 {
-    let text = TextBody::Read(Bytes::from_vec(Vec::from_elem(alloc, b'x', 1_048_576)?));
+    let bytes = Vec::from_elem(alloc, b'x', 1_048_576)?;
+    let text = TextBody::Read(Bytes::from_vec(bytes));
     Ok(Command::Retext { name, path, text })
 }
 
@@ -291,10 +307,24 @@ fn long_retext(alloc: Global, name: Bytes, path: Path) -> Result<Command, NoMemo
 #[test]
 fn edited(rt: HostRuntime) -> Result<(), Fail> {
     let mut plain = Plain::new(rt.alloc());
-    check(&rt, rt.alloc(), &mut plain, &EDITED)?;
-    let long = retexted(rt.alloc(), &mut plain, 0)?;
-    assert_eq!(rt; long.as_slice(), b"error pyx 1 long-line\n".as_slice());
-    let nowhere = retexted(rt.alloc(), &mut plain, 1)?;
-    assert_eq!(rt; nowhere.as_slice(), b"error no-node\n".as_slice());
+    check_edited(&rt, rt.alloc(), &mut plain)?;
+    Ok(())
+}
+
+fn check_edited(rt: &impl Abort, alloc: Global, plain: &mut Plain) -> Result<(), ReadError> {
+    check(rt, alloc, plain, &EDITED)?;
+    check_retexted(rt, alloc, plain, 0, b"error pyx 1 long-line\n")?;
+    check_retexted(rt, alloc, plain, 1, b"error no-node\n")
+}
+
+fn check_retexted(
+    rt: &impl Abort,
+    alloc: Global,
+    plain: &mut Plain,
+    position: u32,
+    want: &[u8],
+) -> Result<(), ReadError> {
+    let text = retexted(alloc, plain, position)?;
+    check_bytes(rt, text.as_slice(), want);
     Ok(())
 }

@@ -1,7 +1,9 @@
 // Lines alone, the text of documents, and the texts of faults.
+use crate::checks::{check_bytes, check_row, check_text};
 use nx_pyx::{PyxError, PyxFault, ReadError, Writer, line_node, node_line, write};
 use nx_tree::{Bytes, Kind, NoMemory, Node, Tree, Trees};
 use std::alloc::Global;
+use std::process::Abort;
 use std::test::Fail;
 
 // A line, and the node that it says or its fault.
@@ -60,7 +62,7 @@ fn says(alloc: Global, line: &[u8], expected: Result<(Kind, &[u8], &[u8]), PyxFa
 #[test]
 fn line_nodes(rt: HostRuntime) {
     for (line, expected) in LINES {
-        assert!(rt; says(rt.alloc(), line, expected), "{line:?}");
+        check_row(&rt, says(rt.alloc(), line, expected), true, line);
     }
 }
 
@@ -78,16 +80,22 @@ const LENGTHS: [(&[u8], usize, bool); 7] = [
 // Whether a line is refused that has so many bytes behind that prefix.
 fn is_refused(alloc: Global, prefix: &[u8], count: usize) -> Result<bool, NoMemory> {
     let mut line = Bytes::from_slice(alloc, prefix)?;
+    push_many(&mut line, count)?;
+    Ok(line_node(alloc, line.as_slice()).is_err())
+}
+
+fn push_many(line: &mut Bytes, count: usize) -> Result<(), NoMemory> {
     for _ in 0..count {
         line.push(b'x')?;
     }
-    Ok(line_node(alloc, line.as_slice()).is_err())
+    Ok(())
 }
 
 #[test]
 fn lengths(rt: HostRuntime) -> Result<(), Fail> {
     for (prefix, count, is_long) in LENGTHS {
-        assert_eq!(rt; is_refused(rt.alloc(), prefix, count)?, is_long);
+        let found = is_refused(rt.alloc(), prefix, count)?;
+        check_row(&rt, found, is_long, prefix);
     }
     Ok(())
 }
@@ -235,7 +243,7 @@ fn line_of(alloc: Global, kind: Kind, name: &[u8], content: &[u8]) -> Result<Byt
 fn node_lines(rt: HostRuntime) -> Result<(), Fail> {
     for (kind, name, content, expected) in NODES {
         let line = line_of(rt.alloc(), kind, name, content)?;
-        assert_eq!(rt; line.as_slice(), expected);
+        check_bytes(&rt, line.as_slice(), expected);
     }
     Ok(())
 }
@@ -257,11 +265,18 @@ fn element_text(alloc: Global, kind: Kind, content: &[u8]) -> Result<Bytes, NoMe
 fn written(rt: HostRuntime) -> Result<(), Fail> {
     for (kind, content, line) in WRITTEN {
         let text = element_text(rt.alloc(), kind, content)?;
-        let below = text.as_slice().strip_prefix(b"(a\n");
-        let found = below.and_then(|lines| lines.strip_suffix(b"\n)a\n"));
-        assert_eq!(rt; found, Some(line));
+        check_between(&rt, text.as_slice(), line);
     }
     Ok(())
+}
+
+// The text of an element has this line between its own two.
+fn check_between(rt: &impl Abort, text: &[u8], line: &[u8]) {
+    assert_eq!(rt; between(text), Some(line));
+}
+
+fn between(text: &[u8]) -> Option<&[u8]> {
+    text.strip_prefix(b"(a\n")?.strip_suffix(b"\n)a\n")
 }
 
 // Adds the next block, and says whether there is more.
@@ -282,12 +297,22 @@ fn in_blocks(alloc: Global, tree: &Tree, enough: usize) -> Result<Bytes, NoMemor
     let mut writer = Writer::new(alloc, tree)?;
     let mut block = Bytes::new(alloc);
     let mut whole = Bytes::new(alloc);
+    push_blocks(&mut writer, &mut whole, &mut block, enough)?;
+    Ok(whole)
+}
+
+fn push_blocks(
+    writer: &mut Writer<'_>,
+    whole: &mut Bytes,
+    block: &mut Bytes,
+    enough: usize,
+) -> Result<(), NoMemory> {
     for _ in 0..TEXT.len() {
-        if !push_block(&mut writer, &mut whole, &mut block, enough)? {
+        if !push_block(writer, whole, block, enough)? {
             break;
         }
     }
-    Ok(whole)
+    Ok(())
 }
 
 fn at_once(alloc: Global, tree: &Tree) -> Result<Bytes, NoMemory> {
@@ -297,12 +322,32 @@ fn at_once(alloc: Global, tree: &Tree) -> Result<Bytes, NoMemory> {
 #[test]
 fn blocks(rt: HostRuntime) -> Result<(), Fail> {
     let tree = document(rt.alloc())?;
-    assert_eq!(rt; at_once(rt.alloc(), &tree)?.as_slice(), TEXT);
+    check_blocks(&rt, rt.alloc(), &tree)?;
+    Ok(())
+}
+
+fn check_blocks(rt: &impl Abort, alloc: Global, tree: &Tree) -> Result<(), NoMemory> {
+    let text = at_once(alloc, tree)?;
+    check_bytes(rt, text.as_slice(), TEXT);
     for enough in [1usize, 2, 3, 10, 20, 50, 1000] {
-        let whole = in_blocks(rt.alloc(), &tree, enough)?;
-        assert_eq!(rt; whole.as_slice(), TEXT, "{enough}");
+        check_in_blocks(rt, alloc, tree, enough)?;
     }
     Ok(())
+}
+
+fn check_in_blocks(
+    rt: &impl Abort,
+    alloc: Global,
+    tree: &Tree,
+    enough: usize,
+) -> Result<(), NoMemory> {
+    let whole = in_blocks(alloc, tree, enough)?;
+    check_whole(rt, whole.as_slice(), enough);
+    Ok(())
+}
+
+fn check_whole(rt: &impl Abort, whole: &[u8], enough: usize) {
+    assert_eq!(rt; whole, TEXT, "{enough}");
 }
 
 // A line, its fault, and the text of both.
@@ -334,11 +379,23 @@ fn word_text(alloc: Global, line: u64, fault: PyxFault) -> Result<String, NoMemo
 #[test]
 fn printed(rt: HostRuntime) -> Result<(), Fail> {
     for (line, fault, want) in PRINTED {
-        let error = ReadError::Pyx(PyxError { line, fault });
-        assert_eq!(rt; error_text(rt.alloc(), error)?.as_str(), want);
-        assert_eq!(rt; word_text(rt.alloc(), line, fault)?.as_str(), want);
+        check_printed(&rt, rt.alloc(), line, fault, want)?;
     }
     let memory = error_text(rt.alloc(), ReadError::Memory)?;
-    assert_eq!(rt; memory.as_str(), "out of memory");
+    check_text(&rt, memory.as_str(), "out of memory");
+    Ok(())
+}
+
+fn check_printed(
+    rt: &impl Abort,
+    alloc: Global,
+    line: u64,
+    fault: PyxFault,
+    want: &str,
+) -> Result<(), NoMemory> {
+    let error = error_text(alloc, ReadError::Pyx(PyxError { line, fault }))?;
+    check_text(rt, error.as_str(), want);
+    let word = word_text(alloc, line, fault)?;
+    check_text(rt, word.as_str(), want);
     Ok(())
 }

@@ -1,4 +1,5 @@
 // The lines of a script that ask for what a store has, and the replies to them.
+use crate::checks::{check_bytes, check_row};
 use nx_matrix::{Entry, Rule, Rules};
 use nx_parts::{Interval, Partitioning};
 use nx_script::{Command, Parser, Reply, ReplyError, push_reply, write_reply};
@@ -155,13 +156,18 @@ fn check_line(
 ) -> Result<(), NoMemory> {
     let line = joined(alloc, parts)?;
     let words = said_by(alloc, line.as_slice())?;
-    assert_eq!(rt; words.as_slice(), expected, "{parts:?}");
+    check_said(rt, words.as_slice(), expected, parts);
     Ok(())
+}
+
+fn check_said(rt: &impl Abort, words: &[u8], expected: &[u8], parts: &[&[u8]]) {
+    assert_eq!(rt; words, expected, "{parts:?}");
 }
 
 // The command of a line, in words.
 fn said_by(alloc: Global, line: &[u8]) -> Result<Bytes, NoMemory> {
-    said(alloc, &command(alloc, line)?)
+    let command = command(alloc, line)?;
+    said(alloc, &command)
 }
 
 fn joined(alloc: Global, parts: &[&[u8]]) -> Result<Bytes, NoMemory> {
@@ -179,10 +185,15 @@ fn check_text(
     reply: &Reply,
     expected: &[u8],
 ) -> Result<(), NoMemory> {
-    assert_eq!(rt; written(alloc, reply)?.as_slice(), expected);
+    let text = written(alloc, reply)?;
+    check_bytes(rt, text.as_slice(), expected);
     let block = pushed(alloc, reply)?;
-    assert!(rt; block.as_slice().strip_prefix(b"before") == Some(expected));
+    check_behind(rt, block.as_slice(), expected);
     Ok(())
+}
+
+fn check_behind(rt: &impl Abort, block: &[u8], expected: &[u8]) {
+    assert_eq!(rt; block.strip_prefix(b"before"), Some(expected));
 }
 
 fn written(alloc: Global, reply: &Reply) -> Result<Bytes, NoMemory> {
@@ -219,19 +230,21 @@ fn labels(rt: HostRuntime) -> Result<(), Fail> {
 
 // Whether a line is no command that has so many bytes between these.
 fn is_bad(alloc: Global, prefix: &[u8], count: usize, back: &[u8]) -> Result<bool, NoMemory> {
-    let label = Bytes::from_vec(Vec::from_elem(alloc, b'x', count)?);
-    let line = joined(alloc, &[prefix, label.as_slice(), back])?;
-    Ok(matches!(command(alloc, line.as_slice())?, Command::Bad))
+    let line = line_with(alloc, prefix, count, back)?;
+    let command = command(alloc, line.as_slice())?;
+    Ok(matches!(&command, Command::Bad))
+}
+
+fn line_with(alloc: Global, prefix: &[u8], count: usize, back: &[u8]) -> Result<Bytes, NoMemory> {
+    let label = Vec::from_elem(alloc, b'x', count)?;
+    joined(alloc, &[prefix, label.as_slice(), back])
 }
 
 #[test]
 fn lengths(rt: HostRuntime) -> Result<(), Fail> {
     for (prefix, count, back, is_long) in LENGTHS {
-        assert_eq!(rt;
-            is_bad(rt.alloc(), prefix, count, back)?,
-            is_long,
-            "{prefix:?}"
-        );
+        let found = is_bad(rt.alloc(), prefix, count, back)?;
+        check_row(&rt, found, is_long, prefix);
     }
     Ok(())
 }
@@ -247,10 +260,16 @@ fn rule(alloc: Global, parent: &[u8], child: &[u8], entry: Entry) -> Result<Rule
 // The rules of the table.
 fn all_rules(alloc: Global) -> Result<Rules, NoMemory> {
     let mut rules = Rules::new(alloc);
-    for (parent, child, entry, _) in RULES {
-        rules.push(rule(alloc, parent, child, entry)?)?;
-    }
+    push_rules(alloc, &mut rules)?;
     Ok(rules)
+}
+
+fn push_rules(alloc: Global, rules: &mut Rules) -> Result<(), NoMemory> {
+    for (parent, child, entry, _) in RULES {
+        let rule = rule(alloc, parent, child, entry)?;
+        rules.push(rule)?;
+    }
+    Ok(())
 }
 
 fn is_rule(rule: &Rule, parent: &[u8], child: &[u8], entry: Entry) -> bool {
@@ -265,8 +284,9 @@ fn sets(
     child: &[u8],
     entry: Entry,
 ) -> Result<bool, NoMemory> {
-    Ok(match command(alloc, line)? {
-        Command::SetRule { rule } => is_rule(&rule, parent, child, entry),
+    let command = command(alloc, line)?;
+    Ok(match &command {
+        Command::SetRule { rule } => is_rule(rule, parent, child, entry),
         _ => false,
     })
 }
@@ -274,36 +294,62 @@ fn sets(
 // The line of a rule in a reply is the line that sets it.
 #[test]
 fn rules(rt: HostRuntime) -> Result<(), Fail> {
-    check_text(
-        &rt,
-        rt.alloc(),
-        &Reply::Rules(Rules::new(rt.alloc())),
-        b".\n",
-    )?;
+    check_rules(&rt, rt.alloc(), Rules::new(rt.alloc()), b".\n")?;
     for (parent, child, entry, line) in RULES {
-        assert!(rt; sets(rt.alloc(), line, parent, child, entry)?, "{line:?}");
+        let found = sets(rt.alloc(), line, parent, child, entry)?;
+        check_row(&rt, found, true, line);
     }
-    let lines: [&[u8]; 5] = [RULES[0].3, RULES[1].3, RULES[2].3, RULES[3].3, b".\n"];
-    let text = joined(rt.alloc(), &lines)?;
-    let reply = Reply::Rules(all_rules(rt.alloc())?);
-    check_text(&rt, rt.alloc(), &reply, text.as_slice())?;
+    check_all_rules(&rt, rt.alloc())?;
     Ok(())
 }
 
-fn run(alloc: Global, parent: &[u32], first: u32, last: u32) -> Result<Interval, NoMemory> {
-    Ok(Interval::Run {
-        parent: Path::from_slice(alloc, parent)?,
+fn check_rules(
+    rt: &impl Abort,
+    alloc: Global,
+    rules: Rules,
+    expected: &[u8],
+) -> Result<(), NoMemory> {
+    let reply = Reply::Rules(rules);
+    check_text(rt, alloc, &reply, expected)
+}
+
+fn check_all_rules(rt: &impl Abort, alloc: Global) -> Result<(), NoMemory> {
+    let rules = all_rules(alloc)?;
+    let text = all_lines(alloc)?;
+    check_rules(rt, alloc, rules, text.as_slice())
+}
+
+// Their lines, and the end of a reply.
+fn all_lines(alloc: Global) -> Result<Bytes, NoMemory> {
+    let lines: [&[u8]; 5] = [RULES[0].3, RULES[1].3, RULES[2].3, RULES[3].3, b".\n"];
+    joined(alloc, &lines)
+}
+
+fn push_run(
+    alloc: Global,
+    parts: &mut Partitioning,
+    parent: &[u32],
+    first: u32,
+    last: u32,
+) -> Result<(), NoMemory> {
+    let parent = Path::from_slice(alloc, parent)?;
+    parts.push(Interval::Run {
+        parent,
         first,
         last,
     })
 }
 
+fn push_intervals(alloc: Global, parts: &mut Partitioning) -> Result<(), NoMemory> {
+    parts.push(Interval::Root)?;
+    push_run(alloc, parts, &[], 0, 1)?;
+    push_run(alloc, parts, &[0, 12], 2, u32::MAX)
+}
+
 // A layout of three intervals.
 fn layout(alloc: Global) -> Result<Reply, NoMemory> {
     let mut parts = Partitioning::new(alloc);
-    parts.push(Interval::Root)?;
-    parts.push(run(alloc, &[], 0, 1)?)?;
-    parts.push(run(alloc, &[0, 12], 2, u32::MAX)?)?;
+    push_intervals(alloc, &mut parts)?;
     let weights = Weights::from_slice(alloc, &[3, 256, 17])?;
     Ok(Reply::Laid { parts, weights })
 }
@@ -323,18 +369,37 @@ fn heavy(alloc: Global, path: &[u32], weight: u32) -> Result<Reply, NoMemory> {
 
 #[test]
 fn heavy_nodes(rt: HostRuntime) -> Result<(), Fail> {
-    let root = heavy(rt.alloc(), &[], 2)?;
-    check_text(&rt, rt.alloc(), &root, b"error too-heavy / 2\n")?;
-    let text = heavy(rt.alloc(), &[0, 12], 257)?;
-    check_text(&rt, rt.alloc(), &text, b"error too-heavy /0/12 257\n")?;
+    check_heavy(&rt, rt.alloc(), &[], 2, b"error too-heavy / 2\n")?;
+    let expected = b"error too-heavy /0/12 257\n";
+    check_heavy(&rt, rt.alloc(), &[0, 12], 257, expected)?;
     Ok(())
+}
+
+fn check_heavy(
+    rt: &impl Abort,
+    alloc: Global,
+    path: &[u32],
+    weight: u32,
+    expected: &[u8],
+) -> Result<(), NoMemory> {
+    let reply = heavy(alloc, path, weight)?;
+    check_text(rt, alloc, &reply, expected)
 }
 
 #[test]
 fn refusals(rt: HostRuntime) -> Result<(), Fail> {
-    let many = Reply::Refused(ReplyError::TooManyRules);
-    check_text(&rt, rt.alloc(), &many, b"error too-many-rules\n")?;
-    let full = Reply::Refused(ReplyError::Full);
-    check_text(&rt, rt.alloc(), &full, b"error full\n")?;
+    let many = ReplyError::TooManyRules;
+    check_refusal(&rt, rt.alloc(), many, b"error too-many-rules\n")?;
+    check_refusal(&rt, rt.alloc(), ReplyError::Full, b"error full\n")?;
     Ok(())
+}
+
+fn check_refusal(
+    rt: &impl Abort,
+    alloc: Global,
+    error: ReplyError,
+    expected: &[u8],
+) -> Result<(), NoMemory> {
+    let reply = Reply::Refused(error);
+    check_text(rt, alloc, &reply, expected)
 }

@@ -261,10 +261,15 @@ fn pieces(alloc: Global, stream: &[u8], first: usize, size: usize) -> Result<Vec
     let (prefix, back) = stream.split_at(first.min(stream.len()));
     let mut cut = Vec::new(alloc);
     cut.push(prefix)?;
+    push_pieces(&mut cut, back, size)?;
+    Ok(cut)
+}
+
+fn push_pieces<'a>(cut: &mut Vec<&'a [u8]>, back: &'a [u8], size: usize) -> Result<(), NoMemory> {
     for piece in back.chunks(size.max(1)) {
         cut.push(piece)?;
     }
-    Ok(cut)
+    Ok(())
 }
 
 fn feed(reader: &mut Reader, piece: &[u8]) -> Result<(), ReadError> {
@@ -288,18 +293,39 @@ fn check(
     want: Result<&[u8], PyxError>,
 ) -> Result<(), Fail> {
     let mut reader = Reader::new(alloc)?;
+    let (before, len, error) = fed(&mut reader, pieces);
+    match error {
+        Some(error) => {
+            check_stopped(rt, alloc, reader, error)?;
+            check_told(rt, before <= told && told < len, want, error);
+            Ok(())
+        }
+        None => check_end(rt, finish(alloc, reader), len == told, want),
+    }
+}
+
+// Feeds the pieces up to the first error, and says how many bytes that were before the last of them and with it.
+fn fed(reader: &mut Reader, pieces: &[&[u8]]) -> (usize, usize, Option<ReadError>) {
+    let mut before = 0usize;
     let mut len = 0usize;
     for piece in pieces {
-        let before = len;
+        before = len;
         len = before.saturating_add(piece.len());
-        if let Err(error) = feed(&mut reader, piece) {
-            check_stopped(rt, alloc, reader, error)?;
-            assert!(rt; before <= told && told < len, "{error:?}");
-            assert!(rt; is_fault(want, error), "{error:?}");
-            return Ok(());
+        if let Err(error) = feed(reader, piece) {
+            return (before, len, Some(error));
         }
     }
-    check_end(rt, finish(alloc, reader), len == told, want)
+    (before, len, None)
+}
+
+// The fault is that of a stream with this outcome, and comes where it is told.
+fn check_told(rt: &impl Abort, tells: bool, want: Result<&[u8], PyxError>, error: ReadError) {
+    check_said(rt, tells, error);
+    check_said(rt, is_fault(want, error), error);
+}
+
+fn check_said(rt: &impl Abort, is_right: bool, error: ReadError) {
+    assert_eq!(rt; is_right, true, "{error:?}");
 }
 
 // Whether that is the error of a stream with this outcome.
@@ -317,12 +343,21 @@ fn check_stopped(
     mut reader: Reader,
     error: ReadError,
 ) -> Result<(), Fail> {
-    assert_eq!(rt; feed(&mut reader, b"(a\n)a\n"), Err(error));
-    assert_eq!(rt; finish(alloc, reader).err(), Some(error));
+    check_error(rt, feed(&mut reader, b"(a\n)a\n"), error);
+    check_error(rt, finished(reader), error);
     match error {
         ReadError::Memory => Err(error.into()),
         ReadError::Pyx(_) => Ok(()),
     }
+}
+
+fn finished(reader: Reader) -> Result<(), ReadError> {
+    let _tree = reader.finish()?;
+    Ok(())
+}
+
+fn check_error(rt: &impl Abort, found: Result<(), ReadError>, error: ReadError) {
+    assert_eq!(rt; found, Err(error));
 }
 
 // At the end of a stream comes its text, or its fault where the end tells that.
@@ -333,14 +368,21 @@ fn check_end(
     want: Result<&[u8], PyxError>,
 ) -> Result<(), Fail> {
     match found {
-        Ok(text) => assert_eq!(rt; Ok(text.as_slice()), want),
-        Err(ReadError::Pyx(error)) => {
-            assert!(rt; tells, "{error:?}");
-            assert_eq!(rt; Some(error), want.err());
+        Ok(text) => {
+            check_outcome(rt, Ok(text.as_slice()), want);
+            Ok(())
         }
-        Err(ReadError::Memory) => return Err(ReadError::Memory.into()),
+        Err(ReadError::Pyx(error)) => {
+            check_said(rt, tells, ReadError::Pyx(error));
+            check_outcome(rt, Err(error), want);
+            Ok(())
+        }
+        Err(ReadError::Memory) => Err(ReadError::Memory.into()),
     }
-    Ok(())
+}
+
+fn check_outcome(rt: &impl Abort, found: Result<&[u8], PyxError>, want: Result<&[u8], PyxError>) {
+    assert_eq!(rt; found, want);
 }
 
 // The stream has that outcome cut behind a first piece into pieces of that size.
@@ -448,14 +490,17 @@ fn faults(rt: HostRuntime) -> Result<(), Fail> {
 fn bytes_of(alloc: Global, long: Long) -> Result<Vec<u8>, NoMemory> {
     let (prefix, unit, count, end, closed, _) = long;
     let mut bytes = Vec::from_slice(alloc, prefix)?;
+    push_times(&mut bytes, unit, count)?;
+    bytes.extend_from_slice(end)?;
+    push_times(&mut bytes, b")a\n", closed)?;
+    Ok(bytes)
+}
+
+fn push_times(bytes: &mut Vec<u8>, unit: &[u8], count: usize) -> Result<(), NoMemory> {
     for _ in 0..count {
         bytes.extend_from_slice(unit)?;
     }
-    bytes.extend_from_slice(end)?;
-    for _ in 0..closed {
-        bytes.extend_from_slice(b")a\n")?;
-    }
-    Ok(bytes)
+    Ok(())
 }
 
 // The stream is read up to the limit, cut in each of these ways.

@@ -3,6 +3,7 @@ ghost use Rattle.std.specs.Prelude.{◌≡◌, length, IfOk, IfSome};
 ghost use Rattle.nx_tree.specs.Document.{IsDocument};
 ghost use Rattle.nx_tree.specs.Edit.{at};
 
+use crate::checks::{check_bytes, check_count};
 use crate::fixtures::{node, read};
 use nx_pyx::{ReadError, write};
 use nx_tree::{
@@ -107,12 +108,23 @@ fn check(
 ) -> Result<(), Fail>
     requires { IsDocument tree.now }
 {
-    assert_eq!(rt; answer.err(), want.err());
-    let text = want.unwrap_or(SAMPLE);
-    assert_eq!(rt; text_of(alloc, tree)?.as_slice(), text);
-    let nodes = if want.is_ok() { nodes } else { 6 };
-    assert_eq!(rt; count(tree), nodes);
+    check_answer(rt, answer, want);
+    let text = text_of(alloc, tree)?;
+    check_bytes(rt, text.as_slice(), text_after(want));
+    check_count(rt, count(tree), nodes_after(want, nodes));
     Ok(())
+}
+
+fn check_answer(rt: &impl Abort, answer: Result<(), TreeError>, want: Result<&[u8], TreeError>) {
+    assert_eq!(rt; answer.err(), want.err());
+}
+
+fn text_after(want: Result<&[u8], TreeError>) -> &[u8] {
+    want.unwrap_or(SAMPLE)
+}
+
+fn nodes_after(want: Result<&[u8], TreeError>, nodes: u32) -> u32 {
+    if want.is_ok() { nodes } else { 6 }
 }
 
 fn check_insert(
@@ -226,10 +238,25 @@ fn counts(tree: &Tree) -> (u32, u32)
 #[test]
 fn nodes(rt: HostRuntime) -> Result<(), Fail> {
     let tree = sample(rt.alloc())?;
-    for (path, want) in NODES {
-        assert_eq!(rt; kind_at(&tree, path), want);
-    }
+    check_nodes(&rt, &tree);
     Ok(())
+}
+
+fn check_nodes(rt: &impl Abort, tree: &Tree)
+    requires { IsDocument tree.now }
+{
+    for (path, want) in NODES {
+        check_kind(rt, kind_at(tree, path), want);
+    }
+}
+
+fn check_kind(rt: &impl Abort, found: Result<Kind, TreeError>, want: Result<Kind, TreeError>) {
+    assert_eq!(rt; found, want);
+}
+
+// So many nodes, and so deep.
+fn check_size(rt: &impl Abort, found: (u32, u32), want: (u32, u32)) {
+    assert_eq!(rt; found, want);
 }
 
 fn copied(alloc: Global, tree: &Tree) -> Result<Tree, TreeError>
@@ -243,10 +270,25 @@ fn copied(alloc: Global, tree: &Tree) -> Result<Tree, TreeError>
 fn copies(rt: HostRuntime) -> Result<(), Fail> {
     let mut tree = sample(rt.alloc())?;
     let copied = copied(rt.alloc(), &tree)?;
-    delete(&mut tree, &[1, 2])?;
-    assert_eq!(rt; counts(&tree), (5, 2));
-    assert_eq!(rt; counts(&copied), (6, 2));
-    assert_eq!(rt; text_of(rt.alloc(), &copied)?.as_slice(), SAMPLE);
+    check_apart(&rt, rt.alloc(), &mut tree, &copied)?;
+    Ok(())
+}
+
+// The copy stays as it was when a tree is taken out of the other.
+fn check_apart(
+    rt: &impl Abort,
+    alloc: Global,
+    tree: &mut Tree,
+    copied: &Tree,
+) -> Result<(), TreeError>
+    requires tree { IsDocument tree.old }
+    requires copied { IsDocument copied.now }
+{
+    delete(tree, &[1, 2])?;
+    check_size(rt, counts(tree), (5, 2));
+    check_size(rt, counts(copied), (6, 2));
+    let text = text_of(alloc, copied)?;
+    check_bytes(rt, text.as_slice(), SAMPLE);
     Ok(())
 }
 
@@ -271,13 +313,13 @@ fn deepen(alloc: Global, tree: &mut Tree, path: &[u32; 257]) -> Result<(), TreeE
 #[test]
 fn deepest(rt: HostRuntime) -> Result<(), Fail> {
     let mut tree = element(rt.alloc())?;
-    assert_eq!(rt; counts(&tree), (2, 1));
+    check_size(&rt, counts(&tree), (2, 1));
     let path = [0; 257];
     deepen(rt.alloc(), &mut tree, &path)?;
-    assert_eq!(rt; counts(&tree), (257, 256));
+    check_size(&rt, counts(&tree), (257, 256));
     let answer = insert(rt.alloc(), &mut tree, &path, b"(e");
-    assert_eq!(rt; answer, Err(TreeError::TooDeep));
-    assert_eq!(rt; counts(&tree), (257, 256));
+    check_answer(&rt, answer, Err(TreeError::TooDeep));
+    check_size(&rt, counts(&tree), (257, 256));
     Ok(())
 }
 
@@ -295,11 +337,17 @@ fn fill(alloc: Global, tree: &mut Tree) -> Result<(), TreeError>
 #[test]
 fn most(rt: HostRuntime) -> Result<(), Fail> {
     let mut tree = element(rt.alloc())?;
-    fill(rt.alloc(), &mut tree)?;
-    let answer = insert(rt.alloc(), &mut tree, &[0, 0], b"-hi");
-    assert_eq!(rt; answer, Err(TreeError::TooMany));
-    assert_eq!(rt; counts(&tree).0, 524_288);
-    delete(&mut tree, &[0, 524_285])?;
-    insert(rt.alloc(), &mut tree, &[0, 0], b"Ax 1")?;
+    check_most(&rt, rt.alloc(), &mut tree)?;
     Ok(())
+}
+
+fn check_most(rt: &impl Abort, alloc: Global, tree: &mut Tree) -> Result<(), TreeError>
+    requires { IsDocument tree.old }
+{
+    fill(alloc, tree)?;
+    let answer = insert(alloc, tree, &[0, 0], b"-hi");
+    check_answer(rt, answer, Err(TreeError::TooMany));
+    check_count(rt, counts(tree).0, 524_288);
+    delete(tree, &[0, 524_285])?;
+    insert(alloc, tree, &[0, 0], b"Ax 1")
 }

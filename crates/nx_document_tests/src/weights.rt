@@ -3,6 +3,7 @@ ghost use Rattle.std.specs.Prelude.{◌+◌, ◌≤◌};
 ghost use Rattle.nx_tree.specs.Document.{longest_node};
 ghost use Rattle.nx_weights.specs.Weight.{IsWithinLimits};
 
+use crate::checks::check_count;
 use crate::fixtures::read;
 use nx_tree::{Bytes, Kind, NoMemory, Node, Tree, node_at};
 use nx_weights::{Weights, first_heavy, subtree_weights, weight, weight_of};
@@ -34,14 +35,15 @@ fn weigh(rt: &impl Abort, alloc: Global, name: usize, content: usize) -> Result<
         content: Bytes::from_vec(vec![in alloc; b'c'; content]?),
     };
     let weight = weight(&node);
-    assert_eq!(rt; weight_of(name as u32, content as u32), weight);
+    check_count(rt, weight_of(name as u32, content as u32), weight);
     Ok(weight)
 }
 
 #[test]
 fn lengths(rt: HostRuntime) -> Result<(), Fail> {
     for (name, content, want) in LENGTHS {
-        assert_eq!(rt; weigh(&rt, rt.alloc(), name, content)?, want);
+        let found = weigh(&rt, rt.alloc(), name, content)?;
+        check_count(&rt, found, want);
     }
     Ok(())
 }
@@ -89,12 +91,22 @@ fn check(
 ) -> Result<(), NoMemory>
     requires { IsWithinLimits tree.now }
 {
-    assert_eq!(rt; weights_of(alloc, tree)?.as_slice(), weights);
+    let found = weights_of(alloc, tree)?;
+    check_weights(rt, found.as_slice(), weights);
     for want in heavy {
-        assert!(rt; is_heavy(alloc, tree, k, *want)?, "{k}");
+        let found = is_heavy(alloc, tree, k, *want)?;
+        check_heavy(rt, found, k);
         k = k.saturating_add(1);
     }
     Ok(())
+}
+
+fn check_weights(rt: &impl Abort, found: &[u64], want: &[u64]) {
+    assert_eq!(rt; found, want);
+}
+
+fn check_heavy(rt: &impl Abort, found: bool, k: u32) {
+    assert_eq!(rt; found, true, "{k}");
 }
 
 const HEAVY: [Option<(&[u32], u32)>; 5] = [
