@@ -9,10 +9,6 @@ use Rattle.nx_cache.specs.declared.address.Address.{Address}
 use Rattle.nx_cache.specs.declared.address.Address.TheVariants.{InPages, InLog}
 use Rattle.nx_cache.specs.Cached.{EachListed}
 
--- how many pages are kept at most
-abbrev pub most_kept : ℕ
-most_kept = 256
-
 abbrev pub address_in : Area → ℕ → Address
 address_in Pages at = InPages at
 address_in Log at = InLog at

@@ -1,9 +1,9 @@
 // The host in front of another.
-ghost use Rattle.std.specs.Prelude.{◌≡◌, ◌∷◌, length, take, true, Some, is_some, IfOk, OnOk};
+ghost use Rattle.std.specs.Prelude.{◌≡◌, ◌≤◌, ◌∷◌, length, take, true, Some, is_some, IfOk, OnOk};
 ghost use Rattle.nx_numbers.specs.Sizes.{page_size};
 ghost use Rattle.nx_host.specs.Disk.{Image, area_of, given_at};
 ghost use Rattle.nx_cache.specs.Cached.{bytes_listed, page_of, without_page};
-ghost use Rattle.nx_cached_host.specs.Kept.{address_in, most_kept, KeptStand, GivesPage};
+ghost use Rattle.nx_cached_host.specs.Kept.{address_in, KeptStand, GivesPage};
 
 use crate::kept::{KeptPages, address_in};
 use nx_host::{Area, Disk, Failed, Host};
@@ -14,7 +14,7 @@ use std::alloc::Global;
 /// A host that hands each call to the host behind it, but for a read of a whole page that it kept. It
 /// tells what that host tells.
 ///
-/// It keeps what was read lately of whole pages, 256 at most. Want of memory for one more goes unnoticed:
+/// It keeps what was read lately of whole pages, as many at most as it was made for. Want of memory for one more goes unnoticed:
 /// that page isn't kept. A write lets all pages go, unless it goes behind those that are kept of its area.
 /// A `sync` that fails lets all go.
 #[derive(Drop)]
@@ -25,17 +25,19 @@ pub struct CachedHost<H: Disk> {
 }
 
 impl<H: Disk> CachedHost<H> {
-    /// A host in front of this one, which keeps no page yet.
+    /// A host in front of this one, which keeps no page yet, and so many at most.
     ///
     /// Errors: `NoMemory`.
-    pub fn new(alloc: Global, inner: H) -> Result<CachedHost<H>, NoMemory>
+    pub fn new(alloc: Global, inner: H, most: u32) -> Result<CachedHost<H>, NoMemory>
     where
         H: Drop,
+        requires { 1 ≤ most }
         ensures over { IfOk result (λ host. host.inner ≡ inner) }
+        ensures most { IfOk result (λ host. host.kept.cache.capacity ≡ most) }
     {
         Ok(CachedHost {
             inner,
-            kept: KeptPages::new(alloc)?,
+            kept: KeptPages::new(alloc, most)?,
         })
     }
 
@@ -51,6 +53,7 @@ impl<H: Disk> CachedHost<H> {
         requires { length into.old ≡ page_size }
         ensures found { result ≡ is_some (bytes_listed (address_in area at) self.old.kept.cache.pages) }
         ensures inner { self.new.inner ≡ self.old.inner }
+        ensures most { self.new.kept.cache.capacity ≡ self.old.kept.cache.capacity }
         ensures copied { result ≡ true → (image : Image) → H.contents self.old.inner ≡ Some image → GivesPage area at into.new image }
     {
         self.kept.copy(address_in(area, at), into)
@@ -62,8 +65,9 @@ impl<H: Disk> CachedHost<H> {
     fn keep(&mut self, area: Area, at: u64, bytes: &[u8]) -> Result<(), NoMemory>
         requires page { length bytes.now ≡ page_size }
         requires given { (image : Image) → H.contents self.old.inner ≡ Some image → bytes.now ≡ given_at at page_size (area_of area image) }
-        ensures kept { OnOk result (self.new.kept.cache.pages ≡ take most_kept ((address_in area at, page_of bytes.now) ∷ without_page (address_in area at) self.old.kept.cache.pages)) }
+        ensures kept { OnOk result (self.new.kept.cache.pages ≡ take self.old.kept.cache.capacity ((address_in area at, page_of bytes.now) ∷ without_page (address_in area at) self.old.kept.cache.pages)) }
         ensures inner { self.new.inner ≡ self.old.inner }
+        ensures most { self.new.kept.cache.capacity ≡ self.old.kept.cache.capacity }
     {
         self.kept.keep(area, at, bytes)
     }

@@ -2,16 +2,13 @@
 ghost use Rattle.std.specs.Prelude.{◌≡◌, ◌⊎◌, ◌^◌, ◌+◌, ◌<◌, ◌≤◌, [], ◌∷◌, length, take, true, is_some, Some, IfOk, OnOk, OnErr};
 ghost use Rattle.nx_numbers.specs.Sizes.{page_size};
 ghost use Rattle.nx_cache.specs.Cached.{bytes_listed, brought_to_front, page_of, without_page, EachListed};
-ghost use Rattle.nx_cached_host.specs.Kept.{address_in, end_in, most_kept, EndsBy, LiesBefore};
+ghost use Rattle.nx_cached_host.specs.Kept.{address_in, end_in, EndsBy, LiesBefore};
 
 use nx_cache::{Address, PageCache};
 use nx_host::Area;
 use nx_lists::NoMemory;
 use nx_numbers::PAGE_SIZE;
 use std::alloc::Global;
-
-// How many pages are kept at most.
-const MOST_KEPT: u32 = 256;
 
 // The address of that offset of an area.
 pub(crate) fn address_in(area: Area, at: u64) -> Address
@@ -30,18 +27,19 @@ pub(crate) struct KeptPages {
     pub(crate) pages_end: u64,
     pub(crate) log_end: u64,
     ghost within: { EachListed (EndsBy pages_end log_end) cache.pages },
-    ghost capacity: { cache.capacity ≡ most_kept },
 }
 
 impl KeptPages {
-    /// No page is kept yet.
+    /// No page is kept yet, and so many at most.
     ///
     /// Errors: `NoMemory`.
-    pub(crate) fn new(alloc: Global) -> Result<KeptPages, NoMemory>
-        ensures { IfOk result (λ kept. kept.cache.pages ≡ []) }
+    pub(crate) fn new(alloc: Global, most: u32) -> Result<KeptPages, NoMemory>
+        requires { 1 ≤ most }
+        ensures pages { IfOk result (λ kept. kept.cache.pages ≡ []) }
+        ensures most { IfOk result (λ kept. kept.cache.capacity ≡ most) }
     {
         Ok(KeptPages {
-            cache: PageCache::new(alloc, MOST_KEPT)?,
+            cache: PageCache::new(alloc, most)?,
             pages_end: 0,
             log_end: 0,
         })
@@ -53,6 +51,7 @@ impl KeptPages {
         ensures found { result ≡ is_some (bytes_listed address self.old.cache.pages) }
         ensures copied { result ≡ true → bytes_listed address self.old.cache.pages ≡ Some (page_of into.new) }
         ensures pages { self.new.cache.pages ≡ brought_to_front address self.old.cache.pages }
+        ensures most { self.new.cache.capacity ≡ self.old.cache.capacity }
     {
         match self.cache.get(address) {
             Some(page) => {
@@ -68,8 +67,9 @@ impl KeptPages {
     /// Errors: `NoMemory`, also where no area goes so far. The same pages are kept as before then.
     pub(crate) fn keep(&mut self, area: Area, at: u64, page: &[u8]) -> Result<(), NoMemory>
         requires { length page.now ≡ page_size }
-        ensures ok { OnOk result (self.new.cache.pages ≡ take most_kept ((address_in area at, page_of page.now) ∷ without_page (address_in area at) self.old.cache.pages)) }
+        ensures ok { OnOk result (self.new.cache.pages ≡ take self.old.cache.capacity ((address_in area at, page_of page.now) ∷ without_page (address_in area at) self.old.cache.pages)) }
         ensures err { OnErr result (self.new.cache.pages ≡ self.old.cache.pages) }
+        ensures most { self.new.cache.capacity ≡ self.old.cache.capacity }
     {
         let Some(end) = at.checked_add(PAGE_SIZE as u64) else {
             return Err(NoMemory);
@@ -94,6 +94,7 @@ impl KeptPages {
         ensures before { EachListed (LiesBefore area at) self.new.cache.pages }
         ensures all { (self.new.cache.pages ≡ self.old.cache.pages) ⊎ (self.new.cache.pages ≡ []) }
         ensures stay { end_in self.old.pages_end self.old.log_end area ≤ at → self.new ≡ self.old }
+        ensures most { self.new.cache.capacity ≡ self.old.cache.capacity }
     {
         if self.end(area) > at {
             self.forget();
@@ -112,6 +113,7 @@ impl KeptPages {
     /// Lets all pages go.
     pub(crate) fn forget(&mut self)
         ensures pages { self.new.cache.pages ≡ [] }
+        ensures most { self.new.cache.capacity ≡ self.old.cache.capacity }
     {
         self.cache.forget();
         self.pages_end = 0;

@@ -11,6 +11,9 @@ use std::test::Fail;
 
 const PAGE: u64 = PAGE_SIZE as u64;
 
+// How many pages a host keeps at most.
+const MOST_KEPT: u32 = 20;
+
 // Two pages and a half: of the byte 1, of 2, and of 3.
 fn area(alloc: Global) -> Result<Bytes, NoMemory> {
     let mut bytes = Vec::new(alloc);
@@ -28,7 +31,7 @@ fn host(alloc: Global, failing: u64) -> Result<CachedHost<MemoryHost>, NoMemory>
     };
     let mut host = MemoryHost::new(alloc, image, Bytes::new(alloc), 1, 100_000)?;
     host.fail_calls(&[failing])?;
-    CachedHost::new(alloc, host)
+    CachedHost::new(alloc, host, MOST_KEPT)
 }
 
 // Reads a page, of which so many bytes are to be given, the first and the last of them these, and by so many reads
@@ -115,17 +118,18 @@ fn a_sync_that_fails_lets_all_go(rt: HostRuntime) -> Result<(), Fail> {
     expect(&rt, &mut host, (Area::Pages, 0), (whole, 1, 1), 1)
 }
 
-// Pages that begin at each of 257 bytes: the first one is let go for the last.
+// Pages that begin at each of the first bytes, one more than are kept: the first one is let go for the last.
 #[test]
-fn the_last_256_pages_are_kept(rt: HostRuntime) -> Result<(), Fail> {
+fn the_last_pages_are_kept(rt: HostRuntime) -> Result<(), Fail> {
     let mut host = host(rt.alloc(), 0)?;
     let mut page = [0u8; PAGE_SIZE];
-    for at in 0..257u64 {
+    let most = u64::from(MOST_KEPT);
+    for at in 0..=most {
         host.read(Area::Log, at, &mut page)?;
     }
-    for at in 1..257u64 {
+    for at in 1..=most {
         host.read(Area::Log, at, &mut page)?;
     }
-    assert!(rt; host.inner().counts().reads == 257);
+    assert!(rt; host.inner().counts().reads == most + 1);
     expect(&rt, &mut host, (Area::Log, 0), (PAGE_SIZE, 1, 1), 1)
 }

@@ -2,7 +2,7 @@
 ghost use Rattle.std.specs.Prelude.{◌≡◌, ◌≢◌, drop, map, string_bytes, Err, IfOk, IfErr, IsOk};
 ghost use Rattle.std.specs.IoError.{error_kind};
 ghost use Rattle.std.specs.Vec.Iter.{into_iter_items};
-ghost use Rattle.nx_program.specs.Command.{store_name};
+ghost use Rattle.nx_program.specs.Command.{store_name, most_kept, most_kept_for};
 
 use nx_front::{Status, Word, Words};
 use nx_lists::NoMemory;
@@ -10,6 +10,12 @@ use std::alloc::Global;
 use std::env::Args;
 use std::io;
 use std::io::ErrorKind;
+
+// How many pages that were read lately are kept for a command.
+const MOST_KEPT: u32 = 256;
+
+// The same for a check, which notes something of each page besides: of a large store it takes a two-hundredth in all.
+const MOST_KEPT_FOR_CHECK: u32 = 64;
 
 // The words of a command line, of which the first argument, the program's own name, is none.
 //
@@ -48,5 +54,25 @@ pub fn store_of(words: &Words) -> &str
     match words.as_slice() {
         [store, ..] => store.as_str(),
         [] => "_",
+    }
+}
+
+// How many pages that were read lately are kept for the command of these words.
+pub fn most_kept(words: &Words) -> u32
+    ensures { result ≡ most_kept words.now }
+{
+    match words.as_slice() {
+        [_, command, ..] => most_kept_for(command.as_str()),
+        _ => MOST_KEPT,
+    }
+}
+
+fn most_kept_for(command: &str) -> u32
+    ensures { result ≡ most_kept_for command.now }
+{
+    if command == "check" {
+        MOST_KEPT_FOR_CHECK
+    } else {
+        MOST_KEPT
     }
 }

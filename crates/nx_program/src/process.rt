@@ -1,4 +1,5 @@
 // The program over the files of the system.
+use crate::arguments::most_kept;
 use crate::program;
 use nx_cached_host::CachedHost;
 use nx_files::FileHost;
@@ -41,7 +42,7 @@ where
 // Carries out the words over this host, behind one that keeps the pages that were read lately. It is generic,
 // since the prover can't name what a `CachedHost` over the types of the system tells.
 fn run_kept<H: Host + Drop>(alloc: Global, words: &Words, host: H) -> Status {
-    match CachedHost::new(alloc, host) {
+    match CachedHost::new(alloc, host, most_kept(words)) {
         Ok(mut kept) => run(alloc, words, &mut kept),
         Err(NoMemory) => Status::NoMemory,
     }

@@ -22,7 +22,7 @@ fn wide_store(rt: &impl Abort, alloc: Global) -> Result<Image, Fail> {
 }
 
 fn cached(alloc: Global, image: Image) -> Result<CachedHost<MemoryHost>, NoMemory> {
-    CachedHost::new(alloc, host_of(alloc, image)?)
+    CachedHost::new(alloc, host_of(alloc, image)?, 256)
 }
 
 fn open(alloc: Global, host: &mut CachedHost<MemoryHost>) -> Result<Records, StoreError> {

@@ -1,4 +1,4 @@
-use Rattle.std.proofs.Common.{◌∙◌, ap, sym, subst}
+use Rattle.std.proofs.Common.{sym, subst}
 use Rattle.nx_cache.specs.Cached.{Cached, EachListed}
 use Rattle.nx_cache.proofs.CallerLemmas.{each_front}
 use Rattle.nx_cached_host.specs.Kept.{EndsBy}
@@ -11,5 +11,4 @@ invariant_of-self c =
     let front = c.get.follows.holds-at-none in
     record {
       within = subst (λ (k : Cached). EachListed P k.pages) (sym front) (each_front P c.args.address kept.cache.pages kept.within);
-      capacity = ap (λ (k : Cached). k.capacity) front ∙ kept.capacity;
     }

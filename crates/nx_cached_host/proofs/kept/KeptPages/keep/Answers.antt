@@ -1,4 +1,4 @@
-use Rattle.std.proofs.Common.{◌∙◌, sym, subst, arith}
+use Rattle.std.proofs.Common.{sym, subst, arith}
 use Rattle.nx_cache.specs.Cached.{page_of}
 use Rattle.nx_cached_host.specs.Kept.{EndsBy}
 use Rattle.nx_cached_host.proofs.KeptLemmas.{ends_there, kept_put}
@@ -13,5 +13,4 @@ invariant_of-self c =
       within = kept_put P c.put.result now.cache.capacity c.address_in.result page now.cache.pages c.put.new.self.pages
           (subst (λ address. P address page) (sym c.address_in.ensures) (ends_there c.args.area c.args.at c.in-Some.end now.pages_end now.log_end page (omega (arith, c.in-Some.ensures.1)) c.reach.ensures.end))
           now.within c.put.ensures.ok c.put.ensures.err;
-      capacity = c.put.ensures.capacity ∙ now.capacity;
     }
