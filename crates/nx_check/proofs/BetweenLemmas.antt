@@ -73,8 +73,8 @@ marks_begun : (pages : Pages) (head : Header) (uses : Uses) (left : Left) (free 
 marks_begun pages head uses left free whole marks = record {
   owner = λ i. 0;
   words = λ p first count is. elim (free_mark (use_of uses p) (times p free) (marks p)) [
-    | inl none ↦ absurd (let x : Slotted first count ≡ Unseen = sym is ∙ none.1 in cc x)
-    | inr some ↦ absurd (let x : Slotted first count ≡ Free = sym is ∙ some.1 in cc x)
+    | inl none ↦ absurd (let x : Slotted count first ≡ Unseen = sym is ∙ none.1 in cc x)
+    | inr some ↦ absurd (let x : Slotted count first ≡ Free = sym is ∙ some.1 in cc x)
   ];
   each = λ p. elim (free_mark (use_of uses p) (times p free) (marks p)) [
     | inl none ↦ subst (λ (u : PageUse). IsUsedSo left pages free [] [] p u) (sym none.1) (none.0, refl, λ slot. refl)

@@ -67,7 +67,7 @@ module _ (left : Left) (pages : Pages) (free used : List ℕ) (reached : List Re
   so_used more p Unseen e h = (h.0, e ∙ h.1, h.2)
   so_used more p Free e h = h
   so_used more p Chain e h = (subst (λ (n : ℕ). 1 ≤ n) (sym e) h.0, h.1)
-  so_used more p (Slotted first count) e h = record { in_none = (h.in_none.0, e ∙ h.in_none.1); bytes = h.bytes; slotted = h.slotted; some = h.some; counted = h.counted; each = h.each }
+  so_used more p (Slotted count first) e h = record { in_none = (h.in_none.0, e ∙ h.in_none.1); bytes = h.bytes; slotted = h.slotted; some = h.some; counted = h.counted; each = h.each }
 
 -- a chain page that has another use is in a list
 pub seen_chain : (uses : Uses) (left : Left) (pages : Pages) (free used : List ℕ) (reached : List RecordPlace) (link : Link) (next : ℕ) → AreMarked uses left pages free used reached → IsLinkTo pages link next
@@ -78,7 +78,7 @@ seen_chain uses left pages free used reached link next marked at seen none = go 
     go Unseen e h = seen e
     go Free e h = chain_not_free pages link.page link next h.1.0 at refl h.1.1
     go Chain e h = let some = h.0 in omega (arith, some, none)
-    go (Slotted first count) e h = chain_not_slotted pages link.page link next h.bytes at refl h.slotted
+    go (Slotted count first) e h = chain_not_slotted pages link.page link next h.bytes at refl h.slotted
 
 -- an unseen page is in no list
 pub unseen_unused : (uses : Uses) (left : Left) (pages : Pages) (free used : List ℕ) (reached : List RecordPlace) (page : ℕ) → AreMarked uses left pages free used reached → use_of uses page ≡ Unseen
@@ -90,7 +90,7 @@ pub mark_chain : (old new : Uses) (left : Left) (pages : Pages) (free used : Lis
 mark_chain old new left pages free used reached link next marked at now = record {
   owner = marked.owner;
   words = λ p first count e. elim (cases_Bool (p == link.page)) [
-    | inl same ↦ absurd (let x : Chain ≡ Slotted first count = sym (marked_here old new link.page Chain now p same) ∙ e in cc x)
+    | inl same ↦ absurd (let x : Chain ≡ Slotted count first = sym (marked_here old new link.page Chain now p same) ∙ e in cc x)
     | inr other ↦ marked.words p first count (sym (marked_other old new link.page Chain now p other) ∙ e)
   ];
   each = λ p. elim (cases_Bool (p == link.page)) [
@@ -112,21 +112,21 @@ mark_chain old new left pages free used reached link next marked at now = record
 
 -- a page that is slotted is unseen where it has no marks of records
 slotted_unseen : (uses : Uses) (left : Left) (pages : Pages) (free used : List ℕ) (reached : List RecordPlace) (page : ℕ) (bytes : List ℕ) → AreMarked uses left pages free used reached → IsSlottedPage pages page bytes
-    → ((first count : ℕ) → use_of uses page ≡ Slotted first count → ⊥) → use_of uses page ≡ Unseen
+    → ((first count : ℕ) → use_of uses page ≡ Slotted count first → ⊥) → use_of uses page ≡ Unseen
 slotted_unseen uses left pages free used reached page bytes marked is none = go (use_of uses page) refl (marked.each page)
   where
     go : (u : PageUse) → use_of uses page ≡ u → IsUsedSo left pages free used reached page u → use_of uses page ≡ Unseen
     go Unseen e h = e
     go Free e h = absurd (free_not_slotted pages page h.1.0 bytes h.1.1 is)
     go Chain e h = absurd (chain_not_slotted pages page h.1.0 h.1.1 bytes h.1.2 h.1.3 is)
-    go (Slotted first count) e h = absurd (none first count e)
+    go (Slotted count first) e h = absurd (none first count e)
 
 -- what words of a page behind others say
 pub record AddsPage (old new : Left) (bytes : List ℕ) (first : ℕ) : Type 0 where
   pub first_is : first ≡ length old.words.items
   pub long : length new.words.items ≡ first + words_for (count_of bytes)
-  pub stay : (i : ℕ) → i < 64 * length old.words.items → is_bit_set new.words.items i ≡ is_bit_set old.words.items i
-  pub here : (slot : ℕ) → slot < count_of bytes → is_bit_set new.words.items (64 * first + slot) ≡ is_some (slice_index_or (slots_of bytes) slot None)
+  pub stay : (i : ℕ) → i < 8 * length old.words.items → is_bit_set new.words.items i ≡ is_bit_set old.words.items i
+  pub here : (slot : ℕ) → slot < count_of bytes → is_bit_set new.words.items (8 * first + slot) ≡ is_some (slice_index_or (slots_of bytes) slot None)
 
 pub slotted_record_in : (bytes : List ℕ) (slot : ℕ) → IsSlotted bytes → record_in (Some bytes) slot ≡ slice_index_or (slots_of bytes) slot None
 slotted_record_in bytes slot h = ap (λ (b : Bool). if b then slice_index_or (slots_of bytes) slot None else None) (slotted_kind bytes h)
@@ -135,15 +135,15 @@ and_true : (b c : Bool) → c ≡ false → b ≡ (b && not c)
 and_true true c e = ap not (sym e)
 and_true false c e = refl
 
-within_words : (slot count : ℕ) → slot < count → slot < 64 * words_for count
+within_words : (slot count : ℕ) → slot < count → slot < 8 * words_for count
 within_words slot count low = omega (arith, low)
 
 module _ (old new : Left) (bytes : List ℕ) (at : ℕ) (pages : Pages) (free used : List ℕ) (reached : List RecordPlace) where
-  so_left : AddsPage old new bytes at → (p : ℕ) (u : PageUse) → ((first count : ℕ) → u ≡ Slotted first count → first + words_for count ≤ length old.words.items) → IsUsedSo old pages free used reached p u → IsUsedSo new pages free used reached p u
+  so_left : AddsPage old new bytes at → (p : ℕ) (u : PageUse) → ((first count : ℕ) → u ≡ Slotted count first → first + words_for count ≤ length old.words.items) → IsUsedSo old pages free used reached p u → IsUsedSo new pages free used reached p u
   so_left adds p Unseen low h = h
   so_left adds p Free low h = h
   so_left adds p Chain low h = h
-  so_left adds p (Slotted first count) low h = record {
+  so_left adds p (Slotted count first) low h = record {
     in_none = h.in_none;
     bytes = h.bytes;
     slotted = h.slotted;
@@ -152,11 +152,11 @@ module _ (old new : Left) (bytes : List ℕ) (at : ℕ) (pages : Pages) (free us
     each = λ slot under.
         let within = low first count refl in
         let few = within_words slot count under in
-        adds.stay (64 * first + slot) (omega (arith, within, few)) ∙ h.each slot under;
+        adds.stay (8 * first + slot) (omega (arith, within, few)) ∙ h.each slot under;
   }
 
 pub mark_slotted : (old new : Uses) (was left : Left) (pages : Pages) (free used : List ℕ) (reached : List RecordPlace) (page first : ℕ) (bytes : List ℕ) → AreMarked old was pages free used reached → IsSlottedPage pages page bytes
-    → slots_of bytes ≢ [] → ((f c : ℕ) → use_of old page ≡ Slotted f c → ⊥) → AddsPage was left bytes first → MarksPage old new page (Slotted first (count_of bytes)) → AreMarked new left pages free used reached
+    → slots_of bytes ≢ [] → ((f c : ℕ) → use_of old page ≡ Slotted c f → ⊥) → AddsPage was left bytes first → MarksPage old new page (Slotted (count_of bytes) first) → AreMarked new left pages free used reached
 mark_slotted old new was left pages free used reached page first bytes marked is some none adds now =
     let unseen = unseen_unused old was pages free used reached page marked (slotted_unseen old was pages free used reached page bytes marked is none) in
     let before = adds.first_is in
@@ -165,7 +165,7 @@ mark_slotted old new was left pages free used reached page first bytes marked is
       owner = λ i. if nat_lt i first then marked.owner i else page;
       words = λ p f c e. elim (cases_Bool (p == page)) [
         | inl same ↦
-            let e : Slotted first (count_of bytes) ≡ Slotted f c = sym (marked_here old new page (Slotted first (count_of bytes)) now p same) ∙ e in
+            let e : Slotted (count_of bytes) first ≡ Slotted c f = sym (marked_here old new page (Slotted (count_of bytes) first) now p same) ∙ e in
             let first_is : first ≡ f = cc e in
             let count_is : count_of bytes ≡ c = cc e in
             record {
@@ -173,7 +173,7 @@ mark_slotted old new was left pages free used reached page first bytes marked is
               own = λ i from under. ap (λ (b : Bool). if b then marked.owner i else page) (not_below i first (subst (λ (x : ℕ). x ≤ i) (sym first_is) from)) ∙ sym (eqb-true p page same);
             }
         | inr other ↦
-            let h = marked.words p f c (sym (marked_other old new page (Slotted first (count_of bytes)) now p other) ∙ e) in
+            let h = marked.words p f c (sym (marked_other old new page (Slotted (count_of bytes) first) now p other) ∙ e) in
             let within = h.within in
             record {
               within = omega (arith, within, before, long);
@@ -183,7 +183,7 @@ mark_slotted old new was left pages free used reached page first bytes marked is
       each = λ p. elim (cases_Bool (p == page)) [
         | inl same ↦
             let there : p ≡ page = eqb-true p page same in
-            subst (λ (u : PageUse). IsUsedSo left pages free used reached p u) (sym (marked_here old new page (Slotted first (count_of bytes)) now p same))
+            subst (λ (u : PageUse). IsUsedSo left pages free used reached p u) (sym (marked_here old new page (Slotted (count_of bytes) first) now p same))
             (subst (λ (q : ℕ). MarksSlotted left pages free used reached q first (count_of bytes)) (sym there) (record {
               in_none = (unseen.0, unseen.1);
               bytes = bytes;
@@ -194,7 +194,7 @@ mark_slotted old new was left pages free used reached page first bytes marked is
                   adds.here slot under ∙ ap is_some (sym (slotted_record_in bytes slot is.slotted)) ∙ and_true (is_some (record_in (Some bytes) slot)) (is_reached page slot reached) (unseen.2 slot);
             }))
         | inr other ↦
-            subst (λ (u : PageUse). IsUsedSo left pages free used reached p u) (sym (marked_other old new page (Slotted first (count_of bytes)) now p other))
+            subst (λ (u : PageUse). IsUsedSo left pages free used reached p u) (sym (marked_other old new page (Slotted (count_of bytes) first) now p other))
             (so_left was left bytes first pages free used reached adds p (use_of old p) (λ f c e. (marked.words p f c e).within) (marked.each p))
       ];
     }
@@ -258,8 +258,8 @@ contains_reached page slot (x ∷ places) h =
     or_true false b e = e
 
 -- a record that is left wasn't reached, and one that is there and not left was
-pub left_new : (uses : Uses) (left : Left) (pages : Pages) (free used : List ℕ) (reached : List RecordPlace) (page slot first count : ℕ) (bytes own : List ℕ) → AreMarked uses left pages free used reached → use_of uses page ≡ Slotted first count
-    → pages page ≡ Some bytes → record_in (Some bytes) slot ≡ Some own → (slot < count) × (is_bit_set left.words.items (64 * first + slot) ≡ not (is_reached page slot reached))
+pub left_new : (uses : Uses) (left : Left) (pages : Pages) (free used : List ℕ) (reached : List RecordPlace) (page slot first count : ℕ) (bytes own : List ℕ) → AreMarked uses left pages free used reached → use_of uses page ≡ Slotted count first
+    → pages page ≡ Some bytes → record_in (Some bytes) slot ≡ Some own → (slot < count) × (is_bit_set left.words.items (8 * first + slot) ≡ not (is_reached page slot reached))
 left_new uses left pages free used reached page slot first count bytes own marked is there found =
     let h : MarksSlotted left pages free used reached page first count = subst (λ (u : PageUse). IsUsedSo left pages free used reached page u) is (marked.each page) in
     let same : h.bytes ≡ bytes = same_bytes h.bytes bytes (pages page) h.slotted.there there in
@@ -292,57 +292,57 @@ module _ (uses : Uses) (was left : Left) (pages : Pages) (free used : List ℕ) 
   abbrev place : RecordPlace
   place = record { page = page; slot = slot }
 
-  so_reached : AreMarked uses was pages free used reached → use_of uses page ≡ Slotted first count → slot < count → ((i : ℕ) → is_bit_set left.words.items i ≡ (if i == 64 * first + slot then false else is_bit_set was.words.items i))
+  so_reached : AreMarked uses was pages free used reached → use_of uses page ≡ Slotted count first → slot < count → ((i : ℕ) → is_bit_set left.words.items i ≡ (if i == 8 * first + slot then false else is_bit_set was.words.items i))
       → (p : ℕ) (u : PageUse) → use_of uses p ≡ u → IsUsedSo was pages free used reached p u → IsUsedSo left pages free used (reached ++ place ∷ []) p u
   so_reached marked is low now p Unseen e h = (h.0, h.1, λ s. reached_last p s reached place ∙ ap (λ (b : Bool). b || (page == p && slot == s)) (h.2 s) ∙ ap (λ (b : Bool). b && slot == s) (other_page p e))
     where
       other_page : (q : ℕ) → use_of uses q ≡ Unseen → (page == q) ≡ false
       other_page q unseen = elim (cases_Bool (page == q)) [
-        | inl same ↦ absurd (let x : Slotted first count ≡ Unseen = sym is ∙ ap (use_of uses) (eqb-true page q same) ∙ unseen in cc x)
+        | inl same ↦ absurd (let x : Slotted count first ≡ Unseen = sym is ∙ ap (use_of uses) (eqb-true page q same) ∙ unseen in cc x)
         | inr other ↦ other
       ]
   so_reached marked is low now p Free e h = h
   so_reached marked is low now p Chain e h = h
-  so_reached marked is low now p (Slotted f c) e h = record {
+  so_reached marked is low now p (Slotted c f) e h = record {
     in_none = h.in_none;
     bytes = h.bytes;
     slotted = h.slotted;
     some = h.some;
     counted = h.counted;
-    each = λ s under. now (64 * f + s) ∙ elim (cases_Bool (page == p)) [
+    each = λ s under. now (8 * f + s) ∙ elim (cases_Bool (page == p)) [
       | inl same ↦ here s under (eqb-true page p same) same
       | inr other ↦ there s under other
     ];
   }
     where
-      here : (s : ℕ) → s < c → page ≡ p → (page == p) ≡ true → (if 64 * f + s == 64 * first + slot then false else is_bit_set was.words.items (64 * f + s)) ≡ (is_some (record_in (Some h.bytes) s) && not (is_reached p s (reached ++ place ∷ [])))
+      here : (s : ℕ) → s < c → page ≡ p → (page == p) ≡ true → (if 8 * f + s == 8 * first + slot then false else is_bit_set was.words.items (8 * f + s)) ≡ (is_some (record_in (Some h.bytes) s) && not (is_reached p s (reached ++ place ∷ [])))
       here s under same_page same =
-          let one : Slotted first count ≡ Slotted f c = sym is ∙ ap (use_of uses) same_page ∙ e in
+          let one : Slotted count first ≡ Slotted c f = sym is ∙ ap (use_of uses) same_page ∙ e in
           let first_is : first ≡ f = cc one in
           elim (cases_Bool (slot == s)) [
             | inl this ↦
                 let slot_is : slot ≡ s = eqb-true slot s this in
-                let at : 64 * f + s ≡ 64 * first + slot = omega (arith, first_is, slot_is) in
+                let at : 8 * f + s ≡ 8 * first + slot = omega (arith, first_is, slot_is) in
                 let now_in : is_reached p s (reached ++ place ∷ []) ≡ true = reached_last p s reached place ∙ ap (λ (b : Bool). is_reached p s reached || b) (ap (λ (b : Bool). b && slot == s) same ∙ this) ∙ any_true (is_reached p s reached) in
-                ap (λ (b : Bool). if b then false else is_bit_set was.words.items (64 * f + s)) (eq-eqb (64 * f + s) (64 * first + slot) at) ∙ none_false (is_some (record_in (Some h.bytes) s)) ∙ sym (ap (λ (b : Bool). is_some (record_in (Some h.bytes) s) && not b) now_in)
+                ap (λ (b : Bool). if b then false else is_bit_set was.words.items (8 * f + s)) (eq-eqb (8 * f + s) (8 * first + slot) at) ∙ none_false (is_some (record_in (Some h.bytes) s)) ∙ sym (ap (λ (b : Bool). is_some (record_in (Some h.bytes) s) && not b) now_in)
             | inr other ↦
-                let apart : 64 * f + s ≡ 64 * first + slot → ⊥ = λ at. false≢true (sym other ∙ eq-eqb slot s (omega (arith, at, first_is))) in
+                let apart : 8 * f + s ≡ 8 * first + slot → ⊥ = λ at. false≢true (sym other ∙ eq-eqb slot s (omega (arith, at, first_is))) in
                 let as_was : is_reached p s (reached ++ place ∷ []) ≡ is_reached p s reached = reached_last p s reached place ∙ ap (λ (b : Bool). is_reached p s reached || b) (ap (λ (b : Bool). b && slot == s) same ∙ other) ∙ or_none (is_reached p s reached) in
-                ap (λ (b : Bool). if b then false else is_bit_set was.words.items (64 * f + s)) (not_equal (64 * f + s) (64 * first + slot) apart) ∙ h.each s under ∙ sym (ap (λ (b : Bool). is_some (record_in (Some h.bytes) s) && not b) as_was)
+                ap (λ (b : Bool). if b then false else is_bit_set was.words.items (8 * f + s)) (not_equal (8 * f + s) (8 * first + slot) apart) ∙ h.each s under ∙ sym (ap (λ (b : Bool). is_some (record_in (Some h.bytes) s) && not b) as_was)
           ]
 
-      there : (s : ℕ) → s < c → (page == p) ≡ false → (if 64 * f + s == 64 * first + slot then false else is_bit_set was.words.items (64 * f + s)) ≡ (is_some (record_in (Some h.bytes) s) && not (is_reached p s (reached ++ place ∷ [])))
+      there : (s : ℕ) → s < c → (page == p) ≡ false → (if 8 * f + s == 8 * first + slot then false else is_bit_set was.words.items (8 * f + s)) ≡ (is_some (record_in (Some h.bytes) s) && not (is_reached p s (reached ++ place ∷ [])))
       there s under other =
           let mine = marked.words p f c e in
           let its = marked.words page first count is in
-          let mine_own : marked.owner ((64 * f + s) / 64) ≡ p = mine.own ((64 * f + s) / 64) (omega arith) (omega (arith, under)) in
-          let its_own : marked.owner ((64 * first + slot) / 64) ≡ page = its.own ((64 * first + slot) / 64) (omega arith) (omega (arith, low)) in
-          let apart : 64 * f + s ≡ 64 * first + slot → ⊥ = λ at. false≢true (sym other ∙ eq-eqb page p (sym its_own ∙ ap (λ (i : ℕ). marked.owner (i / 64)) (sym at) ∙ mine_own)) in
+          let mine_own : marked.owner ((8 * f + s) / 8) ≡ p = mine.own ((8 * f + s) / 8) (omega arith) (omega (arith, under)) in
+          let its_own : marked.owner ((8 * first + slot) / 8) ≡ page = its.own ((8 * first + slot) / 8) (omega arith) (omega (arith, low)) in
+          let apart : 8 * f + s ≡ 8 * first + slot → ⊥ = λ at. false≢true (sym other ∙ eq-eqb page p (sym its_own ∙ ap (λ (i : ℕ). marked.owner (i / 8)) (sym at) ∙ mine_own)) in
           let as_was : is_reached p s (reached ++ place ∷ []) ≡ is_reached p s reached = reached_last p s reached place ∙ ap (λ (b : Bool). is_reached p s reached || b) (ap (λ (b : Bool). b && slot == s) other) ∙ or_none (is_reached p s reached) in
-          ap (λ (b : Bool). if b then false else is_bit_set was.words.items (64 * f + s)) (not_equal (64 * f + s) (64 * first + slot) apart) ∙ h.each s under ∙ sym (ap (λ (b : Bool). is_some (record_in (Some h.bytes) s) && not b) as_was)
+          ap (λ (b : Bool). if b then false else is_bit_set was.words.items (8 * f + s)) (not_equal (8 * f + s) (8 * first + slot) apart) ∙ h.each s under ∙ sym (ap (λ (b : Bool). is_some (record_in (Some h.bytes) s) && not b) as_was)
 
-pub mark_reached : (uses : Uses) (was left : Left) (pages : Pages) (free used : List ℕ) (reached : List RecordPlace) (page slot first count : ℕ) → AreMarked uses was pages free used reached → use_of uses page ≡ Slotted first count → slot < count
-    → length left.words.items ≡ length was.words.items → ((i : ℕ) → is_bit_set left.words.items i ≡ (if i == 64 * first + slot then false else is_bit_set was.words.items i)) → AreMarked uses left pages free used (reached ++ record { page = page; slot = slot } ∷ [])
+pub mark_reached : (uses : Uses) (was left : Left) (pages : Pages) (free used : List ℕ) (reached : List RecordPlace) (page slot first count : ℕ) → AreMarked uses was pages free used reached → use_of uses page ≡ Slotted count first → slot < count
+    → length left.words.items ≡ length was.words.items → ((i : ℕ) → is_bit_set left.words.items i ≡ (if i == 8 * first + slot then false else is_bit_set was.words.items i)) → AreMarked uses left pages free used (reached ++ record { page = page; slot = slot } ∷ [])
 mark_reached uses was left pages free used reached page slot first count marked is low long now = record {
   owner = marked.owner;
   words = λ p f c e. (let h = marked.words p f c e in record { within = subst (λ (n : ℕ). f + words_for c ≤ n) (sym long) h.within; own = h.own });
@@ -360,8 +360,8 @@ use_some [] some e = some refl
 use_some (x ∷ xs) some e = absurd (omega (arith, e))
 
 -- a slotted page whose records aren't all left behind isn't in use, and one whose records are is
-pub slotted_in_use : (uses : Uses) (left : Left) (pages : Pages) (free used : List ℕ) (reached : List RecordPlace) (page first count : ℕ) → AreMarked uses left pages free used reached → use_of uses page ≡ Slotted first count
-    → ((slot : ℕ) → slot < count → is_bit_set left.words.items (64 * first + slot) ≡ false) → HasUse pages free used reached page
+pub slotted_in_use : (uses : Uses) (left : Left) (pages : Pages) (free used : List ℕ) (reached : List RecordPlace) (page first count : ℕ) → AreMarked uses left pages free used reached → use_of uses page ≡ Slotted count first
+    → ((slot : ℕ) → slot < count → is_bit_set left.words.items (8 * first + slot) ≡ false) → HasUse pages free used reached page
 slotted_in_use uses left pages free used reached page first count marked is none =
     let h : MarksSlotted left pages free used reached page first count = subst (λ (u : PageUse). IsUsedSo left pages free used reached page u) is (marked.each page) in
     inr (inr (
@@ -384,8 +384,8 @@ slotted_in_use uses left pages free used reached page first count marked is none
         let none : record_in (Some b) s ≡ None = slotted_record_in b s slotted ∙ get_or_past (slots_of b) s None (subst (λ (n : ℕ). n ≤ s) (sym (length-slots_of b)) past) in
         false≢true (subst (λ (o : Option (List ℕ)). IsSome o) none some)
 
-pub slotted_not_in_use : (uses : Uses) (left : Left) (pages : Pages) (free used : List ℕ) (reached : List RecordPlace) (page first count slot : ℕ) → AreMarked uses left pages free used reached → use_of uses page ≡ Slotted first count → slot < count
-    → is_bit_set left.words.items (64 * first + slot) ≡ true → HasUse pages free used reached page → ⊥
+pub slotted_not_in_use : (uses : Uses) (left : Left) (pages : Pages) (free used : List ℕ) (reached : List RecordPlace) (page first count slot : ℕ) → AreMarked uses left pages free used reached → use_of uses page ≡ Slotted count first → slot < count
+    → is_bit_set left.words.items (8 * first + slot) ≡ true → HasUse pages free used reached page → ⊥
 slotted_not_in_use uses left pages free used reached page first count slot marked is low set has =
     let h : MarksSlotted left pages free used reached page first count = subst (λ (u : PageUse). IsUsedSo left pages free used reached page u) is (marked.each page) in
     let both = two_true (is_some (record_in (Some h.bytes) slot)) (not (is_reached page slot reached)) (sym (h.each slot low) ∙ set) in

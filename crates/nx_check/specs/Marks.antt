@@ -29,19 +29,19 @@ pub record MarksSlotted (left : Left) (pages : Pages) (free used : List ℕ) (re
   pub slotted : IsSlottedPage pages page bytes
   pub some : slots_of bytes ≢ []
   pub counted : count ≡ count_of bytes
-  pub each : (slot : ℕ) → slot < count → is_bit_set left.words.items (64 * first + slot) ≡ (is_some (record_in (Some bytes) slot) && not (is_reached page slot reached))
+  pub each : (slot : ℕ) → slot < count → is_bit_set left.words.items (8 * first + slot) ≡ (is_some (record_in (Some bytes) slot) && not (is_reached page slot reached))
 
 -- the page has this use
 abbrev pub IsUsedSo : Left → Pages → (free used : List ℕ) → List RecordPlace → ℕ → PageUse → Type 0
 IsUsedSo left pages free used reached page Unseen = (times page free ≡ 0) × (times page used ≡ 0) × ((slot : ℕ) → is_reached page slot reached ≡ false)
 IsUsedSo left pages free used reached page Free = (1 ≤ times page free) × ((next : ℕ) × IsFreePageAt pages page next)
 IsUsedSo left pages free used reached page Chain = (1 ≤ times page used) × ((link : Link) × (next : ℕ) × IsLinkTo pages link next × (link.page ≡ page))
-IsUsedSo left pages free used reached page (Slotted first count) = MarksSlotted left pages free used reached page first count
+IsUsedSo left pages free used reached page (Slotted count first) = MarksSlotted left pages free used reached page first count
 
 -- Each page has the use that its mark says, and no two pages share a word.
 pub record AreMarked (uses : Uses) (left : Left) (pages : Pages) (free used : List ℕ) (reached : List RecordPlace) : Type 0 where
   pub owner : ℕ → ℕ
-  pub words : (page first count : ℕ) → use_of uses page ≡ Slotted first count → HasWords owner left page first count
+  pub words : (page first count : ℕ) → use_of uses page ≡ Slotted count first → HasWords owner left page first count
   pub each : (page : ℕ) → IsUsedSo left pages free used reached page (use_of uses page)
 
 -- The page is a free page, a chain page that a list uses, or a slotted page with records, all of which were reached.

@@ -9,12 +9,12 @@ use nx_slots::{PageBytes, read_in};
 use std::alloc::Global;
 
 // So many records of a page have their marks in one word.
-const WORD: usize = 64;
+const WORD: usize = 8;
 
 // A bit for each slot of the slotted pages that a walk has come to. It is set where a record is left.
 #[derive(Drop)]
 pub struct Left {
-    words: Vec<u64>,
+    words: Vec<u8>,
 }
 
 impl Left {
@@ -29,8 +29,8 @@ impl Left {
     pub fn add_page(&mut self, bytes: &PageBytes) -> Result<u32, NoMemory>
         requires { IsSlotted bytes.now.bytes }
         ensures first { IfOk result (λ first. (first ≡ length self.old.words.items) × (length self.new.words.items ≡ first + words_for (count_of bytes.now.bytes))) }
-        ensures stay { OnOk result ((i : ℕ) → i < 64 * length self.old.words.items → is_bit_set self.new.words.items i ≡ is_bit_set self.old.words.items i) }
-        ensures here { IfOk result (λ first. (slot : ℕ) → slot < count_of bytes.now.bytes → is_bit_set self.new.words.items (64 * first + slot) ≡ is_some (slice_index_or (slots_of bytes.now.bytes) slot None)) }
+        ensures stay { OnOk result ((i : ℕ) → i < 8 * length self.old.words.items → is_bit_set self.new.words.items i ≡ is_bit_set self.old.words.items i) }
+        ensures here { IfOk result (λ first. (slot : ℕ) → slot < count_of bytes.now.bytes → is_bit_set self.new.words.items (8 * first + slot) ≡ is_some (slice_index_or (slots_of bytes.now.bytes) slot None)) }
     {
         let words = self.words.len();
         let Ok(first) = u32::try_from(words) else {
@@ -49,7 +49,7 @@ impl Left {
 
     // Sets a bit.
     fn set(&mut self, bit: usize)
-        requires { bit < 64 * length self.old.words.items }
+        requires { bit < 8 * length self.old.words.items }
         ensures length { length self.new.words.items ≡ length self.old.words.items }
         ensures now { (i : ℕ) → is_bit_set self.new.words.items i ≡ (if i == bit then true else is_bit_set self.old.words.items i) }
     {
@@ -60,8 +60,8 @@ impl Left {
     // Clears the bit of a slot of the page whose words begin so, and says whether it was set.
     pub fn take(&mut self, first: u32, slot: u16) -> bool
         ensures length { length self.new.words.items ≡ length self.old.words.items }
-        ensures was { result ≡ is_bit_set self.old.words.items (64 * first + slot) }
-        ensures now { (i : ℕ) → is_bit_set self.new.words.items i ≡ (if i == 64 * first + slot then false else is_bit_set self.old.words.items i) }
+        ensures was { result ≡ is_bit_set self.old.words.items (8 * first + slot) }
+        ensures now { (i : ℕ) → is_bit_set self.new.words.items i ≡ (if i == 8 * first + slot then false else is_bit_set self.old.words.items i) }
     {
         let bit = WORD * first as usize + slot as usize;
         let was = self.is_set(bit);
@@ -74,8 +74,8 @@ impl Left {
 
     // Whether a bit of so many slots is set.
     pub fn has_any(&self, first: u32, count: u16) -> bool
-        ensures yes { result ≡ true → (slot : ℕ) × (slot < count) × (is_bit_set self.now.words.items (64 * first + slot) ≡ true) }
-        ensures no { result ≡ false → (slot : ℕ) → slot < count → is_bit_set self.now.words.items (64 * first + slot) ≡ false }
+        ensures yes { result ≡ true → (slot : ℕ) × (slot < count) × (is_bit_set self.now.words.items (8 * first + slot) ≡ true) }
+        ensures no { result ≡ false → (slot : ℕ) → slot < count → is_bit_set self.now.words.items (8 * first + slot) ≡ false }
     {
         for slot in 0..count {
             if self.is_set(WORD * first as usize + slot as usize) {
@@ -88,7 +88,7 @@ impl Left {
     // Whether a bit is set.
     fn is_set(&self, bit: usize) -> bool
         ensures is { result ≡ is_bit_set self.now.words.items bit }
-        ensures within { result ≡ true → bit / 64 < length self.now.words.items }
+        ensures within { result ≡ true → bit / 8 < length self.now.words.items }
     {
         let index = bit / WORD;
         index < self.words.len() && has_bit(self.words[index], bit % WORD)
@@ -105,27 +105,27 @@ pub fn slot_count(bytes: &PageBytes) -> u16
 }
 
 // Whether a bit of a word is set.
-fn has_bit(word: u64, bit: usize) -> bool
-    requires { bit < 64 }
+fn has_bit(word: u8, bit: usize) -> bool
+    requires { bit < 8 }
     ensures { result ≡ has_bit word bit }
 {
     (word >> bit) & 1 == 1
 }
 
 // The word with a bit set.
-fn with_bit(word: u64, bit: usize) -> u64
-    requires { bit < 64 }
+fn with_bit(word: u8, bit: usize) -> u8
+    requires { bit < 8 }
     ensures here { has_bit result bit ≡ true }
-    ensures other { (i : ℕ) → i < 64 → i ≢ bit → has_bit result i ≡ has_bit word i }
+    ensures other { (i : ℕ) → i < 8 → i ≢ bit → has_bit result i ≡ has_bit word i }
 {
-    word | 1u64 << bit
+    word | 1u8 << bit
 }
 
 // The word without a bit.
-fn without_bit(word: u64, bit: usize) -> u64
-    requires { bit < 64 }
+fn without_bit(word: u8, bit: usize) -> u8
+    requires { bit < 8 }
     ensures here { has_bit result bit ≡ false }
-    ensures other { (i : ℕ) → i < 64 → i ≢ bit → has_bit result i ≡ has_bit word i }
+    ensures other { (i : ℕ) → i < 8 → i ≢ bit → has_bit result i ≡ has_bit word i }
 {
-    word & !(1u64 << bit)
+    word & !(1u8 << bit)
 }

@@ -35,7 +35,7 @@ pub fn reach(
 fn words_of(uses: &mut Uses, left: &mut Left, page: u32, bytes: &PageBytes) -> Result<u32, NoMemory>
     requires { IsSlotted bytes.now.bytes }
     ensures { IfOk result (λ first. (pages : Pages) (free used : List ℕ) (reached : List RecordPlace) → AreMarked uses.old left.old pages free used reached → pages page ≡ Some bytes.now.bytes → slots_of bytes.now.bytes ≢ []
-        → AreMarked uses.new left.new pages free used reached × ((count : ℕ) × (use_of uses.new page ≡ PageUse.Slotted first count))) }
+        → AreMarked uses.new left.new pages free used reached × ((count : ℕ) × (use_of uses.new page ≡ PageUse.Slotted count first))) }
 {
     if let PageUse::Slotted { first, .. } = uses.page_use(page) {
         return Ok(first);

@@ -16,7 +16,7 @@ pub enum PageUse {
     // A list stands on it.
     Chain,
     // It is slotted and has so many slots. Their marks begin at this word.
-    Slotted { first: u32, count: u16 },
+    Slotted { count: u16, first: u32 },
 }
 
 // What each page is used for. A page of the area takes 8 bytes, and one that the log alone has takes more.

@@ -16,8 +16,8 @@ returns c = λ pages free used reached marked there some.
       stay = c.in_ok-first.ensures.stay;
       here = c.in_ok-first.ensures.here;
     } in
-    let none : (f n : ℕ) → use_of c.args.uses.now c.args.page ≡ Slotted f n → ⊥ = λ f n is. c.in_default.not-Slotted f n (c.page_use.ensures ∙ is) in
-    let now : MarksPage c.args.uses.now c.set_use.new.self c.args.page (Slotted first (count_of bytes)) = subst (λ (n : ℕ). MarksPage c.args.uses.now c.set_use.new.self c.args.page (Slotted first n)) c.slot_count-count.ensures c.in_ok-set_use.ensures in (
+    let none : (f n : ℕ) → use_of c.args.uses.now c.args.page ≡ Slotted n f → ⊥ = λ f n is. c.in_default.not-Slotted n f (c.page_use.ensures ∙ is) in
+    let now : MarksPage c.args.uses.now c.set_use.new.self c.args.page (Slotted (count_of bytes) first) = subst (λ (n : ℕ). MarksPage c.args.uses.now c.set_use.new.self c.args.page (Slotted n first)) c.slot_count-count.ensures c.in_ok-set_use.ensures in (
       mark_slotted c.args.uses.now c.set_use.new.self c.args.left.now c.add_page.new.self pages free used reached c.args.page first bytes marked (record { there = there; slotted = c.requires }) some none adds now,
-      (count_of bytes, marked_here c.args.uses.now c.set_use.new.self c.args.page (Slotted first (count_of bytes)) now c.args.page (eq-eqb c.args.page c.args.page refl)),
+      (count_of bytes, marked_here c.args.uses.now c.set_use.new.self c.args.page (Slotted (count_of bytes) first) now c.args.page (eq-eqb c.args.page c.args.page refl)),
     )
