@@ -25,3 +25,4 @@ pub mod LogLemmas
 pub mod AppliedLemmas
 pub mod TextLemmas
 pub mod EndedLemmas
+pub mod NamingLemmas

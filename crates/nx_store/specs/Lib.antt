@@ -6,3 +6,4 @@ pub mod Staying
 pub mod Loading
 pub mod Changing
 pub mod Editing
+pub mod Naming

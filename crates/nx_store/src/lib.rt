@@ -11,6 +11,7 @@ mod edits;
 mod error;
 pub mod laws;
 mod loading;
+mod naming;
 mod store;
 
 pub use error::EngineError;
