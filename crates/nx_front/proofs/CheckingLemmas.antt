@@ -1,14 +1,11 @@
 -- How a store is checked, from its verdict and what was given then.
-use Rattle.std.proofs.Common.{◌≡◌, ◌⊎◌, inl, inr, ◌↔◌, ℕ, Some, refl}
+use Rattle.std.proofs.Common.{◌≡◌, ◌⊎◌, inl, inr, refl}
 use Rattle.nx_host.specs.declared.disk.Disk.{Ghosts}
 use Rattle.nx_host.specs.Disk.{Image}
 use Rattle.nx_host.specs.Still.{IsStill, IsSettled}
 use Rattle.nx_host.specs.Phase.{GivesAlone}
 use Rattle.nx_replay.specs.Log.{replay}
 use Rattle.nx_records.specs.Records.{HasHeader}
-use Rattle.nx_state.specs.State.{State}
-use Rattle.nx_state.specs.Stands.{Recovers}
-use Rattle.nx_rules.specs.declared.verdict.PageRule.{PageRule}
 use Rattle.nx_rules.specs.declared.verdict.Verdict.{Verdict}
 use Rattle.nx_rules.specs.declared.verdict.Verdict.TheVariants.{Sound, Wrong}
 use Rattle.nx_rules.specs.Verdict.{IsVerdict}
@@ -18,7 +15,7 @@ use Rattle.nx_rules.proofs.KeptLemmas.{stands_keeps}
 use Rattle.nx_filters.specs.declared.status.Status.{Status}
 use Rattle.nx_filters.specs.declared.status.Status.TheVariants.{Done, Usage, Refused, DiskFault, ReadFault, WriteFault, NoMemory, NotAStore, Damaged, TooMuch}
 use Rattle.nx_front.specs.Init.{SaysLine, IsUntroubled}
-use Rattle.nx_front.specs.Checking.{verdict_line, verdict_status, TellsVerdict, IsUnchecked, Checks, CompletesChecking, CheckHoldsTogether, VerdictsAgree}
+use Rattle.nx_front.specs.Checking.{verdict_line, verdict_status, IsUnchecked, Checks, CompletesChecking, CheckHoldsTogether, VerdictsAgree}
 use Rattle.nx_front.proofs.InitLemmas.{says_after, said, no_usage, line_told}
 use Rattle.nx_front.proofs.GeneratingLemmas.{takes_then, still_takes, gives_takes}
 

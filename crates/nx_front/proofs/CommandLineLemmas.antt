@@ -10,7 +10,7 @@ use Rattle.nx_pyx.specs.Field.{begins_with, greatest_position, is_digit, is_numb
 use Rattle.nx_records.specs.Words.{Settings, most_pages}
 use Rattle.nx_words.specs.Operands.{is_operand, are_operands}
 use Rattle.nx_front.specs.declared.words.CommandLine.{CommandLine}
-use Rattle.nx_front.specs.declared.words.CommandLine.TheVariants.{Tidy, Run, Plan, Verify, Init, Gen, Check}
+use Rattle.nx_front.specs.declared.words.CommandLine.TheVariants.{Tidy, Run, Plan, Verify, Init, Gen, Check, Find}
 use Rattle.nx_front.specs.CommandLine.{is_store, is_named_store, is_within, is_weight_limit, is_target, is_tolerance, is_page_limit, is_seed, is_element_count, settings_said, command_of_two, command_of_three, command_of_four, command_of_init, command_line_of, command_line}
 
 both : (a b : Bool) → (a && b) ≡ true → (a ≡ true) × (b ≡ true)
@@ -70,11 +70,15 @@ of_two store command line is =
     let (s, c) = both (is_named_store store) (bytes_eq command known) t in
     operands store command [] (named_is store s) (command_is command known operand c) refl in
     either (is_store store && bytes_eq command (codes "tidy")) (Some Tidy)
-    (if is_named_store store && bytes_eq command (codes "run") then Some Run else if is_named_store store && bytes_eq command (codes "check") then Some Check else None) line
+    (if is_named_store store && bytes_eq command (codes "run") then Some Run else if is_named_store store && bytes_eq command (codes "check") then Some Check
+    else if is_named_store store && bytes_eq command (codes "find") then Some Find else None) line
     (λ t. let (s, c) = both (is_store store) (bytes_eq command (codes "tidy")) t in operands store command [] (store_is store s) (command_is command (codes "tidy") refl c) refl)
-    (either (is_named_store store && bytes_eq command (codes "run")) (Some Run) (if is_named_store store && bytes_eq command (codes "check") then Some Check else None) line
+    (either (is_named_store store && bytes_eq command (codes "run")) (Some Run)
+    (if is_named_store store && bytes_eq command (codes "check") then Some Check else if is_named_store store && bytes_eq command (codes "find") then Some Find else None) line
     (named (codes "run") refl)
-    (either (is_named_store store && bytes_eq command (codes "check")) (Some Check) None line (named (codes "check") refl) (nothing line))) is
+    (either (is_named_store store && bytes_eq command (codes "check")) (Some Check) (if is_named_store store && bytes_eq command (codes "find") then Some Find else None) line
+    (named (codes "check") refl)
+    (either (is_named_store store && bytes_eq command (codes "find")) (Some Find) None line (named (codes "find") refl) (nothing line)))) is
 
 of_three : (store command limit : List ℕ) (line : CommandLine) → command_of_three store command limit ≡ Some line → are_operands (store ∷ command ∷ limit ∷ []) ≡ true
 of_three store command limit line is =

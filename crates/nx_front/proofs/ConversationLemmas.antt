@@ -53,11 +53,11 @@ use Rattle.nx_front.proofs.ServingLaws.{serving_together}
 -- What was taken:
 
 -- what is told no longer is behind what was taken
-takes_kept : (taken : List ℕ) (first now next : Option (List ℕ)) → Takes taken first now → Keeps now next → Takes taken first next
+pub takes_kept : (taken : List ℕ) (first now next : Option (List ℕ)) → Takes taken first now → Keeps now next → Takes taken first next
 takes_kept taken first now None takes kept = tt
 takes_kept taken first now (Some left) takes kept = subst (λ (o : Option (List ℕ)). Takes taken first o) kept takes
 
-end_kept : (now next : Option (List ℕ)) → IsAtEnd now → Keeps now next → IsAtEnd next
+pub end_kept : (now next : Option (List ℕ)) → IsAtEnd now → Keeps now next → IsAtEnd next
 end_kept now None end kept = tt
 end_kept now (Some left) end kept = subst IsAtEnd kept end
 
@@ -133,14 +133,14 @@ few {first = first} {now = now} {script = script} {taken = taken} {commands = co
 
 -- Behind an input and an output that stay:
 
-takes_after : (taken : List ℕ) (a b c : Option (List ℕ)) → Keeps a b → Takes taken b c → Takes taken a c
+pub takes_after : (taken : List ℕ) (a b c : Option (List ℕ)) → Keeps a b → Takes taken b c → Takes taken a c
 takes_after taken a b None kept takes = tt
 takes_after taken a b (Some left) kept takes = subst (λ (o : Option (List ℕ)). Keeps a o) takes kept
 
-appends_after : (bytes : List ℕ) (a b c : Option (List ℕ)) → Keeps a b → Appends bytes b c → Appends bytes a c
+pub appends_after : (bytes : List ℕ) (a b c : Option (List ℕ)) → Keeps a b → Appends bytes b c → Appends bytes a c
 appends_after bytes a b c kept appends = appends_then [] bytes a b c (kept_appends a b kept) appends
 
-whole_after : {taken : List ℕ} {a b : Option (List ℕ)} (c : Option (List ℕ)) → Keeps a b → EndsWhole taken b c → EndsWhole taken a c
+pub whole_after : {taken : List ℕ} {a b : Option (List ℕ)} (c : Option (List ℕ)) → Keeps a b → EndsWhole taken b c → EndsWhole taken a c
 whole_after {taken = taken} {a = a} {b = b} c kept whole = record { takes = takes_after taken a b c kept whole.takes; end = whole.end; few = whole.few }
 
 of_taken_after : {taken : List ℕ} (commands : List Command) {a b : Option (List ℕ)} (c : Option (List ℕ)) → Keeps a b → AreOfTaken taken commands b c → AreOfTaken taken commands a c
@@ -152,7 +152,7 @@ nothing_after : (taken : List ℕ) (a b c : Option (List ℕ)) → Keeps a b →
 nothing_after taken a b None kept takes (told, same) = absurd (false≢true told)
 nothing_after taken a b (Some left) kept takes (told, same) = (told, same ∙ subst (λ (o : Option (List ℕ)). Keeps a o) takes kept ∙ sym takes)
 
-few_nothing : (a b : Option (List ℕ)) → Keeps a b → TakesFew a b
+pub few_nothing : (a b : Option (List ℕ)) → Keeps a b → TakesFew a b
 few_nothing a b kept = record { taken = []; few = (let e : 0 ≤ most_input = omega arith in e); takes = takes_after [] a b b kept (takes_nothing b) }
 
 ends_after : (status : Status) (turns : List Turn) (taken : List ℕ) (a b c : Beside) → Keeps a.input b.input → Keeps a.output b.output → EndsServing turns taken status b c →
@@ -171,10 +171,10 @@ ends_after Refused turns taken a b c input output ends = absurd ends
 module _ {D : Type 0} {d : Ghosts D} where
   -- No count fell:
 
-  none_goes : {a : D} → IsLater d a a
+  pub none_goes : {a : D} → IsLater d a a
   none_goes = record { told = λ told. told; counts = record { read = omega arith; written = omega arith }; faults_later = omega arith }
 
-  goes_then : {a b c : D} → IsLater d a b → IsLater d b c → IsLater d a c
+  pub goes_then : {a b c : D} → IsLater d a b → IsLater d b c → IsLater d a c
   goes_then {a = a} {b = b} {c = c} first second = record {
     told = λ told. first.told (second.told told);
     counts = record {
@@ -184,14 +184,14 @@ module _ {D : Type 0} {d : Ghosts D} where
     faults_later = let x : d.faults a ≤ d.faults b = first.faults_later in let y : d.faults b ≤ d.faults c = second.faults_later in omega arith;
   }
 
-  takes_goes : {a b : D} → TakesNone d a b → IsLater d a b
+  pub takes_goes : {a b : D} → TakesNone d a b → IsLater d a b
   takes_goes {a = a} {b = b} takes = record {
     told = takes.told;
     counts = record { read = (let same : (d.beside b).in_faults ≡ (d.beside a).in_faults = takes.in_faults_stay in omega arith); written = takes.out_faults_later };
     faults_later = takes.faults_later;
   }
 
-  leaves_goes : {a b : D} {P : Option (List ℕ) → Type 0} → LeavesAreas d a b P → IsLater d a b
+  pub leaves_goes : {a b : D} {P : Option (List ℕ) → Type 0} → LeavesAreas d a b P → IsLater d a b
   leaves_goes {a = a} {b = b} leaves = record {
     told = told_at_first (d.contents a) (d.contents b) leaves.contents_stay;
     counts = record { read = leaves.in_faults_later; written = leaves.out_faults_later };
@@ -384,7 +384,7 @@ module _ {D : Type 0} {d : Ghosts D} where
         emptied = λ is. (last is).1;
       }
 
-  stopped_ends : {first now : D} (status : Status) (next : D) → IsLater d first now → IsUnanswered d status now next → IsEnded d status first next
+  pub stopped_ends : {first now : D} (status : Status) (next : D) → IsLater d first now → IsUnanswered d status now next → IsEnded d status first next
   stopped_ends {first = first} {now = now} DiskFault next goes rose = rose_since (d.faults first) (d.faults now) (d.faults next) goes.faults_later rose
   stopped_ends {first = first} {now = now} WriteFault next goes rose = rose_since (d.beside first).out_faults (d.beside now).out_faults (d.beside next).out_faults goes.counts.written rose
   stopped_ends NoMemory next goes stopped = tt
@@ -535,13 +535,13 @@ module _ {D : Type 0} {d : Ghosts D} where
 
   -- A run over the store that was opened:
 
-  counts_still : {a b : D} → IsStill d a b → CountsGrow (d.beside a) (d.beside b)
+  pub counts_still : {a b : D} → IsStill d a b → CountsGrow (d.beside a) (d.beside b)
   counts_still {a = a} {b = b} still = record {
     read = let same : (d.beside b).in_faults ≡ (d.beside a).in_faults = still.beside_stays.in_faults in omega arith;
     written = let same : (d.beside b).out_faults ≡ (d.beside a).out_faults = still.beside_stays.out_faults in omega arith;
   }
 
-  still_goes : {a b : D} → IsStill d a b → IsLater d a b
+  pub still_goes : {a b : D} → IsStill d a b → IsLater d a b
   still_goes {a = a} {b = b} still = record {
     told = subst (λ (o : Option Image). IsSome o → IsSome (d.contents a)) (sym still.contents_stay) (λ told. told);
     counts = counts_still still;
@@ -549,7 +549,7 @@ module _ {D : Type 0} {d : Ghosts D} where
   }
 
   -- each image of a disk with one image that is a state is of that state
-  still_image : {a : D} {was : Image} {state : State} → IsSettled d a was → Recovers was (Some state) → (s : Stood) → d.may_leave a s.image → Recovers s.image (Some state)
+  pub still_image : {a : D} {was : Image} {state : State} → IsSettled d a was → Recovers was (Some state) → (s : Stood) → d.may_leave a s.image → Recovers s.image (Some state)
   still_image {state = state} settled recovers s left = subst (λ (i : Image). Recovers i (Some state)) (sym (settled.only s.image left)) recovers
 
   opened_from : {a b c : D} {was : Image} {state : State} (status : Status) → IsStill d a b → IsSettled d a was → Recovers was (Some state) → ServesFrom d state status b c → ServesFrom d state status a c
@@ -598,7 +598,7 @@ module _ {D : Type 0} {d : Ghosts D} where
   opened_cause Refused still opens talk cause = absurd cause
 
   -- what the store holds is what the pages of the image hold
-  opened_held : {b : D} {begun : Store} {state : State} {was : Image} {held : Held} (at : IsAt d begun b state) → IsSettled d b was → Holds (replay was) held → at.held ≡ held
+  pub opened_held : {b : D} {begun : Store} {state : State} {was : Image} {held : Held} (at : IsAt d begun b state) → IsSettled d b was → Holds (replay was) held → at.held ≡ held
   opened_held {begun = begun} {was = was} {held = held} at settled holds =
       let keeps = (at.stands).keeps in
       let same : keeps.image ≡ was = same_some (sym ((keeps.step).settled).here ∙ settled.here) in
@@ -644,7 +644,7 @@ module _ {D : Type 0} {d : Ghosts D} where
 module _ {D : Type 0} (d : Ghosts D) (a b : D) where
   -- A store wasn't opened:
 
-  unopened_short : (was : Image) (state : State) (e : EngineError) → NotOpened d e a b → IsSettled d a was → Recovers was (Some state) → StopsShort (status_of_engine e)
+  pub unopened_short : (was : Image) (state : State) (e : EngineError) → NotOpened d e a b → IsSettled d a was → Recovers was (Some state) → StopsShort (status_of_engine e)
   unopened_short was state engine.Disk why settled recovers = tt
   unopened_short was state engine.Memory why settled recovers = tt
   unopened_short was state engine.NotAStore why settled recovers = absurd (why was settled (serving_together.header was state recovers))
@@ -653,7 +653,7 @@ module _ {D : Type 0} (d : Ghosts D) (a b : D) where
   unopened_short was state engine.Write why settled recovers = absurd why
   unopened_short was state engine.Ended why settled recovers = absurd why
 
-  unopened_cause : (e : EngineError) → NotOpened d e a b → IsCaused d (status_of_engine e) a b
+  pub unopened_cause : (e : EngineError) → NotOpened d e a b → IsCaused d (status_of_engine e) a b
   unopened_cause engine.Disk why = why
   unopened_cause engine.Memory why = tt
   unopened_cause engine.NotAStore why = why

@@ -1,19 +1,18 @@
 -- Generated commands over a store: turns that are had of them, what came of them, and how such a run ends.
-use Rattle.std.proofs.Common.{◌≡◌, ◌⊎◌, ◌↔◌, inl, inr, ℕ, suc, ◌+◌, ◌<◌, ◌≤◌, Bool, true, false, cond, if◌then◌else◌, List, [], ◌∷◌, ◌++◌, map, length, Option, None, Some, IsSome, Result, Ok, Err, IfErr, refl, sym, ap, ◌∙◌, subst, arith, append_assoc, append-nil, length-append}
+use Rattle.std.proofs.Common.{◌≡◌, ◌⊎◌, inl, inr, ℕ, ◌+◌, ◌≤◌, Bool, true, false, cond, if◌then◌else◌, List, [], ◌∷◌, ◌++◌, map, length, Option, None, Some, IsSome, Result, Ok, Err, IfErr, refl, sym, ap, ◌∙◌, subst, arith, append_assoc, append-nil, length-append}
 use Rattle.std.specs.Prelude.{MatchOption}
 use Rattle.std.specs.Option.{option_map, option_map_or, unwrap_or}
 use Rattle.std.specs.Ordering.{is_eq}
 use Rattle.std.specs.List.{count_by}
-use Rattle.std.specs.FinMap.{find, get, entries, get-entries}
+use Rattle.std.specs.FinMap.{find, entries, get-entries}
 use Rattle.std.proofs.lemmas.Bool.{false≢true}
-use Rattle.std.proofs.lemmas.List.{length-map}
 use Rattle.std.proofs.lemmas.List.Sums.{sum_by_push, count_by-le-length}
 use Rattle.std.proofs.lemmas.Map.Text.{is_eq-slice_cmp}
 use Rattle.nx_host.specs.declared.disk.Disk.{Ghosts}
-use Rattle.nx_host.specs.Disk.{Image, Beside, Keeps, Rose}
+use Rattle.nx_host.specs.Disk.{Image, Beside, Keeps}
 use Rattle.nx_host.specs.Host.{Appends, AppendsPrefix}
 use Rattle.nx_host.specs.Input.{most_input}
-use Rattle.nx_host.specs.Time.{Stood, Elapses, none_elapsed, elapsed_then, elapsed_weaker}
+use Rattle.nx_host.specs.Time.{Elapses, none_elapsed, elapsed_then, elapsed_weaker}
 use Rattle.nx_host.specs.Still.{IsStill, WritesAlone, IsSettled}
 use Rattle.nx_host.specs.Phase.{GivesAlone}
 use Rattle.nx_host.proofs.DiskLemmas.{keeps_self, keeps_then, none_written, written_alone_then}
@@ -48,7 +47,7 @@ use Rattle.nx_front.specs.Turns.{Turn, IsRun, state_after, commands_of, replies_
 use Rattle.nx_front.specs.Serving.{LeavesMoments, EndsWell, EndsWithoutHeader}
 use Rattle.nx_front.specs.Conversation.{IsUnanswered, status_of_engine}
 use Rattle.nx_front.specs.Init.{exists_line, SaysLine, IsUntroubled}
-use Rattle.nx_front.specs.Generating.{generated, is_refused, text_size, summary_text, summary_of, ShowsGenerating, EndsGenerating, GeneratesFrom, EndsFinding, FindsGenerated, GeneratesIn, IsGenerationCaused, Generates, EndsRefusing, CompletesGenerating}
+use Rattle.nx_front.specs.Generating.{generated, is_refused, text_size, summary_text, ShowsGenerating, EndsGenerating, GeneratesFrom, EndsFinding, FindsGenerated, GeneratesIn, IsGenerationCaused, Generates, EndsRefusing, CompletesGenerating}
 use Rattle.nx_front.specs.Carrying.{listed_nodes, exported_size, HasTurned, IsCarrying, HasCarried, CarriesOut, CutsShort, CarriesSome, StopsCarrying}
 use Rattle.nx_front.proofs.InitLemmas.{line_told}
 use Rattle.nx_front.proofs.ServingLaws.{serving_together}

@@ -11,3 +11,6 @@ pub mod GeneratingLemmas
 pub mod CheckingLemmas
 pub mod TopLemmas
 pub mod SessionLemmas
+pub mod FindingLaws
+pub mod SearchingLemmas
+pub mod FindingLemmas

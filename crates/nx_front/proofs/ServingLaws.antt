@@ -14,7 +14,7 @@ use Rattle.nx_filters.proofs.OutcomeLemmas.{not_too_much}
 
 module _ {D : Type 0} {d : Ghosts D} {a b : D} where
   -- a run over a store in some state where all is well
-  ends_well : (status : Status) (was : Image) (input : List ℕ) → IsCalm d was input a b → IsCaused d status a b →
+  pub ends_well : (status : Status) (was : Image) (input : List ℕ) → IsCalm d was input a b → IsCaused d status a b →
       ((status ≡ NotAStore → ⊥) × ((page : ℕ) → status ≡ Damaged page → ⊥)) → EndsWell status
   ends_well Done was input calm cause store = tt
   ends_well NoMemory was input calm cause store = tt
@@ -29,7 +29,7 @@ module _ {D : Type 0} {d : Ghosts D} {a b : D} where
   ends_well Refused was input calm cause store = cause
 
   -- ... and over a disk without a header
-  finds_none : (status : Status) (was : Image) (input : List ℕ) → IsCalm d was input a b → IsCaused d status a b → EndsWithoutHeader status → (status ≡ NotAStore) ⊎ (status ≡ NoMemory)
+  pub finds_none : (status : Status) (was : Image) (input : List ℕ) → IsCalm d was input a b → IsCaused d status a b → EndsWithoutHeader status → (status ≡ NotAStore) ⊎ (status ≡ NoMemory)
   finds_none NotAStore was input calm cause none = inl refl
   finds_none NoMemory was input calm cause none = inr refl
   finds_none DiskFault was input calm cause none = absurd (calm.disk cause)

@@ -5,7 +5,7 @@ use Rattle.std.proofs.lemmas.List.{map-append, take-append-drop, length-take}
 use Rattle.nx_host.specs.declared.disk.Disk.{Ghosts}
 use Rattle.nx_host.specs.Disk.{Image, Keeps}
 use Rattle.nx_host.specs.Host.{Takes, Appends}
-use Rattle.nx_host.specs.Time.{Stood, Elapses}
+use Rattle.nx_host.specs.Time.{Stood, Elapses, elapsed_weaker}
 use Rattle.nx_host.proofs.DiskLemmas.{keeps_self}
 use Rattle.nx_host.proofs.OutputLemmas.{appends_nothing}
 use Rattle.nx_replay.specs.Log.{Pages, HasSame, replay}
@@ -25,11 +25,12 @@ use Rattle.nx_filters.specs.declared.status.Status.{Status}
 use Rattle.nx_filters.specs.declared.status.Status.TheVariants.{Done, Usage, Refused, DiskFault, ReadFault, WriteFault, NoMemory, NotAStore, Damaged, TooMuch}
 use Rattle.nx_filters.specs.Outcome.{Meaning, RunsBeside}
 use Rattle.nx_front.specs.declared.words.CommandLine.{CommandLine}
-use Rattle.nx_front.specs.declared.words.CommandLine.TheVariants.{Tidy, Run, Plan, Verify, Init, Gen, Check}
+use Rattle.nx_front.specs.declared.words.CommandLine.TheVariants.{Tidy, Run, Plan, Verify, Init, Gen, Check, Find}
 use Rattle.nx_front.specs.Turns.{Turn, IsRun, state_after, commands_of}
 use Rattle.nx_front.specs.Serving.{ServesFrom, AreFirst, AreWholeReplies, IsMoment}
 use Rattle.nx_front.specs.Generating.{generated, GeneratesFrom, FindsGenerated}
 use Rattle.nx_front.specs.Checking.{Checks}
+use Rattle.nx_front.specs.Finding.{Finds}
 use Rattle.nx_front.specs.Init.{HasPage, IsOldOrNew, Initializes, MakesStore, GivesUp}
 use Rattle.nx_front.specs.Run.{IsCarriedOut}
 use Rattle.nx_front.specs.Sessions.{Session, BeginInput, HasAnswered, HasGenerated, HasMade, LeadsFrom, LeadsFromNone, Leads, SessionsLead}
@@ -269,6 +270,10 @@ module _ {D : Type 0} {d : Ghosts D} where
     | inr (why, still) ↦ same_held session held recovers (stays clock session still.time)
   ]
 
+  find_stays : HasClock d → (session : Session d) (held : Option State) → Recovers session.opened held → Finds d session.status session.before session.after →
+      Went session (λ next. next ≡ held)
+  find_stays clock session held recovers finds = same_held session held recovers (stays {P = λ s. Unit {0}} clock session (elapsed_weaker finds.time (λ s h. (tt, h))))
+
   from_state : HasClock d → (line : CommandLine) (session : Session d) (state : State) → Recovers session.opened (Some state) →
       IsCarriedOut d line session.status session.before session.after → Went session (LeadsFrom line session state)
   from_state clock Tidy session state recovers carried = beside_stays clock session (Some state) recovers carried
@@ -279,6 +284,7 @@ module _ {D : Type 0} {d : Ghosts D} where
   from_state clock (Gen seed n) session state recovers carried =
       generated_from clock (commands seed n) session state recovers (generated state) (carried.from session.opened state session.settled session.told recovers)
   from_state clock Check session state recovers carried = check_stays clock session (Some state) recovers carried
+  from_state clock Find session state recovers carried = find_stays clock session (Some state) recovers carried
 
   from_none : HasClock d → (line : CommandLine) (session : Session d) → Recovers session.opened None →
       IsCarriedOut d line session.status session.before session.after → Went session (LeadsFromNone line session)
@@ -291,6 +297,7 @@ module _ {D : Type 0} {d : Ghosts D} where
   from_none clock (Gen seed n) session none carried =
       same_held session None none (stays clock session ((carried.no_header session.opened session.settled (no_header session.opened none)).1).time)
   from_none clock Check session none carried = check_stays clock session None none carried
+  from_none clock Find session none carried = find_stays clock session None none carried
 
   one_leads : HasClock d → (session : Session d) (held : Option State) → Recovers session.opened held → Went session (Leads session held)
   one_leads clock session None none = from_none clock session.line session none session.carried

@@ -10,7 +10,7 @@ use Rattle.nx_store.specs.declared.error.EngineError.TheVariants as engine
 use Rattle.nx_filters.specs.declared.status.Status.{Status}
 use Rattle.nx_filters.specs.declared.status.Status.TheVariants.{Done, Usage, Refused, DiskFault, ReadFault, WriteFault, NoMemory, NotAStore, Damaged, TooMuch}
 use Rattle.nx_front.specs.declared.words.CommandLine.{CommandLine}
-use Rattle.nx_front.specs.declared.words.CommandLine.TheVariants.{Tidy, Run, Plan, Verify, Init, Gen, Check}
+use Rattle.nx_front.specs.declared.words.CommandLine.TheVariants.{Tidy, Run, Plan, Verify, Init, Gen, Check, Find}
 use Rattle.nx_filters.specs.Outcome.{Meaning, RunsBeside, TakesFew, CountsGrow, Completes, HoldsTogether}
 use Rattle.nx_front.specs.Run.{IsCarriedOut, CompletesInput, IsCompleted, IsCoherent, AnswersAgree}
 use Rattle.nx_filters.specs.Plan.{IsLightInput, plan}
@@ -24,6 +24,8 @@ use Rattle.nx_filters.proofs.PlanLemmas.{plan_together, equal_plans, light_exclu
 use Rattle.nx_filters.proofs.VerifyLemmas.{verify_together, verify_once, excludes}
 use Rattle.nx_front.proofs.GeneratingLemmas.{generates_unopened, generating_bounded, generating_completes, generating_counts, generating_not_usage}
 use Rattle.nx_front.proofs.CheckingLemmas.{checks_nothing, check_completes, check_not_usage, check_together, verdicts_agree}
+use Rattle.nx_front.proofs.FindingLaws.{finding_completes, one_answer}
+use Rattle.nx_front.proofs.FindingLemmas.{finds_unopened}
 use Rattle.nx_front.proofs.InitLemmas.{finds_no_memory, init_completes, init_not_usage, init_together, holds_nothing}
 
 -- Nothing is done:
@@ -58,6 +60,7 @@ module _ {D : Type 0} (d : Ghosts D) (a : D) where
   starved (Init settings) clock = finds_no_memory settings none_still
   starved (Gen seed n) clock = generates_unopened seed n engine.Memory clock none_still tt
   starved Check clock = checks_nothing NoMemory none_still tt
+  starved Find clock = finds_unopened d a a engine.Memory none_still tt (λ was settled. record { sound = λ held holds. omega arith; no_header = λ none. omega arith })
 
 module _ {D : Type 0} (d : Ghosts D) (a b : D) where
   -- the same command line
@@ -73,6 +76,7 @@ module _ {D : Type 0} (d : Ghosts D) (a b : D) where
   carried_bounded (Init settings) status carried = record { taken = []; few = (let e : 0 ≤ most_input = omega arith in e); takes = carried.input_stays }
   carried_bounded (Gen seed n) status carried = generating_bounded seed n status carried
   carried_bounded Check status carried = record { taken = []; few = (let e : 0 ≤ most_input = omega arith in e); takes = (carried.takes).input_stays }
+  carried_bounded Find status carried = carried.bounded
 
   beside_counts : {m : Meaning} (status : Status) → RunsBeside d m status a b → CountsGrow (d.beside a) (d.beside b) × (d.faults a ≤ d.faults b)
   beside_counts status runs = (runs.run.counts, let same : d.faults b ≡ d.faults a = runs.disk.faults_stay in omega (arith, same))
@@ -90,6 +94,7 @@ module _ {D : Type 0} (d : Ghosts D) (a b : D) where
     record { read = (let same : (d.beside b).in_faults ≡ (d.beside a).in_faults = (carried.takes).in_faults_stay in omega (arith, same)); written = (carried.takes).out_faults_later },
     (carried.takes).faults_later,
   )
+  carried_counts Find status carried = (carried.counts, carried.faults_later)
 
   beside_completes : {m : Meaning} (status : Status) → HoldsTogether m → RunsBeside d m status a b → CompletesInput m status (d.beside a) (d.beside b)
   beside_completes status together runs input calm = completes together runs.run.outcome status input (d.beside a) (d.beside b) runs.run.ends calm
@@ -103,6 +108,7 @@ module _ {D : Type 0} (d : Ghosts D) (a b : D) where
   carried_completes (Init settings) status carried = λ was calm. init_completes settings status was carried calm
   carried_completes (Gen seed n) status carried = generating_completes seed n status carried
   carried_completes Check status carried = check_completes status carried
+  carried_completes Find status carried = finding_completes status carried
 
   -- a command line isn't answered by how it is to be written
   carried_usage : (line : CommandLine) → IsCarriedOut d line Usage a b → ⊥
@@ -113,6 +119,7 @@ module _ {D : Type 0} (d : Ghosts D) (a b : D) where
   carried_usage (Init settings) carried = init_not_usage settings carried
   carried_usage (Gen seed n) carried = generating_not_usage seed n carried
   carried_usage Check carried = check_not_usage carried
+  carried_usage Find carried = carried.cause
 
   -- nor does it end so
   pub not_usage : (line : CommandLine) (status : Status) → IsCarriedOut d line status a b → status ≡ Usage → ⊥
@@ -159,6 +166,7 @@ together (Verify k) = verify_together k
 together (Init settings) = init_together settings
 together (Gen seed n) = serving_together
 together Check = check_together
+together Find = serving_together
 
 -- how the answers of each input go together
 pub agrees : (line : CommandLine) → AnswersAgree line
@@ -169,3 +177,4 @@ agrees (Verify k) = verify_once k
 agrees (Init settings) = holds_nothing settings
 agrees (Gen seed n) = tt
 agrees Check = verdicts_agree
+agrees Find = one_answer

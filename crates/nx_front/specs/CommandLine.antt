@@ -5,7 +5,7 @@ use Rattle.std.specs.Option.{option_map}
 use Rattle.nx_pyx.specs.Field.{is_position, value_of}
 use Rattle.nx_records.specs.Words.{most_pages, Settings, AreSettings}
 use Rattle.nx_front.specs.declared.words.CommandLine.{CommandLine}
-use Rattle.nx_front.specs.declared.words.CommandLine.TheVariants.{Tidy, Run, Plan, Verify, Init, Gen, Check}
+use Rattle.nx_front.specs.declared.words.CommandLine.TheVariants.{Tidy, Run, Plan, Verify, Init, Gen, Check, Find}
 
 -- a word that may name a store: it isn't empty, and doesn't begin with a hyphen
 abbrev pub is_store : List ℕ → Bool
@@ -62,12 +62,13 @@ settings_said (k ∷ target ∷ tolerance ∷ limit ∷ []) =
     else None
 settings_said _ = None
 
--- a store and `tidy`, whatever the store, or a store that is used and `run` or `check`
+-- a store and `tidy`, whatever the store, or a store that is used and `run`, `check` or `find`
 abbrev pub command_of_two : List ℕ → List ℕ → Option CommandLine
 command_of_two store command =
     if is_store store && bytes_eq command (codes "tidy") then Some Tidy
     else if is_named_store store && bytes_eq command (codes "run") then Some Run
     else if is_named_store store && bytes_eq command (codes "check") then Some Check
+    else if is_named_store store && bytes_eq command (codes "find") then Some Find
     else None
 
 -- a store and `plan` or `verify`, whatever the store, and what a part weighs at most

@@ -9,3 +9,7 @@ pub mod Run
 pub mod Generating
 pub mod Carrying
 pub mod Sessions
+pub mod Finding
+pub mod Gathered
+pub mod Searching
+pub mod Questions

@@ -4,7 +4,7 @@ use Rattle.nx_host.specs.declared.disk.Disk.{Ghosts}
 use Rattle.nx_host.specs.Disk.{Image, Beside}
 use Rattle.nx_filters.specs.declared.status.Status.{Status}
 use Rattle.nx_front.specs.declared.words.CommandLine.{CommandLine}
-use Rattle.nx_front.specs.declared.words.CommandLine.TheVariants.{Tidy, Run, Plan, Verify, Init, Gen, Check}
+use Rattle.nx_front.specs.declared.words.CommandLine.TheVariants.{Tidy, Run, Plan, Verify, Init, Gen, Check, Find}
 use Rattle.nx_filters.specs.Outcome.{Meaning, HasOneText, RunsBeside, HoldsTogether, IsUndisturbed, Completes}
 use Rattle.nx_filters.specs.Tidy.{tidy}
 use Rattle.nx_front.specs.Serving.{Serves, CompletesServing, ServingHoldsTogether, HasOneScript}
@@ -12,6 +12,7 @@ use Rattle.nx_filters.specs.Plan.{plan, HasEqualPlans}
 use Rattle.nx_filters.specs.Verify.{verify}
 use Rattle.nx_front.specs.Generating.{Generates, CompletesGenerating}
 use Rattle.nx_front.specs.Checking.{Checks, CompletesChecking, CheckHoldsTogether, VerdictsAgree}
+use Rattle.nx_front.specs.Finding.{Finds, HasOneAnswer}
 use Rattle.nx_front.specs.Init.{Initializes, IsUntroubled, CompletesInit, InitHoldsTogether, HoldsNothing}
 
 -- how a command line is carried out
@@ -23,6 +24,7 @@ IsCarriedOut d (Verify k) status old new = RunsBeside d (verify k) status old ne
 IsCarriedOut d (Init settings) status old new = Initializes d settings status old new
 IsCarriedOut d (Gen seed n) status old new = Generates d seed n status old new
 IsCarriedOut d Check status old new = Checks d status old new
+IsCarriedOut d Find status old new = Finds d status old new
 
 -- a run over an input that nothing disturbs ends with what that has
 abbrev pub CompletesInput : Meaning → Status → Beside → Beside → Type 0
@@ -37,6 +39,7 @@ IsCompleted d (Verify k) status old new = CompletesInput (verify k) status (d.be
 IsCompleted d (Init settings) status old new = (was : Image) → IsUntroubled d was old new → CompletesInit was status
 IsCompleted d (Gen seed n) status old new = CompletesGenerating d status old new
 IsCompleted d Check status old new = CompletesChecking d status old new
+IsCompleted d Find status old new = CompletesServing d status old new
 
 -- what is said of an input, or of a disk, holds together
 abbrev pub IsCoherent : CommandLine → Type 0
@@ -47,9 +50,10 @@ IsCoherent (Verify k) = HoldsTogether (verify k)
 IsCoherent (Init settings) = InitHoldsTogether settings
 IsCoherent (Gen seed n) = ServingHoldsTogether
 IsCoherent Check = CheckHoldsTogether
+IsCoherent Find = ServingHoldsTogether
 
 -- how the answers of an input go together: they have one text, but those of `plan` are only as good as each other; those of `run` are of one list of commands; a new store holds one thing;
--- pages have one verdict; and of `gen` nothing is said, which takes no input
+-- pages have one verdict; lines have one text of replies, from a state; and of `gen` nothing is said, which takes no input
 abbrev pub AnswersAgree : CommandLine → Type 0
 AnswersAgree Tidy = HasOneText tidy
 AnswersAgree Run = HasOneScript
@@ -58,3 +62,4 @@ AnswersAgree (Verify k) = HasOneText (verify k)
 AnswersAgree (Init settings) = HoldsNothing settings
 AnswersAgree (Gen seed n) = Unit {0}
 AnswersAgree Check = VerdictsAgree
+AnswersAgree Find = HasOneAnswer

@@ -2,9 +2,12 @@
 #![tactic(auto)]
 
 mod check;
+mod find;
+mod gathered;
 mod generate;
 mod init;
 pub mod laws;
+mod question;
 mod serve;
 mod top;
 mod words;

@@ -9,6 +9,7 @@ ghost use Rattle.nx_front.specs.declared.words.CommandLine.{CommandLine};
 ghost use Rattle.nx_front.specs.declared.words.CommandLine.TheVariants.{Plan, Verify};
 
 use crate::check::check;
+use crate::find::answer_questions;
 use crate::generate::generate;
 use crate::init::init;
 use crate::serve::serve;
@@ -46,6 +47,9 @@ use std::alloc::Global;
 ///
 /// `STORE check`, where STORE isn't `_`, gives the line `sound` where the pages of the disk stand for a state, and else `wrong PAGE RULE`, the first
 /// rule that they break and the page to blame. It takes no input, and writes nothing to the disk.
+///
+/// `STORE find`, where STORE isn't `_`, reads lines `find NAME STEPS`, and gives for each a line `at PATH` for each node that the steps reach in
+/// the document of that name, in document order, and a line `.`; or one line that refuses it. It writes nothing to the disk.
 pub fn run<H: Host>(alloc: Global, words: &Words, host: &mut H) -> Status
     // For those that read an input and keep nothing there is one outcome, for `run` over a store one run. Why the run ends so, what it has taken by then, and what it has given
     // of that outcome's text, then and at every moment; what it leaves of the disk.
@@ -85,5 +89,6 @@ fn carry_out<H: Host>(alloc: Global, line: CommandLine, host: &mut H) -> Status
         CommandLine::Init(settings) => init(alloc, host, settings),
         CommandLine::Gen(seed, n) => generate(alloc, host, seed, n),
         CommandLine::Check => check(alloc, host),
+        CommandLine::Find => answer_questions(alloc, host),
     }
 }

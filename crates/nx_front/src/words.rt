@@ -36,6 +36,8 @@ pub enum CommandLine {
     Gen(u32, u32),
     // A store's pages are checked.
     Check,
+    // Questions for nodes by name are answered over a store.
+    Find,
 }
 
 // The command line that the words are, if they are one.
@@ -170,6 +172,8 @@ fn command_of_two(store: &str, command: &str) -> Option<CommandLine>
         Some(CommandLine::Run)
     } else if is_named_store(store) && command == "check" {
         Some(CommandLine::Check)
+    } else if is_named_store(store) && command == "find" {
+        Some(CommandLine::Find)
     } else {
         None
     }
