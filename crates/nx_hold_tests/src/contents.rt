@@ -1,10 +1,8 @@
 // Contents of nodes, near and far, on both sides of each limit.
 use crate::made::made_far;
-use crate::pages::free_pages;
-use crate::stores::{LIMIT, Store, empty_host};
+use crate::stores::{ALL_FREE, Store, place_of};
 use nx_lists::NoMemory;
-use nx_memory::MemoryHost;
-use nx_piece::{Far, Item, Items, PieceTree};
+use nx_piece::{Far, Item, Items, PieceTree, Proxy};
 use nx_records::{Rid, StoreError};
 use nx_tree::{Bytes, Kind, Node};
 use std::alloc::Global;
@@ -12,6 +10,9 @@ use std::process::Abort;
 use std::test::Fail;
 
 const LENGTHS: [u32; 9] = [0, 1, 1_024, 1_025, 8_184, 8_185, 16_368, 16_369, 100_000];
+
+// As many bytes as the chain pages of an empty store can have.
+const MOST: u32 = ALL_FREE * 8_184;
 
 // Bytes that differ from one chain page to the next.
 fn bytes_of(alloc: Global, length: u32) -> Result<Bytes, NoMemory> {
@@ -22,14 +23,26 @@ fn bytes_of(alloc: Global, length: u32) -> Result<Bytes, NoMemory> {
     Ok(bytes)
 }
 
-// A text of so many bytes, as a piece has it.
-fn held(
+fn check_bytes(rt: &impl Abort, found: &[u8], expected: &[u8]) {
+    assert_eq!(rt; found, expected);
+}
+
+// The content of the text has so many of them.
+fn check_content(
     rt: &impl Abort,
-    alloc: Global,
-    host: &mut MemoryHost,
     store: &mut Store,
+    text: &PieceTree,
     length: u32,
-) -> Result<PieceTree, StoreError> {
+) -> Result<(), Fail> {
+    let found = store.content(text)?;
+    let expected = bytes_of(store.alloc(), length)?;
+    check_bytes(rt, found.as_slice(), expected.as_slice());
+    Ok(())
+}
+
+// A text of so many bytes, as a piece has it.
+fn held(rt: &impl Abort, store: &mut Store, length: u32) -> Result<PieceTree, StoreError> {
+    let alloc = store.alloc();
     let Ok(content) = bytes_of(alloc, length) else {
         return Err(StoreError::Memory);
     };
@@ -39,11 +52,11 @@ fn held(
         name: Bytes::new(alloc),
         content,
     };
-    store.hold(alloc, host, node)
+    store.hold(node)
 }
 
 // A text whose content is this list.
-fn text_of(alloc: Global, far: Far) -> PieceTree {
+fn far_text(alloc: Global, far: Far) -> PieceTree {
     PieceTree {
         node: Node {
             kind: Kind::Text,
@@ -55,143 +68,177 @@ fn text_of(alloc: Global, far: Far) -> PieceTree {
     }
 }
 
-// The list that the text of the piece at the place names.
-fn named(
-    rt: &impl Abort,
-    alloc: Global,
-    host: &mut MemoryHost,
-    store: &mut Store,
-    place: Rid,
-) -> Result<Option<Far>, StoreError> {
-    let piece = store.read(alloc, host, place)?;
-    let [root] = piece.body.roots.as_slice() else {
+// The list of a text that has one.
+fn far_of(rt: &impl Abort, text: &PieceTree) -> Far {
+    let Some(far) = text.far else {
+        panic!(rt; "a long content is near");
+    };
+    assert!(rt; text.node.content.is_empty());
+    far
+}
+
+// The text below the root.
+fn text_below<'a>(rt: &impl Abort, roots: &'a [PieceTree]) -> &'a PieceTree {
+    let [root] = roots else {
         panic!(rt; "there is not one root");
     };
     let [Item::Tree(text)] = root.children.as_slice() else {
         panic!(rt; "there is not one text");
     };
-    assert!(rt; text.node.content.is_empty());
-    Ok(text.far)
+    text
+}
+
+// The text of the piece at the place names this list.
+fn check_named(rt: &impl Abort, store: &mut Store, place: Rid, far: Far) -> Result<(), StoreError> {
+    let piece = store.read(place)?;
+    let text = text_below(rt, piece.body.roots.as_slice());
+    assert_eq!(rt; far_of(rt, text), far);
+    Ok(())
+}
+
+// A piece whose text names this list is added.
+fn add(rt: &impl Abort, store: &mut Store, far: Far) -> Result<Proxy, StoreError> {
+    match made_far(rt, store.alloc(), far) {
+        Ok(piece) => store.add(&piece),
+        Err(_) => Err(StoreError::Memory),
+    }
+}
+
+// It comes in the place of the one there.
+fn update(rt: &impl Abort, store: &mut Store, place: Rid, far: Far) -> Result<Proxy, StoreError> {
+    match made_far(rt, store.alloc(), far) {
+        Ok(piece) => store.update(place, &piece),
+        Err(_) => Err(StoreError::Memory),
+    }
+}
+
+// Takes the piece at the place away, whose text names this list.
+fn take(rt: &impl Abort, store: &mut Store, place: Rid, far: Far) -> Result<(), StoreError> {
+    let taken = store.take(place)?;
+    let [found] = taken.fars.as_slice() else {
+        panic!(rt; "there is not one list");
+    };
+    assert_eq!(rt; *found, far);
+    assert_eq!(rt; taken.nodes, 2);
+    Ok(())
 }
 
 // Puts the content into a piece and takes both away again, and looks at the free pages each time.
 fn put_and_take(
     rt: &impl Abort,
-    alloc: Global,
-    host: &mut MemoryHost,
     store: &mut Store,
     text: &PieceTree,
     far: Far,
 ) -> Result<(), Fail> {
-    let all = LIMIT - 2;
-    let proxy = store.add(alloc, host, &made_far(rt, alloc, far)?)?;
-    store.commit(rt, host)?;
-    let pages = far.length.div_ceil(8_184);
-    assert_eq!(rt;
-        free_pages(rt, alloc, host)?,
-        all.saturating_sub(1).saturating_sub(pages)
-    );
-    let place = Rid {
-        page: proxy.page,
-        slot: proxy.slot,
-    };
-    assert_eq!(rt; named(rt, alloc, host, store, place)?, Some(far));
-    let read = store.content(alloc, host, text)?;
-    assert_eq!(rt; read.as_slice(), bytes_of(alloc, far.length)?.as_slice());
-    let taken = store.take(alloc, host, place)?;
-    assert_eq!(rt; taken.fars.as_slice(), [far].as_slice());
-    assert_eq!(rt; taken.nodes, 2);
-    store.free(alloc, host, text)?;
-    store.commit(rt, host)?;
-    assert_eq!(rt; free_pages(rt, alloc, host)?, all);
-    Ok(())
+    let place = place_of(add(rt, store, far)?);
+    store.commit_with(
+        rt,
+        (ALL_FREE - 1).saturating_sub(far.length.div_ceil(8_184)),
+    )?;
+    check_named(rt, store, place, far)?;
+    check_content(rt, store, text, far.length)?;
+    take(rt, store, place, far)?;
+    store.free(text)?;
+    store.commit_with(rt, ALL_FREE)
+}
+
+// A content of that length comes back, from a list where it is long.
+fn check_length(rt: &impl Abort, store: &mut Store, length: u32) -> Result<(), Fail> {
+    let text = held(rt, store, length)?;
+    check_content(rt, store, &text, length)?;
+    if length <= 1_024 {
+        assert!(rt; text.far.is_none());
+        return Ok(());
+    }
+    let far = far_of(rt, &text);
+    assert_eq!(rt; far.length, length);
+    put_and_take(rt, store, &text, far)
 }
 
 #[test]
 fn contents_come_back(rt: HostRuntime) -> Result<(), Fail> {
-    let alloc = rt.alloc();
-    let mut host = empty_host(alloc)?;
-    let mut store = Store::create(alloc, &mut host)?;
+    let mut store = Store::create(rt.alloc())?;
     for length in LENGTHS {
-        let text = held(&rt, alloc, &mut host, &mut store, length)?;
-        assert_eq!(rt; text.far.is_some(), length > 1_024);
-        let read = store.content(alloc, &mut host, &text)?;
-        assert_eq!(rt; read.as_slice(), bytes_of(alloc, length)?.as_slice());
-        if let Some(far) = text.far {
-            assert_eq!(rt; far.length, length);
-            assert!(rt; text.node.content.is_empty());
-            put_and_take(&rt, alloc, &mut host, &mut store, &text, far)?;
-        }
+        check_length(&rt, &mut store, length)?;
     }
     Ok(())
 }
 
+// A piece that names the one list comes to name the other, where it stood.
+fn turn(rt: &impl Abort, store: &mut Store, first: Far, second: Far) -> Result<Rid, StoreError> {
+    let proxy = add(rt, store, first)?;
+    store.commit(rt)?;
+    let place = place_of(proxy);
+    assert_eq!(rt; update(rt, store, place, second)?, proxy);
+    Ok(place)
+}
+
+// The content that no piece names any more goes, and the other stays.
+fn check_two(
+    rt: &impl Abort,
+    store: &mut Store,
+    one: &PieceTree,
+    other: &PieceTree,
+) -> Result<(), Fail> {
+    let (first, second) = (far_of(rt, one), far_of(rt, other));
+    assert_ne!(rt; first.first, second.first);
+    let place = turn(rt, store, first, second)?;
+    store.free(one)?;
+    store.commit(rt)?;
+    check_named(rt, store, place, second)?;
+    check_content(rt, store, other, 3_000)
+}
+
+// A function of its own: where two texts would be dropped at each `?`, the proof takes minutes.
+fn check_second(rt: &impl Abort, store: &mut Store, one: &PieceTree) -> Result<(), Fail> {
+    let other = held(rt, store, 3_000)?;
+    check_two(rt, store, one, &other)
+}
+
 #[test]
 fn a_content_of_another_piece_stays(rt: HostRuntime) -> Result<(), Fail> {
-    let alloc = rt.alloc();
-    let mut host = empty_host(alloc)?;
-    let mut store = Store::create(alloc, &mut host)?;
-    let one = held(&rt, alloc, &mut host, &mut store, 20_000)?;
-    let other = held(&rt, alloc, &mut host, &mut store, 3_000)?;
-    let (Some(first), Some(second)) = (one.far, other.far) else {
-        panic!(rt; "a long content is near");
-    };
-    assert_ne!(rt; first.first, second.first);
-    let proxy = store.add(alloc, &mut host, &made_far(&rt, alloc, first)?)?;
-    store.commit(&rt, &mut host)?;
-    let place = Rid {
-        page: proxy.page,
-        slot: proxy.slot,
-    };
-    let again = store.update(alloc, &mut host, place, &made_far(&rt, alloc, second)?)?;
-    assert_eq!(rt; again, proxy);
-    store.free(alloc, &mut host, &one)?;
-    store.commit(&rt, &mut host)?;
-    assert_eq!(rt;
-        named(&rt, alloc, &mut host, &mut store, place)?,
-        Some(second)
-    );
-    let read = store.content(alloc, &mut host, &other)?;
-    assert_eq!(rt; read.as_slice(), bytes_of(alloc, 3_000)?.as_slice());
-    assert_eq!(rt; free_pages(&rt, alloc, &mut host)?, LIMIT - 4);
+    let mut store = Store::create(rt.alloc())?;
+    let one = held(&rt, &mut store, 20_000)?;
+    check_second(&rt, &mut store, &one)?;
+    assert_eq!(rt; store.free_pages(&rt)?, ALL_FREE - 2);
     Ok(())
+}
+
+// The list is answered as damaged at its first page, which ends the store.
+fn check_damaged(rt: &impl Abort, store: &mut Store, far: Far) {
+    let found = store.content(&far_text(store.alloc(), far));
+    let damaged = StoreError::Damaged { page: far.first };
+    assert!(rt; found.is_err_and(|error| error == damaged));
+    assert!(rt; store.is_ended());
 }
 
 // Of a list that is there, asked for with another length; and where none begins.
 #[test]
 fn another_length_is_damaged(rt: HostRuntime) -> Result<(), Fail> {
-    let alloc = rt.alloc();
     for (page, length) in [(0, 2_999), (0, 3_001), (0, 8_185), (1, 3_000)] {
-        let mut host = empty_host(alloc)?;
-        let mut store = Store::create(alloc, &mut host)?;
-        let text = held(&rt, alloc, &mut host, &mut store, 3_000)?;
-        let Some(far) = text.far else {
-            panic!(rt; "a long content is near");
-        };
+        let mut store = Store::create(rt.alloc())?;
+        let far = far_of(&rt, &held(&rt, &mut store, 3_000)?);
         let first = far.first.wrapping_add(page);
-        let wrong = text_of(alloc, Far { first, length });
-        let damaged = StoreError::Damaged { page: first };
-        assert!(rt;
-            store
-                .content(alloc, &mut host, &wrong)
-                .is_err_and(|error| error == damaged)
-        );
-        assert!(rt; store.is_ended());
+        check_damaged(&rt, &mut store, Far { first, length });
     }
     Ok(())
 }
 
+fn check_full(rt: &impl Abort, store: &mut Store, length: u32) {
+    let refused = held(rt, store, length);
+    assert!(rt; refused.is_err_and(|error| error == StoreError::Full));
+}
+
+// The longest that still fits.
+fn check_most(rt: &impl Abort, store: &mut Store, length: u32) -> Result<(), Fail> {
+    let text = held(rt, store, length)?;
+    assert!(rt; !store.has_free_page());
+    check_content(rt, store, &text, length)
+}
+
 #[test]
 fn full_comes_where_pages_lack(rt: HostRuntime) -> Result<(), Fail> {
-    let alloc = rt.alloc();
-    let mut host = empty_host(alloc)?;
-    let mut store = Store::create(alloc, &mut host)?;
-    let most = (LIMIT - 2) * 8_184;
-    let refused = held(&rt, alloc, &mut host, &mut store, most + 1);
-    assert!(rt; refused.is_err_and(|error| error == StoreError::Full));
-    let text = held(&rt, alloc, &mut host, &mut store, most)?;
-    assert!(rt; !store.has_free_page());
-    let read = store.content(alloc, &mut host, &text)?;
-    assert_eq!(rt; read.as_slice(), bytes_of(alloc, most)?.as_slice());
-    Ok(())
+    let mut store = Store::create(rt.alloc())?;
+    check_full(&rt, &mut store, MOST + 1);
+    check_most(&rt, &mut store, MOST)
 }

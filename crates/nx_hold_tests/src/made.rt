@@ -78,40 +78,65 @@ fn push_long(bytes: &mut Vec<u8>, number: u32) -> Result<(), NoMemory> {
 // The head and the items.
 fn nodes(alloc: Global, form: Form) -> Result<Vec<u8>, NoMemory> {
     let mut bytes = Vec::new(alloc);
+    push_nodes(&mut bytes, form)?;
+    Ok(bytes)
+}
+
+fn push_nodes(bytes: &mut Vec<u8>, form: Form) -> Result<(), NoMemory> {
     let runs = if form.proxies == 0 { 0 } else { 1 };
     let below = form.texts().saturating_add(runs);
-    bytes.push(if form.chain_pages() == 0 { 1 } else { 2 })?;
-    bytes.push(0)?;
-    push_short(&mut bytes, 1)?;
-    push_long(&mut bytes, u32::from(below).saturating_add(1))?;
-    push_long(&mut bytes, form.proxies)?;
-    push_long(&mut bytes, 0)?;
-    bytes.extend_from_slice(&[2, 0, 0, 0, 0, 0, 0, below])?;
+    push_head(bytes, form, below)?;
     for index in 0..form.texts() {
-        let slots = form.text_slots(index);
-        bytes.extend_from_slice(&[4, 0, 0, 0])?;
-        push_short(&mut bytes, u32::from(slots).saturating_mul(8))?;
-        push_short(&mut bytes, 0)?;
-        for _ in 0..slots {
-            bytes.extend_from_slice(b"contents")?;
-        }
+        push_text(bytes, form.text_slots(index))?;
     }
-    if form.proxies > 0 {
+    push_run(bytes, form.proxies)
+}
+
+// The head, and the item of an element over so many others.
+fn push_head(bytes: &mut Vec<u8>, form: Form, below: u8) -> Result<(), NoMemory> {
+    let kind = if form.chain_pages() == 0 { 1 } else { 2 };
+    bytes.extend_from_slice(&[kind, 0, 0, 1])?;
+    push_long(bytes, u32::from(below).saturating_add(1))?;
+    push_long(bytes, form.proxies)?;
+    push_long(bytes, 0)?;
+    bytes.extend_from_slice(&[2, 0, 0, 0, 0, 0, 0, below])?;
+    Ok(())
+}
+
+// A text with so many slots of content.
+fn push_text(bytes: &mut Vec<u8>, slots: u8) -> Result<(), NoMemory> {
+    bytes.extend_from_slice(&[4, 0, 0, 0])?;
+    push_short(bytes, u32::from(slots).saturating_mul(8))?;
+    push_short(bytes, 0)?;
+    for _ in 0..slots {
+        bytes.extend_from_slice(b"contents")?;
+    }
+    Ok(())
+}
+
+// A run of so many proxies, where there are any.
+fn push_run(bytes: &mut Vec<u8>, proxies: u32) -> Result<(), NoMemory> {
+    if proxies > 0 {
         bytes.extend_from_slice(&[6, 0, 0, 0])?;
-        push_long(&mut bytes, form.proxies)?;
+        push_long(bytes, proxies)?;
     }
-    Ok(bytes)
+    Ok(())
 }
 
 fn proxies(alloc: Global, form: Form) -> Result<Vec<u8>, NoMemory> {
     let mut bytes = Vec::new(alloc);
+    push_proxies(&mut bytes, form)?;
+    Ok(bytes)
+}
+
+fn push_proxies(bytes: &mut Vec<u8>, form: Form) -> Result<(), NoMemory> {
     for index in 0..form.proxies {
         let (page, slot, roots) = form.proxy(index);
-        push_long(&mut bytes, page)?;
-        push_short(&mut bytes, slot)?;
-        push_short(&mut bytes, roots)?;
+        push_long(bytes, page)?;
+        push_short(bytes, slot)?;
+        push_short(bytes, roots)?;
     }
-    Ok(bytes)
+    Ok(())
 }
 
 /// The piece of this form.
@@ -140,20 +165,33 @@ fn made_of(rt: &impl Abort, alloc: Global, form: Form, list: Vec<u8>) -> Result<
     ensures valid { IfOk result (λ piece. IsValidPiece piece) }
     ensures near { IfOk result (λ piece. AreNear piece.body.roots) }
 {
+    let record = record(alloc, form, list.as_slice())?;
+    Ok(near(rt, read(rt, alloc, record.as_slice(), list.as_slice())?))
+}
+
+// The bytes of the record.
+fn record(alloc: Global, form: Form, list: &[u8]) -> Result<Vec<u8>, NoMemory> {
     let mut record = nodes(alloc, form)?;
     if form.chain_pages() == 0 {
-        record.extend_from_slice(list.as_slice())?;
+        record.extend_from_slice(list)?;
     }
-    let Some(stored) = decode(alloc, record.as_slice())? else {
+    Ok(record)
+}
+
+// The piece of the record, whose proxies stand in it or are these.
+fn read(rt: &impl Abort, alloc: Global, bytes: &[u8], list: &[u8]) -> Result<Piece, NoMemory>
+    ensures { IfOk result (λ piece. IsValidPiece piece) }
+{
+    let Some(stored) = decode(alloc, bytes)? else {
         panic!(rt; "no record was made");
     };
     match stored {
-        Stored::Inline(piece) => Ok(near(rt, piece)),
+        Stored::Inline(piece) => Ok(piece),
         Stored::Chained { body, count, .. } => {
-            let Some(proxies) = decode_proxies(alloc, list.as_slice(), count)? else {
+            let Some(proxies) = decode_proxies(alloc, list, count)? else {
                 panic!(rt; "no proxies were made");
             };
-            Ok(near(rt, Piece { body, proxies }))
+            Ok(Piece { body, proxies })
         }
     }
 }
@@ -174,16 +212,22 @@ pub fn made_far(rt: &impl Abort, alloc: Global, far: Far) -> Result<Piece, NoMem
     ensures valid { IfOk result (λ piece. IsValidPiece piece) }
     ensures near { IfOk result (λ piece. AreNear piece.body.roots) }
 {
-    let mut record = Vec::new(alloc);
-    record.extend_from_slice(&[1, 0, 0, 1, 0, 0, 0, 2, 0, 0, 0, 0, 0, 0, 0, 0])?;
-    record.extend_from_slice(&[2, 0, 0, 0, 0, 0, 0, 1])?;
-    record.extend_from_slice(&[4, 1, 0, 0, 0, 8, 0, 0])?;
-    push_long(&mut record, far.first)?;
-    push_long(&mut record, far.length)?;
-    let Some(Stored::Inline(piece)) = decode(alloc, record.as_slice())? else {
-        panic!(rt; "no record was made");
-    };
-    Ok(near(rt, piece))
+    let record = far_record(alloc, far)?;
+    Ok(near(rt, read(rt, alloc, record.as_slice(), &[])?))
+}
+
+fn far_record(alloc: Global, far: Far) -> Result<Vec<u8>, NoMemory> {
+    let mut bytes = Vec::new(alloc);
+    push_far(&mut bytes, far)?;
+    Ok(bytes)
+}
+
+fn push_far(bytes: &mut Vec<u8>, far: Far) -> Result<(), NoMemory> {
+    bytes.extend_from_slice(&[1, 0, 0, 1, 0, 0, 0, 2, 0, 0, 0, 0, 0, 0, 0, 0])?;
+    bytes.extend_from_slice(&[2, 0, 0, 0, 0, 0, 0, 1])?;
+    bytes.extend_from_slice(&[4, 1, 0, 0, 0, 8, 0, 0])?;
+    push_long(bytes, far.first)?;
+    push_long(bytes, far.length)
 }
 
 /// Checks that the piece is of this form, whole.
@@ -210,9 +254,15 @@ pub fn check(rt: &impl Abort, piece: &Piece, form: Form) {
 // The text has so many slots of content.
 fn check_text(rt: &impl Abort, text: &PieceTree, slots: u8) {
     assert_eq!(rt; text.node.content.len(), usize::from(slots) * 8);
-    for group in text.node.content.as_slice().chunks(8) {
-        assert_eq!(rt; group, b"contents".as_slice());
+    for (index, byte) in text.node.content.as_slice().iter().enumerate() {
+        assert_eq!(rt; *byte, letter(index));
     }
+}
+
+// The byte of a content at an index.
+fn letter(index: usize) -> u8 {
+    let letters = *b"contents";
+    letters[index % 8]
 }
 
 /// Checks that what was taken away is a piece of this form: an element with its texts, none of which is far.
@@ -225,9 +275,7 @@ pub fn check_taken(rt: &impl Abort, taken: &TakenPiece, form: Form) {
 fn check_proxies(rt: &impl Abort, proxies: &[Proxy], form: Form) {
     assert_eq!(rt; proxies.len(), form.proxies as usize);
     for (index, proxy) in proxies.iter().enumerate() {
-        let (page, slot, roots) = form.proxy((index % 4_294_967_296) as u32);
-        assert_eq!(rt; proxy.page, page);
-        assert_eq!(rt; u32::from(proxy.slot), slot);
-        assert_eq!(rt; u32::from(proxy.roots), roots);
+        let found = (proxy.page, u32::from(proxy.slot), u32::from(proxy.roots));
+        assert_eq!(rt; found, form.proxy((index % 4_294_967_296) as u32));
     }
 }

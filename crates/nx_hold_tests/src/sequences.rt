@@ -1,11 +1,10 @@
 // Many pieces beside each other, changed in random order.
-use crate::made::{Form, check, check_taken, made};
-use crate::pages::free_pages;
+use crate::forms::{add, check_form, update};
+use crate::made::{Form, check_taken};
 use crate::random::Random;
-use crate::stores::{LIMIT, Store, empty_host};
-use nx_memory::MemoryHost;
+use crate::stores::{ALL_FREE, Store, place_of};
 use nx_records::{Rid, StoreError};
-use std::alloc::Global;
+use std::alloc::AllocError;
 use std::process::Abort;
 use std::test::Fail;
 
@@ -18,18 +17,17 @@ struct Entry {
 
 // The store, and what it should hold.
 #[derive(Drop)]
-struct Trial<'a> {
-    host: &'a mut MemoryHost,
+struct Trial {
     store: Store,
     entries: Vec<Entry>,
     refused: u32,
 }
 
-impl Trial<'_> {
+impl Trial {
     // As many pages as are free at least: all but the header, the catalog's page, one for each record
     // and the chain pages.
     fn promised(&self) -> u32 {
-        let mut free = LIMIT - 2;
+        let mut free = ALL_FREE;
         for entry in &self.entries {
             free = free
                 .saturating_sub(1)
@@ -46,77 +44,86 @@ impl Trial<'_> {
         self.refused = self.refused.saturating_add(1);
     }
 
-    fn add(&mut self, rt: &impl Abort, alloc: Global, form: Form) -> Result<(), Fail> {
-        let piece = made(rt, alloc, form)?;
-        match self.store.add(alloc, self.host, &piece) {
-            Ok(proxy) => {
-                let place = Rid {
-                    page: proxy.page,
-                    slot: proxy.slot,
-                };
-                for entry in &self.entries {
-                    assert!(rt; entry.place != place);
-                }
-                self.entries.push(Entry { place, form })?;
-            }
+    fn entry(&self, index: usize) -> Option<Entry> {
+        self.entries.as_slice().get(index).copied()
+    }
+
+    fn add(&mut self, rt: &impl Abort, form: Form) -> Result<(), Fail> {
+        match add(rt, &mut self.store, form) {
+            Ok(proxy) => push_entry(rt, &mut self.entries, place_of(proxy), form)?,
             Err(error) => self.refuse(rt, error, form),
         }
         Ok(())
     }
 
-    fn update(
-        &mut self,
-        rt: &impl Abort,
-        alloc: Global,
-        index: usize,
-        form: Form,
-    ) -> Result<(), Fail> {
-        let Some(entry) = self.entries.as_slice().get(index).copied() else {
-            return Ok(());
+    fn update(&mut self, rt: &impl Abort, index: usize, form: Form) {
+        let Some(entry) = self.entry(index) else {
+            return;
         };
-        let piece = made(rt, alloc, form)?;
-        match self.store.update(alloc, self.host, entry.place, &piece) {
-            Ok(proxy) => {
-                let place = Rid {
-                    page: proxy.page,
-                    slot: proxy.slot,
-                };
-                if let Some(entry) = self.entries.as_mut_slice().get_mut(index) {
-                    *entry = Entry { place, form };
-                }
-            }
+        match update(rt, &mut self.store, entry.place, form) {
+            Ok(proxy) => set_entry(&mut self.entries, index, place_of(proxy), form),
             Err(error) => self.refuse(rt, error, form),
         }
-        Ok(())
     }
 
-    fn take(&mut self, rt: &impl Abort, alloc: Global, index: usize) -> Result<(), Fail> {
+    fn take(&mut self, rt: &impl Abort, index: usize) -> Result<(), StoreError> {
         if index < self.entries.len() {
             let entry = self.entries.swap_remove(index);
-            let taken = self.store.take(alloc, self.host, entry.place)?;
+            let taken = self.store.take(entry.place)?;
             check_taken(rt, &taken, entry.form);
         }
         Ok(())
     }
 
-    fn commit(&mut self, rt: &impl Abort) -> Result<(), Fail> {
-        self.store.commit(rt, self.host)?;
-        Ok(())
-    }
-
     // Each piece is there, and as many pages are free as are promised.
-    fn look(&mut self, rt: &impl Abort, alloc: Global) -> Result<(), Fail> {
+    fn look(&mut self, rt: &impl Abort) -> Result<(), Fail> {
         for index in 0..self.entries.len() {
-            let Some(entry) = self.entries.as_slice().get(index).copied() else {
-                continue;
-            };
-            let piece = self.store.read(alloc, self.host, entry.place)?;
-            check(rt, &piece, entry.form);
+            self.look_at(rt, index)?;
         }
-        let free = free_pages(rt, alloc, self.host)?;
+        let free = self.store.free_pages(rt)?;
         assert!(rt; self.promised() <= free);
         assert_eq!(rt; self.store.has_free_page(), free > 0);
         Ok(())
+    }
+
+    fn look_at(&mut self, rt: &impl Abort, index: usize) -> Result<(), StoreError> {
+        match self.entry(index) {
+            Some(entry) => check_form(rt, &mut self.store, entry.place, entry.form),
+            None => Ok(()),
+        }
+    }
+
+    // A random call, and a commit.
+    fn step(&mut self, rt: &impl Abort, random: &mut Random) -> Result<(), Fail> {
+        let index = random.below((self.entries.len() % 65_536) as u32) as usize;
+        let form = form(random);
+        match random.below(6) {
+            0..=2 => self.add(rt, form)?,
+            3 | 4 => self.update(rt, index, form),
+            _ => self.take(rt, index)?,
+        }
+        self.store.commit(rt)?;
+        Ok(())
+    }
+}
+
+// No other piece stands there.
+fn push_entry(
+    rt: &impl Abort,
+    entries: &mut Vec<Entry>,
+    place: Rid,
+    form: Form,
+) -> Result<(), AllocError> {
+    for entry in entries.as_slice() {
+        assert!(rt; entry.place != place);
+    }
+    entries.push(Entry { place, form })?;
+    Ok(())
+}
+
+fn set_entry(entries: &mut [Entry], index: usize, place: Rid, form: Form) {
+    if let Some(entry) = entries.get_mut(index) {
+        *entry = Entry { place, form };
     }
 }
 
@@ -133,32 +140,24 @@ fn form(random: &mut Random) -> Form {
     }
 }
 
-#[test]
-fn many_pieces(rt: HostRuntime) -> Result<(), Fail> {
-    let alloc = rt.alloc();
-    let mut host = empty_host(alloc)?;
-    let store = Store::create(alloc, &mut host)?;
-    let mut trial = Trial {
-        host: &mut host,
-        store,
-        entries: Vec::new(alloc),
-        refused: 0,
-    };
-    let mut random = Random::new(5);
+fn go_on(rt: &impl Abort, trial: &mut Trial, random: &mut Random) -> Result<(), Fail> {
     for step in 0..120 {
-        let index = random.below((trial.entries.len() % 65_536) as u32) as usize;
-        let form = form(&mut random);
-        match random.below(6) {
-            0..=2 => trial.add(&rt, alloc, form)?,
-            3 | 4 => trial.update(&rt, alloc, index, form)?,
-            _ => trial.take(&rt, alloc, index)?,
-        }
-        trial.commit(&rt)?;
+        trial.step(rt, random)?;
         if step % 30 == 0 {
-            trial.look(&rt, alloc)?;
+            trial.look(rt)?;
         }
     }
-    trial.look(&rt, alloc)?;
+    trial.look(rt)?;
     assert!(rt; trial.refused > 0);
     Ok(())
+}
+
+#[test]
+fn many_pieces(rt: HostRuntime) -> Result<(), Fail> {
+    let mut trial = Trial {
+        store: Store::create(rt.alloc())?,
+        entries: Vec::new(rt.alloc()),
+        refused: 0,
+    };
+    go_on(&rt, &mut trial, &mut Random::new(5))
 }
