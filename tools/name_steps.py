@@ -29,9 +29,11 @@ class Node:
 
 def paths(node, path=()):
     """Each node's path and label, in document order."""
-    yield path, node.label
-    for position, child in enumerate(node.children):
-        yield from paths(child, path + (position,))
+    waiting = [(path, node)]
+    while waiting:
+        path, node = waiting.pop()
+        yield path, node.label
+        waiting += reversed([((*path, position), child) for position, child in enumerate(node.children)])
 
 
 def reached(root, steps):
