@@ -9,7 +9,7 @@ use crate::slots;
 use std::collections::BTreeMap;
 
 /// Where a record stands.
-#[derive(Clone, Copy, PartialEq)]
+#[derive(Clone, Copy, PartialEq, Eq, Hash)]
 pub struct Place {
     pub page: u32,
     pub slot: u16,
