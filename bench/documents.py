@@ -132,6 +132,69 @@ def records(count=RECORDS):
     yield ")records"
 
 
+# Those in which nodes are looked for.
+
+# The records of `marked` that have an empty element in place of a text, by its name.
+MARKS = {"once": [61_201], "rare": range(5_000, RECORDS, 10_000), "some": range(201, RECORDS, 400)}
+
+
+def marked():
+    """`records`, with an empty element in place of the last text of some records."""
+    names = {record: name for name, marks in MARKS.items() for record in marks}
+    record, place = -1, 0
+    for line in records():
+        record, place = (record + 1, 0) if line == "(record" else (record, place + 1)
+        if place == 3 and record in names:
+            yield from (f"({names[record]}", f"){names[record]}")
+        else:
+            yield line
+
+
+def alike():
+    """Elements of one name, as many as `records` has nodes, and as deep."""
+    yield "(record"
+    for _ in range(RECORDS // GROUP):
+        yield "(record"
+        for _ in range(GROUP):
+            yield from ("(record", *["(record", ")record"] * 3, ")record")
+        yield ")record"
+    yield ")record"
+
+
+LABELS = 500
+
+
+def labelled(label_of):
+    """As many nodes as a document may have: groups of a hundred elements over three, of labels by the numbers of their groups."""
+    draw = random.Random(8)
+    left = NODE_LIMIT - 2
+    group = 0
+    yield "(all"
+    while left > 0:
+        yield "(group"
+        left -= 1
+        for _ in range(min(GROUP, left // 4) or left):
+            names = [label_of(draw, group) for _ in range(min(4, left))]
+            yield f"({names[0]}"
+            for name in names[1:]:
+                yield from (f"({name}", f"){name}")
+            yield f"){names[0]}"
+            left -= len(names)
+        yield ")group"
+        group += 1
+    yield ")all"
+
+
+def mixed():
+    """`labelled`, each label drawn from all 500."""
+    return labelled(lambda draw, _: f"label{draw.randrange(2, LABELS)}")
+
+
+def apart():
+    """`labelled`, each label drawn from five of 500 that change with the group."""
+    return labelled(lambda draw, group: f"label{2 + (5 * group + draw.randrange(5)) % (LABELS - 2)}")
+
+
 def load(name, lines):
     yield f"load {name}"
     yield from lines

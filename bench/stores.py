@@ -31,6 +31,11 @@ class Program:
         command = Path(self.command).with_name("store_check") if self.name == "peer" else self.command
         return [str(command), str(store or self.store), "check"]
 
+    def find(self, store=None):
+        """The plain program has a third one for this."""
+        command = Path(self.command).with_name("store_find") if self.name == "peer" else self.command
+        return [str(command), str(store or self.store), "find"]
+
     def begin(self, k):
         """Makes a new store."""
         for file in (self.store, self.log):
