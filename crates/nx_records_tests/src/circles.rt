@@ -1,8 +1,9 @@
 // Chains that run into themselves: a call that follows one ends with the page that it names, and reads no more
 // pages than there are.
+use crate::checks::check_count;
+use crate::stores::Store;
 use crate::strangers::{Edit, changed};
-use nx_memory::MemoryHost;
-use nx_records::{Records, StoreError};
+use nx_records::{ListReader, StoreError};
 use std::alloc::Global;
 use std::process::Abort;
 use std::test::Fail;
@@ -16,7 +17,7 @@ const LIST: [Edit; 2] = [
 // The catalog's page is full, and names itself.
 const CATALOG: Edit = (8_192, &[2, 0, 31, 248, 0, 0, 0, 1]);
 
-#[derive(Clone, Copy, Debug, PartialEq, Eq)]
+#[derive(Clone, Copy, Debug)]
 enum Ask {
     ReadList { len: u64 },
     ReadBlocks { len: u64 },
@@ -25,40 +26,50 @@ enum Ask {
     SetCatalog,
 }
 
+fn read_list(store: &mut Store, len: u64) -> Result<(), StoreError> {
+    store.read_list(4, len)?;
+    Ok(())
+}
+
+fn read_block(store: &mut Store, reader: &mut ListReader) -> Result<(), StoreError> {
+    store.next_block(reader)?;
+    Ok(())
+}
+
 // Reads the list at page 4 block by block.
-fn read_blocks(
-    alloc: Global,
-    host: &mut MemoryHost,
-    records: &mut Records,
-    len: u64,
-) -> Result<(), StoreError> {
-    let mut reader = records.open_list(host, 4, len)?;
+fn read_blocks(store: &mut Store, len: u64) -> Result<(), StoreError> {
+    let mut reader = store.open_list(4, len)?;
     for _ in 0..10 {
-        records.next_block(alloc, host, &mut reader)?;
+        read_block(store, &mut reader)?;
     }
     Ok(())
 }
 
-// What records answer. The lists begin at page 4.
-fn answer(
-    alloc: Global,
-    host: &mut MemoryHost,
-    records: &mut Records,
-    asked: Ask,
-) -> Result<(), StoreError> {
+fn read_catalog(store: &mut Store) -> Result<(), StoreError> {
+    store.read_catalog()?;
+    Ok(())
+}
+
+// What the store answers. The lists begin at page 4.
+fn answer(rt: &impl Abort, store: &mut Store, asked: Ask) -> Result<(), StoreError> {
     match asked {
-        Ask::ReadList { len } => match records.read_list(alloc, host, 4, len) {
-            Ok(_) => Ok(()),
-            Err(error) => Err(error),
-        },
-        Ask::ReadBlocks { len } => read_blocks(alloc, host, records, len),
-        Ask::FreeList { len } => records.free_list(alloc, host, 4, len),
-        Ask::ReadCatalog => match records.read_catalog(alloc, host) {
-            Ok(_) => Ok(()),
-            Err(error) => Err(error),
-        },
-        Ask::SetCatalog => records.set_catalog(alloc, host, &[0; 8]),
+        Ask::ReadList { len } => read_list(store, len),
+        Ask::ReadBlocks { len } => read_blocks(store, len),
+        Ask::FreeList { len } => store.free_list(4, len),
+        Ask::ReadCatalog => read_catalog(store),
+        Ask::SetCatalog => store.set_catalog(rt, &[0; 8]),
     }
+}
+
+fn check_damaged(rt: &impl Abort, answered: Result<(), StoreError>, page: u32, asked: Ask) {
+    assert_eq!(rt; answered, Err(StoreError::Damaged { page }), "{asked:?}");
+}
+
+fn check_answer(rt: &impl Abort, store: &mut Store, asked: Ask, page: u32, reads: u64) {
+    let before = store.reads();
+    let answered = answer(rt, store, asked);
+    check_damaged(rt, answered, page, asked);
+    check_count(rt, store.reads().saturating_sub(before), reads);
 }
 
 // The answer is that this page is damaged, after so many reads.
@@ -70,13 +81,9 @@ fn check(
     page: u32,
     reads: u64,
 ) -> Result<(), Fail> {
-    let mut host = changed(alloc, edits)?;
-    let mut records = Records::open(alloc, &mut host)?;
-    let before = host.counts().reads;
-    let answered = answer(alloc, &mut host, &mut records, asked);
-    assert_eq!(rt; answered, Err(StoreError::Damaged { page }), "{asked:?}");
-    let made = host.counts().reads.saturating_sub(before);
-    assert_eq!(rt; made, reads, "{asked:?}");
+    let host = changed(alloc, edits)?;
+    let mut store = Store::open(alloc, host)?;
+    check_answer(rt, &mut store, asked, page, reads);
     Ok(())
 }
 

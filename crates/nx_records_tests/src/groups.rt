@@ -1,34 +1,35 @@
 // Which pages a commit writes where a list or the catalog changes in part.
-use crate::stores::{SETTINGS, Store, empty_host};
-use nx_memory::MemoryHost;
+use crate::checks::{check_answer, check_bytes, check_count};
+use crate::stores::Store;
 use nx_records::StoreError;
-use std::alloc::Global;
+use std::alloc::{AllocError, Global};
 use std::process::Abort;
 use std::test::Fail;
 
-// Commits, and says how many pages the group has.
-fn pages_of_commit(
-    rt: &impl Abort,
-    host: &mut MemoryHost,
-    store: &mut Store,
-) -> Result<u64, StoreError> {
+// Commits, and the group has so many pages beside the header's.
+fn check_group(rt: &impl Abort, store: &mut Store, pages: u64) -> Result<(), StoreError> {
     let before = store.log_length();
-    store.commit(rt, host)?;
+    store.commit(rt)?;
     let bytes = store.log_length().saturating_sub(before);
-    assert_eq!(rt; bytes % 8_196, 13);
-    Ok(bytes / 8_196)
+    check_count(rt, bytes % 8_196, 13);
+    check_count(rt, bytes / 8_196, pages.saturating_add(1));
+    Ok(())
 }
 
 // So many sevens, of which those at these places are eights.
-fn bytes_with(alloc: Global, count: usize, places: &[usize]) -> Result<Vec<u8>, Fail> {
+fn bytes_with(alloc: Global, count: usize, places: &[usize]) -> Result<Vec<u8>, AllocError> {
     let mut bytes = Vec::new(alloc);
     bytes.resize(count, 7)?;
+    set_eights(&mut bytes, places);
+    Ok(bytes)
+}
+
+fn set_eights(bytes: &mut [u8], places: &[usize]) {
     for place in places {
         if let Some(byte) = bytes.get_mut(*place) {
             *byte = 8;
         }
     }
-    Ok(bytes)
 }
 
 // How many bytes, where the eights are, and how many chain pages change then, of a list of 24,500 sevens.
@@ -44,47 +45,142 @@ const CHANGES: [(usize, &[usize], u64); 9] = [
     (16_369, &[8_183, 8_184], 3),
 ];
 
-// Beside the header's page the group has those chain pages alone whose bytes change.
-#[test]
-fn a_list_is_changed_in_place(rt: HostRuntime) -> Result<(), Fail> {
-    let alloc = rt.alloc();
-    let mut host = empty_host(alloc)?;
-    let mut store = Store::create(alloc, &mut host, SETTINGS)?;
-    let old = bytes_with(alloc, 24_500, &[])?;
-    let first = store.write_list(&rt, &mut host, &old)?;
-    assert_eq!(rt; pages_of_commit(&rt, &mut host, &mut store)?, 4);
+fn check_list(
+    rt: &impl Abort,
+    store: &mut Store,
+    first: u32,
+    expected: &[u8],
+) -> Result<(), StoreError> {
+    let read = store.read_list(first, expected.len() as u64)?;
+    check_bytes(rt, read.as_slice(), expected);
+    Ok(())
+}
+
+// The list at that page, of 24,500 bytes, becomes another one, and then the old one again.
+fn change_list(
+    rt: &impl Abort,
+    store: &mut Store,
+    first: u32,
+    old: &[u8],
+    new: &[u8],
+    pages: u64,
+) -> Result<(), StoreError> {
+    store.change_list(rt, first, 24_500, new)?;
+    check_list(rt, store, first, new)?;
+    check_group(rt, store, pages)?;
+    store.change_list(rt, first, new.len() as u64, old)?;
+    check_group(rt, store, pages)
+}
+
+fn change_lists(rt: &impl Abort, store: &mut Store, first: u32, old: &[u8]) -> Result<(), Fail> {
     for (count, places, pages) in CHANGES {
-        let new = bytes_with(alloc, count, places)?;
-        store.change_list(&rt, alloc, &mut host, first, 24_500, &new)?;
-        let read = store.read_list(alloc, &mut host, first, count as u64)?;
-        assert_eq!(rt; read.as_slice(), new.as_slice());
-        let group = pages_of_commit(&rt, &mut host, &mut store)?;
-        assert_eq!(rt; group, pages.saturating_add(1), "{count} {places:?}");
-        store.change_list(&rt, alloc, &mut host, first, count as u64, &old)?;
-        let group = pages_of_commit(&rt, &mut host, &mut store)?;
-        assert_eq!(rt; group, pages.saturating_add(1), "{count} {places:?}");
+        let new = bytes_with(store.alloc(), count, places)?;
+        change_list(rt, store, first, old, new.as_slice(), pages)?;
     }
     Ok(())
 }
 
+fn check_lists(rt: &impl Abort, store: &mut Store, old: &[u8]) -> Result<(), Fail> {
+    let first = store.write_list(rt, old)?;
+    check_group(rt, store, 3)?;
+    change_lists(rt, store, first, old)
+}
+
+// A store of its own, in which the bytes are changed.
+fn check_lists_from(rt: &impl Abort, alloc: Global, old: &[u8]) -> Result<(), Fail> {
+    let mut store = Store::create(alloc)?;
+    check_lists(rt, &mut store, old)
+}
+
+// Beside the header's page the group has those chain pages alone whose bytes change.
+#[test]
+fn a_list_is_changed_in_place(rt: HostRuntime) -> Result<(), Fail> {
+    let old = bytes_with(rt.alloc(), 24_500, &[])?;
+    check_lists_from(&rt, rt.alloc(), old.as_slice())
+}
+
+fn check_catalog(rt: &impl Abort, store: &mut Store, expected: &[u8]) -> Result<(), StoreError> {
+    let read = store.read_catalog()?;
+    check_bytes(rt, read.as_slice(), expected);
+    Ok(())
+}
+
+// The catalog becomes another one, and then the old one again.
+fn change_catalog(
+    rt: &impl Abort,
+    store: &mut Store,
+    old: &[u8],
+    new: &[u8],
+    pages: u64,
+) -> Result<(), StoreError> {
+    store.set_catalog(rt, new)?;
+    check_catalog(rt, store, new)?;
+    check_group(rt, store, pages)?;
+    store.set_catalog(rt, old)?;
+    check_group(rt, store, pages)
+}
+
+fn change_catalogs(rt: &impl Abort, store: &mut Store, old: &[u8]) -> Result<(), Fail> {
+    for (count, places, pages) in CHANGES {
+        let new = bytes_with(store.alloc(), count, places)?;
+        change_catalog(rt, store, old, new.as_slice(), pages)?;
+    }
+    Ok(())
+}
+
+fn check_catalogs(rt: &impl Abort, store: &mut Store, old: &[u8]) -> Result<(), Fail> {
+    store.set_catalog(rt, old)?;
+    check_group(rt, store, 3)?;
+    change_catalogs(rt, store, old)
+}
+
+fn check_catalogs_from(rt: &impl Abort, alloc: Global, old: &[u8]) -> Result<(), Fail> {
+    let mut store = Store::create(alloc)?;
+    check_catalogs(rt, &mut store, old)
+}
+
 #[test]
 fn a_catalog_is_changed_in_place(rt: HostRuntime) -> Result<(), Fail> {
-    let alloc = rt.alloc();
-    let mut host = empty_host(alloc)?;
-    let mut store = Store::create(alloc, &mut host, SETTINGS)?;
-    let old = bytes_with(alloc, 24_500, &[])?;
-    store.set_catalog(&rt, alloc, &mut host, &old)?;
-    assert_eq!(rt; pages_of_commit(&rt, &mut host, &mut store)?, 4);
-    for (count, places, pages) in CHANGES {
-        let new = bytes_with(alloc, count, places)?;
-        store.set_catalog(&rt, alloc, &mut host, &new)?;
-        let read = store.read_catalog(alloc, &mut host)?;
-        assert_eq!(rt; read.as_slice(), new.as_slice());
-        let group = pages_of_commit(&rt, &mut host, &mut store)?;
-        assert_eq!(rt; group, pages.saturating_add(1), "{count} {places:?}");
-        store.set_catalog(&rt, alloc, &mut host, &old)?;
-        let group = pages_of_commit(&rt, &mut host, &mut store)?;
-        assert_eq!(rt; group, pages.saturating_add(1), "{count} {places:?}");
+    let old = bytes_with(rt.alloc(), 24_500, &[])?;
+    check_catalogs_from(&rt, rt.alloc(), old.as_slice())
+}
+
+fn read_list(store: &mut Store, first: u32) -> Result<(), StoreError> {
+    store.read_list(first, 24_500)?;
+    Ok(())
+}
+
+// Of a list that was written the one that stands so many pages behind it isn't changed, of so many bytes.
+fn check_other(
+    rt: &impl Abort,
+    store: &mut Store,
+    first_past: u32,
+    len: u64,
+    new: &[u8],
+) -> Result<(), StoreError> {
+    let first = store.write_list(rt, new)?;
+    let page = first.saturating_add(first_past);
+    let changed = store.change_list(rt, page, len, new);
+    check_answer(rt, changed, Err(StoreError::Damaged { page }));
+    check_answer(rt, read_list(store, first), Err(StoreError::Ended));
+    Ok(())
+}
+
+fn check_no_list(
+    rt: &impl Abort,
+    alloc: Global,
+    first_past: u32,
+    len: u64,
+    new: &[u8],
+) -> Result<(), Fail> {
+    let mut store = Store::create(alloc)?;
+    check_other(rt, &mut store, first_past, len, new)?;
+    Ok(())
+}
+
+fn check_others(rt: &impl Abort, alloc: Global, new: &[u8]) -> Result<(), Fail> {
+    for (first_past, len) in [(1, 24_500), (0, 24_501), (0, 24_499), (60, 24_500)] {
+        check_no_list(rt, alloc, first_past, len, new)?;
     }
     Ok(())
 }
@@ -92,17 +188,6 @@ fn a_catalog_is_changed_in_place(rt: HostRuntime) -> Result<(), Fail> {
 // A list that isn't there, and one of another length.
 #[test]
 fn no_other_list_is_changed(rt: HostRuntime) -> Result<(), Fail> {
-    let alloc = rt.alloc();
-    let new = bytes_with(alloc, 24_500, &[])?;
-    for (first_past, len) in [(1, 24_500), (0, 24_501), (0, 24_499), (60, 24_500)] {
-        let mut host = empty_host(alloc)?;
-        let mut store = Store::create(alloc, &mut host, SETTINGS)?;
-        let first = store.write_list(&rt, &mut host, &new)?;
-        let at = first.saturating_add(first_past);
-        let changed = store.change_list(&rt, alloc, &mut host, at, len, &new);
-        assert_eq!(rt; changed, Err(StoreError::Damaged { page: at }));
-        let later = store.read_list(alloc, &mut host, first, 24_500);
-        assert!(rt; later.is_err_and(|error| error == StoreError::Ended));
-    }
-    Ok(())
+    let new = bytes_with(rt.alloc(), 24_500, &[])?;
+    check_others(&rt, rt.alloc(), new.as_slice())
 }

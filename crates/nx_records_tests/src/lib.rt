@@ -7,6 +7,8 @@ mod blocks;
 #[cfg(test)]
 mod chains;
 #[cfg(test)]
+mod checks;
+#[cfg(test)]
 mod circles;
 #[cfg(test)]
 mod formats;

@@ -67,13 +67,18 @@ pub const NEW_CATALOG: Part = Part { from: 0, length: 8 };
 
 /// Bytes from which parts are taken.
 pub fn noise(alloc: Global) -> Result<Vec<u8>, AllocError> {
-    let mut random = Random::new(1);
     let mut bytes = Vec::new(alloc);
+    push_noise(&mut bytes)?;
+    Ok(bytes)
+}
+
+fn push_noise(bytes: &mut Vec<u8>) -> Result<(), AllocError> {
+    let mut random = Random::new(1);
     bytes.resize(8, 0)?;
     for _ in 0..45_056 {
         bytes.push((random.below(256) % 256) as u8)?;
     }
-    Ok(bytes)
+    Ok(())
 }
 
 /// A record at its place.

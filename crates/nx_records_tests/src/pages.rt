@@ -1,5 +1,5 @@
 // What the pages of a store are used for, seen without records.
-use crate::maps::Map;
+use crate::maps::{Entry, Listed, Map};
 use crate::stores::{LIMIT, Store};
 use nx_chain::read_chain_page;
 use nx_holdings::{Header, read_free_page};
@@ -7,7 +7,7 @@ use nx_lists::List;
 use nx_memory::MemoryHost;
 use nx_records::{StoreError, read_header};
 use nx_slots::{Page, PageBytes};
-use nx_wal::Wal;
+use nx_wal::{Wal, WalError};
 use std::alloc::Global;
 use std::process::Abort;
 use std::test::Fail;
@@ -15,67 +15,124 @@ use std::test::Fail;
 // More slots than a page of random records has.
 const SLOTS: u16 = 256;
 
-// The pages of a host, and which of them are in use.
+// The pages of a host, which of them are in use, and the bytes of the one that was read last.
 #[derive(Drop)]
 struct Pages<'a> {
     host: &'a mut MemoryHost,
     wal: Wal,
     used: [bool; 64],
+    bytes: PageBytes,
 }
 
 impl Pages<'_> {
-    // The bytes of a page, whose one use this is.
-    fn take(&mut self, rt: &impl Abort, page: u32) -> Result<PageBytes, Fail> {
-        let mut bytes = PageBytes { bytes: [0; 8192] };
-        let found = self.wal.page(self.host, page, &mut bytes)?;
-        assert!(rt; found, "page {page} is missing");
-        let Some(used) = self.used.get_mut(page as usize) else {
-            panic!(rt; "page {page} is past the limit");
-        };
-        assert!(rt; !*used, "page {page} has two uses");
-        *used = true;
-        Ok(bytes)
+    // Reads a page, whose one use this is.
+    fn take(&mut self, rt: &impl Abort, page: u32) -> Result<(), WalError> {
+        mark(rt, &mut self.used, page);
+        read_page(rt, self.host, &mut self.wal, page, &mut self.bytes)
     }
 
-    fn header(&mut self, rt: &impl Abort) -> Result<Header, Fail> {
-        let bytes = self.take(rt, 0)?;
-        let Some(header) = read_header(&bytes) else {
-            panic!(rt; "page 0 is no header");
-        };
-        assert_eq!(rt; self.wal.page_count(self.host)?, header.pages);
+    fn header(&mut self, rt: &impl Abort) -> Result<Header, WalError> {
+        self.take(rt, 0)?;
+        let header = header_of(rt, &self.bytes);
+        let pages = page_count(self.host, &mut self.wal)?;
+        check_pages(rt, pages, header.pages);
         Ok(header)
     }
 
     // How many pages a free list has.
-    fn free_pages(&mut self, rt: &impl Abort, first: u32) -> Result<u32, Fail> {
+    fn free_pages(&mut self, rt: &impl Abort, first: u32) -> Result<u32, WalError> {
         let mut page = first;
         for count in 0..LIMIT {
             if page == 0 {
                 return Ok(count);
             }
-            let bytes = self.take(rt, page)?;
-            let Some(next) = read_free_page(&bytes) else {
-                panic!(rt; "page {page} isn't free");
-            };
-            page = next;
+            page = self.next_free(rt, page)?;
         }
         panic!(rt; "the free list has no end");
     }
 
+    fn next_free(&mut self, rt: &impl Abort, page: u32) -> Result<u32, WalError> {
+        self.take(rt, page)?;
+        Ok(next_of(rt, &self.bytes, page))
+    }
+
     // How many records and chain pages there are in the pages that have no other use.
-    fn rest(&mut self, rt: &impl Abort, alloc: Global, pages: u32) -> Result<Counts, Fail> {
+    fn rest(&mut self, rt: &impl Abort, alloc: Global, pages: u32) -> Result<Counts, WalError> {
         let mut counts = Counts::default();
         for page in 0..pages {
-            if self.used.get(page as usize) == Some(&false) {
-                let bytes = self.take(rt, page)?;
-                let records = records_in(&bytes);
-                let is_chained = read_chain_page(alloc, &bytes)?.is_some();
-                assert!(rt; records > 0 || is_chained, "page {page} has no use");
-                counts.records = counts.records.saturating_add(records);
-                counts.chains = counts.chains.saturating_add(u32::from(is_chained));
+            if !is_used(&self.used, page) {
+                counts = counts.with(self.use_of(rt, alloc, page)?);
             }
         }
         Ok(counts)
+    }
+
+    // How many records the page has, or that it is a chain page.
+    fn use_of(&mut self, rt: &impl Abort, alloc: Global, page: u32) -> Result<Counts, WalError> {
+        self.take(rt, page)?;
+        let records = records_in(&self.bytes);
+        let is_chained = is_chain_page(alloc, &self.bytes)?;
+        assert!(rt; records > 0 || is_chained, "page {page} has no use");
+        Ok(Counts {
+            records,
+            chains: u32::from(is_chained),
+            free: 0,
+        })
+    }
+}
+
+fn is_used(used: &[bool], page: u32) -> bool {
+    used.get(page as usize) != Some(&false)
+}
+
+// Marks the page, which has no use yet.
+fn mark(rt: &impl Abort, used: &mut [bool], page: u32) {
+    let Some(used) = used.get_mut(page as usize) else {
+        panic!(rt; "page {page} is past the limit");
+    };
+    assert!(rt; !*used, "page {page} has two uses");
+    *used = true;
+}
+
+fn read_page(
+    rt: &impl Abort,
+    host: &mut MemoryHost,
+    wal: &mut Wal,
+    page: u32,
+    bytes: &mut PageBytes,
+) -> Result<(), WalError> {
+    let found = wal.page(host, page, bytes)?;
+    assert!(rt; found, "page {page} is missing");
+    Ok(())
+}
+
+fn page_count(host: &mut MemoryHost, wal: &mut Wal) -> Result<u32, WalError> {
+    wal.page_count(host)
+}
+
+fn check_pages(rt: &impl Abort, found: u32, expected: u32) {
+    assert_eq!(rt; found, expected);
+}
+
+fn header_of(rt: &impl Abort, bytes: &PageBytes) -> Header {
+    let Some(header) = read_header(bytes) else {
+        panic!(rt; "page 0 is no header");
+    };
+    header
+}
+
+// The page behind a free one.
+fn next_of(rt: &impl Abort, bytes: &PageBytes, page: u32) -> u32 {
+    let Some(next) = read_free_page(bytes) else {
+        panic!(rt; "page {page} isn't free");
+    };
+    next
+}
+
+fn is_chain_page(alloc: Global, bytes: &PageBytes) -> Result<bool, WalError> {
+    match read_chain_page(alloc, bytes) {
+        Ok(found) => Ok(found.is_some()),
+        Err(_) => Err(WalError::Memory),
     }
 }
 
@@ -101,58 +158,101 @@ pub struct Counts {
     pub free: u32,
 }
 
+impl Counts {
+    // Those of both.
+    fn with(self, other: Counts) -> Counts {
+        Counts {
+            records: self.records.saturating_add(other.records),
+            chains: self.chains.saturating_add(other.chains),
+            free: self.free.saturating_add(other.free),
+        }
+    }
+}
+
+fn open(alloc: Global, host: &mut MemoryHost) -> Result<Wal, WalError> {
+    Wal::open(host, alloc)
+}
+
 /// Counts records, chain pages and free pages. Each page must have just one use, and at least as many are
 /// free as there are pages but for the header, the records and the chain pages.
-pub fn counts_of(rt: &impl Abort, alloc: Global, host: &mut MemoryHost) -> Result<Counts, Fail> {
-    let wal = Wal::open(host, alloc)?;
+pub fn counts_of(
+    rt: &impl Abort,
+    alloc: Global,
+    host: &mut MemoryHost,
+) -> Result<Counts, WalError> {
+    let wal = open(alloc, host)?;
     let mut pages = Pages {
         host,
         wal,
         used: [false; 64],
+        bytes: PageBytes { bytes: [0; 8192] },
     };
+    count(rt, alloc, &mut pages)
+}
+
+fn count(rt: &impl Abort, alloc: Global, pages: &mut Pages<'_>) -> Result<Counts, WalError> {
     let header = pages.header(rt)?;
     let listed = pages.free_pages(rt, header.free)?;
-    let mut counts = pages.rest(rt, alloc, header.pages)?;
-    counts.free = listed.saturating_add(LIMIT.saturating_sub(header.pages));
-    let used = counts.records.saturating_add(counts.chains);
-    assert!(rt; counts.free.saturating_add(used) >= LIMIT - 1, "{counts:?}");
+    let rest = pages.rest(rt, alloc, header.pages)?;
+    let free = listed.saturating_add(LIMIT.saturating_sub(header.pages));
+    let counts = Counts { free, ..rest };
+    check_free(rt, counts);
     Ok(counts)
 }
 
+fn check_free(rt: &impl Abort, counts: Counts) {
+    let used = counts.records.saturating_add(counts.chains);
+    assert!(rt; counts.free.saturating_add(used) >= LIMIT - 1, "{counts:?}");
+}
+
+/// So much was counted.
+pub fn check_counts(rt: &impl Abort, found: Counts, expected: Counts) {
+    assert_eq!(rt; found, expected);
+}
+
 // Whether just these bytes were read, and not refused as damaged.
-fn is_just(read: Result<List<u8>, StoreError>, bytes: &[u8]) -> Result<bool, Fail> {
+fn is_just(read: Result<List<u8>, StoreError>, bytes: &[u8]) -> Result<bool, StoreError> {
     match read {
         Ok(found) => Ok(found.as_slice() == bytes),
         Err(StoreError::Damaged { .. }) => Ok(false),
-        Err(error) => Err(Fail::new(error)),
+        Err(error) => Err(error),
     }
 }
 
-/// Whether a host is opened to just the records, byte lists and catalog of a map.
-pub fn has_map(
-    rt: &impl Abort,
-    alloc: Global,
-    host: &mut MemoryHost,
-    noise: &[u8],
-    map: &Map,
-) -> Result<bool, Fail> {
-    let counts = counts_of(rt, alloc, host)?;
-    if counts.records as usize != map.entries.len() || counts.chains != map.chain_pages() {
-        return Ok(false);
-    }
-    let mut store = Store::open(alloc, host)?;
-    for entry in &map.entries {
-        let read = store.read(alloc, host, entry.place);
-        if !is_just(read, entry.part.of(noise))? {
+fn has_entries(store: &mut Store, noise: &[u8], entries: &[Entry]) -> Result<bool, StoreError> {
+    for entry in entries {
+        if !is_just(store.read(entry.place), entry.part.of(noise))? {
             return Ok(false);
         }
     }
-    for list in &map.lists {
-        let read = store.read_list(alloc, host, list.first, u64::from(list.part.length));
+    Ok(true)
+}
+
+fn has_lists(store: &mut Store, noise: &[u8], lists: &[Listed]) -> Result<bool, StoreError> {
+    for list in lists {
+        let read = store.read_list(list.first, u64::from(list.part.length));
         if !is_just(read, list.part.of(noise))? {
             return Ok(false);
         }
     }
-    let read = store.read_catalog(alloc, host);
-    is_just(read, map.catalog.of(noise))
+    Ok(true)
+}
+
+fn has_all(store: &mut Store, noise: &[u8], map: &Map) -> Result<bool, StoreError> {
+    if !has_entries(store, noise, &map.entries)? {
+        return Ok(false);
+    }
+    if !has_lists(store, noise, &map.lists)? {
+        return Ok(false);
+    }
+    is_just(store.read_catalog(), map.catalog.of(noise))
+}
+
+/// Whether an opened store has just the records, byte lists and catalog of a map.
+pub fn has_map(rt: &impl Abort, store: &mut Store, noise: &[u8], map: &Map) -> Result<bool, Fail> {
+    let counts = store.counts(rt)?;
+    if counts.records as usize != map.entries.len() || counts.chains != map.chain_pages() {
+        return Ok(false);
+    }
+    Ok(has_all(store, noise, map)?)
 }

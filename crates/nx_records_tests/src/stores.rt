@@ -1,24 +1,20 @@
-// Records over a host in memory, which are asked for nothing that they don't promise to do.
-ghost use Rattle.std.specs.Prelude.{◌≡◌, true};
-ghost use Rattle.nx_holdings.specs.Header.{AreSettings};
+// Records over a host in memory, which are asked for nothing that they don't promise to do. The methods promise
+// nothing, since a test that knows much is proved slowly.
+ghost use Rattle.std.specs.Prelude.{◌≡◌, ◌≤◌, length, true};
+ghost use Rattle.nx_holdings.specs.Holdings.{chain_count};
 ghost use Rattle.nx_records.specs.Records.{HasChanges};
 
+use crate::pages::{Counts, check_counts, counts_of};
 use nx_lists::{List, NoMemory};
-use nx_memory::{Image, MemoryHost};
+use nx_memory::{Choice, Image, MemoryHost};
 use nx_records::{ListReader, Records, Rid, Settings, StoreError, take_same_pages};
+use nx_wal::WalError;
 use std::alloc::Global;
 use std::process::Abort;
+use std::test::Fail;
 
 /// How many pages there may be.
 pub const LIMIT: u32 = 64;
-
-/// The settings of the stores.
-pub const SETTINGS: Settings = Settings {
-    k: 16,
-    target: 50,
-    tolerance: 4,
-    limit: LIMIT,
-};
 
 /// A host of these areas with room for some commits of many pages.
 pub fn host_of(alloc: Global, image: Image) -> Result<MemoryHost, NoMemory> {
@@ -34,36 +30,109 @@ pub fn empty_host(alloc: Global) -> Result<MemoryHost, NoMemory> {
     host_of(alloc, image)
 }
 
-/// Records, and whether they were changed since the last commit. What a refused call changed is
-/// dropped at once.
+/// Records of a new store.
+pub fn new_records(alloc: Global, host: &mut MemoryHost) -> Result<Records, StoreError> {
+    let settings = Settings {
+        k: 16,
+        target: 50,
+        tolerance: 4,
+        limit: LIMIT,
+    };
+    Records::create(alloc, host, settings)
+}
+
+fn open_records(alloc: Global, host: &mut MemoryHost) -> Result<Records, StoreError> {
+    Records::open(alloc, host)
+}
+
+/// Records over a host, and whether they were changed since the last commit. What a refused call changed
+/// is dropped at once.
 #[derive(Drop)]
 pub struct Store {
+    alloc: Global,
+    host: MemoryHost,
     records: Records,
     changed: bool,
     ghost waits: { changed ≡ true → HasChanges records },
 }
 
 impl Store {
-    pub fn create(
-        alloc: Global,
-        host: &mut MemoryHost,
-        settings: Settings,
-    ) -> Result<Store, StoreError>
-        requires { AreSettings settings }
-    {
-        let records = Records::create(alloc, host, settings)?;
+    /// A new store.
+    pub fn create(alloc: Global) -> Result<Store, Fail> {
+        let mut host = empty_host(alloc)?;
+        let records = new_records(alloc, &mut host)?;
         Ok(Store {
+            alloc,
+            host,
             records,
             changed: false,
         })
     }
 
-    pub fn open(alloc: Global, host: &mut MemoryHost) -> Result<Store, StoreError> {
-        let records = Records::open(alloc, host)?;
+    /// The store that the host has.
+    pub fn open(alloc: Global, mut host: MemoryHost) -> Result<Store, StoreError> {
+        let records = open_records(alloc, &mut host)?;
         Ok(Store {
+            alloc,
+            host,
             records,
             changed: false,
         })
+    }
+
+    /// Opens the host's store anew.
+    pub fn reopen(&mut self) -> Result<(), StoreError> {
+        let records = open_records(self.alloc, &mut self.host)?;
+        self.changed = false;
+        self.records = records;
+        Ok(())
+    }
+
+    /// The format of the store as it is opened anew, beside this one.
+    pub fn format_opened(&mut self) -> Result<u16, StoreError> {
+        let records = open_records(self.alloc, &mut self.host)?;
+        Ok(records.format())
+    }
+
+    pub fn alloc(&self) -> Global {
+        self.alloc
+    }
+
+    /// What a crash leaves of the host's areas.
+    pub fn image(&self, choice: Choice) -> Result<Image, NoMemory> {
+        self.host.image(choice)
+    }
+
+    /// A host of what a crash leaves.
+    pub fn host_left(&self, choice: Choice) -> Result<MemoryHost, NoMemory> {
+        host_of(self.alloc, self.image(choice)?)
+    }
+
+    /// The host's calls fail behind so many.
+    pub fn stop_after(&mut self, calls: u64) {
+        self.host.stop_after(calls);
+    }
+
+    /// How many calls of the host failed.
+    pub fn faults(&self) -> u64 {
+        self.host.counts().faults
+    }
+
+    /// How many pages and parts of the log were read from the host.
+    pub fn reads(&self) -> u64 {
+        self.host.counts().reads
+    }
+
+    /// What the pages are used for after the last commit.
+    pub fn counts(&mut self, rt: &impl Abort) -> Result<Counts, WalError> {
+        counts_of(rt, self.alloc, &mut self.host)
+    }
+
+    /// They are used for this.
+    pub fn check_counts(&mut self, rt: &impl Abort, expected: Counts) -> Result<(), WalError> {
+        let counts = self.counts(rt)?;
+        check_counts(rt, counts, expected);
+        Ok(())
     }
 
     pub fn format(&self) -> u16 {
@@ -78,13 +147,8 @@ impl Store {
         self.records.log_length()
     }
 
-    pub fn read(
-        &mut self,
-        alloc: Global,
-        host: &mut MemoryHost,
-        place: Rid,
-    ) -> Result<List<u8>, StoreError> {
-        match self.records.read(alloc, host, place) {
+    pub fn read(&mut self, place: Rid) -> Result<List<u8>, StoreError> {
+        match self.records.read(self.alloc, &mut self.host, place) {
             Ok(bytes) => Ok(bytes),
             Err(error) => {
                 self.changed = false;
@@ -94,14 +158,16 @@ impl Store {
         }
     }
 
-    pub fn add(
-        &mut self,
-        rt: &impl Abort,
-        host: &mut MemoryHost,
-        bytes: &[u8],
-    ) -> Result<Rid, StoreError> {
+    pub fn add(&mut self, rt: &impl Abort, bytes: &[u8]) -> Result<Rid, StoreError> {
         assert!(rt; 1 <= bytes.len() && bytes.len() <= 8_176);
-        match self.records.add(host, bytes) {
+        self.add_record(bytes)
+    }
+
+    fn add_record(&mut self, bytes: &[u8]) -> Result<Rid, StoreError>
+        requires some { 1 ≤ length bytes.now }
+        requires few { length bytes.now ≤ 8176 }
+    {
+        match self.records.add(&mut self.host, bytes) {
             Ok(place) => {
                 self.changed = true;
                 Ok(place)
@@ -114,15 +180,16 @@ impl Store {
         }
     }
 
-    pub fn update(
-        &mut self,
-        rt: &impl Abort,
-        host: &mut MemoryHost,
-        place: Rid,
-        bytes: &[u8],
-    ) -> Result<Rid, StoreError> {
+    pub fn update(&mut self, rt: &impl Abort, place: Rid, bytes: &[u8]) -> Result<Rid, StoreError> {
         assert!(rt; 1 <= bytes.len() && bytes.len() <= 8_176);
-        match self.records.update(host, place, bytes) {
+        self.update_record(place, bytes)
+    }
+
+    fn update_record(&mut self, place: Rid, bytes: &[u8]) -> Result<Rid, StoreError>
+        requires some { 1 ≤ length bytes.now }
+        requires few { length bytes.now ≤ 8176 }
+    {
+        match self.records.update(&mut self.host, place, bytes) {
             Ok(place) => {
                 self.changed = true;
                 Ok(place)
@@ -135,8 +202,8 @@ impl Store {
         }
     }
 
-    pub fn remove(&mut self, host: &mut MemoryHost, place: Rid) -> Result<(), StoreError> {
-        match self.records.remove(host, place) {
+    pub fn remove(&mut self, place: Rid) -> Result<(), StoreError> {
+        match self.records.remove(&mut self.host, place) {
             Ok(_) => {
                 self.changed = true;
                 Ok(())
@@ -149,14 +216,11 @@ impl Store {
         }
     }
 
-    pub fn read_list(
-        &mut self,
-        alloc: Global,
-        host: &mut MemoryHost,
-        first: u32,
-        len: u64,
-    ) -> Result<List<u8>, StoreError> {
-        match self.records.read_list(alloc, host, first, len) {
+    pub fn read_list(&mut self, first: u32, len: u64) -> Result<List<u8>, StoreError> {
+        match self
+            .records
+            .read_list(self.alloc, &mut self.host, first, len)
+        {
             Ok(bytes) => Ok(bytes),
             Err(error) => {
                 self.changed = false;
@@ -166,13 +230,8 @@ impl Store {
         }
     }
 
-    pub fn open_list(
-        &mut self,
-        host: &MemoryHost,
-        first: u32,
-        len: u64,
-    ) -> Result<ListReader, StoreError> {
-        match self.records.open_list(host, first, len) {
+    pub fn open_list(&mut self, first: u32, len: u64) -> Result<ListReader, StoreError> {
+        match self.records.open_list(&self.host, first, len) {
             Ok(reader) => Ok(reader),
             Err(error) => {
                 self.changed = false;
@@ -182,13 +241,8 @@ impl Store {
         }
     }
 
-    pub fn next_block(
-        &mut self,
-        alloc: Global,
-        host: &mut MemoryHost,
-        reader: &mut ListReader,
-    ) -> Result<Option<List<u8>>, StoreError> {
-        match self.records.next_block(alloc, host, reader) {
+    pub fn next_block(&mut self, reader: &mut ListReader) -> Result<Option<List<u8>>, StoreError> {
+        match self.records.next_block(self.alloc, &mut self.host, reader) {
             Ok(found) => Ok(found),
             Err(error) => {
                 self.changed = false;
@@ -198,14 +252,15 @@ impl Store {
         }
     }
 
-    pub fn write_list(
-        &mut self,
-        rt: &impl Abort,
-        host: &mut MemoryHost,
-        bytes: &[u8],
-    ) -> Result<u32, StoreError> {
+    pub fn write_list(&mut self, rt: &impl Abort, bytes: &[u8]) -> Result<u32, StoreError> {
         assert!(rt; 1 <= bytes.len());
-        match self.records.write_list(host, bytes) {
+        self.write_bytes(bytes)
+    }
+
+    fn write_bytes(&mut self, bytes: &[u8]) -> Result<u32, StoreError>
+        requires { 1 ≤ length bytes.now }
+    {
+        match self.records.write_list(&mut self.host, bytes) {
             Ok(first) => {
                 self.changed = true;
                 Ok(first)
@@ -218,14 +273,11 @@ impl Store {
         }
     }
 
-    pub fn free_list(
-        &mut self,
-        alloc: Global,
-        host: &mut MemoryHost,
-        first: u32,
-        len: u64,
-    ) -> Result<(), StoreError> {
-        match self.records.free_list(alloc, host, first, len) {
+    pub fn free_list(&mut self, first: u32, len: u64) -> Result<(), StoreError> {
+        match self
+            .records
+            .free_list(self.alloc, &mut self.host, first, len)
+        {
             Ok(_) => {
                 self.changed = true;
                 Ok(())
@@ -242,15 +294,23 @@ impl Store {
     pub fn change_list(
         &mut self,
         rt: &impl Abort,
-        alloc: Global,
-        host: &mut MemoryHost,
         first: u32,
         len: u64,
         bytes: &[u8],
     ) -> Result<(), StoreError> {
         assert!(rt; 1 <= bytes.len());
         assert!(rt; take_same_pages(bytes.len() as u64, len));
-        match self.records.change_list(alloc, host, first, len, bytes) {
+        self.change_bytes(first, len, bytes)
+    }
+
+    fn change_bytes(&mut self, first: u32, len: u64, bytes: &[u8]) -> Result<(), StoreError>
+        requires some { 1 ≤ length bytes.now }
+        requires pages { chain_count (length bytes.now) ≡ chain_count len }
+    {
+        match self
+            .records
+            .change_list(self.alloc, &mut self.host, first, len, bytes)
+        {
             Ok(_) => {
                 self.changed = true;
                 Ok(())
@@ -263,12 +323,8 @@ impl Store {
         }
     }
 
-    pub fn read_catalog(
-        &mut self,
-        alloc: Global,
-        host: &mut MemoryHost,
-    ) -> Result<List<u8>, StoreError> {
-        match self.records.read_catalog(alloc, host) {
+    pub fn read_catalog(&mut self) -> Result<List<u8>, StoreError> {
+        match self.records.read_catalog(self.alloc, &mut self.host) {
             Ok(bytes) => Ok(bytes),
             Err(error) => {
                 self.changed = false;
@@ -278,15 +334,15 @@ impl Store {
         }
     }
 
-    pub fn set_catalog(
-        &mut self,
-        rt: &impl Abort,
-        alloc: Global,
-        host: &mut MemoryHost,
-        bytes: &[u8],
-    ) -> Result<(), StoreError> {
+    pub fn set_catalog(&mut self, rt: &impl Abort, bytes: &[u8]) -> Result<(), StoreError> {
         assert!(rt; 8 <= bytes.len());
-        match self.records.set_catalog(alloc, host, bytes) {
+        self.set_bytes(bytes)
+    }
+
+    fn set_bytes(&mut self, bytes: &[u8]) -> Result<(), StoreError>
+        requires { 8 ≤ length bytes.now }
+    {
+        match self.records.set_catalog(self.alloc, &mut self.host, bytes) {
             Ok(_) => {
                 self.changed = true;
                 Ok(())
@@ -300,12 +356,24 @@ impl Store {
     }
 
     /// Commits, where something was changed.
-    pub fn commit(&mut self, rt: &impl Abort, host: &mut MemoryHost) -> Result<(), StoreError> {
+    pub fn commit(&mut self, rt: &impl Abort) -> Result<(), StoreError> {
         if !self.changed {
             return Ok(());
         }
-        assert!(rt; self.records.log_length() <= 1 << 62);
-        match self.records.commit(host) {
+        assert!(rt; self.has_room());
+        self.commit_changes()
+    }
+
+    // Whether the log is short enough for a commit.
+    fn has_room(&self) -> bool {
+        self.records.log_length() <= 1 << 62
+    }
+
+    fn commit_changes(&mut self) -> Result<(), StoreError> {
+        if !self.changed || self.records.log_length() > 1 << 62 {
+            return Ok(());
+        }
+        match self.records.commit(&mut self.host) {
             Ok(_) => {
                 self.changed = false;
                 Ok(())
@@ -324,9 +392,9 @@ impl Store {
     }
 
     /// A checkpoint, before which what was changed is dropped.
-    pub fn checkpoint(&mut self, host: &mut MemoryHost) -> Result<(), StoreError> {
+    pub fn checkpoint(&mut self) -> Result<(), StoreError> {
         self.changed = false;
         self.records.abandon();
-        self.records.checkpoint(host)
+        self.records.checkpoint(&mut self.host)
     }
 }

@@ -1,7 +1,8 @@
 // Pages that strangers wrote: each is answered as damaged or as no store, and never by a wrong record.
-use crate::pages::counts_of;
+use crate::checks::{check_answer, check_bytes};
+use crate::pages::Counts;
 use crate::stores::{LIMIT, Store, host_of};
-use nx_lists::List;
+use nx_lists::{List, NoMemory};
 use nx_memory::{Image, MemoryHost};
 use nx_records::{Rid, StoreError};
 use std::alloc::{AllocError, Global};
@@ -30,7 +31,7 @@ const SOUND: [Edit; 10] = [
 ];
 
 // What a store is asked for. `Fill` adds records, each of which takes a page, until one is refused.
-#[derive(Clone, Copy, Debug, PartialEq, Eq)]
+#[derive(Clone, Copy, Debug)]
 enum Ask {
     Open,
     Read { page: u32, slot: u16 },
@@ -50,112 +51,186 @@ pub fn put(bytes: &mut [u8], edit: Edit) {
 }
 
 /// The sound pages, with other bytes at some offsets.
-pub fn changed_pages(alloc: Global, edits: &[Edit]) -> Result<Vec<u8>, Fail> {
+pub fn changed_pages(alloc: Global, edits: &[Edit]) -> Result<Vec<u8>, AllocError> {
     let mut pages = Vec::new(alloc);
     pages.resize(49_152, 0)?;
-    for sound in SOUND {
-        put(&mut pages, sound);
-    }
-    for edit in edits {
-        put(&mut pages, *edit);
-    }
+    put_all(&mut pages, &SOUND);
+    put_all(&mut pages, edits);
     Ok(pages)
 }
 
+/// Makes these edits.
+pub fn put_all(pages: &mut [u8], edits: &[Edit]) {
+    for edit in edits {
+        put(pages, *edit);
+    }
+}
+
 /// A host of these pages.
-pub fn host_with(alloc: Global, pages: Vec<u8>) -> Result<MemoryHost, Fail> {
+pub fn host_with(alloc: Global, pages: Vec<u8>) -> Result<MemoryHost, NoMemory> {
     let image = Image {
         pages: List::from_vec(pages),
         log: List::new(alloc),
     };
-    Ok(host_of(alloc, image)?)
+    host_of(alloc, image)
 }
 
 /// A host of the sound pages, with other bytes at some offsets.
 pub fn changed(alloc: Global, edits: &[Edit]) -> Result<MemoryHost, Fail> {
-    host_with(alloc, changed_pages(alloc, edits)?)
+    let pages = changed_pages(alloc, edits)?;
+    Ok(host_with(alloc, pages)?)
 }
 
-fn fill(rt: &impl Abort, host: &mut MemoryHost, store: &mut Store) -> Result<(), StoreError> {
+// The record that is updated or removed.
+const FIRST: Rid = Rid { page: 2, slot: 0 };
+
+fn read(store: &mut Store, place: Rid) -> Result<(), StoreError> {
+    store.read(place)?;
+    Ok(())
+}
+
+fn update(rt: &impl Abort, store: &mut Store, bytes: &[u8]) -> Result<(), StoreError> {
+    store.update(rt, FIRST, bytes)?;
+    Ok(())
+}
+
+fn fill(rt: &impl Abort, store: &mut Store, bytes: &[u8]) -> Result<(), StoreError> {
     for _ in 0..LIMIT {
-        store.add(rt, host, &[7; 8_176])?;
+        store.add(rt, bytes)?;
     }
     Ok(())
 }
 
-// Opens a store, and asks it for this. The record that is read, updated or removed is the first one.
-fn answer(
-    rt: &impl Abort,
-    alloc: Global,
-    host: &mut MemoryHost,
-    asked: Ask,
-) -> Result<(), StoreError> {
-    let mut store = Store::open(alloc, host)?;
-    let first = Rid { page: 2, slot: 0 };
-    let answer = match asked {
+fn make(rt: &impl Abort, store: &mut Store, asked: Ask) -> Result<(), StoreError> {
+    match asked {
         Ask::Open => Ok(()),
-        Ask::Read { page, slot } => match store.read(alloc, host, Rid { page, slot }) {
-            Ok(_) => Ok(()),
-            Err(error) => Err(error),
-        },
-        Ask::Update => match store.update(rt, host, first, &[7; 8_100]) {
-            Ok(_) => Ok(()),
-            Err(error) => Err(error),
-        },
-        Ask::Remove => store.remove(host, first),
-        Ask::Fill => fill(rt, host, &mut store),
-    };
-    if matches!(answer, Err(StoreError::Damaged { .. })) {
-        assert_eq!(rt; store.remove(host, first), Err(StoreError::Ended));
+        Ask::Read { page, slot } => read(store, Rid { page, slot }),
+        Ask::Update => update(rt, store, &[7; 8_100]),
+        Ask::Remove => store.remove(FIRST),
+        Ask::Fill => fill(rt, store, &[7; 8_176]),
+    }
+}
+
+fn is_damaged(answer: Result<(), StoreError>) -> bool {
+    matches!(answer, Err(StoreError::Damaged { .. }))
+}
+
+// What the store answers. Where that is damaged, it has ended.
+fn answer(rt: &impl Abort, store: &mut Store, asked: Ask) -> Result<(), StoreError> {
+    let answer = make(rt, store, asked);
+    if is_damaged(answer) {
+        check_answer(rt, store.remove(FIRST), Err(StoreError::Ended));
     }
     answer
 }
 
-fn check(rt: &impl Abort, alloc: Global, edit: Edit, asked: Ask, page: u32) -> Result<(), Fail> {
-    let mut host = changed(alloc, &[edit])?;
-    let answered = answer(rt, alloc, &mut host, asked);
+// What the host's store answers, which is opened first.
+fn answer_of(
+    rt: &impl Abort,
+    alloc: Global,
+    host: MemoryHost,
+    asked: Ask,
+) -> Result<(), StoreError> {
+    let mut store = Store::open(alloc, host)?;
+    answer(rt, &mut store, asked)
+}
+
+fn check_damaged(
+    rt: &impl Abort,
+    answered: Result<(), StoreError>,
+    page: u32,
+    edit: Edit,
+    asked: Ask,
+) {
     assert_eq!(rt;
         answered,
         Err(StoreError::Damaged { page }),
         "{edit:?} {asked:?}"
     );
+}
+
+fn check(rt: &impl Abort, alloc: Global, edit: Edit, asked: Ask, page: u32) -> Result<(), Fail> {
+    let host = changed(alloc, &[edit])?;
+    let answered = answer_of(rt, alloc, host, asked);
+    check_damaged(rt, answered, page, edit, asked);
     Ok(())
 }
+
+fn check_record(
+    rt: &impl Abort,
+    store: &mut Store,
+    place: Rid,
+    expected: &[u8],
+) -> Result<(), StoreError> {
+    let bytes = store.read(place)?;
+    check_bytes(rt, bytes.as_slice(), expected);
+    Ok(())
+}
+
+fn check_records(rt: &impl Abort, store: &mut Store) -> Result<(), StoreError> {
+    for (page, slot, record) in [(2, 0, b"rone"), (2, 1, b"othe"), (3, 0, b"last")] {
+        check_record(rt, store, Rid { page, slot }, record)?;
+    }
+    Ok(())
+}
+
+// The store is opened anew, and answers this.
+fn check_anew(
+    rt: &impl Abort,
+    store: &mut Store,
+    asked: Ask,
+    expected: Result<(), StoreError>,
+) -> Result<(), StoreError> {
+    store.reopen()?;
+    check_answer(rt, answer(rt, store, asked), expected);
+    Ok(())
+}
+
+fn check_sound(rt: &impl Abort, store: &mut Store) -> Result<(), StoreError> {
+    check_records(rt, store)?;
+    for asked in [Ask::Open, Ask::Update, Ask::Remove] {
+        check_anew(rt, store, asked, Ok(()))?;
+    }
+    check_anew(rt, store, Ask::Fill, Err(StoreError::Full))
+}
+
+// What the sound pages are used for.
+const COUNTS: Counts = Counts {
+    records: 3,
+    chains: 1,
+    free: 60,
+};
 
 // Unchanged, the pages are sound: the free pages and those past the last one take a record each.
 #[test]
 fn sound_pages_are_taken(rt: HostRuntime) -> Result<(), Fail> {
-    let alloc = rt.alloc();
-    let mut host = changed(alloc, &[])?;
-    let counts = counts_of(&rt, alloc, &mut host)?;
-    assert_eq!(rt; (counts.records, counts.chains, counts.free), (3, 1, 60));
-    let mut store = Store::open(alloc, &mut host)?;
-    for (page, slot, record) in [(2, 0, b"rone"), (2, 1, b"othe"), (3, 0, b"last")] {
-        let bytes = store.read(alloc, &mut host, Rid { page, slot })?;
-        assert_eq!(rt; bytes.as_slice(), record.as_slice());
-    }
-    for asked in [Ask::Open, Ask::Update, Ask::Remove] {
-        assert_eq!(rt; answer(&rt, alloc, &mut host, asked), Ok(()));
-    }
-    assert_eq!(rt;
-        answer(&rt, alloc, &mut host, Ask::Fill),
-        Err(StoreError::Full)
-    );
+    let host = changed(rt.alloc(), &[])?;
+    let mut store = Store::open(rt.alloc(), host)?;
+    store.check_counts(&rt, COUNTS)?;
+    check_sound(&rt, &mut store)?;
     Ok(())
 }
 
-#[test]
-fn what_has_no_mark_is_no_store(rt: HostRuntime) -> Result<(), Fail> {
-    let alloc = rt.alloc();
-    let mut host = changed(alloc, &[(0, b"NATIXST2")])?;
-    let answered = answer(&rt, alloc, &mut host, Ask::Open);
-    assert_eq!(rt; answered, Err(StoreError::NotAStore));
+// A host whose pages are too few for a header.
+fn cut_host(alloc: Global) -> Result<MemoryHost, NoMemory> {
     let image = Image {
         pages: List::from_slice(alloc, b"NATIXST1")?,
         log: List::new(alloc),
     };
-    let answered = answer(&rt, alloc, &mut host_of(alloc, image)?, Ask::Open);
-    assert_eq!(rt; answered, Err(StoreError::NotAStore));
+    host_of(alloc, image)
+}
+
+fn check_no_store(rt: &impl Abort, alloc: Global, host: MemoryHost) {
+    let answered = answer_of(rt, alloc, host, Ask::Open);
+    check_answer(rt, answered, Err(StoreError::NotAStore));
+}
+
+#[test]
+fn what_has_no_mark_is_no_store(rt: HostRuntime) -> Result<(), Fail> {
+    let host = changed(rt.alloc(), &[(0, b"NATIXST2")])?;
+    check_no_store(&rt, rt.alloc(), host);
+    let host = cut_host(rt.alloc())?;
+    check_no_store(&rt, rt.alloc(), host);
     Ok(())
 }
 
@@ -187,6 +262,14 @@ fn headers_of_strangers(rt: HostRuntime) -> Result<(), Fail> {
     Ok(())
 }
 
+// The first slotted page is damaged by the edit.
+fn check_slotted(rt: &impl Abort, alloc: Global, edit: Edit) -> Result<(), Fail> {
+    for asked in [Ask::Read { page: 2, slot: 0 }, Ask::Update, Ask::Remove] {
+        check(rt, alloc, edit, asked, 2)?;
+    }
+    check(rt, alloc, edit, Ask::Fill, 0)
+}
+
 #[test]
 fn slotted_pages_of_strangers(rt: HostRuntime) -> Result<(), Fail> {
     let edits: [Edit; 14] = [
@@ -211,10 +294,7 @@ fn slotted_pages_of_strangers(rt: HostRuntime) -> Result<(), Fail> {
         (16_391, &[1]),
     ];
     for edit in edits {
-        for asked in [Ask::Read { page: 2, slot: 0 }, Ask::Update, Ask::Remove] {
-            check(&rt, rt.alloc(), edit, asked, 2)?;
-        }
-        check(&rt, rt.alloc(), edit, Ask::Fill, 0)?;
+        check_slotted(&rt, rt.alloc(), edit)?;
     }
     Ok(())
 }
