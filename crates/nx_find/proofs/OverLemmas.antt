@@ -1,20 +1,18 @@
 -- What a walk over a whole document showed and read.
-use Rattle.std.proofs.Common.{◌≡◌, true, false, Bool, ℕ, ◌+◌, ◌≤◌, List, [], ◌∷◌, ◌++◌, length, refl, sym, ap, ◌∙◌, subst, arith, inl}
-use Rattle.std.specs.Prelude.{filter, Option, None, Some}
+use Rattle.std.proofs.Common.{◌≡◌, true, Bool, ℕ, ◌+◌, ◌≤◌, List, [], ◌∷◌, ◌++◌, length, refl, sym, ap, ◌∙◌, subst, arith, inl}
+use Rattle.std.specs.Prelude.{Option, None, Some}
 use Rattle.std.specs.Option.{MatchOption}
 use Rattle.std.proofs.lemmas.List.{append-nil}
 use Rattle.nx_host.specs.declared.disk.Disk.{Ghosts}
-use Rattle.nx_host.specs.Still.{IsStill}
 use Rattle.nx_records.specs.Words.{Held}
-use Rattle.nx_records.specs.Records.{StandsFor, has_ended}
+use Rattle.nx_records.specs.Records.{StandsFor}
 use Rattle.nx_records.specs.declared.records.Records.{Records}
 use Rattle.nx_records.proofs.LeaveLemmas.{leaves_same}
 use Rattle.nx_tree.specs.declared.node.Node.{Node}
-use Rattle.nx_tree.specs.declared.node.Kind.{Kind}
-use Rattle.nx_tree.specs.Forest.{Forest, OrderedTree, nodes}
+use Rattle.nx_tree.specs.Forest.{Forest, nodes}
 use Rattle.nx_tree.specs.Document.{depth, is_doc, IsForest}
 use Rattle.nx_cuts.specs.Cut.{Bare, Grown, Kept, CutForest, CutTree, forest, tree_of}
-use Rattle.nx_layouts.specs.Layout.{RecordPlace, Layout, IsLaidOutAs, laid_near, laid_forest, without_places, places_of, whole, ArePlacedOnce}
+use Rattle.nx_layouts.specs.Layout.{RecordPlace, Layout, IsLaidOutAs, laid_near, laid_forest, places_of, whole, ArePlacedOnce}
 use Rattle.nx_hold.specs.Pieces.{PieceMap, held_by}
 use Rattle.nx_nav.specs.declared.error.NavError.{NavError}
 use Rattle.nx_nav.specs.declared.error.NavError.TheVariants as nav
@@ -24,23 +22,23 @@ use Rattle.nx_nav.specs.Walk.{IsIntervalAt}
 use Rattle.nx_nav.proofs.RefusalLemmas.{refused_later}
 use Rattle.nx_reach.specs.declared.step.Step.{Step}
 use Rattle.nx_reach.specs.declared.finder.Finder.{Finder}
-use Rattle.nx_reach.specs.Reach.{Found, label_of}
+use Rattle.nx_reach.specs.Reach.{Found}
 use Rattle.nx_reach.specs.Seen.{Seen, Goes, HasComeTo}
 use Rattle.nx_names.specs.declared.map.LabelMap.{LabelMap}
 use Rattle.nx_names.specs.declared.gatherer.Gatherer.{Gatherer}
 use Rattle.nx_names.specs.Labels.{HoldsLabels, entered_places}
 use Rattle.nx_names.specs.Shown.{SkipsOnly}
-use Rattle.nx_names.specs.Look.{Look, RecordBegins, RecordEnds, looks_of, looks_into, seen_of, begun_nodes, begun_places}
+use Rattle.nx_names.specs.Look.{Look, RecordEnds, looks_of, looks_into, seen_of, begun_nodes, begun_places}
 use Rattle.nx_names.specs.Serials.{has_noted, noted_from}
-use Rattle.nx_names.specs.Gathered.{Gathered, HasGathered, GathersLabels, gathered_behind, nothing_gathered, holds_label}
+use Rattle.nx_names.specs.Gathered.{HasGathered, GathersLabels, gathered_behind, nothing_gathered, holds_label}
 use Rattle.nx_names.proofs.LookLemmas.{all_wanted, begun_nodes-append, begun_places-append, begins_few, begins_all, begins_entered, all_entered, holders_entered, seen_below}
 use Rattle.nx_names.proofs.HeardLemmas.{gathered_holds, gathered_places}
 use Rattle.nx_names.proofs.ShownLemmas.{finder_finds, holds_skips}
 use Rattle.nx_find.specs.declared.error.FindError.{FindError}
 use Rattle.nx_find.specs.Walked.{looks_entering, ReadsLooks, ShowsWhole, StopsShowing, IsNoSuch}
-use Rattle.nx_find.specs.Over.{OfEachLaid, OfEachMapped, IsMapOf, ReadsOf, last_label, records_for, IsGivenUp, StopsWalking, IsHandedOn}
+use Rattle.nx_find.specs.Over.{IsMapOf, ReadsOf, last_label, records_for, IsGivenUp, StopsWalking, IsHandedOn}
 use Rattle.nx_find.proofs.WalkLemmas.{takes_more}
-use Rattle.nx_find.proofs.LookingLemmas.{HasLast, has_last}
+use Rattle.nx_find.proofs.LookingLemmas.{has_last}
 
 -- a document's root, with what is below it
 abbrev pub members_of : CutTree → Layout → Layout

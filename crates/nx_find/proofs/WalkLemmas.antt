@@ -4,12 +4,11 @@ use Rattle.std.proofs.lemmas.List.{append-nil, drop_at}
 use Rattle.std.specs.Prelude.{◌⊎◌}
 use Rattle.nx_host.specs.declared.disk.Disk.{Ghosts}
 use Rattle.nx_host.specs.Still.{IsStill}
-use Rattle.nx_host.proofs.DiskLemmas.{none_still}
 use Rattle.nx_records.specs.Words.{Held}
 use Rattle.nx_records.specs.declared.records.Records.{Records}
-use Rattle.nx_records.specs.Records.{has_ended, StandsFor, LeavesRecords}
+use Rattle.nx_records.specs.Records.{has_ended, LeavesRecords}
 use Rattle.nx_records.proofs.LeaveLemmas.{leaves_same, leaves_stand}
-use Rattle.nx_tree.specs.Forest.{Forest, Empty}
+use Rattle.nx_tree.specs.Forest.{Empty}
 use Rattle.nx_tree.specs.Document.{depth}
 use Rattle.nx_piece.specs.declared.piece.Piece.{Piece}
 use Rattle.nx_piece.specs.declared.piece.Proxy.{Proxy}
@@ -23,7 +22,7 @@ use Rattle.nx_layouts.proofs.LayoutLemmas.{proxies_counted, no_bare, no_grown}
 use Rattle.nx_layouts.proofs.NodeLemmas.{items_show_nodes}
 use Rattle.nx_layouts.proofs.ReplaceLemmas.{forest-joined_layout, proxies-joined_layout}
 use Rattle.nx_layouts.proofs.ValidLemmas.{body_apart}
-use Rattle.nx_hold.specs.Changes.{TakesPages, place_named}
+use Rattle.nx_hold.specs.Changes.{place_named}
 use Rattle.nx_hold.specs.Pieces.{held_by}
 use Rattle.nx_nav.specs.declared.error.NavError.{NavError}
 use Rattle.nx_nav.specs.Along.{TakePages, ReadsPiece}

@@ -35,5 +35,5 @@ pub record StopsShowing {D : Type 0} (d : Ghosts D) (P : Layout → Type 0) (loo
   pub first : (layout : Layout) → P layout → (more : List Look) × (looks layout ≡ told ++ more)
 
 -- there is no such layout of so many levels at most, of which no more nodes than are left begin
-abbrev pub IsNoSuch : (Layout → Type 0) → (Layout → List Look) → (deep left : ℕ) → Type 0
-IsNoSuch P looks deep left = (layout : Layout) → P layout → depth (laid_forest layout) ≤ deep → begun_nodes (looks layout) ≤ left → ⊥
+abbrev pub IsNoSuch : (Layout → Type 0) → (Layout → List Look) → (levels left : ℕ) → Type 0
+IsNoSuch P looks levels left = (layout : Layout) → P layout → depth (laid_forest layout) ≤ levels → begun_nodes (looks layout) ≤ left → ⊥

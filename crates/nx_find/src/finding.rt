@@ -64,7 +64,11 @@ fn look<D: Disk>(
         (λ now document layout. ReadsOf now (records_for (holds_of names.now) (last_label steps.now) (place_of entry.root) layout) (D.reads disk.old) (D.reads disk.new)) }
     ensures refused { IfErr result (λ e. IsRefused D.Disk ⊥ ⊥ (OfEachMapped D.Disk records.old disk.old (place_of entry.root) entry.nodes (holds_of names.now) (λ now document layout. ⊥)) e records.old records.new disk.old disk.new) }
 {
-    let wanted = Wanted::Those(names.map.holders(last_label(steps.as_slice())));
+    if records.is_ended() {
+        return Err(NavError::Ended);
+    }
+    let holders = names.map.holders(last_label(steps.as_slice()))?;
+    let wanted = Wanted::Those(holders);
     let mut walk = Walk {
         alloc,
         looks: Looking {

@@ -63,7 +63,7 @@ pub struct Walk<T> {
 #[derive(Clone, Copy)]
 struct Spot {
     page: u32,
-    depth: u32,
+    levels: u32,
 }
 
 // Shows the document whose root's record stands at a place.
@@ -71,7 +71,7 @@ pub fn show_document<D: Disk, T: Looks>(
     walk: &mut Walk<T>,
     records: &mut Records,
     disk: &mut D,
-    wanted: &Wanted<'_>,
+    wanted: &Wanted,
     root: Rid,
 ) -> Result<(), NavError>
     ensures still { IsStill D.Disk disk.old disk.new }
@@ -92,24 +92,24 @@ fn show_interval<D: Disk, T: Looks>(
     walk: &mut Walk<T>,
     records: &mut Records,
     disk: &mut D,
-    wanted: &Wanted<'_>,
+    wanted: &Wanted,
     rid: Rid,
     roots: u16,
-    depth: u32,
+    levels: u32,
 ) -> Result<(), NavError>
     requires runs { has_ended records.old ≡ false }
     ensures still { IsStill D.Disk disk.old disk.new }
     ensures stays { OnOk result (LeavesRecords records.old records.new) }
     ensures shown { OnOk result (ShowsWhole D.Disk T.Shown (IsIntervalAt D.Disk records.old disk.old (place_of rid) roots) (looks_entering (is_wanted wanted.now)) records.old walk.old.looks disk.old walk.old.left walk.new.looks disk.new walk.new.left) }
     ensures stops { OnErr result (StopsShowing D.Disk (IsIntervalAt D.Disk records.old disk.old (place_of rid) roots) (looks_entering (is_wanted wanted.now)) records.old disk.old disk.new) }
-    ensures refused { IfErr result (λ e. IsRefused D.Disk ⊥ ⊥ (IsNoSuch (IsIntervalAt D.Disk records.old disk.old (place_of rid) roots) (looks_entering (is_wanted wanted.now)) depth walk.old.left) e records.old records.new disk.old disk.new) }
+    ensures refused { IfErr result (λ e. IsRefused D.Disk ⊥ ⊥ (IsNoSuch (IsIntervalAt D.Disk records.old disk.old (place_of rid) roots) (looks_entering (is_wanted wanted.now)) levels walk.old.left) e records.old records.new disk.old disk.new) }
 {
     let mut bytes = Bytes::new(walk.alloc);
     let piece = piece_at(walk.alloc, records, disk, rid, roots, &mut bytes)?;
     walk.looks.enter(rid)?;
     let spot = Spot {
         page: rid.page,
-        depth,
+        levels,
     };
     let mut proxies = piece.proxies.as_slice();
     let mut items = piece.body.roots();
@@ -130,7 +130,7 @@ fn show_tree<'a, D: Disk, T: Looks>(
     walk: &mut Walk<T>,
     records: &mut Records,
     disk: &mut D,
-    wanted: &Wanted<'_>,
+    wanted: &Wanted,
     tree: TreeView<'_>,
     proxies: &'a [Proxy],
     spot: Spot,
@@ -142,16 +142,16 @@ fn show_tree<'a, D: Disk, T: Looks>(
     ensures behind { IfOk result (λ behind. behind.now ≡ drop (proxies_in (seen_items tree.entry.children)) proxies.now) }
     ensures shown { OnOk result (ShowsWhole D.Disk T.Shown (IsTreeOf D.Disk records.old disk.old (seen_tree tree.entry) proxies.now) (looks_of (is_wanted wanted.now)) records.old walk.old.looks disk.old walk.old.left walk.new.looks disk.new walk.new.left) }
     ensures stops { OnErr result (StopsShowing D.Disk (IsTreeOf D.Disk records.old disk.old (seen_tree tree.entry) proxies.now) (looks_of (is_wanted wanted.now)) records.old disk.old disk.new) }
-    ensures refused { IfErr result (λ e. IsRefused D.Disk ⊥ ⊥ (IsNoSuch (IsTreeOf D.Disk records.old disk.old (seen_tree tree.entry) proxies.now) (looks_of (is_wanted wanted.now)) spot.depth walk.old.left) e records.old records.new disk.old disk.new) }
+    ensures refused { IfErr result (λ e. IsRefused D.Disk ⊥ ⊥ (IsNoSuch (IsTreeOf D.Disk records.old disk.old (seen_tree tree.entry) proxies.now) (looks_of (is_wanted wanted.now)) spot.levels walk.old.left) e records.old records.new disk.old disk.new) }
 {
-    if spot.depth == 0 || walk.left == 0 {
+    if spot.levels == 0 || walk.left == 0 {
         return Err(damaged(records, spot.page));
     }
     walk.left -= 1;
     walk.looks.begin(tree.node.kind, tree.node.name)?;
     let below = Spot {
         page: spot.page,
-        depth: spot.depth - 1,
+        levels: spot.levels - 1,
     };
     let behind = show_items(walk, records, disk, wanted, tree.children, proxies, below)?;
     walk.looks.end(tree.node.kind)?;
@@ -164,7 +164,7 @@ fn show_items<'a, D: Disk, T: Looks>(
     walk: &mut Walk<T>,
     records: &mut Records,
     disk: &mut D,
-    wanted: &Wanted<'_>,
+    wanted: &Wanted,
     items: ItemsView<'_>,
     proxies: &'a [Proxy],
     spot: Spot,
@@ -176,7 +176,7 @@ fn show_items<'a, D: Disk, T: Looks>(
     ensures behind { IfOk result (λ behind. behind.now ≡ drop (proxies_in (seen_items items.entry)) proxies.now) }
     ensures shown { OnOk result (ShowsWhole D.Disk T.Shown (AreOf D.Disk records.old disk.old (seen_items items.entry) proxies.now) (looks_of (is_wanted wanted.now)) records.old walk.old.looks disk.old walk.old.left walk.new.looks disk.new walk.new.left) }
     ensures stops { OnErr result (StopsShowing D.Disk (AreOf D.Disk records.old disk.old (seen_items items.entry) proxies.now) (looks_of (is_wanted wanted.now)) records.old disk.old disk.new) }
-    ensures refused { IfErr result (λ e. IsRefused D.Disk ⊥ ⊥ (IsNoSuch (AreOf D.Disk records.old disk.old (seen_items items.entry) proxies.now) (looks_of (is_wanted wanted.now)) spot.depth walk.old.left) e records.old records.new disk.old disk.new) }
+    ensures refused { IfErr result (λ e. IsRefused D.Disk ⊥ ⊥ (IsNoSuch (AreOf D.Disk records.old disk.old (seen_items items.entry) proxies.now) (looks_of (is_wanted wanted.now)) spot.levels walk.old.left) e records.old records.new disk.old disk.new) }
 {
     let mut rest = proxies;
     let mut left = items;
@@ -187,7 +187,7 @@ fn show_items<'a, D: Disk, T: Looks>(
             }
             ItemView::Run { count } => {
                 let (here, behind) = rest.split_at(count as usize);
-                show_row(walk, records, disk, wanted, here, spot.depth)?;
+                show_row(walk, records, disk, wanted, here, spot.levels)?;
                 rest = behind;
             }
         }
@@ -202,23 +202,23 @@ fn show_row<D: Disk, T: Looks>(
     walk: &mut Walk<T>,
     records: &mut Records,
     disk: &mut D,
-    wanted: &Wanted<'_>,
+    wanted: &Wanted,
     proxies: &[Proxy],
-    depth: u32,
+    levels: u32,
 ) -> Result<(), NavError>
     requires runs { has_ended records.old ≡ false }
     ensures still { IsStill D.Disk disk.old disk.new }
     ensures stays { OnOk result (LeavesRecords records.old records.new) }
     ensures shown { OnOk result (ShowsWhole D.Disk T.Shown (AreIntervalsOf D.Disk records.old disk.old proxies.now) (looks_of (is_wanted wanted.now)) records.old walk.old.looks disk.old walk.old.left walk.new.looks disk.new walk.new.left) }
     ensures stops { OnErr result (StopsShowing D.Disk (AreIntervalsOf D.Disk records.old disk.old proxies.now) (looks_of (is_wanted wanted.now)) records.old disk.old disk.new) }
-    ensures refused { IfErr result (λ e. IsRefused D.Disk ⊥ ⊥ (IsNoSuch (AreIntervalsOf D.Disk records.old disk.old proxies.now) (looks_of (is_wanted wanted.now)) depth walk.old.left) e records.old records.new disk.old disk.new) }
+    ensures refused { IfErr result (λ e. IsRefused D.Disk ⊥ ⊥ (IsNoSuch (AreIntervalsOf D.Disk records.old disk.old proxies.now) (looks_of (is_wanted wanted.now)) levels walk.old.left) e records.old records.new disk.old disk.new) }
 {
     for proxy in proxies {
         let rid = Rid {
             page: proxy.page,
             slot: proxy.slot,
         };
-        show_proxy(walk, records, disk, wanted, rid, proxy.roots, depth)?;
+        show_proxy(walk, records, disk, wanted, rid, proxy.roots, levels)?;
     }
     Ok(())
 }
@@ -229,20 +229,20 @@ fn show_proxy<D: Disk, T: Looks>(
     walk: &mut Walk<T>,
     records: &mut Records,
     disk: &mut D,
-    wanted: &Wanted<'_>,
+    wanted: &Wanted,
     rid: Rid,
     roots: u16,
-    depth: u32,
+    levels: u32,
 ) -> Result<(), NavError>
     requires runs { has_ended records.old ≡ false }
     ensures still { IsStill D.Disk disk.old disk.new }
     ensures stays { OnOk result (LeavesRecords records.old records.new) }
     ensures shown { OnOk result (ShowsWhole D.Disk T.Shown (IsIntervalAt D.Disk records.old disk.old (place_of rid) roots) (looks_of (is_wanted wanted.now)) records.old walk.old.looks disk.old walk.old.left walk.new.looks disk.new walk.new.left) }
     ensures stops { OnErr result (StopsShowing D.Disk (IsIntervalAt D.Disk records.old disk.old (place_of rid) roots) (looks_of (is_wanted wanted.now)) records.old disk.old disk.new) }
-    ensures refused { IfErr result (λ e. IsRefused D.Disk ⊥ ⊥ (IsNoSuch (IsIntervalAt D.Disk records.old disk.old (place_of rid) roots) (looks_of (is_wanted wanted.now)) depth walk.old.left) e records.old records.new disk.old disk.new) }
+    ensures refused { IfErr result (λ e. IsRefused D.Disk ⊥ ⊥ (IsNoSuch (IsIntervalAt D.Disk records.old disk.old (place_of rid) roots) (looks_of (is_wanted wanted.now)) levels walk.old.left) e records.old records.new disk.old disk.new) }
 {
     if wanted.wants(rid) {
-        return show_interval(walk, records, disk, wanted, rid, roots, depth);
+        return show_interval(walk, records, disk, wanted, rid, roots, levels);
     }
     walk.looks.pass(roots)?;
     Ok(())

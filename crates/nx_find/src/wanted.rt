@@ -7,14 +7,14 @@ use nx_names::Holders;
 use nx_records::Rid;
 
 // Which records a walk reads below the root's.
-#[derive(Clone, Copy)]
-pub enum Wanted<'a> {
+#[derive(Drop)]
+pub enum Wanted {
     All,
     // Those that hold a label.
-    Those(Holders<'a>),
+    Those(Holders),
 }
 
-impl<'a> Wanted<'a> {
+impl Wanted {
     // Whether the record at a place is one of them.
     pub fn wants(&self, rid: Rid) -> bool
         ensures { result ≡ is_wanted self.now (place_of rid) }

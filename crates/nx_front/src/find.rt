@@ -176,8 +176,8 @@ fn give_found<H: Host>(alloc: Global, host: &mut H, paths: &Paths) -> Result<(),
     ensures alone { GivesAlone ⟦<H as Disk>⟧ (found_text paths.now) host.old host.new }
 {
     let mut block = Bytes::new(alloc);
-    for path in paths.as_slice() {
-        push_found(&mut block, path.as_slice())?;
+    for index in 0..paths.len() {
+        push_found(&mut block, paths.path(index))?;
         if block.len() >= BLOCK {
             give_block(host, &mut block)?;
         }

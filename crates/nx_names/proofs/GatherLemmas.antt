@@ -1,11 +1,10 @@
 -- One thing more that is shown to a gatherer.
-use Rattle.std.proofs.Common.{◌≡◌, ◌<◌, ◌≤◌, ℕ, ◌+◌, ◌-◌, ◌==◌, Bool, true, false, List, [], ◌∷◌, ◌++◌, length, take, drop, get_or, refl, sym, ap, ◌∙◌, subst, length-append, arith, inl, inr}
+use Rattle.std.proofs.Common.{◌≡◌, ◌<◌, ◌≤◌, ℕ, ◌+◌, ◌-◌, Bool, true, false, List, [], ◌∷◌, ◌++◌, length, take, drop, get_or, refl, sym, ap, ◌∙◌, subst, length-append, arith, inl, inr}
 use Rattle.std.specs.Prelude.{◌&&◌, ◌||◌, if◌then◌else◌}
 use Rattle.std.specs.Str.{bytes_eq}
 use Rattle.std.specs.List.Sorted.{IsNonDecreasing}
 use Rattle.std.proofs.lemmas.Bool.{cases_lt}
 use Rattle.std.proofs.lemmas.List.{get_or_append_left, get_or-append_right, take-append-drop}
-use Rattle.std.proofs.lemmas.List.Folds.{list_any-append}
 use Rattle.std.proofs.lemmas.List.Sorted.{IsNonDecreasingBy-take}
 use Rattle.nx_tree.specs.declared.node.Kind.{Kind}
 use Rattle.nx_matrix.specs.Label.{label_by}
@@ -14,10 +13,13 @@ use Rattle.nx_names.specs.declared.noted.Noted.{Noted}
 use Rattle.nx_names.specs.declared.gatherer.Gatherer.{Gatherer}
 use Rattle.nx_names.specs.Look.{Look, RecordBegins, NodeBegins, RecordEnds}
 use Rattle.nx_names.specs.Serials.{is_in, serials_at, noted_from}
-use Rattle.nx_names.specs.Gathered.{Gathered, gathered_after, gathered_behind, HasThoseBefore, HasGathered, GathersLabels, AddsOpen}
+use Rattle.nx_names.specs.declared.serials.Serials.{Serials}
+use Rattle.nx_names.specs.Opening.{AddsOpen, HasThoseBefore}
+use Rattle.nx_names.specs.Numbering.{AreRight, IsNumbering}
+use Rattle.nx_names.specs.Gathered.{Gathered, gathered_after, gathered_behind, HasGathered, GathersLabels}
 use Rattle.nx_names.proofs.NotedLemmas.{noted-append, noted-length}
 use Rattle.nx_names.proofs.HeardLemmas.{gathered-append}
-use Rattle.nx_names.proofs.SerialLemmas.{in_either, in_first, in_one, is_in_at, rises_on}
+use Rattle.nx_names.proofs.SerialLemmas.{in_either, in_first, in_one, rises_on}
 
 one_rises : (x : ℕ) → IsNonDecreasing (x ∷ [])
 one_rises x i j d le low = let a : i ≡ 0 = omega arith in let b : j ≡ 0 = omega arith in subst (λ (m : ℕ). get_or (x ∷ []) m d ≤ get_or (x ∷ []) j d) (sym a) (subst (λ (m : ℕ). x ≤ get_or (x ∷ []) m d) (sym b) (omega arith))
@@ -25,8 +27,8 @@ one_rises x i j d le low = let a : i ≡ 0 = omega arith in let b : j ≡ 0 = om
 module _ (old new : Gatherer) (g : Gathered) (is : HasGathered old g) where
   -- a record's interval begins
   pub begins_record : (place : RecordPlace) (serial : ℕ) → place.slot < 65536 → serial ≡ length old.noted.items → new.around.items ≡ old.around.items ++ serial ∷ []
-      → new.noted.items ≡ old.noted.items ++ record { page = place.page; serial = serial; slot = place.slot } ∷ [] → new.serials ≡ old.serials → HasGathered new (gathered_after g (RecordBegins place))
-  begins_record place serial low numbered opens noted same =
+      → new.noted.items ≡ old.noted.items ++ record { page = place.page; serial = serial; slot = place.slot } ∷ [] → new.serials ≡ old.serials → new.hints ≡ old.hints → HasGathered new (gathered_after g (RecordBegins place))
+  begins_record place serial low numbered opens noted same hints =
       let n : serial ≡ length g.places = numbered ∙ ap length is.noted ∙ noted-length 0 g.places in
       let many = length-append g.places (place ∷ []) in
       record {
@@ -54,11 +56,13 @@ module _ (old new : Gatherer) (g : Gathered) (is : HasGathered old g) where
               | inl before ↦ is.before name asked later before has le
               | inr last ↦ let one = in_one (length g.places) asked last in let low = is.known name later has in absurd (omega arith)
             ]);
+        numbering = subst IsNumbering (sym same) is.numbering;
+        right = subst (AreRight new.serials.numbers) (sym hints) (subst (λ (s : Serials). AreRight s.numbers old.hints) (sym same) is.right);
       }
 
   -- the interval ends that began last
-  pub ends_record : new.around.items ≡ take (length old.around.items - 1) old.around.items → new.noted ≡ old.noted → new.serials ≡ old.serials → HasGathered new (gathered_after g RecordEnds)
-  ends_record closes noted same =
+  pub ends_record : new.around.items ≡ take (length old.around.items - 1) old.around.items → new.noted ≡ old.noted → new.serials ≡ old.serials → new.hints ≡ old.hints → HasGathered new (gathered_after g RecordEnds)
+  ends_record closes noted same hints =
       let n : ℕ = length g.around - 1 in
       let inside : (asked : ℕ) → is_in (take n g.around) asked ≡ true → is_in g.around asked ≡ true = λ asked among.
       subst (λ (xs : List ℕ). is_in xs asked ≡ true) (take-append-drop n g.around) (in_first (take n g.around) (drop n g.around) asked among) in
@@ -72,12 +76,14 @@ module _ (old new : Gatherer) (g : Gathered) (is : HasGathered old g) where
         ascend = λ name. subst (λ s. IsNonDecreasing (serials_at s name)) (sym same) (is.ascend name);
         known = λ name asked among. is.known name asked (sym (ap (λ s. is_in (serials_at s name) asked) same) ∙ among);
         before = λ name. subst (λ s. HasThoseBefore (serials_at s name) (take n g.around)) (sym same) (λ asked later among has le. is.before name asked later (inside asked among) has le);
+        numbering = subst IsNumbering (sym same) is.numbering;
+        right = subst (AreRight new.serials.numbers) (sym hints) (subst (λ (s : Serials). AreRight s.numbers old.hints) (sym same) is.right);
       }
 
   -- a node begins, whose label's numbers were added to
   pub begins_node : (kind : Kind) (name added : List ℕ) → new.around ≡ old.around → new.noted ≡ old.noted → ((asked : List ℕ) → serials_at new.serials asked ≡ (if bytes_eq asked (label_by kind name) then added else serials_at old.serials asked))
-      → ((asked : List ℕ) → bytes_eq asked (label_by kind name) ≡ true → AddsOpen (serials_at old.serials asked) old.around.items added) → HasGathered new (gathered_after g (NodeBegins kind name))
-  begins_node kind name added opens noted after adds = record {
+      → ((asked : List ℕ) → bytes_eq asked (label_by kind name) ≡ true → AddsOpen (serials_at old.serials asked) old.around.items added) → IsNumbering new.serials → AreRight new.serials.numbers new.hints → HasGathered new (gathered_after g (NodeBegins kind name))
+  begins_node kind name added opens noted after adds numbering right = record {
     around = ap (λ v. v.items) opens ∙ is.around;
     noted = ap (λ v. v.items) noted ∙ is.noted;
     heard = λ asked serial. ap (λ (xs : List ℕ). is_in xs serial) (after asked) ∙ heard_case asked serial (bytes_eq asked (label_by kind name)) refl;
@@ -87,6 +93,8 @@ module _ (old new : Gatherer) (g : Gathered) (is : HasGathered old g) where
     ascend = λ asked. subst IsNonDecreasing (sym (after asked)) (ascend_case asked (bytes_eq asked (label_by kind name)) refl);
     known = λ asked serial among. known_case asked serial (bytes_eq asked (label_by kind name)) refl (sym (ap (λ (xs : List ℕ). is_in xs serial) (after asked)) ∙ among);
     before = λ asked. subst (λ (xs : List ℕ). HasThoseBefore xs g.around) (sym (after asked)) (before_case asked (bytes_eq asked (label_by kind name)) refl);
+    numbering = numbering;
+    right = right;
   }
     where
       both : (asked : List ℕ) → bytes_eq asked (label_by kind name) ≡ true → IsNonDecreasing added × ((serial : ℕ) → is_in added serial ≡ (is_in (serials_at old.serials asked) serial || is_in g.around serial))

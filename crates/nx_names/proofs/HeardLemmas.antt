@@ -1,15 +1,13 @@
 -- What was gathered of a whole layout.
-use Rattle.std.proofs.Common.{◌≡◌, ◌<◌, ◌≤◌, ℕ, ◌+◌, ◌-◌, ◌==◌, Bool, true, false, List, [], ◌∷◌, ◌++◌, length, take, refl, sym, ap, ◌∙◌, subst, append_assoc, length-append, arith, inl, inr}
+use Rattle.std.proofs.Common.{◌≡◌, ◌<◌, ◌≤◌, ℕ, ◌+◌, ◌-◌, ◌==◌, Bool, true, false, List, [], ◌∷◌, ◌++◌, length, take, refl, sym, ap, ◌∙◌, subst, append_assoc, length-append, arith}
 use Rattle.std.specs.Prelude.{◌&&◌, ◌||◌}
 use Rattle.std.specs.Str.{bytes_eq}
-use Rattle.std.specs.List.{list_any}
 use Rattle.std.proofs.lemmas.List.{append-nil}
 use Rattle.std.proofs.lemmas.List.Folds.{list_any-append}
 use Rattle.std.proofs.lemmas.Bool.Decides.{nat_tests}
-use Rattle.nx_tree.specs.declared.node.Node.{Node}
 use Rattle.nx_matrix.specs.Label.{label}
 use Rattle.nx_cuts.specs.Cut.{Bare, Grown, Kept}
-use Rattle.nx_layouts.specs.Layout.{RecordPlace, Layout, laid_near, laid_forest, places_of, whole, ArePlacedOnce}
+use Rattle.nx_layouts.specs.Layout.{RecordPlace, Layout, laid_forest, places_of, ArePlacedOnce}
 use Rattle.nx_reach.specs.Reach.{has_label}
 use Rattle.nx_names.specs.Labels.{HoldsLabels}
 use Rattle.nx_names.specs.Look.{Look, RecordBegins, NodeBegins, NodeEnds, RecordEnds, looks_of, looks_into}

@@ -5,3 +5,5 @@ pub mod SerialLemmas
 pub mod GatherLemmas
 pub mod HeardLemmas
 pub mod SortLemmas
+pub mod HolderLemmas
+pub mod NumberLemmas

@@ -1,5 +1,5 @@
 -- What is shown of a layout, one part after another.
-use Rattle.std.proofs.Common.{◌≡◌, ◌≤◌, ℕ, ◌+◌, Bool, true, false, true≢false, List, [], ◌∷◌, ◌++◌, refl, sym, ap, ◌∙◌, subst, append_assoc, arith}
+use Rattle.std.proofs.Common.{◌≡◌, ◌≤◌, ℕ, ◌+◌, Bool, true, false, true≢false, List, [], ◌∷◌, ◌++◌, refl, sym, ap, ◌∙◌, append_assoc, arith}
 use Rattle.std.specs.Prelude.{if◌then◌else◌, filter, ◌||◌}
 use Rattle.std.specs.Str.{bytes_eq}
 use Rattle.std.proofs.lemmas.List.{append-nil}
@@ -14,7 +14,7 @@ use Rattle.nx_cuts.specs.Cut.{Bare, Grown, Kept, joined, width}
 use Rattle.nx_layouts.specs.Layout.{RecordPlace, Layout, laid_near, laid_forest, places_of}
 use Rattle.nx_layouts.specs.Replace.{joined_layout}
 use Rattle.nx_reach.specs.Reach.{has_label}
-use Rattle.nx_reach.specs.Seen.{Seen, Opened, Closed, Skipped}
+use Rattle.nx_reach.specs.Seen.{Opened, Closed, Skipped}
 use Rattle.nx_names.specs.Shown.{shown_wanted}
 use Rattle.nx_names.specs.Labels.{HoldsLabels, entered_places}
 use Rattle.nx_names.specs.Look.{Look, RecordBegins, NodeBegins, NodeEnds, RecordEnds, RecordPassed, looks_of, looks_into, begun_nodes, begun_places, seen_of}

@@ -1,18 +1,18 @@
 -- What is found among records by their places.
-use Rattle.std.proofs.Common.{◌≡◌, ◌<◌, ◌≤◌, ℕ, zero, suc, ◌+◌, ◌*◌, ◌==◌, Bool, true, false, true≢false, List, [], ◌∷◌, ◌++◌, length, get_or, Contains, refl, sym, ap, ◌∙◌, subst, arith, inl, inr}
+use Rattle.std.proofs.Common.{◌≡◌, ◌<◌, ◌≤◌, ℕ, zero, suc, ◌+◌, ◌*◌, Bool, true, false, List, [], ◌∷◌, ◌++◌, length, get_or, Contains, refl, sym, ap, ◌∙◌, subst, arith, inl, inr}
 use Rattle.std.specs.Prelude.{◌&&◌, ◌||◌}
 use Rattle.std.specs.List.Sorted.{IsNonDecreasingBy, IsPartitionPoint}
 use Rattle.std.specs.Ordering.{nat_cmp, ordering_index}
 use Rattle.std.specs.declared.cmp.Ordering.TheVariants.{Less, Equal, Greater}
 use Rattle.std.proofs.lemmas.Cmp.{ranked}
 use Rattle.std.proofs.lemmas.Bool.{cases_lt}
-use Rattle.std.proofs.lemmas.List.Sorted.{IsNonDecreasingBy-from_default}
+use Rattle.std.proofs.lemmas.List.Folds.{list_any_at}
 use Rattle.std.proofs.lemmas.Bool.Decides.{nat_tests}
 use Rattle.std.proofs.lemmas.List.Elements.{Contains-append_left}
 use Rattle.nx_layouts.specs.Layout.{RecordPlace, ArePlacedOnce}
 use Rattle.nx_layouts.proofs.PlaceLemmas.{place_is, first_among, later_among, once-right, once-disjoint}
 use Rattle.nx_names.specs.declared.noted.Noted.{Noted}
-use Rattle.nx_names.specs.Serials.{is_noted_at, has_noted, noted_from, noted_key, PlacesRise}
+use Rattle.nx_names.specs.Serials.{HaveSmallSlots, is_noted_at, has_noted, noted_from, noted_key, PlacesRise}
 
 -- what isn't so is false
 pub not_true : (b : Bool) → (b ≡ true → ⊥) → b ≡ false
@@ -72,21 +72,24 @@ rises_far records d rise i (suc j) less high =
       | inr not_before ↦ let same : i ≡ j = omega arith in subst (λ (k : ℕ). noted_key (get_or records k d) < noted_key (get_or records (suc j) d)) (sym same) next
     ]
 
-module _ (records : List Noted) (small : (k : ℕ) (d : Noted) → k < length records → (get_or records k d).slot < 65536) (rise : PlacesRise records) (place : RecordPlace) (low : place.slot < 65536) where
+-- ... so they are in the order of their keys
+pub rising_sorted : (records : List Noted) → PlacesRise records → IsNonDecreasingBy noted_key records
+rising_sorted records rise i j d le high = elim (cases_lt i j) [
+  | inl before ↦ let far = rises_far records d rise i j before high in omega arith
+  | inr not_before ↦ let same : i ≡ j = omega arith in subst (λ (k : ℕ). noted_key (get_or records i d) ≤ noted_key (get_or records k d)) same (omega arith)
+]
+
+module _ (records : List Noted) (small : HaveSmallSlots records) (up : IsNonDecreasingBy noted_key records) (place : RecordPlace) (low : place.slot < 65536) where
   abbrev key : ℕ
   key = place.page * 65536 + place.slot
 
   -- the comparisons with the key rise along the records, as a binary search asks
-  comparisons_rise : (d : Noted) → IsNonDecreasingBy (λ r. ordering_index (nat_cmp (noted_key r) key)) records
-  comparisons_rise d = IsNonDecreasingBy-from_default (λ r. ordering_index (nat_cmp (noted_key r) key)) records d (λ i j le high.
-      elim (cases_lt i j) [
-        | inl before ↦ let keys = rises_far records d rise i j before high in grind (arith, nat_tests)
-        | inr not_before ↦ let same : i ≡ j = omega arith in subst (λ (k : ℕ). ordering_index (nat_cmp (noted_key (get_or records i d)) key) ≤ ordering_index (nat_cmp (noted_key (get_or records k d)) key)) same (omega arith)
-      ])
+  comparisons_rise : IsNonDecreasingBy (λ r. ordering_index (nat_cmp (noted_key r) key)) records
+  comparisons_rise i j d le high = let keys = up i j d le high in grind (arith, nat_tests)
 
   -- a binary search by keys finds the record at the place
-  pub found_noted : (at : ℕ) (d : Noted) → at < length records → nat_cmp (noted_key (get_or records at d)) key ≡ Equal → (test : ℕ → Bool) → has_noted records place test ≡ test (get_or records at d).serial
-  found_noted at d high equal test =
+  pub found_noted : PlacesRise records → (at : ℕ) (d : Noted) → at < length records → nat_cmp (noted_key (get_or records at d)) key ≡ Equal → (test : ℕ → Bool) → has_noted records place test ≡ test (get_or records at d).serial
+  found_noted rise at d high equal test =
       let same : noted_key (get_or records at d) ≡ key = ranked (noted_key (get_or records at d)) key _ (sym equal) in
       one_noted records place test d at high (has_key place (get_or records at d) low (small at d high) same) (λ j lower also.
       let other : noted_key (get_or records j d) ≡ key = is_key place (get_or records j d) also in
@@ -98,12 +101,18 @@ module _ (records : List Noted) (small : (k : ℕ) (d : Noted) → k < length re
         ]
       ])
 
+  -- ... or at least one there
+  pub found_one : (at : ℕ) (d : Noted) → at < length records → nat_cmp (noted_key (get_or records at d)) key ≡ Equal → has_noted records place (λ n. true) ≡ true
+  found_one at d high equal =
+      let same : noted_key (get_or records at d) ≡ key = ranked (noted_key (get_or records at d)) key _ (sym equal) in
+      list_any_at (λ (r : Noted). is_noted_at place r && true) records at d high (ap (λ (b : Bool). b && true) (has_key place (get_or records at d) low (small at d high) same))
+
   -- ... or none
   pub missing_noted : (at : ℕ) → (IsNonDecreasingBy (λ r. ordering_index (nat_cmp (noted_key r) key)) records → IsPartitionPoint (λ r. nat_cmp (noted_key r) key ≡ Less) (λ r. nat_cmp (noted_key r) key ≡ Greater) records at) → (test : ℕ → Bool) → has_noted records place test ≡ false
   missing_noted at parted test = none_noted records place test (λ k d low.
       not_true (is_noted_at place (get_or records k d)) (λ here.
       let same : noted_key (get_or records k d) ≡ key = is_key place (get_or records k d) here in
-      let parts = parted (comparisons_rise d) in
+      let parts = parted comparisons_rise in
       elim (cases_lt k at) [
         | inl before ↦ let less : noted_key (get_or records k d) < key = ranked (noted_key (get_or records k d)) key _ (sym (parts.0 k d (omega arith) before)) in absurd (omega arith)
         | inr behind ↦ let greater : key < noted_key (get_or records k d) = ranked (noted_key (get_or records k d)) key _ (sym (parts.1 k d behind low)) in absurd (omega arith)

@@ -1,24 +1,23 @@
 -- Lists of numbers that don't fall, and maps from labels to them.
-use Rattle.std.proofs.Common.{◌≡◌, ◌<◌, ◌≤◌, ℕ, zero, suc, leb, ◌+◌, ◌-◌, ◌==◌, Bool, true, false, List, [], ◌∷◌, ◌++◌, Vec, Global, length, take, drop, get_or, refl, sym, ap, ◌∙◌, subst, length-append, arith, inl, inr, cond, Result, Ok, Err}
-use Rattle.std.specs.Prelude.{◌⊎◌, ◌||◌, Option, Some, None, if◌then◌else◌}
+use Rattle.std.proofs.Common.{◌≡◌, ◌<◌, ◌≤◌, ℕ, zero, suc, leb, ◌+◌, ◌-◌, ◌==◌, Bool, true, false, List, [], ◌∷◌, ◌++◌, length, take, drop, get_or, refl, sym, ap, ◌∙◌, subst, length-append, arith, inl, inr, Result, Ok, Err}
+use Rattle.std.specs.Prelude.{◌⊎◌, ◌||◌, Some}
 use Rattle.std.specs.Str.{bytes_eq}
-use Rattle.std.specs.Option.{option_map_or}
-use Rattle.std.specs.List.{list_any, slice_get, AllWithin}
+use Rattle.std.specs.List.{slice_get}
 use Rattle.std.specs.List.Sorted.{IsNonDecreasing, IsPartitionPoint, IsBinarySearchResult}
 use Rattle.std.specs.Result.{MatchResult, is_ok}
 use Rattle.std.proofs.lemmas.List.Sorted.{searched}
-use Rattle.std.specs.Ordering.{is_eq, nat_cmp, eq_by_cmp}
+use Rattle.std.specs.Ordering.{is_eq, nat_cmp}
 use Rattle.std.specs.Cmp.Lexicographic.{slice_cmp}
-use Rattle.std.specs.BTreeMap.{BTreeMap, get_by, is_at, UpdatesBy}
-use Rattle.std.specs.Map.{IsKeyTest, AreApart, KeepsOthers}
+use Rattle.std.specs.BTreeMap.{is_at, UpdatesBy}
+use Rattle.std.specs.Map.{KeepsOthers}
 use Rattle.std.proofs.lemmas.Bool.{cases_lt}
 use Rattle.std.proofs.lemmas.Bool.Decides.{nat_tests}
 use Rattle.std.proofs.lemmas.List.{take_all, length-take, length-drop, get_or-take, get_or-drop, get_or_append_left, get_or-append_right, take-append-drop}
-use Rattle.std.proofs.lemmas.List.Folds.{list_any-append, list_any_at, Any-from_list_any}
+use Rattle.std.proofs.lemmas.List.Folds.{list_any-append, list_any_at}
 use Rattle.std.proofs.lemmas.Map.Text.{is_eq-slice_cmp}
 use Rattle.std.proofs.lemmas.Slice.Eq.{bytes_eq-Decides}
-use Rattle.nx_names.specs.Serials.{is_in, serials_at}
-use Rattle.nx_names.specs.Gathered.{HasThoseBefore, IsFirstNew, AddsOpen}
+use Rattle.nx_names.specs.Serials.{LabelNumbers, is_in, label_number}
+use Rattle.nx_names.specs.Opening.{HasThoseBefore, IsFirstNew, AddsOpen}
 use Rattle.nx_names.proofs.NotedLemmas.{not_true, or_false}
 
 -- where a number is in a list
@@ -97,25 +96,20 @@ adds_open serials around new n parts is rest = λ rises ascend before.
             ap (λ (b : Bool). b || is_in (drop n around) serial) known ∙ sym (ap (λ (b : Bool). b || is_in around serial) known)
         by_case false newer = ap (λ (b : Bool). is_in serials serial || b) (sym (parted serial ∙ ap (λ (b : Bool). b || is_in (drop n around) serial) newer))
 
--- a map in which one label's numbers were written
-module _ (name : List ℕ) (old new : BTreeMap (Vec ℕ Global) (Vec ℕ Global)) (serials : Vec ℕ Global) (updates : UpdatesBy (λ a b. slice_cmp nat_cmp a.items b.items) (λ key. slice_cmp nat_cmp name key.items) old new (Some serials)) where
+-- labels one of which got a number
+module _ (name : List ℕ) (old new : LabelNumbers) (number : ℕ) (updates : UpdatesBy (λ a b. slice_cmp nat_cmp a.items b.items) (λ key. slice_cmp nat_cmp name key.items) old new (Some number)) where
   is_same : (a b : List ℕ) → is_eq (slice_cmp nat_cmp a b) ≡ true → a ≡ b
   is_same a b e = (bytes_eq-Decides a b).0 (sym (is_eq-slice_cmp a b) ∙ e)
 
-  others : (asked : List ℕ) → bytes_eq asked name ≡ false → get_by (λ key. slice_cmp nat_cmp asked key.items) new ≡ get_by (λ key. slice_cmp nat_cmp asked key.items) old
+  pub number_here : label_number new name ≡ Some number
+  number_here = updates.1
+
+  pub number_apart : (asked : List ℕ) → bytes_eq asked name ≡ false → label_number new asked ≡ label_number old asked
   unfolding KeepsOthers
-  others asked other =
+  number_apart asked other =
       updates.3 (is_at (λ key. slice_cmp nat_cmp asked key.items))
       (λ x y is. ap (λ (a : List ℕ). is_eq (slice_cmp nat_cmp a y.items)) (is_same asked x.items is))
       (λ key is. is_eq-slice_cmp asked key.items ∙ ap (bytes_eq asked) (sym (is_same name key.items is)) ∙ other)
-
-  pub serials_after : (asked : List ℕ) → serials_at new asked ≡ (if bytes_eq asked name then serials.items else serials_at old asked)
-  serials_after asked = by_case (bytes_eq asked name) refl
-    where
-      by_case : (b : Bool) → bytes_eq asked name ≡ b → serials_at new asked ≡ (if b then serials.items else serials_at old asked)
-      by_case true same =
-          ap (serials_at new) ((bytes_eq-Decides asked name).0 same) ∙ ap (λ (o : Option (Vec ℕ Global)). option_map_or (λ serials. serials.items) o []) updates.1
-      by_case false other = ap (λ (o : Option (Vec ℕ Global)). option_map_or (λ serials. serials.items) o []) (others asked other)
 
 slice_at : (xs : List ℕ) (k x : ℕ) → slice_get xs k ≡ Some x → (k < length xs) × ((d : ℕ) → get_or xs k d ≡ x)
 slice_at [] k x e = absurd (cc)

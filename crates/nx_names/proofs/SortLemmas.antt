@@ -1,15 +1,15 @@
 -- Records put in the order of their places.
-use Rattle.std.proofs.Common.{◌≡◌, ◌<◌, ◌≤◌, ℕ, zero, suc, ◌+◌, ◌*◌, ◌==◌, Bool, true, false, List, [], ◌∷◌, ◌++◌, length, get_or, Contains, refl, sym, ap, ◌∙◌, subst, arith}
+use Rattle.std.proofs.Common.{◌≡◌, ◌<◌, ℕ, zero, suc, ◌+◌, ◌*◌, ◌==◌, Bool, false, List, [], ◌∷◌, length, get_or, Contains, subst, arith}
 use Rattle.std.specs.List.{AllByRecursion, IsDistinct}
 use Rattle.std.specs.List.Sorted.{IsPermutation, IsNonDecreasingBy}
 use Rattle.std.proofs.lemmas.Bool.Decides.{nat_tests}
 use Rattle.std.proofs.lemmas.List.Sorted.{All-permutation}
-use Rattle.std.proofs.lemmas.Map.Keys.{IsDistinct-cons, IsDistinct-IsPermutation, apart_from_distinct}
+use Rattle.std.proofs.lemmas.Map.Keys.{IsDistinct-IsPermutation, apart_from_distinct}
 use Rattle.nx_layouts.specs.Layout.{RecordPlace, ArePlacedOnce}
 use Rattle.nx_layouts.proofs.PlaceLemmas.{place_is, first_among, later_among}
 use Rattle.nx_names.specs.declared.noted.Noted.{Noted}
 use Rattle.nx_names.specs.Serials.{noted_from, noted_key, PlacesRise}
-use Rattle.nx_names.proofs.NotedLemmas.{not_true, noted-length}
+use Rattle.nx_names.proofs.NotedLemmas.{not_true}
 
 -- records with equal keys
 abbrev pub has_same_key : Noted → Noted → Bool
@@ -50,7 +50,7 @@ sorted_rise places sorted small once same up k d low =
     let le = up k (k + 1) d (omega arith) low in
     grind (arith, nat_tests)
 
-small_noted : (n : ℕ) (places : List RecordPlace) → AreSmall places → (k : ℕ) (d : Noted) → k < length (noted_from n places) → (get_or (noted_from n places) k d).slot < 65536
+pub small_noted : (n : ℕ) (places : List RecordPlace) → AreSmall places → (k : ℕ) (d : Noted) → k < length (noted_from n places) → (get_or (noted_from n places) k d).slot < 65536
 small_noted n [] small k d low = absurd (omega arith)
 small_noted n (p ∷ places) small zero d low = small 0 p (omega arith)
 small_noted n (p ∷ places) small (suc k) d low = small_noted (n + 1) places (small_rest p places small) k d (omega arith)

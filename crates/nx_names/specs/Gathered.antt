@@ -1,5 +1,5 @@
 -- Which labels stand at or below records, gathered of what a walk shows.
-use Rattle.std.specs.Prelude.{◌≡◌, ℕ, ◌-◌, ◌<◌, ◌≤◌, ◌&&◌, ◌||◌, Bool, true, false, List, [], ◌∷◌, ◌++◌, length, take, drop, get_or}
+use Rattle.std.specs.Prelude.{◌≡◌, ℕ, ◌-◌, ◌<◌, ◌&&◌, ◌||◌, Bool, true, false, List, [], ◌∷◌, ◌++◌, length, take, get_or}
 use Rattle.std.specs.Str.{bytes_eq}
 use Rattle.std.specs.List.Sorted.{IsNonDecreasing}
 use Rattle.nx_matrix.specs.Label.{label_by}
@@ -8,10 +8,12 @@ use Rattle.nx_names.specs.declared.map.LabelMap.{LabelMap}
 use Rattle.nx_names.specs.declared.gatherer.Gatherer.{Gatherer}
 use Rattle.nx_names.specs.Look.{Look, RecordBegins, NodeBegins, NodeEnds, RecordEnds, RecordPassed}
 use Rattle.nx_names.specs.Serials.{is_in, serials_at, has_noted, noted_from}
+use Rattle.nx_names.specs.Opening.{HasThoseBefore}
+use Rattle.nx_names.specs.Numbering.{AreRight, IsNumbering}
 
 -- whether a node at or below the record at a place has the label, by the map
 abbrev pub holds_label : LabelMap → RecordPlace → List ℕ → Bool
-holds_label map place name = has_noted map.noted.items place (is_in (serials_at map.serials name))
+holds_label map place name = has_noted map.placed.items place (is_in (serials_at map.serials name))
 
 -- What was gathered: the numbers of the intervals around the walk, the outermost's first; the places of the records in the order of their numbers, from 0 on; and whether a node with
 -- a label came in the interval of the record of a number.
@@ -34,10 +36,6 @@ gathered_behind g (look ∷ looks) = gathered_behind (gathered_after g look) loo
 abbrev pub nothing_gathered : Gathered
 nothing_gathered = record { around = []; places = []; heard = λ asked serial. false }
 
--- A number that is around the walk is in the list where a greater one is.
-abbrev pub HasThoseBefore : List ℕ → List ℕ → Type 0
-HasThoseBefore serials around = (serial later : ℕ) → is_in around serial ≡ true → is_in serials later ≡ true → serial ≤ later → is_in serials serial ≡ true
-
 -- so much has been gathered
 pub record HasGathered (gatherer : Gatherer) (g : Gathered) : Type 0 where
   pub around : gatherer.around.items ≡ g.around
@@ -49,16 +47,9 @@ pub record HasGathered (gatherer : Gatherer) (g : Gathered) : Type 0 where
   pub ascend : (name : List ℕ) → IsNonDecreasing (serials_at gatherer.serials name)
   pub known : (name : List ℕ) (serial : ℕ) → is_in (serials_at gatherer.serials name) serial ≡ true → serial < length g.places
   pub before : (name : List ℕ) → HasThoseBefore (serials_at gatherer.serials name) g.around
+  pub numbering : IsNumbering gatherer.serials
+  pub right : AreRight gatherer.serials.numbers gatherer.hints
 
 -- so much was shown to it
 abbrev pub GathersLabels : Gatherer → List Look → Gatherer → Type 0
 GathersLabels old looks new = (g : Gathered) → HasGathered old g → HasGathered new (gathered_behind g looks)
-
--- To the numbers of a list those of the intervals around the walk came that weren't among them.
-abbrev pub AddsOpen : List ℕ → List ℕ → List ℕ → Type 0
-AddsOpen old around new = IsNonDecreasing around → IsNonDecreasing old → HasThoseBefore old around → IsNonDecreasing new × ((serial : ℕ) → is_in new serial ≡ (is_in old serial || is_in around serial))
-
--- Of these numbers each of the first n is no greater than some in the list, and the others are greater than all of these.
-pub record IsFirstNew (serials around : List ℕ) (n : ℕ) : Type 0 where
-  pub older : IsNonDecreasing around → (serial : ℕ) → is_in (take n around) serial ≡ true → (later : ℕ) × (is_in serials later ≡ true) × (serial ≤ later)
-  pub newer : IsNonDecreasing around → IsNonDecreasing serials → (serial earlier : ℕ) → is_in (drop n around) serial ≡ true → is_in serials earlier ≡ true → earlier < serial

@@ -4,3 +4,5 @@ pub mod Look
 pub mod Serials
 pub mod Gathered
 pub mod Holders
+pub mod Opening
+pub mod Numbering

@@ -1,15 +1,19 @@
 // The labels at or below records, gathered on a walk over all of them.
-ghost use Rattle.std.specs.Prelude.{◌≡◌, ◌≤◌, ◌<◌, ℕ, List, length, [], ◌∷◌, OnOk, IfOk, true, ◌↔◌};
+ghost use Rattle.std.specs.Prelude.{◌≡◌, ℕ, List, [], ◌∷◌, OnOk, IfOk, true, ◌↔◌};
 ghost use Rattle.std.specs.Option.{MatchOption};
 ghost use Rattle.nx_layouts.specs.Layout.{RecordPlace, ArePlacedOnce};
 ghost use Rattle.nx_names.specs.Look.{RecordBegins, NodeBegins, RecordEnds};
 ghost use Rattle.nx_names.specs.Serials.{PlacesRise, has_noted, noted_from};
-ghost use Rattle.nx_names.specs.Gathered.{Gathered, GathersLabels, HasGathered, AddsOpen, IsFirstNew, nothing_gathered, holds_label};
+ghost use Rattle.nx_matrix.specs.Label.{label_by};
+ghost use Rattle.nx_names.specs.Numbering.{AreRight, NumbersLabel};
+ghost use Rattle.nx_names.specs.Gathered.{Gathered, GathersLabels, HasGathered, nothing_gathered, holds_label};
 
 use crate::LabelMap;
+use crate::hints::Hints;
 use crate::holding::key_of;
 use crate::labels::write_label;
 use crate::noted::Noted;
+use crate::serials::Serials;
 use nx_tree::{Kind, NoMemory};
 use std::alloc::Global;
 use std::collections::BTreeMap;
@@ -18,8 +22,8 @@ use std::collections::BTreeMap;
 #[derive(Drop)]
 pub struct Gatherer {
     alloc: Global,
-    // The numbers of the records that have a label, in their order.
-    serials: BTreeMap<Vec<u8>, Vec<u32>>,
+    serials: Serials,
+    hints: Hints,
     // In the order of their numbers.
     noted: Vec<Noted>,
     // The numbers of the records around the walk, the outermost's first.
@@ -35,7 +39,11 @@ impl Gatherer {
     {
         Gatherer {
             alloc,
-            serials: BTreeMap::new(alloc),
+            serials: Serials {
+                numbers: BTreeMap::new(alloc),
+                lists: Vec::new(alloc),
+            },
+            hints: Hints::new(alloc),
             noted: Vec::new(alloc),
             around: Vec::new(alloc),
             label: Vec::new(alloc),
@@ -62,16 +70,25 @@ impl Gatherer {
     pub fn begin(&mut self, kind: Kind, name: &[u8]) -> Result<(), NoMemory>
         ensures { OnOk result (GathersLabels self.old (NodeBegins kind name.now ∷ []) self.new) }
     {
-        write_label(&mut self.label, kind, name)?;
-        if let Some(serials) = self.serials.get_mut(self.label.as_slice()) {
-            return add_open(serials, self.around.as_slice());
+        let number = self.number_of(kind, name)?;
+        self.serials.add(self.alloc, number, self.around.as_slice())
+    }
+
+    // The number of the label of nodes of this kind and name.
+    fn number_of(&mut self, kind: Kind, name: &[u8]) -> Result<u32, NoMemory>
+        ensures number { IfOk result (λ number. AreRight self.old.serials.numbers self.old.hints → NumbersLabel self.old.serials (label_by kind name.now) self.new.serials number × AreRight self.new.serials.numbers self.new.hints) }
+        ensures noted { OnOk result (self.new.noted ≡ self.old.noted) }
+        ensures around { OnOk result (self.new.around ≡ self.old.around) }
+    {
+        if let Some(number) = self.hints.number_of(kind, name) {
+            return Ok(number);
         }
-        let mut serials = Vec::new(self.alloc);
-        serials.extend_from_slice(self.around.as_slice())?;
-        let mut label = Vec::new(self.alloc);
-        label.extend_from_slice(self.label.as_slice())?;
-        self.serials.insert(label, serials)?;
-        Ok(())
+        write_label(&mut self.label, kind, name)?;
+        let label = self.label.as_slice();
+        let number = self.serials.number_of(self.alloc, label)?;
+        let labels = self.serials.lists.len();
+        self.hints.keep(kind, name, label, number, labels)?;
+        Ok(number)
     }
 
     /// The interval ends that began last.
@@ -90,36 +107,24 @@ impl Gatherer {
             (λ map. (place : RecordPlace) (name : List ℕ) → holds_label map place name ≡ has_noted (noted_from 0 g.places) place (g.heard name))) }
     {
         let Gatherer {
+            alloc,
             serials,
             mut noted,
             ..
         } = self;
-        noted.sort_by_key(|noted| key_of(noted.page, noted.slot))?;
-        if !rise(noted.as_slice()) {
+        noted.shrink_to_fit();
+        let mut placed = Vec::from_slice(alloc, noted.as_slice())?;
+        placed.sort_by_key(|noted| key_of(noted.page, noted.slot))?;
+        if !rise(placed.as_slice()) {
             return Ok(None);
         }
-        Ok(Some(LabelMap { serials, noted }))
+        Ok(Some(LabelMap {
+            alloc,
+            serials,
+            noted,
+            placed,
+        }))
     }
-}
-
-// Adds the numbers of the records around the walk that aren't in the list. Where one is, those before it are.
-fn add_open(serials: &mut Vec<u32>, around: &[u32]) -> Result<(), NoMemory>
-    ensures { OnOk result (AddsOpen serials.old.items around.now serials.new.items) }
-{
-    let from = first_new(serials.as_slice(), around);
-    serials.extend_from_slice(&around[from..])?;
-    Ok(())
-}
-
-// Behind how many of these numbers all are greater than those in the list.
-fn first_new(serials: &[u32], around: &[u32]) -> usize
-    ensures bound { result ≤ length around.now }
-    ensures parts { IsFirstNew serials.now around.now result }
-{
-    let Some(last) = serials.last().copied() else {
-        return 0;
-    };
-    around.partition_point(|serial| *serial <= last)
 }
 
 // Whether each record stands before the next one.

@@ -3,12 +3,14 @@
 #![tactic(auto)]
 
 mod gatherer;
+mod hints;
 mod holders;
 mod holding;
 mod labels;
 pub mod laws;
 mod map;
 mod noted;
+mod serials;
 
 pub use gatherer::Gatherer;
 pub use holders::Holders;

@@ -4,3 +4,4 @@ pub mod Stand
 pub mod Text
 pub mod Seen
 pub mod ByLast
+pub mod Parts

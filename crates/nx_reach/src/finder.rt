@@ -3,8 +3,8 @@ ghost use Rattle.std.specs.Prelude.{◌≡◌, [], ◌∷◌, OnOk, ◌++◌};
 ghost use Rattle.nx_matrix.specs.Label.{label_by};
 ghost use Rattle.nx_reach.specs.Seen.{Goes, HasComeTo, Opened, Closed, Skipped};
 
-use crate::plain::{Paths, add_match};
-use crate::{State, Steps};
+use crate::plain::add_match;
+use crate::{Paths, State, Steps};
 use nx_lists::NoMemory;
 use nx_tree::{Kind, Path};
 use std::alloc::Global;
@@ -12,7 +12,6 @@ use std::alloc::Global;
 /// The paths that were found so far on a walk below a document's root, and where it is.
 #[derive(Drop)]
 pub struct Finder<'a> {
-    alloc: Global,
     state: State<'a>,
     // The path of the node that the walk is in, and the position of its next child.
     path: Path,
@@ -27,7 +26,6 @@ impl<'a> Finder<'a> {
         ensures at { HasComeTo result (record { labels = []; path = []; next = 0; found = [] }) }
     {
         Finder {
-            alloc,
             state: State::new(alloc, steps),
             path: Path::new(alloc),
             next: 0,
@@ -43,7 +41,7 @@ impl<'a> Finder<'a> {
     {
         self.path.push(self.next)?;
         let matches = self.state.open(kind, name)?;
-        add_match(self.alloc, &mut self.found, self.path.as_slice(), matches)?;
+        add_match(&mut self.found, self.path.as_slice(), matches)?;
         self.next = 0;
         Ok(())
     }

@@ -16,8 +16,8 @@ pub(crate) fn asks(step: &Step, kind: Kind, name: &[u8]) -> bool
     }
 }
 
-// Whether the bytes are the label of nodes of this kind and name.
-fn is_label(bytes: &[u8], kind: Kind, name: &[u8]) -> bool
+/// Whether the bytes are the label of nodes of this kind and name.
+pub fn is_label(bytes: &[u8], kind: Kind, name: &[u8]) -> bool
     ensures { result ≡ bytes_eq bytes.now (label_by kind name.now) }
 {
     match kind {

@@ -7,13 +7,16 @@
 mod finder;
 mod label;
 pub mod laws;
+mod paths;
 mod plain;
 mod state;
 mod step;
 mod text;
 
 pub use finder::Finder;
-pub use plain::{Paths, find_in};
+pub use label::is_label;
+pub use paths::Paths;
+pub use plain::find_in;
 pub use state::State;
 pub use step::{MOST_STEPS, Step, Steps};
 pub use text::read_steps;

@@ -6,13 +6,10 @@ ghost use Rattle.nx_reach.specs.Reach.{Found};
 ghost use Rattle.nx_reach.specs.Fit.{found_in};
 ghost use Rattle.nx_reach.specs.Stand.{IsStateAt};
 
-use crate::{State, Steps};
-use nx_lists::{List, NoMemory};
+use crate::{Paths, State, Steps};
+use nx_lists::NoMemory;
 use nx_tree::{Path, Tree};
 use std::alloc::Global;
-
-/// Paths of nodes.
-pub type Paths = List<Path>;
 
 /// The paths of the tree's nodes that the steps match, in document order, each once.
 ///
@@ -25,14 +22,13 @@ pub fn find_in(alloc: Global, tree: &Tree, steps: &Steps) -> Result<Paths, NoMem
     let mut path = Path::new(alloc);
     let mut found = Paths::new(alloc);
     let below = tree.children.as_slice();
-    walk(alloc, &mut state, &mut path, &mut found, below)?;
+    walk(&mut state, &mut path, &mut found, below)?;
     Ok(found)
 }
 
 // Adds the paths of the nodes in these trees that the steps match. They stand below the node at the
 // path, where the state stands for the labels along it.
 fn walk(
-    alloc: Global,
     state: &mut State<'_>,
     path: &mut Path,
     found: &mut Paths,
@@ -48,9 +44,9 @@ fn walk(
     for (position, tree) in trees.iter().enumerate() {
         path.push(position as u32)?;
         let matches = state.open(tree.node.kind, tree.node.name.as_slice())?;
-        add_match(alloc, found, path.as_slice(), matches)?;
+        add_match(found, path.as_slice(), matches)?;
         let below = tree.children.as_slice();
-        walk(alloc, state, path, found, below)?;
+        walk(state, path, found, below)?;
         state.close();
         path.truncate(depth);
     }
@@ -58,16 +54,11 @@ fn walk(
 }
 
 // Adds the path, if it matches.
-pub(crate) fn add_match(
-    alloc: Global,
-    found: &mut Paths,
-    path: &[u32],
-    matches: bool,
-) -> Result<(), NoMemory>
+pub(crate) fn add_match(found: &mut Paths, path: &[u32], matches: bool) -> Result<(), NoMemory>
     ensures { OnOk result (found.new ≡ found.old ++ (if matches then path.now ∷ [] else [])) }
 {
     if matches {
-        found.push(Path::from_slice(alloc, path)?)?;
+        found.push(path)?;
     }
     Ok(())
 }

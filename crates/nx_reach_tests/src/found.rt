@@ -45,8 +45,8 @@ pub fn read(alloc: Global, text: &[u8]) -> Result<Tree, ReadError>
 // Paths, a line each.
 pub fn lines(alloc: Global, paths: &Paths) -> Result<Bytes, NoMemory> {
     let mut written = Bytes::new(alloc);
-    for path in paths.as_slice() {
-        push_path(&mut written, path.as_slice())?;
+    for index in 0..paths.len() {
+        push_path(&mut written, paths.path(index))?;
         written.push(b'\n')?;
     }
     Ok(written)

@@ -1,6 +1,5 @@
-use Rattle.std.proofs.Common.{◌≡◌, ℕ, ◌+◌, List, [], refl, sym, ap, ◌∙◌, subst, arith}
+use Rattle.std.proofs.Common.{◌≡◌, arith}
 use Rattle.std.proofs.lemmas.Result.{err_from_is_err_and}
-use Rattle.nx_records.proofs.LeaveLemmas.{leaves_same}
 use Rattle.nx_hold.specs.Changes.{place_of}
 use Rattle.nx_nav.specs.Refusals.{node_count}
 use Rattle.nx_nav.proofs.RefusalLemmas.{is_damaged}
@@ -8,7 +7,7 @@ use Rattle.nx_names.specs.Gathered.{gathered_behind, nothing_gathered}
 use Rattle.nx_names.proofs.LookLemmas.{all_wanted}
 use Rattle.nx_find.specs.Over.{OfEachLaid}
 use Rattle.nx_find.proofs.WalkLemmas.{stops_behind}
-use Rattle.nx_find.proofs.OverLemmas.{members_of, laid_interval, no_document, reads_document, counts_document, gathers_document, found_none, found_map, lacks_more}
+use Rattle.nx_find.proofs.OverLemmas.{laid_interval, no_document, reads_document, counts_document, gathers_document, found_none, found_map, lacks_more}
 use Rattle.nx_find.proofs.gathering.gather.Goals as goal
 
 pub returns-in_err-show_document-clause-reads : goal.returns-in_err-show_document-clause-reads

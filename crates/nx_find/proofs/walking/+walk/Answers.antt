@@ -1,4 +1,4 @@
-use Rattle.std.proofs.Common.{◌≡◌, ◌+◌, ◌-◌, ◌≤◌, List, [], ◌∷◌, ◌++◌, length, take, drop, get_or, refl, sym, ap, ◌∙◌, subst, arith, inl, inr}
+use Rattle.std.proofs.Common.{◌≡◌, ◌+◌, ◌≤◌, List, [], ◌∷◌, length, drop, get_or, refl, sym, ap, ◌∙◌, subst, arith, inl, inr}
 use Rattle.std.specs.Prelude.{◌⊎◌}
 use Rattle.std.proofs.lemmas.Result.{err_from_is_err_and, on_ok_weaker, on_err_weaker, IfErr-weaker}
 use Rattle.std.proofs.lemmas.List.{drop_all}
@@ -11,8 +11,7 @@ use Rattle.nx_piece.specs.Gapped.{Gapped, Grow, Gap, proxies_in}
 use Rattle.nx_piece.specs.Viewing.{seen_items, seen_tree, begun_with}
 use Rattle.nx_piece.specs.Valid.{AreTrees}
 use Rattle.nx_piece.proofs.WalkLemmas.{next_at}
-use Rattle.nx_layouts.specs.Layout.{Layout}
-use Rattle.nx_hold.specs.Changes.{place_of, place_named}
+use Rattle.nx_hold.specs.Changes.{place_of}
 use Rattle.nx_nav.specs.Refusals.{IsRefused}
 use Rattle.nx_nav.specs.Walk.{IsIntervalAt, IsTreeOf, AreOf, AreIntervalsOf}
 use Rattle.nx_nav.proofs.RefusalLemmas.{is_damaged}
@@ -20,7 +19,7 @@ use Rattle.nx_nav.proofs.SplitLemmas.{enough_left, dropped_twice}
 use Rattle.nx_names.specs.Look.{RecordEnds, looks_of}
 use Rattle.nx_find.specs.Wanted.{is_wanted}
 use Rattle.nx_find.specs.Walked.{looks_entering, ShowsWhole, StopsShowing, IsNoSuch}
-use Rattle.nx_find.proofs.WalkLemmas.{IsLooker, IsOnWay, Splits, stops_at_once, way_begins, way_goes_on, way_stops, way_refused, way_ends, row_shown, stops_behind, split_tree, split_row, split_interval, row_ends, items_end, no_room, tree_stops, tree_refused, tree_shown, interval_stops, interval_not_read, interval_begins, wanted_shown, wanted_stops, wanted_refused, passed_shown}
+use Rattle.nx_find.proofs.WalkLemmas.{IsLooker, IsOnWay, stops_at_once, way_begins, way_goes_on, way_stops, way_refused, way_ends, row_shown, stops_behind, split_tree, split_row, split_interval, row_ends, items_end, no_room, tree_stops, tree_refused, tree_shown, interval_stops, interval_not_read, interval_begins, wanted_shown, wanted_stops, wanted_refused, passed_shown}
 use Rattle.nx_find.proofs.walking.+walk.Given.{Over}
 use Rattle.nx_find.proofs.walking.+walk.Goals as goal
 use Rattle.nx_find.proofs.walking.+walk.Goals.{show_tree-then-spot-eq0-via-then-spot-eq0, show_tree-then-spot-eq0-via-else-spot-eq0+then-walk-eq0}
@@ -40,7 +39,7 @@ show_interval-returns-in_err-piece-clause-stops g t c =
 pub show_interval-returns-in_err-piece-clause-refused : goal.show_interval-returns-in_err-piece-clause-refused
 show_interval-returns-in_err-piece-clause-refused g t c =
     let p = err_from_is_err_and c.from_residual.result c.from_residual.ensures.1 in
-    rw (p.1, p.2) (interval_not_read (is_wanted c.args.wanted.now) c.args.records.now c.piece_at.new.records c.args.disk.now c.piece_at.new.disk (place_of c.args.rid) c.args.roots c.piece_at.ensures.still c.requires.runs c.args.depth c.args.walk.now.left c.in_err-piece.field-0.0 c.in_err-piece.ensures.refused)
+    rw (p.1, p.2) (interval_not_read (is_wanted c.args.wanted.now) c.args.records.now c.piece_at.new.records c.args.disk.now c.piece_at.new.disk (place_of c.args.rid) c.args.roots c.piece_at.ensures.still c.requires.runs c.args.levels c.args.walk.now.left c.in_err-piece.field-0.0 c.in_err-piece.ensures.refused)
 
 pub show_interval-returns-in_err-enter-clause-stops : goal.show_interval-returns-in_err-enter-clause-stops
 show_interval-returns-in_err-enter-clause-stops g t c =
@@ -67,7 +66,7 @@ show_interval-returns-in_err-proxies-clause-refused g t c =
     let p = err_from_is_err_and c.from_residual-in_err-proxies.result c.from_residual-in_err-proxies.ensures.1 in
     rw (p.1, p.2)
     (way_refused (looker g) {r1 = c.loop-item.records} c.loop-item.invariant.way c.loop-item.invariant.stays c.loop-item.invariant.still (λ l p. refl)
-    (AreOf g.D.Disk c.loop-item.records c.loop-item.disk items (drop (proxies_in root.below) c.loop-item.proxies.now)) c.show_tree.new.records c.show_tree.new.disk c.args.depth c.requires.runs
+    (AreOf g.D.Disk c.loop-item.records c.loop-item.disk items (drop (proxies_in root.below) c.loop-item.proxies.now)) c.show_tree.new.records c.show_tree.new.disk c.args.levels c.requires.runs
     (λ l is. split_tree g.D.Disk c.loop-item.records c.loop-item.records c.loop-item.disk c.loop-item.disk (leaves_same refl) none_still root items c.loop-item.proxies.now l
     (subst (λ f. AreOf g.D.Disk c.loop-item.records c.loop-item.disk f c.loop-item.proxies.now l) e is)) c.in_err-proxies.field-0.0 c.in_err-proxies.ensures.refused)
 
@@ -154,7 +153,7 @@ show_items-returns-in_err-rest-in-Tree-clause-refused g t c =
     let p = err_from_is_err_and c.from_residual.result c.from_residual.ensures.1 in
     rw (p.1, p.2)
     (way_refused (looker g) {r1 = c.loop-item.records} c.loop-item.invariant.way c.loop-item.invariant.stays c.loop-item.invariant.still (λ l p. refl)
-    (AreOf g.D.Disk c.loop-item.records c.loop-item.disk items (drop (proxies_in tree.below) c.loop-item.rest.now)) c.show_tree.new.records c.show_tree.new.disk c.args.spot.depth c.requires.runs
+    (AreOf g.D.Disk c.loop-item.records c.loop-item.disk items (drop (proxies_in tree.below) c.loop-item.rest.now)) c.show_tree.new.records c.show_tree.new.disk c.args.spot.levels c.requires.runs
     (λ l is. split_tree g.D.Disk c.loop-item.records c.loop-item.records c.loop-item.disk c.loop-item.disk (leaves_same refl) none_still tree items c.loop-item.rest.now l
     (subst (λ f. AreOf g.D.Disk c.loop-item.records c.loop-item.disk f c.loop-item.rest.now l) e is)) c.in_err-rest-in-Tree.field-0.0 c.in_err-rest-in-Tree.ensures.refused)
 
@@ -198,10 +197,10 @@ show_items-returns-in_err-show_row-in-Run-clause-refused g t c =
     let p = err_from_is_err_and c.from_residual-in_err-show_row-in-Run.result c.from_residual-in_err-show_row-in-Run.ensures.1 in
     rw (p.1, p.2)
     (way_refused (looker g) {r1 = c.loop-item.records} c.loop-item.invariant.way c.loop-item.invariant.stays c.loop-item.invariant.still (λ l p. refl)
-    (AreOf g.D.Disk c.loop-item.records c.loop-item.disk items (drop c.in-Run.count c.loop-item.rest.now)) c.show_row.new.records c.show_row.new.disk c.args.spot.depth c.requires.runs
+    (AreOf g.D.Disk c.loop-item.records c.loop-item.disk items (drop c.in-Run.count c.loop-item.rest.now)) c.show_row.new.records c.show_row.new.disk c.args.spot.levels c.requires.runs
     (λ l is. split_row g.D.Disk c.loop-item.records c.loop-item.records c.loop-item.disk c.loop-item.disk (leaves_same refl) none_still c.in-Run.count items c.loop-item.rest.now l
     (subst (λ f. AreOf g.D.Disk c.loop-item.records c.loop-item.disk f c.loop-item.rest.now l) e is)) c.in_err-show_row-in-Run.field-0.0
-    (subst (λ (ps : List Proxy). IsRefused g.D.Disk ⊥ ⊥ (IsNoSuch (AreIntervalsOf g.D.Disk c.loop-item.records c.loop-item.disk ps) (looks_of (is_wanted c.args.wanted.now)) c.args.spot.depth c.loop-item.walk.left) c.in_err-show_row-in-Run.field-0.0
+    (subst (λ (ps : List Proxy). IsRefused g.D.Disk ⊥ ⊥ (IsNoSuch (AreIntervalsOf g.D.Disk c.loop-item.records c.loop-item.disk ps) (looks_of (is_wanted c.args.wanted.now)) c.args.spot.levels c.loop-item.walk.left) c.in_err-show_row-in-Run.field-0.0
     c.loop-item.records c.show_row.new.records c.loop-item.disk c.show_row.new.disk) c.split_at.ensures.front c.in_err-show_row-in-Run.ensures.refused))
 
 pub show_items-loop-item-preserved : goal.show_items-loop-item-preserved
@@ -255,7 +254,7 @@ show_row-returns-in_err-show_proxy-clause-refused g t c =
     let p = err_from_is_err_and c.from_residual.result c.from_residual.ensures.1 in
     rw (p.1, p.2)
     (way_refused (looker g) {r1 = c.loop-proxy.records} c.loop-proxy.invariant.way c.loop-proxy.invariant.stays c.loop-proxy.invariant.still (λ l p. refl)
-    (AreIntervalsOf g.D.Disk c.loop-proxy.records c.loop-proxy.disk (drop (i + 1) c.args.proxies.now)) c.show_proxy.new.records c.show_proxy.new.disk c.args.depth c.requires.runs
+    (AreIntervalsOf g.D.Disk c.loop-proxy.records c.loop-proxy.disk (drop (i + 1) c.args.proxies.now)) c.show_proxy.new.records c.show_proxy.new.disk c.args.levels c.requires.runs
     (λ l is. split_interval g.D.Disk c.loop-proxy.records c.loop-proxy.records c.loop-proxy.disk c.loop-proxy.disk (leaves_same refl) none_still proxy (drop (i + 1) c.args.proxies.now) l (subst (λ (ps : List Proxy). AreIntervalsOf g.D.Disk c.loop-proxy.records c.loop-proxy.disk ps l) d is))
     c.in_err-show_proxy.field-0.0 c.in_err-show_proxy.ensures.refused)
 
@@ -289,7 +288,7 @@ show_proxy-returns-then-wants-clause-stops g t c =
 pub show_proxy-returns-then-wants-clause-refused : goal.show_proxy-returns-then-wants-clause-refused
 show_proxy-returns-then-wants-clause-refused g t c =
     IfErr-weaker c.show_interval.result _ _ (λ e refused. wanted_refused g.D.Disk (is_wanted c.args.wanted.now) c.args.records.now c.args.disk.now (place_of c.args.rid) c.args.roots (sym c.wants.ensures ∙ c.if-wants.true) c.requires.runs
-    c.show_interval.new.records c.show_interval.new.disk c.args.depth c.args.walk.now.left e refused) c.show_interval.ensures.refused
+    c.show_interval.new.records c.show_interval.new.disk c.args.levels c.args.walk.now.left e refused) c.show_interval.ensures.refused
 
 pub show_proxy-returns-clause-shown : goal.show_proxy-returns-clause-shown
 show_proxy-returns-clause-shown g t c =
@@ -306,13 +305,13 @@ show_tree-returns-then-spot-eq0-clause-stops g t c = stops_at_once g.D.Disk (is_
 
 pub show_tree-returns-then-spot-eq0-clause-refused : goal.show_tree-returns-then-spot-eq0-clause-refused
 show_tree-returns-then-spot-eq0-clause-refused g t c =
-    let none : (c.args.spot.depth ≡ 0) ⊎ (c.args.walk.now.left ≡ 0) = elim c.then-spot-eq0.branch [
+    let none : (c.args.spot.levels ≡ 0) ⊎ (c.args.walk.now.left ≡ 0) = elim c.then-spot-eq0.branch [
       | show_tree-then-spot-eq0-via-then-spot-eq0 w ↦ inl w.if-spot-eq0.true
       | show_tree-then-spot-eq0-via-else-spot-eq0+then-walk-eq0 w ↦ inr w.if-walk-eq0.true
     ] in
-    is_damaged g.D.Disk ⊥ ⊥ (IsNoSuch (IsTreeOf g.D.Disk c.args.records.now c.args.disk.now (seen_tree c.args.tree) c.args.proxies.now) (looks_of (is_wanted c.args.wanted.now)) c.args.spot.depth c.args.walk.now.left)
+    is_damaged g.D.Disk ⊥ ⊥ (IsNoSuch (IsTreeOf g.D.Disk c.args.records.now c.args.disk.now (seen_tree c.args.tree) c.args.proxies.now) (looks_of (is_wanted c.args.wanted.now)) c.args.spot.levels c.args.walk.now.left)
     {r0 = c.args.records.now} {r1 = c.args.records.now} {r2 = c.damaged.new.records} c.args.disk.now c.args.disk.now c.damaged.result c.damaged.ensures.result c.requires.runs (leaves_same refl) c.damaged.ensures.ends
-    (no_room g.D.Disk (is_wanted c.args.wanted.now) c.args.records.now c.args.disk.now (seen_tree c.args.tree) c.args.proxies.now c.args.spot.depth c.args.walk.now.left none)
+    (no_room g.D.Disk (is_wanted c.args.wanted.now) c.args.records.now c.args.disk.now (seen_tree c.args.tree) c.args.proxies.now c.args.spot.levels c.args.walk.now.left none)
 
 pub show_tree-returns-in_err-begin-clause-stops : goal.show_tree-returns-in_err-begin-clause-stops
 show_tree-returns-in_err-begin-clause-stops g t c =
@@ -327,7 +326,7 @@ show_tree-returns-in_err-behind-clause-stops g t c =
 pub show_tree-returns-in_err-behind-clause-refused : goal.show_tree-returns-in_err-behind-clause-refused
 show_tree-returns-in_err-behind-clause-refused g t c =
     let p = err_from_is_err_and c.from_residual-in_err-behind.result c.from_residual-in_err-behind.ensures.1 in
-    rw (p.1, p.2) (tree_refused g.D.Disk (is_wanted c.args.wanted.now) c.args.records.now c.args.disk.now (seen_tree c.args.tree) c.args.proxies.now c.args.spot.depth c.args.walk.now.left c.requires.runs c.show_items.new.records c.show_items.new.disk c.in_err-behind.field-0.0 c.in_err-behind.ensures.refused)
+    rw (p.1, p.2) (tree_refused g.D.Disk (is_wanted c.args.wanted.now) c.args.records.now c.args.disk.now (seen_tree c.args.tree) c.args.proxies.now c.args.spot.levels c.args.walk.now.left c.requires.runs c.show_items.new.records c.show_items.new.disk c.in_err-behind.field-0.0 c.in_err-behind.ensures.refused)
 
 pub show_tree-returns-in_err-end-clause-stops : goal.show_tree-returns-in_err-end-clause-stops
 show_tree-returns-in_err-end-clause-stops g t c =

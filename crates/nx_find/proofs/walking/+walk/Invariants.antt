@@ -13,19 +13,19 @@ use Rattle.nx_find.proofs.WalkLemmas.{IsOnWay}
 use Rattle.nx_find.proofs.walking.+walk.Given as goal
 
 abbrev pub decreases-show_interval : goal.decreases-show_interval
-decreases-show_interval g l = 5 * l.depth + 1
+decreases-show_interval g l = 5 * l.levels + 1
 
 abbrev pub decreases-show_items : goal.decreases-show_items
-decreases-show_items g l = 5 * l.spot.depth + 4
+decreases-show_items g l = 5 * l.spot.levels + 4
 
 abbrev pub decreases-show_row : goal.decreases-show_row
-decreases-show_row g l = 5 * l.depth + 3
+decreases-show_row g l = 5 * l.levels + 3
 
 abbrev pub decreases-show_proxy : goal.decreases-show_proxy
-decreases-show_proxy g l = 5 * l.depth + 2
+decreases-show_proxy g l = 5 * l.levels + 2
 
 abbrev pub decreases-show_tree : goal.decreases-show_tree
-decreases-show_tree g l = 5 * l.spot.depth
+decreases-show_tree g l = 5 * l.spot.levels
 
 abbrev pub invariant-show_interval-loop-item : goal.invariant-show_interval-loop-item
 invariant-show_interval-loop-item g l =

@@ -1,4 +1,4 @@
-use Rattle.std.proofs.Common.{ℕ, ◌+◌, ◌<◌}
+use Rattle.std.proofs.Common.{◌<◌}
 use Rattle.std.specs.List.{AllAdjacentBelow}
 use Rattle.nx_names.specs.Serials.{noted_key}
 use Rattle.nx_names.proofs.gatherer.rise.Given as goal

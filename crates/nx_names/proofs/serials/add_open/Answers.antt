@@ -1,9 +1,8 @@
-use Rattle.std.proofs.Common.{List, ◌++◌, drop, sym, ap, ◌∙◌, subst}
-use Rattle.std.specs.List.Sorted.{IsNonDecreasing}
+use Rattle.std.proofs.Common.{List, ◌++◌, ap, ◌∙◌, subst}
 use Rattle.std.proofs.lemmas.List.Sorted.{IsNonDecreasingBy-drop}
-use Rattle.nx_names.specs.Gathered.{IsFirstNew}
+use Rattle.nx_names.specs.Opening.{IsFirstNew}
 use Rattle.nx_names.proofs.SerialLemmas.{adds_open, part_left}
-use Rattle.nx_names.proofs.gatherer.add_open.Goals as goal
+use Rattle.nx_names.proofs.serials.add_open.Goals as goal
 
 pub returns : goal.returns
 returns c = λ rises ascend before.

@@ -1,7 +1,7 @@
 use Rattle.std.proofs.Common.{rules, leb, sym, ◌∙◌}
 use Rattle.std.proofs.lemmas.List.Sorted.{IsPartitionPoint-from_clause, IsPartitionedBy-leb}
 use Rattle.nx_names.proofs.SerialLemmas.{parts_at}
-use Rattle.nx_names.proofs.gatherer.first_new.Goals as goal
+use Rattle.nx_names.proofs.serials.first_new.Goals as goal
 
 pub returns-clause-parts : goal.returns-clause-parts
 returns-clause-parts c =
