@@ -16,3 +16,4 @@ pub mod LaidLemmas
 pub mod GivenLemmas
 pub mod NodeLemmas
 pub mod VisitLemmas
+pub mod EarlyLemmas

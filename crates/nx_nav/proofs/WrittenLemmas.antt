@@ -1,5 +1,5 @@
 -- The way to a node through records whose bytes are read along the path alone: what is found there holds of each document.
-use Rattle.std.proofs.Common.{◌≡◌, false, ℕ, ◌+◌, ◌≤◌, List, Contains, None, Some, length, drop, refl, sym, ap, ◌∙◌, subst}
+use Rattle.std.proofs.Common.{◌≡◌, false, ℕ, ◌+◌, ◌≤◌, List, Contains, None, Some, length, drop, sym, ap, ◌∙◌, subst}
 use Rattle.std.specs.List.{slice_get}
 use Rattle.nx_host.specs.declared.disk.Disk.{Ghosts}
 use Rattle.nx_host.specs.Still.{IsStill}
@@ -13,8 +13,7 @@ use Rattle.nx_piece.specs.declared.piece.Piece.{Piece}
 use Rattle.nx_piece.specs.declared.piece.Proxy.{Proxy}
 use Rattle.nx_piece.specs.PieceNode.{PieceNode}
 use Rattle.nx_piece.specs.Gapped.{GappedTree}
-use Rattle.nx_piece.specs.Locate.{Reached, Inside, Outside, Missing, reached_in, children_of}
-use Rattle.nx_piece.specs.Valid.{IsValidPiece}
+use Rattle.nx_piece.specs.Locate.{Inside, Outside, Missing, reached_in, children_of}
 use Rattle.nx_cuts.specs.Cut.{CutTree, tree_of}
 use Rattle.nx_layouts.specs.Layout.{RecordPlace, piece_of}
 use Rattle.nx_seek.specs.Written.{IsWrittenAs}

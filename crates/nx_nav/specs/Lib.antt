@@ -9,6 +9,8 @@ pub mod Walk
 pub mod Told
 pub mod Laid
 pub mod Given
+pub mod Early
 pub mod GivenLaws
+pub mod EarlyLaws
 pub mod Nodes
 pub mod Visited

@@ -1,10 +1,13 @@
 // The text of a document, given to an output.
-ghost use Rattle.std.specs.Prelude.{◌≡◌, ◌<◌, ◌++◌, false, length, IsSome, IfErr, OnOk};
+ghost use Rattle.std.specs.Prelude.{◌≡◌, ◌<◌, ◌++◌, ◌∷◌, [], false, length, List, ℕ, IsSome, IfErr, OnOk};
 ghost use Rattle.nx_host.specs.Disk.{Rose};
 ghost use Rattle.nx_records.specs.Records.{has_ended, LeavesRecords};
 ghost use Rattle.nx_pyx.specs.Text.{text};
-ghost use Rattle.nx_cuts.specs.Cut.{tree_of};
+ghost use Rattle.nx_cuts.specs.Cut.{CutTree, tree_of};
 ghost use Rattle.nx_hold.specs.Changes.{place_of};
+ghost use Rattle.nx_hold.specs.Documents.{HasDocument};
+ghost use Rattle.nx_nav.specs.Along.{ReadsAlong};
+ghost use Rattle.nx_nav.specs.Early.{LeavesOutput};
 ghost use Rattle.nx_nav.specs.Given.{AsksAndGives, AppendsBut, GivesWithin, block_size};
 ghost use Rattle.nx_nav.specs.Refusals.{OfEach, HoldsNoneWith, IsRefused, node_count};
 
@@ -28,6 +31,9 @@ const BLOCK: usize = 65_536;
 /// left in the block. Before each record and each page of a content is read, the block has no more than that: so neither the
 /// text nor a long content is ever in memory as a whole. What is said of documents holds where the disk's contents are still told afterwards.
 ///
+/// What the block has with the lines of the first record is given before anything more is read. So where the output is as it was,
+/// whatever is answered, no more pages were read than `outline` may read for the document's first child.
+///
 /// Errors: those of `text_of`; `Write`, only where `out_faults` rose. The block is of no use then.
 pub fn export<H: Host>(
     alloc: Global,
@@ -44,6 +50,8 @@ pub fn export<H: Host>(
     ensures little { OnOk result (length block.new < block_size) }
     ensures time { IsSome (H.contents host.new) → OfEach ⟦<H as Disk>⟧ records.old host.old (place_of root) (λ document.
         GivesWithin ⟦<H as Disk>⟧ (block.old ++ text (tree_of document)) host.old host.new) }
+    ensures reads { LeavesOutput ⟦<H as Disk>⟧ host.old host.new → (document : CutTree) (held : HasDocument ⟦<H as Disk>⟧ records.old host.old (place_of root) document)
+        → ReadsAlong held.now (place_of root) (0 ∷ []) (H.reads host.old) (H.reads host.new) }
     ensures refused { IfErr result (λ e. IsRefused ⟦<H as Disk>⟧ ⊥ (Rose (H.beside host.old).out_faults (H.beside host.new).out_faults)
         (IsSome (H.contents host.new) → HoldsNoneWith ⟦<H as Disk>⟧ records.old host.old (place_of root) nodes) e records.old records.new host.old host.new) }
 {
@@ -51,6 +59,7 @@ pub fn export<H: Host>(
         alloc,
         teller: Exporting {
             block: mem::replace(block, Bytes::new(alloc)),
+            stage: Stage::Unread,
         },
         left: nodes,
         visited: Visited::new(alloc),
@@ -60,44 +69,103 @@ pub fn export<H: Host>(
     Ok(())
 }
 
+// How far an export came.
+#[derive(Clone, Copy)]
+pub enum Stage {
+    // No record was read.
+    Unread,
+    // One was, and nothing was given.
+    Held,
+    // Something was given.
+    Given,
+}
+
 // What isn't given yet.
 #[derive(Drop)]
 struct Exporting {
     block: Bytes,
+    stage: Stage,
+}
+
+impl Exporting {
+    ghost use Rattle.std.specs.Prelude.{◌≡◌, ◌<◌, ◌≤◌, [], length, true, false, OnOk, IfErr};
+    ghost use Rattle.nx_host.specs.Disk.{Rose};
+    ghost use Rattle.nx_nav.specs.Given.{GivesText, block_size};
+    ghost use Rattle.nx_nav.specs.Early.{LeavesOutput, TellsText, near_giving};
+    ghost use Rattle.nx_nav.specs.declared.exporting.Exporting.{Exporting};
+
+    // Whether the block is given before more is read.
+    fn is_due(&self) -> bool
+        ensures few { result ≡ false → length self.now.block < block_size }
+        ensures near { result ≡ false → near_giving self.now.stage self.now.block ≤ 2 }
+        ensures some { result ≡ true → self.now.block ≡ [] → ⊥ }
+    {
+        match self.stage {
+            Stage::Held => !self.block.is_empty(),
+            Stage::Unread | Stage::Given => self.block.len() >= BLOCK,
+        }
+    }
+
+    // Gives the block.
+    fn give<H: Host>(&mut self, host: &mut H) -> Result<(), NavError>
+        ensures ok { OnOk result (GivesText ⟦<H as Disk>⟧ self.old.block host.old [] self.new.block host.new) }
+        ensures none { OnOk result (self.new.block ≡ []) }
+        ensures given { OnOk result (self.new.stage ≡ Stage.Given) }
+        ensures out { OnOk result ((self.old.block ≡ [] → ⊥) → LeavesOutput ⟦<H as Disk>⟧ host.old host.new → ⊥) }
+        ensures err { IfErr result (λ e. (e ≡ NavError.Write) × Rose (H.beside host.old).out_faults (H.beside host.new).out_faults
+            × ((last : Exporting) × TellsText ⟦<H as Disk>⟧ self.old.stage self.old.block host.old [] last.stage last.block host.new)) }
+        ensures unread { H.reads host.new ≡ H.reads host.old }
+    {
+        match host.emit(self.block.as_slice()) {
+            Ok(()) => {
+                self.block.clear();
+                self.stage = Stage::Given;
+                Ok(())
+            }
+            Err(_) => Err(NavError::Write),
+        }
+    }
 }
 
 impl<H: Host> Tells<H> for Exporting {
-    ghost use Rattle.std.specs.Prelude.{◌≡◌, ◌<◌, ◌++◌, true, length};
+    ghost use Rattle.std.specs.Prelude.{◌≡◌, ◌<◌, ◌≤◌, ◌++◌, true, length};
     ghost use Rattle.nx_host.specs.Disk.{Rose};
     ghost use Rattle.nx_nav.specs.Told.{told_text};
-    ghost use Rattle.nx_nav.specs.Given.{GivesText, block_size};
+    ghost use Rattle.nx_nav.specs.Given.{block_size};
+    ghost use Rattle.nx_nav.specs.Early.{TellsText, near_giving};
 
     ghost Contents = { true };
 
-    ghost Told = { λ a x told b y. GivesText ⟦<H as Disk>⟧ a.block x (told_text told) b.block y };
+    ghost Told = { λ a x told b y. TellsText ⟦<H as Disk>⟧ a.stage a.block x (told_text told) b.stage b.block y };
 
     ghost Unwritten = { λ x y. Rose (H.beside x).out_faults (H.beside y).out_faults };
 
     ghost IsReady = { λ a. length a.block < block_size };
+
+    ghost Near = { λ a. near_giving a.stage a.block };
 
     fn wants_contents(&self) -> bool {
         true
     }
 
     fn pause(&mut self, host: &mut H) -> Result<(), NavError> {
-        if self.block.len() < BLOCK {
-            return Ok(());
+        if self.is_due() {
+            return self.give(host);
         }
-        match host.emit(self.block.as_slice()) {
-            Ok(()) => {
-                self.block.clear();
-                Ok(())
-            }
-            Err(_) => Err(NavError::Write),
+        Ok(())
+    }
+
+    fn finish(&mut self, host: &mut H) -> Result<(), NavError> {
+        if self.block.len() >= BLOCK {
+            return self.give(host);
         }
+        Ok(())
     }
 
     fn begin(&mut self, _roots: u16, _body: &BodyView<'_>) -> Result<(), NoMemory> {
+        if let Stage::Unread = self.stage {
+            self.stage = Stage::Held;
+        }
         Ok(())
     }
 
@@ -121,19 +189,28 @@ impl<H: Host> Tells<H> for Exporting {
         push_end(&mut self.block, kind, name)
     }
 
+    ghost use Rattle.std.proofs.Common.{arith};
     ghost use Rattle.std.proofs.lemmas.List.Concat.{flat_map-append};
     ghost use Rattle.nx_nav.specs.Told.{walk_step_text};
     ghost use Rattle.nx_nav.specs.GivenLaws.{gives_nothing, gives_then, unwritten_before};
+    ghost use Rattle.nx_nav.specs.EarlyLaws.{nothing_between};
 
-    ghost asked = { λ a x y still. gives_nothing a.block still };
+    ghost asked = { λ a x y still. (gives_nothing a.block still, λ left. omega arith) };
 
-    ghost then = { λ a b c x y z s t first second. gives_then a.block b.block c.block (told_text s) (told_text t) (told_text (s ++ t)) (flat_map-append walk_step_text s t) first second };
+    ghost then = { λ a b c x y z s t first second. (
+      gives_then a.block b.block c.block (told_text s) (told_text t) (told_text (s ++ t)) (flat_map-append walk_step_text s t) first.0 second.0,
+      λ left. nothing_between first.0 second.0 left first.1 second.1,
+    ) };
 
-    ghost keeps = { λ a b x y s told. (told.areas).contents_stay };
+    ghost keeps = { λ a b x y s told. ((told.0).areas).contents_stay };
 
-    ghost fewer_images = { λ a b x y s i told. ((told.areas).images_stay i).0 };
+    ghost fewer_images = { λ a b x y s i told. (((told.0).areas).images_stay i).0 };
 
-    ghost faults_later = { λ a b x y s told. (told.areas).faults_later };
+    ghost faults_later = { λ a b x y s told. ((told.0).areas).faults_later };
 
-    ghost unwritten_later = { λ a b x y z s told. unwritten_before (told.areas).out_faults_later };
+    ghost unwritten_later = { λ a b x y z s told unwritten. unwritten_before ((told.0).areas).out_faults_later unwritten };
+
+    ghost output_grows = { λ a b x y s told. (((told.0).gives).done, ((told.0).gives).gave) };
+
+    ghost near_later = { λ a b x y s told left. told.1 left };
 }

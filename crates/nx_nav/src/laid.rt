@@ -113,11 +113,17 @@ impl<D: Disk> Tells<D> for Laying {
 
     ghost IsReady = { λ _. Unit {0} };
 
+    ghost Near = { λ _. 0 };
+
     fn wants_contents(&self) -> bool {
         false
     }
 
     fn pause(&mut self, _disk: &mut D) -> Result<(), NavError> {
+        Ok(())
+    }
+
+    fn finish(&mut self, _disk: &mut D) -> Result<(), NavError> {
         Ok(())
     }
 
@@ -152,8 +158,9 @@ impl<D: Disk> Tells<D> for Laying {
         Ok(())
     }
 
-    ghost use Rattle.std.proofs.Common.{refl, sym, subst};
+    ghost use Rattle.std.proofs.Common.{[], refl, sym, subst, arith};
     ghost use Rattle.nx_host.proofs.DiskLemmas.{still_then, keeps_self};
+    ghost use Rattle.nx_nav.specs.GivenLaws.{appends_kept};
 
     ghost asked = { λ a x y still. (still, refl) };
 
@@ -166,6 +173,10 @@ impl<D: Disk> Tells<D> for Laying {
     ghost faults_later = { λ a b x y s told. (told.0).faults_later };
 
     ghost unwritten_later = { λ a b x y z s told unwritten. unwritten };
+
+    ghost output_grows = { λ a b x y s told. ([], appends_kept (D.beside x).output (D.beside y).output ((told.0).beside_stays).output) };
+
+    ghost near_later = { λ a b x y s told left. omega arith };
 }
 
 // The interval of so many nodes from a position on, or the root's where no node is open. The path has

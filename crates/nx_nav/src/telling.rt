@@ -70,11 +70,17 @@ impl<D: Disk> Tells<D> for Text {
 
     ghost IsReady = { λ _. Unit {0} };
 
+    ghost Near = { λ _. 0 };
+
     fn wants_contents(&self) -> bool {
         true
     }
 
     fn pause(&mut self, _disk: &mut D) -> Result<(), NavError> {
+        Ok(())
+    }
+
+    fn finish(&mut self, _disk: &mut D) -> Result<(), NavError> {
         Ok(())
     }
 
@@ -102,9 +108,10 @@ impl<D: Disk> Tells<D> for Text {
         push_end(&mut self.bytes, kind, name)
     }
 
-    ghost use Rattle.std.proofs.Common.{sym, subst};
+    ghost use Rattle.std.proofs.Common.{[], sym, subst, arith};
     ghost use Rattle.std.proofs.lemmas.List.{append-nil};
     ghost use Rattle.nx_host.proofs.DiskLemmas.{still_then, keeps_self};
+    ghost use Rattle.nx_nav.specs.GivenLaws.{appends_kept};
 
     ghost asked = { λ a x y still. (still, sym (append-nil a.bytes)) };
 
@@ -117,6 +124,10 @@ impl<D: Disk> Tells<D> for Text {
     ghost faults_later = { λ a b x y s told. (told.0).faults_later };
 
     ghost unwritten_later = { λ a b x y z s told unwritten. unwritten };
+
+    ghost output_grows = { λ a b x y s told. ([], appends_kept (D.beside x).output (D.beside y).output ((told.0).beside_stays).output) };
+
+    ghost near_later = { λ a b x y s told left. omega arith };
 }
 
 // Adds the line with which a node begins, but for the root of a document.

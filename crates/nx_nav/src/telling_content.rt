@@ -7,8 +7,10 @@ ghost use Rattle.nx_links.specs.Lists.{IsLinkAt};
 ghost use Rattle.nx_records.specs.Records.{has_ended, page_count_of, current_pages, IsInStepWith, LeavesRecords};
 ghost use Rattle.nx_records.specs.Changes.{HasListFrom};
 ghost use Rattle.nx_records.specs.Reading.{IsBlock};
+ghost use Rattle.nx_tree.specs.Document.{is_doc};
 ghost use Rattle.nx_piece.specs.Flat.{seen_node};
 ghost use Rattle.nx_piece.specs.PieceNode.{MayBeFar, content_length, item_slots};
+ghost use Rattle.nx_nav.specs.Early.{LeavesOutput};
 ghost use Rattle.nx_nav.specs.Parts.{HasNode, HasFarContent};
 ghost use Rattle.nx_nav.specs.Refusals.{IsRefused};
 ghost use Rattle.nx_nav.specs.Steps.{Block, begun_steps, content_blocks, content_steps};
@@ -40,6 +42,8 @@ pub fn begin_node<D: Disk, T: Tells<D>>(
     ensures told { OnOk result (TellsEach D.Disk T.Told (HasNode D.Disk records.old disk.old (seen_node node.entry)) (begun_steps T.Contents) teller.old disk.old teller.new disk.new) }
     ensures stops { OnErr result (StopsInEach D.Disk T.Told (HasNode D.Disk records.old disk.old (seen_node node.entry)) (begun_steps T.Contents) teller.old disk.old disk.new) }
     ensures refused { IfErr result (λ e. IsRefused D.Disk ⊥ (T.Unwritten disk.old disk.new) (LacksEach D.Disk disk.new (HasNode D.Disk records.old disk.old (seen_node node.entry))) e records.old records.new disk.old disk.new) }
+    ensures unread { LeavesOutput D.Disk disk.old disk.new → 2 ≤ T.Near teller.old → D.reads disk.new ≤ D.reads disk.old }
+    ensures near { OnOk result (LeavesOutput D.Disk disk.old disk.new → is_doc (seen_node node.entry).node.kind ≡ false → 2 ≤ T.Near teller.old → 3 ≤ T.Near teller.new) }
 {
     if content_len(node) <= LONGEST_NEAR as usize {
         teller.open(node)?;
@@ -66,6 +70,7 @@ fn tell_content<D: Disk, T: Tells<D>>(
     ensures told { OnOk result (TellsEach D.Disk T.Told (HasNode D.Disk records.old disk.old (seen_node node.entry)) (λ n. content_steps T.Contents n.content) teller.old disk.old teller.new disk.new) }
     ensures stops { OnErr result (StopsInEach D.Disk T.Told (HasNode D.Disk records.old disk.old (seen_node node.entry)) (λ n. content_steps T.Contents n.content) teller.old disk.old disk.new) }
     ensures refused { IfErr result (λ e. IsRefused D.Disk ⊥ (T.Unwritten disk.old disk.new) (LacksEach D.Disk disk.new (HasNode D.Disk records.old disk.old (seen_node node.entry))) e records.old records.new disk.old disk.new) }
+    ensures unread { LeavesOutput D.Disk disk.old disk.new → 3 ≤ T.Near teller.old → D.reads disk.new ≤ D.reads disk.old }
 {
     if !teller.wants_contents() {
         return Ok(());
@@ -92,6 +97,7 @@ fn tell_far<D: Disk, T: Tells<D>>(
     ensures told { OnOk result (TellsEach D.Disk T.Told (HasFarContent D.Disk records.old disk.old far) (λ bytes. map Block (content_blocks bytes)) teller.old disk.old teller.new disk.new) }
     ensures stops { OnErr result (StopsInEach D.Disk T.Told (HasFarContent D.Disk records.old disk.old far) (λ bytes. map Block (content_blocks bytes)) teller.old disk.old disk.new) }
     ensures refused { IfErr result (λ e. IsRefused D.Disk ⊥ (T.Unwritten disk.old disk.new) (LacksEach D.Disk disk.new (HasFarContent D.Disk records.old disk.old far)) e records.old records.new disk.old disk.new) }
+    ensures unread { LeavesOutput D.Disk disk.old disk.new → 3 ≤ T.Near teller.old → D.reads disk.new ≤ D.reads disk.old }
 {
     let mut reader = match records.open_list(disk, far.first, u64::from(far.length)) {
         Ok(reader) => reader,

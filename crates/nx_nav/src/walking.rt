@@ -1,15 +1,21 @@
 // A walk over the records of a document, which tells its nodes and its intervals.
-ghost use Rattle.std.specs.Prelude.{◌≡◌, ◌+◌, ◌≤◌, false, Bool, ℕ, List, [], ◌∷◌, ◌++◌, OnOk, IfOk, IfErr, length, drop, OnErr, IsSome};
+ghost use Rattle.std.specs.Prelude.{◌≡◌, ◌⊎◌, ◌+◌, ◌≤◌, false, Bool, ℕ, List, [], ◌∷◌, ◌++◌, OnOk, IfOk, IfErr, length, drop, OnErr, IsSome};
 ghost use Rattle.nx_host.specs.Disk.{Image, Keeps};
+ghost use Rattle.nx_host.specs.Host.{Appends};
 ghost use Rattle.nx_host.specs.Still.{IsStill};
 ghost use Rattle.nx_records.specs.Records.{has_ended, LeavesRecords};
 ghost use Rattle.nx_tree.specs.declared.node.Kind.{Kind};
+ghost use Rattle.nx_tree.specs.Document.{is_doc};
 ghost use Rattle.nx_piece.specs.Gapped.{gapped_size, gapped_weight, proxies_in};
 ghost use Rattle.nx_piece.specs.Flat.{seen_node};
 ghost use Rattle.nx_piece.specs.Viewing.{seen_items, seen_tree};
 ghost use Rattle.nx_piece.specs.PieceNode.{MayBeFar, item_slots};
 ghost use Rattle.nx_piece.specs.Valid.{HaveRoots, AreFar};
+ghost use Rattle.nx_cuts.specs.Cut.{CutTree};
 ghost use Rattle.nx_hold.specs.Changes.{place_of};
+ghost use Rattle.nx_hold.specs.Documents.{HasDocument};
+ghost use Rattle.nx_nav.specs.Along.{ReadsAlong};
+ghost use Rattle.nx_nav.specs.Early.{LeavesOutput, ReadsAtMost, ReadsInterval, ReadsGap, ReadsFirstOf};
 ghost use Rattle.nx_nav.specs.Refusals.{IsRefused, HoldsNoneWith};
 ghost use Rattle.nx_nav.specs.Visited.{HasVisited};
 ghost use Rattle.nx_nav.specs.Walk.{HasTold, HasStopped, IsNone, IsIntervalAt, IsTreeOf, AreOf, AreIntervalsOf, TellsDocument, StopsWithin};
@@ -41,27 +47,42 @@ pub trait Tells<D: Disk> {
     // It holds back so little that a record may be read.
     ghost IsReady: { Self → Type 0 };
 
+    // How near it is to giving something: 3 where it does so before more is read, 2 where it will once a node below the root begins, 1 before a record is read, and 0 where nothing is said.
+    ghost Near: { Self → ℕ };
+
     fn wants_contents(&self) -> bool
         ensures { result ≡ Contents };
 
-    // Before a record or a page of a content is read, and at the end.
+    // Before a record or a page of a content is read.
     fn pause(&mut self, disk: &mut D) -> Result<(), NavError>
         ensures ok { OnOk result (Told self.old disk.old [] self.new disk.new) }
         ensures ready { OnOk result (IsReady self.new) }
-        ensures err { IfErr result (λ e. (e ≡ NavError.Write) × Unwritten disk.old disk.new × ((last : Self) × Told self.old disk.old [] last disk.new)) };
+        ensures err { IfErr result (λ e. (e ≡ NavError.Write) × Unwritten disk.old disk.new × ((last : Self) × Told self.old disk.old [] last disk.new)) }
+        ensures unread { D.reads disk.new ≡ D.reads disk.old }
+        ensures gives { OnOk result (3 ≤ Near self.old → LeavesOutput D.Disk disk.old disk.new → ⊥) };
+
+    // At the end.
+    fn finish(&mut self, disk: &mut D) -> Result<(), NavError>
+        ensures ok { OnOk result (Told self.old disk.old [] self.new disk.new) }
+        ensures ready { OnOk result (IsReady self.new) }
+        ensures err { IfErr result (λ e. (e ≡ NavError.Write) × Unwritten disk.old disk.new × ((last : Self) × Told self.old disk.old [] last disk.new)) }
+        ensures unread { D.reads disk.new ≡ D.reads disk.old };
 
     // An interval of so many members begins, whose record has these nodes.
     fn begin(&mut self, roots: u16, body: &BodyView<'_>) -> Result<(), NoMemory>
         requires { 1 ≤ roots }
-        ensures { OnOk result ((disk : D) → Told self.old disk (Begin roots (gapped_weight body.now.roots) ∷ []) self.new disk) };
+        ensures told { OnOk result ((disk : D) → Told self.old disk (Begin roots (gapped_weight body.now.roots) ∷ []) self.new disk) }
+        ensures near { OnOk result (1 ≤ Near self.old → 2 ≤ Near self.new) };
 
     // A node begins, whose content of at most 1,024 bytes it has here.
     fn open(&mut self, node: NodeView<'_>) -> Result<(), NoMemory>
-        ensures { OnOk result ((disk : D) → Told self.old disk (Open (seen_node node.entry).node ∷ []) self.new disk) };
+        ensures told { OnOk result ((disk : D) → Told self.old disk (Open (seen_node node.entry).node ∷ []) self.new disk) }
+        ensures near { OnOk result (is_doc (seen_node node.entry).node.kind ≡ false → 2 ≤ Near self.old → 3 ≤ Near self.new) };
 
     // A node with a longer content begins.
     fn head(&mut self, kind: Kind, name: &[u8]) -> Result<(), NoMemory>
-        ensures { OnOk result ((disk : D) → Told self.old disk (Head kind name.now ∷ []) self.new disk) };
+        ensures told { OnOk result ((disk : D) → Told self.old disk (Head kind name.now ∷ []) self.new disk) }
+        ensures near { OnOk result (2 ≤ Near self.old → 3 ≤ Near self.new) };
 
     // The next block of its content comes, of at most 8,184 bytes.
     fn content(&mut self, bytes: &[u8]) -> Result<(), NoMemory>
@@ -90,6 +111,12 @@ pub trait Tells<D: Disk> {
     ghost faults_later: { (a b : Self) (x y : D) (s : List WalkStep) → Told a x s b y → D.faults x ≤ D.faults y };
 
     ghost unwritten_later: { (a b : Self) (x y z : D) (s : List WalkStep) → Told a x s b y → Unwritten y z → Unwritten x z };
+
+    // What was given stays given.
+    ghost output_grows: { (a b : Self) (x y : D) (s : List WalkStep) → Told a x s b y → (more : List ℕ) × Appends more (D.beside x).output (D.beside y).output };
+
+    // While nothing is given it comes no further from giving something.
+    ghost near_later: { (a b : Self) (x y : D) (s : List WalkStep) → Told a x s b y → LeavesOutput D.Disk x y → Near a ≤ Near b };
 }
 
 // Tells of the document whose root's record stands at a place, and that has as many nodes as the walk
@@ -105,6 +132,8 @@ pub fn tell_document<D: Disk, T: Tells<D>>(
     ensures told { OnOk result (TellsDocument D.Disk T.Contents T.Told records.old disk.old (place_of root) walk.old.left walk.old.teller walk.new.teller disk.new) }
     ensures ready { OnOk result (T.IsReady walk.new.teller) }
     ensures stops { OnErr result (StopsWithin D.Disk T.Contents T.Told records.old disk.old (place_of root) walk.old.teller disk.new) }
+    ensures first { LeavesOutput D.Disk disk.old disk.new → 1 ≤ T.Near walk.old.teller → (document : CutTree) (held : HasDocument D.Disk records.old disk.old (place_of root) document)
+        → ReadsAlong held.now (place_of root) (0 ∷ []) (D.reads disk.old) (D.reads disk.new) }
     ensures refused { IfErr result (λ e. IsRefused D.Disk ⊥ (T.Unwritten disk.old disk.new) (IsSome (D.contents disk.new) → HoldsNoneWith D.Disk records.old disk.old (place_of root) walk.old.left) e records.old records.new disk.old disk.new) }
 {
     if records.is_ended() {
@@ -114,7 +143,7 @@ pub fn tell_document<D: Disk, T: Tells<D>>(
     if walk.left != 0 {
         return Err(damaged(records, root.page));
     }
-    walk.teller.pause(disk)?;
+    walk.teller.finish(disk)?;
     Ok(())
 }
 
@@ -147,10 +176,13 @@ fn tell_interval<D: Disk, T: Tells<D>>(
     requires runs { has_ended records.old ≡ false }
     requires levels { depth ≤ 257 }
     requires some { 1 ≤ roots }
+    requires one { depth ≡ 257 → roots ≡ 1 }
     ensures stays { OnOk result (LeavesRecords records.old records.new) }
     ensures told { OnOk result (HasTold D.Disk T.Contents T.Told (IsIntervalAt D.Disk records.old disk.old (place_of rid) roots) walk.old.teller disk.old walk.old.left walk.old.visited walk.new.teller disk.new walk.new.left walk.new.visited) }
     ensures stops { OnErr result (HasStopped D.Disk T.Contents T.Told (IsIntervalAt D.Disk records.old disk.old (place_of rid) roots) walk.old.teller disk.old disk.new) }
     ensures refused { IfErr result (λ e. IsRefused D.Disk ⊥ (T.Unwritten disk.old disk.new) (IsNone D.Disk disk.new (IsIntervalAt D.Disk records.old disk.old (place_of rid) roots) depth walk.old.left walk.old.visited) e records.old records.new disk.old disk.new) }
+    ensures first { LeavesOutput D.Disk disk.old disk.new → 1 ≤ T.Near walk.old.teller → ReadsAtMost (T.Near walk.old.teller) (D.reads disk.old) (D.reads disk.new) (ReadsInterval D.Disk records.old disk.old disk.new (place_of rid) roots depth) }
+    ensures near { OnOk result (LeavesOutput D.Disk disk.old disk.new → 1 ≤ T.Near walk.old.teller → depth ≤ 256 → 3 ≤ T.Near walk.new.teller) }
 {
     walk.teller.pause(disk)?;
     if !walk.visited.visit(rid)? {
@@ -196,6 +228,8 @@ fn tell_tree<'a, D: Disk, T: Tells<D>>(
     ensures told { OnOk result (HasTold D.Disk T.Contents T.Told (IsTreeOf D.Disk records.old disk.old (seen_tree tree.entry) proxies.now) walk.old.teller disk.old walk.old.left walk.old.visited walk.new.teller disk.new walk.new.left walk.new.visited) }
     ensures stops { OnErr result (HasStopped D.Disk T.Contents T.Told (IsTreeOf D.Disk records.old disk.old (seen_tree tree.entry) proxies.now) walk.old.teller disk.old disk.new) }
     ensures refused { IfErr result (λ e. IsRefused D.Disk ⊥ (T.Unwritten disk.old disk.new) (IsNone D.Disk disk.new (IsTreeOf D.Disk records.old disk.old (seen_tree tree.entry) proxies.now) spot.depth walk.old.left walk.old.visited) e records.old records.new disk.old disk.new) }
+    ensures first { LeavesOutput D.Disk disk.old disk.new → 2 ≤ T.Near walk.old.teller → ReadsAtMost (T.Near walk.old.teller) (D.reads disk.old) (D.reads disk.new) ((spot.depth ≡ 257) × ReadsGap D.Disk records.old disk.old disk.new (seen_items tree.entry.children) proxies.now) }
+    ensures near { OnOk result (LeavesOutput D.Disk disk.old disk.new → 2 ≤ T.Near walk.old.teller → spot.depth ≤ 256 → 3 ≤ T.Near walk.new.teller) }
 {
     if spot.depth == 0 || walk.left == 0 {
         return Err(damaged(records, spot.page));
@@ -225,7 +259,7 @@ fn tell_items<'a, D: Disk, T: Tells<D>>(
     spot: Spot,
 ) -> Result<&'a [Proxy], NavError>
     requires runs { has_ended records.old ≡ false }
-    requires levels { spot.depth ≤ 257 }
+    requires levels { spot.depth ≤ 256 }
     requires far { AreFar (seen_items items) }
     requires small { gapped_size (seen_items items) ≤ 256 }
     requires fits { proxies_in (seen_items items) ≤ length proxies.now }
@@ -235,6 +269,7 @@ fn tell_items<'a, D: Disk, T: Tells<D>>(
     ensures told { OnOk result (HasTold D.Disk T.Contents T.Told (AreOf D.Disk records.old disk.old (seen_items items.entry) proxies.now) walk.old.teller disk.old walk.old.left walk.old.visited walk.new.teller disk.new walk.new.left walk.new.visited) }
     ensures stops { OnErr result (HasStopped D.Disk T.Contents T.Told (AreOf D.Disk records.old disk.old (seen_items items.entry) proxies.now) walk.old.teller disk.old disk.new) }
     ensures refused { IfErr result (λ e. IsRefused D.Disk ⊥ (T.Unwritten disk.old disk.new) (IsNone D.Disk disk.new (AreOf D.Disk records.old disk.old (seen_items items.entry) proxies.now) spot.depth walk.old.left walk.old.visited) e records.old records.new disk.old disk.new) }
+    ensures first { LeavesOutput D.Disk disk.old disk.new → 2 ≤ T.Near walk.old.teller → ReadsAtMost (T.Near walk.old.teller) (D.reads disk.old) (D.reads disk.new) (ReadsGap D.Disk records.old disk.old disk.new (seen_items items.entry) proxies.now) }
 {
     let mut rest = proxies;
     let mut left = items;
@@ -262,12 +297,14 @@ fn tell_row<D: Disk, T: Tells<D>>(
     depth: u32,
 ) -> Result<(), NavError>
     requires runs { has_ended records.old ≡ false }
-    requires levels { depth ≤ 257 }
+    requires levels { depth ≤ 256 }
     requires rooted { HaveRoots proxies.now }
     ensures stays { OnOk result (LeavesRecords records.old records.new) }
     ensures told { OnOk result (HasTold D.Disk T.Contents T.Told (AreIntervalsOf D.Disk records.old disk.old proxies.now) walk.old.teller disk.old walk.old.left walk.old.visited walk.new.teller disk.new walk.new.left walk.new.visited) }
     ensures stops { OnErr result (HasStopped D.Disk T.Contents T.Told (AreIntervalsOf D.Disk records.old disk.old proxies.now) walk.old.teller disk.old disk.new) }
     ensures refused { IfErr result (λ e. IsRefused D.Disk ⊥ (T.Unwritten disk.old disk.new) (IsNone D.Disk disk.new (AreIntervalsOf D.Disk records.old disk.old proxies.now) depth walk.old.left walk.old.visited) e records.old records.new disk.old disk.new) }
+    ensures first { LeavesOutput D.Disk disk.old disk.new → 2 ≤ T.Near walk.old.teller → ReadsAtMost (T.Near walk.old.teller) (D.reads disk.old) (D.reads disk.new) (ReadsFirstOf D.Disk records.old disk.old disk.new proxies.now) }
+    ensures near { OnOk result (LeavesOutput D.Disk disk.old disk.new → 2 ≤ T.Near walk.old.teller → (proxies.now ≡ []) ⊎ (3 ≤ T.Near walk.new.teller)) }
 {
     for proxy in proxies {
         let rid = Rid {

@@ -3,19 +3,15 @@ use Rattle.std.proofs.lemmas.Result.{err_from_is_err_and}
 use Rattle.std.proofs.lemmas.List.{length-drop}
 use Rattle.nx_host.proofs.DiskLemmas.{still_then}
 use Rattle.nx_records.proofs.LeaveLemmas.{leaves_add_up, leaves_same}
-use Rattle.nx_tree.specs.Document.{deepest}
 use Rattle.nx_tree.specs.Edit.{at}
-use Rattle.nx_piece.specs.Flat.{seen_node}
-use Rattle.nx_piece.specs.PieceNode.{PieceNode}
 use Rattle.nx_cuts.specs.Cut.{tree_of}
 use Rattle.nx_layouts.specs.Layout.{RecordPlace}
 use Rattle.nx_hold.specs.Changes.{place_of, place_named}
 use Rattle.nx_nav.specs.Refusals.{OfEach, HoldsNoDocument}
-use Rattle.nx_nav.specs.Shows.{found_node}
 use Rattle.nx_nav.proofs.NodeLemmas.{too_deep}
 use Rattle.nx_nav.proofs.RefusalLemmas.{is_damaged}
-use Rattle.nx_nav.proofs.SeekLemmas.{IsSeeking, part_left, seek_begins, seek_refused, reads_no_more}
-use Rattle.nx_nav.proofs.WrittenLemmas.{TellsNode, written_as, written_reads_there, none_written, written_finds, written_none_such, written_names, written_nowhere, written_leads_on}
+use Rattle.nx_nav.proofs.SeekLemmas.{IsSeeking, part_left, seek_begins, seek_refused}
+use Rattle.nx_nav.proofs.WrittenLemmas.{written_as, written_reads_there, none_written, written_finds, written_none_such, written_names, written_nowhere, written_leads_on}
 use Rattle.nx_nav.proofs.finding.seek_at.Goals as goal
 
 pub loop-written-init : goal.loop-written-init

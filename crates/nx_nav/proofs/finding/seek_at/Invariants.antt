@@ -1,4 +1,4 @@
-use Rattle.std.proofs.Common.{◌≡◌, ℕ, length}
+use Rattle.std.proofs.Common.{ℕ, length}
 use Rattle.nx_hold.specs.Changes.{place_of}
 use Rattle.nx_nav.proofs.SeekLemmas.{IsSeeking}
 use Rattle.nx_nav.proofs.finding.seek_at.Given as goal

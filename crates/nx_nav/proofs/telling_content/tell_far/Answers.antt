@@ -1,10 +1,11 @@
-use Rattle.std.proofs.Common.{ℕ, List, [], ◌∷◌, refl, sym, ◌∙◌, subst}
+use Rattle.std.proofs.Common.{ℕ, List, [], ◌∷◌, refl, sym, ◌∙◌, subst, arith}
 use Rattle.std.proofs.lemmas.Result.{err_from_is_err_and}
 use Rattle.nx_records.specs.Changes.{LacksList}
 use Rattle.nx_records.specs.Reading.{Opens}
 use Rattle.nx_records.specs.Refusals.{NotRead}
 use Rattle.nx_records.proofs.LeaveLemmas.{leaves_same, leaves_add_up}
 use Rattle.nx_nav.specs.Steps.{Block}
+use Rattle.nx_nav.proofs.EarlyLemmas.{IsNearing, first_left, waits_no_more}
 use Rattle.nx_nav.proofs.WayLemmas.{IsTeller}
 use Rattle.nx_nav.proofs.ContentLemmas.{list_refused, node_stops_at_once, telling_begins, telling_pauses, telling_later, telling_goes_on, telling_ends, telling_stops, block_refused, not_written}
 use Rattle.nx_nav.proofs.telling_content.tell_far.Given.{Over}
@@ -20,6 +21,24 @@ teller g = record {
   unwritten = g.met.T.Tells.unwritten_later;
 }
 
+nearing : (g : Over) → IsNearing g.D.Disk g.T.Tells.Told g.T.Tells.Near
+nearing g = record { grows = g.met.T.Tells.output_grows; nearer = g.met.T.Tells.near_later }
+
+pub returns-in_err-pause-clause-unread : goal.returns-in_err-pause-clause-unread
+returns-in_err-pause-clause-unread g c = λ left waits.
+    let last = c.in_err-pause.ensures.err.2 in
+    let same = c.pause.ensures.unread in
+    let few = c.loop-alloc.invariant.unread (first_left (teller g) (nearing g) (c.loop-alloc.invariant.telling).goes last.1 left) waits in
+    omega (arith, same, few)
+
+pub returns-in_err-block-clause-unread : goal.returns-in_err-block-clause-unread
+returns-in_err-block-clause-unread g c = λ left waits.
+    absurd (waits_no_more (teller g) (nearing g) (c.loop-alloc.invariant.telling).goes c.in_ok-pause.ensures.ok c.in_ok-pause.ensures.gives ((teller g).asked c.pause.new.self c.pause.new.disk c.block_behind.new.disk c.block_behind.ensures.still) left waits)
+
+pub returns-in_err-content-clause-unread : goal.returns-in_err-content-clause-unread
+returns-in_err-content-clause-unread g c = λ left waits.
+    absurd (waits_no_more (teller g) (nearing g) (c.loop-alloc.invariant.telling).goes c.in_ok-pause.ensures.ok c.in_ok-pause.ensures.gives ((teller g).asked c.pause.new.self c.pause.new.disk c.block_behind.new.disk c.block_behind.ensures.still) left waits)
+
 pub returns-in-Err-clause-stops : goal.returns-in-Err-clause-stops
 returns-in-Err-clause-stops g c = node_stops_at_once (teller g)
 
@@ -31,7 +50,7 @@ returns-in-Err-clause-refused g c =
 pub loop-alloc-init : goal.loop-alloc-init
 loop-alloc-init g c =
     let ok = c.in-Ok.ensures.ok in
-    record { stays = leaves_same ok.1; telling = telling_begins (teller g) c.in-Ok.reader ok.1 (subst (λ (n : ℕ). Opens c.in-Ok.reader c.args.far.first n) c.from.ensures ok.2) }
+    record { stays = leaves_same ok.1; telling = telling_begins (teller g) c.in-Ok.reader ok.1 (subst (λ (n : ℕ). Opens c.in-Ok.reader c.args.far.first n) c.from.ensures ok.2); unread = λ left waits. omega arith }
 
 pub returns-in_err-pause-clause-stops : goal.returns-in_err-pause-clause-stops
 returns-in_err-pause-clause-stops g c =
@@ -79,6 +98,8 @@ loop-alloc-preserved g c =
       stays = leaves_add_up c.loop-alloc.invariant.stays c.in_ok-block.ensures.stays;
       telling = telling_goes_on (teller g) paused c.in_ok-block.block (λ none. c.loop-alloc-test.true (c.left.ensures ∙ none)) c.in_ok-block.ensures.stays c.block_behind.ensures.still c.in_ok-block.ensures.block c.in_ok-block.ensures.stood
           (subst (λ (bytes : List ℕ). g.T.Tells.Told c.pause.new.self c.block_behind.new.disk (Block bytes ∷ []) c.content.new.self c.block_behind.new.disk) c.as_slice.ensures (c.in_ok-content.ensures c.block_behind.new.disk));
+      unread = λ left waits. absurd (waits_no_more (teller g) (nearing g) (c.loop-alloc.invariant.telling).goes c.in_ok-pause.ensures.ok c.in_ok-pause.ensures.gives
+          ((teller g).join c.pause.new.self c.pause.new.self c.content.new.self c.pause.new.disk c.block_behind.new.disk c.block_behind.new.disk [] (Block c.as_slice.result.now ∷ []) ((teller g).asked c.pause.new.self c.pause.new.disk c.block_behind.new.disk c.block_behind.ensures.still) (c.in_ok-content.ensures c.block_behind.new.disk)) left waits);
     }
 
 pub returns-clause-stays : goal.returns-clause-stays

@@ -17,6 +17,8 @@ use Rattle.nx_hold.specs.Changes.{place_of, place_named}
 use Rattle.nx_nav.specs.Refusals.{IsRefused}
 use Rattle.nx_nav.specs.Visited.{HasVisited}
 use Rattle.nx_nav.specs.Walk.{Visits, HasTold, HasStopped, IsNone, IsIntervalAt, IsTreeOf, AreOf, AreIntervalsOf}
+use Rattle.nx_nav.specs.Steps.{Close}
+use Rattle.nx_nav.proofs.EarlyLemmas.{IsNearing, below_root, interval_unread, interval_read, roots_tree, roots_goes, roots_read, roots_near, items_tree, items_tree_goes, items_row, items_row_goes, items_read, row_interval, row_goes, row_read, row_near, tree_first, tree_near}
 use Rattle.nx_nav.proofs.WayLemmas.{IsTeller, IsSplit, IsOnWay, told_stands, way_begins, way_goes_on, way_stops, way_refused, way_ends}
 use Rattle.nx_nav.proofs.RefusalLemmas.{is_damaged}
 use Rattle.nx_nav.proofs.VisitLemmas.{was_new, was_old}
@@ -35,6 +37,9 @@ teller g = record {
   faults = g.met.T.Tells.faults_later;
   unwritten = g.met.T.Tells.unwritten_later;
 }
+
+nearing : (g : Over) → IsNearing g.D.Disk g.T.Tells.Told g.T.Tells.Near
+nearing g = record { grows = g.met.T.Tells.output_grows; nearer = g.met.T.Tells.near_later }
 
 abbrev no_proxy : Proxy
 no_proxy = record { page = 0; slot = 0; roots = 0 }
@@ -120,7 +125,8 @@ tell_items-tell_tree-requires g t c =
     let small = c.loop-item.invariant.small in
     let far : AreFar (Grow tree.node tree.below items) = subst AreFar e c.loop-item.invariant.far in
     let rooted : HaveRoots c.loop-item.rest.now = subst HaveRoots (sym passed.1) (ranged_drop passed.0 c.args.proxies.now c.requires.rooted) in
-    λ κs le. (omega arith, (le.0, (le.1, ((c.loop-item.invariant.stays).ended_stays ∙ c.requires.runs, (c.requires.levels, ((far.0, far.1), (omega arith, (omega arith, rooted))))))))
+    let levels = c.requires.levels in
+    λ κs le. (omega arith, (le.0, (le.1, ((c.loop-item.invariant.stays).ended_stays ∙ c.requires.runs, (omega (arith, levels), ((far.0, far.1), (omega arith, (omega arith, rooted))))))))
 
 pub tell_items-returns-in_err-rest-in-Tree-clause-stops : goal.tell_items-returns-in_err-rest-in-Tree-clause-stops
 tell_items-returns-in_err-rest-in-Tree-clause-stops g t c =
@@ -192,7 +198,7 @@ pub tell_items-returns-clause-told : goal.tell_items-returns-clause-told
 tell_items-returns-clause-told g t c = way_ends (teller g) c.loop-item.invariant.way (λ l is. items_end g.T.Tells.Contents (seen_items c.loop-item.left) c.loop-item.rest.now l is (rw c.in_default.is at c.split_first.ensures))
 
 pub tell_row-loop-proxy-init : goal.tell_row-loop-proxy-init
-tell_row-loop-proxy-init g t c = record { stays = leaves_same refl; way = way_begins (teller g) }
+tell_row-loop-proxy-init g t c = record { stays = leaves_same refl; way = way_begins (teller g); read = λ left begins. inl (refl, omega arith) }
 
 pub tell_row-tell_interval-requires : goal.tell_row-tell_interval-requires
 tell_row-tell_interval-requires g t c =
@@ -200,7 +206,8 @@ tell_row-tell_interval-requires g t c =
     let proxy = get_or c.args.proxies.now i no_proxy in
     let d : drop i c.args.proxies.now ≡ proxy ∷ drop (i + 1) c.args.proxies.now = next_at c.args.proxies.now i no_proxy c.loop-proxy-test.true in
     let rooted : HaveRoots (proxy ∷ drop (i + 1) c.args.proxies.now) = subst HaveRoots d (ranged_drop i c.args.proxies.now c.requires.rooted) in
-    λ κs le. (omega arith, (le.0, (le.1, ((c.loop-proxy.invariant.stays).ended_stays ∙ c.requires.runs, (c.requires.levels, rooted.0)))))
+    let levels = c.requires.levels in
+    λ κs le. (omega arith, (le.0, (le.1, ((c.loop-proxy.invariant.stays).ended_stays ∙ c.requires.runs, (omega (arith, levels), (rooted.0, λ deep. absurd (omega (arith, deep, levels))))))))
 
 pub tell_row-returns-in_err-tell_interval-clause-stops : goal.tell_row-returns-in_err-tell_interval-clause-stops
 tell_row-returns-in_err-tell_interval-clause-stops g t c =
@@ -238,6 +245,7 @@ tell_row-loop-proxy-preserved g t c =
     record {
       stays = leaves_add_up c.loop-proxy.invariant.stays c.in_ok-tell_interval.ensures.stays;
       way = way_goes_on (teller g) c.loop-proxy.invariant.way (AreIntervalsOf g.D.Disk c.tell_interval.new.records c.tell_interval.new.disk (drop (i + 1) c.args.proxies.now)) c.tell_interval.new.walk.teller c.tell_interval.new.disk c.tell_interval.new.walk.left c.tell_interval.new.walk.visited told split;
+      read = row_goes (teller g) (nearing g) {r0 = c.args.records.now} {r1 = c.loop-proxy.records} i c.args.proxies.now (c.loop-proxy.invariant.way).goes told.goes c.loop-proxy.invariant.stays c.loop-proxy.invariant.read c.args.depth c.requires.levels proxy (drop (i + 1) c.args.proxies.now) d c.tell_interval.ensures.first c.in_ok-tell_interval.ensures.near;
     }
 
 pub tell_row-returns-clause-told : goal.tell_row-returns-clause-told
@@ -316,7 +324,9 @@ tell_interval-loop-item-init g t c =
       rooted = subst HaveRoots (sym proxies) valid.ranged;
       way = subst (λ (f : Gapped). IsOnWay g.D.Disk g.T.Tells.Contents g.T.Tells.Told (IsIntervalAt g.D.Disk c.args.records.now c.args.disk.now (place_of c.args.rid) c.args.roots) (AreOf g.D.Disk c.piece_at.new.records c.piece_at.new.disk f c.as_slice-proxies.result.now) c.args.walk.now.teller c.args.disk.now c.args.walk.now.left c.args.walk.now.visited c.begin.new.self c.piece_at.new.disk c.args.walk.now.left c.visit.new.self) (sym roots)
           (subst (λ (ps : List Proxy). IsOnWay g.D.Disk g.T.Tells.Contents g.T.Tells.Told (IsIntervalAt g.D.Disk c.args.records.now c.args.disk.now (place_of c.args.rid) c.args.roots) (AreOf g.D.Disk c.piece_at.new.records c.piece_at.new.disk c.in_ok-piece.piece.body.roots ps) c.args.walk.now.teller c.args.disk.now c.args.walk.now.left c.args.walk.now.visited c.begin.new.self c.piece_at.new.disk c.args.walk.now.left c.visit.new.self) (sym proxies)
-          (interval_begins g.T.Tells.Contents (teller g) c.args.records.now c.piece_at.new.records (place_of c.args.rid) c.args.roots paused c.piece_at.ensures.still c.args.walk.now.left _ c.args.walk.now.visited c.visit.new.self c.in_ok-piece.piece c.begin.new.self visits c.in_ok-piece.ensures.stays.1 c.in_ok-piece.ensures.ok (ap (λ (p : Piece). gapped_weight p.body.roots) c.piece.view_is) (c.in_ok-begin.ensures c.piece_at.new.disk)));
+          (interval_begins g.T.Tells.Contents (teller g) c.args.records.now c.piece_at.new.records (place_of c.args.rid) c.args.roots paused c.piece_at.ensures.still c.args.walk.now.left _ c.args.walk.now.visited c.visit.new.self c.in_ok-piece.piece c.begin.new.self visits c.in_ok-piece.ensures.stays.1 c.in_ok-piece.ensures.ok (ap (λ (p : Piece). gapped_weight p.body.roots) c.piece.view_is) (c.in_ok-begin.ensures.told c.piece_at.new.disk)));
+      read = interval_read (teller g) (nearing g) {r = c.args.records.now} {roots = c.args.roots} c.args.depth paused c.in_ok-pause.ensures.gives c.pause.ensures.unread c.piece_at.ensures.still c.piece_at.ensures.reads (seen_items c.roots-items.result) c.as_slice-proxies.result.now c.in_ok-piece.piece
+          c.in_ok-piece.ensures.ok valid c.in_ok-piece.ensures.roots roots proxies c.in_ok-begin.ensures.near;
     }
 
 pub tell_interval-loop-item-preserved-in_ok-proxies : goal.tell_interval-loop-item-preserved-in_ok-proxies
@@ -341,10 +351,12 @@ tell_interval-loop-item-preserved-in_ok-proxies g t c =
       way = subst (λ (ps : List Proxy). IsOnWay g.D.Disk g.T.Tells.Contents g.T.Tells.Told (IsIntervalAt g.D.Disk c.args.records.now c.args.disk.now (place_of c.args.rid) c.args.roots) (AreOf g.D.Disk c.tell_tree.new.records c.tell_tree.new.disk items ps) c.args.walk.now.teller c.args.disk.now c.args.walk.now.left c.args.walk.now.visited
           c.tell_tree.new.walk.teller c.tell_tree.new.disk c.tell_tree.new.walk.left c.tell_tree.new.walk.visited) behind
           (way_goes_on (teller g) c.loop-item.invariant.way (AreOf g.D.Disk c.tell_tree.new.records c.tell_tree.new.disk items (drop (proxies_in root.below) c.loop-item.proxies.now)) c.tell_tree.new.walk.teller c.tell_tree.new.disk c.tell_tree.new.walk.left c.tell_tree.new.walk.visited told split);
+      read = roots_goes (teller g) (nearing g) {r0 = c.args.records.now} {r1 = c.loop-item.records} (place_of c.args.rid) c.args.roots c.args.depth (seen_items c.loop-item.items) c.loop-item.proxies.now (c.loop-item.invariant.way).goes told.goes c.loop-item.invariant.stays c.loop-item.invariant.read root items e
+          c.tell_tree.ensures.first c.requires.levels c.requires.one c.in_ok-proxies.proxies.now c.in_ok-proxies.ensures.near;
     }
 
 pub tell_items-loop-item-init : goal.tell_items-loop-item-init
-tell_items-loop-item-init g t c = record { stays = leaves_same refl; far = c.requires.far; small = c.requires.small; passed = (0, refl, omega arith); way = way_begins (teller g) }
+tell_items-loop-item-init g t c = record { stays = leaves_same refl; far = c.requires.far; small = c.requires.small; passed = (0, refl, omega arith); way = way_begins (teller g); read = λ left begins. inl (omega arith, refl, λ gap. gap) }
 
 pub tell_items-loop-item-preserved-in_ok-rest-in-Tree : goal.tell_items-loop-item-preserved-in_ok-rest-in-Tree
 tell_items-loop-item-preserved-in_ok-rest-in-Tree g t c =
@@ -368,6 +380,8 @@ tell_items-loop-item-preserved-in_ok-rest-in-Tree g t c =
       way = subst (λ (ps : List Proxy). IsOnWay g.D.Disk g.T.Tells.Contents g.T.Tells.Told (AreOf g.D.Disk c.args.records.now c.args.disk.now (seen_items c.args.items) c.args.proxies.now) (AreOf g.D.Disk c.tell_tree.new.records c.tell_tree.new.disk items ps)
           c.args.walk.now.teller c.args.disk.now c.args.walk.now.left c.args.walk.now.visited c.tell_tree.new.walk.teller c.tell_tree.new.disk c.tell_tree.new.walk.left c.tell_tree.new.walk.visited) behind
           (way_goes_on (teller g) c.loop-item.invariant.way (AreOf g.D.Disk c.tell_tree.new.records c.tell_tree.new.disk items (drop (proxies_in tree.below) c.loop-item.rest.now)) c.tell_tree.new.walk.teller c.tell_tree.new.disk c.tell_tree.new.walk.left c.tell_tree.new.walk.visited told split);
+      read = items_tree_goes (teller g) (nearing g) {r0 = c.args.records.now} {r1 = c.loop-item.records} (seen_items c.args.items) (seen_items c.loop-item.left) c.args.proxies.now c.loop-item.rest.now (c.loop-item.invariant.way).goes told.goes c.loop-item.invariant.stays c.loop-item.invariant.read
+          c.args.spot.depth c.requires.levels _ c.tell_tree.ensures.first c.in_ok-rest-in-Tree.ensures.near items c.in_ok-rest-in-Tree.rest.now;
     }
 
 pub tell_items-loop-item-preserved : goal.tell_items-loop-item-preserved
@@ -392,6 +406,8 @@ tell_items-loop-item-preserved g t c =
       way = subst (λ (ps : List Proxy). IsOnWay g.D.Disk g.T.Tells.Contents g.T.Tells.Told (AreOf g.D.Disk c.args.records.now c.args.disk.now (seen_items c.args.items) c.args.proxies.now) (AreOf g.D.Disk c.tell_row.new.records c.tell_row.new.disk items ps)
           c.args.walk.now.teller c.args.disk.now c.args.walk.now.left c.args.walk.now.visited c.tell_row.new.walk.teller c.tell_row.new.disk c.tell_row.new.walk.left c.tell_row.new.walk.visited) behind
           (way_goes_on (teller g) c.loop-item.invariant.way (AreOf g.D.Disk c.tell_row.new.records c.tell_row.new.disk items (drop c.in-Run.count c.loop-item.rest.now)) c.tell_row.new.walk.teller c.tell_row.new.disk c.tell_row.new.walk.left c.tell_row.new.walk.visited told split);
+      read = items_row_goes (teller g) (nearing g) {r0 = c.args.records.now} {r1 = c.loop-item.records} (seen_items c.args.items) (seen_items c.loop-item.left) c.args.proxies.now c.loop-item.rest.now (c.loop-item.invariant.way).goes told.goes c.loop-item.invariant.stays c.loop-item.invariant.read
+          c.in-Run.count items c.split_at.result.0.now c.split_at.result.1.now e c.split_at.ensures.front c.split_at.ensures.back c.tell_row.ensures.first c.in_ok-tell_row-in-Run.ensures.near;
     }
 
 pub tell_interval-returns-in_err-visit-clause-stops : goal.tell_interval-returns-in_err-visit-clause-stops
@@ -433,3 +449,91 @@ tell_tree-returns-then-not-is_possible-clause-refused g t c =
     c.damaged-then-not-is_possible.ensures.ends
     (no_such_tree c.args.records.now (seen_tree c.args.tree) c.args.proxies.now c.args.spot.depth c.args.walk.now.left c.args.walk.now.visited c.args.disk.now
     (λ can. absurd (let yes = c.is_possible.ensures.1 can in let no = c.if-not-is_possible.true in cc)))
+
+-- What was read while nothing was given:
+
+pub tell_interval-returns-in_err-piece-clause-first : goal.tell_interval-returns-in_err-piece-clause-first
+tell_interval-returns-in_err-piece-clause-first g t c = λ left some.
+    interval_unread (teller g) (nearing g) {r = c.args.records.now} {roots = c.args.roots} c.args.depth c.in_ok-pause.ensures.ok c.in_ok-pause.ensures.gives c.pause.ensures.unread c.piece_at.ensures.still c.piece_at.ensures.reads left
+
+pub tell_interval-returns-in_err-begin-clause-first : goal.tell_interval-returns-in_err-begin-clause-first
+tell_interval-returns-in_err-begin-clause-first g t c = λ left some.
+    interval_unread (teller g) (nearing g) {r = c.args.records.now} {roots = c.args.roots} c.args.depth c.in_ok-pause.ensures.ok c.in_ok-pause.ensures.gives c.pause.ensures.unread c.piece_at.ensures.still c.piece_at.ensures.reads left
+
+pub tell_interval-returns-in_err-proxies-clause-first : goal.tell_interval-returns-in_err-proxies-clause-first
+tell_interval-returns-in_err-proxies-clause-first g t c =
+    let root = seen_tree c.in-Tree.root in
+    let items = seen_items c.in-Some.beside in
+    let e : seen_items c.loop-item.items ≡ Grow root.node root.below items = c.in-Some.ensures ∙ ap (λ (item : ItemView). begun_with item items) c.in-Tree.is in
+    roots_tree (teller g) (nearing g) {r0 = c.args.records.now} {r1 = c.loop-item.records} (place_of c.args.rid) c.args.roots c.args.depth (seen_items c.loop-item.items) c.loop-item.proxies.now (c.loop-item.invariant.way).goes c.in_err-proxies.ensures.stops.goes c.loop-item.invariant.stays
+    c.loop-item.invariant.read root items e c.tell_tree.ensures.first
+
+pub tell_interval-returns-clause-first : goal.tell_interval-returns-clause-first
+tell_interval-returns-clause-first g t c = λ left some.
+    roots_read g.D.Disk g.T.Tells.Near c.args.records.now c.args.disk.now c.loop-item.disk c.args.walk.now.teller c.loop-item.walk.teller (place_of c.args.rid) c.args.roots c.args.depth (seen_items c.loop-item.items) c.loop-item.proxies.now (c.loop-item.invariant.read left some)
+
+pub tell_interval-returns-clause-near : goal.tell_interval-returns-clause-near
+tell_interval-returns-clause-near g t c = λ left some shallow.
+    roots_near g.D.Disk g.T.Tells.Near c.args.records.now c.args.disk.now c.loop-item.disk c.args.walk.now.teller c.loop-item.walk.teller (place_of c.args.rid) c.args.roots c.args.depth (seen_items c.loop-item.items) c.loop-item.proxies.now (rw c.in_default.is at c.split_first.ensures) c.requires.some (c.loop-item.invariant.read left some) shallow
+
+pub tell_items-returns-in_err-rest-in-Tree-clause-first : goal.tell_items-returns-in_err-rest-in-Tree-clause-first
+tell_items-returns-in_err-rest-in-Tree-clause-first g t c =
+    items_tree (teller g) (nearing g) {r0 = c.args.records.now} {r1 = c.loop-item.records} (seen_items c.args.items) (seen_items c.loop-item.left) c.args.proxies.now c.loop-item.rest.now (c.loop-item.invariant.way).goes c.in_err-rest-in-Tree.ensures.stops.goes c.loop-item.invariant.stays
+    c.loop-item.invariant.read c.args.spot.depth c.requires.levels _ c.tell_tree.ensures.first
+
+pub tell_items-returns-in_err-tell_row-in-Run-clause-first : goal.tell_items-returns-in_err-tell_row-in-Run-clause-first
+tell_items-returns-in_err-tell_row-in-Run-clause-first g t c =
+    let items = seen_items c.in-Some.beside in
+    let e : seen_items c.loop-item.left ≡ Gap c.in-Run.count items = c.in-Some.ensures ∙ ap (λ (item : ItemView). begun_with item items) c.in-Run.is in
+    items_row (teller g) (nearing g) {r0 = c.args.records.now} {r1 = c.loop-item.records} (seen_items c.args.items) (seen_items c.loop-item.left) c.args.proxies.now c.loop-item.rest.now (c.loop-item.invariant.way).goes c.in_err-tell_row-in-Run.ensures.stops.goes c.loop-item.invariant.stays
+    c.loop-item.invariant.read c.in-Run.count items c.split_at.result.0.now e c.split_at.ensures.front c.tell_row.ensures.first
+
+pub tell_items-returns-clause-first : goal.tell_items-returns-clause-first
+tell_items-returns-clause-first g t c = λ left begins.
+    items_read g.D.Disk g.T.Tells.Near c.args.records.now c.args.disk.now c.loop-item.disk c.args.walk.now.teller c.loop-item.walk.teller (seen_items c.args.items) (seen_items c.loop-item.left) c.args.proxies.now c.loop-item.rest.now (c.loop-item.invariant.read left begins)
+
+pub tell_row-returns-in_err-tell_interval-clause-first : goal.tell_row-returns-in_err-tell_interval-clause-first
+tell_row-returns-in_err-tell_interval-clause-first g t c =
+    let i = c.loop-proxy.proxy-index in
+    let proxy = get_or c.args.proxies.now i no_proxy in
+    let d : drop i c.args.proxies.now ≡ proxy ∷ drop (i + 1) c.args.proxies.now = next_at c.args.proxies.now i no_proxy c.loop-proxy-test.true in
+    row_interval (teller g) (nearing g) {r0 = c.args.records.now} {r1 = c.loop-proxy.records} i c.args.proxies.now (c.loop-proxy.invariant.way).goes c.in_err-tell_interval.ensures.stops.goes c.loop-proxy.invariant.stays c.loop-proxy.invariant.read c.args.depth c.requires.levels proxy
+    (drop (i + 1) c.args.proxies.now) d c.tell_interval.ensures.first
+
+pub tell_row-returns-clause-first : goal.tell_row-returns-clause-first
+tell_row-returns-clause-first g t c = λ left begins. row_read g.D.Disk g.T.Tells.Near c.args.records.now c.args.disk.now c.loop-proxy.disk c.args.walk.now.teller c.loop-proxy.walk.teller c.loop-proxy.proxy-index c.args.proxies.now (c.loop-proxy.invariant.read left begins)
+
+pub tell_row-returns-clause-near : goal.tell_row-returns-clause-near
+tell_row-returns-clause-near g t c = λ left begins.
+    row_near g.D.Disk g.T.Tells.Near c.args.records.now c.args.disk.now c.loop-proxy.disk c.args.walk.now.teller c.loop-proxy.walk.teller c.loop-proxy.proxy-index c.args.proxies.now (omega arith) (c.loop-proxy.invariant.read left begins)
+
+pub tell_tree-returns-in_err-behind-clause-first : goal.tell_tree-returns-in_err-behind-clause-first
+tell_tree-returns-in_err-behind-clause-first g t c =
+    let begun = c.in_ok-begin_node.ensures in
+    let can = c.is_possible.ensures.0 c.if-not-is_possible.false in
+    tree_first (teller g) (nearing g) {r0 = c.args.records.now} {r1 = c.begin_node.new.records} begun.told.goes c.in_err-behind.ensures.stops.goes begun.stays c.args.spot.depth c.requires.levels (seen_items c.args.tree.children) c.args.proxies.now
+    c.begin_node.ensures.unread (λ left two shallow. begun.near left (below_root c.args.spot.depth (seen_tree c.args.tree) shallow can) two) c.tell_items.ensures.first
+
+pub tell_tree-returns-in_err-close-clause-first : goal.tell_tree-returns-in_err-close-clause-first
+tell_tree-returns-in_err-close-clause-first g t c =
+    let begun = c.in_ok-begin_node.ensures in
+    let can = c.is_possible.ensures.0 c.if-not-is_possible.false in
+    tree_first (teller g) (nearing g) {r0 = c.args.records.now} {r1 = c.begin_node.new.records} begun.told.goes c.in_ok-behind.ensures.told.goes begun.stays c.args.spot.depth c.requires.levels (seen_items c.args.tree.children) c.args.proxies.now
+    c.begin_node.ensures.unread (λ left two shallow. begun.near left (below_root c.args.spot.depth (seen_tree c.args.tree) shallow can) two) c.tell_items.ensures.first
+
+pub tell_tree-returns-clause-first : goal.tell_tree-returns-clause-first
+tell_tree-returns-clause-first g t c =
+    let begun = c.in_ok-begin_node.ensures in
+    let can = c.is_possible.ensures.0 c.if-not-is_possible.false in
+    tree_first (teller g) (nearing g) {r0 = c.args.records.now} {r1 = c.begin_node.new.records} begun.told.goes c.in_ok-behind.ensures.told.goes begun.stays c.args.spot.depth c.requires.levels (seen_items c.args.tree.children) c.args.proxies.now
+    c.begin_node.ensures.unread (λ left two shallow. begun.near left (below_root c.args.spot.depth (seen_tree c.args.tree) shallow can) two) c.tell_items.ensures.first
+
+pub tell_tree-returns-clause-near : goal.tell_tree-returns-clause-near
+tell_tree-returns-clause-near g t c =
+    let begun = c.in_ok-begin_node.ensures in
+    let can = c.is_possible.ensures.0 c.if-not-is_possible.false in
+    let has = c.in_ok-behind.ensures.told in
+    let end = Close c.args.tree.node.kind c.args.tree.node.name.now ∷ [] in
+    tree_near (teller g) (nearing g) {r0 = c.args.records.now} {r1 = c.begin_node.new.records} begun.told.goes
+    ((teller g).join c.begin_node.new.teller c.tell_items.new.walk.teller c.close.new.self c.begin_node.new.disk c.tell_items.new.disk c.tell_items.new.disk has.told end has.goes (c.in_ok-close.ensures c.tell_items.new.disk)) begun.stays c.args.spot.depth c.requires.levels
+    (seen_items c.args.tree.children) c.args.proxies.now (λ left two shallow. begun.near left (below_root c.args.spot.depth (seen_tree c.args.tree) shallow can) two)

@@ -1,8 +1,13 @@
-use Rattle.std.proofs.Common.{ℕ, List, [], refl, subst, arith}
+use Rattle.std.proofs.Common.{ℕ, List, [], refl, sym, ◌∙◌, subst, arith}
 use Rattle.nx_host.specs.Phase.{GivesAlone}
+use Rattle.nx_nav.specs.EarlyLaws.{nothing_came, near_kept}
 use Rattle.nx_nav.specs.Given.{GivesText}
 use Rattle.nx_nav.proofs.GivenLemmas.{gives_prefix}
-use Rattle.nx_nav.proofs.exporting.ExportingTells.pause.Goals as goal
+use Rattle.nx_nav.proofs.exporting.Exporting.give.Goals as goal
+
+pub returns-in-Ok-clause-out : goal.returns-in-Ok-clause-out
+returns-in-Ok-clause-out g c = λ some left.
+    some (sym c.as_slice.ensures ∙ nothing_came c.as_slice.result.now (g.H.Disk.beside c.args.host.now).output (g.H.Disk.beside c.emit.new.self).output left.output c.in-Ok.ensures.ok left.was left.is)
 
 pub returns-in-Err-clause-err : goal.returns-in-Err-clause-err
 returns-in-Err-clause-err g c =
@@ -21,4 +26,4 @@ returns-in-Err-clause-err g c =
       in_faults_stay = e.in_faults;
     } in
     let given = subst (λ (block : List ℕ). (left : List ℕ) × GivesText g.H.Disk block c.args.host.now [] left c.emit.new.self) c.as_slice.ensures (gives_prefix c.as_slice.result.now alone e.prefix) in
-    (refl, e.cause, (record { block = given.0 }, given.1))
+    (refl, e.cause, (record { block = given.0; stage = c.args.self.now.stage }, (given.1, λ output. near_kept c.args.self.now.stage given.1 output)))
