@@ -4,7 +4,7 @@ use Rattle.std.specs.Prelude.{IsSome, Contains, codes, get_or}
 use Rattle.std.specs.List.{flat_map}
 use Rattle.std.proofs.Math.Seq.{drop-cons}
 use Rattle.std.proofs.lemmas.Bool.{cases_Bool, MatchBool-at_true, false≢true}
-use Rattle.std.proofs.lemmas.List.{map-append, take-append-drop, drop_all}
+use Rattle.std.proofs.lemmas.List.{map-append, take-append-drop, drop_all, get_or_default}
 use Rattle.std.proofs.lemmas.List.Elements.{Contains-append_left, Contains-append_right, Contains-append_cases, Contains-push}
 use Rattle.nx_host.specs.declared.disk.Disk.{Ghosts}
 use Rattle.nx_host.specs.Disk.{Image, Beside, Keeps, Rose}
@@ -181,9 +181,9 @@ found_next paths i path within is =
     let number : suc i ≡ i + 1 = omega arith in
     ap found_text (drop-cons paths i path within ∙ ap₂ (λ (p : List ℕ) (j : ℕ). p ∷ drop j paths) (sym is) number) ∙ append_assoc (found_line path) (flat_map found_line (drop (i + 1) paths)) (codes ".\n")
 
--- an item in other words
-pub same_item : (paths : List (List ℕ)) (i : ℕ) {path item : List ℕ} → path ≡ item → item ≡ get_or paths i item → path ≡ get_or paths i path
-same_item paths i same is = subst (λ (p : List ℕ). p ≡ get_or paths i p) (sym same) is
+-- a path by its number
+pub path_at : (paths : List (List ℕ)) (i : ℕ) {path : List ℕ} → path ≡ get_or paths i [] → i < length paths → path ≡ get_or paths i path
+path_at paths i {path} is within = is ∙ get_or_default paths i [] path within
 
 pub found_filled : (paths : List (List ℕ)) (i : ℕ) (path block filled : List ℕ) → i < length paths → path ≡ get_or paths i path → filled ≡ block ++ found_line path →
     block ++ found_text (drop i paths) ≡ filled ++ found_text (drop (i + 1) paths)

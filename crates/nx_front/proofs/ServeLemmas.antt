@@ -17,7 +17,7 @@ use Rattle.nx_state.specs.State.{State}
 use Rattle.nx_store.specs.declared.store.Store.{Store}
 use Rattle.nx_store.specs.declared.error.EngineError.{EngineError}
 use Rattle.nx_store.specs.declared.error.EngineError.TheVariants as engine
-use Rattle.nx_store.specs.Store.{StoreTurn, IsAt, IsOf, IsOfEither, Shows, ShowsAnswer, ShowsGiven, IsGiven, IsApplied, IsAnswered, IsExported, TakesNone, NotApplied}
+use Rattle.nx_store.specs.Store.{StoreTurn, IsAt, IsOf, IsOfEither, Shows, ShowsAnswer, ShowsGiven, IsGiven, IsApplied, IsAnswered, GivesPart, IsExported, TakesNone, NotApplied}
 use Rattle.nx_store.proofs.AtLemmas.{at_beside, at_image}
 use Rattle.nx_store.proofs.CaseLemmas.{quiet_leaves}
 use Rattle.nx_steps.specs.Step.{Step, may_change}
@@ -306,6 +306,16 @@ module _ {D : Type 0} {d : Ghosts D} where
     between = between;
   }
 
+  -- a first part of an export was given
+  part_begun : {status : Status} {first mid next : D} {store : Store} {state : State} {turns : List Turn} {block : List ℕ} (command : Command) → HasClock d → HasServed d state turns store block first mid → block ≡ [] →
+      GivesPart d (state_after state turns) command mid next → HasBegun d status state (commands_of turns ++ command ∷ []) first next
+  part_begun {status = status} {first = first} {mid = mid} {next = next} {state = state} {turns = turns} {block = block} command clock served none part =
+      let turn : Turn = record { command = Export part.name; reply = part.reply; next = state_after state turns } in
+      let there = served_quietly turn served part.step refl in
+      let gives = subst (λ (t : State). ShowsGiven d (block ++ reply_text part.reply) t mid next) (sym (after_more state turns turn))
+      (subst (λ (b : List ℕ). ShowsGiven d (b ++ reply_text part.reply) (state_after state turns) mid next) (sym none) part.time) in
+      subst (λ (c : Command). HasBegun d status state (commands_of turns ++ c ∷ []) first next) (sym part.is) (begun_one turns turn (run_given there gives) (λ ends. between_given clock there gives))
+
   -- it isn't begun where the block isn't given
   pub block_begins : {now next : D} {store : Store} {block : List ℕ} (command : Command) (stop : GiveError) → HasClock d → GivesAlone d block now next →
       BeginsNext d command (status_of_give_error stop) store block now next
@@ -326,12 +336,14 @@ module _ {D : Type 0} {d : Ghosts D} where
       StopsShort (status_of_engine e) × HasBegun d (status_of_engine e) state (commands_of turns ++ command ∷ []) first next
   loud_stops {turns = turns} store' command engine.Write clock served none (turn, at, time) =
       (tt, begun_one turns (turn_of command turn) (run_loudly (turn_of command turn) served none turn.step time) (λ ends. absurd ends))
-  loud_stops {mid = mid} {next = next} {state = state} {turns = turns} {block = block} store' command engine.Memory clock served none (at, shows) =
+  loud_stops {mid = mid} {next = next} {state = state} {turns = turns} {block = block} store' command engine.Memory clock served none (at, inl shows) =
       (tt, begun_none command clock served (shows_gives d mid next (state_after state turns) block shows))
-  loud_stops {mid = mid} {next = next} {state = state} {turns = turns} {block = block} store' command engine.Disk clock served none (inl shows) =
+  loud_stops store' command engine.Memory clock served none (at, inr part) = (tt, part_begun command clock served none part)
+  loud_stops {mid = mid} {next = next} {state = state} {turns = turns} {block = block} store' command engine.Disk clock served none (inl (inl shows)) =
       (tt, begun_none command clock served (shows_gives d mid next (state_after state turns) block shows))
-  loud_stops {turns = turns} store' command engine.Disk clock served none (inr (turn, shows)) =
+  loud_stops {turns = turns} store' command engine.Disk clock served none (inl (inr (turn, shows))) =
       (tt, begun_one turns (turn_of command turn) (run_loudly (turn_of command turn) served none turn.step (elapsed_weaker shows (λ s h. inl h))) (λ ends. absurd ends))
+  loud_stops store' command engine.Disk clock served none (inr part) = (tt, part_begun command clock served none part)
   loud_stops store' command engine.Exists clock served none answered = absurd answered
   loud_stops store' command engine.NotAStore clock served none answered = absurd answered
   loud_stops store' command (engine.Damaged page) clock served none answered = absurd answered

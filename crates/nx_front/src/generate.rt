@@ -20,13 +20,20 @@ use nx_script::{DocLine, Reply};
 use nx_store::{EngineError, Store};
 use nx_tree::NoMemory;
 use std::alloc::Global;
+use std::thread::Threads;
 
 // The name of the document that the generated commands load.
 const NAME: &[u8] = b"gen";
 
 // Carries out the commands of a seed and a number over the store on the disk, and tells what came of them; or says that there
 // is a document of their name. No input is taken.
-pub fn generate<H: Host>(alloc: Global, host: &mut H, seed: u32, n: u32) -> Status
+pub fn generate<R: Threads + Sync, H: Host>(
+    rt: &R,
+    alloc: Global,
+    host: &mut H,
+    seed: u32,
+    n: u32,
+) -> Status
     requires seed { seed < 2 ^ 31 }
     requires some { 1 ≤ n }
     requires few { n ≤ 100000 }
@@ -41,14 +48,15 @@ pub fn generate<H: Host>(alloc: Global, host: &mut H, seed: u32, n: u32) -> Stat
         Ok(Some(_)) => return say(host, b"refused exists\n", Status::Refused),
         Err(error) => return status_of(error),
     }
-    match carry_out(alloc, host, &mut store, seed, n) {
+    match carry_out(rt, alloc, host, &mut store, seed, n) {
         Ok(summary) => say(host, summary.as_bytes(), Status::Done),
         Err(error) => status_of(error),
     }
 }
 
 // Carries out the commands of a seed and a number, and makes the lines that tell what came of them.
-fn carry_out<D: Disk>(
+fn carry_out<R: Threads + Sync, D: Disk>(
+    rt: &R,
     alloc: Global,
     disk: &mut D,
     store: &mut Store,
@@ -67,7 +75,7 @@ fn carry_out<D: Disk>(
     let mut commands = Gen::new(alloc, seed, n)?;
     let mut counts = Counts::new();
     while let Some(command) = commands.next()? {
-        let reply = store.apply(disk, command)?;
+        let reply = store.apply(rt, disk, command)?;
         counts.add(reply);
     }
     let nodes = generated_nodes(store)?;

@@ -18,14 +18,15 @@ use nx_steps::may_change;
 use nx_store::{EngineError, Store};
 use nx_tree::Bytes;
 use std::alloc::Global;
+use std::thread::Threads;
 
 // Answers every command of the input from the store on the disk, in order. The replies to the commands that
 // are whole in what was read are given before more is read, and before the next commit begins.
-pub fn serve<H: Host>(alloc: Global, host: &mut H) -> Status
+pub fn serve<R: Threads + Sync, H: Host>(rt: &R, alloc: Global, host: &mut H) -> Status
     ensures { Serves ⟦<H as Disk>⟧ result host.old host.new }
 {
     match Store::open(alloc, host) {
-        Ok(mut store) => match converse(alloc, host, &mut store) {
+        Ok(mut store) => match converse(rt, alloc, host, &mut store) {
             Ok(()) => Status::Done,
             Err(status) => status,
         },
@@ -34,13 +35,18 @@ pub fn serve<H: Host>(alloc: Global, host: &mut H) -> Status
 }
 
 // Answers every command of the input.
-fn converse<H: Host>(alloc: Global, host: &mut H, store: &mut Store) -> Result<(), Status>
+fn converse<R: Threads + Sync, H: Host>(
+    rt: &R,
+    alloc: Global,
+    host: &mut H,
+    store: &mut Store,
+) -> Result<(), Status>
     ensures { Converses ⟦<H as Disk>⟧ store.old (conversation_status result) host.old host.new }
 {
     let mut script = Script::new(alloc)?;
     let mut block = Bytes::new(alloc);
     loop {
-        answer_ready(host, store, &mut script, &mut block)?;
+        answer_ready(rt, host, store, &mut script, &mut block)?;
         give_block(host, &mut block)?;
         if script.is_ended() {
             return Ok(());
@@ -51,7 +57,8 @@ fn converse<H: Host>(alloc: Global, host: &mut H, store: &mut Store) -> Result<(
 
 // Answers every command that is whole in what was read. The last of the replies' texts are left in the
 // block.
-fn answer_ready<H: Host>(
+fn answer_ready<R: Threads + Sync, H: Host>(
+    rt: &R,
     host: &mut H,
     store: &mut Store,
     script: &mut Script,
@@ -68,7 +75,7 @@ fn answer_ready<H: Host>(
         let Some(command) = script.ready()? else {
             return Ok(());
         };
-        answer(host, store, block, command)?;
+        answer(rt, host, store, block, command)?;
         if block.len() >= BLOCK {
             give_block(host, block)?;
         }
@@ -78,7 +85,8 @@ fn answer_ready<H: Host>(
 // Answers a command: adds the reply's text to the block, or gives what the block has and a prefix of the
 // text where it is long. All replies before a command that may write to the disk are given first, and its
 // own at once.
-fn answer<H: Host>(
+fn answer<R: Threads + Sync, H: Host>(
+    rt: &R,
     host: &mut H,
     store: &mut Store,
     block: &mut Bytes,
@@ -93,13 +101,14 @@ fn answer<H: Host>(
     ensures reads { is_lookup command ≡ true → ReadsWithin ⟦<H as Disk>⟧ command store.old host.old host.new }
 {
     if writes(&command) {
-        return answer_alone(host, store, block, command);
+        return answer_alone(rt, host, store, block, command);
     }
-    answer_behind(host, store, block, command)
+    answer_behind(rt, host, store, block, command)
 }
 
 // ... one that may write to the disk.
-fn answer_alone<H: Host>(
+fn answer_alone<R: Threads + Sync, H: Host>(
+    rt: &R,
     host: &mut H,
     store: &mut Store,
     block: &mut Bytes,
@@ -112,14 +121,15 @@ fn answer_alone<H: Host>(
     ensures beside { TakesNone ⟦<H as Disk>⟧ host.old host.new }
 {
     give_block(host, block)?;
-    if let Err(error) = store.answer(host, command) {
+    if let Err(error) = store.answer(rt, host, command) {
         return Err(status_of(error));
     }
     Ok(())
 }
 
 // ... one that leaves what is stored.
-fn answer_behind<H: Host>(
+fn answer_behind<R: Threads + Sync, H: Host>(
+    rt: &R,
     host: &mut H,
     store: &mut Store,
     block: &mut Bytes,
@@ -141,7 +151,7 @@ fn answer_behind<H: Host>(
             }
         }
         command => {
-            let reply = match store.apply(host, command) {
+            let reply = match store.apply(rt, host, command) {
                 Ok(reply) => reply,
                 Err(error) => return Err(status_of(error)),
             };

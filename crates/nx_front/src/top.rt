@@ -19,6 +19,7 @@ use nx_filters::{plan, tidy, verify};
 use nx_host::{Disk, Host};
 use nx_lists::NoMemory;
 use std::alloc::Global;
+use std::thread::Threads;
 
 /// Carries out the command line of these words, which are those after the program's own name, over
 /// the host, and answers how it ended.
@@ -50,7 +51,7 @@ use std::alloc::Global;
 ///
 /// `STORE find`, where STORE isn't `_`, reads lines `find NAME STEPS`, and gives for each a line `at PATH` for each node that the steps reach in
 /// the document of that name, in document order, and a line `.`; or one line that refuses it. It writes nothing to the disk.
-pub fn run<H: Host>(alloc: Global, words: &Words, host: &mut H) -> Status
+pub fn run<R: Threads + Sync, H: Host>(rt: &R, alloc: Global, words: &Words, host: &mut H) -> Status
     // For those that read an input and keep nothing there is one outcome, for `run` over a store one run. Why the run ends so, what it has taken by then, and what it has given
     // of that outcome's text, then and at every moment; what it leaves of the disk.
     ensures carried { (line : CommandLine) → command_line words.now ≡ Some line → IsCarriedOut ⟦<H as Disk>⟧ line result host.old host.new }
@@ -70,24 +71,29 @@ pub fn run<H: Host>(alloc: Global, words: &Words, host: &mut H) -> Status
         IsSoundInput k input → (result ≡ Status.Done) ⊎ (result ≡ Status.NoMemory) }
 {
     match command_line(alloc, words) {
-        Ok(Some(line)) => carry_out(alloc, line, host),
+        Ok(Some(line)) => carry_out(rt, alloc, line, host),
         Ok(None) => Status::Usage,
         Err(NoMemory) => Status::NoMemory,
     }
 }
 
 // Carries out a command line.
-fn carry_out<H: Host>(alloc: Global, line: CommandLine, host: &mut H) -> Status
+fn carry_out<R: Threads + Sync, H: Host>(
+    rt: &R,
+    alloc: Global,
+    line: CommandLine,
+    host: &mut H,
+) -> Status
     requires { IsLimited line }
     ensures { IsCarriedOut ⟦<H as Disk>⟧ line result host.old host.new }
 {
     match line {
         CommandLine::Tidy => tidy(alloc, host),
-        CommandLine::Run => serve(alloc, host),
+        CommandLine::Run => serve(rt, alloc, host),
         CommandLine::Plan(k) => plan(alloc, host, k),
         CommandLine::Verify(k) => verify(alloc, host, k),
         CommandLine::Init(settings) => init(alloc, host, settings),
-        CommandLine::Gen(seed, n) => generate(alloc, host, seed, n),
+        CommandLine::Gen(seed, n) => generate(rt, alloc, host, seed, n),
         CommandLine::Check => check(alloc, host),
         CommandLine::Find => answer_questions(alloc, host),
     }

@@ -8,6 +8,7 @@ use nx_script::{Command, Script, ScriptError};
 use nx_tree::NoMemory;
 use std::alloc::Global;
 use std::process::Abort;
+use std::thread::Threads;
 
 /// The words of a command line.
 pub fn words_of(alloc: Global, texts: &[&str]) -> Result<Words, NoMemory> {
@@ -24,18 +25,28 @@ pub fn host_of(alloc: Global, input: &[u8], piece: usize) -> Result<DisklessHost
 }
 
 /// How a run over the host ends.
-pub fn status_of(alloc: Global, words: &Words, host: &mut DisklessHost) -> Status {
-    run(alloc, words, host)
+pub fn status_of(
+    rt: &(impl Threads + Sync),
+    alloc: Global,
+    words: &Words,
+    host: &mut DisklessHost,
+) -> Status {
+    run(rt, alloc, words, host)
 }
 
 /// The same over an input without end.
-pub fn endless_status(alloc: Global, words: &Words, host: &mut EndlessHost) -> Status {
-    run(alloc, words, host)
+pub fn endless_status(
+    rt: &(impl Threads + Sync),
+    alloc: Global,
+    words: &Words,
+    host: &mut EndlessHost,
+) -> Status {
+    run(rt, alloc, words, host)
 }
 
 /// A run on this input in such pieces ends so, with that output and without a call that failed.
 pub fn check_run(
-    rt: &impl Abort,
+    rt: &(impl Threads + Abort + Sync),
     alloc: Global,
     words: &Words,
     (input, piece): (&[u8], usize),
@@ -43,7 +54,7 @@ pub fn check_run(
     output: &[u8],
 ) -> Result<(), NoMemory> {
     let mut host = host_of(alloc, input, piece)?;
-    assert_eq!(rt; status_of(alloc, words, &mut host), status, "{input:?}");
+    assert_eq!(rt; status_of(rt, alloc, words, &mut host), status, "{input:?}");
     assert_eq!(rt; host.output(), output, "{input:?}");
     assert_eq!(rt; host.counts(), Counts::default());
     Ok(())
@@ -51,7 +62,7 @@ pub fn check_run(
 
 /// A run on this input in such pieces at which that call fails ends so, with that output; what was counted.
 pub fn check_failing(
-    rt: &impl Abort,
+    rt: &(impl Threads + Abort + Sync),
     alloc: Global,
     words: &Words,
     (input, piece, call): (&[u8], usize, u64),
@@ -61,7 +72,7 @@ pub fn check_failing(
     let mut host = host_of(alloc, input, piece)?;
     host.fail_call(call);
     assert_eq!(rt;
-        status_of(alloc, words, &mut host),
+        status_of(rt, alloc, words, &mut host),
         status,
         "{piece} {call}"
     );

@@ -5,6 +5,7 @@ use nx_tree::NoMemory;
 use std::alloc::Global;
 use std::process::Abort;
 use std::test::Fail;
+use std::thread::Threads;
 
 const DOCUMENT: &str = "(a\nAx 1\n-hi\n)a\n";
 
@@ -47,7 +48,7 @@ const PLANS: [(&str, &str, Status, &str); 7] = [
 
 // The output of a run, however the input is cut into pieces.
 fn check(
-    rt: &impl Abort,
+    rt: &(impl Threads + Abort + Sync),
     alloc: Global,
     limit: &str,
     input: &str,
@@ -110,14 +111,14 @@ fn long_document(alloc: Global) -> Result<Vec<u8>, NoMemory> {
 
 // What a run of a command on this input gives.
 fn output_of(
-    rt: &impl Abort,
+    rt: &(impl Threads + Abort + Sync),
     alloc: Global,
     command: &str,
     input: &[u8],
 ) -> Result<Vec<u8>, NoMemory> {
     let words = words_of(alloc, &["_", command, "10"])?;
     let mut host = host_of(alloc, input, 65_536)?;
-    assert_eq!(rt; status_of(alloc, &words, &mut host), Status::Done);
+    assert_eq!(rt; status_of(rt, alloc, &words, &mut host), Status::Done);
     Ok(host.output().to_vec(alloc)?)
 }
 

@@ -11,6 +11,7 @@ use nx_tree::NoMemory;
 use std::alloc::Global;
 use std::process::Abort;
 use std::test::Fail;
+use std::thread::Threads;
 
 // An input, and its answer.
 const TIDIED: [(&str, Status, &str); 8] = [
@@ -79,10 +80,14 @@ fn check_words(rt: &impl Abort, words: &Words, texts: &[&str]) {
 }
 
 // They are misuse, and the run makes no call, so that one behind it is the first.
-fn check_misuse(rt: &impl Abort, alloc: Global, words: &Words) -> Result<(), NoMemory> {
+fn check_misuse(
+    rt: &(impl Threads + Abort + Sync),
+    alloc: Global,
+    words: &Words,
+) -> Result<(), NoMemory> {
     let mut host = host_of(alloc, b"(a\n)a\n", 8)?;
     host.fail_call(1);
-    assert_eq!(rt; status_of(alloc, words, &mut host), Status::Usage);
+    assert_eq!(rt; status_of(rt, alloc, words, &mut host), Status::Usage);
     assert!(rt; host.output().is_empty());
     assert_eq!(rt; read_in(&mut host, &mut [0u8; 8]), Err(Failed));
     Ok(())
@@ -139,7 +144,7 @@ fn long_document(alloc: Global) -> Result<Vec<u8>, NoMemory> {
 
 // A run at which a call fails ends so, with that first part of its answer, and counts that call.
 fn check_counted(
-    rt: &impl Abort,
+    rt: &(impl Threads + Abort + Sync),
     alloc: Global,
     words: &Words,
     given: (&[u8], usize, u64),
@@ -185,7 +190,7 @@ fn a_failing_call_ends_a_long_run(rt: HostRuntime) -> Result<(), Fail> {
 fn a_line_without_end_is_refused(rt: HostRuntime) -> Result<(), Fail> {
     let words = words_of(rt.alloc(), &["_", "tidy"])?;
     let mut host = EndlessHost::default();
-    let status = endless_status(rt.alloc(), &words, &mut host);
+    let status = endless_status(&rt, rt.alloc(), &words, &mut host);
     assert_eq!(rt; status, Status::Refused);
     // Seventeen blocks, and `refused pyx 1 long-line` with its LF.
     assert_eq!(rt; (host.taken, host.given), (1_114_112, 24));

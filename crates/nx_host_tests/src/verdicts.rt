@@ -5,6 +5,7 @@ use nx_tree::NoMemory;
 use std::alloc::Global;
 use std::process::Abort;
 use std::test::Fail;
+use std::thread::Threads;
 
 // Five nodes besides the root: an element with an attribute and a text of 9 slots in all.
 const DOCUMENT: &str = "(shop\nAlang en\n(item\n-tea\n)item\n)shop\n";
@@ -78,7 +79,7 @@ fn input_of(alloc: Global, texts: &[&str]) -> Result<Vec<u8>, NoMemory> {
 
 // Checks with parts of at most 4 slots, however the input is cut into pieces.
 fn check(
-    rt: &impl Abort,
+    rt: &(impl Threads + Abort + Sync),
     alloc: Global,
     texts: &[&str],
     status: Status,
@@ -119,7 +120,7 @@ const FAILING: [(&[&str], u64, Status, &str); 6] = [
 ];
 
 fn check_call(
-    rt: &impl Abort,
+    rt: &(impl Threads + Abort + Sync),
     alloc: Global,
     texts: &[&str],
     call: u64,

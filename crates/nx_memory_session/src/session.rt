@@ -11,6 +11,7 @@ use nx_lists::NoMemory;
 use nx_memory::{Image, QuietHost};
 use nx_tree::Bytes;
 use std::alloc::Global;
+use std::thread::Threads;
 
 /// How a session ended, and the host with its output and its areas.
 #[derive(Drop)]
@@ -29,7 +30,8 @@ pub struct Session {
 /// comes then, the disk has the last state.
 ///
 /// Errors: `NoMemory`, where there was none for the host or the words.
-pub fn answer_script(
+pub fn answer_script<R: Threads + Sync>(
+    rt: &R,
     alloc: Global,
     words: &Words,
     script: Bytes,
@@ -40,7 +42,7 @@ pub fn answer_script(
         EndsSession settings script session.status session.host) }
 {
     let mut host = new_host(alloc, script, room)?;
-    let status = make_and_answer(alloc, words, &mut host)?;
+    let status = make_and_answer(rt, alloc, words, &mut host)?;
     Ok(Session { status, host })
 }
 
@@ -57,11 +59,16 @@ fn new_host(alloc: Global, script: Bytes, room: u64) -> Result<QuietHost, NoMemo
 }
 
 // Makes the store and answers the script over it. Where there is no room left, the script isn't begun.
-fn make_and_answer(alloc: Global, words: &Words, host: &mut QuietHost) -> Result<Status, NoMemory>
+fn make_and_answer<R: Threads + Sync>(
+    rt: &R,
+    alloc: Global,
+    words: &Words,
+    host: &mut QuietHost,
+) -> Result<Status, NoMemory>
     ensures { IfOk result (λ status. (settings : Settings) (script : List ℕ) → command_line words.now ≡ Some (Init settings) → length script < most_input →
         IsUntouched script host.old → host.new.full ≡ false → EndsSession settings script status host.new) }
 {
-    match make_store(alloc, words, host) {
+    match make_store(rt, alloc, words, host) {
         Status::Done => {}
         status => return Ok(status),
     }
@@ -69,24 +76,29 @@ fn make_and_answer(alloc: Global, words: &Words, host: &mut QuietHost) -> Result
         return Ok(Status::Done);
     }
     let words = run_words(alloc)?;
-    Ok(answer(alloc, &words, host))
+    Ok(answer(rt, alloc, &words, host))
 }
 
 // Makes the store.
-fn make_store(alloc: Global, words: &Words, host: &mut QuietHost) -> Status
+fn make_store<R: Threads + Sync>(
+    rt: &R,
+    alloc: Global,
+    words: &Words,
+    host: &mut QuietHost,
+) -> Status
     ensures { (settings : Settings) (script : List ℕ) → command_line words.now ≡ Some (Init settings) → IsUntouched script host.old → host.new.full ≡ false →
         EndsMaking settings script result host.new }
 {
-    run(alloc, words, host)
+    run(rt, alloc, words, host)
 }
 
 // Answers the script.
-fn answer(alloc: Global, words: &Words, host: &mut QuietHost) -> Status
+fn answer<R: Threads + Sync>(rt: &R, alloc: Global, words: &Words, host: &mut QuietHost) -> Status
     requires { words.now ≡ codes "store" ∷ codes "run" ∷ [] }
     ensures { (settings : Settings) (script : List ℕ) → length script < most_input → HasNewStore settings script host.old → host.old.full ≡ false → host.new.full ≡ false →
         EndsSession settings script result host.new }
 {
-    run(alloc, words, host)
+    run(rt, alloc, words, host)
 }
 
 // The words with which a script is answered over a store.

@@ -12,6 +12,7 @@ use std::fs::{File, Files};
 use std::io;
 use std::io::{Read, Write};
 use std::process::ExitCode;
+use std::thread::Threads;
 
 /// Runs the command of a process's arguments over the files of the store that its first word names, and
 /// over this reader and this writer; says on standard error, by `say`, what there is to say of how it
@@ -24,7 +25,7 @@ pub fn run_process<P, R, W, S>(
     say: S,
 ) -> ExitCode
 where
-    P: AllocGlobal + Files<File = File>,
+    P: AllocGlobal + Files<File = File> + Threads + Sync,
     R: Read + Drop,
     W: Write + Drop,
     S: FnOnce(&str),
@@ -34,16 +35,21 @@ where
         process.alloc(),
         arguments,
         |name| FileHost::new(process.alloc(), process, name, reader, writer),
-        |words, files| run_kept(process.alloc(), &words, files),
+        |words, files| run_kept(process, process.alloc(), &words, files),
         say,
     )
 }
 
 // Carries out the words over this host, behind one that keeps the pages that were read lately. It is generic,
 // since the prover can't name what a `CachedHost` over the types of the system tells.
-fn run_kept<H: Host + Drop>(alloc: Global, words: &Words, host: H) -> Status {
+fn run_kept<P: Threads + Sync, H: Host + Drop>(
+    process: &P,
+    alloc: Global,
+    words: &Words,
+    host: H,
+) -> Status {
     match CachedHost::new(alloc, host, most_kept(words)) {
-        Ok(mut kept) => run(alloc, words, &mut kept),
+        Ok(mut kept) => run(process, alloc, words, &mut kept),
         Err(NoMemory) => Status::NoMemory,
     }
 }

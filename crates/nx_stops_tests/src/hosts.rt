@@ -6,6 +6,7 @@ use nx_front::{Status, Word, Words, run};
 use nx_memory::{Choice, Image, MemoryHost};
 use nx_tree::{Bytes, NoMemory};
 use std::alloc::{AllocError, Global};
+use std::thread::Threads;
 
 /// What a crash may leave.
 pub const CHOICES: [Choice; 3] = [Choice::Kept, Choice::Lost, Choice::Ones];
@@ -64,14 +65,24 @@ pub fn host_in(
 }
 
 /// How a run over the host ends.
-pub fn status_of(alloc: Global, words: &Words, host: &mut MemoryHost) -> Status {
-    run(alloc, words, host)
+pub fn status_of(
+    rt: &(impl Threads + Sync),
+    alloc: Global,
+    words: &Words,
+    host: &mut MemoryHost,
+) -> Status {
+    run(rt, alloc, words, host)
 }
 
 /// How a command line ends over the host.
-pub fn ran(alloc: Global, texts: &[&str], host: &mut MemoryHost) -> Result<Status, NoMemory> {
+pub fn ran(
+    rt: &(impl Threads + Sync),
+    alloc: Global,
+    texts: &[&str],
+    host: &mut MemoryHost,
+) -> Result<Status, NoMemory> {
     let words = words_of(alloc, texts)?;
-    Ok(status_of(alloc, &words, host))
+    Ok(status_of(rt, alloc, &words, host))
 }
 
 /// What a crash leaves of the host's areas.
@@ -85,9 +96,14 @@ pub fn are_same(one: &Image, other: &Image) -> bool {
 }
 
 /// How a run of a script over an image ends, and what is out then.
-pub fn answers(alloc: Global, image: &Image, script: &[u8]) -> Result<(Status, Bytes), NoMemory> {
+pub fn answers(
+    rt: &(impl Threads + Sync),
+    alloc: Global,
+    image: &Image,
+    script: &[u8],
+) -> Result<(Status, Bytes), NoMemory> {
     let mut host = host_with(alloc, image, script, 65_536)?;
-    let status = ran(alloc, &["s", "run"], &mut host)?;
+    let status = ran(rt, alloc, &["s", "run"], &mut host)?;
     Ok((status, Bytes::from_slice(alloc, host.output())?))
 }
 

@@ -9,10 +9,11 @@ use nx_tree::NoMemory;
 use std::alloc::Global;
 use std::process::Abort;
 use std::test::Fail;
+use std::thread::Threads;
 
 // The store is as it was behind the commands that were answered, and goes on.
 fn check_left(
-    rt: &impl Abort,
+    rt: &(impl Threads + Abort + Sync),
     alloc: Global,
     story: Story,
     session: Session,
@@ -21,14 +22,14 @@ fn check_left(
     let (before, _) = states_after(session, host.output().len());
     for choice in CHOICES {
         let image = left(host, choice)?;
-        assert!(rt; is_in(alloc, story, &image, before)?, "{before}");
+        assert!(rt; is_in(rt, alloc, story, &image, before)?, "{before}");
     }
     Ok(())
 }
 
 // A session ends well or for want of memory.
 fn check_session(
-    rt: &impl Abort,
+    rt: &(impl Threads + Abort + Sync),
     alloc: Global,
     story: Story,
     session: Session,
@@ -36,7 +37,7 @@ fn check_session(
 ) -> Result<(), NoMemory> {
     let script = all_lines(alloc, session)?;
     let mut host = host_with(alloc, image, script.as_slice(), 65_536)?;
-    let status = ran(alloc, session.words, &mut host)?;
+    let status = ran(rt, alloc, session.words, &mut host)?;
     assert!(rt;
         status == Status::Done || status == Status::NoMemory,
         "{status:?}"
@@ -44,7 +45,11 @@ fn check_session(
     check_left(rt, alloc, story, session, &host)
 }
 
-fn check_story(rt: &impl Abort, alloc: Global, story: Story) -> Result<(), NoMemory> {
+fn check_story(
+    rt: &(impl Threads + Abort + Sync),
+    alloc: Global,
+    story: Story,
+) -> Result<(), NoMemory> {
     let mut image = no_store(alloc);
     for session in story.sessions {
         check_session(rt, alloc, story, *session, &image)?;

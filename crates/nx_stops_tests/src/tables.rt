@@ -7,6 +7,7 @@ use nx_tree::NoMemory;
 use std::alloc::{AllocError, Global};
 use std::process::Abort;
 use std::test::Fail;
+use std::thread::Threads;
 
 // More calls than a session here takes.
 const CALLS: u64 = 400;
@@ -54,11 +55,17 @@ pub fn states_after(session: Session, out: usize) -> (usize, usize) {
 }
 
 /// Whether a store on the areas answers the looks as it does in that state. Where there is none, it says so.
-pub fn is_in(alloc: Global, story: Story, image: &Image, state: usize) -> Result<bool, NoMemory> {
+pub fn is_in(
+    rt: &(impl Threads + Sync),
+    alloc: Global,
+    story: Story,
+    image: &Image,
+    state: usize,
+) -> Result<bool, NoMemory> {
     let Some(text) = story.left.get(state) else {
         return Ok(false);
     };
-    let (status, found) = answers(alloc, image, story.looks)?;
+    let (status, found) = answers(rt, alloc, image, story.looks)?;
     let want = if text.is_empty() {
         Status::NotAStore
     } else {
@@ -69,20 +76,20 @@ pub fn is_in(alloc: Global, story: Story, image: &Image, state: usize) -> Result
 
 // An image is in one of the two states.
 fn check_image(
-    rt: &impl Abort,
+    rt: &(impl Threads + Abort + Sync),
     alloc: Global,
     story: Story,
     image: &Image,
     (before, after): (usize, usize),
 ) -> Result<(), NoMemory> {
-    let is_left = is_in(alloc, story, image, before)? || is_in(alloc, story, image, after)?;
+    let is_left = is_in(rt, alloc, story, image, before)? || is_in(rt, alloc, story, image, after)?;
     assert!(rt; is_left, "{before} or {after}");
     Ok(())
 }
 
 // Each image is in the state behind the commands that were answered, or behind one more.
 fn check_left(
-    rt: &impl Abort,
+    rt: &(impl Threads + Abort + Sync),
     alloc: Global,
     story: Story,
     session: Session,
@@ -147,7 +154,7 @@ fn failing_host(
 
 // Runs a session where this call fails, and says how it ends.
 fn case(
-    rt: &impl Abort,
+    rt: &(impl Threads + Abort + Sync),
     alloc: Global,
     story: Story,
     session: Session,
@@ -156,7 +163,7 @@ fn case(
     number: u64,
 ) -> Result<Status, NoMemory> {
     let mut host = failing_host(rt, alloc, story.piece, image, session, how, number)?;
-    let status = ran(alloc, session.words, &mut host)?;
+    let status = ran(rt, alloc, session.words, &mut host)?;
     check_faults(rt, &host, status);
     assert!(rt; all_replies(alloc, session)?.starts_with(host.output()));
     if how != How::Emit || status == Status::WriteFault {
@@ -167,7 +174,7 @@ fn case(
 
 // Runs a session with each of its calls failing in turn, and says how many calls did.
 fn check_session(
-    rt: &impl Abort,
+    rt: &(impl Threads + Abort + Sync),
     alloc: Global,
     story: Story,
     session: Session,
@@ -187,20 +194,25 @@ fn check_session(
 
 /// What a session leaves that nothing disturbs. It gives all replies.
 pub fn after(
-    rt: &impl Abort,
+    rt: &(impl Threads + Abort + Sync),
     alloc: Global,
     session: Session,
     image: &Image,
 ) -> Result<Image, NoMemory> {
     let script = all_lines(alloc, session)?;
     let mut host = host_with(alloc, image, script.as_slice(), 65_536)?;
-    assert_eq!(rt; ran(alloc, session.words, &mut host)?, Status::Done);
+    assert_eq!(rt; ran(rt, alloc, session.words, &mut host)?, Status::Done);
     assert_eq!(rt; host.output(), all_replies(alloc, session)?.as_slice());
     left(&host, Choice::Lost)
 }
 
 // How many calls failed in all sessions of a story, one after the other. Each is followed by three images.
-fn cases(rt: &impl Abort, alloc: Global, story: Story, how: How) -> Result<u32, NoMemory> {
+fn cases(
+    rt: &(impl Threads + Abort + Sync),
+    alloc: Global,
+    story: Story,
+    how: How,
+) -> Result<u32, NoMemory> {
     let mut cases = 0u32;
     let mut image = no_store(alloc);
     for session in story.sessions {

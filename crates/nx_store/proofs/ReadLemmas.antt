@@ -1,5 +1,5 @@
 -- How many pages are read for a command, and what is held behind one that changes nothing.
-use Rattle.std.proofs.Common.{◌≡◌, ◌≤◌, ◌+◌, ◌*◌, ◌-◌, ◌/◌, ℕ, true, false, List, length, Option, None, Some, Result, Ok, Err, refl, sym, subst, ◌∙◌, arith}
+use Rattle.std.proofs.Common.{◌≡◌, ◌≤◌, ◌+◌, ◌*◌, ◌-◌, ◌/◌, ℕ, true, false, List, [], ◌∷◌, length, Option, None, Some, Result, Ok, Err, refl, sym, subst, ◌∙◌, arith, inl}
 use Rattle.std.specs.Prelude.{IsSome, IfSome, OnOk}
 use Rattle.std.proofs.lemmas.Bool.{false≢true}
 use Rattle.std.specs.FinMap.{get}
@@ -21,13 +21,14 @@ use Rattle.nx_records.proofs.LeaveLemmas.{leaves_stand}
 use Rattle.nx_hold.specs.declared.entry.DocEntry.{DocEntry}
 use Rattle.nx_hold.specs.Changes.{place_of}
 use Rattle.nx_hold.specs.Documents.{HasDocument}
-use Rattle.nx_nav.specs.Along.{ReadsShown}
+use Rattle.nx_nav.specs.Along.{ReadsAlong, ReadsShown}
+use Rattle.nx_nav.specs.Early.{LeavesOutput}
 use Rattle.nx_script.specs.declared.command.Command.{Command}
 use Rattle.nx_script.specs.declared.command.Command.TheVariants as command
 use Rattle.nx_steps.specs.Step.{may_change}
 use Rattle.nx_store.specs.Store.{is_ended, LeavesStore}
 use Rattle.nx_store.specs.Staying.{HoldsOn}
-use Rattle.nx_store.specs.Reads.{ReadsOpening, is_lookup, needs_no_page, GetReads, ReadsWithin}
+use Rattle.nx_store.specs.Reads.{ReadsOpening, is_lookup, needs_no_page, GetReads, ReadsWithin, ReadsToFirst}
 use Rattle.nx_store.specs.declared.store.Store.{Store}
 use Rattle.nx_store.proofs.AtLemmas.{at_runs, at_beside}
 use Rattle.nx_store.proofs.FoundLemmas.{at_none, at_stored}
@@ -58,6 +59,10 @@ from_none {old = old} {new = new} reads = record {
   shown = reads.shown;
   few = let first : reads.between ≤ old + (reads.along).pages = (reads.along).few in let then : new ≤ reads.between + reads.content = reads.few in omega (arith, first, then);
 }
+
+-- none of a content was read
+no_content : {held : Held} {root : RecordPlace} {path : List ℕ} {found : Option OrderedTree} {old new : ℕ} → ReadsAlong held root path old new → ReadsShown held root path found old new
+no_content {new = new} along = record { between = new; along = along; content = 0; shown = inl refl; few = omega arith }
 
 -- a command that may change something is no lookup
 pub no_lookup : (c : Command) → may_change c ≡ true → is_lookup c ≡ false
@@ -159,6 +164,13 @@ module _ {D : Type 0} (d : Ghosts D) where
         some_more (d.reads x0) (d.reads x1),
         subst (λ (o : Option CutTree). GetReads at.held name path o (d.reads x1 - d.reads x0)) (sym there) (entry, (s.catalog, at.catalog, is), from_none at_it),
       )
+
+  -- a first part of it
+  pub first_reads : (name : List ℕ) (entry : DocEntry) (s : Store) (x0 x1 : D) → get (s.catalog).documents name ≡ Some entry
+      → (LeavesOutput d x0 x1 → (document : CutTree) (held : HasDocument d s.records x0 (place_of entry.root) document) → ReadsAlong held.now (place_of entry.root) (0 ∷ []) (d.reads x0) (d.reads x1))
+      → ReadsToFirst d name s x0 x1
+  first_reads name entry s x0 x1 is reads left =
+      found_reads name (0 ∷ []) (0 ∷ []) entry s x0 x1 is refl (λ document held. no_content (reads left document held))
 
   -- ---- opening
 

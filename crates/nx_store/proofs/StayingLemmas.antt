@@ -7,7 +7,7 @@ use Rattle.nx_host.specs.Disk.{Image}
 use Rattle.nx_host.specs.declared.disk.Disk.{Ghosts}
 use Rattle.nx_host.specs.Phase.{LeavesAreas}
 use Rattle.nx_host.specs.Still.{IsStill}
-use Rattle.nx_host.proofs.DiskLemmas.{told_same}
+use Rattle.nx_host.proofs.DiskLemmas.{told_same, none_still}
 use Rattle.nx_replay.specs.Log.{replay}
 use Rattle.nx_holdings.specs.Holdings.{Held, HoldsBy}
 use Rattle.nx_holdings.proofs.OneLemmas.{hold_one}
@@ -22,6 +22,8 @@ use Rattle.nx_layouts.specs.Layout.{RecordPlace, places_of}
 use Rattle.nx_layouts.proofs.PlaceLemmas.{later_among}
 use Rattle.nx_hold.specs.Changes.{place_of}
 use Rattle.nx_hold.specs.Documents.{MovesRecords}
+use Rattle.nx_nav.specs.Given.{AsksAndGives}
+use Rattle.nx_nav.proofs.PartLemmas.{stands_kept}
 use Rattle.nx_edit.specs.declared.error.EditError.{EditError}
 use Rattle.nx_edit.specs.declared.error.EditError.TheVariants as edit
 use Rattle.nx_edit.proofs.OffLemmas.{off_among}
@@ -171,6 +173,14 @@ module _ {D : Type 0} (d : Ghosts D) where
         catalog = then.catalog;
       }
 
+  -- the store was looked at, and output was given
+  pub gave_holds : (s0 s1 : Store) (x0 x1 : D) → AsksAndGives d x0 x1 → LeavesStore s0 s1 → HoldsOn d s0 s1 x0 x1
+  gave_holds s0 s1 x0 x1 gives left state at told = (
+    leaves_stand {r0 = s0.records} {r1 = s1.records} left.records none_still (stands_kept gives.contents_stay told (λ i. (gives.images_stay i).0) at.stands),
+    (left.records).changes_stay ∙ at.none_waits,
+    left.catalog,
+  )
+
   module _ (command : Command) where
     -- it is enough to say it of one state that the store is at then
     one_leaves : (s0 s1 : Store) (x0 x1 : D)
@@ -191,6 +201,10 @@ module _ {D : Type 0} (d : Ghosts D) where
     pub looked_leaves : (s0 s1 : Store) (x0 x1 : D) → IsStill d x0 x1 → (is_ended s1 ≡ false → LeavesStore s0 s1) → LeavesOthers d command s0 s1 x0 x1
     looked_leaves s0 s1 x0 x1 still same =
         held_leaves s0 s1 x0 x1 (λ runs state at told. let left = same runs in (leaves_stand {r0 = s0.records} {r1 = s1.records} left.records still at.stands, (left.records).changes_stay ∙ at.none_waits, left.catalog))
+
+    -- ... and output was given
+    pub gave_leaves : (s0 s1 : Store) (x0 x1 : D) → AsksAndGives d x0 x1 → (is_ended s1 ≡ false → LeavesStore s0 s1) → LeavesOthers d command s0 s1 x0 x1
+    gave_leaves s0 s1 x0 x1 gives same = held_leaves s0 s1 x0 x1 (λ runs. gave_holds s0 s1 x0 x1 gives (same runs))
 
     pub ended_leaves : (s0 s1 : Store) (x0 x1 : D) → is_ended s1 ≡ true → LeavesOthers d command s0 s1 x0 x1
     ended_leaves s0 s1 x0 x1 ended state next at then = absurd (false≢true (sym (at_runs then) ∙ ended))

@@ -38,8 +38,8 @@ module _ {D : Type 0} (d : Ghosts D) where
 
   -- a command that gave up had no reply
   pub failed_answered : (s : Store) (x0 x1 : D) (state : State) (command : Command) (e : EngineError) → IsApplied d (Err e) state command s x0 x1 → IsAnswered d (Err e) state command s x0 x1
-  failed_answered s x0 x1 state command error.Memory applied = applied
-  failed_answered s x0 x1 state command error.Disk applied = applied
+  failed_answered s x0 x1 state command error.Memory applied = (applied.0, inl applied.1)
+  failed_answered s x0 x1 state command error.Disk applied = inl applied
   failed_answered s x0 x1 state command error.Write applied = absurd applied
   failed_answered s x0 x1 state command (error.Damaged page) applied = absurd applied
   failed_answered s x0 x1 state command error.Ended applied = absurd applied

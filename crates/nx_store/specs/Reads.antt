@@ -1,5 +1,5 @@
 -- How many pages the calls of a store read, at most.
-use Rattle.std.specs.Prelude.{◌≡◌, ◌≤◌, ◌+◌, ◌*◌, ◌/◌, ℕ, Bool, true, false, List, [], length, Option, None, Some}
+use Rattle.std.specs.Prelude.{◌≡◌, ◌≤◌, ◌+◌, ◌*◌, ◌/◌, ℕ, Bool, true, false, List, [], ◌∷◌, length, Option, None, Some}
 use Rattle.std.specs.FinMap.{get}
 use Rattle.nx_host.specs.Disk.{Image}
 use Rattle.nx_host.specs.declared.disk.Disk.{Ghosts}
@@ -12,6 +12,7 @@ use Rattle.nx_hold.specs.declared.entry.DocEntry.{DocEntry}
 use Rattle.nx_hold.specs.Changes.{place_of}
 use Rattle.nx_catalog.specs.Catalog.{Contents, IsCatalog}
 use Rattle.nx_nav.specs.Along.{ReadsShown}
+use Rattle.nx_nav.specs.Early.{LeavesOutput}
 use Rattle.nx_script.specs.declared.command.Command.{Command}
 use Rattle.nx_script.specs.declared.command.Command.TheVariants.{Get, Names, Rules, Bad}
 use Rattle.nx_state.specs.State.{State}
@@ -65,3 +66,7 @@ ReadsFor held state _ pages = Unit {0}
 abbrev pub ReadsWithin : {D : Type 0} → Ghosts D → Command → Store → D → D → Type 0
 ReadsWithin d command store before after =
     (state : State) (at : IsAt d store before state) → (pages : ℕ) × (d.reads after ≤ d.reads before + pages) × ReadsFor at.held state command pages
+
+-- Where the contents are told at the end and the output is told and as it was, an export read no more pages than a `get` of the document's first child may.
+abbrev pub ReadsToFirst : {D : Type 0} → Ghosts D → (name : List ℕ) → Store → D → D → Type 0
+ReadsToFirst d name store before after = LeavesOutput d before after → ReadsWithin d (Get name (0 ∷ [])) store before after

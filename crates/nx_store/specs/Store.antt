@@ -85,19 +85,27 @@ ShowsAnswer output state text next s = (Keeps output s.output × IsOfEither stat
 abbrev pub ShowsTurn : {D : Type 0} {state : State} {command : Command} → Ghosts D → StoreTurn state command → D → D → Type 0
 ShowsTurn {state = state} d turn before after = Elapses d.moment d.stood_since before after (ShowsAnswer (d.beside before).output state (reply_text turn.reply) turn.next)
 
+-- At each moment a first part of these bytes was out, and each image was of this state.
+abbrev pub ShowsGiven : {D : Type 0} → Ghosts D → List ℕ → State → D → D → Type 0
+ShowsGiven d bytes state before after = Elapses d.moment d.stood_since before after (λ s. AppendsPrefix bytes (d.beside before).output s.output × IsOf state s.image)
+
+-- The command is an export, which changes nothing: at each moment a first part of its reply's text was out.
+pub record GivesPart {D : Type 0} (d : Ghosts D) (state : State) (command : Command) (before after : D) : Type 0 where
+  pub name : List ℕ
+  pub is : command ≡ Export name
+  pub reply : Reply
+  pub step : Step state (Export name) reply state
+  pub time : ShowsGiven d (reply_text reply) state before after
+
 -- How a command ended that came in this state and whose reply was to be given, where the store is then, and what stood meanwhile.
 abbrev pub IsAnswered : {D : Type 0} → Ghosts D → Result (Unit {0}) EngineError → State → Command → Store → D → D → Type 0
 IsAnswered d (Ok _) state command store before after =
     (turn : StoreTurn state command) × IsAt d store after turn.next × Appends (reply_text turn.reply) (d.beside before).output (d.beside after).output × ShowsTurn d turn before after
     × LeavesLog d command state turn.next before after
 IsAnswered d (Err error.Write) state command store before after = (turn : StoreTurn state command) × IsAt d store after turn.next × ShowsTurn d turn before after
-IsAnswered d (Err error.Memory) state command store before after = IsAt d store after state × Shows d (IsOf state) before after
-IsAnswered d (Err error.Disk) state command store before after = ShowsBegun d state command before after
+IsAnswered d (Err error.Memory) state command store before after = IsAt d store after state × (Shows d (IsOf state) before after ⊎ GivesPart d state command before after)
+IsAnswered d (Err error.Disk) state command store before after = ShowsBegun d state command before after ⊎ GivesPart d state command before after
 IsAnswered d (Err _) state command store before after = ⊥
-
--- At each moment a first part of these bytes was out, and each image was of this state.
-abbrev pub ShowsGiven : {D : Type 0} → Ghosts D → List ℕ → State → D → D → Type 0
-ShowsGiven d bytes state before after = Elapses d.moment d.stood_since before after (λ s. AppendsPrefix bytes (d.beside before).output s.output × IsOf state s.image)
 
 -- how the giving of bytes ended that were to be given but for a last part, and where the store is then
 abbrev pub IsGiven : {D : Type 0} → Ghosts D → Result (Unit {0}) EngineError → List ℕ → List ℕ → State → Store → D → D → Type 0

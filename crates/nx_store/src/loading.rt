@@ -22,12 +22,14 @@ use crate::{EngineError, Store};
 use nx_build::store;
 use nx_hold::DocEntry;
 use nx_host::Disk;
-use nx_partition::{PlanError, partition};
+use nx_par::partition_wide;
+use nx_partition::PlanError;
 use nx_parts::Partitioning;
 use nx_records::{Rid, StoreError};
 use nx_script::{LoadBody, Reply, ReplyError, write_reply};
 use nx_tree::{Bytes, Tree, count};
 use std::alloc::Global;
+use std::thread::Threads;
 
 // A command that changes the store begins with a checkpoint where the log is longer, in bytes.
 const LONG_LOG: u64 = 67_108_864;
@@ -35,8 +37,9 @@ const LONG_LOG: u64 = 67_108_864;
 impl Store {
     // Loads a document under a name that is new, by one commit. Beside the reply is its text, so that no memory
     // is taken behind the commit.
-    pub(crate) fn load<D: Disk>(
+    pub(crate) fn load<R: Threads + Sync, D: Disk>(
         &mut self,
+        rt: &R,
         disk: &mut D,
         name: Bytes,
         body: LoadBody,
@@ -56,13 +59,14 @@ impl Store {
         }
         match body {
             LoadBody::Wrong(error) => told(self.alloc, Reply::Refused(ReplyError::Pyx(error))),
-            LoadBody::Read(tree) => self.load_tree(disk, &name, tree),
+            LoadBody::Read(tree) => self.load_tree(rt, disk, &name, tree),
         }
     }
 
     // Loads a document under a name that is new. The log is short then.
-    fn load_tree<D: Disk>(
+    fn load_tree<R: Threads + Sync, D: Disk>(
         &mut self,
+        rt: &R,
         disk: &mut D,
         name: &Bytes,
         tree: Tree,
@@ -79,7 +83,7 @@ impl Store {
         ensures leaves { LeavesOthers D.Disk (Load name.now (Read tree)) self.old self.new disk.old disk.new }
     {
         self.shorten_log(disk)?;
-        self.load_planned(disk, name, tree)
+        self.load_planned(rt, disk, name, tree)
     }
 
     // Empties the log where it is long. Nothing waits.
@@ -99,9 +103,10 @@ impl Store {
         self.empty_log(disk)
     }
 
-    // Loads a document in a partitioning that is found for it.
-    fn load_planned<D: Disk>(
+    // Loads a document in a partitioning that is found for it, by some threads where it is large.
+    fn load_planned<R: Threads + Sync, D: Disk>(
         &mut self,
+        rt: &R,
         disk: &mut D,
         name: &Bytes,
         tree: Tree,
@@ -119,7 +124,7 @@ impl Store {
         ensures leaves { LeavesOthers D.Disk (Load name.now (Read tree)) self.old self.new disk.old disk.new }
     {
         let k = u32::from(self.records.settings().k);
-        match partition(self.alloc, &tree, k) {
+        match partition_wide(rt, self.alloc, &tree, k) {
             Ok(parts) => self.load_parts(disk, name, tree, &parts),
             Err(PlanError::TooHeavy { path, weight }) => told(
                 self.alloc,

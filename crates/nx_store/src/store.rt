@@ -1,5 +1,5 @@
 // The store.
-ghost use Rattle.std.specs.Prelude.{◌≡◌, ◌⊎◌, true, false, Some, None, IsSome, IfOk, IfErr, OnOk};
+ghost use Rattle.std.specs.Prelude.{◌≡◌, ◌⊎◌, ℕ, List, true, false, Some, None, IsSome, IfOk, IfErr, OnOk};
 ghost use Rattle.nx_host.specs.Disk.{Image};
 ghost use Rattle.nx_host.specs.Still.{IsStill, IsSettled, WritesAlone};
 ghost use Rattle.nx_records.specs.Words.{HasSame, AreSettings};
@@ -20,6 +20,7 @@ use nx_script::{Command, Reply, ReplyError, push_reply, write_reply};
 use nx_steps::may_change;
 use nx_tree::Bytes;
 use std::alloc::Global;
+use std::thread::Threads;
 
 /// A store of documents.
 #[derive(Drop)]
@@ -33,10 +34,11 @@ pub struct Store {
 impl Store {
     ghost use Rattle.nx_host.specs.declared.disk.Disk.{Ghosts};
     ghost use Rattle.nx_script.specs.declared.reply.Reply.{Reply};
-    ghost use Rattle.nx_store.specs.Reads.{ReadsOpening, needs_no_page, ReadsWithin};
+    ghost use Rattle.nx_nav.specs.Given.{AsksAndGives};
+    ghost use Rattle.nx_store.specs.Reads.{ReadsOpening, needs_no_page, ReadsWithin, ReadsToFirst};
     ghost use Rattle.nx_store.specs.Staying.{LeavesOthers, HoldsOn};
     ghost use Rattle.nx_store.specs.Loading.{reply_of, HasReplyText, IsAppliedWithText};
-    ghost use Rattle.nx_store.specs.Store.{is_ended, IsAt, IsApplied, IsAnswered, IsExported, GoesOn, TakesNone, NotApplied, NotAnswered, NotMade, NotOpened};
+    ghost use Rattle.nx_store.specs.Store.{is_ended, LeavesStore, IsAt, IsApplied, IsAnswered, IsExported, GoesOn, TakesNone, NotApplied, NotAnswered, NotMade, NotOpened};
 
     /// A store on a disk that has no pages, committed: with these settings, and without documents and
     /// rules. The settings are in range: K from 1 to 256, a target of at most 100, a tolerance of at most
@@ -121,7 +123,12 @@ impl Store {
     /// Errors: `Disk`, only where `faults` rose; `Damaged`, only where the disk stood for no state when the
     /// store was opened; `Ended` exactly where an earlier call answered one of these; `Memory`, and then the
     /// store is as it was.
-    pub fn apply<D: Disk>(&mut self, disk: &mut D, command: Command) -> Result<Reply, EngineError>
+    pub fn apply<R: Threads + Sync, D: Disk>(
+        &mut self,
+        rt: &R,
+        disk: &mut D,
+        command: Command,
+    ) -> Result<Reply, EngineError>
         requires { CanCome command }
         ensures applies { (state : State) → IsAt D.Disk self.old disk.old state → IsSome (D.contents disk.new) → IsApplied D.Disk result state command self.new disk.old disk.new }
         ensures ok { OnOk result (GoesOn self.old self.new) }
@@ -136,15 +143,16 @@ impl Store {
             return Err(EngineError::Ended);
         }
         if may_change(&command) {
-            let (reply, _) = self.change(disk, command)?;
+            let (reply, _) = self.change(rt, disk, command)?;
             return Ok(reply);
         }
         self.look(disk, command)
     }
 
     // Carries out a command that may change the store. Beside the reply is its text, whose memory is taken before the commit.
-    fn change<D: Disk>(
+    fn change<R: Threads + Sync, D: Disk>(
         &mut self,
+        rt: &R,
         disk: &mut D,
         command: Command,
     ) -> Result<(Reply, Bytes), EngineError>
@@ -158,7 +166,7 @@ impl Store {
         ensures leaves { LeavesOthers D.Disk command self.old self.new disk.old disk.new }
     {
         match command {
-            Command::Load { name, body } => self.load(disk, name, body),
+            Command::Load { name, body } => self.load(rt, disk, name, body),
             Command::SetRule { rule } => self.set_rule(disk, &rule),
             Command::Discard { name } => self.discard(disk, &name),
             Command::Delete { name, path } => self.edit(disk, &name, path, EditBody::Delete),
@@ -209,13 +217,43 @@ impl Store {
     }
 
     /// Carries a command out as `apply` does, and gives its reply's text to the output, behind the commit and
-    /// whole. All memory of the text is taken before the commit too.
+    /// whole. All memory of the text is taken before the commit too. But an `export` is given record by record, as by `export_into`: where the
+    /// output is as it was, whatever is answered, it read no more than a `get` of the document's first child may.
     ///
     /// The command is one that a script can give.
     ///
-    /// Errors: those of `apply`, and nothing is given then; `Write`, only where `out_faults` rose, and then the
+    /// Errors: those of `apply`, and nothing is given then, but that a first part of an export may be; `Write`, only where `out_faults` rose, and then the
     /// command was carried out, and a first part of the text may be out.
-    pub fn answer<H: Host>(&mut self, host: &mut H, command: Command) -> Result<(), EngineError>
+    pub fn answer<R: Threads + Sync, H: Host>(
+        &mut self,
+        rt: &R,
+        host: &mut H,
+        command: Command,
+    ) -> Result<(), EngineError>
+        requires { CanCome command }
+        ensures answers { (state : State) → IsAt ⟦<H as Disk>⟧ self.old host.old state → IsSome (H.contents host.new) → IsAnswered ⟦<H as Disk>⟧ result state command self.new host.old host.new }
+        ensures ok { OnOk result (GoesOn self.old self.new) }
+        ensures refused { IfErr result (λ e. NotAnswered ⟦<H as Disk>⟧ e self.old self.new host.old host.new) }
+        ensures beside { TakesNone ⟦<H as Disk>⟧ host.old host.new }
+        ensures leaves { LeavesOthers ⟦<H as Disk>⟧ command self.old self.new host.old host.new }
+        ensures holds { may_change command ≡ false → OnOk result (HoldsOn ⟦<H as Disk>⟧ self.old self.new host.old host.new) }
+        ensures reads { ReadsWithin ⟦<H as Disk>⟧ command self.old host.old host.new }
+        ensures unread { needs_no_page command ≡ true → H.reads host.new ≡ H.reads host.old }
+        ensures early { (name : List ℕ) → command ≡ Command.Export name → ReadsToFirst ⟦<H as Disk>⟧ name self.old host.old host.new }
+    {
+        match command {
+            Command::Export { name } => self.answer_export(host, name.as_slice()),
+            command => self.answer_whole(rt, host, command),
+        }
+    }
+
+    // ... of any other command, whole.
+    fn answer_whole<R: Threads + Sync, H: Host>(
+        &mut self,
+        rt: &R,
+        host: &mut H,
+        command: Command,
+    ) -> Result<(), EngineError>
         requires { CanCome command }
         ensures answers { (state : State) → IsAt ⟦<H as Disk>⟧ self.old host.old state → IsSome (H.contents host.new) → IsAnswered ⟦<H as Disk>⟧ result state command self.new host.old host.new }
         ensures ok { OnOk result (GoesOn self.old self.new) }
@@ -226,8 +264,26 @@ impl Store {
         ensures reads { ReadsWithin ⟦<H as Disk>⟧ command self.old host.old host.new }
         ensures unread { needs_no_page command ≡ true → H.reads host.new ≡ H.reads host.old }
     {
-        let text = self.text_for(host, command)?;
+        let text = self.text_for(rt, host, command)?;
         let Ok(()) = host.emit(text.as_slice()) else {
+            return Err(EngineError::Write);
+        };
+        Ok(())
+    }
+
+    // ... of an export, record by record.
+    fn answer_export<H: Host>(&mut self, host: &mut H, name: &[u8]) -> Result<(), EngineError>
+        ensures answers { (state : State) → IsAt ⟦<H as Disk>⟧ self.old host.old state → IsSome (H.contents host.new) → IsAnswered ⟦<H as Disk>⟧ result state (Command.Export name.now) self.new host.old host.new }
+        ensures ok { OnOk result (GoesOn self.old self.new) }
+        ensures refused { IfErr result (λ e. NotAnswered ⟦<H as Disk>⟧ e self.old self.new host.old host.new) }
+        ensures beside { TakesNone ⟦<H as Disk>⟧ host.old host.new }
+        ensures leaves { LeavesOthers ⟦<H as Disk>⟧ (Command.Export name.now) self.old self.new host.old host.new }
+        ensures holds { OnOk result (HoldsOn ⟦<H as Disk>⟧ self.old self.new host.old host.new) }
+        ensures early { ReadsToFirst ⟦<H as Disk>⟧ name.now self.old host.old host.new }
+    {
+        let mut block = Bytes::new(self.alloc);
+        self.export_into(host, name, &mut block)?;
+        let Ok(()) = host.emit(block.as_slice()) else {
             return Err(EngineError::Write);
         };
         Ok(())
@@ -235,7 +291,8 @@ impl Store {
 
     /// Gives what the block has, and behind it the reply to an `export` of this document as `answer` does, but
     /// record by record, and but for a last part, which is left in the block. A block and what is told between two
-    /// records are in memory at once.
+    /// records are in memory at once. Where the output is as it was, whatever is answered, it read no more than a `get` of the document's first
+    /// child may.
     ///
     /// Errors: those of `answer`. The block is of no use then.
     pub fn export_into<H: Host>(
@@ -247,8 +304,11 @@ impl Store {
         ensures exports { (state : State) → IsAt ⟦<H as Disk>⟧ self.old host.old state → IsSome (H.contents host.new) →
             IsExported ⟦<H as Disk>⟧ result state name.now block.old block.new self.new host.old host.new }
         ensures ok { OnOk result (GoesOn self.old self.new) }
+        ensures same { is_ended self.new ≡ false → LeavesStore self.old self.new }
         ensures refused { IfErr result (λ e. NotAnswered ⟦<H as Disk>⟧ e self.old self.new host.old host.new) }
         ensures beside { TakesNone ⟦<H as Disk>⟧ host.old host.new }
+        ensures areas { AsksAndGives ⟦<H as Disk>⟧ host.old host.new }
+        ensures early { ReadsToFirst ⟦<H as Disk>⟧ name.now self.old host.old host.new }
     {
         if self.is_ended() {
             return Err(EngineError::Ended);
@@ -273,7 +333,12 @@ impl Store {
     }
 
     // Carries a command out as `apply` does, and gives the text of its reply, whose memory is taken before the commit.
-    fn text_for<D: Disk>(&mut self, disk: &mut D, command: Command) -> Result<Bytes, EngineError>
+    fn text_for<R: Threads + Sync, D: Disk>(
+        &mut self,
+        rt: &R,
+        disk: &mut D,
+        command: Command,
+    ) -> Result<Bytes, EngineError>
         requires { CanCome command }
         ensures writes { (state : State) → IsAt D.Disk self.old disk.old state → IsSome (D.contents disk.new) → IsAppliedWithText D.Disk result state command self.new disk.old disk.new }
         ensures ok { OnOk result (GoesOn self.old self.new) }
@@ -288,7 +353,7 @@ impl Store {
             return Err(EngineError::Ended);
         }
         if may_change(&command) {
-            let (_, text) = self.change(disk, command)?;
+            let (_, text) = self.change(rt, disk, command)?;
             return Ok(text);
         }
         self.text_behind(disk, command)

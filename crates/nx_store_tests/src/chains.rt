@@ -10,6 +10,7 @@ use nx_tree::NoMemory;
 use std::alloc::{AllocError, Global};
 use std::process::Abort;
 use std::test::Fail;
+use std::thread::Threads;
 
 // A page, an offset in it, and bytes that stand there then. The first text is in the pages 3 and 4, and its item is at 56
 // of page 2; the next one in the pages 5 and 6.
@@ -62,21 +63,26 @@ const SCRIPTS: [&[u8]; 5] = [
 ];
 
 // How a run over the image ends, and its host then.
-fn ran(alloc: Global, image: &Image, script: &[u8]) -> Result<(Status, MemoryHost), NoMemory> {
+fn ran(
+    rt: &(impl Threads + Sync),
+    alloc: Global,
+    image: &Image,
+    script: &[u8],
+) -> Result<(Status, MemoryHost), NoMemory> {
     let mut host = host_with(alloc, image, script, 65_536)?;
-    let status = run_script(alloc, &mut host)?;
+    let status = run_script(rt, alloc, &mut host)?;
     Ok((status, host))
 }
 
 // A run over the image ends as damaged, and what is out is the first part of this.
 fn check_damaged(
-    rt: &impl Abort,
+    rt: &(impl Threads + Abort + Sync),
     alloc: Global,
     image: &Image,
     script: &[u8],
     whole: &[u8],
 ) -> Result<(), NoMemory> {
-    let (status, host) = ran(alloc, image, script)?;
+    let (status, host) = ran(rt, alloc, image, script)?;
     assert!(rt; matches!(status, Status::Damaged { .. }), "{status:?}");
     assert!(rt; whole.starts_with(host.output()));
     Ok(())
@@ -99,7 +105,12 @@ fn exported(alloc: Global) -> Result<Vec<u8>, AllocError> {
     texts.concat(alloc)
 }
 
-fn check_each(rt: &impl Abort, alloc: Global, image: &Image, whole: &[u8]) -> Result<(), NoMemory> {
+fn check_each(
+    rt: &(impl Threads + Abort + Sync),
+    alloc: Global,
+    image: &Image,
+    whole: &[u8],
+) -> Result<(), NoMemory> {
     for script in SCRIPTS {
         let whole = if script == SCRIPTS[0] { whole } else { b"" };
         check_damaged(rt, alloc, image, script, whole)?;
@@ -108,7 +119,7 @@ fn check_each(rt: &impl Abort, alloc: Global, image: &Image, whole: &[u8]) -> Re
 }
 
 fn check_row(
-    rt: &impl Abort,
+    rt: &(impl Threads + Abort + Sync),
     alloc: Global,
     (page, offset, bytes): (usize, usize, &[u8]),
     whole: &[u8],
@@ -129,13 +140,13 @@ fn lists_are_damaged(rt: HostRuntime) -> Result<(), Fail> {
 
 // A run over the image is done, and all that is out is this.
 fn check_done(
-    rt: &impl Abort,
+    rt: &(impl Threads + Abort + Sync),
     alloc: Global,
     image: &Image,
     script: &[u8],
     output: &[u8],
 ) -> Result<(), NoMemory> {
-    let (status, host) = ran(alloc, image, script)?;
+    let (status, host) = ran(rt, alloc, image, script)?;
     assert_eq!(rt; status, Status::Done);
     assert_eq!(rt; host.output(), output);
     Ok(())
@@ -154,7 +165,7 @@ fn sound_lists(rt: HostRuntime) -> Result<(), Fail> {
         looked.as_slice(),
     )?;
     let script = b"delete t /0/1\nretext t /0/0 hi\nexport t\ndrop t\n";
-    let (status, _) = ran(rt.alloc(), &image, script)?;
+    let (status, _) = ran(&rt, rt.alloc(), &image, script)?;
     assert_eq!(rt; status, Status::Done);
     Ok(())
 }
@@ -185,7 +196,7 @@ pub fn place_of(pages: &[u8], bytes: &[u8]) -> Option<usize> {
 }
 
 // A document of 1,100 parts, and a content as long as the list of its proxies.
-fn with_both(rt: &impl Abort, alloc: Global) -> Result<Image, Fail> {
+fn with_both(rt: &(impl Threads + Abort + Sync), alloc: Global) -> Result<Image, Fail> {
     let parts = load(alloc, b"p", wide(alloc, 1_100, 1)?.as_slice())?;
     let content = load(alloc, b"c", wide(alloc, 1, 8_800)?.as_slice())?;
     let lines: [&[u8]; 3] = [parts.as_slice(), content.as_slice(), b"checkpoint\n"];

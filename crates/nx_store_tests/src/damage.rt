@@ -7,6 +7,7 @@ use nx_tree::{Bytes, NoMemory};
 use std::alloc::{AllocError, Global};
 use std::process::Abort;
 use std::test::Fail;
+use std::thread::Threads;
 
 pub const PAGE: usize = 8_192;
 
@@ -20,7 +21,7 @@ fn loads(alloc: Global) -> Result<Vec<u8>, AllocError> {
 }
 
 // A store with some documents, whose log has no group.
-fn with_documents(rt: &impl Abort, alloc: Global) -> Result<Image, Fail> {
+fn with_documents(rt: &(impl Threads + Abort + Sync), alloc: Global) -> Result<Image, Fail> {
     let script = loads(alloc)?;
     let empty = new_store(alloc, LIGHT)?;
     Ok(stored(rt, alloc, &empty, script.as_slice())?)
@@ -45,10 +46,14 @@ fn overwrite(pages: &mut Vec<u8>, at: usize, bytes: &[u8]) {
 }
 
 // Whether a run ends as damaged; otherwise it answers, or finds no store in page 0.
-fn is_damaged(rt: &impl Abort, alloc: Global, image: &Image) -> Result<bool, NoMemory> {
+fn is_damaged(
+    rt: &(impl Threads + Abort + Sync),
+    alloc: Global,
+    image: &Image,
+) -> Result<bool, NoMemory> {
     let script = looks(alloc)?;
     let mut host = host_with(alloc, image, script.as_slice(), 65_536)?;
-    match run_script(alloc, &mut host)? {
+    match run_script(rt, alloc, &mut host)? {
         Status::NotAStore => {
             assert!(rt; !image.pages.as_slice().starts_with(b"NATIXST1"));
             Ok(false)
@@ -74,7 +79,7 @@ fn looks(alloc: Global) -> Result<Vec<u8>, AllocError> {
 
 // Whether a run ends as damaged where these bytes stand at an offset of the pages.
 fn is_damaged_by(
-    rt: &impl Abort,
+    rt: &(impl Threads + Abort + Sync),
     alloc: Global,
     image: &Image,
     at: usize,
@@ -86,7 +91,7 @@ fn is_damaged_by(
 
 // At how many of the first pages a run ends as damaged where these bytes stand there.
 fn count_damaged(
-    rt: &impl Abort,
+    rt: &(impl Threads + Abort + Sync),
     alloc: Global,
     image: &Image,
     page: &[u8],
@@ -145,7 +150,7 @@ fn exported(alloc: Global) -> Result<Vec<u8>, AllocError> {
 
 // Without this page, that page is damaged.
 fn check_missing(
-    rt: &impl Abort,
+    rt: &(impl Threads + Abort + Sync),
     alloc: Global,
     image: &Image,
     page: u32,
@@ -154,7 +159,7 @@ fn check_missing(
     let at = (page as usize).saturating_mul(PAGE);
     let changed = changed(alloc, image, at, &[0; PAGE])?;
     let mut host = host_with(alloc, &changed, b"export a\nexport b\nexport c\n", 65_536)?;
-    assert_eq!(rt; run_script(alloc, &mut host)?, Status::Damaged { page });
+    assert_eq!(rt; run_script(rt, alloc, &mut host)?, Status::Damaged { page });
     assert!(rt; whole.starts_with(host.output()));
     Ok(())
 }

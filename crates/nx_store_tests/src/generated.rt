@@ -9,6 +9,7 @@ use nx_tree::{Bytes, NoMemory};
 use std::alloc::Global;
 use std::process::Abort;
 use std::test::Fail;
+use std::thread::Threads;
 
 // Room for some thousands of commits.
 const ROOM: u64 = 134_217_728;
@@ -25,22 +26,31 @@ fn host_after(alloc: Global, host: &MemoryHost) -> Result<MemoryHost, NoMemory> 
 }
 
 // Runs generated commands.
-fn generate(alloc: Global, host: &mut MemoryHost, seed: &str, n: &str) -> Result<Status, NoMemory> {
+fn generate(
+    rt: &(impl Threads + Sync),
+    alloc: Global,
+    host: &mut MemoryHost,
+    seed: &str,
+    n: &str,
+) -> Result<Status, NoMemory> {
     let words = words_of(alloc, &["s", "gen", seed, n])?;
-    Ok(status_of(alloc, &words, host))
+    Ok(status_of(rt, alloc, &words, host))
 }
 
 #[test]
 fn one_element(rt: HostRuntime) -> Result<(), Fail> {
     let alloc = rt.alloc();
     let mut host = host_with_store(alloc)?;
-    assert_eq!(rt; generate(alloc, &mut host, "0", "1")?, Status::Done);
+    assert_eq!(rt; generate(&rt, alloc, &mut host, "0", "1")?, Status::Done);
     assert_eq!(rt;
         host.output(),
         "commands 3\nerrors 0\nnodes 5\nbytes 38\n".as_bytes()
     );
     let mut again = host_after(alloc, &host)?;
-    assert_eq!(rt; generate(alloc, &mut again, "0", "1")?, Status::Refused);
+    assert_eq!(rt;
+        generate(&rt, alloc, &mut again, "0", "1")?,
+        Status::Refused
+    );
     assert_eq!(rt; again.output(), "refused exists\n".as_bytes());
     check_same(
         &rt,
@@ -62,7 +72,7 @@ const MANY: &str = "commands 2520\nerrors 0\nnodes 6499\nbytes 73694\n";
 fn many_elements(rt: HostRuntime) -> Result<(), Fail> {
     let alloc = rt.alloc();
     let mut host = host_with_store(alloc)?;
-    assert_eq!(rt; generate(alloc, &mut host, "7", "2000")?, Status::Done);
+    assert_eq!(rt; generate(&rt, alloc, &mut host, "7", "2000")?, Status::Done);
     assert_eq!(rt; host.output(), MANY.as_bytes());
     Ok(())
 }
@@ -122,13 +132,17 @@ fn other_words_are_misuse(rt: HostRuntime) -> Result<(), Fail> {
     Ok(())
 }
 
-fn check_misuse(rt: &impl Abort, alloc: Global, texts: &[&str]) -> Result<(), NoMemory> {
+fn check_misuse(
+    rt: &(impl Threads + Abort + Sync),
+    alloc: Global,
+    texts: &[&str],
+) -> Result<(), NoMemory> {
     let words = words_of(alloc, texts)?;
     let mut host = empty_host(alloc)?;
     // A call would fail, and be counted.
     host.stop_after(0);
     assert_eq!(rt;
-        status_of(alloc, &words, &mut host),
+        status_of(rt, alloc, &words, &mut host),
         Status::Usage,
         "{texts:?}"
     );

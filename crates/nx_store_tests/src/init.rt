@@ -7,6 +7,7 @@ use nx_tree::NoMemory;
 use std::alloc::Global;
 use std::process::Abort;
 use std::test::Fail;
+use std::thread::Threads;
 
 // More calls than making a store takes.
 const CALLS: u64 = 32;
@@ -38,15 +39,24 @@ fn are(settings: Option<Settings>, [k, target, tolerance, limit]: [u32; 4]) -> b
 }
 
 // The host with the store that these words make.
-fn made(rt: &impl Abort, alloc: Global, texts: &[&str]) -> Result<MemoryHost, NoMemory> {
+fn made(
+    rt: &(impl Threads + Abort + Sync),
+    alloc: Global,
+    texts: &[&str],
+) -> Result<MemoryHost, NoMemory> {
     let words = words_of(alloc, texts)?;
     let mut host = empty_host(alloc)?;
-    let status = status_of(alloc, &words, &mut host);
+    let status = status_of(rt, alloc, &words, &mut host);
     assert_eq!(rt; status, Status::Done, "{texts:?}");
     Ok(host)
 }
 
-fn check_made(rt: &impl Abort, alloc: Global, texts: &[&str], want: [u32; 4]) -> Result<(), Fail> {
+fn check_made(
+    rt: &(impl Threads + Abort + Sync),
+    alloc: Global,
+    texts: &[&str],
+    want: [u32; 4],
+) -> Result<(), Fail> {
     let host = made(rt, alloc, texts)?;
     assert_eq!(rt; host.output(), "ok\n".as_bytes());
     assert_eq!(rt; host.counts().faults, 0);
@@ -64,9 +74,13 @@ fn a_store_has_its_settings(rt: HostRuntime) -> Result<(), Fail> {
 }
 
 // Words that would make another store are refused.
-fn check_refused(rt: &impl Abort, alloc: Global, host: &mut MemoryHost) -> Result<(), NoMemory> {
+fn check_refused(
+    rt: &(impl Threads + Abort + Sync),
+    alloc: Global,
+    host: &mut MemoryHost,
+) -> Result<(), NoMemory> {
     let others = words_of(alloc, &["s", "init", "256", "0", "0", "64"])?;
-    assert_eq!(rt; status_of(alloc, &others, host), Status::Refused);
+    assert_eq!(rt; status_of(rt, alloc, &others, host), Status::Refused);
     assert_eq!(rt; host.output(), "refused exists\n".as_bytes());
     Ok(())
 }
@@ -115,12 +129,16 @@ const MISUSED: [&[&str]; 16] = [
     &["s", "init", "16", "50", "4", "64", "64"],
 ];
 
-fn check_misuse(rt: &impl Abort, alloc: Global, texts: &[&str]) -> Result<(), NoMemory> {
+fn check_misuse(
+    rt: &(impl Threads + Abort + Sync),
+    alloc: Global,
+    texts: &[&str],
+) -> Result<(), NoMemory> {
     let words = words_of(alloc, texts)?;
     let mut host = empty_host(alloc)?;
     // A call would fail, and be counted.
     host.stop_after(0);
-    let status = status_of(alloc, &words, &mut host);
+    let status = status_of(rt, alloc, &words, &mut host);
     assert_eq!(rt; status, Status::Usage, "{texts:?}");
     assert!(rt; host.output().is_empty());
     assert_eq!(rt; host.counts(), Counts::default());
@@ -154,10 +172,15 @@ fn check_images(
 }
 
 // Makes a store with a host that is stopped after so many calls, and says how that ends.
-fn stopped(rt: &impl Abort, alloc: Global, words: &Words, calls: u64) -> Result<Status, Fail> {
+fn stopped(
+    rt: &(impl Threads + Abort + Sync),
+    alloc: Global,
+    words: &Words,
+    calls: u64,
+) -> Result<Status, Fail> {
     let mut host = empty_host(alloc)?;
     host.stop_after(calls);
-    let status = status_of(alloc, words, &mut host);
+    let status = status_of(rt, alloc, words, &mut host);
     assert!(rt;
         status == Status::Done || host.output().is_empty(),
         "{calls}"

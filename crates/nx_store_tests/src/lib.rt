@@ -11,6 +11,8 @@ mod documents;
 #[cfg(test)]
 mod drawn;
 #[cfg(test)]
+mod exports;
+#[cfg(test)]
 mod generated;
 #[cfg(test)]
 mod init;

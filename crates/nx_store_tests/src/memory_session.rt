@@ -13,7 +13,7 @@ fn a_new_store_answers_a_script(rt: HostRuntime) -> Result<(), Fail> {
     let mut script = load(alloc, b"e", SMALL)?;
     script.extend_from_slice(b"names\ncheckpoint\n")?;
     let script = Bytes::from_slice(alloc, script.as_slice())?;
-    let session = answer_script(alloc, &words, script, 16_777_216)?;
+    let session = answer_script(&rt, alloc, &words, script, 16_777_216)?;
     assert_eq!(rt; session.status, Status::Done);
     assert!(rt; !session.host.is_full());
     assert_eq!(rt;

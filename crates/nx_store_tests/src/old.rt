@@ -8,6 +8,7 @@ use nx_tree::{Bytes, NoMemory};
 use std::alloc::{AllocError, Global};
 use std::process::Abort;
 use std::test::Fail;
+use std::thread::Threads;
 
 // Lines, with 2,040 letters for each `=`, and 1,500 for each `+`.
 fn with_texts(alloc: Global, lines: &[u8]) -> Result<Vec<u8>, AllocError> {
@@ -137,7 +138,7 @@ const EDITED: [Edited; 16] = [
 
 // The replies to edits of the old store and to looks.
 fn replies(
-    rt: &impl Abort,
+    rt: &(impl Threads + Abort + Sync),
     alloc: Global,
     image: &Image,
     edits: &[u8],
@@ -148,14 +149,18 @@ fn replies(
 }
 
 // The store with these edits, with an empty log.
-fn edited(rt: &impl Abort, alloc: Global, edits: &[u8]) -> Result<Image, NoMemory> {
+fn edited(
+    rt: &(impl Threads + Abort + Sync),
+    alloc: Global,
+    edits: &[u8],
+) -> Result<Image, NoMemory> {
     let script = [edits, b"checkpoint\n"].concat(alloc)?;
     let script = with_texts(alloc, script.as_slice())?;
     stored(rt, alloc, &old_store(alloc)?, script.as_slice())
 }
 
 fn check(
-    rt: &impl Abort,
+    rt: &(impl Threads + Abort + Sync),
     alloc: Global,
     (edits, said, looks, seen): Edited,
 ) -> Result<(), NoMemory> {

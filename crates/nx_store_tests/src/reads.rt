@@ -11,10 +11,11 @@ use nx_records::{Records, StoreError};
 use std::alloc::Global;
 use std::process::Abort;
 use std::test::Fail;
+use std::thread::Threads;
 
 // A store with the document `w`, whose last text stands in a record of its own. The root's record has its 1,499 proxies in
 // two chain pages.
-fn wide_store(rt: &impl Abort, alloc: Global) -> Result<Image, Fail> {
+pub fn wide_store(rt: &(impl Threads + Abort + Sync), alloc: Global) -> Result<Image, Fail> {
     let document = wide(alloc, 1_500, 1_024)?;
     let script = load(alloc, b"w", document.as_slice())?;
     let new = new_store(alloc, HEAVY)?;

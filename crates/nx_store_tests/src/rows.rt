@@ -11,32 +11,39 @@ use nx_tree::Bytes;
 use std::alloc::{AllocError, Global};
 use std::process::Abort;
 use std::test::Fail;
+use std::thread::Threads;
 
 fn answer(
+    rt: &(impl Threads + Sync),
     alloc: Global,
     store: &mut Store,
     host: &mut MemoryHost,
     lines: &[u8],
 ) -> Result<Result<(), EngineError>, ScriptError> {
     let command = command_of(alloc, lines)?;
-    Ok(store.answer(host, command))
+    Ok(store.answer(rt, host, command))
 }
 
 // What a new store answers, command by command.
-fn one_by_one(alloc: Global, settings: Settings, commands: &[&[u8]]) -> Result<Bytes, Fail>
+fn one_by_one(
+    rt: &(impl Threads + Sync),
+    alloc: Global,
+    settings: Settings,
+    commands: &[&[u8]],
+) -> Result<Bytes, Fail>
     requires { AreSettings settings }
 {
     let mut host = empty_host(alloc)?;
     let mut store = create(alloc, &mut host, settings)?;
     for command in commands {
-        answer(alloc, &mut store, &mut host, command)??;
+        answer(rt, alloc, &mut store, &mut host, command)??;
     }
     Ok(Bytes::from_slice(alloc, host.output())?)
 }
 
 // What a run over a new store answers.
 fn in_a_script(
-    rt: &impl Abort,
+    rt: &(impl Threads + Abort + Sync),
     alloc: Global,
     settings: Settings,
     commands: &[&[u8]],
@@ -50,7 +57,7 @@ fn in_a_script(
 
 // A new store answers these commands so, one by one and in a script.
 fn check(
-    rt: &impl Abort,
+    rt: &(impl Threads + Abort + Sync),
     alloc: Global,
     settings: Settings,
     commands: &[&[u8]],
@@ -58,7 +65,7 @@ fn check(
 ) -> Result<(), Fail>
     requires { AreSettings settings }
 {
-    let found = one_by_one(alloc, settings, commands)?;
+    let found = one_by_one(rt, alloc, settings, commands)?;
     assert_eq!(rt; found.as_slice(), output);
     let found = in_a_script(rt, alloc, settings, commands)?;
     assert_eq!(rt; found.as_slice(), output);
@@ -67,7 +74,7 @@ fn check(
 
 // The same of a light store.
 fn check_light(
-    rt: &impl Abort,
+    rt: &(impl Threads + Abort + Sync),
     alloc: Global,
     commands: &[&[u8]],
     output: &[u8],
@@ -77,7 +84,7 @@ fn check_light(
 
 // And of one with heavy parts.
 fn check_heavy(
-    rt: &impl Abort,
+    rt: &(impl Threads + Abort + Sync),
     alloc: Global,
     commands: &[&[u8]],
     output: &[u8],
@@ -155,6 +162,21 @@ fn many_parts(rt: HostRuntime) -> Result<(), Fail> {
     let output = [b"ok 1502 1500\n", document.as_slice(), b".\n"].concat(rt.alloc())?;
     let commands: [&[u8]; 2] = [lines.as_slice(), b"export w\n"];
     check_heavy(&rt, rt.alloc(), &commands, output.as_slice())
+}
+
+const SIXTEEN: &[u8] =
+    b"(b\n-12345678\n-12345678\n-12345678\n-12345678\n-12345678\n-12345678\n-12345678\n)b\n";
+
+// 20,002 nodes, whose minima four threads find. An element over seven texts weighs as much as a part may, and all of it more than
+// 2,500 parts do.
+#[test]
+fn many_nodes(rt: HostRuntime) -> Result<(), Fail> {
+    let elements = times(rt.alloc(), 2_500, SIXTEEN)?;
+    let document = [b"(a\n", elements.as_slice(), b")a\n"].concat(rt.alloc())?;
+    let lines = load(rt.alloc(), b"d", document.as_slice())?;
+    let output = [b"ok 20002 2501\n", document.as_slice(), b".\n"].concat(rt.alloc())?;
+    let commands: [&[u8]; 2] = [lines.as_slice(), b"export d\n"];
+    check_light(&rt, rt.alloc(), &commands, output.as_slice())
 }
 
 // The 251 contents take more than the 63 pages beside the header.

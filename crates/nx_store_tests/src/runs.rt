@@ -12,6 +12,7 @@ use nx_tree::{Bytes, NoMemory};
 use std::alloc::{AllocError, Global};
 use std::process::Abort;
 use std::test::Fail;
+use std::thread::Threads;
 
 // An image without a log.
 fn image_of(alloc: Global, pages: &[u8]) -> Result<Image, NoMemory> {
@@ -22,10 +23,14 @@ fn image_of(alloc: Global, pages: &[u8]) -> Result<Image, NoMemory> {
 }
 
 // A run finds no store in these pages.
-fn check_without(rt: &impl Abort, alloc: Global, pages: &[u8]) -> Result<(), NoMemory> {
+fn check_without(
+    rt: &(impl Threads + Abort + Sync),
+    alloc: Global,
+    pages: &[u8],
+) -> Result<(), NoMemory> {
     let image = image_of(alloc, pages)?;
     let mut host = host_with(alloc, &image, b"names\n", 8)?;
-    assert_eq!(rt; run_script(alloc, &mut host)?, Status::NotAStore);
+    assert_eq!(rt; run_script(rt, alloc, &mut host)?, Status::NotAStore);
     assert!(rt; host.output().is_empty());
     assert_eq!(rt; host.counts().faults, 0);
     Ok(())
@@ -40,19 +45,26 @@ fn areas_without_a_store(rt: HostRuntime) -> Result<(), Fail> {
 }
 
 // Makes a store.
-fn init(alloc: Global, host: &mut MemoryHost) -> Result<Status, NoMemory> {
+fn init(
+    rt: &(impl Threads + Sync),
+    alloc: Global,
+    host: &mut MemoryHost,
+) -> Result<Status, NoMemory> {
     let words = words_of(alloc, &["s", "init", "16"])?;
-    Ok(status_of(alloc, &words, host))
+    Ok(status_of(rt, alloc, &words, host))
 }
 
 // A store that was made, and took a document.
-fn with_document(rt: &impl Abort, alloc: Global) -> Result<MemoryHost, NoMemory> {
+fn with_document(
+    rt: &(impl Threads + Abort + Sync),
+    alloc: Global,
+) -> Result<MemoryHost, NoMemory> {
     let mut new = empty_host(alloc)?;
-    assert_eq!(rt; init(alloc, &mut new)?, Status::Done);
+    assert_eq!(rt; init(rt, alloc, &mut new)?, Status::Done);
     let image = left(&new, Choice::Lost)?;
     let script = load(alloc, b"e", SMALL)?;
     let mut host = host_with(alloc, &image, script.as_slice(), 5)?;
-    assert_eq!(rt; run_script(alloc, &mut host)?, Status::Done);
+    assert_eq!(rt; run_script(rt, alloc, &mut host)?, Status::Done);
     Ok(host)
 }
 
@@ -61,7 +73,7 @@ fn a_store_that_was_made_takes_documents(rt: HostRuntime) -> Result<(), Fail> {
     let host = with_document(&rt, rt.alloc())?;
     assert_eq!(rt; host.output(), b"ok 4 1\n".as_slice());
     let mut again = host_of(rt.alloc(), left(&host, Choice::Lost)?)?;
-    assert_eq!(rt; init(rt.alloc(), &mut again)?, Status::Refused);
+    assert_eq!(rt; init(&rt, rt.alloc(), &mut again)?, Status::Refused);
     assert_eq!(rt; again.output(), b"refused exists\n".as_slice());
     let image = left(&again, Choice::Ones)?;
     let found = answers(&rt, rt.alloc(), &image, b"names\n")?;
@@ -98,14 +110,14 @@ const SCRIPTS: [(&[u8], &[u8]); 7] = [
 
 // A run over the store answers so, where its input comes in such pieces.
 fn check_piece(
-    rt: &impl Abort,
+    rt: &(impl Threads + Abort + Sync),
     alloc: Global,
     image: &Image,
     (script, output): (&[u8], &[u8]),
     piece: u32,
 ) -> Result<(), NoMemory> {
     let mut host = host_with(alloc, image, script, piece.max(1))?;
-    assert_eq!(rt; run_script(alloc, &mut host)?, Status::Done);
+    assert_eq!(rt; run_script(rt, alloc, &mut host)?, Status::Done);
     assert_eq!(rt; host.output(), output, "{piece}");
     Ok(())
 }
@@ -127,7 +139,7 @@ fn a_disk_that_fails_at_once(rt: HostRuntime) -> Result<(), Fail> {
     let image = new_store(rt.alloc(), LIGHT)?;
     let mut host = host_with(rt.alloc(), &image, b"names\n", 8)?;
     host.fail_calls(&[1])?;
-    assert_eq!(rt; run_script(rt.alloc(), &mut host)?, Status::DiskFault);
+    assert_eq!(rt; run_script(&rt, rt.alloc(), &mut host)?, Status::DiskFault);
     assert!(rt; host.output().is_empty());
     let counts = host.counts();
     assert_eq!(rt;
@@ -139,6 +151,7 @@ fn a_disk_that_fails_at_once(rt: HostRuntime) -> Result<(), Fail> {
 
 // How a run ends that is stopped after so many calls, and its host then.
 fn stopped(
+    rt: &(impl Threads + Sync),
     alloc: Global,
     image: &Image,
     script: &[u8],
@@ -149,7 +162,7 @@ fn stopped(
 {
     let mut host = host_with(alloc, image, script, piece)?;
     host.stop_after(stop);
-    let status = run_script(alloc, &mut host)?;
+    let status = run_script(rt, alloc, &mut host)?;
     Ok((status, host))
 }
 
@@ -164,13 +177,13 @@ const OUT: [&[u8]; 5] = [
 
 // Whether a read is the call that fails; what is out then is that of so many reads.
 fn is_at_read(
-    rt: &impl Abort,
+    rt: &(impl Threads + Abort + Sync),
     alloc: Global,
     image: &Image,
     stop: u64,
     read: usize,
 ) -> Result<bool, NoMemory> {
-    let (status, host) = stopped(alloc, image, b"names\nget x /\nexport", 6, stop)?;
+    let (status, host) = stopped(rt, alloc, image, b"names\nget x /\nexport", 6, stop)?;
     if status != Status::ReadFault {
         return Ok(false);
     }
@@ -192,14 +205,20 @@ fn a_reply_comes_before_more_is_read(rt: HostRuntime) -> Result<(), Fail> {
     Ok(())
 }
 
-// The lines of a load and of fifteen looks, and their replies.
-fn many_looks(alloc: Global) -> Result<(Vec<u8>, Vec<u8>), AllocError> {
-    let document = wide(alloc, 10, 1_000)?;
+// The lines of a load of a document of so many texts and of twice so many looks, and their replies.
+fn many_looks(
+    alloc: Global,
+    texts: usize,
+    loaded: &[u8],
+    named: &[u8],
+    looks: usize,
+) -> Result<(Vec<u8>, Vec<u8>), AllocError> {
+    let document = wide(alloc, texts, 1_000)?;
     let mut script = load(alloc, b"a", document.as_slice())?;
-    let mut replies = Vec::from_slice(alloc, b"ok 12 5\n")?;
-    for _ in 0..15 {
+    let mut replies = Vec::from_slice(alloc, loaded)?;
+    for _ in 0..looks {
         script.extend_from_slice(b"names\nexport a\n")?;
-        replies.extend_from_slice(b"doc a 12\n.\n")?;
+        replies.extend_from_slice(named)?;
         replies.extend_from_slice(document.as_slice())?;
         replies.extend_from_slice(b".\n")?;
     }
@@ -208,41 +227,55 @@ fn many_looks(alloc: Global) -> Result<(Vec<u8>, Vec<u8>), AllocError> {
 
 // How much is out at a stop, the first part of all replies, and whether all was done.
 fn out_at(
-    rt: &impl Abort,
+    rt: &(impl Threads + Abort + Sync),
     alloc: Global,
     image: &Image,
     script: &[u8],
     replies: &[u8],
     stop: u64,
 ) -> Result<(usize, bool), NoMemory> {
-    let (status, host) = stopped(alloc, image, script, 65_536, stop)?;
+    let (status, host) = stopped(rt, alloc, image, script, 65_536, stop)?;
     assert!(rt; replies.starts_with(host.output()), "{stop}");
     Ok((host.output().len(), status == Status::Done))
 }
 
-// Replies to looks are gathered. What is out at each stop is the first part of all.
-#[test]
-fn gathered_replies(rt: HostRuntime) -> Result<(), Fail> {
-    let image = new_store(rt.alloc(), HEAVY)?;
-    let (script, replies) = many_looks(rt.alloc())?;
+// How much is out at the end, and how often something was given. What is out at each stop is the first part of all.
+fn parts_out(
+    rt: &impl Abort,
+    alloc: Global,
+    script: &[u8],
+    replies: &[u8],
+) -> Result<(usize, u32), Fail> {
+    let image = new_store(alloc, HEAVY)?;
     let mut parts = 0u32;
     let mut out = 0usize;
     for stop in 0..400 {
-        let (now, done) = out_at(
-            &rt,
-            rt.alloc(),
-            &image,
-            script.as_slice(),
-            replies.as_slice(),
-            stop,
-        )?;
+        let (now, done) = out_at(rt, alloc, &image, script, replies, stop)?;
         parts = parts.saturating_add(u32::from(out < now));
         out = now;
         if done {
             break;
         }
     }
-    // The reply to the load, then two blocks of at least 65,536 bytes, and the rest.
-    assert_eq!(rt; (out, parts), (replies.len(), 4));
+    Ok((out, parts))
+}
+
+// Replies to looks are gathered, also the exports of a document of one record: the reply to the load is given, then a block
+// of at least 65,536 bytes, and the rest.
+#[test]
+fn gathered_replies(rt: HostRuntime) -> Result<(), Fail> {
+    let (script, replies) = many_looks(rt.alloc(), 1, b"ok 3 1\n", b"doc a 3\n.\n", 70)?;
+    let (out, parts) = parts_out(&rt, rt.alloc(), script.as_slice(), replies.as_slice())?;
+    assert_eq!(rt; (out, parts), (replies.len(), 3));
+    Ok(())
+}
+
+// What waits at an export of several records is given before the second one is read: the reply to the load, fifteen exports,
+// and the rest.
+#[test]
+fn exports_of_several_records(rt: HostRuntime) -> Result<(), Fail> {
+    let (script, replies) = many_looks(rt.alloc(), 10, b"ok 12 5\n", b"doc a 12\n.\n", 15)?;
+    let (out, parts) = parts_out(&rt, rt.alloc(), script.as_slice(), replies.as_slice())?;
+    assert_eq!(rt; (out, parts), (replies.len(), 17));
     Ok(())
 }

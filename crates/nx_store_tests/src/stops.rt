@@ -11,6 +11,7 @@ use nx_tree::{Bytes, NoMemory};
 use std::alloc::Global;
 use std::process::Abort;
 use std::test::Fail;
+use std::thread::Threads;
 
 // More calls than a script here takes.
 const CALLS: u64 = 400;
@@ -40,7 +41,7 @@ fn failing_host(
 
 // Whether one of the images has the document; otherwise it has none.
 fn has(
-    rt: &impl Abort,
+    rt: &(impl Threads + Abort + Sync),
     alloc: Global,
     host: &MemoryHost,
     choice: Choice,
@@ -59,7 +60,11 @@ fn has(
 }
 
 // Of the three images, how many have the document.
-fn having(rt: &impl Abort, alloc: Global, host: &MemoryHost) -> Result<u32, NoMemory> {
+fn having(
+    rt: &(impl Threads + Abort + Sync),
+    alloc: Global,
+    host: &MemoryHost,
+) -> Result<u32, NoMemory> {
     let mut having = 0u32;
     for choice in CHOICES {
         having = having.saturating_add(u32::from(has(rt, alloc, host, choice)?));
@@ -71,7 +76,7 @@ fn having(rt: &impl Abort, alloc: Global, host: &MemoryHost) -> Result<u32, NoMe
 type Stopped = (u32, usize, Status);
 
 fn stopped(
-    rt: &impl Abort,
+    rt: &(impl Threads + Abort + Sync),
     alloc: Global,
     store: &Image,
     script: &[u8],
@@ -79,13 +84,13 @@ fn stopped(
     alone: bool,
 ) -> Result<Stopped, NoMemory> {
     let mut host = failing_host(alloc, store, script, number, alone)?;
-    let status = run_script(alloc, &mut host)?;
+    let status = run_script(rt, alloc, &mut host)?;
     Ok((having(rt, alloc, &host)?, host.output().len(), status))
 }
 
 // What comes of a load at which each call is the one that fails, where some image has the document.
 fn stops(
-    rt: &impl Abort,
+    rt: &(impl Threads + Abort + Sync),
     alloc: Global,
     store: &Image,
     script: &[u8],
@@ -116,7 +121,7 @@ const AT_THE_GATE: [Stopped; 4] = [
 
 // One call writes the gate, after which two of the images have the document. Before it none has it. Behind it
 // the gate is synced, and all have it: then the reply is given, and the input's end is found.
-fn check_gate(rt: &impl Abort, alloc: Global, alone: bool) -> Result<(), Fail> {
+fn check_gate(rt: &(impl Threads + Abort + Sync), alloc: Global, alone: bool) -> Result<(), Fail> {
     let store = new_store(alloc, LIGHT)?;
     let script = load(alloc, b"e", SMALL)?;
     let steps = stops(rt, alloc, &store, script.as_slice(), alone)?;
@@ -135,7 +140,11 @@ fn a_document_is_there_where_one_call_fails(rt: HostRuntime) -> Result<(), Fail>
 }
 
 // A store with three documents.
-fn with_three(rt: &impl Abort, alloc: Global, document: &[u8]) -> Result<Image, Fail> {
+fn with_three(
+    rt: &(impl Threads + Abort + Sync),
+    alloc: Global,
+    document: &[u8],
+) -> Result<Image, Fail> {
     let mut script = load(alloc, b"a", document)?;
     script.extend_from_slice(load(alloc, b"b", SMALL)?.as_slice())?;
     script.extend_from_slice(load(alloc, b"c", BOOK)?.as_slice())?;
@@ -145,7 +154,7 @@ fn with_three(rt: &impl Abort, alloc: Global, document: &[u8]) -> Result<Image, 
 
 // Each image answers so.
 fn check_images(
-    rt: &impl Abort,
+    rt: &(impl Threads + Abort + Sync),
     alloc: Global,
     host: &MemoryHost,
     script: &[u8],
@@ -161,14 +170,14 @@ fn check_images(
 
 // Stops a checkpoint after so many calls, and says whether all was done. The documents stay.
 fn is_checkpointed(
-    rt: &impl Abort,
+    rt: &(impl Threads + Abort + Sync),
     alloc: Global,
     store: &Image,
     number: u64,
     whole: &[u8],
 ) -> Result<bool, NoMemory> {
     let mut host = failing_host(alloc, store, b"checkpoint\n", number, false)?;
-    let status = run_script(alloc, &mut host)?;
+    let status = run_script(rt, alloc, &mut host)?;
     check_images(rt, alloc, &host, b"export a\nexport b\nexport c\n", whole)?;
     assert!(rt; status != Status::Done || host.output() == b"ok\n".as_slice());
     Ok(status == Status::Done)
@@ -345,7 +354,7 @@ fn check_faults(rt: &impl Abort, host: &MemoryHost, status: Status) {
 
 // Each image is in the state behind the commands that were answered, or behind one more.
 fn check_left(
-    rt: &impl Abort,
+    rt: &(impl Threads + Abort + Sync),
     alloc: Global,
     story: Story,
     host: &MemoryHost,
@@ -370,13 +379,13 @@ fn is_spelled(alloc: Global, found: &Bytes, text: Option<&[u8]>) -> Result<bool,
 
 // Runs the steps where this call fails, and says whether all was done.
 fn is_done(
-    rt: &impl Abort,
+    rt: &(impl Threads + Abort + Sync),
     alloc: Global,
     story: Story,
     mut host: MemoryHost,
     replies: &[u8],
 ) -> Result<bool, NoMemory> {
-    let status = run_script(alloc, &mut host)?;
+    let status = run_script(rt, alloc, &mut host)?;
     check_faults(rt, &host, status);
     assert!(rt; replies.starts_with(host.output()));
     check_left(rt, alloc, story, &host)?;
@@ -418,7 +427,7 @@ fn steps_host(
 
 // Runs the steps with each call of the host failing in turn.
 fn check_calls(
-    rt: &impl Abort,
+    rt: &(impl Threads + Abort + Sync),
     alloc: Global,
     store: &Image,
     story: Story,
@@ -498,13 +507,13 @@ fn each_call_at_an_old_store_is_the_last_in_turn(rt: HostRuntime) -> Result<(), 
 
 // Loads where the host is stopped, and says whether the store has ended.
 fn is_ended_by_load(
-    rt: &impl Abort,
+    rt: &(impl Threads + Abort + Sync),
     alloc: Global,
     store: &mut Store,
     host: &mut MemoryHost,
 ) -> Result<bool, Fail> {
     let script = load(alloc, b"e", SMALL)?;
-    let loaded = apply(alloc, store, host, script.as_slice())?.err();
+    let loaded = apply(rt, alloc, store, host, script.as_slice())?.err();
     let is_ended = store.is_ended();
     let want = if is_ended {
         Some(EngineError::Disk)
@@ -516,13 +525,18 @@ fn is_ended_by_load(
 }
 
 // Stops the host of an open store after so many calls, and says whether the store has ended.
-fn is_ended_at(rt: &impl Abort, alloc: Global, image: &Image, stop: u64) -> Result<bool, Fail> {
+fn is_ended_at(
+    rt: &(impl Threads + Abort + Sync),
+    alloc: Global,
+    image: &Image,
+    stop: u64,
+) -> Result<bool, Fail> {
     let mut host = host_with(alloc, image, b"", 1)?;
     let mut store = open(alloc, &mut host)?;
     host.stop_after(stop);
     let is_ended = is_ended_by_load(rt, alloc, &mut store, &mut host)?;
     if is_ended {
-        let later = apply(alloc, &mut store, &mut host, b"names\n")?.err();
+        let later = apply(rt, alloc, &mut store, &mut host, b"names\n")?.err();
         assert_eq!(rt; later, Some(EngineError::Ended));
     }
     Ok(is_ended)

@@ -13,6 +13,7 @@ use nx_tree::{Bytes, NoMemory};
 use std::alloc::Global;
 use std::process::Abort;
 use std::test::Fail;
+use std::thread::Threads;
 
 /// What a crash may leave.
 pub const CHOICES: [Choice; 3] = [Choice::Kept, Choice::Lost, Choice::Ones];
@@ -141,13 +142,14 @@ pub fn open(alloc: Global, host: &mut MemoryHost) -> Result<Store, EngineError> 
 
 /// What the store says to the command of these lines.
 pub fn apply(
+    rt: &(impl Threads + Sync),
     alloc: Global,
     store: &mut Store,
     host: &mut MemoryHost,
     lines: &[u8],
 ) -> Result<Result<Reply, EngineError>, ScriptError> {
     let command = command_of(alloc, lines)?;
-    Ok(store.apply(host, command))
+    Ok(store.apply(rt, host, command))
 }
 
 /// The image of a new store.
@@ -160,31 +162,40 @@ pub fn new_store(alloc: Global, settings: Settings) -> Result<Image, EngineError
 }
 
 /// How a run over the host ends.
-pub fn status_of(alloc: Global, words: &Words, host: &mut MemoryHost) -> Status {
-    run(alloc, words, host)
+pub fn status_of(
+    rt: &(impl Threads + Sync),
+    alloc: Global,
+    words: &Words,
+    host: &mut MemoryHost,
+) -> Status {
+    run(rt, alloc, words, host)
 }
 
 /// Runs a script over a host that has a store.
-pub fn run_script(alloc: Global, host: &mut MemoryHost) -> Result<Status, NoMemory> {
+pub fn run_script(
+    rt: &(impl Threads + Sync),
+    alloc: Global,
+    host: &mut MemoryHost,
+) -> Result<Status, NoMemory> {
     let words = words_of(alloc, &["s", "run"])?;
-    Ok(status_of(alloc, &words, host))
+    Ok(status_of(rt, alloc, &words, host))
 }
 
 // The host after a whole script.
 fn ran(
-    rt: &impl Abort,
+    rt: &(impl Threads + Abort + Sync),
     alloc: Global,
     image: &Image,
     script: &[u8],
 ) -> Result<MemoryHost, NoMemory> {
     let mut host = host_with(alloc, image, script, 65_536)?;
-    assert_eq!(rt; run_script(alloc, &mut host)?, Status::Done);
+    assert_eq!(rt; run_script(rt, alloc, &mut host)?, Status::Done);
     Ok(host)
 }
 
 /// What a store answers to a script.
 pub fn answers(
-    rt: &impl Abort,
+    rt: &(impl Threads + Abort + Sync),
     alloc: Global,
     image: &Image,
     script: &[u8],
@@ -196,7 +207,7 @@ pub fn answers(
 
 /// What a store is after a script.
 pub fn stored(
-    rt: &impl Abort,
+    rt: &(impl Threads + Abort + Sync),
     alloc: Global,
     image: &Image,
     script: &[u8],

@@ -10,6 +10,7 @@ use nx_records::Settings;
 use std::alloc::{AllocError, Global};
 use std::process::Abort;
 use std::test::Fail;
+use std::thread::Threads;
 
 // How many documents there are, how large, and with which contents.
 #[derive(Clone, Copy, Debug)]
@@ -55,13 +56,18 @@ fn get_line(alloc: Global, name: u8, random: &mut Random) -> Result<Vec<u8>, All
     Ok(line)
 }
 
-fn look(rt: &impl Abort, alloc: Global, twins: &mut Twins, name: u8) -> Result<(), Fail> {
+fn look(
+    rt: &(impl Threads + Abort + Sync),
+    alloc: Global,
+    twins: &mut Twins,
+    name: u8,
+) -> Result<(), Fail> {
     let line = line_of(alloc, b"export", name)?;
     twins.look(rt, line.as_slice())
 }
 
 fn get(
-    rt: &impl Abort,
+    rt: &(impl Threads + Abort + Sync),
     alloc: Global,
     twins: &mut Twins,
     name: u8,
@@ -72,7 +78,7 @@ fn get(
 }
 
 fn load(
-    rt: &impl Abort,
+    rt: &(impl Threads + Abort + Sync),
     alloc: Global,
     twins: &mut Twins,
     name: u8,
@@ -92,14 +98,18 @@ fn load(
     twins.load(rt, &[name], text.as_slice())
 }
 
-fn rule(rt: &impl Abort, twins: &mut Twins, random: &mut Random) -> Result<(), Fail> {
+fn rule(
+    rt: &(impl Threads + Abort + Sync),
+    twins: &mut Twins,
+    random: &mut Random,
+) -> Result<(), Fail> {
     let pair = any_pair(random);
     let entry = any_entry(random);
     twins.rule(rt, pair, entry)
 }
 
 fn insert(
-    rt: &impl Abort,
+    rt: &(impl Threads + Abort + Sync),
     alloc: Global,
     twins: &mut Twins,
     name: u8,
@@ -115,7 +125,7 @@ fn insert(
 }
 
 fn delete(
-    rt: &impl Abort,
+    rt: &(impl Threads + Abort + Sync),
     alloc: Global,
     twins: &mut Twins,
     name: u8,
@@ -127,7 +137,7 @@ fn delete(
 }
 
 fn retext(
-    rt: &impl Abort,
+    rt: &(impl Threads + Abort + Sync),
     alloc: Global,
     twins: &mut Twins,
     name: u8,
@@ -143,7 +153,7 @@ fn retext(
 
 // One edit.
 fn edit(
-    rt: &impl Abort,
+    rt: &(impl Threads + Abort + Sync),
     alloc: Global,
     twins: &mut Twins,
     name: u8,
@@ -166,7 +176,7 @@ fn reopen(twins: &mut Twins, random: &mut Random) -> Result<(), Fail> {
 
 // One command, or a stop.
 fn step(
-    rt: &impl Abort,
+    rt: &(impl Threads + Abort + Sync),
     alloc: Global,
     twins: &mut Twins,
     random: &mut Random,
@@ -188,7 +198,11 @@ fn step(
 }
 
 // A look at all documents.
-fn look_at_all(rt: &impl Abort, alloc: Global, twins: &mut Twins) -> Result<(), Fail> {
+fn look_at_all(
+    rt: &(impl Threads + Abort + Sync),
+    alloc: Global,
+    twins: &mut Twins,
+) -> Result<(), Fail> {
     for name in b'a'..=b'z' {
         look(rt, alloc, twins, name)?;
         twins.layout(rt, &[name])?;
@@ -198,7 +212,7 @@ fn look_at_all(rt: &impl Abort, alloc: Global, twins: &mut Twins) -> Result<(), 
 
 // So many steps, and then a look at all documents.
 fn trial(
-    rt: &impl Abort,
+    rt: &(impl Threads + Abort + Sync),
     alloc: Global,
     settings: Settings,
     size: Size,

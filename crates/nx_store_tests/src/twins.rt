@@ -21,6 +21,7 @@ use std::alloc::Global;
 use std::collections::BTreeMap;
 use std::process::Abort;
 use std::test::Fail;
+use std::thread::Threads;
 
 /// How much was tried.
 #[derive(Clone, Copy, Debug, PartialEq, Eq, Default)]
@@ -72,8 +73,8 @@ impl Twins {
         })
     }
 
-    fn apply(&mut self, lines: &[u8]) -> Result<Reply, Fail> {
-        Ok(apply(self.alloc, &mut self.store, &mut self.host, lines)??)
+    fn apply(&mut self, rt: &(impl Threads + Sync), lines: &[u8]) -> Result<Reply, Fail> {
+        Ok(apply(rt, self.alloc, &mut self.store, &mut self.host, lines)??)
     }
 
     fn apply_plain(&mut self, lines: &[u8]) -> Result<Reply, Fail> {
@@ -89,8 +90,8 @@ impl Twins {
     }
 
     /// Asks for something that both have.
-    pub fn look(&mut self, rt: &impl Abort, lines: &[u8]) -> Result<(), Fail> {
-        let found = self.apply(lines)?;
+    pub fn look(&mut self, rt: &(impl Threads + Abort + Sync), lines: &[u8]) -> Result<(), Fail> {
+        let found = self.apply(rt, lines)?;
         let want = self.apply_plain(lines)?;
         self.check_same(rt, &found, &want)
     }
@@ -118,10 +119,15 @@ impl Twins {
     }
 
     /// Loads a document.
-    pub fn load(&mut self, rt: &impl Abort, name: &[u8], text: &[u8]) -> Result<(), Fail> {
+    pub fn load(
+        &mut self,
+        rt: &(impl Threads + Abort + Sync),
+        name: &[u8],
+        text: &[u8],
+    ) -> Result<(), Fail> {
         let lines = load(self.alloc, name, text)?;
         let want = self.apply_plain(lines.as_slice())?;
-        let found = self.apply(lines.as_slice())?;
+        let found = self.apply(rt, lines.as_slice())?;
         self.check_load(rt, name, &found, &want)
     }
 
@@ -199,18 +205,23 @@ impl Twins {
     }
 
     /// Forgets a document.
-    pub fn discard(&mut self, rt: &impl Abort, name: &[u8]) -> Result<(), Fail> {
+    pub fn discard(&mut self, rt: &(impl Threads + Abort + Sync), name: &[u8]) -> Result<(), Fail> {
         let lines = [b"drop ", name, b"\n"].concat(self.alloc)?;
         self.layouts.remove(name);
         self.look(rt, lines.as_slice())
     }
 
     /// Makes a rule.
-    pub fn rule(&mut self, rt: &impl Abort, pair: Pair, entry: Entry) -> Result<(), Fail> {
+    pub fn rule(
+        &mut self,
+        rt: &(impl Threads + Abort + Sync),
+        pair: Pair,
+        entry: Entry,
+    ) -> Result<(), Fail> {
         let lines = rule_line(self.alloc, pair, entry)?;
         let old = self.entries.of(pair);
         self.entries.set(pair, entry);
-        let found = self.apply(lines.as_slice())?;
+        let found = self.apply(rt, lines.as_slice())?;
         if let Reply::Refused(ReplyError::Full) = found {
             let after = self.stored()?;
             self.check_full(rt, after)?;
@@ -221,9 +232,9 @@ impl Twins {
     }
 
     /// Asks for the intervals of a document.
-    pub fn layout(&mut self, rt: &impl Abort, name: &[u8]) -> Result<(), Fail> {
+    pub fn layout(&mut self, rt: &(impl Threads + Abort + Sync), name: &[u8]) -> Result<(), Fail> {
         let lines = [b"layout ", name, b"\n"].concat(self.alloc)?;
-        match self.apply(lines.as_slice())? {
+        match self.apply(rt, lines.as_slice())? {
             Reply::Laid { parts, weights } => self.check_laid(rt, name, parts, &weights),
             found => self.check_none(rt, name, &found),
         }
@@ -261,7 +272,11 @@ impl Twins {
     }
 
     // The intervals of a document, which are known no more then.
-    fn take_layout(&mut self, rt: &impl Abort, name: &[u8]) -> Result<Partitioning, Fail> {
+    fn take_layout(
+        &mut self,
+        rt: &(impl Threads + Abort + Sync),
+        name: &[u8],
+    ) -> Result<Partitioning, Fail> {
         if self.layouts.get(name).is_none() {
             self.layout(rt, name)?;
         }
@@ -299,7 +314,7 @@ impl Twins {
     /// Edits a document at a path by this line.
     pub fn edit(
         &mut self,
-        rt: &impl Abort,
+        rt: &(impl Threads + Abort + Sync),
         name: &[u8],
         path: &[u32],
         change: Change,
@@ -311,7 +326,7 @@ impl Twins {
         let old = self.take_layout(rt, name)?;
         let reload = self.reload(name)?;
         let want = self.apply_plain(line)?;
-        let found = self.apply(line)?;
+        let found = self.apply(rt, line)?;
         if let Reply::Done = found {
             self.check_same(rt, &found, &want)?;
             let parts = edited(self.alloc, &old, path, change)?;
@@ -356,7 +371,7 @@ impl Twins {
     // The intervals of the document are these, but for one whose part is split since it is too heavy.
     fn check_edited(
         &mut self,
-        rt: &impl Abort,
+        rt: &(impl Threads + Abort + Sync),
         name: &[u8],
         want: Partitioning,
     ) -> Result<(), Fail> {
@@ -372,17 +387,21 @@ impl Twins {
         self.layout(rt, name)
     }
 
-    fn ask_layout(&mut self, rt: &impl Abort, name: &[u8]) -> Result<Partitioning, Fail> {
+    fn ask_layout(
+        &mut self,
+        rt: &(impl Threads + Abort + Sync),
+        name: &[u8],
+    ) -> Result<Partitioning, Fail> {
         let lines = [b"layout ", name, b"\n"].concat(self.alloc)?;
-        match self.apply(lines.as_slice())? {
+        match self.apply(rt, lines.as_slice())? {
             Reply::Laid { parts, .. } => Ok(parts),
             _ => panic!(rt; "there is no document"),
         }
     }
 
     /// Empties the log.
-    pub fn checkpoint(&mut self, rt: &impl Abort) -> Result<(), Fail> {
-        let found = self.apply(b"checkpoint\n")?;
+    pub fn checkpoint(&mut self, rt: &(impl Threads + Abort + Sync)) -> Result<(), Fail> {
+        let found = self.apply(rt, b"checkpoint\n")?;
         self.check_same(rt, &found, &Reply::Done)
     }
 

@@ -33,9 +33,11 @@ returns-in_default-clause-ok g c = λ first begun taken commands talk.
 
 pub answer-requires : goal.answer-requires
 answer-requires g c =
-    let (taken, commands, given) = c.loop-command.invariant.given in
-    given_can c.ready.new.self taken commands c.in-Some.command
-    (next_given c.loop-command.script c.ready.new.self c.in_ok-command.field-0 c.in-Some.command c.in-Some.is c.in_ok-command.ensures.given taken commands given)
+    let (taken, commands, given) = c.loop-command.invariant.given in (
+      c.type_bounds.sync-R,
+      given_can c.ready.new.self taken commands c.in-Some.command
+          (next_given c.loop-command.script c.ready.new.self c.in_ok-command.field-0 c.in-Some.command c.in-Some.is c.in_ok-command.ensures.given taken commands given),
+    )
 
 pub returns-in_err-answer-clause-err : goal.returns-in_err-answer-clause-err
 returns-in_err-answer-clause-err g c =

@@ -7,7 +7,7 @@ use Rattle.nx_memory_session.proofs.SessionLemmas.{answers, answered_in, told_is
 use Rattle.nx_memory_session.proofs.session.answer.Goals as goal
 
 pub returns : goal.returns
-returns c = λ settings script few made was_told told.
+returns g c = λ settings script few made was_told told.
     let a = c.args.host.now in
     let b = c.run.new.host in
     let line = ap command_line c.requires ∙ is_run in

@@ -7,7 +7,7 @@ use Rattle.nx_memory_session.proofs.SessionLemmas.{makes, made_in, told_is, is_t
 use Rattle.nx_memory_session.proofs.session.make_store.Goals as goal
 
 pub returns : goal.returns
-returns c = λ settings script is fresh told.
+returns g c = λ settings script is fresh told.
     let a = c.args.host.now in
     let b = c.run.new.host in
     let carried = c.run.ensures.carried (Init settings) is in

@@ -1,111 +1,32 @@
-use Rattle.std.proofs.Common.{◌∙◌, arith}
-use Rattle.std.specs.Prelude.{Result}
-use Rattle.std.proofs.lemmas.Result.{err_from_is_err_and}
-use Rattle.nx_host.specs.Host.{AppendsPrefix}
-use Rattle.nx_host.specs.Phase.{TalksAlone}
+use Rattle.std.proofs.Common.{◌≡◌, ℕ, List, sym, subst, ap, ◌∙◌}
+use Rattle.std.proofs.lemmas.Bool.{false≢true}
+use Rattle.nx_script.specs.declared.command.Command.{Command}
+use Rattle.nx_script.specs.declared.command.Command.TheVariants.{Export}
+use Rattle.nx_store.specs.Reads.{is_lookup, needs_no_page, ReadsToFirst}
+use Rattle.nx_store.specs.Staying.{LeavesOthers}
 use Rattle.nx_store.specs.Store.{IsAnswered}
-use Rattle.nx_store.specs.declared.error.EngineError.{EngineError}
-use Rattle.nx_store.proofs.ShowLemmas.{handed}
-use Rattle.nx_store.proofs.TextLemmas.{failed_answered, told_between, given_answered, unwritten_answered}
-use Rattle.nx_store.proofs.StayingLemmas.{given_leaves}
-use Rattle.nx_store.proofs.ReadLemmas.{given_reads, given_holds}
+use Rattle.nx_store.proofs.ReadLemmas.{on_ok, other_reads}
 use Rattle.nx_store.proofs.store.Store.answer.Goals as goal
 
-pub returns-in_err-text-clause-answers : goal.returns-in_err-text-clause-answers
-returns-in_err-text-clause-answers g c state at told =
-    handed c.from_residual.result (λ (r : Result (Unit {0}) EngineError). IsAnswered g.H.Disk r state c.args.command c.text_for.new.self c.args.host.now c.text_for.new.disk) c.in_err-text.field-0.0
-    (err_from_is_err_and c.from_residual.result c.from_residual.ensures.1)
-    (failed_answered g.H.Disk c.text_for.new.self c.args.host.now c.text_for.new.disk state c.args.command c.in_err-text.field-0.0 (c.in_err-text.ensures.writes state at told))
+pub returns-in-Export-clause-answers : goal.returns-in-Export-clause-answers
+returns-in-Export-clause-answers g c state at told =
+    subst (λ (k : Command). IsAnswered g.H.Disk c.answer_export.result state k c.answer_export.new.self c.args.host.now c.answer_export.new.host) (ap Export c.as_slice.ensures ∙ sym c.in-Export.is) (c.answer_export.ensures.answers state at told)
 
-pub returns-in_default-clause-answers : goal.returns-in_default-clause-answers
-returns-in_default-clause-answers g c state at told =
-    let e = c.in_default.ensures in
-    let gives : TalksAlone g.H.Disk c.as_slice.result.now c.text_for.new.disk c.emit.new.self = record {
-      contents_stay = e.contents;
-      images_stay = e.images;
-      faults_stay = e.faults;
-      reads_stay = e.reads;
-      in_faults_later = omega (arith, e.in_faults);
-      out_faults_later = e.out_faults;
-      time = e.time;
-    } in
-    let kept = c.in_ok-text.ensures.areas.beside_stays.output in
-    let w = c.in_ok-text.ensures.writes state at (told_between g.H.Disk c.text_for.new.self c.args.host.now c.text_for.new.disk c.emit.new.self state c.args.command c.as_slice.result.now kept gives told) in
-    unwritten_answered g.H.Disk c.text_for.new.self c.args.host.now c.text_for.new.disk c.emit.new.self state c.args.command c.as_slice.result.now kept gives told w.0 (c.as_slice.ensures ∙ w.1) w.2
+pub returns-in-Export-clause-leaves : goal.returns-in-Export-clause-leaves
+returns-in-Export-clause-leaves g c =
+    subst (λ (k : Command). LeavesOthers g.H.Disk k c.args.self.now c.answer_export.new.self c.args.host.now c.answer_export.new.host) (ap Export c.as_slice.ensures ∙ sym c.in-Export.is) c.answer_export.ensures.leaves
 
-pub returns-clause-answers : goal.returns-clause-answers
-returns-clause-answers g c state at told =
-    let e = c.in-Ok.ensures in
-    let gives : TalksAlone g.H.Disk c.as_slice.result.now c.text_for.new.disk c.emit.new.self = record {
-      contents_stay = e.contents;
-      images_stay = e.images;
-      faults_stay = e.faults;
-      reads_stay = e.reads;
-      in_faults_later = omega (arith, e.in_faults);
-      out_faults_later = e.out_faults;
-      time = e.time;
-    } in
-    let kept = c.in_ok-text.ensures.areas.beside_stays.output in
-    let w = c.in_ok-text.ensures.writes state at (told_between g.H.Disk c.text_for.new.self c.args.host.now c.text_for.new.disk c.emit.new.self state c.args.command c.as_slice.result.now kept gives told) in
-    given_answered g.H.Disk c.text_for.new.self c.args.host.now c.text_for.new.disk c.emit.new.self state c.args.command c.as_slice.result.now kept gives told w.0 (c.as_slice.ensures ∙ w.1) w.2 e.ok
+pub returns-in-Export-clause-holds : goal.returns-in-Export-clause-holds
+returns-in-Export-clause-holds g c quiet = c.answer_export.ensures.holds
 
-pub returns-in_default-clause-leaves : goal.returns-in_default-clause-leaves
-returns-in_default-clause-leaves g c =
-    let e = c.in_default.ensures in
-    let gives : TalksAlone g.H.Disk c.as_slice.result.now c.text_for.new.disk c.emit.new.self = record {
-      contents_stay = e.contents;
-      images_stay = e.images;
-      faults_stay = e.faults;
-      reads_stay = e.reads;
-      in_faults_later = omega (arith, e.in_faults);
-      out_faults_later = e.out_faults;
-      time = e.time;
-    } in
-    given_leaves g.H.Disk c.args.command c.args.self.now c.text_for.new.self c.args.host.now c.text_for.new.disk c.emit.new.self
-    (AppendsPrefix c.as_slice.result.now (g.H.Disk.beside c.text_for.new.disk).output) gives c.text_for.ensures.leaves
+pub returns-in-Export-clause-reads : goal.returns-in-Export-clause-reads
+returns-in-Export-clause-reads g c =
+    other_reads g.H.Disk c.args.command c.args.self.now c.args.host.now c.answer_export.new.host (ap is_lookup c.in-Export.is)
 
-pub returns-clause-leaves : goal.returns-clause-leaves
-returns-clause-leaves g c =
-    let e = c.in-Ok.ensures in
-    let gives : TalksAlone g.H.Disk c.as_slice.result.now c.text_for.new.disk c.emit.new.self = record {
-      contents_stay = e.contents;
-      images_stay = e.images;
-      faults_stay = e.faults;
-      reads_stay = e.reads;
-      in_faults_later = omega (arith, e.in_faults);
-      out_faults_later = e.out_faults;
-      time = e.time;
-    } in
-    given_leaves g.H.Disk c.args.command c.args.self.now c.text_for.new.self c.args.host.now c.text_for.new.disk c.emit.new.self
-    (AppendsPrefix c.as_slice.result.now (g.H.Disk.beside c.text_for.new.disk).output) gives c.text_for.ensures.leaves
+pub returns-in-Export-clause-unread : goal.returns-in-Export-clause-unread
+returns-in-Export-clause-unread g c none = absurd (false≢true (sym (ap needs_no_page c.in-Export.is) ∙ none))
 
-pub returns-in_default-clause-reads : goal.returns-in_default-clause-reads
-returns-in_default-clause-reads g c =
-    given_reads g.H.Disk c.args.command c.args.self.now c.args.host.now c.text_for.new.disk c.emit.new.self c.text_for.ensures.reads c.in_default.ensures.reads
-
-pub returns-in_default-clause-unread : goal.returns-in_default-clause-unread
-returns-in_default-clause-unread g c none =
-    c.in_default.ensures.reads ∙ c.text_for.ensures.unread none
-
-pub returns-clause-reads : goal.returns-clause-reads
-returns-clause-reads g c =
-    given_reads g.H.Disk c.args.command c.args.self.now c.args.host.now c.text_for.new.disk c.emit.new.self c.text_for.ensures.reads c.in-Ok.ensures.reads
-
-pub returns-clause-unread : goal.returns-clause-unread
-returns-clause-unread g c none =
-    c.in-Ok.ensures.reads ∙ c.text_for.ensures.unread none
-
-pub returns-clause-holds : goal.returns-clause-holds
-returns-clause-holds g c quiet =
-    let e = c.in-Ok.ensures in
-    let gives : TalksAlone g.H.Disk c.as_slice.result.now c.text_for.new.disk c.emit.new.self = record {
-      contents_stay = e.contents;
-      images_stay = e.images;
-      faults_stay = e.faults;
-      reads_stay = e.reads;
-      in_faults_later = omega (arith, e.in_faults);
-      out_faults_later = e.out_faults;
-      time = e.time;
-    } in
-    given_holds g.H.Disk c.args.self.now c.text_for.new.self c.args.host.now c.text_for.new.disk c.emit.new.self
-    (AppendsPrefix c.as_slice.result.now (g.H.Disk.beside c.text_for.new.disk).output) gives (c.in_ok-text.ensures.holds quiet)
+pub returns-in-Export-clause-early : goal.returns-in-Export-clause-early
+returns-in-Export-clause-early g c name is =
+    let same : c.as_slice.result.now ≡ name = cc (c.as_slice.ensures, c.in-Export.is, is) in
+    subst (λ (n : List ℕ). ReadsToFirst g.H.Disk n c.args.self.now c.args.host.now c.answer_export.new.host) same c.answer_export.ensures.early

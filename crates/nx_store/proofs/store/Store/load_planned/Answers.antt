@@ -1,4 +1,5 @@
 use Rattle.std.proofs.Common.{ℕ, ap, ◌∙◌, subst}
+use Rattle.nx_host.specs.Time.{none_elapsed}
 use Rattle.nx_holdings.specs.declared.header.Settings.{Settings}
 use Rattle.nx_partition.specs.Bounding.{IsPlanRefused}
 use Rattle.nx_partition.specs.declared.error.PlanError.{PlanError}
@@ -24,3 +25,6 @@ returns-in-Err-TooHeavy-clause-leaves g c = unasked_leaves g.D.Disk (Load c.args
 
 pub returns-clause-leaves : goal.returns-clause-leaves
 returns-clause-leaves g c = unasked_leaves g.D.Disk (Load c.args.name.now (Read c.args.tree)) c.args.self.now c.args.disk.now
+
+pub returns-clause-loads : goal.returns-clause-loads
+returns-clause-loads g c state at told = (at, none_elapsed)
