@@ -1,0 +1,352 @@
+-- What comes of a piece of a stream that a receiver takes.
+use Rattle.std.proofs.Common.{◌≡◌, ℕ, ◌+◌, ◌*◌, ◌-◌, ◌^◌, ◌<◌, ◌≤◌, true, List, [], ◌∷◌, ◌++◌, length, take, drop, Option, None, Some, refl, sym, ap, subst, ◌∙◌, arith, inl, inr, append_assoc, length-append}
+use Rattle.std.specs.Prelude.{Result, Ok, Err, IfErr, IfSome, min}
+use Rattle.std.proofs.lemmas.Bool.{eqb-true}
+use Rattle.std.proofs.lemmas.List.{take-append-drop}
+use Rattle.nx_host.specs.Input.{most_input}
+use Rattle.nx_host.specs.declared.disk.Disk.{Ghosts}
+use Rattle.nx_replay.specs.Log.{Pages, Entry, Group}
+use Rattle.nx_replay.specs.Laws.{over_all}
+use Rattle.nx_groups.specs.declared.group.GroupPage.{GroupPage}
+use Rattle.nx_groups.specs.Groups.{entry}
+use Rattle.nx_ship.specs.Stream.{group_in, size_with, IsGood, Begins, stream_length}
+use Rattle.nx_ship.specs.declared.reader.Reader.{Reader}
+use Rattle.nx_ship.specs.Reading.{HasFed, AreUnderWay, IsSpoilt, TakesMore}
+use Rattle.nx_ship.specs.Next.{number_following, IsAtNumber, IsBase, MayComeTo}
+use Rattle.nx_ship.specs.Sending.{IsCutShort, IsFault}
+use Rattle.nx_ship.specs.Applying.{AreIn, EndsApplying, AppliesTo}
+use Rattle.nx_ship.specs.Receiving.{LeavesInput, LeavesStream, HasApplied, KeepsUp, IsApplying, IsLast, is_next_number, AppliesNone, KeepsPage, Receives, ReceivesSome, HasLast, CommitsGroup, StopsCommitting, RefusesNumber, IsGroupKept, IsBaseless, IsBased}
+use Rattle.nx_ship.specs.declared.receiver.Receiver.{Receiver}
+use Rattle.nx_ship.specs.declared.error.ShipError.{ShipError}
+use Rattle.nx_ship.specs.declared.error.ShipError.TheVariants as error
+use Rattle.nx_ship.proofs.StreamLemmas.{begins_length}
+use Rattle.nx_ship.proofs.ReadingLemmas.{good-append, begins-append, begins-before, least_more}
+use Rattle.nx_ship.proofs.ApplyingLemmas.{dense_before}
+use Rattle.nx_ship.proofs.ReceivingLemmas.{reread}
+
+stream_length-append : (gs : List Group) (g : Group) → stream_length (gs ++ g ∷ []) ≡ stream_length gs + size_with (length g.entries)
+stream_length-append [] g = omega arith
+stream_length-append (h ∷ gs) g = let rest = stream_length-append gs g in omega (arith, rest)
+
+if_some_all : {T : Type 0} (P : T → Type 0) (o : Option T) → ((x : T) → P x) → IfSome o P
+if_some_all P None all = tt
+if_some_all P (Some x) all = all x
+
+-- Whether a group may come:
+
+pub comes : (pages : Pages) (last : Option ℕ) (g : Group) → is_next_number last g.number ≡ true → IsLast last pages → (last ≡ None → IsBase g) → MayComeTo pages g
+comes pages None g next is base = inr (is, base refl)
+comes pages (Some last) g next is base = inl (last, is, eqb-true g.number (number_following last) next)
+
+cut_ends : {D : Type 0} (d : Ghosts D) (start : Pages) (taken rest : List ℕ) (gs : List Group) (first now : D) (e : ShipError) → IsCutShort e → EndsApplying d start taken gs rest (Err e) first now
+cut_ends d start taken rest gs first now error.Disk cut = tt
+cut_ends d start taken rest gs first now error.Write cut = tt
+cut_ends d start taken rest gs first now error.Memory cut = tt
+cut_ends d start taken rest gs first now error.Read cut = absurd cut
+cut_ends d start taken rest gs first now error.NotAStore cut = absurd cut
+cut_ends d start taken rest gs first now error.TooMuch cut = absurd cut
+cut_ends d start taken rest gs first now (error.Damaged page) cut = absurd cut
+cut_ends d start taken rest gs first now (error.NoGroup from l) cut = absurd cut
+cut_ends d start taken rest gs first now (error.Repeat n l) cut = absurd cut
+cut_ends d start taken rest gs first now (error.Gap n l) cut = absurd cut
+cut_ends d start taken rest gs first now (error.Base n) cut = absurd cut
+cut_ends d start taken rest gs first now (error.Stream offset) cut = absurd cut
+
+out_of_turn : {D : Type 0} (d : Ghosts D) (start : Pages) (taken rest : List ℕ) (gs : List Group) (first now : D) (last : Option ℕ) (number : ℕ) (e : ShipError) → RefusesNumber last number e
+    → IsLast last (over_all start gs) → IsGood rest → number ≡ (group_in rest).number → AreIn d start gs first now → EndsApplying d start taken gs rest (Err e) first now
+out_of_turn d start taken rest gs first now (Some last) number (error.Repeat n l) (a, b, not_next, most) at good is all = (
+  record { good = good; is = a ∙ is; at = subst (λ (k : ℕ). IsAtNumber (over_all start gs) k) (sym b) at; not_next = λ next. not_next (sym a ∙ next ∙ ap (λ (k : ℕ). number_following k) b) },
+  omega (arith, a, b, most),
+  all,
+)
+out_of_turn d start taken rest gs first now (Some last) number (error.Gap n l) (a, b, not_next, most) at good is all = (
+  record { good = good; is = a ∙ is; at = subst (λ (k : ℕ). IsAtNumber (over_all start gs) k) (sym b) at; not_next = λ next. not_next (sym a ∙ next ∙ ap (λ (k : ℕ). number_following k) b) },
+  omega (arith, a, b, most),
+  all,
+)
+out_of_turn d start taken rest gs first now (Some last) number error.Disk refuses at good is all = absurd refuses
+out_of_turn d start taken rest gs first now (Some last) number error.Write refuses at good is all = absurd refuses
+out_of_turn d start taken rest gs first now (Some last) number error.Memory refuses at good is all = absurd refuses
+out_of_turn d start taken rest gs first now (Some last) number error.Read refuses at good is all = absurd refuses
+out_of_turn d start taken rest gs first now (Some last) number error.NotAStore refuses at good is all = absurd refuses
+out_of_turn d start taken rest gs first now (Some last) number error.TooMuch refuses at good is all = absurd refuses
+out_of_turn d start taken rest gs first now (Some last) number (error.Damaged page) refuses at good is all = absurd refuses
+out_of_turn d start taken rest gs first now (Some last) number (error.NoGroup from l) refuses at good is all = absurd refuses
+out_of_turn d start taken rest gs first now (Some last) number (error.Base n) refuses at good is all = absurd refuses
+out_of_turn d start taken rest gs first now (Some last) number (error.Stream offset) refuses at good is all = absurd refuses
+out_of_turn d start taken rest gs first now None number error.Disk refuses at good is all = absurd refuses
+out_of_turn d start taken rest gs first now None number error.Write refuses at good is all = absurd refuses
+out_of_turn d start taken rest gs first now None number error.Memory refuses at good is all = absurd refuses
+out_of_turn d start taken rest gs first now None number error.Read refuses at good is all = absurd refuses
+out_of_turn d start taken rest gs first now None number error.NotAStore refuses at good is all = absurd refuses
+out_of_turn d start taken rest gs first now None number error.TooMuch refuses at good is all = absurd refuses
+out_of_turn d start taken rest gs first now None number (error.Damaged page) refuses at good is all = absurd refuses
+out_of_turn d start taken rest gs first now None number (error.NoGroup from l) refuses at good is all = absurd refuses
+out_of_turn d start taken rest gs first now None number (error.Base n) refuses at good is all = absurd refuses
+out_of_turn d start taken rest gs first now None number (error.Stream offset) refuses at good is all = absurd refuses
+out_of_turn d start taken rest gs first now None number (error.Repeat n l) refuses at good is all = absurd refuses
+out_of_turn d start taken rest gs first now None number (error.Gap n l) refuses at good is all = absurd refuses
+
+-- The last page of a group waits.
+pub record HasKept {D : Type 0} (d : Ghosts D) (start : Pages) (first : D) (r : Receiver) (page : GroupPage) (taken : List ℕ) (gs : List Group) (es : List Entry) (now : D) : Type 0 where
+  pub read : HasFed r.reader taken (gs ++ record { number = r.reader.number; entries = es ++ entry page ∷ [] } ∷ []) []
+  pub under_way : AreUnderWay r.reader.number (es ++ entry page ∷ [])
+  pub many : length (es ++ entry page ∷ []) ≡ r.reader.taken
+  pub offset : r.offset ≡ stream_length gs
+  pub few : length taken ≤ most_input
+  pub applying : IsApplying d start first r gs (es ++ entry page ∷ []) now
+
+some_kept : (es : List Entry) (e : Entry) → 0 < length (es ++ e ∷ [])
+some_kept es e = omega (arith, length-append es (e ∷ []))
+
+next_none : (r : Receiver) → r.last ≡ None → is_next_number r.last r.reader.number ≡ true
+next_none r none = ap (λ (l : Option ℕ). is_next_number l r.reader.number) none
+
+pub parts : (taken piece : List ℕ) (n : ℕ) → (taken ++ take n piece) ++ drop n piece ≡ taken ++ piece
+parts taken piece n = append_assoc taken (take n piece) (drop n piece) ∙ ap (λ (l : List ℕ). taken ++ l) (take-append-drop n piece)
+
+module _ {D : Type 0} {d : Ghosts D} where
+  pub are_in : {start : Pages} {first now : D} {r : Receiver} {gs : List Group} {es : List Entry} → HasApplied d start first gs now → KeepsUp d (over_all start gs) r es now → AreIn d start gs first now
+  are_in applied up = record { out = applied.out; image = up.image; settled = (up.step).settled; is = up.is }
+
+  -- no call was made
+  pub applies_none : (r : Receiver) (a : D) → AppliesNone d r a a
+  applies_none r a start first groups es applying dense told = let (applied, up) = applying dense told in (applied.in_turn, applied.time)
+
+  -- a call was cut short
+  pub stopped : {start : Pages} {first a b : D} {r : Receiver} {gs : List Group} {es : List Entry} (bytes rest : List ℕ) (e : ShipError) → IsCutShort e → Begins gs bytes rest
+      → IsApplying d start first r gs es a → AppliesNone d r a b → AppliesTo d start bytes (Err e) first b
+  stopped {start = start} {first = first} {b = b} {gs = gs} {es = es} bytes rest e cut begins applying none = record {
+    groups = gs;
+    rest = rest;
+    begins = begins;
+    shows = λ dense told.
+        let (turn, time) = none start first gs es applying dense told in
+        record { in_turn = turn; time = time; ends = cut_ends d start bytes rest gs first b e cut };
+  }
+
+  -- Its number refuses the group.
+  pub refused_number : {start : Pages} {first now : D} {r : Receiver} {page : GroupPage} {taken : List ℕ} {gs : List Group} {es : List Entry} (e : ShipError) → RefusesNumber r.last r.reader.number e
+      → HasLast d start first r page taken gs es now → (behind : List ℕ) → AppliesTo d start (taken ++ behind) (Err e) first now
+  refused_number {start = start} {first = first} {now = now} {r = r} {page = page} {taken = taken} {gs = gs} {es = es} e refuses has behind =
+      let g : Group = record { number = r.reader.number; entries = es ++ entry page ∷ [] } in
+      let b = begins-before gs g taken (has.read).held (has.read).begins in
+      let same = good-append b.rest behind b.good in
+      record {
+        groups = gs;
+        rest = b.rest ++ behind;
+        begins = begins-append gs taken b.rest behind b.begins;
+        shows = λ dense told.
+            let (applied, up) = has.applying dense told in
+            record {
+              in_turn = applied.in_turn;
+              time = applied.time;
+              ends = out_of_turn d start (taken ++ behind) (b.rest ++ behind) gs first now r.last r.reader.number e refuses up.last same.good (ap (λ (x : Group). x.number) (b.is ∙ sym same.group)) (are_in applied up);
+            };
+      }
+
+  pub kept_last : {start : Pages} {first a b : D} {r k : Receiver} {page : GroupPage} {taken : List ℕ} {gs : List Group} {es : List Entry} → LeavesStream r k → KeepsPage d page r k a b
+      → HasLast d start first r page taken gs es a → HasKept d start first k page taken gs es b
+  kept_last {start = start} {first = first} {page = page} {taken = taken} {gs = gs} {es = es} stays keeps has = record {
+    read = subst (λ (x : Reader). HasFed x taken (gs ++ record { number = x.number; entries = es ++ entry page ∷ [] } ∷ []) []) (sym stays.reader) has.read;
+    under_way = subst (λ (x : Reader). AreUnderWay x.number (es ++ entry page ∷ [])) (sym stays.reader) has.under_way;
+    many = has.many ∙ ap (λ (x : Reader). x.taken) (sym stays.reader);
+    offset = stays.offset ∙ has.offset;
+    few = has.few;
+    applying = keeps start first gs es has.under_way has.applying;
+  }
+
+  group_kept : {start : Pages} {first now : D} {r : Receiver} {page : GroupPage} {taken : List ℕ} {gs : List Group} {es : List Entry} → HasKept d start first r page taken gs es now
+      → is_next_number r.last r.reader.number ≡ true → KeepsUp d (over_all start gs) r (es ++ entry page ∷ []) now → IsGroupKept r page.page (es ++ entry page ∷ [])
+  group_kept {page = page} {es = es} has next up = record {
+    waits = up.waits (some_kept es (entry page)) next;
+    under_way = has.under_way;
+    last = least_more es (entry page) 0;
+    many = has.many;
+  }
+
+  -- It holds no store.
+  pub refused_base : {start : Pages} {first now : D} {r : Receiver} {page : GroupPage} {taken : List ℕ} {gs : List Group} {es : List Entry} → IsBaseless r page.page
+      → HasKept d start first r page taken gs es now → (behind : List ℕ) → AppliesTo d start (taken ++ behind) (Err (error.Base r.reader.number)) first now
+  refused_base {start = start} {r = r} {page = page} {taken = taken} {gs = gs} {es = es} baseless has behind =
+      let fs = es ++ entry page ∷ [] in
+      let g : Group = record { number = r.reader.number; entries = fs } in
+      let b = begins-before gs g taken (has.read).held (has.read).begins in
+      let same = good-append b.rest behind b.good in
+      record {
+        groups = gs;
+        rest = b.rest ++ behind;
+        begins = begins-append gs taken b.rest behind b.begins;
+        shows = λ dense told.
+            let (applied, up) = has.applying dense told in
+            record {
+              in_turn = applied.in_turn;
+              time = applied.time;
+              ends = (
+                record {
+                  good = same.good;
+                  is = ap (λ (x : Group). x.number) (b.is ∙ sym same.group);
+                  none = subst (λ (l : Option ℕ). IsLast l (over_all start gs)) baseless.none up.last;
+                  no_base = λ base. baseless.no_base fs (group_kept has (next_none r baseless.none) up) (subst (λ (x : Group). IsBase x) (same.group ∙ sym b.is) base);
+                },
+                are_in applied up,
+              );
+            };
+      }
+
+  may_come : {start : Pages} {first now : D} {r : Receiver} {page : GroupPage} {taken : List ℕ} {gs : List Group} {es : List Entry} → HasKept d start first r page taken gs es now
+      → is_next_number r.last r.reader.number ≡ true → IsBased r page.page → KeepsUp d (over_all start gs) r (es ++ entry page ∷ []) now
+      → MayComeTo (over_all start gs) (record { number = r.reader.number; entries = es ++ entry page ∷ [] })
+  may_come {start = start} {r = r} {page = page} {gs = gs} {es = es} has next based up =
+      comes (over_all start gs) r.last (record { number = r.reader.number; entries = es ++ entry page ∷ [] }) next up.last (λ none. based none (es ++ entry page ∷ []) (group_kept has next up))
+
+  -- The group is in.
+  pub applied_last : {start : Pages} {first b c : D} {k n : Receiver} {page : GroupPage} {taken : List ℕ} {gs : List Group} {es : List Entry} → HasKept d start first k page taken gs es b
+      → is_next_number k.last k.reader.number ≡ true → IsBased k page.page → LeavesInput d b c → n.reader ≡ k.reader → n.offset ≡ min (k.offset + (12 + 8196 * k.reader.taken)) (2 ^ 64 - 1)
+      → CommitsGroup d k n b c → Receives d start first n taken (gs ++ record { number = k.reader.number; entries = es ++ entry page ∷ [] } ∷ []) [] c
+  applied_last {start = start} {first = first} {k = k} {n = n} {page = page} {taken = taken} {gs = gs} {es = es} has next based leaves reader offset commits =
+      let fs = es ++ entry page ∷ [] in
+      let g : Group = record { number = k.reader.number; entries = fs } in
+      record {
+        read = subst (λ (x : Reader). HasFed x taken (gs ++ g ∷ []) []) (sym reader) has.read;
+        offset =
+            let long = begins_length (gs ++ g ∷ []) taken (has.read).held (has.read).begins in
+            let more = stream_length-append gs g in
+            let before = has.offset in
+            let many = has.many in
+            let few = has.few in
+            omega (arith, long, more, before, many, few, offset);
+        few = has.few;
+        applying = λ dense told.
+            let (applied, up) = has.applying (dense_before start gs (g ∷ []) dense) (leaves.told told) in
+            commits start first gs fs (some_kept es (entry page)) (has.under_way).header (may_come has next based up) next has.applying dense told;
+      }
+
+  -- Its commit was cut short.
+  pub uncommitted : {start : Pages} {first b c : D} {k : Receiver} {page : GroupPage} {taken : List ℕ} {gs : List Group} {es : List Entry} (e : ShipError) → IsCutShort e → HasKept d start first k page taken gs es b
+      → is_next_number k.last k.reader.number ≡ true → IsBased k page.page → LeavesInput d b c → StopsCommitting d k b c → (behind : List ℕ) → AppliesTo d start (taken ++ behind) (Err e) first c
+  uncommitted {start = start} {first = first} {c = c} {k = k} {page = page} {taken = taken} {gs = gs} {es = es} e cut has next based leaves stops behind =
+      let fs = es ++ entry page ∷ [] in
+      let g : Group = record { number = k.reader.number; entries = fs } in
+      record {
+        groups = gs ++ g ∷ [];
+        rest = (has.read).held ++ behind;
+        begins = begins-append (gs ++ g ∷ []) taken (has.read).held behind (has.read).begins;
+        shows = λ dense told.
+            let before = dense_before start gs (g ∷ []) dense in
+            let (applied, up) = has.applying before (leaves.told told) in
+            let (turn, time) = stops start first gs fs (some_kept es (entry page)) (may_come has next based up) next has.applying before told in
+            record { in_turn = turn; time = time; ends = cut_ends d start (taken ++ behind) ((has.read).held ++ behind) (gs ++ g ∷ []) first c e cut };
+      }
+
+  -- A piece:
+
+  -- no page is whole
+  pub fed_more : {start : Pages} {first now : D} {old new : Receiver} (taken piece : List ℕ) (n : ℕ) {gs : List Group} {es : List Entry} → new.wal ≡ old.wal → new.last ≡ old.last → new.offset ≡ old.offset
+      → length (taken ++ take n piece) ≤ most_input → TakesMore n piece old.reader new.reader taken gs es → Receives d start first old taken gs es now
+      → Receives d start first new (taken ++ take n piece) gs es now
+  fed_more taken piece n wal last offset few takes received = record {
+    read = takes.read;
+    offset = offset ∙ received.offset;
+    few = few;
+    applying = λ dense told. let (applied, up) = received.applying dense told in (applied, reread wal last takes.number_stays up);
+  }
+
+  -- the reader has a page
+  pub fed_applying : {start : Pages} {first now : D} {old mid : Receiver} {gs : List Group} {es : List Entry} → mid.wal ≡ old.wal → mid.last ≡ old.last → mid.reader.number ≡ old.reader.number
+      → IsApplying d start first old gs es now → IsApplying d start first mid gs es now
+  fed_applying wal last number applying dense told = let (applied, up) = applying dense told in (applied, reread wal last (λ some. number) up)
+
+  -- the page waits
+  pub fed_page : {start : Pages} {first a b : D} {mid new : Receiver} (page : GroupPage) (bytes : List ℕ) {gs : List Group} (es : List Entry) → LeavesStream mid new → KeepsPage d page mid new a b
+      → HasFed mid.reader bytes gs (es ++ entry page ∷ []) → AreUnderWay mid.reader.number (es ++ entry page ∷ []) → mid.offset ≡ stream_length gs → length bytes ≤ most_input
+      → IsApplying d start first mid gs es a → Receives d start first new bytes gs (es ++ entry page ∷ []) b
+  fed_page {start = start} {first = first} page bytes {gs = gs} es stays keeps read under offset few applying = record {
+    read = subst (λ (x : Reader). HasFed x bytes gs (es ++ entry page ∷ [])) (sym stays.reader) read;
+    offset = stays.offset ∙ offset;
+    few = few;
+    applying = keeps start first gs es under applying;
+  }
+
+  -- it doesn't
+  pub fed_stopped : {start : Pages} {first a b : D} {mid : Receiver} {gs : List Group} {es fs : List Entry} (taken piece : List ℕ) (n : ℕ) (e : ShipError) → IsCutShort e
+      → HasFed mid.reader (taken ++ take n piece) gs fs → IsApplying d start first mid gs es a → AppliesNone d mid a b → AppliesTo d start (taken ++ piece) (Err e) first b
+  fed_stopped {start = start} {first = first} {b = b} {gs = gs} taken piece n e cut read applying none =
+      subst (λ (l : List ℕ). AppliesTo d start l (Err e) first b) (parts taken piece n)
+      (stopped ((taken ++ take n piece) ++ drop n piece) (read.held ++ drop n piece) e cut (begins-append gs (taken ++ take n piece) read.held (drop n piece) read.begins) applying none)
+
+  -- the reader was out of memory
+  pub unfed : {start : Pages} {first now : D} {r : Receiver} {taken : List ℕ} (piece : List ℕ) (e : ShipError) → IsCutShort e → ReceivesSome d start first r taken now → AppliesTo d start (taken ++ piece) (Err e) first now
+  unfed {now = now} {r = r} {taken = taken} piece e cut (gs, es, received) =
+      stopped (taken ++ piece) ((received.read).held ++ piece) e cut (begins-append gs taken (received.read).held piece (received.read).begins) received.applying (applies_none r now)
+
+  -- no good group stands there
+  pub fed_spoilt : {start : Pages} {first now : D} {r : Receiver} (taken piece : List ℕ) (n : ℕ) {gs : List Group} {es : List Entry} → IsSpoilt (taken ++ take n piece) gs
+      → Receives d start first r taken gs es now → AppliesTo d start (taken ++ piece) (Err (error.Stream r.offset)) first now
+  fed_spoilt {start = start} {first = first} {now = now} {r = r} taken piece n {gs = gs} (held, some, begins, none) received =
+      subst (λ (l : List ℕ). AppliesTo d start l (Err (error.Stream r.offset)) first now) (parts taken piece n)
+      (record {
+        groups = gs;
+        rest = held ++ drop n piece;
+        begins = begins-append gs (taken ++ take n piece) held (drop n piece) begins;
+        shows = λ dense told.
+            let (applied, up) = received.applying dense told in
+            record {
+              in_turn = applied.in_turn;
+              time = applied.time;
+              ends = (
+                record {
+                  is = received.offset;
+                  some = omega (arith, some, length-append held (drop n piece));
+                  none = if_some_all (λ more. IsGood ((held ++ drop n piece) ++ more) → ⊥) (d.beside now).input (λ more good. none (drop n piece ++ more) (subst (λ (l : List ℕ). IsGood l) (append_assoc held (drop n piece) more) good));
+                },
+                are_in applied up,
+              );
+            };
+      })
+
+  -- the last page doesn't wait
+  pub unkept : {start : Pages} {first a b : D} {r : Receiver} {page : GroupPage} {taken : List ℕ} {gs : List Group} {es : List Entry} (e : ShipError) → IsCutShort e → AppliesNone d r a b
+      → HasLast d start first r page taken gs es a → (behind : List ℕ) → AppliesTo d start (taken ++ behind) (Err e) first b
+  unkept {r = r} {page = page} {taken = taken} {gs = gs} {es = es} e cut none has behind =
+      let b = begins-before gs (record { number = r.reader.number; entries = es ++ entry page ∷ [] }) taken (has.read).held (has.read).begins in
+      stopped (taken ++ behind) (b.rest ++ behind) e cut (begins-append gs taken b.rest behind b.begins) has.applying none
+
+pub next_kept : (r k : Receiver) → LeavesStream r k → is_next_number r.last r.reader.number ≡ true → is_next_number k.last k.reader.number ≡ true
+next_kept r k stays next =
+    ap (λ (l : Option ℕ). is_next_number l k.reader.number) stays.last ∙ ap (λ (x : Reader). is_next_number r.last x.number) stays.reader ∙ next
+
+pub number_fault : {D : Type 0} (d : Ghosts D) (a b : D) (last : Option ℕ) (number : ℕ) (e : ShipError) → RefusesNumber last number e → IsFault d e a b
+number_fault d a b (Some last) number (error.Repeat n l) refuses = tt
+number_fault d a b (Some last) number (error.Gap n l) refuses = tt
+number_fault d a b (Some last) number error.Disk refuses = absurd refuses
+number_fault d a b (Some last) number error.Write refuses = absurd refuses
+number_fault d a b (Some last) number error.Memory refuses = absurd refuses
+number_fault d a b (Some last) number error.Read refuses = absurd refuses
+number_fault d a b (Some last) number error.NotAStore refuses = absurd refuses
+number_fault d a b (Some last) number error.TooMuch refuses = absurd refuses
+number_fault d a b (Some last) number (error.Damaged page) refuses = absurd refuses
+number_fault d a b (Some last) number (error.NoGroup from l) refuses = absurd refuses
+number_fault d a b (Some last) number (error.Base n) refuses = absurd refuses
+number_fault d a b (Some last) number (error.Stream offset) refuses = absurd refuses
+number_fault d a b None number error.Disk refuses = absurd refuses
+number_fault d a b None number error.Write refuses = absurd refuses
+number_fault d a b None number error.Memory refuses = absurd refuses
+number_fault d a b None number error.Read refuses = absurd refuses
+number_fault d a b None number error.NotAStore refuses = absurd refuses
+number_fault d a b None number error.TooMuch refuses = absurd refuses
+number_fault d a b None number (error.Damaged page) refuses = absurd refuses
+number_fault d a b None number (error.NoGroup from l) refuses = absurd refuses
+number_fault d a b None number (error.Base n) refuses = absurd refuses
+number_fault d a b None number (error.Stream offset) refuses = absurd refuses
+number_fault d a b None number (error.Repeat n l) refuses = absurd refuses
+number_fault d a b None number (error.Gap n l) refuses = absurd refuses
+
+pub few_part : (taken piece : List ℕ) (n : ℕ) → length (taken ++ piece) ≤ most_input → length (taken ++ take n piece) ≤ most_input
+few_part taken piece n few =
+    let whole = ap (λ (l : List ℕ). length l) (parts taken piece n) in
+    omega (arith, few, whole, length-append (taken ++ take n piece) (drop n piece))
+
+pub if_err_map : {T E : Type 0} {P Q : E → Type 0} (r : Result T E) → IfErr r P → ((e : E) → P e → Q e) → IfErr r Q
+if_err_map (Ok x) p f = tt
+if_err_map (Err e) p f = f e p

@@ -1,0 +1,10 @@
+pub mod Faults
+pub mod Stream
+pub mod Reading
+pub mod Shipped
+pub mod Next
+pub mod Sending
+pub mod Applying
+pub mod Moments
+pub mod Recovery
+pub mod Receiving
