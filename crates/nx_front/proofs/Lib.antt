@@ -9,7 +9,10 @@ pub mod ConversationLemmas
 pub mod InitLemmas
 pub mod GeneratingLemmas
 pub mod CheckingLemmas
+pub mod ShippingLemmas
+pub mod AppliedLemmas
 pub mod TopLemmas
+pub mod ReceivedLemmas
 pub mod SessionLemmas
 pub mod FindingLaws
 pub mod SearchingLemmas

@@ -1,14 +1,17 @@
 -- What sessions lead to, one after the other.
 use Rattle.std.proofs.Common.{◌≡◌, ◌⊎◌, inl, inr, ℕ, ◌+◌, ◌≤◌, List, [], ◌∷◌, ◌++◌, take, drop, length, min, Option, None, Some, refl, sym, ap, ◌∙◌, subst, arith, append_assoc, append-nil}
 use Rattle.std.specs.Prelude.{MatchOption}
-use Rattle.std.proofs.lemmas.List.{map-append, take-append-drop, length-take}
+use Rattle.std.proofs.lemmas.List.{map-append, take-append-drop, take_all, length-take}
 use Rattle.nx_host.specs.declared.disk.Disk.{Ghosts}
 use Rattle.nx_host.specs.Disk.{Image, Keeps}
 use Rattle.nx_host.specs.Host.{Takes, Appends}
 use Rattle.nx_host.specs.Time.{Stood, Elapses, elapsed_weaker}
 use Rattle.nx_host.proofs.DiskLemmas.{keeps_self}
+use Rattle.nx_host.specs.Still.{IsStill}
 use Rattle.nx_host.proofs.OutputLemmas.{appends_nothing}
-use Rattle.nx_replay.specs.Log.{Pages, HasSame, replay}
+use Rattle.nx_filters.proofs.OutcomeLemmas.{kept_appends}
+use Rattle.nx_replay.specs.Log.{Pages, Group, HasSame, replay}
+use Rattle.nx_replay.specs.Laws.{over_all}
 use Rattle.nx_replay.proofs.CommitMoments.{same_self}
 use Rattle.nx_replay.proofs.ReplayLemmas.{replay-same}
 use Rattle.nx_replay.proofs.SettledLemmas.{is_some}
@@ -19,22 +22,30 @@ use Rattle.nx_script.specs.declared.command.Command.{Command}
 use Rattle.nx_script.specs.Commands.{AreCommands}
 use Rattle.nx_gen.specs.Commands.{commands}
 use Rattle.nx_cuts.specs.Cut.{CutTree}
+use Rattle.nx_ship.specs.Stream.{Begins}
+use Rattle.nx_ship.specs.Applying.{applied_text}
+use Rattle.nx_ship.specs.declared.error.Start.{Start}
+use Rattle.nx_ship.proofs.RecoveryLemmas.{states_are_whole}
 use Rattle.nx_state.specs.State.{State, new_state}
 use Rattle.nx_state.specs.Stands.{Stands, Recovers}
 use Rattle.nx_filters.specs.declared.status.Status.{Status}
 use Rattle.nx_filters.specs.declared.status.Status.TheVariants.{Done, Usage, Refused, DiskFault, ReadFault, WriteFault, NoMemory, NotAStore, Damaged, TooMuch}
 use Rattle.nx_filters.specs.Outcome.{Meaning, RunsBeside}
 use Rattle.nx_front.specs.declared.words.CommandLine.{CommandLine}
-use Rattle.nx_front.specs.declared.words.CommandLine.TheVariants.{Tidy, Run, Plan, Verify, Init, Gen, Check, Find}
+use Rattle.nx_front.specs.declared.words.CommandLine.TheVariants.{Tidy, Run, Plan, Verify, Init, Gen, Check, Find, Ship, Apply}
 use Rattle.nx_front.specs.Turns.{Turn, IsRun, state_after, commands_of}
 use Rattle.nx_front.specs.Serving.{ServesFrom, AreFirst, AreWholeReplies, IsMoment}
 use Rattle.nx_front.specs.Generating.{generated, GeneratesFrom, FindsGenerated}
 use Rattle.nx_front.specs.Checking.{Checks}
 use Rattle.nx_front.specs.Finding.{Finds}
+use Rattle.nx_front.specs.Shipping.{ShipsGroups}
+use Rattle.nx_front.specs.Applied.{TakesGroups, IsUntaken, StandBehindEach}
 use Rattle.nx_front.specs.Init.{HasPage, IsOldOrNew, Initializes, MakesStore, GivesUp}
 use Rattle.nx_front.specs.Run.{IsCarriedOut}
-use Rattle.nx_front.specs.Sessions.{Session, BeginInput, HasAnswered, HasGenerated, HasMade, LeadsFrom, LeadsFromNone, Leads, SessionsLead}
+use Rattle.nx_front.specs.Sessions.{Session, BeginInput, HasAnswered, HasGenerated, HasMade, AreOfState, HasReceived, AppliedStand, LeadsToStates, LeadsFrom, LeadsFromNone, Leads, SessionsLead}
 use Rattle.nx_front.proofs.ClockLemmas.{HasClock}
+use Rattle.nx_front.proofs.AppliedLemmas.{stay_dense}
+use Rattle.nx_front.proofs.ReceivedLemmas.{AreReceived, none_received, received, whole_are_in, state_behind}
 use Rattle.nx_front.proofs.InitLemmas.{init_together, holds_nothing}
 use Rattle.nx_front.proofs.MomentLemmas.{reached_none, every_moment}
 use Rattle.nx_front.proofs.ServingLaws.{serving_together}
@@ -64,6 +75,15 @@ holds_same was image (Some state) same recovers = subst (λ (pages : Pages). Sta
 run_up_to : (state : State) (done rest : List Turn) → IsRun state (done ++ rest) → IsRun state done
 run_up_to state [] rest run = tt
 run_up_to state (turn ∷ done) rest run = (run.0, run_up_to turn.next done rest run.1)
+
+-- pages of a state, or of none, are what an image recovers to
+of_image : (image : Image) (held : Option State) → Recovers image held → AreOfState (replay image) held
+of_image image None none = none
+of_image image (Some state) recovers = recovers
+
+to_image : (image : Image) (pages : Pages) (next : Option State) → replay image ≡ pages → AreOfState pages next → Recovers image next
+to_image image pages None is none = λ p. ap (λ (all : Pages). all p) is ∙ none p
+to_image image pages (Some state) is stands = subst (λ (all : Pages). Stands all state) (sym is) stands
 
 module _ {D : Type 0} {d : Ghosts D} where
   -- What stood at a moment of a session stood at its beginning, or it is what is said of such moments.
@@ -257,6 +277,106 @@ module _ {D : Type 0} {d : Ghosts D} where
     | inr (page, same) ↦ same_held session (Some state) recovers same
   ]
 
+  -- Groups that are applied:
+
+  -- what was received so far
+  so_far : (session : Session d) (held : Option State) → Recovers session.opened held → (takes : TakesGroups d session.opened session.status session.before session.after) →
+      StandBehindEach (replay session.opened) takes.groups → (out : List ℕ) → Appends out (d.beside session.before).output (session.stop).output →
+      AreReceived (replay session.opened) takes.groups out (session.stop).image → Went session (HasReceived session)
+  so_far session held recovers takes stand out gave are =
+      let start = replay session.opened in
+      let (next, leads) = state_behind start held are.done are.rest (of_image session.opened held recovers) (subst (λ (gs : List Group). StandBehindEach start gs) are.split stand) in (
+        next,
+        record {
+          done = are.done;
+          rest = are.rest;
+          taken = takes.taken;
+          behind = takes.rest;
+          takes = takes.takes;
+          begins = subst (λ (gs : List Group). Begins gs takes.taken takes.rest) are.split takes.begins;
+          out = out;
+          gave = gave;
+          count = are.count;
+          acknowledged = are.begins;
+          all_acknowledged = whole_are_in are.done are.rest out are.long;
+          one_more = are.one_more;
+          leads = leads;
+        },
+        to_image (session.stop).image (over_all start are.done) next are.stands leads,
+      )
+
+  -- ... where what stands behind all groups was turned away
+  all_received : (session : Session d) (held : Option State) → Recovers session.opened held → (takes : TakesGroups d session.opened session.status session.before session.after) →
+      StandBehindEach (replay session.opened) takes.groups → (out : List ℕ) → Appends (applied_text takes.groups ++ out) (d.beside session.before).output (session.stop).output →
+      replay (session.stop).image ≡ over_all (replay session.opened) takes.groups → Went session (HasReceived session)
+  all_received session held recovers takes stand out gave is =
+      let start = replay session.opened in
+      let all : takes.groups ≡ takes.groups ++ [] = sym (append-nil takes.groups) in
+      let (next, leads) = state_behind start held takes.groups [] (of_image session.opened held recovers) (subst (λ (gs : List Group). StandBehindEach start gs) all stand) in
+      let whole : take (length takes.groups) takes.groups ≡ takes.groups = take_all (length takes.groups) takes.groups (omega arith) in (
+        next,
+        record {
+          done = takes.groups;
+          rest = [];
+          taken = takes.taken;
+          behind = takes.rest;
+          takes = takes.takes;
+          begins = subst (λ (gs : List Group). Begins gs takes.taken takes.rest) all takes.begins;
+          out = applied_text takes.groups ++ out;
+          gave = gave;
+          count = length takes.groups;
+          acknowledged = (out, ap (λ (gs : List Group). applied_text gs ++ out) (sym whole));
+          all_acknowledged = λ more low begins. let same : length (takes.groups ++ []) ≡ length takes.groups = ap length (sym all) in omega (arith, low, same);
+          one_more = omega arith;
+          leads = leads;
+        },
+        to_image (session.stop).image (over_all start takes.groups) next is leads,
+      )
+
+  -- nothing was given, and the image is as at first
+  no_output : (session : Session d) → (session.stop).output ≡ (d.beside session.before).output → Appends [] (d.beside session.before).output (session.stop).output
+  no_output session same = subst (λ (o : Option (List ℕ)). Appends [] (d.beside session.before).output o) (sym same) (appends_nothing (d.beside session.before).output)
+
+  -- nothing was taken
+  none_taken : HasClock d → (session : Session d) (held : Option State) → Recovers session.opened held → IsStill d session.before session.after → Went session (HasReceived session)
+  none_taken clock session held recovers still =
+      let given : Keeps (d.beside session.before).output (session.stop).output × ((session.stop).image ≡ session.opened) =
+      elim (at_stop clock session still.time) [
+        | inl (same, here) ↦ (kept session same, here)
+        | inr (keeps, left) ↦ (keeps, (session.settled).only (session.stop).image left)
+      ] in (
+        held,
+        record {
+          done = [];
+          rest = [];
+          taken = [];
+          behind = [];
+          takes = (still.beside_stays).input;
+          begins = refl;
+          out = [];
+          gave = kept_appends (d.beside session.before).output (session.stop).output given.0;
+          count = 0;
+          acknowledged = ([], refl);
+          all_acknowledged = λ more low begins. low;
+          one_more = omega arith;
+          leads = of_image session.opened held recovers;
+        },
+        subst (λ (i : Image). Recovers i held) (sym given.1) recovers,
+      )
+
+  applying : HasClock d → (session : Session d) (held : Option State) → Recovers session.opened held →
+      (ended : TakesGroups d session.opened session.status session.before session.after ⊎ (IsUntaken session.opened session.status × IsStill d session.before session.after)) →
+      AppliedStand ended → Went session (HasReceived session)
+  applying clock session held recovers (inr (why, still)) stand = none_taken clock session held recovers still
+  applying clock session held recovers (inl takes) stand =
+      let start = replay session.opened in
+      let shows = takes.shows (stay_dense start takes.groups (states_are_whole.dense session.opened held recovers) stand) in
+      elim (at_stop clock session shows.time) [
+        | inl (same, here) ↦ so_far session held recovers takes stand [] (no_output session same) (none_received start takes.groups [] (session.stop).image refl (ap replay here))
+        | inr (inl (out, by, gave)) ↦ so_far session held recovers takes stand out gave (received start takes.groups out (session.stop).image by)
+        | inr (inr (line, why, ((n, gave), is))) ↦ all_received session held recovers takes stand (take n line) gave is
+      ]
+
   -- Any session:
 
   beside_stays : {m : Meaning} → HasClock d → (session : Session d) (held : Option State) → Recovers session.opened held → RunsBeside d m session.status session.before session.after →
@@ -274,34 +394,44 @@ module _ {D : Type 0} {d : Ghosts D} where
       Went session (λ next. next ≡ held)
   find_stays clock session held recovers finds = same_held session held recovers (stays {P = λ s. Unit {0}} clock session (elapsed_weaker finds.time (λ s h. (tt, h))))
 
+  ship_stays : HasClock d → (session : Session d) (held : Option State) {start : Start} → Recovers session.opened held → ShipsGroups d start session.status session.before session.after →
+      Went session (λ next. next ≡ held)
+  ship_stays clock session held recovers ships = same_held session held recovers (stays {P = λ s. Unit {0}} clock session (elapsed_weaker ships.time (λ s h. (tt, h))))
+
   from_state : HasClock d → (line : CommandLine) (session : Session d) (state : State) → Recovers session.opened (Some state) →
-      IsCarriedOut d line session.status session.before session.after → Went session (LeadsFrom line session state)
-  from_state clock Tidy session state recovers carried = beside_stays clock session (Some state) recovers carried
-  from_state clock (Plan k) session state recovers carried = beside_stays clock session (Some state) recovers carried
-  from_state clock (Verify k) session state recovers carried = beside_stays clock session (Some state) recovers carried
-  from_state clock Run session state recovers carried = answered clock session state recovers (carried.from session.opened state session.settled session.told recovers)
-  from_state clock (Init settings) session state recovers carried = init_some clock settings session state recovers carried
-  from_state clock (Gen seed n) session state recovers carried =
+      (carried : IsCarriedOut d line session.status session.before session.after) →
+      LeadsToStates d line session.status session.before session.after carried session.opened session.settled session.told → Went session (LeadsFrom line session state)
+  from_state clock Tidy session state recovers carried stand = beside_stays clock session (Some state) recovers carried
+  from_state clock (Plan k) session state recovers carried stand = beside_stays clock session (Some state) recovers carried
+  from_state clock (Verify k) session state recovers carried stand = beside_stays clock session (Some state) recovers carried
+  from_state clock Run session state recovers carried stand = answered clock session state recovers (carried.from session.opened state session.settled session.told recovers)
+  from_state clock (Init settings) session state recovers carried stand = init_some clock settings session state recovers carried
+  from_state clock (Gen seed n) session state recovers carried stand =
       generated_from clock (commands seed n) session state recovers (generated state) (carried.from session.opened state session.settled session.told recovers)
-  from_state clock Check session state recovers carried = check_stays clock session (Some state) recovers carried
-  from_state clock Find session state recovers carried = find_stays clock session (Some state) recovers carried
+  from_state clock Check session state recovers carried stand = check_stays clock session (Some state) recovers carried
+  from_state clock Find session state recovers carried stand = find_stays clock session (Some state) recovers carried
+  from_state clock (Ship start) session state recovers carried stand = ship_stays clock session (Some state) recovers carried
+  from_state clock Apply session state recovers carried stand = applying clock session (Some state) recovers (carried.from session.opened session.settled session.told) stand
 
   from_none : HasClock d → (line : CommandLine) (session : Session d) → Recovers session.opened None →
-      IsCarriedOut d line session.status session.before session.after → Went session (LeadsFromNone line session)
-  from_none clock Tidy session none carried = beside_stays clock session None none carried
-  from_none clock (Plan k) session none carried = beside_stays clock session None none carried
-  from_none clock (Verify k) session none carried = beside_stays clock session None none carried
-  from_none clock Run session none carried =
+      (carried : IsCarriedOut d line session.status session.before session.after) →
+      LeadsToStates d line session.status session.before session.after carried session.opened session.settled session.told → Went session (LeadsFromNone line session)
+  from_none clock Tidy session none carried stand = beside_stays clock session None none carried
+  from_none clock (Plan k) session none carried stand = beside_stays clock session None none carried
+  from_none clock (Verify k) session none carried stand = beside_stays clock session None none carried
+  from_none clock Run session none carried stand =
       same_held session None none (stays clock session ((carried.no_header session.opened session.settled (no_header session.opened none)).1).time)
-  from_none clock (Init settings) session none carried = init_none clock settings session none carried
-  from_none clock (Gen seed n) session none carried =
+  from_none clock (Init settings) session none carried stand = init_none clock settings session none carried
+  from_none clock (Gen seed n) session none carried stand =
       same_held session None none (stays clock session ((carried.no_header session.opened session.settled (no_header session.opened none)).1).time)
-  from_none clock Check session none carried = check_stays clock session None none carried
-  from_none clock Find session none carried = find_stays clock session None none carried
+  from_none clock Check session none carried stand = check_stays clock session None none carried
+  from_none clock Find session none carried stand = find_stays clock session None none carried
+  from_none clock (Ship start) session none carried stand = ship_stays clock session None none carried
+  from_none clock Apply session none carried stand = applying clock session None none (carried.from session.opened session.settled session.told) stand
 
   one_leads : HasClock d → (session : Session d) (held : Option State) → Recovers session.opened held → Went session (Leads session held)
-  one_leads clock session None none = from_none clock session.line session none session.carried
-  one_leads clock session (Some state) recovers = from_state clock session.line session state recovers session.carried
+  one_leads clock session None none = from_none clock session.line session none session.carried session.applied
+  one_leads clock session (Some state) recovers = from_state clock session.line session state recovers session.carried session.applied
 
   pub sessions_lead : HasClock d → SessionsLead d
   sessions_lead clock image held [] order recovers = (held, refl, recovers)

@@ -1,11 +1,15 @@
 -- The command line: which words are one, and for what.
-use Rattle.std.specs.Prelude.{ℕ, ◌/◌, ◌^◌, ◌<◌, ◌≤◌, Bool, false, not, ◌&&◌, ◌==◌, nat_le, if◌then◌else◌, List, [], ◌∷◌, Option, None, Some, codes}
+use Rattle.std.specs.Prelude.{ℕ, ◌/◌, ◌^◌, ◌<◌, ◌≤◌, Bool, false, not, ◌&&◌, ◌||◌, ◌==◌, nat_le, if◌then◌else◌, List, [], ◌∷◌, length, Option, None, Some, codes}
+use Rattle.std.specs.List.{list_all}
 use Rattle.std.specs.Str.{bytes_eq}
 use Rattle.std.specs.Option.{option_map}
-use Rattle.nx_pyx.specs.Field.{is_position, value_of}
+use Rattle.nx_tree.specs.Document.{is_empty}
+use Rattle.nx_pyx.specs.Field.{begins_with, is_digit, is_position, value_of}
 use Rattle.nx_records.specs.Words.{most_pages, Settings, AreSettings}
+use Rattle.nx_ship.specs.declared.error.Start.{Start}
+use Rattle.nx_ship.specs.declared.error.Start.TheVariants.{All, Number}
 use Rattle.nx_front.specs.declared.words.CommandLine.{CommandLine}
-use Rattle.nx_front.specs.declared.words.CommandLine.TheVariants.{Tidy, Run, Plan, Verify, Init, Gen, Check, Find}
+use Rattle.nx_front.specs.declared.words.CommandLine.TheVariants.{Tidy, Run, Plan, Verify, Init, Gen, Check, Find, Ship, Apply}
 
 -- a word that may name a store: it isn't empty, and doesn't begin with a hyphen
 abbrev pub is_store : List ℕ → Bool
@@ -19,6 +23,15 @@ is_named_store store = is_store store && not (bytes_eq store (codes "_"))
 -- a decimal in this range, without a leading zero
 abbrev pub is_within : ℕ → ℕ → List ℕ → Bool
 is_within least most digits = is_position digits && nat_le least (value_of digits) && nat_le (value_of digits) most
+
+-- bytes, at least one, without a plus before them and without a leading zero before others
+abbrev pub has_plain_start : List ℕ → Bool
+has_plain_start digits = not (is_empty digits) && (not (begins_with 48 digits) || length digits == 1) && not (begins_with 43 digits)
+
+-- a decimal of the number of a group, without a leading zero
+abbrev pub is_group_number : List ℕ → Bool
+is_group_number digits =
+    not (is_empty digits) && (not (begins_with 48 digits) || length digits == 1) && list_all is_digit digits && nat_le (value_of digits) 18446744073709551615
 
 -- a decimal of a weight that parts may have at most
 abbrev pub is_weight_limit : List ℕ → Bool
@@ -62,21 +75,34 @@ settings_said (k ∷ target ∷ tolerance ∷ limit ∷ []) =
     else None
 settings_said _ = None
 
--- a store and `tidy`, whatever the store, or a store that is used and `run`, `check` or `find`
+-- a store and `tidy`, whatever the store, or a store that is used and `run`, `check`, `find` or `apply`
 abbrev pub command_of_two : List ℕ → List ℕ → Option CommandLine
 command_of_two store command =
     if is_store store && bytes_eq command (codes "tidy") then Some Tidy
     else if is_named_store store && bytes_eq command (codes "run") then Some Run
     else if is_named_store store && bytes_eq command (codes "check") then Some Check
     else if is_named_store store && bytes_eq command (codes "find") then Some Find
+    else if is_named_store store && bytes_eq command (codes "apply") then Some Apply
     else None
 
+-- where shipping begins: with all pages, or with a group's number
+abbrev pub start_said : List ℕ → Option Start
+start_said word = if bytes_eq word (codes "all") then Some All else if is_group_number word then Some (Number (value_of word)) else None
+
+-- a store that is used, `ship`, and where it begins
+abbrev pub command_of_ship : List ℕ → List ℕ → Option CommandLine
+command_of_ship store word = if is_named_store store then option_map Ship (start_said word) else None
+
 -- a store and `plan` or `verify`, whatever the store, and what a part weighs at most
-abbrev pub command_of_three : List ℕ → List ℕ → List ℕ → Option CommandLine
-command_of_three store command limit =
+abbrev pub command_of_limit : List ℕ → List ℕ → List ℕ → Option CommandLine
+command_of_limit store command limit =
     if is_store store && bytes_eq command (codes "plan") && is_weight_limit limit then Some (Plan (value_of limit))
     else if is_store store && bytes_eq command (codes "verify") && is_weight_limit limit then Some (Verify (value_of limit))
     else None
+
+-- one of these, of three words
+abbrev pub command_of_three : List ℕ → List ℕ → List ℕ → Option CommandLine
+command_of_three store command word = if bytes_eq command (codes "ship") then command_of_ship store word else command_of_limit store command word
 
 -- a store that is used, `gen`, a seed and a number
 abbrev pub command_of_four : List ℕ → List ℕ → List ℕ → List ℕ → Option CommandLine

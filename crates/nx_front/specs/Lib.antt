@@ -5,6 +5,9 @@ pub mod Serving
 pub mod Conversation
 pub mod Init
 pub mod Checking
+pub mod Shipping
+pub mod Applied
+pub mod Endings
 pub mod Run
 pub mod Generating
 pub mod Carrying

@@ -4,7 +4,7 @@ use Rattle.nx_host.specs.declared.disk.Disk.{Ghosts}
 use Rattle.nx_host.specs.Disk.{Image, Beside}
 use Rattle.nx_filters.specs.declared.status.Status.{Status}
 use Rattle.nx_front.specs.declared.words.CommandLine.{CommandLine}
-use Rattle.nx_front.specs.declared.words.CommandLine.TheVariants.{Tidy, Run, Plan, Verify, Init, Gen, Check, Find}
+use Rattle.nx_front.specs.declared.words.CommandLine.TheVariants.{Tidy, Run, Plan, Verify, Init, Gen, Check, Find, Ship, Apply}
 use Rattle.nx_filters.specs.Outcome.{Meaning, HasOneText, RunsBeside, HoldsTogether, IsUndisturbed, Completes}
 use Rattle.nx_filters.specs.Tidy.{tidy}
 use Rattle.nx_front.specs.Serving.{Serves, CompletesServing, ServingHoldsTogether, HasOneScript}
@@ -13,6 +13,9 @@ use Rattle.nx_filters.specs.Verify.{verify}
 use Rattle.nx_front.specs.Generating.{Generates, CompletesGenerating}
 use Rattle.nx_front.specs.Checking.{Checks, CompletesChecking, CheckHoldsTogether, VerdictsAgree}
 use Rattle.nx_front.specs.Finding.{Finds, HasOneAnswer}
+use Rattle.nx_ship.specs.Stream.{OneStream}
+use Rattle.nx_front.specs.Shipping.{ShipsGroups, CompletesShipping, HasOneShipment}
+use Rattle.nx_front.specs.Applied.{ReceivesGroups, CompletesApplying, ApplyHoldsTogether}
 use Rattle.nx_front.specs.Init.{Initializes, IsUntroubled, CompletesInit, InitHoldsTogether, HoldsNothing}
 
 -- how a command line is carried out
@@ -25,6 +28,8 @@ IsCarriedOut d (Init settings) status old new = Initializes d settings status ol
 IsCarriedOut d (Gen seed n) status old new = Generates d seed n status old new
 IsCarriedOut d Check status old new = Checks d status old new
 IsCarriedOut d Find status old new = Finds d status old new
+IsCarriedOut d (Ship start) status old new = ShipsGroups d start status old new
+IsCarriedOut d Apply status old new = ReceivesGroups d status old new
 
 -- a run over an input that nothing disturbs ends with what that has
 abbrev pub CompletesInput : Meaning → Status → Beside → Beside → Type 0
@@ -40,6 +45,8 @@ IsCompleted d (Init settings) status old new = (was : Image) → IsUntroubled d 
 IsCompleted d (Gen seed n) status old new = CompletesGenerating d status old new
 IsCompleted d Check status old new = CompletesChecking d status old new
 IsCompleted d Find status old new = CompletesServing d status old new
+IsCompleted d (Ship start) status old new = CompletesShipping d start status old new
+IsCompleted d Apply status old new = CompletesApplying d status old new
 
 -- what is said of an input, or of a disk, holds together
 abbrev pub IsCoherent : CommandLine → Type 0
@@ -51,9 +58,12 @@ IsCoherent (Init settings) = InitHoldsTogether settings
 IsCoherent (Gen seed n) = ServingHoldsTogether
 IsCoherent Check = CheckHoldsTogether
 IsCoherent Find = ServingHoldsTogether
+IsCoherent (Ship start) = ServingHoldsTogether
+IsCoherent Apply = ApplyHoldsTogether
 
 -- how the answers of an input go together: they have one text, but those of `plan` are only as good as each other; those of `run` are of one list of commands; a new store holds one thing;
--- pages have one verdict; lines have one text of replies, from a state; and of `gen` nothing is said, which takes no input
+-- pages have one verdict; lines have one text of replies, from a state; an image has one text of what is shipped, and a stream one row of groups; and of `gen` nothing is said, which takes no
+-- input
 abbrev pub AnswersAgree : CommandLine → Type 0
 AnswersAgree Tidy = HasOneText tidy
 AnswersAgree Run = HasOneScript
@@ -63,3 +73,5 @@ AnswersAgree (Init settings) = HoldsNothing settings
 AnswersAgree (Gen seed n) = Unit {0}
 AnswersAgree Check = VerdictsAgree
 AnswersAgree Find = HasOneAnswer
+AnswersAgree (Ship start) = HasOneShipment start
+AnswersAgree Apply = OneStream

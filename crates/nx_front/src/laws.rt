@@ -12,7 +12,8 @@ use nx_host::{Disk, Host};
 /// intervals and root's parts of one weight. For `init`, a disk has pages or none, an image is as the disk
 /// was or the new store, and that holds its settings and nothing else: it is that of the new state. For `run` over a
 /// store, a disk holds one state at most, and none without a header, and an input has one list of commands. For `check`, pages
-/// have one verdict at most, and are sound exactly where they stand for a state.
+/// have one verdict at most, and are sound exactly where they stand for a state. For `ship`, an image has one text of what is shipped; for
+/// `apply`, a stream has one row of groups, and what isn't applied is turned away for one reason.
 pub fn outcomes()
     ensures together { (line : CommandLine) → IsCoherent line }
     ensures answers { (line : CommandLine) → AnswersAgree line }
@@ -21,7 +22,8 @@ pub fn outcomes()
 /// Over any list of sessions, each opened on an image that a stop of the one before it at any moment, or its end, may
 /// have left, the last image holds what the first one held after some first commands of each session, one session after
 /// the other: of each `run` all those whose replies were out whole, and at most one more. So no session loses what an
-/// earlier one acknowledged, however each of them was stopped.
+/// earlier one acknowledged, however each of them was stopped. An `apply` laid the first groups of its stream over the pages, all those whose lines were
+/// out whole, and at most one more, where each of them leads to a state.
 pub fn sessions<H: Host>()
     ensures { SessionsLead ⟦<H as Disk>⟧ }
 {}

@@ -1,6 +1,7 @@
 //! The top call: from the words of a command line, the input and a disk to the output and a status.
 #![tactic(auto)]
 
+mod apply;
 mod check;
 mod find;
 mod gathered;
@@ -9,6 +10,7 @@ mod init;
 pub mod laws;
 mod question;
 mod serve;
+mod ship;
 mod top;
 mod words;
 

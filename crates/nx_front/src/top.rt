@@ -8,11 +8,13 @@ ghost use Rattle.nx_filters.specs.Verify.{IsSoundInput};
 ghost use Rattle.nx_front.specs.declared.words.CommandLine.{CommandLine};
 ghost use Rattle.nx_front.specs.declared.words.CommandLine.TheVariants.{Plan, Verify};
 
+use crate::apply::apply;
 use crate::check::check;
 use crate::find::answer_questions;
 use crate::generate::generate;
 use crate::init::init;
 use crate::serve::serve;
+use crate::ship::ship;
 use crate::words::{CommandLine, command_line};
 use crate::{Status, Words};
 use nx_filters::{plan, tidy, verify};
@@ -51,6 +53,18 @@ use std::thread::Threads;
 ///
 /// `STORE find`, where STORE isn't `_`, reads lines `find NAME STEPS`, and gives for each a line `at PATH` for each node that the steps reach in
 /// the document of that name, in document order, and a line `.`; or one line that refuses it. It writes nothing to the disk.
+///
+/// `STORE ship FROM`, where STORE isn't `_`, gives groups of the store as a stream: with `all` one group of all pages, with the number of
+/// the last commit; with a number up to 18,446,744,073,709,551,615 the groups of the log from the first one with it on, and none
+/// where it is the next one. Where no group has it, and it isn't the next one, it gives the line `refused no-group FROM LAST` instead. It takes
+/// no input, and writes nothing to the disk.
+///
+/// `STORE apply`, where STORE isn't `_`, reads such a stream, applies each group to the store on the disk with one commit, and gives a line
+/// `ok NUMBER` for each. Over a disk without pages the first group must be a whole store; every other group must have the number behind the last
+/// one's, which is 0 behind the greatest. Whatever crash comes, the disk has the pages of the store with the groups whose lines are out laid
+/// over them, or of one group more. Behind the lines of the groups before, which stay applied, it gives `refused repeat NUMBER LAST` or
+/// `refused gap NUMBER LAST` for a group that isn't the next one, `refused base NUMBER` for a first one that is no whole store, and
+/// `refused stream OFFSET` where no good group stands at that offset.
 pub fn run<R: Threads + Sync, H: Host>(rt: &R, alloc: Global, words: &Words, host: &mut H) -> Status
     // For those that read an input and keep nothing there is one outcome, for `run` over a store one run. Why the run ends so, what it has taken by then, and what it has given
     // of that outcome's text, then and at every moment; what it leaves of the disk.
@@ -96,5 +110,7 @@ fn carry_out<R: Threads + Sync, H: Host>(
         CommandLine::Gen(seed, n) => generate(rt, alloc, host, seed, n),
         CommandLine::Check => check(alloc, host),
         CommandLine::Find => answer_questions(alloc, host),
+        CommandLine::Ship(start) => ship(alloc, host, start),
+        CommandLine::Apply => apply(alloc, host),
     }
 }

@@ -2,11 +2,12 @@
 ghost use Rattle.std.specs.Prelude.{◌≡◌, ◌≤◌, ◌∷◌, true, false, map, is_some, IfOk, IfErr, IfSome, IsSome, MatchOption};
 ghost use Rattle.nx_pyx.specs.Field.{value_of};
 ghost use Rattle.nx_records.specs.Words.{AreSettings};
-ghost use Rattle.nx_front.specs.CommandLine.{is_store, is_named_store, is_within, is_weight_limit, usual_settings, settings_said, command_of_two, command_of_three, command_of_four, command_of_init, command_line_of, command_line, IsLimited};
+ghost use Rattle.nx_front.specs.CommandLine.{is_store, is_named_store, is_within, is_weight_limit, has_plain_start, is_group_number, usual_settings, settings_said, start_said, command_of_two, command_of_ship, command_of_limit, command_of_three, command_of_four, command_of_init, command_line_of, command_line, IsLimited};
 
 use nx_lists::NoMemory;
 use nx_pyx::position;
 use nx_records::{MOST_PAGES, Settings};
+use nx_ship::Start;
 use nx_words::{Word, Words, operands_of};
 use std::alloc::Global;
 use std::convert::AsStr;
@@ -38,6 +39,10 @@ pub enum CommandLine {
     Check,
     // Questions for nodes by name are answered over a store.
     Find,
+    // Groups of a store are given as a stream, from there on.
+    Ship(Start),
+    // A stream of groups is applied to a store.
+    Apply,
 }
 
 // The command line that the words are, if they are one.
@@ -174,14 +179,75 @@ fn command_of_two(store: &str, command: &str) -> Option<CommandLine>
         Some(CommandLine::Check)
     } else if is_named_store(store) && command == "find" {
         Some(CommandLine::Find)
+    } else if is_named_store(store) && command == "apply" {
+        Some(CommandLine::Apply)
     } else {
         None
     }
 }
 
 // The command line of three words.
-fn command_of_three(store: &str, command: &str, limit: &str) -> Option<CommandLine>
-    ensures line { result ≡ command_of_three store.now command.now limit.now }
+fn command_of_three(store: &str, command: &str, word: &str) -> Option<CommandLine>
+    ensures line { result ≡ command_of_three store.now command.now word.now }
+    ensures limit { IfSome result IsLimited }
+{
+    if command == "ship" {
+        command_of_ship(store, word)
+    } else {
+        command_of_limit(store, command, word)
+    }
+}
+
+// The command line of a store, `ship` and this word.
+fn command_of_ship(store: &str, word: &str) -> Option<CommandLine>
+    ensures line { result ≡ command_of_ship store.now word.now }
+    ensures limit { IfSome result IsLimited }
+{
+    if !is_named_store(store) {
+        return None;
+    }
+    let start = start_of(word)?;
+    Some(CommandLine::Ship(start))
+}
+
+// Where shipping begins, if the word says that.
+fn start_of(word: &str) -> Option<Start>
+    ensures { result ≡ start_said word.now }
+{
+    if word == "all" {
+        return Some(Start::All);
+    }
+    let number = group_number(word)?;
+    Some(Start::Number(number))
+}
+
+// The number of a group that the word says, if it says one.
+fn group_number(word: &str) -> Option<u64>
+    ensures { MatchOption result (is_group_number word.now ≡ false) (λ n. (is_group_number word.now ≡ true) × (n ≡ value_of word.now)) }
+{
+    if !has_plain_start(word.as_bytes()) {
+        return None;
+    }
+    match word.parse::<u64>() {
+        Ok(number) => Some(number),
+        Err(_) => None,
+    }
+}
+
+// Whether there are bytes, without a sign and without a leading zero before others.
+fn has_plain_start(digits: &[u8]) -> bool
+    ensures { result ≡ has_plain_start digits.now }
+{
+    match digits {
+        [] => false,
+        [_] => digits[0] != b'+',
+        [first, ..] => *first != b'0' && *first != b'+',
+    }
+}
+
+// The command line of a store, a command that isn't `ship`, and what a part weighs at most.
+fn command_of_limit(store: &str, command: &str, limit: &str) -> Option<CommandLine>
+    ensures line { result ≡ command_of_limit store.now command.now limit.now }
     ensures limit { IfSome result IsLimited }
 {
     let limit = weight_limit(limit)?;

@@ -42,7 +42,7 @@ fn an_input_has_its_answer(rt: HostRuntime) -> Result<(), Fail> {
     Ok(())
 }
 
-const MISUSED: [&[&str]; 25] = [
+const MISUSED: [&[&str]; 34] = [
     &["run"],
     &["s", "run", "s"],
     &["_", "run"],
@@ -68,6 +68,15 @@ const MISUSED: [&[&str]; 25] = [
     &["_", "verify", "4294967297"],
     &["", "verify", "4"],
     &["_", "verify", "4", "4"],
+    &["s", "ship"],
+    &["_", "ship", "all"],
+    &["s", "ship", "All"],
+    &["s", "ship", "01"],
+    &["s", "ship", "+1"],
+    &["s", "ship", "18446744073709551616"],
+    &["s", "ship", "all", "1"],
+    &["_", "apply"],
+    &["s", "apply", "all"],
 ];
 
 // These are the words.

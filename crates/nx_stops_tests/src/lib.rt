@@ -11,6 +11,8 @@ mod memory;
 #[cfg(test)]
 mod rows;
 #[cfg(test)]
+mod shipping;
+#[cfg(test)]
 mod stories;
 #[cfg(test)]
 mod tables;

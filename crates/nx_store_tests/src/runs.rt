@@ -241,7 +241,7 @@ fn out_at(
 
 // How much is out at the end, and how often something was given. What is out at each stop is the first part of all.
 fn parts_out(
-    rt: &impl Abort,
+    rt: &(impl Threads + Abort + Sync),
     alloc: Global,
     script: &[u8],
     replies: &[u8],
