@@ -1,0 +1,5 @@
+pub mod PageLemmas
+pub mod SnapshotLemmas
+pub mod AskLemmas
+pub mod RowLemmas
+pub mod StoreLemmas

@@ -1,0 +1,11 @@
+use Rattle.std.proofs.lemmas.Result.{IfOk-weaker, IfErr-weaker}
+use Rattle.nx_ask.proofs.SnapshotLemmas.{not_taken}
+use Rattle.nx_ask.proofs.snapshot.Snapshot.take.Goals as goal
+
+pub returns-in-Ok-clause-pages : goal.returns-in-Ok-clause-pages
+returns-in-Ok-clause-pages g c =
+    IfOk-weaker c.keep.result _ _ (λ snapshot h. λ was settled. (let begun = c.in-Ok.ensures.ok was settled in (begun.1, h was begun.0))) c.keep.ensures.pages
+
+pub returns-in-Ok-clause-refused : goal.returns-in-Ok-clause-refused
+returns-in-Ok-clause-refused g c =
+    IfErr-weaker c.keep.result _ _ (λ e h. not_taken g.D.Disk e c.in-Ok.wal c.args.disk.now c.open.new.disk c.keep.new.disk c.open.ensures.still c.in-Ok.ensures.ok h) c.keep.ensures.refused

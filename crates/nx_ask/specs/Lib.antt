@@ -1,0 +1,6 @@
+pub mod PagesAlone
+pub mod Reading
+pub mod Snapshot
+pub mod Asked
+pub mod Errors
+pub mod Halves

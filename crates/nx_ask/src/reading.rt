@@ -1,0 +1,64 @@
+// The pages of a store, read one after the other.
+ghost use Rattle.std.specs.Prelude.{◌≡◌, ◌+◌, false, [], IfOk, IfErr, OnOk};
+ghost use Rattle.nx_host.specs.Disk.{Image};
+ghost use Rattle.nx_host.specs.Still.{IsStill};
+ghost use Rattle.nx_replay.specs.Log.{replay};
+ghost use Rattle.nx_wal.specs.Wal.{wal_ended, pending, IsInStep};
+ghost use Rattle.nx_ask.specs.Reading.{AreFirstPages, AddsPage, NotCopied};
+
+use crate::AskError;
+use nx_host::Disk;
+use nx_numbers::PAGE_SIZE;
+use nx_wal::{PageBytes, Wal};
+use std::alloc::Global;
+
+/// The pages below this number, one behind the other.
+pub fn read_pages<D: Disk>(
+    alloc: Global,
+    wal: &mut Wal,
+    disk: &mut D,
+    count: u32,
+) -> Result<Vec<u8>, AskError>
+    requires runs { wal_ended wal.old ≡ false }
+    requires none { pending wal.old ≡ [] }
+    ensures still { IsStill D.Disk disk.old disk.new }
+    ensures ok { IfOk result (λ bytes. (was : Image) → IsInStep D.Disk wal.old disk.old was → AreFirstPages bytes.items count (replay was)) }
+    ensures refused { IfErr result (λ e. NotCopied D.Disk e wal.old count disk.old disk.new) }
+{
+    let Ok(mut bytes) = Vec::with_capacity(alloc, count as usize * PAGE_SIZE) else {
+        return Err(AskError::Memory);
+    };
+    for page in 0..count {
+        add_page(wal, disk, page, &mut bytes)?;
+    }
+    Ok(bytes)
+}
+
+// Adds a page at the end.
+fn add_page<D: Disk>(
+    wal: &mut Wal,
+    disk: &mut D,
+    page: u32,
+    bytes: &mut Vec<u8>,
+) -> Result<(), AskError>
+    requires runs { wal_ended wal.old ≡ false }
+    requires none { pending wal.old ≡ [] }
+    ensures still { IsStill D.Disk disk.old disk.new }
+    ensures same { OnOk result (wal.new ≡ wal.old) }
+    ensures ok { OnOk result ((was : Image) → IsInStep D.Disk wal.old disk.old was → AddsPage (replay was) page bytes.old.items bytes.new.items) }
+    ensures refused { IfErr result (λ e. NotCopied D.Disk e wal.old (page + 1) disk.old disk.new) }
+{
+    let mut into = PageBytes {
+        bytes: [0; PAGE_SIZE],
+    };
+    let Ok(found) = wal.load(disk, page, &mut into) else {
+        return Err(AskError::Disk);
+    };
+    if !found {
+        return Err(AskError::Damaged { page });
+    }
+    let Ok(_) = bytes.extend_from_slice(&into.bytes) else {
+        return Err(AskError::Memory);
+    };
+    Ok(())
+}

@@ -1,0 +1,67 @@
+// The pages of a store at one moment.
+ghost use Rattle.std.specs.Prelude.{◌≡◌, [], false, IfOk, IfErr};
+ghost use Rattle.nx_host.specs.Disk.{Image};
+ghost use Rattle.nx_host.specs.Still.{IsStill, IsSettled};
+ghost use Rattle.nx_records.specs.Records.{HasHeader};
+ghost use Rattle.nx_wal.specs.Wal.{wal_ended, pending, IsInStep};
+ghost use Rattle.nx_ask.specs.Snapshot.{HasPagesOf, NoSnapshot, NoSnapshotOf, opening_error};
+
+use crate::AskError;
+use crate::reading::read_pages;
+use nx_host::Disk;
+use nx_wal::{Wal, WalError};
+use std::alloc::Global;
+
+/// The pages of a store at one moment, one behind the other in memory. It never changes, and many threads may read it
+/// at once.
+#[derive(Drop)]
+pub struct Snapshot {
+    pub(crate) bytes: Vec<u8>,
+}
+
+impl Snapshot {
+    /// The pages that a disk stands for: as its log, else its pages area, has them. Each is read once and nothing is written.
+    /// All memory is taken at once, 8,192 bytes for each page.
+    ///
+    /// Errors: `NotAStore` exactly where page 0 is missing or doesn't begin with the eight bytes
+    /// `NATIXST1`; `Disk`, only where `faults` rose; `Damaged`, only where the disk stands for no state; `Memory`.
+    pub fn take<D: Disk>(alloc: Global, disk: &mut D) -> Result<Snapshot, AskError>
+        ensures still { IsStill D.Disk disk.old disk.new }
+        ensures pages { IfOk result (λ snapshot. (was : Image) → IsSettled D.Disk disk.old was → HasHeader was × HasPagesOf snapshot was) }
+        ensures refused { IfErr result (λ e. NoSnapshot D.Disk e disk.old disk.new) }
+    {
+        match Wal::open(disk, alloc) {
+            Ok(wal) => keep(alloc, wal, disk),
+            Err(error) => Err(opening_error(error)),
+        }
+    }
+}
+
+// The pages that an opened log and the area stand for.
+fn keep<D: Disk>(alloc: Global, wal: Wal, disk: &mut D) -> Result<Snapshot, AskError>
+    requires runs { wal_ended wal ≡ false }
+    requires none { pending wal ≡ [] }
+    ensures still { IsStill D.Disk disk.old disk.new }
+    ensures pages { IfOk result (λ snapshot. (was : Image) → IsInStep D.Disk wal disk.old was → HasPagesOf snapshot was) }
+    ensures refused { IfErr result (λ e. NoSnapshotOf D.Disk e wal disk.old disk.new) }
+{
+    let mut wal = wal;
+    let Ok(count) = wal.page_count(disk) else {
+        return Err(AskError::Disk);
+    };
+    match read_pages(alloc, &mut wal, disk, count) {
+        Ok(bytes) => Ok(Snapshot { bytes }),
+        Err(error) => Err(error),
+    }
+}
+
+// Why no snapshot is taken of a disk whose log isn't opened.
+fn opening_error(error: WalError) -> AskError
+    ensures { result ≡ opening_error error }
+{
+    match error {
+        WalError::NotAStore => AskError::NotAStore,
+        WalError::Memory => AskError::Memory,
+        _ => AskError::Disk,
+    }
+}
