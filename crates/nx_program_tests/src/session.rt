@@ -1,8 +1,10 @@
 // One run of the program after another, over the stores of a folder.
 use nx_program::run_process;
-use std::alloc::AllocError;
+use std::alloc::{AllocError, AllocGlobal};
+use std::fs::{File, Files};
 use std::io::Read;
 use std::test::Fail;
+use std::thread::Threads;
 use std::{env, fs, io, process};
 
 /// A folder of its own for the stores of one test.
@@ -63,8 +65,11 @@ impl<'a> Room<'a> {
     }
 
     /// Runs the command of these words over the store of this name, with this input.
-    pub fn run(&self, store: &str, words: &[&str], input: &str) -> Result<Ended, Fail> {
-        let alloc = self.rt.alloc();
+    pub fn run<P>(&self, rt: &P, store: &str, words: &[&str], input: &str) -> Result<Ended, Fail>
+    where
+        P: AllocGlobal + Files<File = File> + Threads + Sync,
+    {
+        let alloc = rt.alloc();
         let mut arguments = Vec::new(alloc);
         arguments.push(String::from_str(alloc, "natix")?)?;
         arguments.push(self.path(store)?)?;
@@ -75,15 +80,9 @@ impl<'a> Room<'a> {
             rest: input.as_bytes(),
         };
         let (mut output, mut line) = (Vec::new(alloc), String::new(alloc));
-        let code = run_process(
-            self.rt,
-            Ok(arguments.into_iter()),
-            reader,
-            &mut output,
-            |said| {
-                let _ = line.push_str(said);
-            },
-        );
+        let code = run_process(rt, Ok(arguments.into_iter()), reader, &mut output, |said| {
+            let _ = line.push_str(said);
+        });
         let code = format!(in alloc; "{code:?}")?;
         Ok(Ended { code, output, line })
     }

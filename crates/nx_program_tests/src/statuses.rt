@@ -19,14 +19,17 @@ const NOT_A_STORE: &str = "ExitCode(unix_exit_status(7))";
 #[test]
 fn a_store_is_opened_again(rt: HostRuntime) -> Result<(), Fail> {
     let room = Room::new(&rt, "again")?;
-    assert!(rt; room.run("s", &["init", "16"], "")?.is(DONE, "ok\n", ""));
+    assert!(rt;
+        room.run(&rt, "s", &["init", "16"], "")?
+            .is(DONE, "ok\n", "")
+    );
     let loads = "load d\n(a\n-hi\n)a\n.\nlayout d\n";
     assert!(rt;
-        room.run("s", &["run"], loads)?
+        room.run(&rt, "s", &["run"], loads)?
             .is(DONE, "ok 3 1\nroot 5\n.\n", "")
     );
     assert!(rt;
-        room.run("s", &["run"], "export d\n")?
+        room.run(&rt, "s", &["run"], "export d\n")?
             .is(DONE, "(a\n-hi\n)a\n.\n", "")
     );
     room.remove()
@@ -36,15 +39,18 @@ fn a_store_is_opened_again(rt: HostRuntime) -> Result<(), Fail> {
 fn each_name_has_its_store(rt: HostRuntime) -> Result<(), Fail> {
     let room = Room::new(&rt, "names")?;
     for name in ["s", "t"] {
-        assert!(rt; room.run(name, &["init", "16"], "")?.is(DONE, "ok\n", ""));
+        assert!(rt;
+            room.run(&rt, name, &["init", "16"], "")?
+                .is(DONE, "ok\n", "")
+        );
     }
     assert!(rt;
-        room.run("s", &["run"], "load d\n(a\n)a\n.\n")?
+        room.run(&rt, "s", &["run"], "load d\n(a\n)a\n.\n")?
             .is(DONE, "ok 2 1\n", "")
     );
-    assert!(rt; room.run("t", &["run"], "names\n")?.is(DONE, ".\n", ""));
+    assert!(rt; room.run(&rt, "t", &["run"], "names\n")?.is(DONE, ".\n", ""));
     assert!(rt;
-        room.run("s", &["run"], "names\n")?
+        room.run(&rt, "s", &["run"], "names\n")?
             .is(DONE, "doc d 2\n.\n", "")
     );
     for name in ["s", "s.log", "t", "t.log"] {
@@ -57,18 +63,21 @@ fn each_name_has_its_store(rt: HostRuntime) -> Result<(), Fail> {
 fn each_end_has_its_number(rt: HostRuntime) -> Result<(), Fail> {
     let room = Room::new(&rt, "ends")?;
     let usage = "usage: natix STORE COMMAND [ARG]...";
-    assert!(rt; room.run("s", &["init"], "")?.is(USAGE, "", usage));
+    assert!(rt; room.run(&rt, "s", &["init"], "")?.is(USAGE, "", usage));
     assert!(rt;
-        room.run("s", &["run"], "names\n")?
+        room.run(&rt, "s", &["run"], "names\n")?
             .is(NOT_A_STORE, "", "not a store")
     );
-    assert!(rt; room.run("s", &["init", "16"], "")?.is(DONE, "ok\n", ""));
     assert!(rt;
-        room.run("s", &["init", "16"], "")?
+        room.run(&rt, "s", &["init", "16"], "")?
+            .is(DONE, "ok\n", "")
+    );
+    assert!(rt;
+        room.run(&rt, "s", &["init", "16"], "")?
             .is(REFUSED, "refused exists\n", "")
     );
     assert!(rt;
-        room.run("none/s", &["run"], "names\n")?
+        room.run(&rt, "none/s", &["run"], "names\n")?
             .is(DISK_FAULT, "", "disk fault")
     );
     room.remove()
@@ -78,17 +87,20 @@ fn each_end_has_its_number(rt: HostRuntime) -> Result<(), Fail> {
 #[test]
 fn a_store_that_is_locked_is_a_disk_fault(rt: HostRuntime) -> Result<(), Fail> {
     let room = Room::new(&rt, "locked")?;
-    assert!(rt; room.run("s", &["init", "16"], "")?.is(DONE, "ok\n", ""));
+    assert!(rt;
+        room.run(&rt, "s", &["init", "16"], "")?
+            .is(DONE, "ok\n", "")
+    );
     {
         let name = room.path("s")?;
         let (reader, writer) = (rt.stdin(), rt.stdout());
         let mut host = FileHost::new(rt.alloc(), &rt, name.as_str(), reader, writer)?;
         assert!(rt; host.length(Area::Pages).is_ok());
         assert!(rt;
-            room.run("s", &["run"], "names\n")?
+            room.run(&rt, "s", &["run"], "names\n")?
                 .is(DISK_FAULT, "", "disk fault")
         );
     }
-    assert!(rt; room.run("s", &["run"], "names\n")?.is(DONE, ".\n", ""));
+    assert!(rt; room.run(&rt, "s", &["run"], "names\n")?.is(DONE, ".\n", ""));
     room.remove()
 }
