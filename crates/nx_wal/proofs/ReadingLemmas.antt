@@ -1,21 +1,23 @@
 -- What reading a log by its heads and page numbers finds.
 use Rattle.std.proofs.Common.{◌≡◌, ◌⊎◌, ℕ, zero, suc, ◌+◌, ◌-◌, ◌*◌, ◌^◌, ◌<◌, ◌≤◌, List, [], ◌∷◌, ◌++◌, length, take, drop, refl, sym, ap, subst, ◌∙◌, arith, Bool, true, false, inl, inr, get_or, cond, append_assoc}
 use Rattle.std.proofs.Common.{get_or-drop, length-drop, length-take}
-use Rattle.std.proofs.lemmas.List.{take-take, drop-drop, append-nil}
+use Rattle.std.proofs.lemmas.List.{take-take, drop-drop, append-nil, take-append-drop}
 use Rattle.std.proofs.lemmas.Bool.{false≢true, and_parts, leb-true, le-leb, ltb-true, lt-ltb, cases_Bool}
 use Rattle.std.proofs.lemmas.Bool.Decides.{nat_tests}
 use Rattle.std.specs.Prelude.{slice_get, slice_index, ◌==◌, ◌&&◌, nat_le, nat_lt, min, if◌then◌else◌, ◌↔◌, Option, Some, None, Result, Ok, Err, IfOk, IfSome}
 use Rattle.std.specs.BTreeMap.{get, is_at}
 use Rattle.std.specs.Ordering.{nat_cmp}
-use Rattle.byteorder.specs.Endian.{big_number}
+use Rattle.byteorder.specs.Endian.{big_number, big_bytes}
+use Rattle.byteorder.specs.Numbers.{big_from-take}
+use Rattle.std.proofs.lemmas.Nat.{be_bytes_4}
 use Rattle.nx_host.specs.Disk.{Image}
 use Rattle.std.specs.Option.{option_or}
-use Rattle.nx_replay.specs.Log.{Pages, replay, pages_of, Entry, Group, entries_in, entry_pages, rise, logged, groups, groups_behind, end_of, group_page_count, group_size, group_of, is_group, HasMark, mark}
+use Rattle.nx_replay.specs.Log.{Pages, replay, pages_of, Entry, Group, entries_in, entry_bytes, entry_pages, rise, logged, groups, groups_behind, end_of, group_page_count, group_size, group_of, is_group, HasMark, mark}
 use Rattle.nx_replay.proofs.GroupLemmas.{IsGroup, group_says, says_group, groups-first, groups-none, entries-prefix, number-prefix, prefix-drop, prefix-less, number-one, count-prefix, length-entries_in}
 use Rattle.nx_replay.proofs.StepLemmas.{drop_taken, end_more}
 use Rattle.nx_replay.proofs.ReplayLemmas.{logged-more, page-there}
 use Rattle.nx_wal.specs.declared.reading.Head.{Head}
-use Rattle.nx_wal.specs.Reading.{page_numbers, FillsPrefix, usable, IsHeadOf, IsHead, IsLogReadTo, IsRead, StandsAt, page_at}
+use Rattle.nx_wal.specs.Reading.{page_numbers, FillsPrefix, usable, IsHeadOf, IsHead, IsLogReadTo, IsRead, StandsAt, AreBytes, page_at}
 use Rattle.nx_wal.specs.Places.{Places, page_at_place, LeadsTo, Notes, AreWithin, starts_from}
 
 -- Numbers.
@@ -443,3 +445,58 @@ mark_in_area was places is leads none long said =
 pub if_ok_both : {T E : Type 0} {P Q R : T → Type 0} (r : Result T E) → IfOk r P → IfOk r Q → ((x : T) → P x → Q x → R x) → IfOk r R
 if_ok_both (Ok x) p q f = f x p q
 if_ok_both (Err e) p q f = tt
+
+-- Pages as they stand.
+
+first_bytes : (n : ℕ) (bytes : List ℕ) → AreBytes bytes → AreBytes (take n bytes)
+first_bytes zero bytes are i = omega arith
+first_bytes (suc n) [] are i = omega arith
+first_bytes (suc n) (b ∷ bytes) are zero = are 0
+first_bytes (suc n) (b ∷ bytes) are (suc i) = first_bytes n bytes (λ j. are (suc j)) i
+
+number_again : (bytes : List ℕ) → 4 ≤ length bytes → AreBytes bytes → big_bytes 4 (big_number 4 bytes) ≡ take 4 bytes
+number_again bytes long are =
+    let front = take 4 bytes in
+    let same : big_number 4 bytes ≡ big_number 4 front = sym (big_from-take 0 4 4 bytes (omega arith)) in
+    be_bytes_4 front (big_number 4 bytes) (omega (arith, long, length-take 4 bytes)) (first_bytes 4 bytes are) (same ∙ omega arith)
+
+-- pages that were read are written as they stood
+pub entries_again : (count : ℕ) (bytes : List ℕ) → length bytes ≡ 8196 * count → AreBytes bytes → entry_bytes (entries_in count bytes) ≡ bytes
+entries_again zero [] long are = refl
+entries_again zero (b ∷ bytes) long are = absurd (omega (arith, long))
+entries_again (suc n) bytes long are =
+    let rest : drop 8192 (drop 4 bytes) ≡ drop 8196 bytes = drop-drop 8192 4 bytes in
+    let more = entries_again n (drop 8196 bytes) (omega (arith, long, length-drop 8196 bytes)) (λ i. rw get_or-drop (are (8196 + i))) in
+    ap (λ (x : List ℕ). x ++ (take 8192 (drop 4 bytes) ++ entry_bytes (entries_in n (drop 8196 bytes)))) (number_again bytes (omega (arith, long)) are)
+    ∙ ap (λ (x : List ℕ). take 4 bytes ++ (take 8192 (drop 4 bytes) ++ x)) (more ∙ sym rest)
+    ∙ ap (λ (x : List ℕ). take 4 bytes ++ x) (take-append-drop 8192 (drop 4 bytes)) ∙ take-append-drop 4 bytes
+
+-- pages in the midst of a group
+pub entries_part : (first count total : ℕ) (bytes : List ℕ) → first + count ≤ total → entries_in count (drop (8196 * first) bytes) ≡ take count (drop first (entries_in total bytes))
+entries_part zero zero total bytes fits = refl
+entries_part zero (suc count) zero bytes fits = absurd (omega (arith, fits))
+entries_part zero (suc count) (suc total) bytes fits = ap (λ (es : List Entry). page_at bytes ∷ es) (entries_part zero count total (drop 8196 bytes) (omega (arith, fits)))
+entries_part (suc first) count zero bytes fits = absurd (omega (arith, fits))
+entries_part (suc first) count (suc total) bytes fits =
+    let place : 8196 * suc first ≡ 8196 + 8196 * first = omega arith in
+    ap (λ (n : ℕ). entries_in count (drop n bytes)) place ∙ ap (λ (x : List ℕ). entries_in count x) (sym (drop-drop (8196 * first) 8196 bytes))
+    ∙ entries_part first count total (drop 8196 bytes) (omega (arith, fits))
+
+-- bytes that were read of a group's pages
+pub part_read : {at begin given : ℕ} {into : List ℕ} (first count : ℕ) (log : List ℕ) → StandsAt at log → begin ≡ at + (13 + 8196 * first)
+    → FillsPrefix given (8196 * count) into (drop begin log) → length into ≡ 8196 * count → AreBytes into
+    → first + count ≤ length (group_of (drop at (usable log))).entries → into ≡ entry_bytes (take count (drop first (group_of (drop at (usable log))).entries))
+part_read {at} {begin} {given} {into} first count log stands here gives long are fits =
+    let r = reads_at at log stands in
+    let total = group_page_count (drop at (usable log)) in
+    let below : first + count ≤ total = let l = r.long in omega (arith, fits, l) in
+    let room : 8196 * count ≤ length (drop begin log) = let f = r.fits in omega (arith, f, here, below, length-drop begin log) in
+    let same : take (8196 * count) into ≡ take (8196 * count) (drop begin log) = given_all given (8196 * count) into (drop begin log) gives room in
+    let place : drop begin log ≡ drop (8196 * first) (drop (at + 13) log) =
+    ap (λ (n : ℕ). drop n log) (let h : begin ≡ at + 13 + 8196 * first = omega (arith, here) in h) ∙ sym (drop-drop (8196 * first) (at + 13) log) in
+    sym (entries_again count into long are)
+    ∙ ap (λ (es : List Entry). entry_bytes es) (
+    entries-prefix count (8196 * count) into (drop begin log) (omega arith) same
+    ∙ ap (λ (x : List ℕ). entries_in count x) place ∙ entries_part first count total (drop (at + 13) log) below
+    ∙ ap (λ (es : List Entry). take count (drop first es)) r.entries
+    )

@@ -186,9 +186,12 @@ group_from wal at index log follows below said =
     }
 
 -- how many pages it has
+pub group_there : {at index : ℕ} {log : List ℕ} (g : Group) → IsGroupFrom at index log → slice_get (groups log) index ≡ Some g → group_of (drop at (usable log)) ≡ g
+group_there g is there = some_same (sym is.group ∙ there)
+
 pub group_long : {at index : ℕ} {log : List ℕ} (g : Group) → IsGroupFrom at index log → slice_get (groups log) index ≡ Some g
     → length (group_of (drop at (usable log))).entries ≡ length g.entries
-group_long g is there = let same = some_same (sym is.group ∙ there) in ap (λ (x : Group). length x.entries) same
+group_long g is there = ap (λ (x : Group). length x.entries) (group_there g is there)
 
 pub group_counted : (wal : Wal) (log : List ℕ) → Follows wal log → length wal.starts.items ≡ length (groups log)
 group_counted wal log follows = ap (λ (ns : List ℕ). length ns) follows.starts ∙ starts_count 0 (groups log)

@@ -1,11 +1,12 @@
 -- What is read of a log.
-use Rattle.std.specs.Prelude.{ℕ, ◌^◌, ◌≡◌, ◌<◌, ◌≤◌, ◌==◌, Bool, true, false, List, ◌++◌, length, map, take, drop, slice_index, Option, Some, None}
+use Rattle.std.specs.Prelude.{ℕ, ◌+◌, ◌*◌, ◌^◌, ◌≡◌, ◌<◌, ◌≤◌, ◌==◌, Bool, true, false, List, ◌++◌, length, map, take, drop, slice_index, Option, Some, None}
 use Rattle.byteorder.specs.Endian.{big_number}
-use Rattle.nx_numbers.specs.Sizes.{page_size, most_pages}
+use Rattle.nx_numbers.specs.Sizes.{page_size, entry_size, most_pages}
 use Rattle.nx_host.specs.Disk.{Rose}
-use Rattle.nx_replay.specs.Log.{Entry, Group, groups, groups_behind, end_of, group_page_count, group_size, is_group, IsLogEnd}
+use Rattle.nx_replay.specs.Log.{Entry, Group, entry_bytes, groups, groups_behind, end_of, group_page_count, group_size, is_group, IsLogEnd}
 use Rattle.nx_wal.specs.declared.reading.Head.{Head}
 use Rattle.nx_wal.specs.declared.reading.End.{End}
+use Rattle.nx_wal.specs.declared.reading.GroupHead.{GroupHead}
 use Rattle.nx_wal.specs.declared.error.WalError.{WalError}
 use Rattle.nx_wal.specs.declared.error.WalError.TheVariants as error
 use Rattle.nx_wal.specs.Places.{Places, LeadsTo, AreWithin, starts_from}
@@ -59,6 +60,20 @@ pub record IsRead (places : Places) (starts : List ℕ) (end : End) (log : List 
 -- A group stands at the offset, as it may in a log.
 pub record StandsAt (at : ℕ) (log : List ℕ) : Type 0 where
   pub group : is_group (drop at (usable log)) ≡ true
+
+-- numbers that bytes can be
+abbrev pub AreBytes : List ℕ → Type 0
+AreBytes bytes = (i : ℕ) → slice_index bytes i < 256
+
+-- The number of the group, and how many pages it has.
+pub record IsHeadFor (group : Group) (head : GroupHead) : Type 0 where
+  pub number : head.number ≡ group.number
+  pub count : head.count ≡ length group.entries
+
+-- The bytes, with room for so many, are those of the group's pages from the one with this index on, as they stand in a log.
+abbrev pub IsPartOf : Group → ℕ → ℕ → List ℕ → Type 0
+IsPartOf group first room bytes =
+    (count : ℕ) → room ≡ entry_size * count → first + count ≤ length group.entries → bytes ≡ entry_bytes (take count (drop first group.entries))
 
 -- Why reading gave up: a call failed, or for want of memory.
 abbrev pub FailsBy : WalError → ℕ → ℕ → Type 0

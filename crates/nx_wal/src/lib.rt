@@ -16,4 +16,5 @@ mod writing;
 pub use error::WalError;
 pub use nx_groups::{Group, GroupPage, GroupPages};
 pub use nx_slots::PageBytes;
+pub use reading::GroupHead;
 pub use wal::Wal;

@@ -5,7 +5,7 @@ ghost use Rattle.nx_host.specs.Still.{IsStill};
 ghost use Rattle.nx_replay.specs.Log.{groups, replay, rise, entries_in, group_of, IsLogEnd, HasMark, mark};
 ghost use Rattle.nx_groups.specs.Groups.{entry, entries, logged_as};
 ghost use Rattle.byteorder.specs.Endian.{big_number};
-ghost use Rattle.nx_wal.specs.Reading.{FillsPrefix, IsHead, IsRead, FailsBy, IsNotOpened, page_numbers, page_at, StandsAt, usable};
+ghost use Rattle.nx_wal.specs.Reading.{FillsPrefix, IsHead, IsRead, FailsBy, IsNotOpened, page_numbers, page_at, StandsAt, usable, IsHeadFor, IsPartOf, AreBytes};
 ghost use Rattle.nx_wal.specs.Places.{Notes, AreWithin};
 ghost use Rattle.std.specs.BTreeMap.{IsEmpty, get};
 ghost use Rattle.std.specs.Ordering.{nat_cmp};
@@ -27,6 +27,15 @@ pub(crate) struct Head {
     shut: bool,
     // How many pages the group has that may stand there, or 0.
     count: u32,
+}
+
+/// What a log says of a group at its beginning.
+#[derive(Clone, Copy, Debug)]
+pub struct GroupHead {
+    /// The number of the group.
+    pub number: u64,
+    /// How many pages it has.
+    pub count: u32,
 }
 
 // Where a log ends.
@@ -286,6 +295,40 @@ pub(crate) fn read_group<D: Disk>(disk: &mut D, at: u64, alloc: Global) -> Resul
     let pages = read_pages(disk, at.min(9_223_372_036_854_775_000) + 13, count, alloc)?;
     Ok(Group { number, pages })
 }
+
+// Reads the number and the count of the group at an offset, where one stands.
+pub(crate) fn read_group_head<D: Disk>(disk: &mut D, at: u64) -> Result<GroupHead, Failed>
+    ensures still { IsStill D.Disk disk.old disk.new }
+    ensures reads { D.reads disk.new ≤ D.reads disk.old + 1 }
+    ensures head { IfOk result (λ head. (was : Image) → D.contents disk.old ≡ Some was → StandsAt at was.log → IsHeadFor (group_of (drop at (usable was.log))) head) }
+    ensures cause { OnErr result (Rose (D.faults disk.old) (D.faults disk.new)) }
+{
+    let (number, count) = read_numbers_of(disk, at)?;
+    Ok(GroupHead { number, count })
+}
+
+// Reads pages of the group at an offset, where one stands, from the page with this index in it on, as many as there is room for, as they stand.
+pub(crate) fn read_part<D: Disk>(
+    disk: &mut D,
+    at: u64,
+    first: u32,
+    into: &mut [u8],
+) -> Result<(), Failed>
+    ensures still { IsStill D.Disk disk.old disk.new }
+    ensures reads { D.reads disk.new ≤ D.reads disk.old + 1 }
+    ensures part { OnOk result ((was : Image) → D.contents disk.old ≡ Some was → StandsAt at was.log → IsPartOf (group_of (drop at (usable was.log))) first (length into.old) into.new) }
+    ensures cause { OnErr result (Rose (D.faults disk.old) (D.faults disk.new)) }
+{
+    let begin = at.saturating_add(13 + ENTRY_SIZE as u64 * (first as u64));
+    let _given = read_from(disk, Area::Log, begin, into)?;
+    are_bytes(into);
+    Ok(())
+}
+
+// As each slice of bytes, for the proofs of its callers.
+fn are_bytes(_bytes: &[u8])
+    ensures { AreBytes _bytes.now }
+{}
 
 // The limit below which a log's groups end.
 fn log_limit<D: Disk>(disk: &mut D) -> Result<u64, Failed>

@@ -16,10 +16,10 @@ use crate::block::Block;
 use crate::moving::empty_log;
 use crate::pages::{area_count, read_page};
 use crate::places::{logged_count, make_place, set_places};
-use crate::reading::{open_log, read_group, shut_of_none};
+use crate::reading::{open_log, read_group, read_group_head, read_part, shut_of_none};
 use crate::waiting::Waiting;
 use crate::writing::write_group;
-use crate::{PageBytes, WalError};
+use crate::{GroupHead, PageBytes, WalError};
 use nx_groups::Group;
 use nx_host::Disk;
 use nx_numbers::{ENTRY_SIZE, PAGE_SIZE};
@@ -50,7 +50,7 @@ pub struct Wal {
 
 impl Wal {
     ghost use Rattle.nx_wal.specs.Wal.{Follows, IsInStep, IsPageCount, EndsWal, group_count, NoGroupRead, pending, current, next_group, wal_ended, length_of, PutsRecord, HasNoPageFor, ClearsRecord, HasNoneBeside, Refused, NoLogCreated, NoLogOpened};
-    ghost use Rattle.nx_wal.specs.Reading.{page_found};
+    ghost use Rattle.nx_wal.specs.Reading.{page_found, IsHeadFor, IsPartOf};
 
     /// A log over a disk that has no pages. Nothing is written.
     ///
@@ -376,6 +376,58 @@ impl Wal {
             }
             Err(_) => Err(WalError::Memory),
         }
+    }
+
+    /// The number of the group of the log with this index, below `groups`, and how many pages it has.
+    ///
+    /// Errors: `Disk`, only where `faults` rose; `Ended` exactly where an earlier call answered
+    /// `Disk`.
+    pub fn group_head<D: Disk>(&mut self, disk: &mut D, index: u64) -> Result<GroupHead, WalError>
+        requires { index < group_count self.old }
+        ensures still { IsStill D.Disk disk.old disk.new }
+        ensures reads { D.reads disk.new ≤ D.reads disk.old + 1 }
+        ensures ok { IfOk result (λ head. (self.new ≡ self.old) × (wal_ended self.old ≡ false)
+            × ((was : Image) → IsInStep D.Disk self.old disk.old was → (g : LogGroup) → slice_get (groups was.log) index ≡ Some g → IsHeadFor g head)) }
+        ensures refused { IfErr result (λ e. Refused D.Disk e self.old self.new disk.old disk.new) }
+    {
+        if self.ended {
+            return Err(WalError::Ended);
+        }
+        let Ok(head) = read_group_head(disk, self.starts[index as usize]) else {
+            self.ended = true;
+            return Err(WalError::Disk);
+        };
+        Ok(head)
+    }
+
+    /// Pages of the group of the log with this index, below `groups`, as they stand there, each behind its
+    /// number in four bytes: from the page with the index `first` in the group on, as many as there is room
+    /// for. The room is a multiple of `ENTRY_SIZE`, and the group has as many pages; else the bytes are any.
+    ///
+    /// Errors: `Disk`, only where `faults` rose; `Ended` exactly where an earlier call answered
+    /// `Disk`. The bytes are any then.
+    pub fn group_part<D: Disk>(
+        &mut self,
+        disk: &mut D,
+        index: u64,
+        first: u32,
+        into: &mut [u8],
+    ) -> Result<(), WalError>
+        requires { index < group_count self.old }
+        ensures still { IsStill D.Disk disk.old disk.new }
+        ensures reads { D.reads disk.new ≤ D.reads disk.old + 1 }
+        ensures ok { OnOk result ((self.new ≡ self.old) × (wal_ended self.old ≡ false)
+            × ((was : Image) → IsInStep D.Disk self.old disk.old was → (g : LogGroup) → slice_get (groups was.log) index ≡ Some g → IsPartOf g first (length into.old) into.new)) }
+        ensures refused { IfErr result (λ e. Refused D.Disk e self.old self.new disk.old disk.new) }
+    {
+        if self.ended {
+            return Err(WalError::Ended);
+        }
+        let Ok(_) = read_part(disk, self.starts[index as usize], first, into) else {
+            self.ended = true;
+            return Err(WalError::Disk);
+        };
+        Ok(())
     }
 
     /// Where the log ends: how many bytes its groups take, their gates counted, but for the gate
