@@ -5,7 +5,7 @@ use Rattle.std.specs.List.{AllZip}
 use Rattle.std.specs.Option.{option_map}
 use Rattle.std.proofs.lemmas.List.{take-append-drop}
 use Rattle.nx_tree.specs.Forest.{OrderedTree, Forest, Empty, forest_of, nodes}
-use Rattle.nx_weights.specs.Weight.{AreAtMost, IsAtMost, IsWithinLimits}
+use Rattle.nx_weights.specs.Weight.{IsWithinLimits}
 use Rattle.nx_weights.proofs.LimitLemmas.{item_within, length_nodes}
 use Rattle.nx_parts.specs.declared.bounds.Bound.{Bound}
 use Rattle.nx_parts.specs.Minima.{AreMinimaIn}
@@ -29,15 +29,6 @@ all_at P xs i x all lt is = subst P (sym is) (all i x lt)
 -- the children of a tree within the limits are within them
 pub all_within : (tree : OrderedTree) (ts : List OrderedTree) → forest_of ts ≡ tree.below → IsWithinLimits tree → All IsWithinLimits ts
 all_within tree ts forest limits = λ i d lt. item_within tree ts i (get_or ts i d) forest lt (same_at ts i d (get_or ts i d) lt) limits
-
-lights : (k : ℕ) (ts : List OrderedTree) → AreAtMost k (forest_of ts) → (i : ℕ) (d : OrderedTree) → i < length ts → IsAtMost k (get_or ts i d)
-lights k [] h i d lt = absurd (omega arith)
-lights k (t ∷ ts) h zero d lt = (h.0, h.1)
-lights k (t ∷ ts) h (suc i) d lt = lights k ts h.2 i d (omega arith)
-
--- the children of a light tree are light
-pub all_light : (k : ℕ) (tree : OrderedTree) (ts : List OrderedTree) → forest_of ts ≡ tree.below → IsAtMost k tree → All (IsAtMost k) ts
-all_light k tree ts forest light = λ i d lt. lights k ts (subst (AreAtMost k) (sym forest) light.1) i d lt
 
 -- a part of a list has what all of it has
 pub all_take : {X : Type 0} (P : X → Type 0) (xs : List X) (n : ℕ) → All P xs → All P (take n xs)
@@ -107,7 +98,6 @@ two_to_bound {k} {share} {ts} {two} can are =
           bound = can.row.bound;
           numbers = subst (λ m. IfSome m (λ number. number + length (take n ts) ≤ 524288)) (sym are.front_first) (fewer share.first (length (take n ts)) (length ts) (omega (arith, length-take n ts, are.more)) can.row.numbers);
           limits = all_take IsWithinLimits ts n can.row.limits;
-          light = all_take (IsAtMost k) ts n can.row.light;
         };
         enough = are.front_workers;
         counted = omega (arith, can.counted, are.all_nodes, are.back_nodes, nodes_cut ts n);
@@ -119,7 +109,6 @@ two_to_bound {k} {share} {ts} {two} can are =
           bound = can.row.bound;
           numbers = subst (λ m. IfSome m (λ number. number + length (drop n ts) ≤ 524288)) (sym are.back_first) (further share.first n (length (drop n ts)) (length ts) (omega (arith, length-drop n ts, are.more)) can.row.numbers);
           limits = all_drop IsWithinLimits ts n can.row.limits;
-          light = all_drop (IsAtMost k) ts n can.row.light;
         };
         enough = are.back_workers;
         counted = are.back_nodes;
@@ -136,8 +125,8 @@ two_to_bound {k} {share} {ts} {two} can are =
     further (Some x) n back all le h = omega (arith, le, h)
 
 -- the children of a tree may be bounded where it may
-pub can_bound_children : (k : ℕ) (share : Share) (tree : OrderedTree) (ts : List OrderedTree) → forest_of ts ≡ tree.below → 1 ≤ k → k ≤ 256 → 1 ≤ share.workers → share.nodes ≡ nodes tree.below → IfSome share.first (λ number. number ≡ 0) → IsWithinLimits tree → IsAtMost k tree → CanBound k share ts
-can_bound_children k share tree ts forest some bound enough counted none limits light =
+pub can_bound_children : (k : ℕ) (share : Share) (tree : OrderedTree) (ts : List OrderedTree) → forest_of ts ≡ tree.below → 1 ≤ k → k ≤ 256 → 1 ≤ share.workers → share.nodes ≡ nodes tree.below → IfSome share.first (λ number. number ≡ 0) → IsWithinLimits tree → CanBound k share ts
+can_bound_children k share tree ts forest some bound enough counted none limits =
     let same : nodes (forest_of ts) ≡ nodes tree.below = ap nodes forest in
     let few : nodes (forest_of ts) ≤ 524288 = omega (arith, limits.few, same) in
     record {
@@ -146,7 +135,6 @@ can_bound_children k share tree ts forest some bound enough counted none limits 
         bound = bound;
         numbers = numbers share.first (length ts) none (omega (arith, length_nodes ts, few));
         limits = all_within tree ts forest limits;
-        light = all_light k tree ts forest light;
       };
       enough = enough;
       counted = counted ∙ sym same;

@@ -1,7 +1,7 @@
 -- What the threads have found, and how a list grows by it.
 use Rattle.std.specs.Prelude.{◌≡◌, ℕ, ◌+◌, ◌<◌, ◌≤◌, List, ◌++◌, length, take, drop, All, slice_set, Option, IfSome}
 use Rattle.nx_tree.specs.Forest.{OrderedTree, forest_of, nodes}
-use Rattle.nx_weights.specs.Weight.{IsAtMost, IsWithinLimits}
+use Rattle.nx_weights.specs.Weight.{IsWithinLimits}
 use Rattle.nx_parts.specs.declared.bounds.Bound.{Bound}
 use Rattle.nx_parts.specs.Minima.{IsMinima, AreMinimaIn}
 use Rattle.nx_par.specs.declared.cut.Share.{Share}
@@ -30,7 +30,6 @@ pub record CanBoundRow (k : ℕ) (first : Option ℕ) (trees : List OrderedTree)
   pub bound : k ≤ 256
   pub numbers : IfSome first (λ number. number + length trees ≤ 524288)
   pub limits : All IsWithinLimits trees
-  pub light : All (IsAtMost k) trees
 
 -- they may be bounded in rows: they have so many nodes, and there is at least one worker
 pub record CanBound (k : ℕ) (share : Share) (trees : List OrderedTree) : Type 0 where

@@ -37,6 +37,8 @@ pub struct TwoRows {
 pub struct Row {
     pub from: usize,
     pub to: usize,
+    /// For so many nodes room is made at once.
+    pub nodes: usize,
 }
 
 /// Cuts the trees where the two rows have about as many nodes, and shares the workers out by these numbers. Where
@@ -147,13 +149,13 @@ pub fn rows_of(alloc: Global, trees: &[Tree], share: Share) -> Result<Option<Vec
             return Ok(None);
         }
         if held >= each {
-            add_row(&mut rows, from, place + 1)?;
+            add_row(&mut rows, from, place + 1, held)?;
             from = place + 1;
             held = 0;
         }
     }
     if from < trees.len() {
-        add_row(&mut rows, from, trees.len())?;
+        add_row(&mut rows, from, trees.len(), held)?;
     }
     Ok(Some(rows))
 }
@@ -169,17 +171,17 @@ fn equal_rows(alloc: Global, len: usize, each: usize) -> Result<Vec<Row>, NoMemo
     let mut from: usize = 0;
     while from < len {
         let to = (from + each).min(len);
-        add_row(&mut rows, from, to)?;
+        add_row(&mut rows, from, to, to - from)?;
         from = to;
     }
     Ok(rows)
 }
 
-fn add_row(rows: &mut Vec<Row>, from: usize, to: usize) -> Result<(), NoMemory>
+fn add_row(rows: &mut Vec<Row>, from: usize, to: usize, nodes: usize) -> Result<(), NoMemory>
     requires rows { AreRows 0 from rows.old.items }
     requires order { from ≤ to }
     ensures { OnOk result (AreRows 0 to rows.new.items) }
 {
-    rows.push(Row { from, to })?;
+    rows.push(Row { from, to, nodes })?;
     Ok(())
 }

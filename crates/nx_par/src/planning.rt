@@ -9,7 +9,6 @@ use crate::{NoGate, bounds_wide};
 use nx_partition::{PlanError, parts_from};
 use nx_parts::Partitioning;
 use nx_tree::{Tree, count};
-use nx_weights::first_heavy;
 use std::alloc::Global;
 use std::thread::Threads;
 
@@ -36,12 +35,6 @@ pub fn partition_wide<R: Threads + Sync>(
     ensures ok { IfOk result (λ parts. IsLeanInOrder k tree.now parts) }
     ensures err { IfErr result (λ error. IsPlanRefused k tree.now error) }
 {
-    if let Some(heavy) = first_heavy(alloc, tree, k)? {
-        return Err(PlanError::TooHeavy {
-            path: heavy.path,
-            weight: heavy.weight,
-        });
-    }
     let minima = bounds_wide(rt, alloc, tree, k, workers_for(tree), &NoGate)?;
     Ok(parts_from(alloc, tree, k, &minima)?)
 }

@@ -2,7 +2,7 @@
 ghost use Rattle.std.specs.Prelude.{◌≡◌, ◌<◌, ◌≤◌, [], length, IfOk, IfSome};
 ghost use Rattle.std.specs.Thread.{IsSync};
 ghost use Rattle.nx_tree.specs.Forest.{nodes};
-ghost use Rattle.nx_weights.specs.Weight.{IsAtMost, IsWithinLimits};
+ghost use Rattle.nx_weights.specs.Weight.{IsWithinLimits};
 ghost use Rattle.nx_partition.specs.Bounding.{Extends};
 ghost use Rattle.nx_par.specs.Adding.{CanBound, CanBoundRow, ExtendsByAll, AreTwoToBound};
 
@@ -10,10 +10,10 @@ use crate::Gate;
 use crate::cut::{FEW, Share, TwoRows, number_at, rows_of, two_rows};
 use crate::many::bound_many;
 use crate::settle::{UNKNOWN, settle};
-use nx_lists::NoMemory;
-use nx_partition::{Scratch, bound_tree};
+use nx_partition::{BoundError, Scratch, bound_tree};
 use nx_parts::Bound;
 use nx_tree::{Tree, count};
+use nx_weights::weight;
 use std::alloc::Global;
 use std::thread::{Threads, join};
 
@@ -31,16 +31,18 @@ pub fn bound_one<R: Threads + Sync, G: Gate>(
     k: u32,
     gate: &G,
     list: Vec<Bound>,
-) -> Result<Vec<Bound>, NoMemory>
+) -> Result<Vec<Bound>, BoundError>
     requires some { 1 ≤ k }
     requires bound { k ≤ 256 }
     requires workers { 1 ≤ share.workers }
     requires counted { share.nodes ≡ nodes tree.now.below }
     requires numbers { IfSome share.first (λ number. number ≡ 0) }
     requires limits { IsWithinLimits tree.now }
-    requires light { IsAtMost k tree.now }
     ensures { IfOk result (λ new. Extends k tree.now list.items new.items) }
 {
+    if weight(&tree.node) > k {
+        return Err(BoundError::TooHeavy);
+    }
     let mut list = list;
     let place = list.len();
     list.push(UNKNOWN)?;
@@ -75,7 +77,7 @@ pub fn bound_rows<R: Threads + Sync, G: Gate>(
     k: u32,
     gate: &G,
     list: Vec<Bound>,
-) -> Result<Vec<Bound>, NoMemory>
+) -> Result<Vec<Bound>, BoundError>
     requires { CanBound k share trees.now }
     ensures { IfOk result (λ new. ExtendsByAll k trees.now list.items new.items) }
 {
@@ -112,19 +114,20 @@ fn bound_at_once<R: Threads + Sync, G: Gate>(
     k: u32,
     gate: &G,
     list: Vec<Bound>,
-) -> Result<Vec<Bound>, NoMemory>
+) -> Result<Vec<Bound>, BoundError>
     requires { AreTwoToBound k trees.now two }
     ensures { IfOk result (λ new. ExtendsByAll k trees.now list.items new.items) }
 {
     let (front, back) = trees.split_at(two.at);
-    let left = move || -> Result<Vec<Bound>, NoMemory>
+    let left = move || -> Result<Vec<Bound>, BoundError>
         requires { IsSync R.row × IsSync G.row × CanBound k two.front front.now }
         ensures { IfOk result (λ new. ExtendsByAll k front.entry.now list.items new.items) }
     { bound_rows(rt, alloc, front, two.front, k, gate, list) };
-    let right = move || -> Result<Vec<Bound>, NoMemory>
-        requires { IsSync R.row × IsSync G.row × CanBound k two.back back.now }
+    let more = Vec::with_capacity(alloc, two.back.nodes)?;
+    let right = move || -> Result<Vec<Bound>, BoundError>
+        requires { IsSync R.row × IsSync G.row × CanBound k two.back back.now × (more.items ≡ []) }
         ensures { IfOk result (λ new. ExtendsByAll k back.entry.now [] new.items) }
-    { bound_rows(rt, alloc, back, two.back, k, gate, Vec::new(alloc)) };
+    { bound_rows(rt, alloc, back, two.back, k, gate, more) };
     let (low, high) = join(rt, left, right);
     let mut list = low?;
     list.extend_from_slice(high?.as_slice())?;
@@ -141,7 +144,7 @@ fn bound_in_turn<R: Threads + Sync, G: Gate>(
     k: u32,
     gate: &G,
     list: Vec<Bound>,
-) -> Result<Vec<Bound>, NoMemory>
+) -> Result<Vec<Bound>, BoundError>
     requires { AreTwoToBound k trees.now two }
     ensures { IfOk result (λ new. ExtendsByAll k trees.now list.items new.items) }
 {
@@ -158,7 +161,7 @@ pub fn bound_row<G: Gate>(
     k: u32,
     gate: &G,
     list: Vec<Bound>,
-) -> Result<Vec<Bound>, NoMemory>
+) -> Result<Vec<Bound>, BoundError>
     requires { CanBoundRow k first trees.now }
     ensures { IfOk result (λ new. ExtendsByAll k trees.now list.items new.items) }
 {

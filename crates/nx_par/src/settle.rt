@@ -1,6 +1,6 @@
 // The minima of a node where those of all nodes below it are known.
 ghost use Rattle.std.specs.Prelude.{◌+◌, ◌<◌, ◌≤◌, drop, length, OnOk};
-ghost use Rattle.nx_weights.specs.Weight.{IsAtMost, IsWithinLimits};
+ghost use Rattle.nx_weights.specs.Weight.{IsWithinLimits, weight};
 ghost use Rattle.nx_parts.specs.Minima.{AreMinimaIn};
 ghost use Rattle.nx_par.specs.Adding.{Settles};
 
@@ -29,7 +29,7 @@ pub fn settle(
     requires some { 1 ≤ k }
     requires bound { k ≤ 256 }
     requires limits { IsWithinLimits tree.now }
-    requires light { IsAtMost k tree.now }
+    requires light { weight tree.now.node ≤ k }
     requires place { place < length list.old.items }
     requires minima { AreMinimaIn k tree.now.below (drop (place + 1) list.old.items) }
     ensures { OnOk result (Settles k tree.now place list.old.items list.new.items) }

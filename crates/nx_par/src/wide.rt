@@ -1,29 +1,31 @@
 // The minima of one tree, its subtrees bounded beside each other.
-ghost use Rattle.std.specs.Prelude.{◌≡◌, ◌≤◌, IfOk, IfSome};
-ghost use Rattle.nx_weights.specs.Weight.{IsAtMost, IsWithinLimits};
+ghost use Rattle.std.specs.Prelude.{◌≡◌, ◌≤◌, IfErr, IfOk, IfSome};
+ghost use Rattle.nx_weights.specs.Weight.{IsWithinLimits};
 ghost use Rattle.nx_parts.specs.Minima.{AreMinima};
-ghost use Rattle.nx_partition.specs.Bounding.{Extends};
+ghost use Rattle.nx_partition.specs.Bounding.{Extends, IsPlanRefused};
 
 use crate::Gate;
 use crate::rows::{MANY, bound_one, share_below};
 use crate::settle::{UNKNOWN, settle};
-use nx_lists::NoMemory;
+use nx_partition::{BoundError, PlanError, refusal};
 use nx_parts::{Bound, Bounds};
 use nx_tree::{Kind, Tree, count};
+use nx_weights::weight;
 use std::alloc::Global;
 use std::thread::Threads;
 
 /// The minima of the subtrees of all nodes, in document order, found by threads beside each other: the
-/// same for every number of workers. The tree is a document or one in it, no node weighs more than `k`,
-/// `k` is from 1 to 256, and there is at least one worker.
+/// same for every number of workers. The tree is a document or one in it, `k` is from 1 to 256, and there is at
+/// least one worker.
 ///
 /// The children of a node are cut into rows with about as many nodes each as there are workers, and each row is
 /// bounded by a thread. Where a row has one tree and several workers, its children are cut in turn.
 /// Rows with few nodes get no thread of their own.
 ///
-/// Where the root element of a document has 2 to 2,047 children, the gate is told of each of them, by its position.
+/// Where the root element of a document has 2 to 2,047 children, the gate is told of each of them, by its position, unless a
+/// node is too heavy or there is no memory.
 ///
-/// Errors: `NoMemory`.
+/// Errors: as of `nx_partition::bounds`.
 pub fn bounds_wide<R: Threads + Sync, G: Gate>(
     rt: &R,
     alloc: Global,
@@ -31,12 +33,34 @@ pub fn bounds_wide<R: Threads + Sync, G: Gate>(
     k: u32,
     workers: u32,
     gate: &G,
-) -> Result<Bounds, NoMemory>
+) -> Result<Bounds, PlanError>
     requires some { 1 ≤ k }
     requires bound { k ≤ 256 }
     requires workers { 1 ≤ workers }
     requires limits { IsWithinLimits tree.now }
-    requires light { IsAtMost k tree.now }
+    ensures ok { IfOk result (λ bounds. AreMinima k tree.now bounds) }
+    ensures err { IfErr result (λ error. IsPlanRefused k tree.now error) }
+{
+    match found_wide(rt, alloc, tree, k, workers, gate) {
+        Ok(bounds) => Ok(bounds),
+        Err(BoundError::TooHeavy) => Err(refusal(alloc, tree, k)),
+        Err(BoundError::Memory) => Err(PlanError::Memory),
+    }
+}
+
+// The same, which doesn't tell which node is too heavy.
+fn found_wide<R: Threads + Sync, G: Gate>(
+    rt: &R,
+    alloc: Global,
+    tree: &Tree,
+    k: u32,
+    workers: u32,
+    gate: &G,
+) -> Result<Bounds, BoundError>
+    requires some { 1 ≤ k }
+    requires bound { k ≤ 256 }
+    requires workers { 1 ≤ workers }
+    requires limits { IsWithinLimits tree.now }
     ensures { IfOk result (λ bounds. AreMinima k tree.now bounds) }
 {
     let list = Vec::with_capacity(alloc, count(tree) as usize)?;
@@ -58,14 +82,16 @@ fn bound_document<R: Threads + Sync, G: Gate>(
     workers: u32,
     gate: &G,
     list: Vec<Bound>,
-) -> Result<Vec<Bound>, NoMemory>
+) -> Result<Vec<Bound>, BoundError>
     requires some { 1 ≤ k }
     requires bound { k ≤ 256 }
     requires workers { 1 ≤ workers }
     requires limits { IsWithinLimits tree.now }
-    requires light { IsAtMost k tree.now }
     ensures { IfOk result (λ new. Extends k tree.now list.items new.items) }
 {
+    if weight(&tree.node) > k {
+        return Err(BoundError::TooHeavy);
+    }
     let mut list = list;
     let place = list.len();
     list.push(UNKNOWN)?;

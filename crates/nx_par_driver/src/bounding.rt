@@ -1,14 +1,13 @@
 // Documents, and their bounds.
 ghost use Rattle.std.specs.Prelude.{◌≤◌, IfOk};
 ghost use Rattle.nx_tree.specs.Document.{IsDocument};
-ghost use Rattle.nx_weights.specs.Weight.{IsAtMost, IsWithinLimits};
+ghost use Rattle.nx_weights.specs.Weight.{IsWithinLimits};
 
 use nx_par::{NoGate, bounds_wide};
-use nx_partition::{Scratch, bound_tree};
+use nx_partition::{PlanError, bounds};
 use nx_parts::Bound;
 use nx_pyx::{ReadError, Reader};
 use nx_tree::{NoMemory, Tree};
-use nx_weights::first_heavy;
 use std::alloc::Global;
 use std::thread::Threads;
 
@@ -35,25 +34,6 @@ pub(crate) fn bounded<R: Threads + Sync>(
     requires some { 1 ≤ k }
     requires bound { k ≤ 256 }
 {
-    if first_heavy(alloc, tree, k)?.is_some() {
-        return Ok(0);
-    }
-    often(rt, alloc, tree, k, workers, rounds)
-}
-
-fn often<R: Threads + Sync>(
-    rt: &R,
-    alloc: Global,
-    tree: &Tree,
-    k: u32,
-    workers: u32,
-    rounds: u32,
-) -> Result<u64, NoMemory>
-    requires some { 1 ≤ k }
-    requires bound { k ≤ 256 }
-    requires limits { IsWithinLimits tree.now }
-    requires light { IsAtMost k tree.now }
-{
     let mut all: u64 = 0;
     for _ in 0..rounds {
         all = all.wrapping_add(once(rt, alloc, tree, k, workers)?);
@@ -71,16 +51,17 @@ fn once<R: Threads + Sync>(
     requires some { 1 ≤ k }
     requires bound { k ≤ 256 }
     requires limits { IsWithinLimits tree.now }
-    requires light { IsAtMost k tree.now }
 {
-    if workers == 0 {
-        let mut scratch = Scratch::new(alloc);
-        let mut list = Vec::new(alloc);
-        bound_tree(tree, k, &mut scratch, &mut list)?;
-        return Ok(sum(list.as_slice()));
+    let found = if workers == 0 {
+        bounds(alloc, tree, k)
+    } else {
+        bounds_wide(rt, alloc, tree, k, workers, &NoGate)
+    };
+    match found {
+        Ok(bounds) => Ok(sum(bounds.as_slice())),
+        Err(PlanError::TooHeavy { .. }) => Ok(0),
+        Err(PlanError::Memory) => Err(NoMemory),
     }
-    let bounds = bounds_wide(rt, alloc, tree, k, workers, &NoGate)?;
-    Ok(sum(bounds.as_slice()))
 }
 
 fn sum(bounds: &[Bound]) -> u64 {

@@ -2,10 +2,11 @@
 ghost use Rattle.std.specs.Prelude.{◌≤◌, IfOk};
 ghost use Rattle.nx_tree.specs.Document.{IsDocument};
 
-use nx_par::{BoundsList, Gate, bounds_of_all, bounds_wide};
+use nx_par::{BoundsList, Gate, NoGate, bounds_of_all, bounds_wide};
+use nx_partition::PlanError;
 use nx_parts::Bounds;
 use nx_pyx::{ReadError, Reader};
-use nx_tree::{NoMemory, Tree};
+use nx_tree::{NoMemory, Path, Tree};
 use nx_weights::first_heavy;
 use std::alloc::Global;
 use std::thread::Threads;
@@ -33,10 +34,30 @@ pub fn bounded<R: Threads + Sync, G: Gate>(
     requires bound { k ≤ 256 }
     requires workers { 1 ≤ workers }
 {
-    if first_heavy(alloc, tree, k)?.is_some() {
-        return Ok(None);
+    match bounds_wide(rt, alloc, tree, k, workers, gate) {
+        Ok(found) => Ok(Some(found)),
+        Err(PlanError::TooHeavy { .. }) => Ok(None),
+        Err(PlanError::Memory) => Err(NoMemory),
     }
-    Ok(Some(bounds_wide(rt, alloc, tree, k, workers, gate)?))
+}
+
+/// The first node that is too heavy, and its weight, as the bounds of the document are refused.
+pub fn refused<R: Threads + Sync>(
+    rt: &R,
+    alloc: Global,
+    tree: &Tree,
+    k: u32,
+    workers: u32,
+) -> Option<(Path, u32)>
+    requires document { IsDocument tree.now }
+    requires some { 1 ≤ k }
+    requires bound { k ≤ 256 }
+    requires workers { 1 ≤ workers }
+{
+    match bounds_wide(rt, alloc, tree, k, workers, &NoGate) {
+        Err(PlanError::TooHeavy { path, weight }) => Some((path, weight)),
+        _ => None,
+    }
 }
 
 /// The minima of the nodes of two documents, a list for each, unless a node is too heavy.

@@ -2,8 +2,7 @@
 use Rattle.std.proofs.Common.{◌≡◌, ℕ, zero, suc, ◌+◌, List, [], ◌∷◌, ◌++◌, length, drop, refl, sym, ap, subst, ◌∙◌, arith, append_assoc, length-append, slice_set}
 use Rattle.std.proofs.lemmas.List.{append-nil}
 use Rattle.std.proofs.Math.Seq.{set-append_seam}
-use Rattle.nx_tree.specs.Forest.{OrderedTree, Forest, Empty, Plant, forest_of, nodes}
-use Rattle.nx_weights.specs.Weight.{AreAtMost, IsAtMost}
+use Rattle.nx_tree.specs.Forest.{OrderedTree, Forest, Empty, Plant, nodes}
 use Rattle.nx_parts.specs.declared.bounds.Bound.{Bound}
 use Rattle.nx_parts.specs.Minima.{IsMinima, AreMinimaIn, AreMinima}
 use Rattle.nx_partition.specs.Bounding.{Extends}
@@ -60,15 +59,3 @@ grown_all {now = now} old none place bound g e m =
       added = ap (λ p. slice_set now p bound) e ∙ ap (λ l. slice_set l (length old) bound) (g.added ∙ append_assoc old (none ∷ []) g.bounds) ∙ set-append_seam old none g.bounds bound;
       minima = record { one_each = (let n = x.1 in omega arith); each = (m, x.0, tt) };
     }
-
--- a child is light where all nodes are
-pub light_child : (k : ℕ) (ts : List OrderedTree) (i : ℕ) (t : OrderedTree) → drop i ts ≡ t ∷ drop (i + 1) ts → AreAtMost k (forest_of ts) → IsAtMost k t
-light_child k [] i t e h = absurd (none_left i t e)
-  where
-    none_left : (i : ℕ) (t : OrderedTree) → drop i [] ≡ t ∷ drop (i + 1) [] → ⊥
-    none_left zero t e = cc
-    none_left (suc i) t e = cc
-light_child k (u ∷ ts) zero t e h = let same : u ≡ t = cc in subst (IsAtMost k) same (h.0, h.1)
-light_child k (u ∷ ts) (suc i) t e h =
-    let n : suc (i + 1) ≡ suc i + 1 = omega arith in
-    light_child k ts i t (e ∙ ap (λ j. t ∷ drop j (u ∷ ts)) (sym n)) h.2

@@ -4,8 +4,8 @@ ghost use Rattle.nx_weights.specs.Weight.{IsAtMost, IsWithinLimits};
 ghost use Rattle.nx_parts.specs.Minima.{IsMinima, AreMinima, AreMinimaOf};
 ghost use Rattle.nx_partition.specs.Bounding.{Extends, IsPlanRefused};
 
-use crate::PlanError;
 use crate::scratch::{Scratch, as_bound, as_child};
+use crate::{BoundError, PlanError};
 use nx_choices::Choices;
 use nx_lists::NoMemory;
 use nx_parts::{Bound, Bounds};
@@ -25,16 +25,28 @@ pub fn bounds(alloc: Global, tree: &Tree, k: u32) -> Result<Bounds, PlanError>
     ensures ok { IfOk result (λ bounds. AreMinima k tree.now bounds) }
     ensures err { IfErr result (λ error. IsPlanRefused k tree.now error) }
 {
-    if let Some(heavy) = first_heavy(alloc, tree, k)? {
-        return Err(PlanError::TooHeavy {
-            path: heavy.path,
-            weight: heavy.weight,
-        });
-    }
     let mut scratch = Scratch::new(alloc);
     let mut list = Vec::new(alloc);
-    bound_tree(tree, k, &mut scratch, &mut list)?;
-    Ok(Bounds::from_vec(list))
+    match bound_tree(tree, k, &mut scratch, &mut list) {
+        Ok(()) => Ok(Bounds::from_vec(list)),
+        Err(BoundError::TooHeavy) => Err(refusal(alloc, tree, k)),
+        Err(BoundError::Memory) => Err(PlanError::Memory),
+    }
+}
+
+/// What refuses a tree in which a node weighs more than `k`: the first one in document order. The tree is a document
+/// or one in it. `Memory` where there is none for its path, or no such node.
+pub fn refusal(alloc: Global, tree: &Tree, k: u32) -> PlanError
+    requires { IsWithinLimits tree.now }
+    ensures { IsPlanRefused k tree.now result }
+{
+    match first_heavy(alloc, tree, k) {
+        Ok(Some(heavy)) => PlanError::TooHeavy {
+            path: heavy.path,
+            weight: heavy.weight,
+        },
+        _ => PlanError::Memory,
+    }
 }
 
 /// The minima of the tree itself, where those of its root's children are given in their order. The tree
@@ -57,22 +69,25 @@ pub fn bound_of(alloc: Global, tree: &Tree, k: u32, children: &Bounds) -> Result
     Ok(as_bound(node))
 }
 
-/// Adds the minima of the tree's nodes to the list. The tree is a document or one in it, no node of it weighs more
-/// than `k`, and `k` is from 1 to 256. What was allocated for one tree serves the next.
+/// Adds the minima of the tree's nodes to the list. The tree is a document or one in it, and `k` is from 1 to 256.
+/// What was allocated for one tree serves the next.
 ///
-/// Errors: `NoMemory`.
+/// Errors: `TooHeavy` where a node weighs more than `k`. `Memory` where there is none for what the call has to keep. The
+/// list may have grown by some of the minima then.
 pub fn bound_tree(
     tree: &Tree,
     k: u32,
     scratch: &mut Scratch,
     list: &mut Vec<Bound>,
-) -> Result<(), NoMemory>
+) -> Result<(), BoundError>
     requires some { 1 ≤ k }
     requires bound { k ≤ 256 }
     requires limits { IsWithinLimits tree.now }
-    requires light { IsAtMost k tree.now }
     ensures { OnOk result (Extends k tree.now list.old.items list.new.items) }
 {
+    if weight(&tree.node) > k {
+        return Err(BoundError::TooHeavy);
+    }
     let place = list.len();
     list.push(Bound {
         least: 0,

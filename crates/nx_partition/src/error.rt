@@ -4,7 +4,7 @@ ghost use Rattle.nx_partition.specs.declared.error.PlanError.TheVariants.{Memory
 
 use nx_lists::NoMemory;
 use nx_tree::Path;
-use std::alloc::AllocFailed;
+use std::alloc::{AllocError, AllocFailed};
 
 /// Why a tree has no feasible partitioning, or none was found.
 #[derive(Drop)]
@@ -33,5 +33,32 @@ impl<T: Drop> From<AllocFailed<T>> for PlanError {
 
     fn from(_: AllocFailed<T>) -> PlanError {
         PlanError::Memory
+    }
+}
+
+/// Why the minima of a tree's nodes weren't found. Which node is too heavy `nx_weights::first_heavy` tells.
+#[derive(Clone, Copy, Debug, PartialEq, Eq)]
+pub enum BoundError {
+    /// A node alone weighs more than a part may.
+    TooHeavy,
+    /// There was no memory for what the call had to keep.
+    Memory,
+}
+
+impl From<NoMemory> for BoundError {
+    fn from(_: NoMemory) -> BoundError {
+        BoundError::Memory
+    }
+}
+
+impl From<AllocError> for BoundError {
+    fn from(_: AllocError) -> BoundError {
+        BoundError::Memory
+    }
+}
+
+impl<T: Drop> From<AllocFailed<T>> for BoundError {
+    fn from(_: AllocFailed<T>) -> BoundError {
+        BoundError::Memory
     }
 }

@@ -10,7 +10,7 @@ mod error;
 mod planning;
 mod scratch;
 
-pub use bounding::{bound_of, bound_tree, bounds};
-pub use error::PlanError;
+pub use bounding::{bound_of, bound_tree, bounds, refusal};
+pub use error::{BoundError, PlanError};
 pub use planning::{partition, parts_from, plan, plan_from};
 pub use scratch::Scratch;

@@ -1,5 +1,5 @@
 use Rattle.std.proofs.Common.{◌-◌, drop}
-use Rattle.nx_weights.specs.Weight.{IsAtMost, IsWithinLimits}
+use Rattle.nx_weights.specs.Weight.{IsWithinLimits}
 use Rattle.nx_par.proofs.AddLemmas.{all_take, all_drop}
 use Rattle.nx_par.proofs.many.bound_within.Goals as goal
 
@@ -13,5 +13,4 @@ bound_row-requires-after_bounds c κs =
       bound = may.bound;
       numbers = tt;
       limits = all_take IsWithinLimits rest n (all_drop IsWithinLimits c.args.trees.now c.args.row.from may.limits);
-      light = all_take (IsAtMost c.args.k) rest n (all_drop (IsAtMost c.args.k) c.args.trees.now c.args.row.from may.light);
     }

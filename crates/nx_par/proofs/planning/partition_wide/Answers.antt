@@ -1,8 +1,5 @@
 use Rattle.nx_weights.proofs.LimitLemmas.{document_within}
 use Rattle.nx_par.proofs.planning.partition_wide.Goals as goal
 
-pub first_heavy-requires : goal.first_heavy-requires
-first_heavy-requires g c = document_within c.args.tree.now c.requires.document
-
 pub bounds_wide-requires-clause-limits : goal.bounds_wide-requires-clause-limits
 bounds_wide-requires-clause-limits g c κs within = document_within c.args.tree.now c.requires.document

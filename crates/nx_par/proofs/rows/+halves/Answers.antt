@@ -14,7 +14,7 @@ none = record { least = 0; lean = 0; nearly = 0 }
 pub bound_one-bound_rows-requires-after_bounds : goal.bound_one-bound_rows-requires-after_bounds
 bound_one-bound_rows-requires-after_bounds g t c κs within =
     let forest = c.as_slice.ensures.forest ∙ ap (λ (x : OrderedTree). x.below) c.tree.view_is in
-    can_bound_children c.args.k c.args.share c.args.tree.now c.as_slice.result.now forest c.requires.some c.requires.bound c.requires.workers c.requires.counted c.requires.numbers c.requires.limits c.requires.light
+    can_bound_children c.args.k c.args.share c.args.tree.now c.as_slice.result.now forest c.requires.some c.requires.bound c.requires.workers c.requires.counted c.requires.numbers c.requires.limits
 
 pub bound_one-settle-requires-clause-place : goal.bound_one-settle-requires-clause-place
 bound_one-settle-requires-clause-place g t c =
@@ -66,7 +66,7 @@ bound_at_once-join-low-requires-after_bounds g t c κs within =
     let back = subst (CanBound c.args.k c.args.two.back) (sym c.split_at.ensures.back) c.requires.back in
     let less = fewer_back c.args.trees.now c.split_at.result.1.now c.args.two.at c.split_at.ensures.back c.requires.some c.requires.more in (
       (omega (arith, fewer), (λ a m. m, (λ a m. m, ((search (sendable, crosses) depth 40, search (sendable, crosses) depth 40, front), (search (sendable, crosses) depth 40, search (sendable, crosses) depth 40))))),
-      (omega (arith, less), (λ a m. m, (λ a m. m, ((search (sendable, crosses) depth 40, search (sendable, crosses) depth 40, back), (search (sendable, crosses) depth 40, search (sendable, crosses) depth 40))))),
+      (omega (arith, less), (λ a m. m, (λ a m. m, ((search (sendable, crosses) depth 40, search (sendable, crosses) depth 40, back, c.in_ok-more.ensures.items), (search (sendable, crosses) depth 40, search (sendable, crosses) depth 40))))),
     )
 
 pub bound_at_once-returns : goal.bound_at_once-returns

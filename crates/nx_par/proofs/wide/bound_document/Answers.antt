@@ -2,10 +2,9 @@ use Rattle.std.proofs.Common.{◌≡◌, List, [], ◌∷◌, ◌++◌, ap, ◌�
 use Rattle.std.proofs.lemmas.List.{drop_all}
 use Rattle.nx_tree.specs.Forest.{OrderedTree, forest_of}
 use Rattle.nx_tree.proofs.TestLemmas.{next_left}
-use Rattle.nx_weights.specs.Weight.{AreAtMost}
 use Rattle.nx_weights.proofs.LimitLemmas.{item_within}
 use Rattle.nx_parts.specs.declared.bounds.Bound.{Bound}
-use Rattle.nx_partition.proofs.GrowLemmas.{IsGrown, grown_start, grown_more, light_child}
+use Rattle.nx_partition.proofs.GrowLemmas.{IsGrown, grown_start, grown_more}
 use Rattle.nx_par.proofs.AddLemmas.{place_there, minima_behind, settled}
 use Rattle.nx_par.proofs.wide.bound_document.Goals as goal
 
@@ -28,12 +27,6 @@ bound_one-requires-clause-limits g c κs within =
     let ts = c.as_slice-child-items.result.now in
     let forest = c.as_slice-child-items.ensures.forest ∙ ap (λ (x : OrderedTree). x.below) c.tree.view_is in
     item_within c.args.tree.now ts c.loop-child.child-index c.child-item.result forest c.loop-child-test.true c.child-item.is c.requires.limits
-
-pub bound_one-requires-clause-light : goal.bound_one-requires-clause-light
-bound_one-requires-clause-light g c κs within =
-    let ts = c.as_slice-child-items.result.now in
-    let forest = c.as_slice-child-items.ensures.forest ∙ ap (λ (x : OrderedTree). x.below) c.tree.view_is in
-    light_child c.args.k ts c.loop-child.child-index c.child-item.result (next_left _ _ _ c.loop-child-test.true c.child-item.is) (subst (AreAtMost c.args.k) (sym forest) c.requires.light.1)
 
 pub loop-child-preserved : goal.loop-child-preserved
 loop-child-preserved g c =

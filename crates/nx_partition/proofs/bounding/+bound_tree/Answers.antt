@@ -3,11 +3,10 @@ use Rattle.std.proofs.lemmas.List.{drop_all, take_rest}
 use Rattle.nx_tree.specs.Forest.{OrderedTree, forest_of}
 use Rattle.nx_tree.specs.Document.{depth}
 use Rattle.nx_tree.proofs.TestLemmas.{next_left, depth_item}
-use Rattle.nx_weights.specs.Weight.{AreAtMost}
 use Rattle.nx_weights.proofs.LimitLemmas.{item_within}
 use Rattle.nx_parts.specs.declared.bounds.Bound.{Bound}
 use Rattle.nx_parts.specs.Minima.{AreMinimaIn}
-use Rattle.nx_partition.proofs.GrowLemmas.{IsGrown, grown_start, grown_more, grown_end, grown_all, behind_place, light_child}
+use Rattle.nx_partition.proofs.GrowLemmas.{IsGrown, grown_start, grown_more, grown_end, grown_all, behind_place}
 use Rattle.nx_partition.proofs.bounding.+bound_tree.Goals as goal
 
 abbrev none : Bound
@@ -25,8 +24,7 @@ bound_tree-requires t c =
     let child = c.child-item.result in
     let forest = c.as_slice-child-items.ensures.forest ∙ ap (λ (x : OrderedTree). x.below) c.tree.view_is in
     let d : 1 + depth child.below ≤ depth c.args.tree.now.below = depth_item c.args.tree.now.below ts i child forest c.loop-child-test.true c.child-item.is in
-    let light = light_child c.args.k ts i child (next_left _ _ _ c.loop-child-test.true c.child-item.is) (subst (AreAtMost c.args.k) (sym forest) c.requires.light.1) in
-    (search rules, (c.requires.some, (c.requires.bound, (item_within c.args.tree.now ts i child forest c.loop-child-test.true c.child-item.is c.requires.limits, light))))
+    (search rules, (c.requires.some, (c.requires.bound, item_within c.args.tree.now ts i child forest c.loop-child-test.true c.child-item.is c.requires.limits)))
 
 pub loop-child-preserved : goal.loop-child-preserved
 loop-child-preserved t c =

@@ -1,0 +1,5 @@
+use Rattle.nx_weights.proofs.LimitLemmas.{document_within}
+use Rattle.nx_par_tests.proofs.bounding.refused.Goals as goal
+
+pub bounds_wide-requires-clause-limits : goal.bounds_wide-requires-clause-limits
+bounds_wide-requires-clause-limits g c κs within = document_within c.args.tree.now c.requires.document
