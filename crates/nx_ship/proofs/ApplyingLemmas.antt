@@ -98,17 +98,15 @@ module _ {D : Type 0} {d : Ghosts D} where
   pub applied_on : {start : Pages} {first a b : D} {gs : List Group} → HasApplied d start first gs a
       → Elapses d.moment d.stood_since a b (λ s. Keeps (d.beside a).output s.output × (replay s.image ≡ over_all start gs)) → Keeps (d.beside a).output (d.beside b).output → HasApplied d start first gs b
   applied_on {start = start} {first = first} {a = a} {b = b} {gs = gs} applied time keeps = record {
-    in_turn = applied.in_turn;
     out = appends_kept (applied_text gs) (d.beside first).output (d.beside a).output (d.beside b).output applied.out keeps;
     time = elapsed_then applied.time time (λ s h. shows_all (d.beside first).output (d.beside a).output start gs s applied.out h.0 h.1);
   }
 
   -- a group more, whose line was given
-  pub applied_more : {start : Pages} {first a c : D} {gs : List Group} (g : Group) → HasApplied d start first gs a → MayComeTo (over_all start gs) g
+  pub applied_more : {start : Pages} {first a c : D} {gs : List Group} (g : Group) → HasApplied d start first gs a
       → Elapses d.moment d.stood_since a c (ShowsApplied (d.beside first).output start (gs ++ g ∷ [])) → Appends (applied_line g) (d.beside a).output (d.beside c).output
       → HasApplied d start first (gs ++ g ∷ []) c
-  applied_more {start = start} {first = first} {a = a} {c = c} {gs = gs} g applied comes time appends = record {
-    in_turn = in_turn_more start gs g applied.in_turn comes;
+  applied_more {start = start} {first = first} {a = a} {c = c} {gs = gs} g applied time appends = record {
     out = subst (λ (l : List ℕ). Appends l (d.beside first).output (d.beside c).output) (sym (text_more gs g))
         (appends_then (applied_text gs) (applied_line g) (d.beside first).output (d.beside a).output (d.beside c).output applied.out appends);
     time = elapsed_then (elapsed_weaker applied.time (λ s h. shows_longer (d.beside first).output start gs (g ∷ []) s h)) time (λ s h. h);

@@ -123,6 +123,43 @@ all_there (e ∷ es) least p rises whole from below =
           (all_there es (e.page + 1) p a.1 (omega (arith, here, whole)) (omega (arith, here, from, apart)) (omega (arith, here, below)))
     ]
 
+-- pages that rise are in one order
+some_bytes : (x y : List ℕ) (o : Option (List ℕ)) → o ≡ Some x → o ≡ Some y → x ≡ y
+some_bytes x y o one other = let a : o ≡ Some x = one in let b : o ≡ Some y = other in cc
+
+first_not_below : (e f : Entry) (es fs : List Entry) → rise (f.page + 1) fs ≡ true → entry_pages (e ∷ es) ≡ entry_pages (f ∷ fs) → e.page < f.page → ⊥
+first_not_below e f es fs rises same less =
+    no_some e.bytes (entry_pages (e ∷ es) e.page) (entry_here e es e.page refl)
+    (ap (λ (p : Pages). p e.page) same ∙ entry_behind f fs e.page (λ is. omega (arith, is, less)) ∙ below_none fs (f.page + 1) e.page rises (omega (arith, less)))
+
+behind_at : (e : Entry) (es : List Entry) (p : ℕ) → (p ≡ e.page → ⊥) → entry_pages es p ≡ entry_pages (e ∷ es) p
+behind_at e es p apart = sym (entry_behind e es p apart)
+
+rest_same : (e f : Entry) (es fs : List Entry) → rise (e.page + 1) es ≡ true → rise (f.page + 1) fs ≡ true → e.page ≡ f.page → entry_pages (e ∷ es) ≡ entry_pages (f ∷ fs) → (p : ℕ) → entry_pages es p ≡ entry_pages fs p
+rest_same e f es fs low low_too first same p = elim (same_or_not p e.page) [
+  | inl here ↦ below_none es (e.page + 1) p low (omega (arith, here)) ∙ sym (below_none fs (f.page + 1) p low_too (omega (arith, here, first)))
+  | inr apart ↦ behind_at e es p apart ∙ ap (λ (f : Pages). f p) same ∙ entry_behind f fs p (λ is. apart (is ∙ sym first))
+]
+
+pub same_entries : (es fs : List Entry) (least : ℕ) → rise least es ≡ true → rise least fs ≡ true → entry_pages es ≡ entry_pages fs → es ≡ fs
+same_entries [] [] least rises rises_too same = refl
+same_entries [] (f ∷ fs) least rises rises_too same = absurd (no_some f.bytes (entry_pages (f ∷ fs) f.page) (entry_here f fs f.page refl) (sym (ap (λ (p : Pages). p f.page) same)))
+same_entries (e ∷ es) [] least rises rises_too same = absurd (no_some e.bytes (entry_pages (e ∷ es) e.page) (entry_here e es e.page refl) (ap (λ (p : Pages). p e.page) same))
+same_entries (e ∷ es) (f ∷ fs) least rises rises_too same =
+    let low = (and_parts _ _ rises).1 in
+    let low_too = (and_parts _ _ rises_too).1 in
+    let first : e.page ≡ f.page = elim (same_or_not e.page f.page) [
+      | inl is ↦ is
+      | inr apart ↦ elim (less_or_not e.page f.page) [
+        | inl less ↦ absurd (first_not_below e f es fs low_too same less)
+        | inr most ↦ absurd (first_not_below f e fs es low (sym same) (omega (arith, most, apart)))
+      ]
+    ] in
+    let bytes : e.bytes ≡ f.bytes =
+    some_bytes e.bytes f.bytes (entry_pages (e ∷ es) e.page) (entry_here e es e.page refl) (ap (λ (p : Pages). p e.page) same ∙ entry_here f fs e.page first) in
+    let rest : es ≡ fs = same_entries es fs (e.page + 1) low (subst (λ (n : ℕ). rise (n + 1) fs ≡ true) (sym first) low_too) (λ i p. rest_same e f es fs low low_too first same p i) in
+    ap (λ (l : List Entry). e ∷ l) rest ∙ ap (λ (n : ℕ). record { page = n; bytes = e.bytes } ∷ fs) first ∙ ap (λ (l : List ℕ). record { page = f.page; bytes = l } ∷ fs) bytes
+
 none_some : (o : Option (List ℕ)) → o ≡ None → IsSome o → ⊥
 none_some o none some = false≢true (sym (ap (λ (x : Option (List ℕ)). is_some_of x) none) ∙ some)
 

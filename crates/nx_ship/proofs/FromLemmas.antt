@@ -8,7 +8,8 @@ use Rattle.nx_replay.specs.Log.{Group, groups}
 use Rattle.nx_wal.specs.declared.wal.Wal.{Wal}
 use Rattle.nx_ship.specs.Stream.{stream_of}
 use Rattle.nx_ship.specs.Next.{number_following}
-use Rattle.nx_ship.specs.Sending.{SendsMore, SendsSome, SendsGroups, StopsAtGroups, IsPrefix, IsCutShort, HasSentFrom, EndsSendingFrom, from_number}
+use Rattle.nx_ship.specs.Sending.{from_number}
+use Rattle.nx_ship.specs.Sent.{SendsMore, SendsSome, SendsGroups, StopsAtGroups, IsPrefix, IsCutShort, HasSentFrom, EndsSendingFrom}
 use Rattle.nx_ship.specs.declared.error.ShipError.{ShipError}
 use Rattle.nx_ship.specs.declared.error.ShipError.TheVariants as error
 use Rattle.nx_ship.proofs.SendLemmas.{more_then, some_then, more_now, more_sends, more_appends, some_sends, still_sends, appends_none, sent_none}

@@ -1,8 +1,9 @@
 -- The groups of a log from a number on, as they are sent one after another.
-use Rattle.std.proofs.Common.{◌≡◌, ◌⊎◌, ℕ, zero, suc, ◌+◌, ◌≤◌, Bool, true, false, List, [], ◌∷◌, ◌++◌, length, take, drop, None, Some, refl, sym, ap, subst, ◌∙◌, arith, inl, inr, append_assoc, append-nil}
+use Rattle.std.proofs.Common.{◌≡◌, ◌⊎◌, ℕ, zero, suc, ◌+◌, ◌<◌, ◌≤◌, Bool, true, false, List, [], ◌∷◌, ◌++◌, length, take, drop, get_or, None, Some, refl, sym, ap, subst, ◌∙◌, arith, inl, inr, append_assoc, append-nil}
 use Rattle.std.specs.Prelude.{IsSome, ◌==◌, ◌↔◌, if◌then◌else◌, slice_get}
 use Rattle.std.proofs.lemmas.Bool.{false≢true, cases_Bool}
 use Rattle.std.proofs.lemmas.List.{take_all, take-append-drop}
+use Rattle.std.proofs.lemmas.Option.{slice_get-get_or}
 use Rattle.nx_host.specs.Disk.{Image}
 use Rattle.nx_host.specs.Still.{IsStill}
 use Rattle.nx_host.specs.declared.disk.Disk.{Ghosts}
@@ -11,10 +12,12 @@ use Rattle.nx_replay.specs.Log.{Group, group_bytes, groups}
 use Rattle.nx_wal.specs.Wal.{Follows, IsInStep, pending}
 use Rattle.nx_wal.specs.declared.wal.Wal.{Wal}
 use Rattle.nx_ship.specs.Stream.{stream_of}
-use Rattle.nx_ship.specs.Sending.{SendsMore, SendsSome, SendsWanted, SendsGroups, StopsAtGroups, IsCutShort, IsPrefix, OfStore, from_number}
+use Rattle.nx_ship.specs.Sending.{from_number}
+use Rattle.nx_ship.specs.Sent.{SendsMore, IsWanted, SendsWanted, StopsAtWanted, SendsGroups, StopsAtGroups, IsCutShort, IsPrefix, OfStore}
 use Rattle.nx_ship.specs.declared.error.ShipError.{ShipError}
-use Rattle.nx_ship.proofs.SendLemmas.{more_then, some_then, more_now, sent_none, asks_more, asks_some, gives_none, step_sent}
+use Rattle.nx_ship.proofs.SendLemmas.{more_then, some_then, more_now, sent_none, asks_more, gives_none, some_nothing, step_sent}
 use Rattle.nx_ship.proofs.SendingLemmas.{told_before, prefix_none}
+use Rattle.nx_ship.proofs.PartLemmas.{told_still}
 
 -- One group more:
 
@@ -83,6 +86,9 @@ prefix_from : (number n : ℕ) (gs : List Group) → IsPrefix (stream_of (from_n
 prefix_from number n gs =
     subst (λ (l : List Group). IsPrefix (stream_of (from_number number (take n gs))) (stream_of (from_number number l))) (take-append-drop n gs) (from_first number (take n gs) (drop n gs))
 
+abbrev no_group : Group
+no_group = record { number = 0; entries = [] }
+
 -- of the first so many groups of the log those from the number on were sent
 pub record SentUpTo {D : Type 0} (d : Ghosts D) (number : ℕ) (wal : Wal) (found : Bool) (n : ℕ) (before after : List ℕ) (old new : D) : Type 0 where
   pub bytes : List ℕ
@@ -99,56 +105,56 @@ module _ {D : Type 0} {d : Ghosts D} where
     none = λ is. none_still;
   }
 
-  told_still : {a b : D} → IsStill d a b → IsSome (d.contents b) → IsSome (d.contents a)
-  told_still still told = subst (λ o. IsSome o) still.contents_stay told
-
   -- the bytes of one group more
   grown : {wal : Wal} {found : Bool} {p q : List ℕ} {a b : D} (number n : ℕ) (g : Group) (sent : SentUpTo d number wal found n p q a b) (was : Image) → IsInStep d wal a was → pending wal ≡ []
-      → IsSome (d.contents b) → ((was : Image) → IsInStep d wal b was → slice_get (groups was.log) n ≡ Some g) → (found ≡ true) ⊎ ((g.number == number) ≡ true)
+      → IsSome (d.contents b) → slice_get (groups was.log) n ≡ Some g → IsWanted number found g
       → (sent.bytes ++ group_bytes g ≡ stream_of (from_number number (take (n + 1) (groups was.log)))) × (from_number number (take (n + 1) (groups was.log)) ≡ [] → ⊥)
-  grown {found = found} number n g sent was step empty told read here =
+  grown {found = found} number n g sent was step empty told here wanted =
       let (is, none) = sent.are was step empty told in
       let gs = groups was.log in
-      let next : take (n + 1) gs ≡ take n gs ++ g ∷ [] = take_next gs n g (read was (step_sent _ (more_now sent.bytes sent.sends) told step)) in
       let more : from_number number (take (n + 1) gs) ≡ from_number number (take n gs) ++ g ∷ [] =
-      ap (λ (l : List Group). from_number number l) next ∙ grows number (take n gs) g found none here in (
+      ap (λ (l : List Group). from_number number l) (take_next gs n g here) ∙ grows number (take n gs) g found none wanted in (
         ap (λ (l : List ℕ). l ++ group_bytes g) is ∙ ap (λ (l : List ℕ). stream_of (from_number number (take n gs)) ++ l) (sym (append-nil (group_bytes g)))
             ∙ sym (stream-append (from_number number (take n gs)) (g ∷ [])) ∙ ap (λ (l : List Group). stream_of l) (sym more),
         λ no. some_behind (from_number number (take n gs)) g (sym more ∙ no),
       )
 
-  -- a group was read, and sent where it is wanted
-  pub up_to_then : {wal : Wal} {found : Bool} {p q r : List ℕ} {a b m c : D} (number n : ℕ) (g : Group) (now : Bool) → SentUpTo d number wal found n p q a b → IsStill d b m
-      → ((was : Image) → IsInStep d wal b was → slice_get (groups was.log) n ≡ Some g) → SendsWanted d number g found now q r m c → SentUpTo d number wal now (n + 1) p r a c
-  up_to_then {wal = wal} {found = found} {p = p} {q = q} {a = a} {b = b} {m = m} {c = c} number n g true sent still read (here, more) =
-      let asked = more_then [] (group_bytes g) (asks_more q still) more in
-      record {
-        bytes = sent.bytes ++ group_bytes g;
-        sends = more_then sent.bytes (group_bytes g) sent.sends asked;
-        are = λ was step empty told.
-            let told_b : IsSome (d.contents b) = told_before (d.contents b) (d.contents c) ((more_now (group_bytes g) asked).contents_stay) told in
-            let (is, some) = grown number n g sent was step empty told_b read here in
-            (is, (λ no. absurd (false≢true (sym no)), λ no. absurd (some no)));
-        none = λ no. absurd (false≢true (sym no));
-      }
-  up_to_then {wal = wal} {found = found} {p = p} {q = q} {r = r} {a = a} {b = b} {m = m} {c = c} number n g false sent still read (not_yet, not_here, block, same) =
-      let passed : SentUpTo d number wal false (n + 1) p q a m = record {
+  -- the next group was sent where it is wanted
+  pub up_to_then : {wal : Wal} {found : Bool} {p q r : List ℕ} {a b c : D} (number n : ℕ) (now : Bool) → ((log : List ℕ) → Follows wal log → n < length (groups log)) → SentUpTo d number wal found n p q a b
+      → SendsWanted d number n wal found now q r b c → SentUpTo d number wal now (n + 1) p r a c
+  up_to_then {b = b} {c = c} number n true there sent group = record {
+    bytes = sent.bytes ++ group.bytes;
+    sends = more_then sent.bytes group.bytes sent.sends group.sends;
+    are = λ was step empty told.
+        let told_b : IsSome (d.contents b) = told_before (d.contents b) (d.contents c) ((more_now group.bytes group.sends).contents_stay) told in
+        let gs = groups was.log in
+        let g = get_or gs n no_group in
+        let here = slice_get-get_or gs n no_group (there was.log step.follows) in
+        let (wanted, all) = group.are was (step_sent _ (more_now sent.bytes sent.sends) told_b step) empty told g here in
+        let (is, some) = grown number n g sent was step empty told_b here wanted in
+        (ap (λ (l : List ℕ). sent.bytes ++ l) all ∙ is, (λ no. absurd (false≢true (sym no)), λ no. absurd (some no)));
+    none = λ no. absurd (false≢true (sym no));
+  }
+  up_to_then {wal = wal} {p = p} {q = q} {a = a} {b = b} {c = c} number n false there sent (not_yet, block, still, passed) =
+      let all : SentUpTo d number wal false (n + 1) p q a c = record {
         bytes = sent.bytes ++ [];
         sends = more_then sent.bytes [] sent.sends (asks_more q still);
         are = λ was step empty told.
             let told_b : IsSome (d.contents b) = told_still still told in
             let (is, none) = sent.are was step empty told_b in
             let gs = groups was.log in
+            let g = get_or gs n no_group in
+            let here = slice_get-get_or gs n no_group (there was.log step.follows) in
+            let not_here = passed was (step_sent _ (more_now sent.bytes sent.sends) told_b step) empty g here in
             let nothing : from_number number (take n gs) ≡ [] = none.0 not_yet in
-            let next : take (n + 1) gs ≡ take n gs ++ g ∷ [] = take_next gs n g (read was (step_sent _ (more_now sent.bytes sent.sends) told_b step)) in
             let still_none : from_number number (take (n + 1) gs) ≡ [] =
-            ap (λ (l : List Group). from_number number l) next ∙ from_none number (take n gs) (g ∷ []) nothing ∙ first_by number g [] false not_here in (
+            ap (λ (l : List Group). from_number number l) (take_next gs n g here) ∙ from_none number (take n gs) (g ∷ []) nothing ∙ first_by number g [] false not_here in (
               append-nil sent.bytes ∙ is ∙ ap (λ (l : List Group). stream_of l) nothing ∙ ap (λ (l : List Group). stream_of l) (sym still_none),
               (λ no. still_none, λ no. refl),
             );
         none = λ no. still_then (sent.none not_yet) still;
       } in
-      subst (λ (h : D). SentUpTo d number wal false (n + 1) p r a h) (sym same) (subst (λ (l : List ℕ). SentUpTo d number wal false (n + 1) p l a m) (sym block) passed)
+      subst (λ (l : List ℕ). SentUpTo d number wal false (n + 1) p l a c) (sym block) all
 
   -- all groups of the log were read
   pub up_to_end : {wal : Wal} {found : Bool} {p q : List ℕ} {a b : D} (number n : ℕ) → ((log : List ℕ) → Follows wal log → length (groups log) ≤ n) → SentUpTo d number wal found n p q a b → SendsGroups d number wal found p q a b
@@ -163,32 +169,33 @@ module _ {D : Type 0} {d : Ghosts D} where
     none = sent.none;
   }
 
-  -- the log wasn't read
-  pub up_to_unread : {wal : Wal} {found : Bool} {p q : List ℕ} {a b m : D} (number n : ℕ) (e : ShipError) → IsCutShort e → SentUpTo d number wal found n p q a b → IsStill d b m → StopsAtGroups d number wal e p a m
-  up_to_unread {wal = wal} {found = found} {p = p} {q = q} {a = a} {b = b} {m = m} number n e cut sent still = record {
+  -- there was no room for a part of a group
+  pub up_to_unbegun : {wal : Wal} {p : List ℕ} {a : D} (number : ℕ) (e : ShipError) → IsCutShort e → StopsAtGroups d number wal e p a a
+  up_to_unbegun {p = p} {a = a} number e cut = record { sent = record { bytes = []; sends = some_nothing [] p a; are = λ was step empty told. prefix_none _ }; cut = cut }
+
+  -- the next group wasn't sent whole
+  pub up_to_stopped : {wal : Wal} {found : Bool} {p q : List ℕ} {a b c : D} (number n : ℕ) (e : ShipError) → IsCutShort e → ((log : List ℕ) → Follows wal log → n < length (groups log))
+      → SentUpTo d number wal found n p q a b → StopsAtWanted d number n wal found q b c → StopsAtGroups d number wal e p a c
+  up_to_stopped {q = q} {b = b} {c = c} number n e cut there sent group = record {
     sent = record {
-      bytes = sent.bytes ++ [];
-      sends = some_then sent.bytes [] sent.sends (asks_some [] q still);
+      bytes = sent.bytes ++ group.bytes;
+      sends = some_then sent.bytes group.bytes sent.sends group.sends;
       are = λ was step empty told.
-          let (is, none) = sent.are was step empty (told_still still told) in
-          subst (λ (l : List ℕ). IsPrefix l (stream_of (from_number number (groups was.log)))) (sym (append-nil sent.bytes ∙ is)) (prefix_from number n (groups was.log));
+          let told_b : IsSome (d.contents b) = told_before (d.contents b) (d.contents c) ((group.sends q b (sent_none q b)).contents_stay) told in
+          let gs = groups was.log in
+          let g = get_or gs n no_group in
+          let here = slice_get-get_or gs n no_group (there was.log step.follows) in
+          let (is, none) = sent.are was step empty told_b in
+          elim (group.are was (step_sent _ (more_now sent.bytes sent.sends) told_b step) empty told g here) [
+            | inl nothing ↦
+                subst (λ (l : List ℕ). IsPrefix l (stream_of (from_number number gs))) (sym (ap (λ (l : List ℕ). sent.bytes ++ l) nothing ∙ append-nil sent.bytes ∙ is)) (prefix_from number n gs)
+            | inr (wanted, (more, part)) ↦
+                let (all, some) = grown number n g sent was step empty told_b here wanted in
+                let whole : (sent.bytes ++ group.bytes) ++ more ≡ stream_of (from_number number (take (n + 1) gs)) =
+                append_assoc sent.bytes group.bytes more ∙ ap (λ (l : List ℕ). sent.bytes ++ l) part ∙ all in
+                let (rest, is_all) = prefix_from number (n + 1) gs in
+                (more ++ rest, sym (append_assoc (sent.bytes ++ group.bytes) more rest) ∙ ap (λ (l : List ℕ). l ++ rest) whole ∙ is_all)
+          ];
     };
     cut = cut;
   }
-
-  -- a group that was read wasn't sent whole
-  pub up_to_stopped : {wal : Wal} {found : Bool} {p q : List ℕ} {a b m c : D} (number n : ℕ) (g : Group) (e : ShipError) → IsCutShort e → SentUpTo d number wal found n p q a b → IsStill d b m
-      → ((was : Image) → IsInStep d wal b was → slice_get (groups was.log) n ≡ Some g) → ((found ≡ true) ⊎ ((g.number == number) ≡ true)) × SendsSome d (group_bytes g) q m c → StopsAtGroups d number wal e p a c
-  up_to_stopped {wal = wal} {found = found} {p = p} {q = q} {a = a} {b = b} {m = m} {c = c} number n g e cut sent still read (here, some) =
-      let asked = some_then [] (group_bytes g) (asks_more q still) some in
-      record {
-        sent = record {
-          bytes = sent.bytes ++ group_bytes g;
-          sends = some_then sent.bytes (group_bytes g) sent.sends asked;
-          are = λ was step empty told.
-              let told_b : IsSome (d.contents b) = told_before (d.contents b) (d.contents c) ((asked q b (sent_none q b)).contents_stay) told in
-              let (is, some) = grown number n g sent was step empty told_b read here in
-              subst (λ (l : List ℕ). IsPrefix l (stream_of (from_number number (groups was.log)))) (sym is) (prefix_from number (n + 1) (groups was.log));
-        };
-        cut = cut;
-      }

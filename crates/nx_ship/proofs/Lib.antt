@@ -11,6 +11,7 @@ pub mod PageLemmas
 pub mod ReceivingLemmas
 pub mod StoreLemmas
 pub mod SendingLemmas
+pub mod PartLemmas
 pub mod GroupsLemmas
 pub mod TakingLemmas
 pub mod CallLemmas

@@ -64,7 +64,7 @@ every_applied_moment start (g ∷ gs) out image (inr (inr (more, is, rest))) =
 -- Streams:
 
 -- the first groups of a stream are among its groups
-pub among : (groups all : List Group) (bytes rest : List ℕ) → Begins groups bytes rest → Begins all bytes [] → (IsGood [] → ⊥) → (more : List Group) × (all ≡ groups ++ more) × Begins more rest []
+among : (groups all : List Group) (bytes rest : List ℕ) → Begins groups bytes rest → Begins all bytes [] → (IsGood [] → ⊥) → (more : List Group) × (all ≡ groups ++ more) × Begins more rest []
 among [] all bytes rest same begins none = (all, refl, subst (λ (l : List ℕ). Begins all l []) (sym same) begins)
 among (g ∷ groups) [] bytes rest begins empty none = absurd (none (subst IsGood (sym empty) begins.0))
 among (g ∷ groups) (h ∷ all) bytes rest begins wholes none =

@@ -10,7 +10,7 @@ use Rattle.nx_host.specs.Time.{none_elapsed, elapsed_weaker}
 use Rattle.nx_host.specs.Still.{IsStill, IsSettled}
 use Rattle.nx_host.specs.Phase.{TakesAlone}
 use Rattle.nx_host.specs.declared.disk.Disk.{Ghosts}
-use Rattle.nx_host.proofs.DiskLemmas.{keeps_self, settled_kept}
+use Rattle.nx_host.proofs.DiskLemmas.{keeps_self, settled_kept, settled_still}
 use Rattle.nx_host.proofs.OutputLemmas.{appends_nothing}
 use Rattle.nx_host.proofs.InputLemmas.{block_behind}
 use Rattle.nx_replay.specs.Log.{Pages, Entry, Group, HasMark, replay}
@@ -19,20 +19,19 @@ use Rattle.nx_wal.specs.Wal.{NoLogCreated}
 use Rattle.nx_wal.specs.declared.error.WalError.{WalError}
 use Rattle.nx_wal.specs.declared.error.WalError.TheVariants as wal_error
 use Rattle.nx_ship.specs.Faults.{error_of_input, error_of_log}
-use Rattle.nx_ship.specs.Stream.{IsGood, stream_length}
+use Rattle.nx_ship.specs.Stream.{IsGood, IsPartOfGroup, Begins, stream_length}
 use Rattle.nx_ship.specs.declared.reader.Reader.{Reader}
 use Rattle.nx_ship.specs.Reading.{HoldsPart}
-use Rattle.nx_ship.specs.Sending.{IsFault, IsByFault, IsHeadless, IsBarred}
-use Rattle.nx_ship.specs.Applying.{AreIn, EndsApplying, AppliesTo, IsUnapplied, ReceivesStream}
+use Rattle.nx_ship.specs.Sent.{IsFault, IsHeadless, IsBarred}
+use Rattle.nx_ship.specs.Applying.{groups_in, IsApplyCause, EndsApplying, AppliesTo, IsUnapplied, ReceivesStream}
 use Rattle.nx_ship.specs.Receiving.{HasApplied, Receives, ReceivesSome, HasOpened, EndsAt, EndsStream, EndsReceiving, TakesInput}
 use Rattle.nx_ship.specs.declared.receiver.Receiver.{Receiver}
 use Rattle.nx_ship.specs.declared.error.ShipError.{ShipError}
 use Rattle.nx_ship.specs.declared.error.ShipError.TheVariants as error
-use Rattle.nx_ship.proofs.StreamLemmas.{none_good}
+use Rattle.nx_ship.proofs.StreamLemmas.{begins_length}
 use Rattle.nx_ship.proofs.SendLemmas.{rose_since}
 use Rattle.nx_ship.proofs.ApplyingLemmas.{applied_on}
-use Rattle.nx_ship.proofs.TakingLemmas.{are_in, unfed}
-use Rattle.nx_ship.proofs.ShippingLemmas.{raised}
+use Rattle.nx_ship.proofs.TakingLemmas.{ended, unfed}
 
 pub if_ok_map : {T E : Type 0} {P Q : T → Type 0} (r : Result T E) → IfOk r P → ((x : T) → P x → Q x) → IfOk r Q
 if_ok_map (Ok x) p f = f x p
@@ -60,7 +59,7 @@ no_mark_there pages (bytes, there, begins) none = let a : pages 0 ≡ Some bytes
 
 pub headless_unapplied : (was : Image) (e : ShipError) → HasMark (replay was) → IsHeadless (replay was) e → IsUnapplied was (Err e)
 headless_unapplied was error.NotAStore mark why = absurd (no_mark_there (replay was) mark why)
-headless_unapplied was (error.Damaged page) mark why = why
+headless_unapplied was (error.Damaged page) mark why = (mark, why)
 headless_unapplied was error.Disk mark why = tt
 headless_unapplied was error.Memory mark why = tt
 headless_unapplied was error.Write mark why = absurd why
@@ -87,28 +86,43 @@ cut_unapplied was (error.Gap n l) cut = absurd cut
 cut_unapplied was (error.Base n) cut = absurd cut
 cut_unapplied was (error.Stream offset) cut = absurd cut
 
+-- why nothing was opened, and why it ended so then
+apply_unopened : {D : Type 0} (d : Ghosts D) (a b : D) (e : ShipError) → ((was : Image) → IsSettled d a was → IsUnapplied was (Err e)) → IsFault d e a b → IsApplyCause d (Err e) a b
+apply_unopened d a b error.Disk why fault = fault
+apply_unopened d a b error.Memory why fault = tt
+apply_unopened d a b error.NotAStore why fault = why
+apply_unopened d a b (error.Damaged page) why fault = why
+apply_unopened d a b error.Write why fault = absurd fault
+apply_unopened d a b error.Read why fault = absurd fault
+apply_unopened d a b error.TooMuch why fault = absurd fault
+apply_unopened d a b (error.NoGroup from at) why fault = absurd fault
+apply_unopened d a b (error.Repeat n l) why fault = absurd fault
+apply_unopened d a b (error.Gap n l) why fault = absurd fault
+apply_unopened d a b (error.Base n) why fault = absurd fault
+apply_unopened d a b (error.Stream offset) why fault = absurd fault
+
 -- Input:
 
 pub takes_kept : (a b : Option (List ℕ)) → Keeps a b → Takes [] a b
 takes_kept a None keeps = tt
 takes_kept a (Some left) keeps = keeps
 
--- what is held isn't good yet
-pub held_short : (r : Reader) (held : List ℕ) (es : List Entry) → HoldsPart r held es → IsGood held → ⊥
-held_short r held es holds good =
+-- what is held is a part of a group
+pub held_part : (r : Reader) (held : List ℕ) (es : List Entry) → HoldsPart r held es → IsPartOfGroup held
+held_part r held es holds =
     elim (zero_or_more r.count) [
       | inl none ↦
           let long : length held ≡ length r.unit.items = ap (λ (b : List ℕ). length b) (holds.head none).same in
           let short = holds.short_head none in
-          none_good held (omega (arith, long, short)) good
+          inl (omega (arith, long, short))
       | inr some ↦
           let pages = holds.pages some in
           let long = pages.long in
           let count = pages.count in
+          let few = pages.few in
           let left = holds.some_left some in
           let short = holds.short_page some in
-          let whole = good.whole in
-          omega (arith, long, count, left, short, whole)
+          inr (omega (arith, count, few), omega (arith, long, count, left, short))
     ]
 
 no_more : (rest : List ℕ) (o : Option (List ℕ)) → IsAtEnd o → (IsGood rest → ⊥) → IfSome o (λ more. IsGood (rest ++ more) → ⊥)
@@ -116,27 +130,32 @@ no_more rest None at_end none = tt
 no_more rest (Some left) at_end none = λ good.
     none (subst (λ (l : List ℕ). IsGood l) (ap (λ (l : List ℕ). rest ++ l) at_end ∙ append-nil rest) good)
 
-end_at : {D : Type 0} (d : Ghosts D) (start : Pages) (first now : D) (r : Receiver) (taken : List ℕ) (gs : List Group) (rest : List ℕ) (result : Result (Unit {0}) ShipError) → IsAtEnd (d.beside now).input
-    → length taken < most_input → r.offset ≡ stream_length gs → (IsGood rest → ⊥) → EndsAt r rest result → AreIn d start gs first now → EndsApplying d start taken gs rest result first now
-end_at d start first now r taken gs rest (Ok x) at_end few offset none at all = (at, at_end, few, all)
-end_at d start first now r taken gs rest (Err (error.Stream n)) at_end few offset none (is, some) all =
-    (record { is = is ∙ offset; some = some; none = no_more rest (d.beside now).input at_end none }, all)
-end_at d start first now r taken gs rest (Err error.Disk) at_end few offset none at all = absurd at
-end_at d start first now r taken gs rest (Err error.Write) at_end few offset none at all = absurd at
-end_at d start first now r taken gs rest (Err error.Memory) at_end few offset none at all = absurd at
-end_at d start first now r taken gs rest (Err error.Read) at_end few offset none at all = absurd at
-end_at d start first now r taken gs rest (Err error.NotAStore) at_end few offset none at all = absurd at
-end_at d start first now r taken gs rest (Err error.TooMuch) at_end few offset none at all = absurd at
-end_at d start first now r taken gs rest (Err (error.Damaged page)) at_end few offset none at all = absurd at
-end_at d start first now r taken gs rest (Err (error.NoGroup from l)) at_end few offset none at all = absurd at
-end_at d start first now r taken gs rest (Err (error.Base n)) at_end few offset none at all = absurd at
-end_at d start first now r taken gs rest (Err (error.Repeat n l)) at_end few offset none at all = absurd at
-end_at d start first now r taken gs rest (Err (error.Gap n l)) at_end few offset none at all = absurd at
+end_at : (start : Pages) (r : Receiver) (taken : List ℕ) (gs : List Group) (rest : List ℕ) (left : Option (List ℕ)) (result : Result (Unit {0}) ShipError) → IsAtEnd left → length taken < most_input
+    → Begins gs taken rest → r.offset ≡ stream_length gs → (IsGood rest → ⊥) → EndsAt r rest result → EndsApplying start taken gs rest left result
+end_at start r taken gs rest left (Ok x) at_end few begins offset none at = (at, at_end, few)
+end_at start r taken gs rest left (Err (error.Stream n)) at_end few begins offset none (is, some) =
+    let long = begins_length gs taken rest begins in
+    record { is = is ∙ offset; some = some; none = no_more rest left at_end none; certain = inl (omega (arith, long, few, is, offset)) }
+end_at start r taken gs rest left (Err error.Disk) at_end few begins offset none at = absurd at
+end_at start r taken gs rest left (Err error.Write) at_end few begins offset none at = absurd at
+end_at start r taken gs rest left (Err error.Memory) at_end few begins offset none at = absurd at
+end_at start r taken gs rest left (Err error.Read) at_end few begins offset none at = absurd at
+end_at start r taken gs rest left (Err error.NotAStore) at_end few begins offset none at = absurd at
+end_at start r taken gs rest left (Err error.TooMuch) at_end few begins offset none at = absurd at
+end_at start r taken gs rest left (Err (error.Damaged page)) at_end few begins offset none at = absurd at
+end_at start r taken gs rest left (Err (error.NoGroup from l)) at_end few begins offset none at = absurd at
+end_at start r taken gs rest left (Err (error.Base n)) at_end few begins offset none at = absurd at
+end_at start r taken gs rest left (Err (error.Repeat n l)) at_end few begins offset none at = absurd at
+end_at start r taken gs rest left (Err (error.Gap n l)) at_end few begins offset none at = absurd at
+
+-- a disk has one image
+one_image : {D : Type 0} {d : Ghosts D} {a : D} {was other : Image} → IsSettled d a was → IsSettled d a other → was ≡ other
+one_image {d = d} {a = a} {was = was} {other = other} one two = let x : d.contents a ≡ Some was = one.here in let y : d.contents a ≡ Some other = two.here in cc
 
 module _ {D : Type 0} {d : Ghosts D} where
   opened_applied : {was : Image} {a b : D} → IsStill d a b → IsSettled d a was → HasApplied d (replay was) a [] b
   opened_applied {was = was} {a = a} still settled =
-      let here : HasApplied d (replay was) a [] a = record { in_turn = tt; out = appends_nothing (d.beside a).output; time = none_elapsed } in
+      let here : HasApplied d (replay was) a [] a = record { out = appends_nothing (d.beside a).output; time = none_elapsed } in
       applied_on here (elapsed_weaker still.time (λ s h. (h.0, ap (λ (i : Image). replay i) (settled.only s.image h.1)))) (still.beside_stays).output
 
   -- the receiver is at the beginning of a stream
@@ -145,10 +164,19 @@ module _ {D : Type 0} {d : Ghosts D} where
     read = opened.read;
     offset = opened.offset;
     few = omega arith;
-    applying = λ dense told. (
-      opened_applied still settled,
-      record { image = was; step = opened.step; is = refl; last = opened.last; none = λ empty. opened.none; waits = λ some next. absurd (omega (arith, some)) },
-    );
+    applying = record {
+      knows = record { in_turn = tt; last = opened.last; none = λ empty. opened.none; waits = λ some next. absurd (omega (arith, some)) };
+      shows = λ dense told. (
+        opened_applied still settled,
+        record {
+          image = was;
+          step = opened.step;
+          is = refl;
+          logged = λ other same. inl (ap (λ (i : Image). groups_in i) (one_image settled same));
+          ready = λ ready. absurd (let none = ready.0 in omega (arith, none));
+        },
+      );
+    };
   }
 
   -- input was taken beside it
@@ -160,56 +188,39 @@ module _ {D : Type 0} {d : Ghosts D} where
       read = received.read;
       offset = received.offset;
       few = received.few;
-      applying = λ dense told.
-          let told_a : IsSome (d.contents a) = subst (λ o. IsSome o) takes.contents_stay told in
-          let (applied, up) = received.applying dense told_a in
-          let kept : Keeps (d.beside a).output (d.beside b).output = subst (λ o. Keeps (d.beside a).output o) (sym takes.output_stays) (keeps_self (d.beside a).output) in (
-            applied_on applied (elapsed_weaker (takes.areas).time (λ s h. (h.0, ap (λ (i : Image). replay i) (((up.step).settled).only s.image h.1) ∙ up.is))) kept,
-            record {
-              image = up.image;
-              step = record { settled = settled_kept (takes.areas).contents_stay told (λ i. ((takes.areas).images_stay i).0) (up.step).settled; follows = (up.step).follows };
-              is = up.is;
-              last = up.last;
-              none = up.none;
-              waits = up.waits;
-            },
-          );
+      applying = record {
+        knows = (received.applying).knows;
+        shows = λ dense told.
+            let told_a : IsSome (d.contents a) = subst (λ o. IsSome o) takes.contents_stay told in
+            let (applied, up) = (received.applying).shows dense told_a in
+            let kept : Keeps (d.beside a).output (d.beside b).output = subst (λ o. Keeps (d.beside a).output o) (sym takes.output_stays) (keeps_self (d.beside a).output) in (
+              applied_on applied (elapsed_weaker (takes.areas).time (λ s h. (h.0, ap (λ (i : Image). replay i) (((up.step).settled).only s.image h.1) ∙ up.is))) kept,
+              record {
+                image = up.image;
+                step = record { settled = settled_kept (takes.areas).contents_stay told (λ i. ((takes.areas).images_stay i).0) (up.step).settled; follows = (up.step).follows };
+                is = up.is;
+                logged = up.logged;
+                ready = up.ready;
+              },
+            );
+      };
     },
   )
 
   -- The input stops:
   pub input_stops : {start : Pages} {first now : D} {r : Receiver} {taken : List ℕ} (e : InputError) → IsStopped e (length taken) → ReceivesSome d start first r taken now
       → AppliesTo d start taken (Err (error_of_input e)) first now
-  input_stops {r = r} input.Read stopped (gs, es, received) = record {
-    groups = gs;
-    rest = (received.read).held;
-    begins = (received.read).begins;
-    shows = λ dense told.
-        let (applied, up) = received.applying dense told in
-        record { in_turn = applied.in_turn; time = applied.time; ends = (held_short r.reader (received.read).held es (received.read).holds, stopped, are_in applied up) };
-  }
-  input_stops {r = r} input.TooMuch stopped (gs, es, received) = record {
-    groups = gs;
-    rest = (received.read).held;
-    begins = (received.read).begins;
-    shows = λ dense told.
-        let (applied, up) = received.applying dense told in
-        record { in_turn = applied.in_turn; time = applied.time; ends = (held_short r.reader (received.read).held es (received.read).holds, stopped, are_in applied up) };
-  }
+  input_stops {r = r} {taken = taken} input.Read stopped (gs, es, received) =
+      ended taken (received.read).held (Err error.Read) (received.read).begins received.applying (held_part r.reader (received.read).held es (received.read).holds, stopped)
+  input_stops {r = r} {taken = taken} input.TooMuch stopped (gs, es, received) =
+      ended taken (received.read).held (Err error.TooMuch) (received.read).begins received.applying (held_part r.reader (received.read).held es (received.read).holds, stopped)
 
   -- It ends:
   pub input_ends : {start : Pages} {first now : D} {r : Receiver} {taken : List ℕ} (result : Result (Unit {0}) ShipError) → IsAtEnd (d.beside now).input → length taken < most_input → EndsStream r result
       → ReceivesSome d start first r taken now → AppliesTo d start taken result first now
-  input_ends {start = start} {first = first} {now = now} {r = r} {taken = taken} result at_end few ends (gs, es, received) =
+  input_ends {start = start} {now = now} {r = r} {taken = taken} result at_end few ends (gs, es, received) =
       let (rest, stream, at) = ends taken gs es received.read in
-      record {
-        groups = gs;
-        rest = rest;
-        begins = stream.begins;
-        shows = λ dense told.
-            let (applied, up) = received.applying dense told in
-            record { in_turn = applied.in_turn; time = applied.time; ends = end_at d start first now r taken gs rest result at_end few received.offset stream.ends at (are_in applied up) };
-      }
+      ended taken rest result stream.begins received.applying (end_at start r taken gs rest (d.beside now).input result at_end few stream.begins received.offset stream.ends at)
 
   -- memory ran out
   pub input_lost : {start : Pages} {first now : D} {r : Receiver} {taken : List ℕ} → ReceivesSome d start first r taken now → AppliesTo d start taken (Err error.Memory) first now
@@ -230,7 +241,7 @@ module _ {D : Type 0} {d : Ghosts D} where
   pub receives_none : {a b : D} (e : ShipError) → IsStill d a b → ((was : Image) → IsSettled d a was → IsUnapplied was (Err e)) → IsFault d e a b → ReceivesStream d (Err e) a b
   receives_none {a = a} {b = b} e still why fault = record {
     from = λ was settled told. inr (why was settled, still);
-    cause = raised d a b e fault;
+    cause = apply_unopened d a b e why fault;
     told = λ told. subst (λ o. IsSome o) still.contents_stay told;
     bounded = record { taken = []; few = omega arith; takes = takes_kept (d.beside a).input (d.beside b).input (still.beside_stays).input };
     in_faults_later = let same = (still.beside_stays).in_faults in omega (arith, same);
@@ -239,7 +250,7 @@ module _ {D : Type 0} {d : Ghosts D} where
   }
 
   pub receives_all : {r : Receiver} {a b c : D} (result : Result (Unit {0}) ShipError) → IsStill d a b → ((was : Image) → IsSettled d a was → HasOpened d was r b) → EndsReceiving d r result b c → TakesInput d b c
-      → IsByFault d result a c → ReceivesStream d result a c
+      → IsApplyCause d result a c → ReceivesStream d result a c
   receives_all {a = a} {b = b} {c = c} result still opened ends takes cause = record {
     from = λ was settled told.
         let open_here = opened was settled in
@@ -267,17 +278,25 @@ pub some_bytes_left : (rest : List ℕ) → (rest ≡ [] → ⊥) → 0 < length
 some_bytes_left [] some = absurd (some refl)
 some_bytes_left (b ∷ rest) some = omega arith
 
-pub raised_later : {D : Type 0} (d : Ghosts D) (a b c : D) (r : Result (Unit {0}) ShipError) → IsStill d a b → IsByFault d r b c → IsByFault d r a c
-raised_later d a b c (Ok x) still raise = tt
-raised_later d a b c (Err error.Disk) still raise = rose_since (d.faults a) (d.faults b) (d.faults c) still.faults_later raise
-raised_later d a b c (Err error.Read) still raise = rose_since (d.beside a).in_faults (d.beside b).in_faults (d.beside c).in_faults (let same = (still.beside_stays).in_faults in omega (arith, same)) raise
-raised_later d a b c (Err error.Write) still raise = rose_since (d.beside a).out_faults (d.beside b).out_faults (d.beside c).out_faults (let same = (still.beside_stays).out_faults in omega (arith, same)) raise
-raised_later d a b c (Err error.Memory) still raise = tt
-raised_later d a b c (Err error.NotAStore) still raise = tt
-raised_later d a b c (Err error.TooMuch) still raise = tt
-raised_later d a b c (Err (error.Damaged page)) still raise = tt
-raised_later d a b c (Err (error.NoGroup from l)) still raise = tt
-raised_later d a b c (Err (error.Repeat n l)) still raise = tt
-raised_later d a b c (Err (error.Gap n l)) still raise = tt
-raised_later d a b c (Err (error.Base n)) still raise = tt
-raised_later d a b c (Err (error.Stream offset)) still raise = tt
+first_kept : {D : Type 0} (d : Ghosts D) (a b c : D) (taken : List ℕ) → IsStill d a b → Takes taken (d.beside b).input (d.beside c).input → Takes taken (d.beside a).input (d.beside c).input
+first_kept d a b c taken still takes = block_behind [] taken (d.beside a).input (d.beside b).input (d.beside c).input (takes_kept (d.beside a).input (d.beside b).input (still.beside_stays).input) takes
+
+pub cause_later : {D : Type 0} (d : Ghosts D) (a b c : D) (r : Result (Unit {0}) ShipError) → IsStill d a b → IsApplyCause d r b c → IsApplyCause d r a c
+cause_later d a b c (Ok x) still (taken, few, takes, at_end) = (taken, few, first_kept d a b c taken still takes, at_end)
+cause_later d a b c (Err error.Disk) still raise = rose_since (d.faults a) (d.faults b) (d.faults c) still.faults_later raise
+cause_later d a b c (Err error.Write) still raise = rose_since (d.beside a).out_faults (d.beside b).out_faults (d.beside c).out_faults (let same = (still.beside_stays).out_faults in omega (arith, same)) raise
+cause_later d a b c (Err error.Read) still (raise, taken, few, takes) = (
+  rose_since (d.beside a).in_faults (d.beside b).in_faults (d.beside c).in_faults (let same = (still.beside_stays).in_faults in omega (arith, same)) raise,
+  taken,
+  few,
+  first_kept d a b c taken still takes,
+)
+cause_later d a b c (Err error.TooMuch) still (taken, few, takes) = (taken, few, first_kept d a b c taken still takes)
+cause_later d a b c (Err error.NotAStore) still why = λ was settled. why was (settled_still still settled)
+cause_later d a b c (Err (error.Damaged page)) still why = λ was settled. why was (settled_still still settled)
+cause_later d a b c (Err (error.NoGroup from l)) still why = absurd why
+cause_later d a b c (Err error.Memory) still raise = tt
+cause_later d a b c (Err (error.Repeat n l)) still raise = tt
+cause_later d a b c (Err (error.Gap n l)) still raise = tt
+cause_later d a b c (Err (error.Base n)) still raise = tt
+cause_later d a b c (Err (error.Stream offset)) still raise = tt

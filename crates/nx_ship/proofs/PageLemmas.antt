@@ -1,11 +1,7 @@
 -- The bytes of pages in a stream.
-use Rattle.std.proofs.Common.{◌≡◌, ℕ, zero, suc, ◌+◌, ◌<◌, List, [], ◌∷◌, ◌++◌, length, take, drop, get_or, refl, sym, ap, ◌∙◌, arith, append_assoc, append-nil, add-one}
-use Rattle.std.proofs.Math.Seq.{take-suc}
-use Rattle.std.proofs.lemmas.List.{map-append, take-append-drop}
+use Rattle.std.proofs.Common.{◌≡◌, ℕ, zero, suc, ◌+◌, List, [], ◌∷◌, ◌++◌, length, refl, sym, ap, ◌∙◌, arith, append_assoc, append-nil}
 use Rattle.byteorder.specs.Endian.{big_bytes}
 use Rattle.nx_replay.specs.Log.{Pages, Entry, Group, entry_bytes, group_bytes}
-use Rattle.nx_groups.specs.declared.group.GroupPage.{GroupPage}
-use Rattle.nx_groups.specs.Groups.{entry, entries}
 use Rattle.nx_ship.specs.Shipped.{bytes_of, pages_from}
 
 pub entry_bytes-append : (es fs : List Entry) → entry_bytes (es ++ fs) ≡ entry_bytes es ++ entry_bytes fs
@@ -18,22 +14,6 @@ entry_bytes-append (e ∷ es) fs =
 -- one page's
 pub one_entry : (page : ℕ) (bytes : List ℕ) → entry_bytes (record { page = page; bytes = bytes } ∷ []) ≡ big_bytes 4 page ++ bytes
 one_entry page bytes = ap (λ (l : List ℕ). big_bytes 4 page ++ l) (append-nil bytes)
-
--- the first pages, and one more
-pub pages_next : (ps : List GroupPage) (i : ℕ) (x : GroupPage) → i < length ps
-    → entry_bytes (entries (take (i + 1) ps)) ≡ entry_bytes (entries (take i ps)) ++ (big_bytes 4 (get_or ps i x).page ++ (get_or ps i x).bytes.bytes)
-pages_next ps i x below =
-    let p = get_or ps i x in
-    ap (λ (n : ℕ). entry_bytes (entries (take n ps))) (add-one i) ∙ ap (λ (l : List GroupPage). entry_bytes (entries l)) (take-suc ps i x below)
-    ∙ ap (λ (l : List Entry). entry_bytes l) (map-append entry (take i ps) (p ∷ []))
-    ∙ entry_bytes-append (entries (take i ps)) (entry p ∷ [])
-    ∙ ap (λ (l : List ℕ). entry_bytes (entries (take i ps)) ++ l) (one_entry p.page p.bytes.bytes)
-
--- the first pages, and the others
-pub pages_split : (ps : List GroupPage) (i : ℕ) → entry_bytes (entries (take i ps)) ++ entry_bytes (entries (drop i ps)) ≡ entry_bytes (entries ps)
-pages_split ps i =
-    sym (entry_bytes-append (entries (take i ps)) (entries (drop i ps))) ∙ ap (λ (l : List Entry). entry_bytes l) (sym (map-append entry (take i ps) (drop i ps)))
-    ∙ ap (λ (l : List GroupPage). entry_bytes (entries l)) (take-append-drop i ps)
 
 -- a group's head, and its pages
 pub group_parts : (g : Group) (count : List ℕ) → count ≡ big_bytes 4 (length g.entries) → (big_bytes 8 g.number ++ count) ++ entry_bytes g.entries ≡ group_bytes g

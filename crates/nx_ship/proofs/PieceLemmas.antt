@@ -3,7 +3,7 @@ use Rattle.std.proofs.Common.{◌≡◌, ℕ, ◌+◌, ◌-◌, ◌<◌, ◌≤�
 use Rattle.std.specs.Prelude.{IsSome, Result, Ok, Err, IfErr}
 use Rattle.nx_host.specs.Disk.{Keeps, Rose}
 use Rattle.nx_host.specs.declared.input.InputError.{InputError}
-use Rattle.nx_host.specs.declared.input.InputError.TheVariants as input
+use Rattle.nx_host.specs.declared.input.InputError.TheVariants as input_error
 use Rattle.nx_host.proofs.DiskLemmas.{keeps_self}
 use Rattle.std.proofs.lemmas.List.{take-append-drop, take_all}
 use Rattle.nx_host.specs.Host.{Takes, IsAtEnd}
@@ -13,10 +13,9 @@ use Rattle.nx_host.specs.Phase.{TakesAlone}
 use Rattle.nx_host.specs.declared.disk.Disk.{Ghosts}
 use Rattle.nx_host.proofs.InputLemmas.{block_behind}
 use Rattle.nx_replay.specs.Log.{Pages}
-use Rattle.nx_ship.specs.Applying.{AppliesTo}
-use Rattle.nx_ship.specs.Receiving.{LeavesInput, Receives, ReceivesSome, ReceivesMore, StopsReceiving, TakesSome, EndsReceiving, EndsStream, IsStreamError, TakesInput}
+use Rattle.nx_ship.specs.Applying.{AppliesTo, IsApplyCause}
+use Rattle.nx_ship.specs.Receiving.{IsTakeFault, LeavesInput, Receives, ReceivesSome, ReceivesMore, StopsReceiving, TakesSome, EndsReceiving, EndsStream, IsStreamError, TakesInput}
 use Rattle.nx_ship.specs.Faults.{error_of_input}
-use Rattle.nx_ship.specs.Sending.{IsFault, IsByFault}
 use Rattle.nx_ship.specs.declared.receiver.Receiver.{Receiver}
 use Rattle.nx_ship.specs.declared.error.ShipError.{ShipError}
 use Rattle.nx_ship.specs.declared.error.ShipError.TheVariants as error
@@ -84,42 +83,45 @@ takes_on : (x : List ℕ) (a b c : Option (List ℕ)) → Takes x a b → Keeps 
 takes_on x a b c takes keeps = subst (λ (l : List ℕ). Takes l a c) (append-nil x) (block_behind x [] a b c takes (takes_kept b c keeps))
 
 pub stopped_at : (e : InputError) (n m : ℕ) → n ≡ m → IsStopped e n → IsStopped e m
-stopped_at input.Read n m same stopped = omega (arith, same, stopped)
-stopped_at input.TooMuch n m same stopped = omega (arith, same, stopped)
+stopped_at input_error.Read n m same stopped = omega (arith, same, stopped)
+stopped_at input_error.TooMuch n m same stopped = omega (arith, same, stopped)
 
-pub input_raised : {D : Type 0} (d : Ghosts D) (a b c : D) (e : InputError) → (d.beside a).in_faults ≤ (d.beside b).in_faults → (e ≡ input.Read → Rose (d.beside b).in_faults (d.beside c).in_faults)
-    → IsByFault d (Err (error_of_input e)) a c
-input_raised d a b c input.Read later rose = rose_since (d.beside a).in_faults (d.beside b).in_faults (d.beside c).in_faults later (rose refl)
-input_raised d a b c input.TooMuch later rose = tt
+-- why it ended so:
 
-pub stream_raised : {D : Type 0} (d : Ghosts D) (a b : D) (r : Result (Unit {0}) ShipError) → IfErr r (λ e. IsStreamError e) → IsByFault d r a b
-stream_raised d a b (Ok x) stream = tt
-stream_raised d a b (Err (error.Stream offset)) stream = tt
-stream_raised d a b (Err error.Disk) stream = absurd stream
-stream_raised d a b (Err error.Read) stream = absurd stream
-stream_raised d a b (Err error.Write) stream = absurd stream
-stream_raised d a b (Err error.Memory) stream = tt
-stream_raised d a b (Err error.NotAStore) stream = tt
-stream_raised d a b (Err error.TooMuch) stream = tt
-stream_raised d a b (Err (error.Damaged page)) stream = tt
-stream_raised d a b (Err (error.NoGroup from l)) stream = tt
-stream_raised d a b (Err (error.Repeat n l)) stream = tt
-stream_raised d a b (Err (error.Gap n l)) stream = tt
-stream_raised d a b (Err (error.Base n)) stream = tt
+pub stopped_cause : {D : Type 0} (d : Ghosts D) (a c : D) (input : Input) (r0 r : Receiver) (e : InputError) → (e ≡ input_error.Read → Rose (d.beside a).in_faults (d.beside c).in_faults) → IsStopped e input.taken
+    → ReceivesInput d input r0 r a c → IsApplyCause d (Err (error_of_input e)) a c
+stopped_cause d a c input r0 r input_error.Read rose stopped was = (rose refl, was.taken, stopped_at input_error.Read input.taken (length was.taken) (was.has).counted stopped, (was.has).takes)
+stopped_cause d a c input r0 r input_error.TooMuch rose stopped was = (was.taken, stopped_at input_error.TooMuch input.taken (length was.taken) (was.has).counted stopped, (was.has).takes)
 
-pub fault_raised : {D : Type 0} (d : Ghosts D) (a b c : D) (e : ShipError) → d.faults a ≤ d.faults b → (d.beside a).out_faults ≤ (d.beside b).out_faults → IsFault d e b c → IsByFault d (Err e) a c
-fault_raised d a b c error.Disk later out_later fault = rose_since (d.faults a) (d.faults b) (d.faults c) later fault
-fault_raised d a b c error.Write later out_later fault = rose_since (d.beside a).out_faults (d.beside b).out_faults (d.beside c).out_faults out_later fault
-fault_raised d a b c error.Read later out_later fault = absurd fault
-fault_raised d a b c (error.Stream offset) later out_later fault = tt
-fault_raised d a b c error.Memory later out_later fault = tt
-fault_raised d a b c error.NotAStore later out_later fault = tt
-fault_raised d a b c error.TooMuch later out_later fault = tt
-fault_raised d a b c (error.Damaged page) later out_later fault = tt
-fault_raised d a b c (error.NoGroup from l) later out_later fault = tt
-fault_raised d a b c (error.Repeat n l) later out_later fault = tt
-fault_raised d a b c (error.Gap n l) later out_later fault = tt
-fault_raised d a b c (error.Base n) later out_later fault = tt
+pub end_cause : {D : Type 0} (d : Ghosts D) (a b : D) (r : Result (Unit {0}) ShipError) (taken : List ℕ) → length taken < most_input → Takes taken (d.beside a).input (d.beside b).input → IsAtEnd (d.beside b).input
+    → IfErr r (λ e. IsStreamError e) → IsApplyCause d r a b
+end_cause d a b (Ok x) taken few takes at_end stream = (taken, few, takes, at_end)
+end_cause d a b (Err (error.Stream offset)) taken few takes at_end stream = tt
+end_cause d a b (Err error.Disk) taken few takes at_end stream = absurd stream
+end_cause d a b (Err error.Read) taken few takes at_end stream = absurd stream
+end_cause d a b (Err error.Write) taken few takes at_end stream = absurd stream
+end_cause d a b (Err error.Memory) taken few takes at_end stream = absurd stream
+end_cause d a b (Err error.NotAStore) taken few takes at_end stream = absurd stream
+end_cause d a b (Err error.TooMuch) taken few takes at_end stream = absurd stream
+end_cause d a b (Err (error.Damaged page)) taken few takes at_end stream = absurd stream
+end_cause d a b (Err (error.NoGroup from l)) taken few takes at_end stream = absurd stream
+end_cause d a b (Err (error.Repeat n l)) taken few takes at_end stream = absurd stream
+end_cause d a b (Err (error.Gap n l)) taken few takes at_end stream = absurd stream
+end_cause d a b (Err (error.Base n)) taken few takes at_end stream = absurd stream
+
+pub take_cause : {D : Type 0} (d : Ghosts D) (a b c : D) (e : ShipError) → d.faults a ≤ d.faults b → (d.beside a).out_faults ≤ (d.beside b).out_faults → IsTakeFault d e b c → IsApplyCause d (Err e) a c
+take_cause d a b c error.Disk later out_later fault = rose_since (d.faults a) (d.faults b) (d.faults c) later fault
+take_cause d a b c error.Write later out_later fault = rose_since (d.beside a).out_faults (d.beside b).out_faults (d.beside c).out_faults out_later fault
+take_cause d a b c error.Memory later out_later fault = tt
+take_cause d a b c (error.Repeat n l) later out_later fault = tt
+take_cause d a b c (error.Gap n l) later out_later fault = tt
+take_cause d a b c (error.Base n) later out_later fault = tt
+take_cause d a b c (error.Stream offset) later out_later fault = tt
+take_cause d a b c error.Read later out_later fault = absurd fault
+take_cause d a b c error.NotAStore later out_later fault = absurd fault
+take_cause d a b c error.TooMuch later out_later fault = absurd fault
+take_cause d a b c (error.Damaged page) later out_later fault = absurd fault
+take_cause d a b c (error.NoGroup from l) later out_later fault = absurd fault
 
 module _ {D : Type 0} {d : Ghosts D} where
   pub input_begun : {input : Input} {r : Receiver} {a : D} → ((first : Option (List ℕ)) → HasTaken input [] first first) → ReceivesInput d input r r a a
@@ -250,3 +252,11 @@ module _ {D : Type 0} {d : Ghosts D} where
         few = omega (arith, counted, low);
         applies = input_ends result at_end (omega (arith, counted, low)) ends (was.received start first received);
       }
+
+  -- the input ends, and so does the run
+  pub ends_cause : {input : Input} {block : List ℕ} {r0 r : Receiver} {a m : D} (result : Result (Unit {0}) ShipError) → block ≡ [] → input.taken < most_input → IsAtEnd (d.beside m).input
+      → HasFilled d input block r0 r a m → IfErr result (λ e. IsStreamError e) → IsApplyCause d result a m
+  ends_cause {input = input} {block = block} {a = a} {m = m} result empty low at_end was stream =
+      let same : was.taken ++ block ≡ was.taken = ap (λ (l : List ℕ). was.taken ++ l) empty ∙ append-nil was.taken in
+      let counted : input.taken ≡ length was.taken = (was.has).counted ∙ ap (λ (l : List ℕ). length l) same in
+      end_cause d a m result was.taken (omega (arith, counted, low)) (subst (λ (l : List ℕ). Takes l (d.beside a).input (d.beside m).input) same (was.has).takes) at_end stream

@@ -17,9 +17,9 @@ use Rattle.nx_state.specs.State.{State}
 use Rattle.nx_state.specs.Stands.{Recovers, Stands}
 use Rattle.nx_ship.specs.Shipped.{AreAllBelow}
 use Rattle.nx_ship.specs.Next.{IsHeadedBy, IsOpenFor, StayDense}
-use Rattle.nx_ship.specs.Recovery.{RecoversAlong, RecoversWhole, StatesAreWhole, StatesStayDense}
+use Rattle.nx_ship.specs.Recovery.{RecoversAlong, RecoversAfter, RecoversWhole, StatesAreWhole, StatesStayDense}
 use Rattle.nx_ship.proofs.EntryLemmas.{one_head}
-use Rattle.nx_ship.proofs.ShippedLemmas.{catches_up}
+use Rattle.nx_ship.proofs.ShippedLemmas.{catches_up, comes_up_to}
 use Rattle.nx_ship.proofs.WholeLemmas.{starts_along}
 
 -- what an image recovers to is said of its pages
@@ -28,7 +28,11 @@ recovers_by a b same None is = λ p. ap (λ (pages : Pages). pages p) (sym same)
 recovers_by a b same (Some state) is = subst (λ (pages : Pages). Stands pages state) same is
 
 pub recovers_along : RecoversAlong
-recovers_along sender was now before next split here applies state is = recovers_by sender now (sym (catches_up sender was now before next split here applies)) state is
+recovers_along sender earlier was now before next later split area had here applies state is =
+    recovers_by earlier now (sym (comes_up_to sender earlier was now before next later split area had here applies)) state is
+
+pub recovers_after : RecoversAfter
+recovers_after sender was now before next split here applies state is = recovers_by sender now (sym (catches_up sender was now before next split here applies)) state is
 
 pub recovers_whole : RecoversWhole
 recovers_whole sender was now number count all none applies state is = recovers_by sender now (sym (starts_along sender was now number count all none applies)) state is

@@ -8,12 +8,13 @@ use Rattle.nx_host.specs.Still.{IsStill}
 use Rattle.nx_host.specs.declared.disk.Disk.{Ghosts}
 use Rattle.nx_host.proofs.DiskLemmas.{keeps_self, keeps_then, settled_kept}
 use Rattle.nx_host.proofs.OutputLemmas.{appends_nothing, appends_then, prefix_more, prefix_then, keeps_prefix}
-use Rattle.nx_wal.specs.Wal.{IsInStep, NoGroupRead}
+use Rattle.nx_wal.specs.Wal.{IsInStep, Refused}
 use Rattle.nx_wal.specs.declared.wal.Wal.{Wal}
 use Rattle.nx_wal.specs.declared.error.WalError.{WalError}
 use Rattle.nx_wal.specs.declared.error.WalError.TheVariants as wal_error
 use Rattle.nx_ship.specs.Faults.{error_of_log}
-use Rattle.nx_ship.specs.Sending.{Sends, HasSent, SendsMore, SendsSome, IsFault, IsCutShort}
+use Rattle.nx_ship.specs.Sending.{Sends}
+use Rattle.nx_ship.specs.Sent.{HasSent, SendsMore, SendsSome, IsSendFault, IsCutShort}
 use Rattle.nx_ship.specs.declared.error.ShipError.{ShipError}
 use Rattle.nx_ship.specs.declared.error.ShipError.TheVariants as error
 
@@ -151,19 +152,19 @@ module _ {D : Type 0} {d : Ghosts D} where
   pub more_now : (x : List ℕ) {p q : List ℕ} {a b : D} → SendsMore d x p q a b → Sends d (p ++ x) a b
   more_now x {p = p} {a = a} one = (one p a (sent_none p a)).sends
 
-  pub fault_since : (x : List ℕ) (a b c : D) (e : ShipError) → Sends d x a b → IsFault d e b c → IsFault d e a c
+  pub fault_since : (x : List ℕ) (a b c : D) (e : ShipError) → Sends d x a b → IsSendFault d e b c → IsSendFault d e a c
   fault_since x a b c error.Disk sends fault = rose_since (d.faults a) (d.faults b) (d.faults c) sends.faults_later fault
   fault_since x a b c error.Write sends fault = rose_since (d.beside a).out_faults (d.beside b).out_faults (d.beside c).out_faults sends.out_faults_later fault
-  fault_since x a b c error.Read sends fault = fault
-  fault_since x a b c (error.NoGroup from last) sends fault = tt
-  fault_since x a b c (error.Repeat number last) sends fault = tt
-  fault_since x a b c (error.Gap number last) sends fault = tt
-  fault_since x a b c (error.Base number) sends fault = tt
-  fault_since x a b c (error.Stream offset) sends fault = tt
-  fault_since x a b c error.NotAStore sends fault = tt
-  fault_since x a b c (error.Damaged page) sends fault = tt
-  fault_since x a b c error.TooMuch sends fault = tt
   fault_since x a b c error.Memory sends fault = tt
+  fault_since x a b c (error.Damaged page) sends fault = tt
+  fault_since x a b c (error.NoGroup from last) sends fault = tt
+  fault_since x a b c error.Read sends fault = absurd fault
+  fault_since x a b c error.NotAStore sends fault = absurd fault
+  fault_since x a b c error.TooMuch sends fault = absurd fault
+  fault_since x a b c (error.Repeat n l) sends fault = absurd fault
+  fault_since x a b c (error.Gap n l) sends fault = absurd fault
+  fault_since x a b c (error.Base n) sends fault = absurd fault
+  fault_since x a b c (error.Stream offset) sends fault = absurd fault
 
   -- of all that was sent
   pub more_sends : (x : List ℕ) {q : List ℕ} {a b : D} → SendsMore d x [] q a b → Sends d x a b
@@ -217,10 +218,10 @@ log_cut wal_error.NotAStore = tt
 log_cut wal_error.Ended = tt
 log_cut wal_error.Memory = tt
 
--- why no group was read
-pub group_fault : {D : Type 0} (d : Ghosts D) (old new : Wal) (a b : D) (e : WalError) → NoGroupRead d e old new a b → IsFault d (error_of_log e) a b
-group_fault d old new a b wal_error.Disk refused = refused.0
-group_fault d old new a b wal_error.Exists refused = tt
-group_fault d old new a b wal_error.NotAStore refused = tt
-group_fault d old new a b wal_error.Ended refused = tt
-group_fault d old new a b wal_error.Memory refused = tt
+-- why the log wasn't read
+pub refused_fault : {D : Type 0} (d : Ghosts D) (old new : Wal) (a b : D) (e : WalError) → Refused d e old new a b → IsSendFault d (error_of_log e) a b
+refused_fault d old new a b wal_error.Disk refused = refused.0
+refused_fault d old new a b wal_error.Exists refused = tt
+refused_fault d old new a b wal_error.NotAStore refused = tt
+refused_fault d old new a b wal_error.Ended refused = tt
+refused_fault d old new a b wal_error.Memory refused = tt

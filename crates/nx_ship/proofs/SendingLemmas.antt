@@ -8,8 +8,8 @@ use Rattle.nx_host.proofs.DiskLemmas.{told_same}
 use Rattle.nx_replay.specs.Log.{Pages, Entry, entry_bytes, group_bytes, replay}
 use Rattle.nx_wal.specs.declared.wal.Wal.{Wal}
 use Rattle.nx_ship.specs.Stream.{stream_of}
-use Rattle.nx_ship.specs.Shipped.{bytes_of, pages_from, whole_group}
-use Rattle.nx_ship.specs.Sending.{SendsMore, SendsSome, SendsPage, SendsPages, StopsAtPage, StopsAtPages, IsPrefix, IsLacking, IsCutShort, page_entry, EndsSendingAll}
+use Rattle.nx_ship.specs.Shipped.{bytes_of, pages_from, all_pages_group}
+use Rattle.nx_ship.specs.Sent.{SendsMore, SendsSome, SendsPage, SendsPages, StopsAtPage, StopsAtPages, IsPrefix, IsLacking, IsCutShort, page_entry, EndsSendingAll}
 use Rattle.nx_ship.specs.declared.error.ShipError.{ShipError}
 use Rattle.nx_ship.specs.declared.error.ShipError.TheVariants as error
 use Rattle.nx_ship.proofs.SendLemmas.{more_then, some_then, more_now, more_sends, more_appends, some_sends, some_nothing, step_sent, adds_block, sent_none}
@@ -57,7 +57,7 @@ prefix_all bytes = ([], append-nil bytes)
 pub prefix_none : (bytes : List ℕ) → IsPrefix [] bytes
 prefix_none bytes = (bytes, refl)
 
-prefix_behind : (x y all rest : List ℕ) → IsPrefix y all → IsPrefix (x ++ y) (x ++ (all ++ rest))
+pub prefix_behind : (x y all rest : List ℕ) → IsPrefix y all → IsPrefix (x ++ y) (x ++ (all ++ rest))
 prefix_behind x y all rest (more, is) =
     (more ++ rest, append_assoc x y (more ++ rest) ∙ ap (λ (l : List ℕ). x ++ l) (sym (append_assoc y more rest) ∙ ap (λ (l : List ℕ). l ++ rest) is))
 
@@ -91,10 +91,10 @@ below_more {P = P} n below here p low =
     ]
 
 whole_bytes : (was : Image) (number count : ℕ) (bytes : List ℕ) → bytes ≡ entry_bytes (pages_from (replay was) 0 count)
-    → (big_bytes 8 number ++ big_bytes 4 count) ++ bytes ≡ group_bytes (whole_group number (replay was) count)
+    → (big_bytes 8 number ++ big_bytes 4 count) ++ bytes ≡ group_bytes (all_pages_group number (replay was) count)
 whole_bytes was number count bytes is =
     ap (λ (l : List ℕ). (big_bytes 8 number ++ big_bytes 4 count) ++ l) is
-    ∙ group_parts (whole_group number (replay was) count) (big_bytes 4 count) (ap (λ (n : ℕ). big_bytes 4 n) (sym (all_long (replay was) 0 count)))
+    ∙ group_parts (all_pages_group number (replay was) count) (big_bytes 4 count) (ap (λ (n : ℕ). big_bytes 4 n) (sym (all_long (replay was) 0 count)))
 
 module _ {D : Type 0} {d : Ghosts D} where
   -- what stays told
@@ -164,7 +164,7 @@ module _ {D : Type 0} {d : Ghosts D} where
         sends = some_sends (head ++ pages.bytes) (some_then head pages.bytes (adds_block {d = d} head [] {a = a}) pages.sends);
         are = λ was step empty told.
             let (part, lacks) = pages.are was step empty told in
-            let whole : head ++ (entry_bytes (pages_from (replay was) 0 count) ++ []) ≡ stream_of (whole_group number (replay was) count ∷ []) =
+            let whole : head ++ (entry_bytes (pages_from (replay was) 0 count) ++ []) ≡ stream_of (all_pages_group number (replay was) count ∷ []) =
             sym (append_assoc head (entry_bytes (pages_from (replay was) 0 count)) []) ∙ ap (λ (l : List ℕ). l ++ []) (whole_bytes was number count (entry_bytes (pages_from (replay was) 0 count)) refl) in
             (subst (λ (l : List ℕ). IsPrefix (head ++ pages.bytes) l) whole (prefix_behind head pages.bytes (entry_bytes (pages_from (replay was) 0 count)) [] part), lacks);
       }

@@ -1,5 +1,5 @@
 -- What a receiver stands for to which groups of a log are applied.
-use Rattle.std.proofs.Common.{◌≡◌, List, [], ◌∷◌, ◌++◌, refl, sym, ap, ◌∙◌}
+use Rattle.std.proofs.Common.{◌≡◌, ℕ, List, [], ◌∷◌, ◌++◌, refl, sym, ap, ◌∙◌}
 use Rattle.std.proofs.lemmas.List.{append-nil}
 use Rattle.nx_host.specs.Disk.{Image}
 use Rattle.nx_replay.specs.Log.{Pages, Group, over, entry_pages, groups, logged, pages_of, replay}
@@ -37,6 +37,13 @@ pub catches_up : CatchesUp
 catches_up sender was now before next split here applies =
     let all : groups sender.log ≡ before ++ (next ++ []) = split ∙ ap (λ (gs : List Group). before ++ gs) (sym (append-nil next)) in
     comes_along sender was now before next [] all here applies ∙ ap (λ (gs : List Group). sent_to sender gs) (sym split) ∙ over_all-logged (pages_of sender.pages) (groups sender.log)
+
+-- it stands for what the sender did when its log had these groups
+pub comes_up_to : (sender earlier was now : Image) (before next later : List Group) → groups sender.log ≡ before ++ (next ++ later) → earlier.pages ≡ sender.pages → groups earlier.log ≡ before ++ next
+    → replay was ≡ sent_to sender before → Applies next was now → replay now ≡ replay earlier
+comes_up_to sender earlier was now before next later split area had here applies =
+    comes_along sender was now before next later split here applies ∙ ap (λ (gs : List Group). sent_to sender gs) (sym had)
+    ∙ ap (λ (bytes : List ℕ). over_all (pages_of bytes) (groups earlier.log)) (sym area) ∙ over_all-logged (pages_of earlier.pages) (groups earlier.log)
 
 pub stays_along : StaysAlong
 stays_along sender grown was now next same sent applied = applied ∙ ap (λ (pages : Pages). over_all pages next) same ∙ sym sent

@@ -13,12 +13,13 @@ use Rattle.nx_wal.specs.declared.wal.Wal.{Wal}
 use Rattle.nx_holdings.specs.declared.header.Header.{Header}
 use Rattle.nx_ship.specs.Stream.{stream_of}
 use Rattle.nx_ship.specs.Next.{IsHeadedBy}
-use Rattle.nx_ship.specs.Sending.{Sends, IsPrefix, shipment, from_number, EndsShipping, Ships, IsUnshipped, IsByFault, IsHeadless, IsNoStoreOpened, IsFault, HasSentAll, HasSentFrom, EndsSendingAll, EndsSendingFrom, EndsSending}
+use Rattle.nx_ship.specs.Sending.{Sends, shipment, from_number, EndsShipping, Ships, IsUnshipped, IsShipCause}
+use Rattle.nx_ship.specs.Sent.{IsPrefix, IsHeadless, IsNoStoreOpened, IsFault, IsSendFault, HasSentAll, HasSentFrom, EndsSendingAll, EndsSendingFrom, EndsSending}
 use Rattle.nx_ship.specs.declared.error.Start.{Start}
 use Rattle.nx_ship.specs.declared.error.Start.TheVariants.{All, Number}
 use Rattle.nx_ship.specs.declared.error.ShipError.{ShipError}
 use Rattle.nx_ship.specs.declared.error.ShipError.TheVariants as error
-use Rattle.nx_ship.proofs.SendLemmas.{still_sends, sends_prefix, sends_then, appends_none, fault_since}
+use Rattle.nx_ship.proofs.SendLemmas.{still_sends, sends_prefix, sends_then, appends_none, fault_since, rose_since}
 use Rattle.nx_ship.proofs.SendingLemmas.{prefix_all}
 
 no_number : (number : ℕ) → All ≡ Number number → ⊥
@@ -30,23 +31,35 @@ number_same n m is = let h : Number n ≡ Number m = is in cc
 no_all : (number : ℕ) → Number number ≡ All → ⊥
 no_all number is = let h : Number number ≡ All = is in cc
 
-pub raised : {D : Type 0} (d : Ghosts D) (a b : D) (e : ShipError) → IsFault d e a b → IsByFault d (Err e) a b
-raised d a b error.Disk fault = fault
-raised d a b error.Write fault = fault
-raised d a b error.Read fault = absurd fault
-raised d a b error.Memory fault = tt
-raised d a b error.NotAStore fault = tt
-raised d a b error.TooMuch fault = tt
-raised d a b (error.Damaged page) fault = tt
-raised d a b (error.NoGroup from at) fault = tt
-raised d a b (error.Repeat n l) fault = tt
-raised d a b (error.Gap n l) fault = tt
-raised d a b (error.Base n) fault = tt
-raised d a b (error.Stream offset) fault = tt
+-- why nothing was opened, and why it ended so then
+ship_unopened : {D : Type 0} (d : Ghosts D) (a b : D) (e : ShipError) → ((was : Image) → IsSettled d a was → IsUnshipped was (Err e)) → IsFault d e a b → IsShipCause d (Err e) a b
+ship_unopened d a b error.Disk why fault = fault
+ship_unopened d a b error.Memory why fault = tt
+ship_unopened d a b error.NotAStore why fault = why
+ship_unopened d a b (error.Damaged page) why fault = tt
+ship_unopened d a b error.Write why fault = absurd fault
+ship_unopened d a b error.Read why fault = absurd fault
+ship_unopened d a b error.TooMuch why fault = absurd fault
+ship_unopened d a b (error.NoGroup from at) why fault = absurd fault
+ship_unopened d a b (error.Repeat n l) why fault = absurd fault
+ship_unopened d a b (error.Gap n l) why fault = absurd fault
+ship_unopened d a b (error.Base n) why fault = absurd fault
+ship_unopened d a b (error.Stream offset) why fault = absurd fault
 
-pub raised_any : {D : Type 0} (d : Ghosts D) (a b : D) (r : Result (Unit {0}) ShipError) → ((e : ShipError) → r ≡ Err e → IsFault d e a b) → IsByFault d r a b
-raised_any d a b (Ok x) fault = tt
-raised_any d a b (Err e) fault = raised d a b e (fault e refl)
+ship_sent : {D : Type 0} (d : Ghosts D) (a b : D) (r : Result (Unit {0}) ShipError) → ((e : ShipError) → r ≡ Err e → IsSendFault d e a b) → IsShipCause d r a b
+ship_sent d a b (Ok x) fault = tt
+ship_sent d a b (Err error.Disk) fault = fault error.Disk refl
+ship_sent d a b (Err error.Write) fault = fault error.Write refl
+ship_sent d a b (Err error.Memory) fault = tt
+ship_sent d a b (Err (error.Damaged page)) fault = tt
+ship_sent d a b (Err (error.NoGroup from at)) fault = tt
+ship_sent d a b (Err error.NotAStore) fault = absurd (fault error.NotAStore refl)
+ship_sent d a b (Err error.Read) fault = absurd (fault error.Read refl)
+ship_sent d a b (Err error.TooMuch) fault = absurd (fault error.TooMuch refl)
+ship_sent d a b (Err (error.Repeat n l)) fault = absurd (fault (error.Repeat n l) refl)
+ship_sent d a b (Err (error.Gap n l)) fault = absurd (fault (error.Gap n l) refl)
+ship_sent d a b (Err (error.Base n)) fault = absurd (fault (error.Base n) refl)
+ship_sent d a b (Err (error.Stream offset)) fault = absurd (fault (error.Stream offset) refl)
 
 -- all pages
 all_ends : {D : Type 0} (d : Ghosts D) (bytes : List ℕ) (was : Image) (a b : D) (header : Header) (result : Result (Unit {0}) ShipError) → HasSentAll d header.number header.pages result bytes was a b
@@ -125,7 +138,7 @@ no_mark pages (bytes, there, begins) none = let a : pages 0 ≡ Some bytes = the
 
 pub headless : (was : Image) (e : ShipError) → HasMark (replay was) → IsHeadless (replay was) e → IsUnshipped was (Err e)
 headless was error.NotAStore mark why = absurd (no_mark (replay was) mark why)
-headless was (error.Damaged page) mark why = why
+headless was (error.Damaged page) mark why = (mark, why)
 headless was error.Disk mark why = tt
 headless was error.Memory mark why = tt
 headless was error.Write mark why = absurd why
@@ -174,12 +187,23 @@ module _ {D : Type 0} {d : Ghosts D} where
   earlier was header start a b c (Err (error.Stream offset)) still ends = ends
 
   pub earlier_fault : (a b c : D) (e : ShipError) → IsStill d a b → IsFault d e b c → IsFault d e a c
-  earlier_fault a b c e still fault = fault_since [] a b c e (still_sends [] still) fault
+  earlier_fault a b c error.Disk still fault = rose_since (d.faults a) (d.faults b) (d.faults c) still.faults_later fault
+  earlier_fault a b c error.Memory still fault = tt
+  earlier_fault a b c error.NotAStore still fault = tt
+  earlier_fault a b c (error.Damaged page) still fault = tt
+  earlier_fault a b c error.Write still fault = absurd fault
+  earlier_fault a b c error.Read still fault = absurd fault
+  earlier_fault a b c error.TooMuch still fault = absurd fault
+  earlier_fault a b c (error.NoGroup from at) still fault = absurd fault
+  earlier_fault a b c (error.Repeat n l) still fault = absurd fault
+  earlier_fault a b c (error.Gap n l) still fault = absurd fault
+  earlier_fault a b c (error.Base n) still fault = absurd fault
+  earlier_fault a b c (error.Stream offset) still fault = absurd fault
 
   -- how it ends then
   pub ships : {wal : Wal} {header : Header} {a b c : D} (start : Start) (result : Result (Unit {0}) ShipError) → IsStill d a b
       → ((was : Image) → IsSettled d a was → IsInStep d wal b was × IsHeadedBy (replay was) header) → pending wal ≡ [] → EndsSending d header start wal result b c
-      → ((e : ShipError) → result ≡ Err e → IsFault d e b c) → Ships d start result a c
+      → ((e : ShipError) → result ≡ Err e → IsSendFault d e b c) → Ships d start result a c
   ships {header = header} {a = a} {b = b} {c = c} start result still opened empty ends fault = record {
     from = λ was settled told.
         let (step, headed) = opened was settled in
@@ -191,7 +215,7 @@ module _ {D : Type 0} {d : Ghosts D} where
               (subst (λ (l : List ℕ). Sends d l b c) part.1 (sends_prefix ends.bytes part.0 ends.sends));
           ends = earlier was header start a b c result still how;
         });
-    cause = raised_any d a c result (λ e is. earlier_fault a b c e still (fault e is));
+    cause = ship_sent d a c result (λ e is. fault_since [] a b c e (still_sends [] still) (fault e is));
     sends = (ends.bytes, still_first ends.bytes still ends.sends);
   }
 
@@ -199,6 +223,6 @@ module _ {D : Type 0} {d : Ghosts D} where
   pub ships_none : {a b : D} (start : Start) (e : ShipError) → IsStill d a b → ((was : Image) → IsSettled d a was → IsUnshipped was (Err e)) → IsFault d e a b → Ships d start (Err e) a b
   ships_none {a = a} {b = b} start e still why fault = record {
     from = λ was settled told. inr (why was settled, still);
-    cause = raised d a b e fault;
+    cause = ship_unopened d a b e why fault;
     sends = ([], still_sends [] still);
   }

@@ -7,7 +7,7 @@ use Rattle.nx_replay.specs.Log.{Entry, entry_bytes, entry_pages, replay}
 use Rattle.nx_wal.specs.Wal.{current, pending}
 use Rattle.nx_wal.specs.declared.wal.Wal.{Wal}
 use Rattle.nx_ship.specs.Shipped.{bytes_of}
-use Rattle.nx_ship.specs.Sending.{page_entry}
+use Rattle.nx_ship.specs.Sent.{page_entry}
 use Rattle.nx_ship.proofs.PageLemmas.{one_entry}
 
 pub page_read : (wal : Wal) (was : Image) (page : ℕ) (found : Option (List ℕ)) → pending wal ≡ [] → current wal was page ≡ found → replay was page ≡ found

@@ -1,9 +1,11 @@
+pub mod Words
 pub mod Faults
 pub mod Stream
 pub mod Reading
 pub mod Shipped
 pub mod Next
 pub mod Sending
+pub mod Sent
 pub mod Applying
 pub mod Moments
 pub mod Recovery

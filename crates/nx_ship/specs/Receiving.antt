@@ -1,22 +1,35 @@
 -- What a receiver stands for, of a stream that comes in pieces, and of the store to which its groups are applied.
 use Rattle.std.specs.Prelude.{◌≡◌, ◌≢◌, ◌==◌, ℕ, ◌+◌, ◌<◌, ◌≤◌, Bool, true, List, [], ◌∷◌, ◌++◌, length, Option, None, Some, IsSome, Result, Ok, Err}
 use Rattle.nx_host.specs.declared.disk.Disk.{Ghosts}
-use Rattle.nx_host.specs.Disk.{Image, Keeps}
+use Rattle.nx_host.specs.Disk.{Image, Keeps, Rose}
 use Rattle.nx_host.specs.Host.{Takes, Appends}
 use Rattle.nx_host.specs.Input.{most_input}
 use Rattle.nx_host.specs.Time.{Elapses}
+use Rattle.nx_host.specs.Still.{IsSettled}
 use Rattle.nx_replay.specs.Log.{Pages, Entry, Group, entry_pages, replay}
 use Rattle.nx_replay.specs.Laws.{over_all}
 use Rattle.nx_groups.specs.declared.group.GroupPage.{GroupPage}
 use Rattle.nx_groups.specs.Groups.{entry}
 use Rattle.nx_wal.specs.Wal.{IsInStep, pending}
+use Rattle.nx_wal.specs.declared.wal.Wal.{Wal}
 use Rattle.nx_ship.specs.Stream.{stream_length, BeginsWithHeader, IsStream}
 use Rattle.nx_ship.specs.Reading.{HasFed, AreUnderWay, least_behind}
 use Rattle.nx_ship.specs.Next.{number_following, IsAtNumber, AreNone, IsBase, IsOpenFor, ComeInTurn, StayDense, MayComeTo}
-use Rattle.nx_ship.specs.Applying.{applied_text, ShowsApplied, AppliesTo, TakesAtMost}
+use Rattle.nx_ship.specs.Applying.{applied_text, groups_in, log_before, log_after, HasLogged, ShowsApplied, AppliesTo, TakesAtMost}
 use Rattle.nx_ship.specs.declared.receiver.Receiver.{Receiver}
 use Rattle.nx_ship.specs.declared.error.ShipError.{ShipError}
 use Rattle.nx_ship.specs.declared.error.ShipError.TheVariants as error
+
+-- why applying stops: a call of the disk or of the output failed, or there was no memory, or a group is refused
+abbrev pub IsTakeFault : {D : Type 0} → Ghosts D → ShipError → D → D → Type 0
+IsTakeFault d error.Disk old new = Rose (d.faults old) (d.faults new)
+IsTakeFault d error.Write old new = Rose (d.beside old).out_faults (d.beside new).out_faults
+IsTakeFault d error.Memory old new = Unit {0}
+IsTakeFault d (error.Repeat number last) old new = Unit {0}
+IsTakeFault d (error.Gap number last) old new = Unit {0}
+IsTakeFault d (error.Base number) old new = Unit {0}
+IsTakeFault d (error.Stream offset) old new = Unit {0}
+IsTakeFault d _ old new = ⊥
 
 -- From old to new no input was taken, and no count fell.
 pub record LeavesInput {D : Type 0} (d : Ghosts D) (old new : D) : Type 0 where
@@ -36,20 +49,25 @@ abbrev pub is_next_number : Option ℕ → ℕ → Bool
 is_next_number None number = true
 is_next_number (Some last) number = number == number_following last
 
--- From these pages on the groups were applied, each the next one, and their lines given.
-pub record HasApplied {D : Type 0} (d : Ghosts D) (start : Pages) (first : D) (groups : List Group) (now : D) : Type 0 where
+-- The receiver knows of the groups that were applied to these pages, each the next one; and these pages of the group under way wait, where it may be the next.
+pub record KnowsGroups (start : Pages) (r : Receiver) (groups : List Group) (es : List Entry) : Type 0 where
   pub in_turn : ComeInTurn start groups
+  pub last : IsLast r.last (over_all start groups)
+  pub none : es ≡ [] → pending r.wal ≡ []
+  pub waits : 0 < length es → is_next_number r.last r.reader.number ≡ true → entry_pages (pending r.wal) ≡ entry_pages es
+
+-- From these pages on the groups were applied, and their lines given.
+pub record HasApplied {D : Type 0} (d : Ghosts D) (start : Pages) (first : D) (groups : List Group) (now : D) : Type 0 where
   pub out : Appends (applied_text groups) (d.beside first).output (d.beside now).output
   pub time : Elapses d.moment d.stood_since first now (ShowsApplied (d.beside first).output start groups)
 
--- The receiver is in step with the disk, which stands for what these groups made of the pages; and these pages of the group under way wait, where it may be the next.
-pub record KeepsUp {D : Type 0} (d : Ghosts D) (pages : Pages) (r : Receiver) (es : List Entry) (now : D) : Type 0 where
+-- The log is in step with the disk, which stands for the groups over the pages, and has the groups; and it has what it is to have before another one comes, where that is to be.
+pub record KeepsUp {D : Type 0} (d : Ghosts D) (start : Pages) (first : D) (groups : List Group) (wal : Wal) (Ready : Type 0) (now : D) : Type 0 where
   pub image : Image
-  pub step : IsInStep d r.wal now image
-  pub is : replay image ≡ pages
-  pub last : IsLast r.last pages
-  pub none : es ≡ [] → pending r.wal ≡ []
-  pub waits : 0 < length es → is_next_number r.last r.reader.number ≡ true → entry_pages (pending r.wal) ≡ entry_pages es
+  pub step : IsInStep d wal now image
+  pub is : replay image ≡ over_all start groups
+  pub logged : (was : Image) → IsSettled d first was → HasLogged (groups_in was) groups image
+  pub ready : Ready → (was : Image) → IsSettled d first was → groups_in image ≡ log_before (log_after (groups_in was) groups)
 
 -- The receiver was opened over this image, at the beginning of a stream.
 pub record HasOpened {D : Type 0} (d : Ghosts D) (was : Image) (r : Receiver) (now : D) : Type 0 where
@@ -60,10 +78,18 @@ pub record HasOpened {D : Type 0} (d : Ghosts D) (was : Image) (r : Receiver) (n
   pub last : IsLast r.last (replay was)
   pub open_for : IsOpenFor (replay was)
 
--- both, where the pages stay dense and the contents are told
+-- Groups were applied, and these pages of the one under way are there. What is said of the disk holds where the pages stay dense and the contents are told.
+pub record IsApplyingBy {D : Type 0} (d : Ghosts D) (start : Pages) (first : D) (r : Receiver) (groups : List Group) (es : List Entry) (Ready : Type 0) (now : D) : Type 0 where
+  pub knows : KnowsGroups start r groups es
+  pub shows : StayDense start groups → IsSome (d.contents now) → HasApplied d start first groups now × KeepsUp d start first groups r.wal Ready now
+
+-- The group of which these pages are there may be the next.
+abbrev pub IsNextUnderWay : Receiver → List Entry → Type 0
+IsNextUnderWay r es = (0 < length es) × (is_next_number r.last r.reader.number ≡ true)
+
+-- ... for which the log has room then
 abbrev pub IsApplying : {D : Type 0} → Ghosts D → Pages → D → Receiver → List Group → List Entry → D → Type 0
-IsApplying d start first r groups es now =
-    StayDense start groups → IsSome (d.contents now) → HasApplied d start first groups now × KeepsUp d (over_all start groups) r es now
+IsApplying d start first r groups es now = IsApplyingBy d start first r groups es (IsNextUnderWay r es) now
 
 -- Of these bytes, which aren't too many, the groups with which they begin were applied.
 pub record Receives {D : Type 0} (d : Ghosts D) (start : Pages) (first : D) (r : Receiver) (taken : List ℕ) (groups : List Group) (es : List Entry) (now : D) : Type 0 where
@@ -100,14 +126,19 @@ abbrev pub KeepsPage : {D : Type 0} → Ghosts D → GroupPage → Receiver → 
 KeepsPage {D} d page old new before after = (start : Pages) (first : D) (groups : List Group) (es : List Entry) → AreUnderWay old.reader.number (es ++ entry page ∷ [])
     → IsApplying d start first old groups es before → IsApplying d start first new groups (es ++ entry page ∷ []) after
 
+-- ... where the log is ready for it
+abbrev pub WaitsPage : {D : Type 0} → Ghosts D → GroupPage → Receiver → Receiver → D → D → Type 0
+WaitsPage {D} d page old new before after = (start : Pages) (first : D) (groups : List Group) (es : List Entry) → AreUnderWay old.reader.number (es ++ entry page ∷ [])
+    → IsApplyingBy d start first old groups es (Unit {0}) before → IsApplying d start first new groups (es ++ entry page ∷ []) after
+
 -- the groups were applied, and no others, whatever became of this call
 abbrev pub AppliesNone : {D : Type 0} → Ghosts D → Receiver → D → D → Type 0
 AppliesNone {D} d old before after = (start : Pages) (first : D) (groups : List Group) (es : List Entry) → IsApplying d start first old groups es before
-    → StayDense start groups → IsSome (d.contents after) → ComeInTurn start groups × Elapses d.moment d.stood_since first after (ShowsApplied (d.beside first).output start groups)
+    → StayDense start groups → IsSome (d.contents after) → Elapses d.moment d.stood_since first after (ShowsApplied (d.beside first).output start groups)
 
 -- The group that waits was committed, and its line given;
 abbrev pub CommitsGroup : {D : Type 0} → Ghosts D → Receiver → Receiver → D → D → Type 0
-CommitsGroup {D} d old new before after = (start : Pages) (first : D) (groups : List Group) (es : List Entry) → 0 < length es → BeginsWithHeader old.reader.number es
+CommitsGroup {D} d old new before after = (start : Pages) (first : D) (groups : List Group) (es : List Entry) → 0 < length es → AreUnderWay old.reader.number es
     → MayComeTo (over_all start groups) (record { number = old.reader.number; entries = es }) → is_next_number old.last old.reader.number ≡ true
     → IsApplying d start first old groups es before → IsApplying d start first new (groups ++ record { number = old.reader.number; entries = es } ∷ []) [] after
 
@@ -116,8 +147,7 @@ abbrev pub StopsCommitting : {D : Type 0} → Ghosts D → Receiver → D → D 
 StopsCommitting {D} d old before after = (start : Pages) (first : D) (groups : List Group) (es : List Entry) → 0 < length es
     → MayComeTo (over_all start groups) (record { number = old.reader.number; entries = es }) → is_next_number old.last old.reader.number ≡ true
     → IsApplying d start first old groups es before
-    → StayDense start groups → IsSome (d.contents after) → ComeInTurn start (groups ++ record { number = old.reader.number; entries = es } ∷ [])
-    × Elapses d.moment d.stood_since first after (ShowsApplied (d.beside first).output start (groups ++ record { number = old.reader.number; entries = es } ∷ []))
+    → StayDense start groups → IsSome (d.contents after) → Elapses d.moment d.stood_since first after (ShowsApplied (d.beside first).output start (groups ++ record { number = old.reader.number; entries = es } ∷ []))
 
 -- why the number of a group isn't the next
 abbrev pub RefusesNumber : Option ℕ → ℕ → ShipError → Type 0
@@ -129,10 +159,10 @@ RefusesNumber last number e = ⊥
 abbrev pub TakesSome : {D : Type 0} → Ghosts D → ℕ → List ℕ → Receiver → D → Type 0
 TakesSome {D} d n piece r now = (start : Pages) (first : D) (taken : List ℕ) → ReceivesSome d start first r taken now → 0 < length piece → 0 < n
 
--- The group under way goes on, or begins.
+-- The group under way, which may be the next, goes on, or begins.
 abbrev pub BeginsGroup : {D : Type 0} → Ghosts D → Receiver → Receiver → D → D → Type 0
 BeginsGroup {D} d old new before after = (start : Pages) (first : D) (groups : List Group) (es : List Entry) → (0 < length es → BeginsWithHeader old.reader.number es)
-    → IsApplying d start first old groups es before → IsApplying d start first new groups es after
+    → is_next_number old.last old.reader.number ≡ true → IsApplying d start first old groups es before → IsApplyingBy d start first new groups es (Unit {0}) after
 
 -- The receiver has the same stream before it, and the same last group.
 pub record LeavesStream (old new : Receiver) : Type 0 where

@@ -6,19 +6,24 @@ use Rattle.nx_replay.specs.Laws.{over_all}
 use Rattle.nx_holdings.specs.declared.header.Header.{Header}
 use Rattle.nx_state.specs.State.{State}
 use Rattle.nx_state.specs.Stands.{Recovers, Stands}
-use Rattle.nx_ship.specs.Shipped.{Applies, sent_to, whole_group, AreAllBelow}
+use Rattle.nx_ship.specs.Shipped.{Applies, sent_to, all_pages_group, AreAllBelow}
 use Rattle.nx_ship.specs.Next.{IsHeadedBy, IsOpenFor, StayDense}
 use Rattle.nx_ship.specs.Sending.{IsMissing, HasWrongHeader}
 
--- Where the receiver stood for what the sender did before a group of its log, and all groups from that one on are applied, it recovers to whatever the sender recovers to.
+-- Where the receiver stood for what the sender did before a group of its log, and the next groups are applied, it recovers to whatever the sender did when its log had these groups, and not yet the later ones.
 abbrev pub RecoversAlong : Type 0
-RecoversAlong = (sender was now : Image) (before next : List Group) → groups sender.log ≡ before ++ next → replay was ≡ sent_to sender before → Applies next was now
+RecoversAlong = (sender earlier was now : Image) (before next later : List Group) → groups sender.log ≡ before ++ (next ++ later) → earlier.pages ≡ sender.pages → groups earlier.log ≡ before ++ next
+    → replay was ≡ sent_to sender before → Applies next was now → (state : Option State) → Recovers earlier state → Recovers now state
+
+-- ... and where all groups from that one on are applied, to whatever the sender recovers to.
+abbrev pub RecoversAfter : Type 0
+RecoversAfter = (sender was now : Image) (before next : List Group) → groups sender.log ≡ before ++ next → replay was ≡ sent_to sender before → Applies next was now
     → (state : Option State) → Recovers sender state → Recovers now state
 
 -- So it does where it had no page, and all pages of the sender were applied as one group.
 abbrev pub RecoversWhole : Type 0
 RecoversWhole = (sender was now : Image) (number count : ℕ) → AreAllBelow (replay sender) count → ((p : ℕ) → replay was p ≡ None)
-    → Applies (whole_group number (replay sender) count ∷ []) was now → (state : Option State) → Recovers sender state → Recovers now state
+    → Applies (all_pages_group number (replay sender) count ∷ []) was now → (state : Option State) → Recovers sender state → Recovers now state
 
 -- Pages with a header begin as a store does. An image that recovers to a state has a header, and exactly the pages that it says; so it isn't refused as damaged.
 pub record StatesAreWhole : Type 0 where

@@ -47,8 +47,8 @@ pages_from pages at zero = []
 pages_from pages at (suc n) = record { page = at; bytes = bytes_of pages at } ∷ pages_from pages (at + 1) n
 
 -- the group of all pages
-abbrev pub whole_group : ℕ → Pages → ℕ → Group
-whole_group number pages count = record { number = number; entries = pages_from pages 0 count }
+abbrev pub all_pages_group : ℕ → Pages → ℕ → Group
+all_pages_group number pages count = record { number = number; entries = pages_from pages 0 count }
 
 -- The pages below this number are there, and no others.
 pub record AreAllBelow (pages : Pages) (count : ℕ) : Type 0 where
@@ -58,9 +58,9 @@ pub record AreAllBelow (pages : Pages) (count : ℕ) : Type 0 where
 -- Where the receiver had no page and the group of all pages of the sender is applied, it stands for what the sender does.
 abbrev pub StartsAlong : Type 0
 StartsAlong = (sender was now : Image) (number count : ℕ) → AreAllBelow (replay sender) count → ((p : ℕ) → replay was p ≡ None)
-    → Applies (whole_group number (replay sender) count ∷ []) was now → replay now ≡ replay sender
+    → Applies (all_pages_group number (replay sender) count ∷ []) was now → replay now ≡ replay sender
 
 -- A group of all pages can be written, where there are some and not too many.
 abbrev pub IsAllWhole : Type 0
 IsAllWhole = (sender : Image) (number count : ℕ) → AreAllBelow (replay sender) count → number < 2 ^ 64 → 1 ≤ count → count ≤ most_pages
-    → IsWhole (whole_group number (replay sender) count)
+    → IsWhole (all_pages_group number (replay sender) count)

@@ -1,5 +1,5 @@
 -- A stream of groups: what it says, by its bytes.
-use Rattle.std.specs.Prelude.{◌≡◌, ℕ, ◌+◌, ◌*◌, ◌≤◌, true, List, [], ◌∷◌, ◌++◌, length, drop}
+use Rattle.std.specs.Prelude.{◌≡◌, ◌⊎◌, ℕ, ◌+◌, ◌*◌, ◌<◌, ◌≤◌, true, List, [], ◌∷◌, ◌++◌, length, drop}
 use Rattle.std.specs.List.{AllByRecursion}
 use Rattle.byteorder.specs.Endian.{big_number}
 use Rattle.nx_numbers.specs.Sizes.{entry_size, most_pages}
@@ -32,6 +32,10 @@ pub record IsGood (bytes : List ℕ) : Type 0 where
   pub whole : size_with (count_in bytes) ≤ length bytes
   pub rises : rise 0 (entries_in (count_in bytes) (drop 12 bytes)) ≡ true
   pub header : BeginsWithHeader (big_number 8 bytes) (entries_in (count_in bytes) (drop 12 bytes))
+
+-- Only a part of a group stands there: too little for its head, or for as many pages as its head says.
+abbrev pub IsPartOfGroup : List ℕ → Type 0
+IsPartOfGroup bytes = (length bytes < size_with 0) ⊎ ((count_in bytes ≤ most_pages) × (length bytes < size_with (count_in bytes)))
 
 -- The bytes begin with these good groups, and this is what stands behind them.
 abbrev pub Begins : List Group → List ℕ → List ℕ → Type 0

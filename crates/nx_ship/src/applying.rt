@@ -1,7 +1,6 @@
 // Applying a stream of groups to a store.
 ghost use Rattle.std.specs.Prelude.{◌≡◌};
-ghost use Rattle.nx_ship.specs.Sending.{IsByFault};
-ghost use Rattle.nx_ship.specs.Applying.{ReceivesStream};
+ghost use Rattle.nx_ship.specs.Applying.{IsApplyCause, ReceivesStream};
 ghost use Rattle.nx_ship.specs.Receiving.{EndsReceiving, TakesInput};
 
 use crate::ShipError;
@@ -18,9 +17,9 @@ use std::alloc::Global;
 /// 16,777,216, the numbers of its pages don't rise or aren't below 16,777,216, its first page isn't page 0 and a header with its number,
 /// or bytes are missing. `Base` exactly where there is no page and a good first group isn't whole. `Repeat` and `Gap` exactly where a good group
 /// isn't the next one, and its number is at most that of the last one, or above it. All groups before stay applied then, and their lines
-/// are out. `NotAStore` exactly where the disk has pages, and page 0 is missing or doesn't begin as that of a store; `Damaged` only where it is no
-/// header; nothing is taken then. `TooMuch` exactly where as many bytes were taken as may be; with it and with `Read` all groups that
-/// were whole are in. `Disk`, `Read` and `Write` only where that count of faults rose; `Memory`.
+/// are out. `NotAStore` exactly where the disk has pages, and page 0 is missing or doesn't begin as that of a store; `Damaged` only where it does
+/// and is no header; nothing is taken then. `TooMuch` exactly where as many bytes were taken as may be; with it and with `Read` each
+/// group that was there was applied or refused before. `Disk`, `Read` and `Write` only where that count of faults rose; `Memory`.
 pub fn apply<H: Host>(alloc: Global, host: &mut H) -> Result<(), ShipError>
     ensures { ReceivesStream ⟦<H as Disk>⟧ result host.old host.new }
 {
@@ -32,7 +31,7 @@ pub fn apply<H: Host>(alloc: Global, host: &mut H) -> Result<(), ShipError>
 fn receive<H: Host>(alloc: Global, host: &mut H, receiver: &mut Receiver) -> Result<(), ShipError>
     ensures ends { EndsReceiving ⟦<H as Disk>⟧ receiver.old result host.old host.new }
     ensures takes { TakesInput ⟦<H as Disk>⟧ host.old host.new }
-    ensures cause { IsByFault ⟦<H as Disk>⟧ result host.old host.new }
+    ensures cause { IsApplyCause ⟦<H as Disk>⟧ result host.old host.new }
 {
     let mut input = Input::new(alloc)?;
     for count in 0..u64::MAX {

@@ -1,7 +1,7 @@
 //! What holds of streams of groups, and of a receiver to which a log's groups are applied.
 ghost use Rattle.nx_ship.specs.Stream.{OneStream, SomeStream, HasLength, ReadsBack, StreamEndsWell, IsSent};
 ghost use Rattle.nx_ship.specs.Moments.{EveryAppliedMoment, GroupsInTurnPass};
-ghost use Rattle.nx_ship.specs.Recovery.{RecoversAlong, RecoversWhole, StatesAreWhole, StatesStayDense};
+ghost use Rattle.nx_ship.specs.Recovery.{RecoversAlong, RecoversAfter, RecoversWhole, StatesAreWhole, StatesStayDense};
 ghost use Rattle.nx_ship.specs.Shipped.{AppliesInSteps, ComesAlong, CatchesUp, StaysAlong, StartsAlong, IsAllWhole};
 
 /// Bytes say one row of groups alone, and one rest behind it.
@@ -48,9 +48,11 @@ pub fn starts_along()
     ensures whole { IsAllWhole }
 {}
 
-/// A receiver to which all later groups of the sender were applied, or all of its pages, recovers to the state of the sender.
+/// A receiver to which later groups of the sender were applied recovers to the state that the sender had behind them, and one to which
+/// all of them were, or all pages, to the state of the sender.
 pub fn recovers_along()
     ensures groups { RecoversAlong }
+    ensures all { RecoversAfter }
     ensures whole { RecoversWhole }
 {}
 

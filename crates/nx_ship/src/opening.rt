@@ -5,7 +5,7 @@ ghost use Rattle.nx_host.specs.Still.{IsStill, IsSettled};
 ghost use Rattle.nx_replay.specs.Log.{HasMark, replay};
 ghost use Rattle.nx_wal.specs.Wal.{IsInStep, pending};
 ghost use Rattle.nx_ship.specs.Next.{IsHeadedBy, number_following};
-ghost use Rattle.nx_ship.specs.Sending.{FindsStore, IsHeadless, IsNoStoreOpened, IsBarred, IsFault};
+ghost use Rattle.nx_ship.specs.Sent.{FindsStore, IsHeadless, IsNoStoreOpened, IsBarred, IsFault};
 
 use crate::ShipError;
 use crate::error::error_of;

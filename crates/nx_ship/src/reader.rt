@@ -21,7 +21,7 @@ const PAGE: usize = 8_196;
 // A reader of a stream of groups. Of the group under way it keeps the page that is under way alone.
 #[derive(Drop)]
 pub(crate) struct Reader {
-    // The number of the group under way and of its pages, 0 where its head isn't whole.
+    // The number of the group under way, and how many pages it has: 0 where its head isn't there yet.
     pub(crate) number: u64,
     count: u32,
     // How many of its pages were given, and the least number that the next may have.

@@ -41,13 +41,13 @@ pub(crate) struct Receiver {
 impl Receiver {
     ghost use Rattle.nx_holdings.specs.declared.header.Header.{Header};
     ghost use Rattle.nx_ship.specs.Next.{IsHeadedBy, IsBase};
-    ghost use Rattle.nx_ship.specs.Sending.{IsFault, IsCutShort, IsHeadless};
+    ghost use Rattle.nx_ship.specs.Sent.{IsFault, IsCutShort, IsHeadless};
     ghost use Rattle.nx_ship.specs.Applying.{IsUnapplied};
-    ghost use Rattle.nx_ship.specs.Receiving.{LeavesInput, LeavesStream, HasOpened, is_next_number, ReceivesMore, StopsReceiving, TakesSome, KeepsPage, AppliesNone, BeginsGroup, AppliesLast, StopsAtLast, IsGroupKept, IsBaseless, IsBased, CommitsGroup, StopsCommitting, RefusesNumber, EndsStream, IsStreamError};
+    ghost use Rattle.nx_ship.specs.Receiving.{IsTakeFault, LeavesInput, LeavesStream, HasOpened, is_next_number, ReceivesMore, StopsReceiving, TakesSome, KeepsPage, AppliesNone, BeginsGroup, AppliesLast, StopsAtLast, IsGroupKept, IsBaseless, IsBased, CommitsGroup, StopsCommitting, RefusesNumber, EndsStream, IsStreamError};
 
     // A receiver over the disk, at the beginning of a stream. Nothing is written.
     //
-    // Errors: `NotAStore` exactly where there are pages and no header; `Damaged`, where page 0 begins as a header, and is none;
+    // Errors: `NotAStore` exactly where there are pages, and page 0 doesn't begin as that of a store; `Damaged`, where it does, and is no header;
     // `Disk`, only where `faults` rose; `Memory`.
     pub(crate) fn open<D: Disk>(alloc: Global, disk: &mut D) -> Result<Receiver, ShipError>
         ensures still { IsStill D.Disk disk.old disk.new }
@@ -106,7 +106,7 @@ impl Receiver {
         ensures ok { OnOk result (ReceivesMore ⟦<H as Disk>⟧ piece.now self.old self.new host.old host.new) }
         ensures err { IfErr result (λ e. StopsReceiving ⟦<H as Disk>⟧ piece.now e self.old host.old host.new) }
         ensures leaves { LeavesInput ⟦<H as Disk>⟧ host.old host.new }
-        ensures cause { IfErr result (λ e. IsFault ⟦<H as Disk>⟧ e host.old host.new) }
+        ensures cause { IfErr result (λ e. IsTakeFault ⟦<H as Disk>⟧ e host.old host.new) }
     {
         let mut at = 0;
         // A step takes one byte at least.
@@ -126,7 +126,7 @@ impl Receiver {
         ensures some { IfOk result (λ n. TakesSome ⟦<H as Disk>⟧ n piece.now self.old host.old) }
         ensures err { IfErr result (λ e. StopsReceiving ⟦<H as Disk>⟧ piece.now e self.old host.old host.new) }
         ensures leaves { LeavesInput ⟦<H as Disk>⟧ host.old host.new }
-        ensures cause { IfErr result (λ e. IsFault ⟦<H as Disk>⟧ e host.old host.new) }
+        ensures cause { IfErr result (λ e. IsTakeFault ⟦<H as Disk>⟧ e host.old host.new) }
     {
         let fed = self.reader.feed(piece)?;
         match fed {
@@ -153,7 +153,7 @@ impl Receiver {
         ensures cut { IfErr result (λ e. IsCutShort e) }
         ensures stays { LeavesStream self.old self.new }
         ensures leaves { LeavesInput D.Disk disk.old disk.new }
-        ensures cause { IfErr result (λ e. IsFault D.Disk e disk.old disk.new) }
+        ensures cause { IfErr result (λ e. IsTakeFault D.Disk e disk.old disk.new) }
     {
         match self.check_number() {
             Ok(()) => self.keep(disk, page),
@@ -164,13 +164,13 @@ impl Receiver {
     // Makes a page of the group under way wait for its commit.
     fn keep<D: Disk>(&mut self, disk: &mut D, page: &GroupPage) -> Result<(), ShipError>
         requires { page.now.page < most_pages }
-        ensures ok { OnOk result (KeepsPage D.Disk page.now self.old self.new disk.old disk.new) }
+        ensures ok { OnOk result (is_next_number self.old.last self.old.reader.number ≡ true → KeepsPage D.Disk page.now self.old self.new disk.old disk.new) }
         ensures some { OnOk result (pending self.new.wal ≢ []) }
         ensures moves { AppliesNone D.Disk self.old disk.old disk.new }
         ensures cut { IfErr result (λ e. IsCutShort e) }
         ensures stays { LeavesStream self.old self.new }
         ensures leaves { LeavesInput D.Disk disk.old disk.new }
-        ensures cause { IfErr result (λ e. IsFault D.Disk e disk.old disk.new) }
+        ensures cause { IfErr result (λ e. IsTakeFault D.Disk e disk.old disk.new) }
     {
         self.begin_group(disk)?;
         match self.wal.put(page.page, &page.bytes) {
@@ -179,7 +179,8 @@ impl Receiver {
         }
     }
 
-    // Where no page of a group waits, its first one does: a checkpoint comes before the first page of a group where the log is long.
+    // Goes on with the group of which page 0 waits. Where it doesn't, a group begins: what waits is dropped, and a checkpoint comes where
+    // the log is long.
     fn begin_group<D: Disk>(&mut self, disk: &mut D) -> Result<(), ShipError>
         ensures ok { OnOk result (BeginsGroup D.Disk self.old self.new disk.old disk.new) }
         ensures room { OnOk result (length_of self.new.wal ≤ 2 ^ 62) }
@@ -187,7 +188,7 @@ impl Receiver {
         ensures cut { IfErr result (λ e. IsCutShort e) }
         ensures stays { LeavesStream self.old self.new }
         ensures leaves { LeavesInput D.Disk disk.old disk.new }
-        ensures cause { IfErr result (λ e. IsFault D.Disk e disk.old disk.new) }
+        ensures cause { IfErr result (λ e. IsTakeFault D.Disk e disk.old disk.new) }
     {
         match self.wal.waiting(0) {
             Some(_) => return Ok(()),
@@ -228,7 +229,7 @@ impl Receiver {
         ensures ok { OnOk result (AppliesLast ⟦<H as Disk>⟧ page.now self.old self.new host.old host.new) }
         ensures err { IfErr result (λ e. StopsAtLast ⟦<H as Disk>⟧ page.now e self.old host.old host.new) }
         ensures leaves { LeavesInput ⟦<H as Disk>⟧ host.old host.new }
-        ensures cause { IfErr result (λ e. IsFault ⟦<H as Disk>⟧ e host.old host.new) }
+        ensures cause { IfErr result (λ e. IsTakeFault ⟦<H as Disk>⟧ e host.old host.new) }
     {
         self.check_number()?;
         self.keep(host, page)?;
@@ -282,7 +283,7 @@ impl Receiver {
         ensures reader { self.new.reader ≡ self.old.reader }
         ensures offset { OnOk result (self.new.offset ≡ min (self.old.offset + (12 + entry_size * self.old.reader.taken)) (2 ^ 64 - 1)) }
         ensures leaves { LeavesInput ⟦<H as Disk>⟧ host.old host.new }
-        ensures cause { IfErr result (λ e. IsFault ⟦<H as Disk>⟧ e host.old host.new) }
+        ensures cause { IfErr result (λ e. IsTakeFault ⟦<H as Disk>⟧ e host.old host.new) }
     {
         let number = self.reader.number;
         let line = applied_line(self.alloc, number)?;

@@ -1,25 +1,26 @@
 // Groups of a store, given as a stream in blocks.
-ghost use Rattle.std.specs.Prelude.{◌≡◌, ◌⊎◌, ◌==◌, true, ◌≤◌, ◌<◌, ℕ, List, [], ◌∷◌, ◌++◌, length, OnOk, IfOk, IfErr, OnErr, Some};
+ghost use Rattle.std.specs.Prelude.{◌≡◌, ◌≤◌, ◌<◌, ℕ, List, [], ◌++◌, length, OnOk, IfOk, IfErr, OnErr};
 ghost use Rattle.byteorder.specs.Endian.{big_bytes};
 ghost use Rattle.nx_host.specs.Disk.{Image, Rose};
-ghost use Rattle.nx_replay.specs.Log.{entry_bytes, group_bytes, groups, replay};
-ghost use Rattle.nx_groups.specs.Groups.{logged_as, entries};
-ghost use Rattle.nx_wal.specs.Wal.{IsInStep, pending};
-ghost use Rattle.nx_ship.specs.Stream.{stream_of};
-ghost use Rattle.nx_ship.specs.Shipped.{bytes_of, pages_from};
-ghost use Rattle.nx_ship.specs.Sending.{SendsMore, SendsSome, IsFault, from_number, IsCutShort, SendsPage, SendsPages, StopsAtPage, StopsAtPages, SendsWanted, SendsGroups, StopsAtGroups, EndsSendingAll, EndsSendingFrom};
+ghost use Rattle.nx_wal.specs.Wal.{group_count};
+ghost use Rattle.nx_ship.specs.Sent.{SendsMore, SendsSome, IsSendFault, IsCutShort, SendsPage, SendsPages, StopsAtPage, StopsAtPages, SendsPart, StopsAtPart, SendsGroup, StopsAtGroup, SendsWanted, StopsAtWanted, SendsGroups, StopsAtGroups, EndsSendingAll, EndsSendingFrom};
 
 use crate::ShipError;
 use crate::error::error_of;
 use crate::opening::following;
 use byteorder::{BigEndian, ByteOrder};
-use nx_groups::{Group, GroupPage};
 use nx_host::{Disk, Host};
-use nx_wal::{PageBytes, Wal};
-use std::alloc::AllocError;
+use nx_numbers::ENTRY_SIZE;
+use nx_wal::{GroupHead, PageBytes, Wal};
+use std::alloc::{AllocError, Global};
 
 // Once the block has as many bytes, it is given.
 const BLOCK: usize = 65_536;
+
+// How many pages of a group are read at once, and how many bytes they are with their numbers.
+const PART: u32 = 8;
+
+const PART_SIZE: usize = 65_568;
 
 // Adds the head of a group: its number and the count of its pages.
 fn add_head(block: &mut Vec<u8>, number: u64, count: u32) -> Result<(), AllocError>
@@ -48,7 +49,7 @@ pub(crate) fn give<H: Host>(host: &mut H, block: &mut Vec<u8>) -> Result<(), Shi
     ensures ok { OnOk result (SendsMore ⟦<H as Disk>⟧ [] block.old.items block.new.items host.old host.new × (block.new.items ≡ [])) }
     ensures err { OnErr result (SendsSome ⟦<H as Disk>⟧ [] block.old.items host.old host.new) }
     ensures cut { IfErr result (λ e. IsCutShort e) }
-    ensures cause { IfErr result (λ e. IsFault ⟦<H as Disk>⟧ e host.old host.new) }
+    ensures cause { IfErr result (λ e. IsSendFault ⟦<H as Disk>⟧ e host.old host.new) }
 {
     host.emit(block)?;
     block.clear();
@@ -60,59 +61,13 @@ fn give_full<H: Host>(host: &mut H, block: &mut Vec<u8>) -> Result<(), ShipError
     ensures ok { OnOk result (SendsMore ⟦<H as Disk>⟧ [] block.old.items block.new.items host.old host.new) }
     ensures err { OnErr result (SendsSome ⟦<H as Disk>⟧ [] block.old.items host.old host.new) }
     ensures cut { IfErr result (λ e. IsCutShort e) }
-    ensures cause { IfErr result (λ e. IsFault ⟦<H as Disk>⟧ e host.old host.new) }
+    ensures cause { IfErr result (λ e. IsSendFault ⟦<H as Disk>⟧ e host.old host.new) }
 {
     if block.len() >= BLOCK {
         give(host, block)
     } else {
         Ok(())
     }
-}
-
-// Sends a page of a group.
-fn send_entry<H: Host>(host: &mut H, block: &mut Vec<u8>, page: &GroupPage) -> Result<(), ShipError>
-    ensures ok { OnOk result (SendsMore ⟦<H as Disk>⟧ (big_bytes 4 page.now.page ++ page.now.bytes.bytes) block.old.items block.new.items host.old host.new) }
-    ensures err { OnErr result (SendsSome ⟦<H as Disk>⟧ (big_bytes 4 page.now.page ++ page.now.bytes.bytes) block.old.items host.old host.new) }
-    ensures cut { IfErr result (λ e. IsCutShort e) }
-    ensures cause { IfErr result (λ e. IsFault ⟦<H as Disk>⟧ e host.old host.new) }
-{
-    add_page(block, page.page, &page.bytes)?;
-    give_full(host, block)
-}
-
-// Sends the pages of a group.
-fn send_entries<H: Host>(
-    host: &mut H,
-    block: &mut Vec<u8>,
-    pages: &[GroupPage],
-) -> Result<(), ShipError>
-    ensures ok { OnOk result (SendsMore ⟦<H as Disk>⟧ (entry_bytes (entries pages.now)) block.old.items block.new.items host.old host.new) }
-    ensures err { OnErr result (SendsSome ⟦<H as Disk>⟧ (entry_bytes (entries pages.now)) block.old.items host.old host.new) }
-    ensures cut { IfErr result (λ e. IsCutShort e) }
-    ensures cause { IfErr result (λ e. IsFault ⟦<H as Disk>⟧ e host.old host.new) }
-{
-    for page in pages {
-        send_entry(host, block, page)?;
-    }
-    Ok(())
-}
-
-// The count of a group's pages, as its head has it. A group of a log has fewer than 2^32.
-fn count_of(group: &Group) -> u32
-    ensures { big_bytes 4 result ≡ big_bytes 4 (length group.now.pages) }
-{
-    (group.pages.len() % 4_294_967_296) as u32
-}
-
-// Sends a group.
-fn send_group<H: Host>(host: &mut H, block: &mut Vec<u8>, group: &Group) -> Result<(), ShipError>
-    ensures ok { OnOk result (SendsMore ⟦<H as Disk>⟧ (group_bytes (logged_as group.now)) block.old.items block.new.items host.old host.new) }
-    ensures err { OnErr result (SendsSome ⟦<H as Disk>⟧ (group_bytes (logged_as group.now)) block.old.items host.old host.new) }
-    ensures cut { IfErr result (λ e. IsCutShort e) }
-    ensures cause { IfErr result (λ e. IsFault ⟦<H as Disk>⟧ e host.old host.new) }
-{
-    add_head(block, group.number, count_of(group))?;
-    send_entries(host, block, group.pages.as_slice())
 }
 
 // Sends a page of the store, as a page of a group.
@@ -126,7 +81,7 @@ fn send_page<H: Host>(
 ) -> Result<(), ShipError>
     ensures ok { OnOk result ((wal.new ≡ wal.old) × SendsPage ⟦<H as Disk>⟧ page wal.old block.old.items block.new.items host.old host.new) }
     ensures err { IfErr result (λ e. StopsAtPage ⟦<H as Disk>⟧ page wal.old e block.old.items host.old host.new) }
-    ensures cause { IfErr result (λ e. IsFault ⟦<H as Disk>⟧ e host.old host.new) }
+    ensures cause { IfErr result (λ e. IsSendFault ⟦<H as Disk>⟧ e host.old host.new) }
 {
     let mut bytes = PageBytes { bytes: [0; 8192] };
     match wal.load(host, page, &mut bytes) {
@@ -147,7 +102,7 @@ fn send_pages<H: Host>(
 ) -> Result<(), ShipError>
     ensures ok { OnOk result (SendsPages ⟦<H as Disk>⟧ count wal.old block.old.items block.new.items host.old host.new) }
     ensures err { IfErr result (λ e. StopsAtPages ⟦<H as Disk>⟧ count wal.old e block.old.items host.old host.new) }
-    ensures cause { IfErr result (λ e. IsFault ⟦<H as Disk>⟧ e host.old host.new) }
+    ensures cause { IfErr result (λ e. IsSendFault ⟦<H as Disk>⟧ e host.old host.new) }
 {
     for page in 0..count {
         send_page(host, wal, block, page)?;
@@ -165,7 +120,7 @@ pub(crate) fn send_all<H: Host>(
 ) -> Result<(), ShipError>
     requires { block.old.items ≡ [] }
     ensures ends { EndsSendingAll ⟦<H as Disk>⟧ number count wal.old result host.old host.new }
-    ensures cause { IfErr result (λ e. IsFault ⟦<H as Disk>⟧ e host.old host.new) }
+    ensures cause { IfErr result (λ e. IsSendFault ⟦<H as Disk>⟧ e host.old host.new) }
 {
     add_head(block, number, count)?;
     send_pages(host, wal, block, count)?;
@@ -173,28 +128,161 @@ pub(crate) fn send_all<H: Host>(
     Ok(())
 }
 
-// Sends a group where the first one with this number was found before, or is this one, and answers whether it did.
+// Gives what the block has where that is something.
+fn give_some<H: Host>(host: &mut H, block: &mut Vec<u8>) -> Result<(), ShipError>
+    ensures ok { OnOk result (SendsMore ⟦<H as Disk>⟧ [] block.old.items block.new.items host.old host.new × (block.new.items ≡ [])) }
+    ensures err { OnErr result (SendsSome ⟦<H as Disk>⟧ [] block.old.items host.old host.new) }
+    ensures cut { IfErr result (λ e. IsCutShort e) }
+    ensures cause { IfErr result (λ e. IsSendFault ⟦<H as Disk>⟧ e host.old host.new) }
+{
+    if block.is_empty() {
+        return Ok(());
+    }
+    give(host, block)
+}
+
+// Gives what the block has, and these bytes behind it.
+fn give_behind<H: Host>(host: &mut H, block: &mut Vec<u8>, bytes: &[u8]) -> Result<(), ShipError>
+    ensures ok { OnOk result (SendsMore ⟦<H as Disk>⟧ bytes.now block.old.items block.new.items host.old host.new) }
+    ensures err { OnErr result (SendsSome ⟦<H as Disk>⟧ bytes.now block.old.items host.old host.new) }
+    ensures cut { IfErr result (λ e. IsCutShort e) }
+    ensures cause { IfErr result (λ e. IsSendFault ⟦<H as Disk>⟧ e host.old host.new) }
+{
+    give_some(host, block)?;
+    host.emit(bytes)?;
+    Ok(())
+}
+
+// Sends bytes: where they are many they aren't copied into the block.
+fn send_bytes<H: Host>(host: &mut H, block: &mut Vec<u8>, bytes: &[u8]) -> Result<(), ShipError>
+    ensures ok { OnOk result (SendsMore ⟦<H as Disk>⟧ bytes.now block.old.items block.new.items host.old host.new) }
+    ensures err { OnErr result (SendsSome ⟦<H as Disk>⟧ bytes.now block.old.items host.old host.new) }
+    ensures cut { IfErr result (λ e. IsCutShort e) }
+    ensures cause { IfErr result (λ e. IsSendFault ⟦<H as Disk>⟧ e host.old host.new) }
+{
+    if bytes.len() >= BLOCK {
+        return give_behind(host, block, bytes);
+    }
+    block.extend_from_slice(bytes)?;
+    give_full(host, block)
+}
+
+// Sends so many pages of the group with this index, from the one with the index `first` in it on. They are read into the part.
+fn send_part<H: Host>(
+    host: &mut H,
+    wal: &mut Wal,
+    block: &mut Vec<u8>,
+    part: &mut [u8],
+    index: u64,
+    first: u32,
+    count: u32,
+) -> Result<(), ShipError>
+    requires index { index < group_count wal.old }
+    requires room { length part.old ≡ 65568 }
+    requires few { count ≤ 8 }
+    ensures room { length part.new ≡ 65568 }
+    ensures ok { OnOk result ((wal.new ≡ wal.old) × SendsPart ⟦<H as Disk>⟧ index first count wal.old block.old.items block.new.items host.old host.new) }
+    ensures err { OnErr result (StopsAtPart ⟦<H as Disk>⟧ index first count wal.old block.old.items host.old host.new) }
+    ensures cut { IfErr result (λ e. IsCutShort e) }
+    ensures cause { IfErr result (λ e. IsSendFault ⟦<H as Disk>⟧ e host.old host.new) }
+{
+    let size = ENTRY_SIZE * count as usize;
+    match wal.group_part(host, index, first, &mut part[..size]) {
+        Ok(()) => {}
+        Err(error) => return Err(error_of(error)),
+    }
+    send_bytes(host, block, &part[..size])
+}
+
+// Sends the pages of the group with this index, which are so many.
+fn send_entries<H: Host>(
+    host: &mut H,
+    wal: &mut Wal,
+    block: &mut Vec<u8>,
+    part: &mut [u8],
+    index: u64,
+    count: u32,
+) -> Result<(), ShipError>
+    requires index { index < group_count wal.old }
+    requires room { length part.old ≡ 65568 }
+    ensures room { length part.new ≡ 65568 }
+    ensures ok { OnOk result ((wal.new ≡ wal.old) × SendsPart ⟦<H as Disk>⟧ index 0 count wal.old block.old.items block.new.items host.old host.new) }
+    ensures err { OnErr result (StopsAtPart ⟦<H as Disk>⟧ index 0 count wal.old block.old.items host.old host.new) }
+    ensures cut { IfErr result (λ e. IsCutShort e) }
+    ensures cause { IfErr result (λ e. IsSendFault ⟦<H as Disk>⟧ e host.old host.new) }
+{
+    let mut first = 0;
+    while first < count {
+        let more = PART.min(count - first);
+        send_part(host, wal, block, part, index, first, more)?;
+        first += more;
+    }
+    Ok(())
+}
+
+// Sends the group with this index, which has this head.
+fn send_group<H: Host>(
+    host: &mut H,
+    wal: &mut Wal,
+    block: &mut Vec<u8>,
+    part: &mut [u8],
+    index: u64,
+    head: GroupHead,
+) -> Result<(), ShipError>
+    requires index { index < group_count wal.old }
+    requires room { length part.old ≡ 65568 }
+    ensures room { length part.new ≡ 65568 }
+    ensures ok { OnOk result ((wal.new ≡ wal.old) × SendsGroup ⟦<H as Disk>⟧ index head wal.old block.old.items block.new.items host.old host.new) }
+    ensures err { OnErr result (StopsAtGroup ⟦<H as Disk>⟧ index head wal.old block.old.items host.old host.new) }
+    ensures cut { IfErr result (λ e. IsCutShort e) }
+    ensures cause { IfErr result (λ e. IsSendFault ⟦<H as Disk>⟧ e host.old host.new) }
+{
+    add_head(block, head.number, head.count)?;
+    send_entries(host, wal, block, part, index, head.count)
+}
+
+// Sends the group with this index where the first one with this number was found before, or is this one, and answers whether it did.
 fn send_wanted<H: Host>(
     host: &mut H,
+    wal: &mut Wal,
     block: &mut Vec<u8>,
-    group: &Group,
+    part: &mut [u8],
+    index: u64,
     number: u64,
     found: bool,
 ) -> Result<bool, ShipError>
-    ensures ok { IfOk result (λ now. SendsWanted ⟦<H as Disk>⟧ number (logged_as group.now) found now block.old.items block.new.items host.old host.new) }
-    ensures err { OnErr result (((found ≡ true) ⊎ ((group.now.number == number) ≡ true)) × SendsSome ⟦<H as Disk>⟧ (group_bytes (logged_as group.now)) block.old.items host.old host.new) }
+    requires index { index < group_count wal.old }
+    requires room { length part.old ≡ 65568 }
+    ensures room { length part.new ≡ 65568 }
+    ensures ok { IfOk result (λ now. (wal.new ≡ wal.old) × SendsWanted ⟦<H as Disk>⟧ number index wal.old found now block.old.items block.new.items host.old host.new) }
+    ensures err { OnErr result (StopsAtWanted ⟦<H as Disk>⟧ number index wal.old found block.old.items host.old host.new) }
     ensures cut { IfErr result (λ e. IsCutShort e) }
-    ensures cause { IfErr result (λ e. IsFault ⟦<H as Disk>⟧ e host.old host.new) }
+    ensures cause { IfErr result (λ e. IsSendFault ⟦<H as Disk>⟧ e host.old host.new) }
 {
-    if !found && group.number != number {
+    let head = match wal.group_head(host, index) {
+        Ok(head) => head,
+        Err(error) => return Err(error_of(error)),
+    };
+    if !found && head.number != number {
         return Ok(false);
     }
-    send_group(host, block, group)?;
+    send_group(host, wal, block, part, index, head)?;
     Ok(true)
 }
 
-// Sends the groups of the log from the first one with this number on, and answers whether there is one.
+// Room for a part of a group.
+fn part_room(alloc: Global) -> Result<Vec<u8>, AllocError>
+    ensures { IfOk result (λ part. length part.items ≡ 65568) }
+{
+    let mut part = Vec::with_capacity(alloc, PART_SIZE)?;
+    part.resize(PART_SIZE, 0)?;
+    Ok(part)
+}
+
+// Sends the groups of the log from the first one with this number on, and answers whether there is one. Of a group before it the
+// head alone is read.
 fn send_groups<H: Host>(
+    alloc: Global,
     host: &mut H,
     wal: &mut Wal,
     block: &mut Vec<u8>,
@@ -202,15 +290,12 @@ fn send_groups<H: Host>(
 ) -> Result<bool, ShipError>
     ensures ok { IfOk result (λ found. SendsGroups ⟦<H as Disk>⟧ number wal.old found block.old.items block.new.items host.old host.new) }
     ensures err { IfErr result (λ e. StopsAtGroups ⟦<H as Disk>⟧ number wal.old e block.old.items host.old host.new) }
-    ensures cause { IfErr result (λ e. IsFault ⟦<H as Disk>⟧ e host.old host.new) }
+    ensures cause { IfErr result (λ e. IsSendFault ⟦<H as Disk>⟧ e host.old host.new) }
 {
+    let mut part = part_room(alloc)?;
     let mut found = false;
     for index in 0..wal.groups() {
-        let group = match wal.group(host, index) {
-            Ok(group) => group,
-            Err(error) => return Err(error_of(error)),
-        };
-        found = send_wanted(host, block, &group, number, found)?;
+        found = send_wanted(host, wal, block, &mut part, index, number, found)?;
     }
     Ok(found)
 }
@@ -220,6 +305,7 @@ fn send_groups<H: Host>(
 // Errors: `NoGroup`, where there is none, and it isn't the next one.
 #[tactic(none)]
 pub(crate) fn send_from<H: Host>(
+    alloc: Global,
     host: &mut H,
     wal: &mut Wal,
     block: &mut Vec<u8>,
@@ -228,9 +314,9 @@ pub(crate) fn send_from<H: Host>(
 ) -> Result<(), ShipError>
     requires { block.old.items ≡ [] }
     ensures ends { EndsSendingFrom ⟦<H as Disk>⟧ number last wal.old result host.old host.new }
-    ensures cause { IfErr result (λ e. IsFault ⟦<H as Disk>⟧ e host.old host.new) }
+    ensures cause { IfErr result (λ e. IsSendFault ⟦<H as Disk>⟧ e host.old host.new) }
 {
-    if send_groups(host, wal, block, number)? {
+    if send_groups(alloc, host, wal, block, number)? {
         give(host, block)?;
         return Ok(());
     }

@@ -116,3 +116,37 @@ fn a_first_group_is_no_store(rt: HostRuntime) -> Result<(), Fail> {
     assert_eq!(rt; out.len(), 0);
     Ok(())
 }
+
+// A load of a document whose group has more pages than are read at once.
+fn large_load(alloc: Global) -> Result<Bytes, NoMemory> {
+    let mut bytes = Bytes::from_slice(alloc, b"load e\n(a\n")?;
+    for count in 0..700u32 {
+        bytes.extend_from_slice(b"(abcdefghijklmnopqrstuvwxyz\n-")?;
+        bytes.extend_from_slice(&[120u8; 88])?;
+        bytes.extend_from_slice(b"\n)abcdefghijklmnopqrstuvwxyz\n")?;
+    }
+    bytes.extend_from_slice(b")a\n.\n")?;
+    Ok(bytes)
+}
+
+// The stream of such a group, and of the one before it.
+fn large_stream(rt: &(impl Threads + Sync), alloc: Global) -> Result<Bytes, NoMemory> {
+    let load = large_load(alloc)?;
+    let (_, _, image) = answers(rt, alloc, &made(rt, alloc)?, load.as_slice())?;
+    let (_, bytes) = shipped(alloc, &image, Start::Number(0))?;
+    Ok(bytes)
+}
+
+#[test]
+fn a_large_group_is_shipped_on(rt: HostRuntime) -> Result<(), Fail> {
+    let alloc = rt.alloc();
+    let stream = large_stream(&rt, alloc)?;
+    assert!(rt; stream.len() > 24 + 8_196 * 9);
+    let (result, out, image) = applied(alloc, &no_store(alloc), stream.as_slice(), 10_000)?;
+    assert_eq!(rt; result, Ok(()));
+    assert_eq!(rt; out.as_slice(), b"ok 0\nok 1\n".as_slice());
+    let (result, again) = shipped(alloc, &image, Start::Number(0))?;
+    assert_eq!(rt; result, Ok(()));
+    assert!(rt; again.as_slice() == stream.as_slice());
+    Ok(())
+}

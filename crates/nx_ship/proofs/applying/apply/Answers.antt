@@ -1,5 +1,5 @@
 use Rattle.std.proofs.lemmas.Result.{err_from_is_err_and}
-use Rattle.nx_ship.proofs.OpenLemmas.{receives_none, receives_all, raised_later}
+use Rattle.nx_ship.proofs.OpenLemmas.{receives_none, receives_all, cause_later}
 use Rattle.nx_ship.proofs.applying.apply.Goals as goal
 
 pub returns-in_err-receiver : goal.returns-in_err-receiver
@@ -10,4 +10,4 @@ returns-in_err-receiver g c =
 pub returns : goal.returns
 returns g c =
     receives_all c.receive.result c.open.ensures.still c.in_ok-receiver.ensures.ok c.receive.ensures.ends c.receive.ensures.takes
-    (raised_later g.H.Disk c.args.host.now c.open.new.disk c.receive.new.host c.receive.result c.open.ensures.still c.receive.ensures.cause)
+    (cause_later g.H.Disk c.args.host.now c.open.new.disk c.receive.new.host c.receive.result c.open.ensures.still c.receive.ensures.cause)

@@ -6,7 +6,8 @@ use Rattle.nx_ship.specs.Receiving.{ReceivesMore, StopsReceiving}
 use Rattle.nx_ship.proofs.EntryLemmas.{no_bytes}
 use Rattle.nx_ship.proofs.ReceivingLemmas.{leaves_none}
 use Rattle.nx_ship.proofs.OpenLemmas.{takes_none}
-use Rattle.nx_ship.proofs.PieceLemmas.{input_begun, has_filled, input_more, input_takes, filled_takes, ends_lost, ends_unbegun, stops_filled, ends_stopped, ends_refused, ends_all, input_raised, stream_raised, fault_raised}
+use Rattle.nx_ship.proofs.PieceLemmas.{input_begun, has_filled, input_more, input_takes, filled_takes, ends_lost, ends_unbegun, stops_filled, ends_stopped, ends_refused, ends_all, stopped_cause, ends_cause, take_cause}
+use Rattle.nx_ship.proofs.SendLemmas.{rose_since}
 use Rattle.nx_ship.proofs.applying.receive.Goals as goal
 
 pub returns-in_err-input-clause-ends : goal.returns-in_err-input-clause-ends
@@ -33,10 +34,15 @@ returns-in_err-filled-clause-takes g c =
 
 pub returns-in_err-filled-clause-cause : goal.returns-in_err-filled-clause-cause
 returns-in_err-filled-clause-cause g c =
+    let d = g.H.Disk in
     let p = err_from_is_err_and c.from_residual-in_err-filled.result c.from_residual-in_err-filled.ensures.1 in
     let e = c.in_err-filled.field-0.0 in
+    let was = stops_filled e c.loop-count.invariant c.fill.ensures.alone c.in_err-filled.ensures.err c.in_err-filled.ensures.stopped in
     rw (p.1, p.2)
-    (input_raised g.H.Disk c.args.host.now c.loop-count.host c.fill.new.host e (c.loop-count.invariant).in_faults_later (λ is. c.fill.ensures.cause (c.in_err-filled.was ∙ ap (λ e. Err e) is)))
+    (stopped_cause d c.args.host.now c.fill.new.host c.fill.new.self c.args.receiver.now c.loop-count.receiver e
+    (λ is. rose_since (d.beside c.args.host.now).in_faults (d.beside c.loop-count.host).in_faults (d.beside c.fill.new.host).in_faults (c.loop-count.invariant).in_faults_later
+    (c.fill.ensures.cause (c.in_err-filled.was ∙ ap (λ e. Err e) is)))
+    c.in_err-filled.ensures.stopped was)
 
 pub returns-then-filled-eq0-clause-ends : goal.returns-then-filled-eq0-clause-ends
 returns-then-filled-eq0-clause-ends g c =
@@ -52,7 +58,12 @@ returns-then-filled-eq0-clause-takes g c =
     filled_takes filled (leaves_none c.fill.new.host)
 
 pub returns-then-filled-eq0-clause-cause : goal.returns-then-filled-eq0-clause-cause
-returns-then-filled-eq0-clause-cause g c = stream_raised g.H.Disk c.args.host.now c.fill.new.host c.end.result c.end.ensures.stream
+returns-then-filled-eq0-clause-cause g c =
+    let filled = has_filled c.loop-count.invariant c.fill.ensures.alone c.in_ok-filled.ensures.ok c.fill.new.self.few in
+    let none : c.in_ok-filled.filled ≡ 0 = omega (arith, c.if-filled-eq0.true) in
+    let low = c.in_ok-filled.ensures.below in
+    let taken = c.in_ok-filled.ensures.taken in
+    ends_cause c.end.result (no_bytes (block_of c.fill.new.self) (sym c.in_ok-filled.ensures.count ∙ none)) (omega (arith, low, taken, none)) (c.in_ok-filled.ensures.end none) filled c.end.ensures.stream
 
 pub loop-count-preserved : goal.loop-count-preserved
 loop-count-preserved g c =
@@ -79,7 +90,7 @@ pub returns-in_err-take-clause-cause : goal.returns-in_err-take-clause-cause
 returns-in_err-take-clause-cause g c =
     let p = err_from_is_err_and c.from_residual-in_err-take.result c.from_residual-in_err-take.ensures.1 in
     let filled = has_filled c.loop-count.invariant c.fill.ensures.alone c.in_ok-filled.ensures.ok c.fill.new.self.few in
-    rw (p.1, p.2) (fault_raised g.H.Disk c.args.host.now c.fill.new.host c.take.new.host c.in_err-take.field-0.0 filled.faults_later filled.out_faults_later c.in_err-take.ensures.cause)
+    rw (p.1, p.2) (take_cause g.H.Disk c.args.host.now c.fill.new.host c.take.new.host c.in_err-take.field-0.0 filled.faults_later filled.out_faults_later c.in_err-take.ensures.cause)
 
 pub returns-clause-ends : goal.returns-clause-ends
 returns-clause-ends g c = ends_lost c.loop-count.invariant

@@ -1,6 +1,7 @@
 use Rattle.std.proofs.Common.{[], subst, ◌≡◌, List, ℕ, sym}
 use Rattle.nx_host.specs.Host.{Appends}
-use Rattle.nx_ship.specs.Sending.{Sends, SendsMore}
+use Rattle.nx_ship.specs.Sending.{Sends}
+use Rattle.nx_ship.specs.Sent.{SendsMore}
 use Rattle.nx_ship.proofs.SendLemmas.{emit_sends, gives_block, gives_some, any_err}
 use Rattle.nx_ship.proofs.sender.give.Goals as goal
 

@@ -1,7 +1,7 @@
 use Rattle.std.proofs.Common.{◌≡◌, ◌++◌, [], List, ℕ, ap, subst, ◌∙◌}
 use Rattle.std.proofs.lemmas.Result.{err_from_is_err_and}
 use Rattle.byteorder.specs.Endian.{big_bytes}
-use Rattle.nx_ship.specs.Sending.{SendsPages, StopsAtPages, SendsMore}
+use Rattle.nx_ship.specs.Sent.{SendsPages, StopsAtPages, SendsMore}
 use Rattle.nx_ship.specs.declared.error.ShipError.TheVariants.{Memory}
 use Rattle.nx_ship.proofs.SendLemmas.{more_now, fault_since}
 use Rattle.nx_ship.proofs.SendingLemmas.{all_sent, all_uncounted, all_stopped, all_ungiven}

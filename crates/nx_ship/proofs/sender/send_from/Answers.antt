@@ -1,6 +1,6 @@
 use Rattle.std.proofs.Common.{◌≡◌, [], List, ℕ, sym, subst, ◌∙◌, arith}
 use Rattle.std.proofs.lemmas.Result.{err_from_is_err_and}
-use Rattle.nx_ship.specs.Sending.{StopsAtGroups, SendsGroups, SendsMore}
+use Rattle.nx_ship.specs.Sent.{StopsAtGroups, SendsGroups, SendsMore}
 use Rattle.nx_ship.proofs.SendLemmas.{more_now, fault_since}
 use Rattle.nx_ship.proofs.FromLemmas.{from_stopped, from_ungiven, from_given, from_next, from_nowhere}
 use Rattle.nx_ship.proofs.sender.send_from.Goals as goal

@@ -5,7 +5,7 @@ use Rattle.nx_replay.specs.Log.{replay}
 use Rattle.nx_replay.proofs.SettledLemmas.{on_ok, is_some}
 use Rattle.nx_wal.specs.Wal.{current}
 use Rattle.nx_wal.specs.Reading.{page_found}
-use Rattle.nx_ship.specs.Sending.{SendsMore, IsCutShort}
+use Rattle.nx_ship.specs.Sent.{SendsMore, IsCutShort}
 use Rattle.nx_ship.specs.declared.error.ShipError.{ShipError}
 use Rattle.nx_ship.proofs.SendLemmas.{adds_block, asks_more, asks_some, more_then, some_then, if_err2, log_cut}
 use Rattle.nx_ship.proofs.SendingLemmas.{prefix_none, cut_lacks}

@@ -1,7 +1,7 @@
 use Rattle.std.proofs.Common.{subst, ◌∙◌, refl}
 use Rattle.std.proofs.lemmas.Result.{err_from_is_err_and}
 use Rattle.nx_wal.specs.declared.wal.Wal.{Wal}
-use Rattle.nx_ship.specs.Sending.{SendsPage, StopsAtPage}
+use Rattle.nx_ship.specs.Sent.{SendsPage, StopsAtPage}
 use Rattle.nx_ship.proofs.SendLemmas.{gives_none, more_now, fault_since}
 use Rattle.nx_ship.proofs.SendingLemmas.{pages_none, pages_then, pages_stop}
 use Rattle.nx_ship.proofs.sender.send_pages.Goals as goal

@@ -1,5 +1,5 @@
 use Rattle.std.proofs.Common.{◌≡◌}
-use Rattle.nx_ship.specs.Sending.{SendsPages}
+use Rattle.nx_ship.specs.Sent.{SendsPages}
 use Rattle.nx_ship.proofs.sender.send_pages.Given as goal
 
 -- the first pages were sent

@@ -1,5 +1,5 @@
 use Rattle.std.proofs.Common.{rules, subst, sym}
-use Rattle.nx_ship.specs.Sending.{EndsSending}
+use Rattle.nx_ship.specs.Sent.{EndsSending}
 use Rattle.nx_ship.specs.declared.error.Start.{Start}
 use Rattle.nx_ship.proofs.ShippingLemmas.{all_sending, from_sending}
 use Rattle.nx_ship.proofs.shipping.send.Goals as goal

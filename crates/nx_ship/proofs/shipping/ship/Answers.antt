@@ -2,7 +2,7 @@ use Rattle.std.proofs.Common.{subst}
 use Rattle.std.proofs.lemmas.Result.{err_from_is_err_and}
 use Rattle.nx_host.proofs.DiskLemmas.{still_then, settled_still}
 use Rattle.nx_wal.specs.declared.wal.Wal.{Wal}
-use Rattle.nx_ship.specs.Sending.{EndsSending, IsFault}
+use Rattle.nx_ship.specs.Sent.{EndsSending, IsSendFault}
 use Rattle.nx_ship.proofs.ShippingLemmas.{ships, ships_none, unopened, headless, earlier_fault, if_err}
 use Rattle.nx_ship.proofs.shipping.ship.Goals as goal
 
@@ -35,4 +35,4 @@ returns g c =
     (record { settled = settled_still c.read_head.ensures.still step.settled; follows = step.follows }, c.in_ok-header.ensures.ok was step c.in_ok-wal.ensures.fresh))
     c.in_ok-wal.ensures.fresh
     (subst (λ (w : Wal). EndsSending d c.in_ok-header.header c.args.start w c.send.result c.read_head.new.disk c.send.new.host) same c.send.ensures.ends)
-    (if_err (λ e. IsFault d e c.read_head.new.disk c.send.new.host) c.send.result c.send.ensures.cause)
+    (if_err (λ e. IsSendFault d e c.read_head.new.disk c.send.new.host) c.send.result c.send.ensures.cause)

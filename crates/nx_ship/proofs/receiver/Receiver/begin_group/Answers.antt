@@ -1,15 +1,16 @@
-use Rattle.std.proofs.Common.{refl, sym, subst}
-use Rattle.nx_ship.specs.Sending.{IsFault, IsCutShort}
+use Rattle.std.proofs.Common.{refl, sym, subst, arith}
+use Rattle.nx_ship.specs.Sent.{IsCutShort}
+use Rattle.nx_ship.specs.Receiving.{IsTakeFault}
 use Rattle.nx_ship.specs.declared.error.ShipError.{ShipError}
 use Rattle.nx_ship.proofs.SendLemmas.{log_cut}
 use Rattle.nx_wal.specs.Wal.{pending}
 use Rattle.nx_ship.proofs.ReceivingLemmas.{leaves_none, writes_leaves}
 use Rattle.nx_ship.proofs.TakingLemmas.{applies_none}
-use Rattle.nx_ship.proofs.CallLemmas.{begins_short, begins_moved, moves_none, some_waits, log_fault}
+use Rattle.nx_ship.proofs.CallLemmas.{begins_on, begins_short, begins_moved, moves_none, some_waits, log_fault}
 use Rattle.nx_ship.proofs.receiver.Receiver.begin_group.Goals as goal
 
 pub returns-in-Some-clause-ok : goal.returns-in-Some-clause-ok
-returns-in-Some-clause-ok g c start first groups es header applying = applying
+returns-in-Some-clause-ok g c = begins_on {d = g.D.Disk} (some_waits (pending c.args.self.now.wal) c.in-Some.field-0 (λ bytes. bytes.now.bytes) c.in-Some.ensures)
 
 pub returns-in-Some-clause-room : goal.returns-in-Some-clause-room
 returns-in-Some-clause-room g c = c.args.self.now.room (some_waits (pending c.args.self.now.wal) c.in-Some.field-0 (λ bytes. bytes.now.bytes) c.in-Some.ensures)
@@ -23,6 +24,7 @@ returns-in-Some-clause-leaves g c = leaves_none c.args.disk.now
 pub returns-then-log_length-le-LONG_LOG-clause-ok : goal.returns-then-log_length-le-LONG_LOG-clause-ok
 returns-then-log_length-le-LONG_LOG-clause-ok g c =
     begins_short {d = g.D.Disk} {old = c.args.self.now} (record { reader = refl; last = refl; offset = refl }) c.abandon.ensures.follows c.abandon.ensures.none_left (sym c.in-None.ensures)
+    (let value = c.log_length.ensures in omega (arith, value, c.if-log_length-le-LONG_LOG.true))
 
 pub returns-then-log_length-le-LONG_LOG-clause-moves : goal.returns-then-log_length-le-LONG_LOG-clause-moves
 returns-then-log_length-le-LONG_LOG-clause-moves g c = applies_none c.args.self.now c.args.disk.now
@@ -47,9 +49,9 @@ returns-in-Err-clause-cut g c = subst (λ (e : ShipError). IsCutShort e) (sym c.
 
 pub returns-in-Err-clause-cause : goal.returns-in-Err-clause-cause
 returns-in-Err-clause-cause g c =
-    subst (λ (e : ShipError). IsFault g.D.Disk e c.args.disk.now c.checkpoint.new.disk) (sym c.error_of.ensures) (log_fault g.D.Disk c.abandon.new.self c.checkpoint.new.self c.args.disk.now c.checkpoint.new.disk c.in-Err.error c.in-Err.ensures.refused)
+    subst (λ (e : ShipError). IsTakeFault g.D.Disk e c.args.disk.now c.checkpoint.new.disk) (sym c.error_of.ensures) (log_fault g.D.Disk c.abandon.new.self c.checkpoint.new.self c.args.disk.now c.checkpoint.new.disk c.in-Err.error c.in-Err.ensures.refused)
 
 pub returns-in-Ok-clause-ok : goal.returns-in-Ok-clause-ok
 returns-in-Ok-clause-ok g c =
     begins_moved {d = g.D.Disk} {old = c.args.self.now} (record { reader = refl; last = refl; offset = refl }) c.abandon.ensures.follows (sym c.in-None.ensures)
-    (c.in-Ok.ensures.empty).1 c.checkpoint.ensures.goes (λ was now step is. let done = c.in-Ok.ensures.ok was now step is in (done.0, done.1))
+    (c.in-Ok.ensures.empty).1 (let value = c.log_length.ensures in omega (arith, value, c.if-log_length-le-LONG_LOG.false)) c.checkpoint.ensures.goes (λ was now step is. let done = c.in-Ok.ensures.ok was now step is in (done.0, done.1, done.2))

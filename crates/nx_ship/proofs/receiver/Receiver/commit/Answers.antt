@@ -2,7 +2,9 @@ use Rattle.std.proofs.Common.{◌≡◌, List, ℕ, refl, sym, subst, ◌∙◌}
 use Rattle.std.proofs.lemmas.Result.{err_from_is_err_and}
 use Rattle.nx_host.specs.Host.{Appends}
 use Rattle.nx_ship.specs.Applying.{line_for}
-use Rattle.nx_ship.specs.Sending.{Sends, IsFault, IsCutShort}
+use Rattle.nx_ship.specs.Sending.{Sends}
+use Rattle.nx_ship.specs.Sent.{IsCutShort}
+use Rattle.nx_ship.specs.Receiving.{IsTakeFault}
 use Rattle.nx_ship.specs.declared.error.ShipError.{ShipError}
 use Rattle.nx_ship.specs.declared.error.ShipError.TheVariants as error
 use Rattle.nx_ship.proofs.SendLemmas.{log_cut, emit_sends, any_err}
@@ -27,7 +29,7 @@ returns-in-Err-clause-cut g c = subst (λ (e : ShipError). IsCutShort e) (sym c.
 
 pub returns-in-Err-clause-cause : goal.returns-in-Err-clause-cause
 returns-in-Err-clause-cause g c =
-    subst (λ (e : ShipError). IsFault g.H.Disk e c.args.host.now c.commit.new.disk) (sym c.error_of.ensures) (log_fault g.H.Disk c.args.self.now.wal c.commit.new.self c.args.host.now c.commit.new.disk c.in-Err.error c.in-Err.ensures.refused)
+    subst (λ (e : ShipError). IsTakeFault g.H.Disk e c.args.host.now c.commit.new.disk) (sym c.error_of.ensures) (log_fault g.H.Disk c.args.self.now.wal c.commit.new.self c.args.host.now c.commit.new.disk c.in-Err.error c.in-Err.ensures.refused)
 
 pub returns-in_err-emit-clause-err : goal.returns-in_err-emit-clause-err
 returns-in_err-emit-clause-err g c =

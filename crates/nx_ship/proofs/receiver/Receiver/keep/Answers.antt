@@ -1,6 +1,6 @@
 use Rattle.std.proofs.Common.{refl, sym, subst}
 use Rattle.std.proofs.lemmas.Result.{err_from_is_err_and}
-use Rattle.nx_ship.specs.Sending.{IsCutShort}
+use Rattle.nx_ship.specs.Sent.{IsCutShort}
 use Rattle.nx_ship.specs.declared.error.ShipError.{ShipError}
 use Rattle.nx_ship.proofs.SendLemmas.{log_cut}
 use Rattle.nx_ship.proofs.CallLemmas.{begun_keeps, puts_page}
@@ -17,8 +17,8 @@ returns-in_err-begin_group-clause-cut g c =
     rw (p.1, p.2) c.in_err-begin_group.ensures.cut
 
 pub returns-in-Ok-clause-ok : goal.returns-in-Ok-clause-ok
-returns-in-Ok-clause-ok g c =
-    begun_keeps {d = g.D.Disk} {mid = c.begin_group.new.self} c.args.page.now c.in_ok-begin_group.ensures.ok c.begin_group.ensures.stays
+returns-in-Ok-clause-ok g c next =
+    begun_keeps {d = g.D.Disk} {mid = c.begin_group.new.self} c.args.page.now next c.in_ok-begin_group.ensures.ok c.begin_group.ensures.stays
     (puts_page c.args.page.now (record { reader = refl; last = refl; offset = refl }) c.put.ensures.follows c.in-Ok.ensures.pending)
 
 pub returns-in-Err-clause-cut : goal.returns-in-Err-clause-cut

@@ -3,7 +3,7 @@ use Rattle.std.specs.Prelude.{Err}
 use Rattle.nx_wal.specs.Wal.{NoLogCreated}
 use Rattle.nx_wal.specs.declared.error.WalError.{WalError}
 use Rattle.nx_ship.specs.Applying.{IsUnapplied}
-use Rattle.nx_ship.specs.Sending.{IsFault}
+use Rattle.nx_ship.specs.Sent.{IsFault}
 use Rattle.nx_ship.specs.declared.error.ShipError.{ShipError}
 use Rattle.nx_ship.proofs.OpenLemmas.{log_unapplied, created_fault}
 use Rattle.nx_ship.proofs.receiver.Receiver.of_none.Goals as goal

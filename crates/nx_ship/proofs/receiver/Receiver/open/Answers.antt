@@ -4,7 +4,7 @@ use Rattle.std.proofs.lemmas.Result.{err_from_is_err_and}
 use Rattle.nx_host.proofs.DiskLemmas.{still_then, settled_still}
 use Rattle.nx_wal.specs.Wal.{pending}
 use Rattle.nx_wal.specs.declared.wal.Wal.{Wal}
-use Rattle.nx_ship.specs.Sending.{FindsStore}
+use Rattle.nx_ship.specs.Sent.{FindsStore}
 use Rattle.nx_ship.proofs.TakingLemmas.{if_err_map}
 use Rattle.nx_ship.proofs.ShippingLemmas.{earlier_fault}
 use Rattle.nx_ship.proofs.OpenLemmas.{headless_unapplied, cut_unapplied, if_ok_map}

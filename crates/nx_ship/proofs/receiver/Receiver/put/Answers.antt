@@ -1,7 +1,11 @@
+use Rattle.nx_replay.proofs.SettledLemmas.{on_ok}
 use Rattle.nx_ship.proofs.ReceivingLemmas.{leaves_none, same_stream}
 use Rattle.nx_ship.proofs.TakingLemmas.{applies_none}
 use Rattle.nx_ship.proofs.CallLemmas.{passes_page, not_next}
 use Rattle.nx_ship.proofs.receiver.Receiver.put.Goals as goal
+
+pub returns-in-Ok-clause-ok : goal.returns-in-Ok-clause-ok
+returns-in-Ok-clause-ok g c = on_ok c.keep.result c.keep.ensures.ok (λ keeps. keeps c.in-Ok.ensures)
 
 pub returns-in-Err-clause-ok : goal.returns-in-Err-clause-ok
 returns-in-Err-clause-ok g c = passes_page {d = g.D.Disk} c.args.page.now (not_next c.args.self.now.last c.args.self.now.reader.number c.in-Err.field-0 c.in-Err.ensures)

@@ -43,7 +43,7 @@ returns-in_err-put-in-Page-clause-err g c =
     let p = err_from_is_err_and c.from_residual-in_err-put-in-Page.result c.from_residual-in_err-put-in-Page.ensures.1 in
     rw (p.1, p.2) (λ start first taken few (gs, es, received).
     let takes = fact.2 taken gs es received.read in
-    fed_stopped taken c.args.piece.now c.in-Page.taken c.in_err-put-in-Page.field-0.0 c.in_err-put-in-Page.ensures.cut takes.read (fed_applying refl refl takes.number_stays received.applying) c.put.ensures.moves)
+    fed_stopped taken c.args.piece.now c.in-Page.taken c.in_err-put-in-Page.field-0.0 c.in_err-put-in-Page.ensures.cut takes.read (fed_applying refl refl (λ some. takes.number_stays) received.applying) c.put.ensures.moves)
 
 pub returns-in_err-put-in-Page-clause-cause : goal.returns-in_err-put-in-Page-clause-cause
 returns-in_err-put-in-Page-clause-cause g c =
@@ -60,7 +60,7 @@ returns-in_ok-put-in-Page-clause-ok g c start first taken few (gs, es, received)
       gs,
       es ++ entry c.in-Page.page ∷ [],
       fed_page c.in-Page.page (taken ++ take c.in-Page.taken c.args.piece.now) es c.put.ensures.stays c.in_ok-put-in-Page.ensures.ok takes.read takes.under_way received.offset few
-          (fed_applying refl refl takes.number_stays received.applying),
+          (fed_applying refl refl (λ some. takes.number_stays) received.applying),
     )
 
 pub returns-in_ok-put-in-Page-clause-some : goal.returns-in_ok-put-in-Page-clause-some
@@ -89,7 +89,7 @@ returns-in_err-take_last-in-Last-clause-err g c =
       many = takes.many;
       offset = received.offset;
       few = few_part taken piece n few;
-      applying = fed_applying refl refl takes.number_stays received.applying;
+      applying = fed_applying refl refl (λ some. takes.number_stays) received.applying;
     })
     (drop n piece)))
 
@@ -116,7 +116,7 @@ returns-in_ok-take_last-in-Last-clause-ok g c start first taken few (gs, es, rec
             many = takes.many;
             offset = received.offset;
             few = few;
-            applying = fed_applying refl refl takes.number_stays received.applying;
+            applying = fed_applying refl refl (λ some. takes.number_stays) received.applying;
           }),
     )
 

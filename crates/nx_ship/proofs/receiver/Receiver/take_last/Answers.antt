@@ -39,7 +39,7 @@ returns-in_err-keep-clause-leaves g c = c.keep.ensures.leaves
 
 pub returns-then-is_baseless-clause-err : goal.returns-then-is_baseless-clause-err
 returns-then-is_baseless-clause-err g c start first taken groups es has behind =
-    refused_base (c.is_baseless.ensures.yes c.if-is_baseless.true) (kept_last c.keep.ensures.stays c.in_ok-keep.ensures.ok has) behind
+    refused_base (c.is_baseless.ensures.yes c.if-is_baseless.true) (kept_last c.keep.ensures.stays (c.in_ok-keep.ensures.ok c.in_ok-check_number.ensures) has) behind
 
 pub returns-then-is_baseless-clause-leaves : goal.returns-then-is_baseless-clause-leaves
 returns-then-is_baseless-clause-leaves g c = c.keep.ensures.leaves
@@ -52,16 +52,16 @@ returns-clause-ok g c =
     on_ok2 c.commit.result c.commit.ensures.ok c.commit.ensures.offset (λ commits offset start first taken groups es has.
     subst (λ (n : ℕ). Receives d start first c.commit.new.self taken (groups ++ record { number = n; entries = es ++ entry c.args.page.now ∷ [] } ∷ []) [] c.commit.new.host)
     (ap (λ (x : Reader). x.number) c.keep.ensures.stays.reader)
-    (applied_last (kept_last c.keep.ensures.stays c.in_ok-keep.ensures.ok has) (next_kept old kept c.keep.ensures.stays c.in_ok-check_number.ensures) (c.is_baseless.ensures.no c.if-is_baseless.false)
-    c.commit.ensures.leaves c.commit.ensures.reader offset commits))
+    (applied_last (kept_last c.keep.ensures.stays (c.in_ok-keep.ensures.ok c.in_ok-check_number.ensures) has) (next_kept old kept c.keep.ensures.stays c.in_ok-check_number.ensures) (c.is_baseless.ensures.no c.if-is_baseless.false)
+    c.commit.ensures.reader offset commits))
 
 pub returns-clause-err : goal.returns-clause-err
 returns-clause-err g c =
     let old = c.args.self.now in
     let kept = c.keep.new.self in
     if_err2 c.commit.result c.commit.ensures.cut c.commit.ensures.err (λ e cut stops start first taken groups es has behind.
-    uncommitted e cut (kept_last c.keep.ensures.stays c.in_ok-keep.ensures.ok has) (next_kept old kept c.keep.ensures.stays c.in_ok-check_number.ensures) (c.is_baseless.ensures.no c.if-is_baseless.false)
-    c.commit.ensures.leaves stops behind)
+    uncommitted e cut (kept_last c.keep.ensures.stays (c.in_ok-keep.ensures.ok c.in_ok-check_number.ensures) has) (next_kept old kept c.keep.ensures.stays c.in_ok-check_number.ensures) (c.is_baseless.ensures.no c.if-is_baseless.false)
+    stops behind)
 
 pub returns-clause-leaves : goal.returns-clause-leaves
 returns-clause-leaves g c = leaves_then c.keep.ensures.leaves c.commit.ensures.leaves
